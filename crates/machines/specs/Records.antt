@@ -1,6 +1,7 @@
 -- What a run leaves, and its net part.
-use Rattle.std.specs.Prelude.{◌≡◌, ℕ, ◌-◌, List, map, Some, Option, option_map}
+use Rattle.std.specs.Prelude.{◌≡◌, ℕ, ◌-◌, List, map, Some, Option, option_map, unwrap_or}
 use Rattle.coz_types.specs.declared.ending.Ending.{Ending}
+use Rattle.coz_types.specs.declared.ending.Ending.TheVariants.{Spent}
 use Rattle.machines.specs.Guest.{Experiment}
 use Rattle.machines.specs.Delayed.{Delayed, Visit, Account, delayed}
 use Rattle.machines.specs.Shortened.{Shortened, NetVisit, shortened}
@@ -66,3 +67,7 @@ module _ {G : Type 0} (x : Experiment G) where
   -- the shortened run of x ends with this record
   abbrev pub IsShortened : NetRecord → Type 0
   IsShortened r = (n : ℕ) × (net_outcome (shortened x n) ≡ Some r)
+
+  -- what the shortened run leaves. It has ended after as many moves as its budget.
+  unfoldable pub shortened_record : NetRecord
+  shortened_record = net_record_of (shortened x x.budget) (unwrap_or (shortened x x.budget).ending Spent)
