@@ -1,0 +1,10 @@
+pub mod Rows
+pub mod TableLemmas
+pub mod PageLemmas
+pub mod NameLemmas
+pub mod SpanLemmas
+pub mod AreaLemmas
+pub mod SectionLemmas
+pub mod Valid
+pub mod LoadLemmas
+pub mod Examples

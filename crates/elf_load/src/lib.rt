@@ -1,0 +1,127 @@
+//! Reads an ELF64 file of a static RISC-V program: its image, or the first thing that is wrong with it.
+#![tactic(auto)]
+
+mod areas;
+mod faults;
+mod fields;
+mod header;
+mod pages;
+mod sections;
+mod tables;
+
+ghost use Rattle.std.specs.Prelude.{◌≡◌, None, IfOk};
+ghost use Rattle.std.specs.Option.{option_copied};
+ghost use Rattle.elf_load.specs.declared.LoadError.TheVariants.{Fault, Memory};
+ghost use Rattle.elf_load.specs.Faults.{fault};
+ghost use Rattle.elf_load.specs.Loaded.{Loads, loaded, section};
+
+use crate::areas::{headers, image_areas, load_areas};
+use crate::faults::check_tables;
+use crate::fields::{double_at, half_at};
+use crate::header::check_header;
+use crate::sections::section_of;
+use crate::tables::{read_sections, read_segments};
+use coz_types::Image;
+use std::alloc::{AllocError, AllocFailed, Global};
+
+/// What may be wrong with a file, in the order in which it is judged.
+#[derive(Clone, Copy, Debug, PartialEq, Eq)]
+pub enum ElfKind {
+    /// It has no ELF header: it is too short, or its first bytes are others.
+    NotElf,
+    /// It is no file of 64 bits.
+    NotClass64,
+    /// Its numbers don't have their lowest byte first.
+    NotLittle,
+    /// It is no executable file of fixed addresses (ET_EXEC).
+    NotExec,
+    /// It is for another machine.
+    NotRiscv,
+    /// It may have compressed instructions (EF_RISCV_RVC).
+    Compressed,
+    /// A table, or the bytes of an entry, are not in the file.
+    HeaderOut,
+    /// The section `.debug_line` is compressed.
+    PackedLines,
+    /// It asks for an interpreter.
+    Interp,
+    /// A PT_LOAD has more bytes in the file than in memory.
+    SizeOrder,
+    /// A load area is not within 0x1000 to 0x20_0000_0000.
+    AddressOut,
+    /// A PT_LOAD may be written and executed.
+    WritableCode,
+    /// A load area has a page of an earlier one.
+    SharedPage,
+    /// The load areas up to this one have more than 64 MiB.
+    TooMuch,
+    /// The entry is no multiple of 4 in an executable PT_LOAD.
+    EntryOut,
+}
+
+/// A fault, and its place: the offset of the field or of the table entry that has it, in bytes from the file's start.
+#[derive(Clone, Copy, Debug, PartialEq, Eq)]
+pub struct ElfFault {
+    pub kind: ElfKind,
+    pub place: u64,
+}
+
+/// Why a file is not loaded.
+#[derive(Clone, Copy, Debug, PartialEq, Eq)]
+pub enum LoadError {
+    Fault(ElfFault),
+    Memory,
+}
+
+impl From<ElfFault> for LoadError {
+    ghost from_gives = { λ fault e. e ≡ Fault fault };
+
+    fn from(fault: ElfFault) -> LoadError {
+        LoadError::Fault(fault)
+    }
+}
+
+impl From<AllocError> for LoadError {
+    ghost from_gives = { λ _ e. e ≡ Memory };
+
+    fn from(_: AllocError) -> LoadError {
+        LoadError::Memory
+    }
+}
+
+impl<T: Drop> From<AllocFailed<T>> for LoadError {
+    ghost from_gives = { λ _ e. e ≡ Memory };
+
+    fn from(_: AllocFailed<T>) -> LoadError {
+        LoadError::Memory
+    }
+}
+
+/// The image of an ELF64 file for RISC-V, or the first fault that it has (ELF-64 Object File Format, version 1.5).
+/// The areas are those of its program headers, in their order. Want of memory may come in place of either.
+pub fn load<'a>(alloc: Global, file: &'a [u8]) -> Result<Image<'a>, LoadError>
+    ensures answer { Loads result (loaded file.now) }
+    ensures faultless { IfOk result (λ image. fault image.file ≡ None) }
+{
+    check_header(file)?;
+    let segments = read_segments(alloc, file)?;
+    let sections = read_sections(alloc, file)?;
+    let areas = load_areas(alloc, &segments)?;
+    check_tables(alloc, file, &segments, &sections, &areas)?;
+    let headers = headers(file, &segments);
+    let areas = image_areas(alloc, file, &areas)?;
+    let entry = double_at(file, 24);
+    let count = half_at(file, 56);
+    Ok(Image::new(file, areas, entry, headers, count))
+}
+
+/// The bytes of the first section of that name, for an image whose file has no fault. NULL and NOBITS sections are not found.
+pub fn section<'a>(image: &Image<'a>, name: &[u8]) -> Option<&'a [u8]>
+    requires { fault image.now.file ≡ None }
+    ensures { option_copied result ≡ section image.now.file name.now }
+{
+    section_of(image.file(), name)
+}
+
+#[cfg(test)]
+mod tests;

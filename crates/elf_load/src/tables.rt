@@ -1,0 +1,214 @@
+//! Program headers and section headers.
+
+ghost use Rattle.std.specs.Prelude.{◌≡◌, ◌≤◌, ◌+◌, length, IfOk};
+ghost use Rattle.elf_load.specs.Tables.{has_bit, segment_at, segments, section_at, sections, bytes_of, names};
+ghost use Rattle.elf_load.specs.Faults.{HasHeaders};
+
+use crate::fields::{double_at, half_at, word_at};
+use std::alloc::{AllocError, Global};
+
+/// A program header, and its place in the file.
+#[derive(Clone, Copy, Debug, PartialEq, Eq)]
+pub struct Segment {
+    pub place: u64,
+    pub kind: u32,
+    pub flags: u32,
+    pub offset: u64,
+    pub vaddr: u64,
+    pub filesz: u64,
+    pub memsz: u64,
+}
+
+/// A section header, and its place in the file.
+#[derive(Clone, Copy, Debug, PartialEq, Eq)]
+pub struct Section {
+    pub place: u64,
+    pub name: u32,
+    pub kind: u32,
+    pub flags: u64,
+    pub offset: u64,
+    pub size: u64,
+}
+
+fn has_bit(bit: u32, flags: u64) -> bool
+    requires { bit ≤ 63 }
+    ensures { result ≡ has_bit bit flags }
+{
+    (flags >> bit) % 2 == 1
+}
+
+impl Segment {
+    ghost use Rattle.std.specs.Prelude.{◌≡◌, ◌≤◌, ◌^◌};
+    ghost use Rattle.elf_load.specs.Tables.{is_load, is_interp, is_executable, is_writable, is_readable, is_area, first_page, end_page, has_address, has_place};
+
+    /// Whether its bytes are loaded (PT_LOAD).
+    pub fn is_load(&self) -> bool
+        ensures { result ≡ is_load self.now }
+    {
+        self.kind == 1
+    }
+
+    /// Whether it asks for an interpreter (PT_INTERP).
+    pub fn is_interp(&self) -> bool
+        ensures { result ≡ is_interp self.now }
+    {
+        self.kind == 3
+    }
+
+    pub fn is_executable(&self) -> bool
+        ensures { result ≡ is_executable self.now }
+    {
+        has_bit(0, self.flags as u64)
+    }
+
+    pub fn is_writable(&self) -> bool
+        ensures { result ≡ is_writable self.now }
+    {
+        has_bit(1, self.flags as u64)
+    }
+
+    pub fn is_readable(&self) -> bool
+        ensures { result ≡ is_readable self.now }
+    {
+        has_bit(2, self.flags as u64)
+    }
+
+    /// Whether it takes memory.
+    pub fn is_area(&self) -> bool
+        ensures { result ≡ is_area self.now }
+    {
+        self.is_load() && self.memsz != 0
+    }
+
+    /// The number of its first page.
+    pub fn first_page(&self) -> u64
+        ensures { result ≡ first_page self.now }
+    {
+        self.vaddr / 4096
+    }
+
+    /// The number of the page after its last one.
+    pub fn end_page(&self) -> u64
+        ensures page { result ≡ end_page self.now }
+        ensures small { result ≤ 2 ^ 53 }
+    {
+        ((self.vaddr as u128 + self.memsz as u128 + 4095) / 4096) as u64
+    }
+
+    /// Whether its memory has the address.
+    pub fn has_address(&self, address: u64) -> bool
+        ensures { result ≡ has_address address self.now }
+    {
+        self.vaddr <= address && address - self.vaddr < self.memsz
+    }
+
+    /// Whether its bytes in the file have the place.
+    pub fn has_place(&self, place: u64) -> bool
+        ensures { result ≡ has_place place self.now }
+    {
+        self.offset <= place && place - self.offset < self.filesz
+    }
+}
+
+impl Section {
+    ghost use Rattle.std.specs.Prelude.{◌≡◌};
+    ghost use Rattle.elf_load.specs.Tables.{has_bytes, is_compressed};
+
+    /// Whether its bytes are in the file: it is neither NULL nor NOBITS.
+    pub fn has_bytes(&self) -> bool
+        ensures { result ≡ has_bytes self.now }
+    {
+        !(self.kind == 0 || self.kind == 8)
+    }
+
+    pub fn is_compressed(&self) -> bool
+        ensures { result ≡ is_compressed self.now }
+    {
+        has_bit(11, self.flags)
+    }
+}
+
+fn segment_at(file: &[u8], place: usize) -> Segment
+    requires { place + 56 ≤ length file.now }
+    ensures { result ≡ segment_at file.now place }
+{
+    Segment {
+        place: place as u64,
+        kind: word_at(file, place),
+        flags: word_at(file, place + 4),
+        offset: double_at(file, place + 8),
+        vaddr: double_at(file, place + 16),
+        filesz: double_at(file, place + 32),
+        memsz: double_at(file, place + 40),
+    }
+}
+
+/// The program headers, in their order.
+pub fn read_segments(alloc: Global, file: &[u8]) -> Result<Vec<Segment>, AllocError>
+    requires { HasHeaders file.now }
+    ensures { IfOk result (λ read. read.items ≡ segments file.now) }
+{
+    let first = double_at(file, 32);
+    let count = half_at(file, 56) as usize;
+    let mut segments = Vec::with_capacity(alloc, count)?;
+    for index in 0..count {
+        segments.push(segment_at(file, first as usize + 56 * index))?;
+    }
+    Ok(segments)
+}
+
+pub fn section_at(file: &[u8], place: usize) -> Section
+    requires { place + 64 ≤ length file.now }
+    ensures { result ≡ section_at file.now place }
+{
+    Section {
+        place: place as u64,
+        name: word_at(file, place),
+        kind: word_at(file, place + 4),
+        flags: double_at(file, place + 8),
+        offset: double_at(file, place + 24),
+        size: double_at(file, place + 32),
+    }
+}
+
+/// The section headers, in their order.
+pub fn read_sections(alloc: Global, file: &[u8]) -> Result<Vec<Section>, AllocError>
+    requires { HasHeaders file.now }
+    ensures { IfOk result (λ read. read.items ≡ sections file.now) }
+{
+    let first = double_at(file, 40);
+    let count = half_at(file, 60) as usize;
+    let mut sections = Vec::with_capacity(alloc, count)?;
+    for index in 0..count {
+        sections.push(section_at(file, first as usize + 64 * index))?;
+    }
+    Ok(sections)
+}
+
+/// The bytes of a section, as far as the file has them.
+pub fn bytes_of<'a>(file: &'a [u8], section: &Section) -> &'a [u8]
+    ensures { result.now ≡ bytes_of file.now section.now }
+{
+    let start = section.offset.min(file.len() as u64);
+    let rest = &file[start as usize..];
+    let size = section.size.min(rest.len() as u64);
+    &rest[..size as usize]
+}
+
+/// The bytes of the section that holds the names.
+pub fn names(file: &[u8]) -> &[u8]
+    requires { HasHeaders file.now }
+    ensures { result.now ≡ names file.now }
+{
+    let index = half_at(file, 62);
+    if index == 0 || index >= half_at(file, 60) {
+        return &[];
+    }
+    let first = double_at(file, 40);
+    let section = section_at(file, first as usize + 64 * index as usize);
+    if section.has_bytes() {
+        bytes_of(file, &section)
+    } else {
+        &[]
+    }
+}

@@ -1,0 +1,373 @@
+//! A cursor over bytes: numbers of fixed width, texts, and the LEB128 numbers of DWARF (DWARF 4, section 7.6).
+#![tactic(auto)]
+
+ghost use Rattle.std.specs.Prelude.{◌≡◌, ◌+◌, ◌-◌, ◌%◌, ◌<◌, ◌≤◌, ◌^◌, length, slice_index, IfSome, nat_lt, nat_le, position, ◌==◌, Some, None, if◌then◌else◌};
+ghost use Rattle.std.specs.Int.{w8, w16, w32, w64};
+ghost use Rattle.leb_cursor.specs.Ahead.{Ahead, Reads, number_at, bytes_at, part_at, pass_at, text_at, uleb_at, sleb_at, fits_64_signed};
+ghost use Rattle.leb_cursor.specs.Numbers.{low_bits, signed_low_bits};
+
+use byteorder::{ByteOrder, LittleEndian};
+use std::marker::Model;
+
+/// A field that runs past the end, by the place of its first byte.
+#[derive(Clone, Copy, Debug, PartialEq, Eq)]
+pub struct Short {
+    pub place: u64,
+}
+
+/// Why a LEB128 number can't be read.
+#[derive(Clone, Copy, Debug, PartialEq, Eq)]
+pub enum LebFault {
+    /// No byte up to the end ends the number.
+    Short(Short),
+    /// The number is whole, and its value doesn't fit 64 bits. `place` is that of its first byte.
+    Wide { place: u64 },
+}
+
+/// A place in some bytes, and the bytes from there on.
+#[derive(Drop)]
+pub struct Cursor<'a> {
+    place: u64,
+    bytes: &'a [u8],
+}
+
+impl<'a> Model for Cursor<'a> {
+    ghost use Rattle.std.specs.Prelude.{◌+◌, ◌<◌, ◌^◌, length};
+    ghost use Rattle.leb_cursor.specs.Ahead.{Ahead};
+
+    ghost Value = { Ahead };
+
+    ghost view = { λ c. record { place = c.place; bytes = c.bytes.now } };
+
+    ghost invariant = { λ c. c.place + length c.bytes.now < 2 ^ 64 };
+}
+
+impl<'a> Cursor<'a> {
+    /// A cursor at the first of these bytes, whose place is 0.
+    pub fn new(bytes: &'a [u8]) -> Cursor<'a>
+        ensures { result ≡ record { place = 0; bytes = bytes.now } }
+    {
+        Cursor { place: 0, bytes }
+    }
+
+    /// The place of the next byte.
+    pub fn place(&self) -> u64
+        ensures { result ≡ self.now.place }
+    {
+        self.place
+    }
+
+    /// How many bytes are left.
+    pub fn left(&self) -> u64
+        ensures { result ≡ length self.now.bytes }
+    {
+        self.bytes.len() as u64
+    }
+
+    /// The next so many bytes.
+    fn take(&mut self, count: u64) -> Result<&'a [u8], Short>
+        ensures { Reads (λ x. x.now) result self.old self.new (bytes_at count self.old) }
+    {
+        if self.left() < count {
+            return Err(Short { place: self.place });
+        }
+        let (front, rest) = self.bytes.split_at(count as usize);
+        self.bytes = rest;
+        self.place += count;
+        Ok(front)
+    }
+
+    /// The next byte.
+    pub fn byte(&mut self) -> Result<u8, Short>
+        ensures { Reads (λ x. x) result self.old self.new (number_at w8 self.old) }
+    {
+        let bytes = self.take(1)?;
+        Ok(bytes[0])
+    }
+
+    /// The number in the next 2 bytes, the lowest first.
+    pub fn half(&mut self) -> Result<u16, Short>
+        ensures { Reads (λ x. x) result self.old self.new (number_at w16 self.old) }
+    {
+        let bytes = self.take(2)?;
+        Ok(LittleEndian::read_u16(bytes))
+    }
+
+    /// The number in the next 4 bytes, the lowest first.
+    pub fn word(&mut self) -> Result<u32, Short>
+        ensures { Reads (λ x. x) result self.old self.new (number_at w32 self.old) }
+    {
+        let bytes = self.take(4)?;
+        Ok(LittleEndian::read_u32(bytes))
+    }
+
+    /// The number in the next 8 bytes, the lowest first.
+    pub fn double(&mut self) -> Result<u64, Short>
+        ensures { Reads (λ x. x) result self.old self.new (number_at w64 self.old) }
+    {
+        let bytes = self.take(8)?;
+        Ok(LittleEndian::read_u64(bytes))
+    }
+
+    /// The bytes before the next zero byte, which is passed too.
+    pub fn text(&mut self) -> Result<&'a [u8], Short>
+        ensures { Reads (λ x. x.now) result self.old self.new (text_at self.old) }
+    {
+        match first_zero(self.bytes) {
+            None => Err(Short { place: self.place }),
+            Some(len) => {
+                let (text, _) = self.bytes.split_at(len);
+                let (_, rest) = self.bytes.split_at(len + 1);
+                self.bytes = rest;
+                self.place += len as u64 + 1;
+                Ok(text)
+            }
+        }
+    }
+
+    /// Passes so many bytes.
+    pub fn skip(&mut self, count: u64) -> Result<(), Short>
+        ensures { Reads (λ x. x) result self.old self.new (pass_at count self.old) }
+    {
+        let _passed = self.take(count)?;
+        Ok(())
+    }
+
+    /// The next so many bytes, as a cursor of their own that goes on counting places.
+    pub fn part(&mut self, count: u64) -> Result<Cursor<'a>, Short>
+        ensures { Reads (λ x. x) result self.old self.new (part_at count self.old) }
+    {
+        let place = self.place;
+        let bytes = self.take(count)?;
+        Ok(Cursor { place, bytes })
+    }
+
+    /// An unsigned LEB128 number, padded or not.
+    pub fn uleb(&mut self) -> Result<u64, LebFault>
+        ensures { Reads (λ x. x) result self.old self.new (uleb_at self.old) }
+    {
+        match first_low(self.bytes) {
+            None => Err(LebFault::Short(Short { place: self.place })),
+            Some(last) => {
+                let (front, rest) = self.bytes.split_at(last + 1);
+                match value_of(front) {
+                    None => Err(LebFault::Wide { place: self.place }),
+                    Some(value) => {
+                        self.bytes = rest;
+                        self.place += last as u64 + 1;
+                        Ok(value)
+                    }
+                }
+            }
+        }
+    }
+
+    /// A signed LEB128 number, padded or not.
+    pub fn sleb(&mut self) -> Result<i64, LebFault>
+        ensures { Reads (λ x. x) result self.old self.new (sleb_at self.old) }
+    {
+        match first_low(self.bytes) {
+            None => Err(LebFault::Short(Short { place: self.place })),
+            Some(last) => {
+                let (front, rest) = self.bytes.split_at(last + 1);
+                match signed_value_of(front) {
+                    None => Err(LebFault::Wide { place: self.place }),
+                    Some(value) => {
+                        self.bytes = rest;
+                        self.place += last as u64 + 1;
+                        Ok(value)
+                    }
+                }
+            }
+        }
+    }
+}
+
+/// Where the first byte below 128 is.
+fn first_low(bytes: &[u8]) -> Option<usize>
+    ensures place { result ≡ position (λ b. nat_lt b 128) bytes.now }
+    ensures within { IfSome result (λ n. n < length bytes.now) }
+{
+    bytes.iter().position(|b| *b < 128)
+}
+
+/// Where the first zero byte is.
+fn first_zero(bytes: &[u8]) -> Option<usize>
+    ensures place { result ≡ position (λ b. b == 0) bytes.now }
+    ensures within { IfSome result (λ n. n < length bytes.now) }
+{
+    bytes.iter().position(|b| *b == 0)
+}
+
+/// What the low bits of these bytes make, if it fits.
+fn value_of(bytes: &[u8]) -> Option<u64>
+    ensures { result ≡ (if nat_lt (low_bits bytes.now) (2 ^ 64) then Some (low_bits bytes.now) else None) }
+{
+    let mut value: u64 = 0;
+    let mut i = bytes.len();
+    while i > 0 {
+        i -= 1;
+        if value >= 1 << 57 {
+            return None;
+        }
+        value = value * 128 + (bytes[i] % 128) as u64;
+    }
+    Some(value)
+}
+
+/// Whether the two's complement of these bytes' low bits is below zero.
+fn is_negative(bytes: &[u8]) -> bool
+    ensures { result ≡ nat_le 64 (slice_index bytes.now (length bytes.now - 1) % 128) }
+{
+    match bytes.last() {
+        Some(last) => *last % 128 >= 64,
+        None => false,
+    }
+}
+
+/// What the low bits of these bytes make as two's complement, if it fits.
+fn signed_value_of(bytes: &[u8]) -> Option<i64>
+    ensures { result ≡ (if fits_64_signed (signed_low_bits bytes.now) then Some (signed_low_bits bytes.now) else None) }
+{
+    let mut value: i64 = if is_negative(bytes) { -1 } else { 0 };
+    let mut i = bytes.len();
+    while i > 0 {
+        i -= 1;
+        if value < -(1 << 56) || value >= 1 << 56 {
+            return None;
+        }
+        value = value * 128 + (bytes[i] % 128) as i64;
+    }
+    Some(value)
+}
+
+#[cfg(test)]
+mod tests {
+    use super::*;
+
+    const SHORT: LebFault = LebFault::Short(Short { place: 0 });
+
+    const WIDE: LebFault = LebFault::Wide { place: 0 };
+
+    // The standard's examples, padded ones, and the edges of 64 bits.
+    #[test]
+    fn leb_numbers_are_read(rt: HostRuntime) {
+        let unsigned: [(&[u8], Result<u64, LebFault>, u64); 13] = [
+            (&[0x02], Ok(2), 1),
+            (&[0x7F], Ok(127), 1),
+            (&[0x80, 0x01], Ok(128), 2),
+            (&[0x81, 0x01], Ok(129), 2),
+            (&[0x82, 0x01], Ok(130), 2),
+            (&[0xB9, 0x64], Ok(12857), 2),
+            (&[0x87, 0x80, 0x00, 0x55], Ok(7), 3),
+            (
+                &[0xFF, 0xFF, 0xFF, 0xFF, 0xFF, 0xFF, 0xFF, 0xFF, 0xFF, 0x01],
+                Ok(u64::MAX),
+                10,
+            ),
+            (
+                &[
+                    0x81, 0x80, 0x80, 0x80, 0x80, 0x80, 0x80, 0x80, 0x80, 0x80, 0x80, 0x00,
+                ],
+                Ok(1),
+                12,
+            ),
+            (
+                &[0x80, 0x80, 0x80, 0x80, 0x80, 0x80, 0x80, 0x80, 0x80, 0x02],
+                Err(WIDE),
+                0,
+            ),
+            (
+                &[
+                    0x81, 0x80, 0x80, 0x80, 0x80, 0x80, 0x80, 0x80, 0x80, 0x80, 0x01,
+                ],
+                Err(WIDE),
+                0,
+            ),
+            (&[0x87, 0x80], Err(SHORT), 0),
+            (&[], Err(SHORT), 0),
+        ];
+        for (bytes, want, place) in unsigned {
+            let mut cursor = Cursor::new(bytes);
+            assert_eq!(rt; cursor.uleb(), want, "{bytes:?}");
+            assert_eq!(rt; cursor.place(), place, "{bytes:?}");
+        }
+        let signed: [(&[u8], Result<i64, LebFault>, u64); 16] = [
+            (&[0x02], Ok(2), 1),
+            (&[0x7E], Ok(-2), 1),
+            (&[0xFF, 0x00], Ok(127), 2),
+            (&[0x81, 0x7F], Ok(-127), 2),
+            (&[0x80, 0x01], Ok(128), 2),
+            (&[0x80, 0x7F], Ok(-128), 2),
+            (&[0x81, 0x01], Ok(129), 2),
+            (&[0xFF, 0x7E], Ok(-129), 2),
+            (&[0xFF, 0xFF, 0x7F, 0x55], Ok(-1), 3),
+            (
+                &[0xFF, 0xFF, 0xFF, 0xFF, 0xFF, 0xFF, 0xFF, 0xFF, 0xFF, 0x00],
+                Ok(i64::MAX),
+                10,
+            ),
+            (
+                &[0x80, 0x80, 0x80, 0x80, 0x80, 0x80, 0x80, 0x80, 0x80, 0x7F],
+                Ok(i64::MIN),
+                10,
+            ),
+            (
+                &[0x80, 0x80, 0x80, 0x80, 0x80, 0x80, 0x80, 0x80, 0x80, 0x01],
+                Err(WIDE),
+                0,
+            ),
+            (
+                &[0xFF, 0xFF, 0xFF, 0xFF, 0xFF, 0xFF, 0xFF, 0xFF, 0xFF, 0x7E],
+                Err(WIDE),
+                0,
+            ),
+            (
+                &[
+                    0xFF, 0xFF, 0xFF, 0xFF, 0xFF, 0xFF, 0xFF, 0xFF, 0xFF, 0xFF, 0x7F,
+                ],
+                Ok(-1),
+                11,
+            ),
+            (&[0xFF, 0xFF], Err(SHORT), 0),
+            (&[], Err(SHORT), 0),
+        ];
+        for (bytes, want, place) in signed {
+            let mut cursor = Cursor::new(bytes);
+            assert_eq!(rt; cursor.sleb(), want, "{bytes:?}");
+            assert_eq!(rt; cursor.place(), place, "{bytes:?}");
+        }
+    }
+
+    #[test]
+    fn fields_follow_each_other(rt: HostRuntime) {
+        let mut cursor = Cursor::new(
+            b"\x01\x02\x03\x04\x05\x06\x07\x08\x09\x0A\x0B\x0C\x0D\x0E\x0Fa.s\0\0??tail",
+        );
+        assert_eq!(rt; cursor.byte(), Ok(0x01));
+        assert_eq!(rt; cursor.half(), Ok(0x0302));
+        assert_eq!(rt; cursor.word(), Ok(0x07060504));
+        assert_eq!(rt; cursor.double(), Ok(0x0F0E0D0C0B0A0908));
+        assert_eq!(rt; cursor.text(), Ok(b"a.s".as_slice()));
+        assert_eq!(rt; cursor.text(), Ok(b"".as_slice()));
+        assert_eq!(rt; cursor.skip(2), Ok(()));
+        assert_eq!(rt; cursor.place(), 22);
+        if let Ok(mut part) = cursor.part(3) {
+            assert_eq!(rt; part.place(), 22);
+            assert_eq!(rt; part.half(), Ok(0x6174));
+            assert_eq!(rt; part.half(), Err(Short { place: 24 }));
+            assert_eq!(rt; part.left(), 1);
+        }
+        assert_eq!(rt; cursor.place(), 25);
+        let here = Short { place: 25 };
+        assert_eq!(rt; cursor.word(), Err(here));
+        assert_eq!(rt; cursor.double(), Err(here));
+        assert_eq!(rt; cursor.skip(2), Err(here));
+        assert_eq!(rt; cursor.skip(u64::MAX), Err(here));
+        assert_eq!(rt; cursor.part(2).is_ok(), false);
+        assert_eq!(rt; cursor.text(), Err(here));
+        assert_eq!(rt; cursor.left(), 1);
+        assert_eq!(rt; cursor.byte(), Ok(b'l'));
+        assert_eq!(rt; cursor.byte(), Err(Short { place: 26 }));
+    }
+}
