@@ -1,0 +1,93 @@
+use Rattle.std.proofs.Common.{ℕ, ◌≡◌, ◌+◌, ◌-◌, ◌/◌, ◌≤◌, ◌<◌, Bool, false, List, length, get_or, arith, sym, ap, ◌∙◌, Some, ⊎_elim}
+use Rattle.std.proofs.lemmas.Bool.{cases_lt}
+use Rattle.guest_areas.specs.Marks.{marked}
+use Rattle.guest_areas.specs.Space.{RegionMap, free_run_from, free_run}
+use Rattle.guest_areas.proofs.FreeRuns.{none_short, search_taken, search_found}
+use Rattle.guest_areas.proofs.Areas.free_run.Goals as goal
+use Rattle.guest_areas.proofs.Areas.free_run.Goals.{then-is_mapped, else-is_mapped}
+
+pub overflow_add-free : goal.overflow_add-free
+overflow_add-free c = omega (arith, c.loop-place.invariant.short)
+
+pub loop-place-init : goal.loop-place-init
+loop-place-init c = record {
+  short = c.requires;
+  back = omega arith;
+  open_ = λ k from below. absurd (omega arith);
+  search_ = ap (λ (n : ℕ). free_run_from c.args.self.now c.args.count n 34603008)
+      (let e : length c.deref-is_mapped-items.result.now - 0 ≡ length c.deref-is_mapped-items.result.now = omega arith in e);
+}
+
+-- the same search at the same place of a candidate
+same_candidate : (r : RegionMap) (count n a b : ℕ) → a ≡ b → free_run_from r count (n - a) (34603008 + a) ≡ free_run_from r count (n - b) (34603008 + b)
+same_candidate r count n a b e = ap (λ (x : ℕ). free_run_from r count (n - x) (34603008 + x)) e
+
+pub loop-place-preserved : goal.loop-place-preserved
+loop-place-preserved c =
+    let mapped : c.args.self.now.mapped ≡ marked 34603008 c.deref-is_mapped-items.result.now =
+    ap (λ (x : RegionMap). x.mapped) (sym c.self.view_is) ∙ ap (λ (xs : List Bool). marked 34603008 xs) (sym c.deref-is_mapped-items.ensures.value) in
+    let short : c.loop-place.free < c.args.count = c.loop-place.invariant.short in
+    let back : c.loop-place.free ≤ c.loop-place.place = c.loop-place.invariant.back in
+    let differ : c.if-is_mapped.free ≡ c.args.count → ⊥ = c.if-free-count.false in
+    elim c.if-is_mapped.branch [
+      | then-is_mapped w ↦ record {
+        short = omega arith;
+        back = omega arith;
+        open_ = λ k from below. absurd (omega arith);
+        search_ = same_candidate c.args.self.now c.args.count (length c.deref-is_mapped-items.result.now) (c.loop-place.place + 1 - c.if-is_mapped.free) (c.loop-place.place + 1) (omega arith)
+            ∙ sym (search_taken c.args.self.now 34603008 c.args.count c.loop-place.place c.loop-place.free c.deref-is_mapped-items.result.now mapped short back c.loop-place-test.true w.if-is_mapped.true)
+            ∙ c.loop-place.invariant.search_;
+      }
+      | else-is_mapped w ↦ record {
+        short = omega arith;
+        back = omega arith;
+        open_ = λ k from below. ⊎_elim (λ (l : k < c.loop-place.place). c.loop-place.invariant.open_ k (omega arith) l)
+            (λ (l : c.loop-place.place ≤ k). ap (λ (i : ℕ). get_or c.deref-is_mapped-items.result.now i false) (let e : k ≡ c.loop-place.place = omega arith in e) ∙ w.if-is_mapped.false)
+            (cases_lt k c.loop-place.place);
+        search_ = same_candidate c.args.self.now c.args.count (length c.deref-is_mapped-items.result.now) (c.loop-place.place + 1 - c.if-is_mapped.free) (c.loop-place.place - c.loop-place.free) (omega arith)
+            ∙ c.loop-place.invariant.search_;
+      }
+    ]
+
+-- the search over all of the region
+whole : (r : RegionMap) (count n : ℕ) → n ≡ r.layout.map / 4096 → free_run_from r count n 34603008 ≡ free_run r count
+whole r count n e = ap (λ (x : ℕ). free_run_from r count x 34603008) e
+
+pub returns-then-free-count-clause-page : goal.returns-then-free-count-clause-page
+returns-then-free-count-clause-page c =
+    let mapped : c.args.self.now.mapped ≡ marked 34603008 c.deref-is_mapped-items.result.now =
+    ap (λ (x : RegionMap). x.mapped) (sym c.self.view_is) ∙ ap (λ (xs : List Bool). marked 34603008 xs) (sym c.deref-is_mapped-items.ensures.value) in
+    let size : length c.deref-is_mapped-items.result.now ≡ c.args.self.now.layout.map / 4096 =
+    ap (λ (xs : List Bool). length xs) c.deref-is_mapped-items.ensures.value ∙ c.self.invariant.kept.each_page ∙ ap (λ (x : RegionMap). x.layout.map / 4096) c.self.view_is in
+    let some : 0 < c.args.count = c.requires in
+    let back : c.loop-place.free ≤ c.loop-place.place = c.loop-place.invariant.back in
+    let all : c.if-is_mapped.free ≡ c.args.count = c.if-free-count.true in
+    elim c.if-is_mapped.branch [
+      | then-is_mapped w ↦ absurd (omega arith)
+      | else-is_mapped w ↦
+          ap (λ (x : ℕ). Some (34603008 + x)) (let e : c.loop-place.place + 1 - c.args.count ≡ c.loop-place.place - c.loop-place.free = omega arith in e)
+          ∙ sym (search_found c.args.self.now 34603008 c.args.count c.loop-place.place c.loop-place.free c.deref-is_mapped-items.result.now mapped (omega arith) back c.loop-place-test.true c.loop-place.invariant.open_ w.if-is_mapped.false)
+          ∙ c.loop-place.invariant.search_ ∙ whole c.args.self.now c.args.count (length c.deref-is_mapped-items.result.now) size
+    ]
+
+pub returns-clause-page : goal.returns-clause-page
+returns-clause-page c =
+    let size : length c.deref-is_mapped-items.result.now ≡ c.args.self.now.layout.map / 4096 =
+    ap (λ (xs : List Bool). length xs) c.deref-is_mapped-items.ensures.value ∙ c.self.invariant.kept.each_page ∙ ap (λ (x : RegionMap). x.layout.map / 4096) c.self.view_is in
+    let short : c.loop-place.free < c.args.count = c.loop-place.invariant.short in
+    let back : c.loop-place.free ≤ c.loop-place.place = c.loop-place.invariant.back in
+    let end : length c.deref-is_mapped-items.result.now ≤ c.loop-place.place = c.loop-place-test.false in
+    let top = c.loop-place.auto.place-end in
+    sym (none_short c.args.self.now c.args.count (length c.deref-is_mapped-items.result.now - (c.loop-place.place - c.loop-place.free)) (34603008 + (c.loop-place.place - c.loop-place.free)) (omega arith))
+    ∙ c.loop-place.invariant.search_ ∙ whole c.args.self.now c.args.count (length c.deref-is_mapped-items.result.now) size
+
+pub returns-then-free-count-clause-within : goal.returns-then-free-count-clause-within
+returns-then-free-count-clause-within c =
+    let size : length c.deref-is_mapped-items.result.now ≡ c.args.self.now.layout.map / 4096 =
+    ap (λ (xs : List Bool). length xs) c.deref-is_mapped-items.ensures.value ∙ c.self.invariant.kept.each_page ∙ ap (λ (x : RegionMap). x.layout.map / 4096) c.self.view_is in
+    let all : c.if-is_mapped.free ≡ c.args.count = c.if-free-count.true in
+    let back : c.loop-place.free ≤ c.loop-place.place = c.loop-place.invariant.back in
+    elim c.if-is_mapped.branch [
+      | then-is_mapped w ↦ let some : 0 < c.args.count = c.requires in absurd (omega arith)
+      | else-is_mapped w ↦ omega arith
+    ]

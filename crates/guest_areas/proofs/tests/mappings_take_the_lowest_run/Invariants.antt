@@ -1,0 +1,5 @@
+use Rattle.guest_areas.specs.Space.{SharesRegions}
+use Rattle.guest_areas.proofs.tests.mappings_take_the_lowest_run.Given as goal
+
+abbrev pub invariant-loop-call : goal.invariant-loop-call
+invariant-loop-call g l = SharesRegions l.areas l.memory

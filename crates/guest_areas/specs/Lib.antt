@@ -1,0 +1,5 @@
+pub mod Answers
+pub mod Marks
+pub mod Space
+pub mod Kept
+pub mod Entry

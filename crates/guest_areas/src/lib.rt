@@ -1,0 +1,436 @@
+//! The regions of a guest: what its entry finds on the stack, and the calls that give and take pages.
+//!
+//! The break moves in a region of its own, and mappings are runs of whole pages of the map region. A memory keeps the
+//! bytes and the rights; these areas keep which pages the program has.
+#![tactic(auto)]
+
+mod entry;
+mod pages;
+
+ghost use Rattle.std.specs.Prelude.{ℕ, ◌≡◌, ◌≤◌, ◌<◌, ◌+◌, ◌-◌, ◌*◌, ◌/◌, ◌%◌, ◌^◌, ◌==◌, IfOk, IfSome, OnErr, IsTrue, length, pos};
+ghost use Rattle.guest_memory.specs.Regions.{page_of, map_base};
+ghost use Rattle.std.specs.Option.{option_map};
+ghost use Rattle.std.specs.List.{list_any};
+ghost use Rattle.guest_memory.specs.Memory.{first_memory};
+ghost use Rattle.guest_areas.specs.Space.{space, SharesRegions, with_break, map, unmap, protect, is_in_area, is_known, is_each, free_run};
+ghost use Rattle.guest_areas.specs.Entry.{stack_pointer, first_space};
+
+use crate::entry::write_entry;
+use crate::pages::{asks_execute, is_in_run, pages_for, rights_of};
+use coz_types::{Address, Area, Image, Rights};
+use guest_memory::{Layout, Memory, PAGE};
+use std::alloc::{AllocError, Global};
+use std::marker::Model;
+
+const BRK_BASE: Address = 0x20_0000_0000;
+
+const MAP_BASE: Address = 0x21_0000_0000;
+
+const STACK_TOP: Address = 0x40_0000_0000;
+
+const STACK_POINTER: Address = STACK_TOP - 176;
+
+// The errors of Linux's calls.
+const NO_MEMORY: i64 = -12;
+
+const NO_ACCESS: i64 = -13;
+
+const INVALID: i64 = -22;
+
+const NO_RIGHTS: Rights = Rights {
+    read: false,
+    write: false,
+    execute: false,
+};
+
+const READ_AND_WRITE: Rights = Rights {
+    read: true,
+    write: true,
+    execute: false,
+};
+
+/// Which pages a program has: its load areas, the pages below the break, the mapped pages and the stack. All room is
+/// taken when it is made.
+#[derive(Drop)]
+pub struct Areas {
+    /// In the image's order.
+    areas: Vec<Area>,
+    /// The same by their addresses.
+    sorted: Vec<Area>,
+    layout: Layout,
+    /// The break.
+    end: Address,
+    /// Whether each page of the map region is mapped.
+    mapped: Vec<bool>,
+}
+
+impl Model for Areas {
+    ghost use Rattle.guest_areas.specs.Space.{RegionMap};
+
+    ghost Value = { RegionMap };
+
+    ghost use Rattle.guest_areas.specs.Kept.{regions_of, AreKept};
+
+    ghost view = { λ a. regions_of a.areas.items a.layout a.end a.mapped.items };
+
+    ghost invariant = { λ a. AreKept a.areas.items a.sorted.items a.layout a.end a.mapped.items };
+}
+
+impl Areas {
+    /// The regions at a program's entry, whose stack is written. The memory is the first one of the image. If room is
+    /// wanting, it stays as it is.
+    pub fn new(alloc: Global, memory: &mut Memory, image: &Image) -> Result<Areas, AllocError>
+        requires { memory.old ≡ first_memory image.now memory.old.layout }
+        ensures ok { IfOk result (λ areas. space areas memory.new ≡ first_space image.now memory.old.layout) }
+        ensures shared { IfOk result (λ areas. SharesRegions areas memory.new) }
+        ensures err { OnErr result (memory.new ≡ memory.old) }
+    {
+        let layout = memory.layout();
+        let areas = Vec::from_slice(alloc, image.areas())?;
+        let mut sorted = Vec::from_slice(alloc, image.areas())?;
+        sorted.sort_by_key(|area| area.start)?;
+        let mapped = vec![in alloc; false; (layout.map / PAGE) as usize]?;
+        write_entry(memory, image);
+        Ok(Areas {
+            areas,
+            sorted,
+            layout,
+            end: BRK_BASE,
+            mapped,
+        })
+    }
+
+    /// The stack pointer at the entry.
+    pub fn stack_pointer(&self) -> Address
+        ensures { result ≡ stack_pointer }
+    {
+        STACK_POINTER
+    }
+
+    /// Moves the break, if it may stand there, and answers with the break after it. Pages that come to lie below it are
+    /// zeros that may be read and written; those that no longer do lose their rights (Linux: brk(2)).
+    pub fn brk(&mut self, memory: &mut Memory, to: Address) -> Address
+        requires { SharesRegions self.old memory.old }
+        ensures answer { result ≡ (with_break to (space self.old memory.old)).regions.break }
+        ensures space { space self.new memory.new ≡ with_break to (space self.old memory.old) }
+        ensures shared { SharesRegions self.new memory.new }
+    {
+        if to < BRK_BASE || to > BRK_BASE + self.layout.brk {
+            return self.end;
+        }
+        let old = pages_for(self.end);
+        let new = pages_for(to);
+        if old < new {
+            memory.give(old * PAGE, new - old, READ_AND_WRITE, true);
+        } else {
+            memory.give(new * PAGE, old - new, NO_RIGHTS, false);
+        }
+        self.end = to;
+        to
+    }
+
+    /// Maps so many bytes as zeros, at the lowest free run of pages that is long enough, and answers with its address.
+    /// Refused are no bytes, execution, and more than are free (Linux: mmap(2)).
+    pub fn map(&mut self, memory: &mut Memory, length: u64, protection: u64) -> i64
+        requires { SharesRegions self.old memory.old }
+        ensures answer { result ≡ (map length protection (space self.old memory.old)).answer }
+        ensures space { space self.new memory.new ≡ (map length protection (space self.old memory.old)).space }
+        ensures shared { SharesRegions self.new memory.new }
+    {
+        if length == 0 {
+            return INVALID;
+        }
+        if asks_execute(protection) {
+            return NO_ACCESS;
+        }
+        let count = pages_for(length);
+        match self.free_run(count) {
+            None => NO_MEMORY,
+            Some(place) => {
+                self.mapped[place..place + count as usize].fill(true);
+                let address = MAP_BASE + place as u64 * PAGE;
+                memory.give(address, count, rights_of(protection), true);
+                address as i64
+            }
+        }
+    }
+
+    /// Unmaps so many bytes from an address on, in whole pages: they lose their rights, mapped or not. Refused are an
+    /// address that starts no page, no bytes, and pages outside of the map region (Linux: munmap(2)).
+    pub fn unmap(&mut self, memory: &mut Memory, address: Address, length: u64) -> i64
+        requires { SharesRegions self.old memory.old }
+        ensures answer { result ≡ (unmap address length (space self.old memory.old)).answer }
+        ensures space { space self.new memory.new ≡ (unmap address length (space self.old memory.old)).space }
+        ensures shared { SharesRegions self.new memory.new }
+    {
+        let first = address / PAGE;
+        let count = pages_for(length);
+        if address % PAGE != 0
+            || length == 0
+            || address < MAP_BASE
+            || first + count > (MAP_BASE + self.layout.map) / PAGE
+        {
+            return INVALID;
+        }
+        let place = (first - MAP_BASE / PAGE) as usize;
+        self.mapped[place..place + count as usize].fill(false);
+        memory.give(address, count, NO_RIGHTS, false);
+        0
+    }
+
+    /// Gives so many bytes from an address on, in whole pages, the rights of a protection, and never execution. Refused
+    /// are an address that starts no page, execution, and a page that the program doesn't have (Linux: mprotect(2)).
+    pub fn protect(
+        &mut self,
+        memory: &mut Memory,
+        address: Address,
+        length: u64,
+        protection: u64,
+    ) -> i64
+        requires { SharesRegions self.old memory.old }
+        ensures answer { result ≡ (protect address length protection (space self.old memory.old)).answer }
+        ensures space { space self.new memory.new ≡ (protect address length protection (space self.old memory.old)).space }
+        ensures shared { SharesRegions self.new memory.new }
+    {
+        let _ = &self.layout;
+        if address % PAGE != 0 {
+            return INVALID;
+        }
+        if length == 0 {
+            return 0;
+        }
+        if asks_execute(protection) {
+            return NO_ACCESS;
+        }
+        let count = pages_for(length);
+        if !self.has_each(address / PAGE, count) {
+            return NO_MEMORY;
+        }
+        memory.give(address, count, rights_of(protection), false);
+        0
+    }
+
+    /// Makes these regions equal to others of the same areas and layout.
+    pub fn copy_from(&mut self, other: &Areas)
+        requires areas { self.old.areas ≡ other.now.areas }
+        requires layout { self.old.layout ≡ other.now.layout }
+        ensures { self.new ≡ other.now }
+    {
+        self.end = other.end;
+        self.mapped.copy_from_slice(&other.mapped);
+    }
+
+    /// The place in the map region of the lowest run of so many free pages.
+    fn free_run(&self, count: u64) -> Option<usize>
+        requires { 0 < count }
+        ensures page { option_map (λ place. page_of map_base + place) result ≡ free_run self.now count }
+        ensures within { IfSome result (λ place. place + count ≤ page_of self.now.layout.map) }
+    {
+        let mut free = 0;
+        for (place, is_mapped) in self.mapped.iter().enumerate() {
+            free = if *is_mapped { 0 } else { free + 1 };
+            if free == count {
+                return Some(place + 1 - count as usize);
+            }
+        }
+        None
+    }
+
+    /// Whether the program has each of so many pages from one on.
+    fn has_each(&self, first: u64, count: u64) -> bool
+        requires { first + count < 2 ^ 64 }
+        ensures { result ≡ is_each (is_known self.now) first count }
+    {
+        for page in first..first + count {
+            if !self.has(page) {
+                return false;
+            }
+        }
+        true
+    }
+
+    fn is_mapped(&self, page: u64) -> bool
+        ensures { result ≡ list_any (λ p. p == page) self.now.mapped }
+    {
+        page >= MAP_BASE / PAGE
+            && page - MAP_BASE / PAGE < self.mapped.len() as u64
+            && self.mapped[(page - MAP_BASE / PAGE) as usize]
+    }
+
+    /// Whether the program has a page.
+    fn has(&self, page: u64) -> bool
+        ensures { result ≡ is_known self.now page }
+    {
+        self.is_mapped(page)
+            || is_in_run(BRK_BASE / PAGE, pages_for(self.end) - BRK_BASE / PAGE, page)
+            || is_in_run(
+                (STACK_TOP - self.layout.stack) / PAGE,
+                self.layout.stack / PAGE,
+                page,
+            )
+            || self.is_of_area(page)
+    }
+
+    fn is_of_area(&self, page: u64) -> bool
+        ensures { result ≡ list_any (is_in_area page) self.now.areas }
+    {
+        let after = self
+            .sorted
+            .partition_point(|area| area.start / PAGE <= page);
+        if after == 0 {
+            return false;
+        }
+        let area = self.sorted[after - 1];
+        is_in_run(area.start / PAGE, area.size / PAGE, page)
+    }
+}
+
+#[cfg(test)]
+mod tests {
+    use super::*;
+    use guest_memory::Access;
+    use std::test::Fail;
+
+    const FILE: [u8; 4] = [0x73, 0, 0, 0];
+
+    const TEXT: Address = 0x10000;
+
+    const MIB: u64 = 1024 * 1024;
+
+    const MAPPED: i64 = 0x21_0000_0000;
+
+    #[derive(Clone, Copy, Debug)]
+    enum Call {
+        Map(u64, u64),
+        Unmap(Address, u64),
+        Protect(Address, u64, u64),
+    }
+
+    fn program(alloc: Global) -> Result<(Areas, Memory), AllocError>
+        ensures { IfOk result (λ made. SharesRegions made.0 made.1) }
+    {
+        let rights = Rights {
+            read: true,
+            write: false,
+            execute: true,
+        };
+        let area = Area {
+            start: TEXT,
+            size: 4096,
+            rights,
+            vaddr: TEXT,
+            offset: 0,
+            filled: 4,
+        };
+        let image = Image::new(&FILE, vec![in alloc; area]?, TEXT, 0x10040, 2);
+        let mut memory = Memory::new(alloc, &image, Layout::usual())?;
+        let areas = Areas::new(alloc, &mut memory, &image)?;
+        Ok((areas, memory))
+    }
+
+    fn answer(areas: &mut Areas, memory: &mut Memory, call: Call) -> i64
+        requires { SharesRegions areas.old memory.old }
+        ensures { SharesRegions areas.new memory.new }
+    {
+        match call {
+            Call::Map(length, protection) => areas.map(memory, length, protection),
+            Call::Unmap(address, length) => areas.unmap(memory, address, length),
+            Call::Protect(address, length, protection) => {
+                areas.protect(memory, address, length, protection)
+            }
+        }
+    }
+
+    #[test]
+    fn the_break_and_the_entry(rt: HostRuntime) -> Result<(), Fail> {
+        let (mut areas, mut memory) = program(rt.alloc())?;
+        let end = BRK_BASE + 16 * MIB;
+        for (to, wanted) in [
+            (0, BRK_BASE),
+            (BRK_BASE + 5000, BRK_BASE + 5000),
+            (BRK_BASE - 1, BRK_BASE + 5000),
+            (end + 1, BRK_BASE + 5000),
+            (end, end),
+            (BRK_BASE + 1, BRK_BASE + 1),
+        ] {
+            assert_eq!(rt; areas.brk(&mut memory, to), wanted, "to {to}");
+        }
+        assert_eq!(rt; memory.writable(BRK_BASE, 4096), true);
+        assert_eq!(rt; memory.readable(BRK_BASE + 4096, 1), false);
+        assert_eq!(rt; memory.load(BRK_BASE, 8), Ok(0));
+
+        assert_eq!(rt; areas.stack_pointer(), 0x3F_FFFF_FF50);
+        for (address, wanted) in [
+            (0x3F_FFFF_FF50, 1),
+            (0x3F_FFFF_FF58, 0x3F_FFFF_FFE0),
+            (0x3F_FFFF_FF60, 0),
+            (0x3F_FFFF_FF68, 0),
+            (0x3F_FFFF_FF70, 3),
+            (0x3F_FFFF_FF78, 0x10040),
+            (0x3F_FFFF_FF80, 4),
+            (0x3F_FFFF_FF88, 56),
+            (0x3F_FFFF_FF90, 5),
+            (0x3F_FFFF_FF98, 2),
+            (0x3F_FFFF_FFA0, 6),
+            (0x3F_FFFF_FFA8, 4096),
+            (0x3F_FFFF_FFB0, 9),
+            (0x3F_FFFF_FFB8, TEXT),
+            (0x3F_FFFF_FFC0, 25),
+            (0x3F_FFFF_FFC8, 0x3F_FFFF_FFF0),
+            (0x3F_FFFF_FFD0, 0),
+            (0x3F_FFFF_FFD8, 0),
+            (0x3F_FFFF_FFE0, 0x676F_7270),
+            (0x3F_FFFF_FFE8, 0),
+            (0x3F_FFFF_FFF0, 0),
+            (0x3F_FFFF_FFF8, 0),
+        ] {
+            assert_eq!(rt; memory.load(address, 8), Ok(wanted), "at {address}");
+        }
+        Ok(())
+    }
+
+    #[test]
+    fn mappings_take_the_lowest_run(rt: HostRuntime) -> Result<(), Fail> {
+        let (mut areas, mut memory) = program(rt.alloc())?;
+        for (call, wanted) in [
+            (Call::Map(0, 3), -22),
+            (Call::Map(1, 4), -13),
+            (Call::Map(u64::MAX, 3), -12),
+            (Call::Map(48 * MIB + 1, 3), -12),
+            (Call::Map(4096, 3), MAPPED),
+            (Call::Map(4097, 3), MAPPED + 0x1000),
+            (Call::Unmap(MAP_BASE + 1, 4096), -22),
+            (Call::Unmap(MAP_BASE, 0), -22),
+            (Call::Unmap(MAP_BASE - 4096, 8192), -22),
+            (Call::Unmap(MAP_BASE + 48 * MIB - 4096, 4097), -22),
+            (Call::Unmap(MAP_BASE, u64::MAX), -22),
+            (Call::Unmap(MAP_BASE, 1), 0),
+            (Call::Map(8192, 1), MAPPED + 0x3000),
+            (Call::Map(1, 1), MAPPED),
+            (Call::Protect(MAP_BASE + 1, 4096, 3), -22),
+            (Call::Protect(MAP_BASE, 0, 4), 0),
+            (Call::Protect(MAP_BASE, 1, 4), -13),
+            (Call::Protect(MAP_BASE, 0x6000, 3), -12),
+            (Call::Protect(MAP_BASE, u64::MAX, 3), -12),
+            (Call::Protect(MAP_BASE + 0x1000, 4096, 1), 0),
+            (Call::Protect(TEXT, 4096, 2), 0),
+        ] {
+            let got = answer(&mut areas, &mut memory, call);
+            assert_eq!(rt; got, wanted, "{call:?}");
+        }
+        for (address, readable, writable) in [
+            (MAP_BASE, true, false),
+            (MAP_BASE + 0x1000, true, false),
+            (MAP_BASE + 0x2000, true, true),
+            (MAP_BASE + 0x4000, true, false),
+            (MAP_BASE + 0x5000, false, false),
+            (TEXT, true, true),
+        ] {
+            assert_eq!(rt; memory.readable(address, 4096), readable, "at {address}");
+            assert_eq!(rt; memory.writable(address, 4096), writable, "at {address}");
+        }
+        assert_eq!(rt; memory.fetch(TEXT), Err(Access));
+        assert_eq!(rt; memory.load(TEXT, 4), Ok(0x73));
+        Ok(())
+    }
+}

@@ -1,0 +1,46 @@
+ghost use Rattle.std.specs.Prelude.{ℕ, ◌≡◌, ◌≤◌, ◌^◌};
+ghost use Rattle.guest_memory.specs.Regions.{pages_for};
+ghost use Rattle.guest_areas.specs.Space.{has, rights_of, is_in_run};
+
+use coz_types::Rights;
+use guest_memory::PAGE;
+
+// The bits of a protection (Linux: mprotect(2)).
+const READ: u64 = 1;
+
+const WRITE: u64 = 2;
+
+const EXECUTE: u64 = 4;
+
+/// The pages that hold so many bytes.
+pub fn pages_for(length: u64) -> u64
+    ensures value { result ≡ pages_for length }
+    ensures low { result ≤ 2 ^ 52 }
+{
+    length.div_ceil(PAGE)
+}
+
+pub fn asks_execute(protection: u64) -> bool
+    ensures { result ≡ has protection 4 }
+{
+    protection & EXECUTE != 0
+}
+
+/// The rights that a protection gives: to write is to read too.
+pub fn rights_of(protection: u64) -> Rights
+    ensures { result ≡ rights_of protection }
+{
+    let write = protection & WRITE != 0;
+    Rights {
+        read: protection & READ != 0 || write,
+        write,
+        execute: false,
+    }
+}
+
+/// Whether a page is one of so many from one on.
+pub fn is_in_run(first: u64, count: u64, page: u64) -> bool
+    ensures { result ≡ is_in_run first count page }
+{
+    first <= page && page - first < count
+}

@@ -1,0 +1,170 @@
+-- So many bytes from an address on.
+use Rattle.std.proofs.Common.{ℕ, zero, suc, ◌≡◌, ◌+◌, ◌-◌, ◌*◌, ◌/◌, ◌%◌, ◌^◌, ◌≤◌, ◌<◌, Bool, true, false, List, [], ◌∷◌, length, drop, get_or, arith, refl, sym, ap, ◌∙◌, ⊎_elim, Some, None}
+use Rattle.std.proofs.Math.Nat.{pow-le-pow_right}
+use Rattle.std.proofs.lemmas.Bool.{cases_Bool, cond-true, cond-false, both_ways, true_from_ne_false}
+use Rattle.std.proofs.lemmas.List.{ext_get_or, drop_more}
+use Rattle.coz_types.specs.declared.image.Rights.{Rights}
+use Rattle.coz_types.specs.declared.image.Area.{Area}
+use Rattle.coz_types.specs.Image.{ImageParts}
+use Rattle.guest_memory.specs.declared.Layout.{Layout}
+use Rattle.std.specs.Prelude.{fold}
+use Rattle.coz_types.specs.Maps.{value_or}
+use Rattle.byteorder.specs.Endian.{little_from}
+use Rattle.guest_memory.specs.Memory.{empty_memory, first_memory, read_and_write, MemoryMap, no_rights, byte_at, with_byte, rights_at, is_allowed, is_readable, is_writable, is_executable, number_at, with_number, with_bytes, with_rights, with_area, area_bytes, given, bytes_at, load, store, fetch}
+use Rattle.guest_memory.specs.Regions.{page_of, stack_base}
+
+pub allowed_from : (right : Rights → Bool) (m : MemoryMap) (a n : ℕ) → ((j : ℕ) → j < n → right (rights_at m (a + j)) ≡ true) → is_allowed right m a n ≡ true
+allowed_from right m a zero h = refl
+allowed_from right m a (suc n) h =
+    let here : right (rights_at m a) ≡ true =
+    ap (λ (b : ℕ). right (rights_at m b)) (let e : a ≡ a + 0 = omega arith in e) ∙ h 0 (omega arith) in
+    ap (λ (b : Bool). elim b as (λ _. Bool) [ true ↦ is_allowed right m (a + 1) n | false ↦ false ]) here
+    ∙ allowed_from right m (a + 1) n (λ j below.
+    ap (λ (b : ℕ). right (rights_at m b)) (let e : a + 1 + j ≡ a + suc j = omega arith in e) ∙ h (suc j) (omega arith))
+
+pub refused_from : (right : Rights → Bool) (m : MemoryMap) (a n j : ℕ) → j < n → right (rights_at m (a + j)) ≡ false → is_allowed right m a n ≡ false
+refused_from right m a zero j below h = absurd (omega arith)
+refused_from right m a (suc n) zero below h =
+    let here : right (rights_at m a) ≡ false =
+    ap (λ (b : ℕ). right (rights_at m b)) (let e : a ≡ a + 0 = omega arith in e) ∙ h in
+    ap (λ (b : Bool). elim b as (λ _. Bool) [ true ↦ is_allowed right m (a + 1) n | false ↦ false ]) here
+refused_from right m a (suc n) (suc j) below h =
+    let rest : is_allowed right m (a + 1) n ≡ false = refused_from right m (a + 1) n j (omega arith)
+    (ap (λ (b : ℕ). right (rights_at m b)) (let e : a + 1 + j ≡ a + suc j = omega arith in e) ∙ h) in
+    ⊎_elim
+    (λ (e : right (rights_at m a) ≡ true). ap (λ (b : Bool). elim b as (λ _. Bool) [ true ↦ is_allowed right m (a + 1) n | false ↦ false ]) e ∙ rest)
+    (λ (e : right (rights_at m a) ≡ false). ap (λ (b : Bool). elim b as (λ _. Bool) [ true ↦ is_allowed right m (a + 1) n | false ↦ false ]) e)
+    (cases_Bool (right (rights_at m a)))
+
+-- the run of pages that so many bytes meet
+pub allowed_pages : (right : Rights → Bool) (m : MemoryMap) (a n last : ℕ) → last + 1 ≡ a + n → ((q : ℕ) → a / 4096 ≤ q → q ≤ last / 4096 → right (value_or no_rights m.rights q) ≡ true) → is_allowed right m a n ≡ true
+allowed_pages right m a n last e h = allowed_from right m a n (λ j below. h ((a + j) / 4096) (omega arith) (omega arith))
+
+pub refused_page : (right : Rights → Bool) (m : MemoryMap) (a n last q : ℕ) → 0 < n → last + 1 ≡ a + n → a / 4096 ≤ q → q ≤ last / 4096 → right (value_or no_rights m.rights q) ≡ false → is_allowed right m a n ≡ false
+refused_page right m a n last q some e from to h =
+    let first : (q * 4096 - a < n) × ((a + (q * 4096 - a)) / 4096 ≡ q) = (omega arith, omega arith) in
+    refused_from right m a n (q * 4096 - a) first.0
+    (ap (λ (p : ℕ). right (value_or no_rights m.rights p)) first.1 ∙ h)
+
+-- where all bytes are in the page of the first
+pub allowed_here : (right : Rights → Bool) (m : MemoryMap) (a n : ℕ) → a % 4096 + n ≤ 4096 → right (rights_at m a) ≡ true → is_allowed right m a n ≡ true
+allowed_here right m a n fits h =
+    allowed_from right m a n (λ j below.
+    ap (λ (p : ℕ). right (value_or no_rights m.rights p)) (let e : (a + j) / 4096 ≡ a / 4096 = omega arith in e) ∙ h)
+
+pub refused_here : (right : Rights → Bool) (m : MemoryMap) (a n : ℕ) → 0 < n → right (rights_at m a) ≡ false → is_allowed right m a n ≡ false
+refused_here right m a n some h =
+    refused_from right m a n 0 some
+    (ap (λ (p : ℕ). right (rights_at m p)) (let e : a + 0 ≡ a = omega arith in e) ∙ h)
+
+pub number-from : (m : MemoryMap) (bytes : List ℕ) (a p n : ℕ) → ((j : ℕ) → j < n → byte_at m (a + j) ≡ get_or bytes (p + j) 0) → number_at m a n ≡ little_from p n bytes
+number-from m bytes a p zero h = refl
+number-from m bytes a p (suc n) h =
+    let here : byte_at m a ≡ get_or bytes p 0 =
+    ap (λ (b : ℕ). byte_at m b) (let e : a ≡ a + 0 = omega arith in e) ∙ h 0 (omega arith)
+    ∙ ap (λ (b : ℕ). get_or bytes b 0) (let e : p + 0 ≡ p = omega arith in e) in
+    let rest : number_at m (a + 1) n ≡ little_from (suc p) n bytes =
+    number-from m bytes (a + 1) (suc p) n (λ j below.
+    ap (λ (b : ℕ). byte_at m b) (let e : a + 1 + j ≡ a + suc j = omega arith in e) ∙ h (suc j) (omega arith)
+    ∙ ap (λ (b : ℕ). get_or bytes b 0) (let e : p + suc j ≡ suc p + j = omega arith in e)) in
+    omega (arith, here, rest)
+
+pub load-allowed : (m : MemoryMap) (a n v : ℕ) → is_readable m a n ≡ true → number_at m a n ≡ v → Some v ≡ load m a n
+load-allowed m a n v h e = ap (λ (x : ℕ). Some x) (sym e) ∙ sym (cond-true (is_readable m a n) (Some (number_at m a n)) None h)
+
+pub load-refused : (m : MemoryMap) (a n : ℕ) → is_readable m a n ≡ false → None ≡ load m a n
+load-refused m a n h = sym (cond-false (is_readable m a n) (Some (number_at m a n)) None h)
+
+pub fetch-allowed : (m : MemoryMap) (a v : ℕ) → is_executable m a 4 ≡ true → number_at m a 4 ≡ v → Some v ≡ fetch m a
+fetch-allowed m a v h e = ap (λ (x : ℕ). Some x) (sym e) ∙ sym (cond-true (is_executable m a 4) (Some (number_at m a 4)) None h)
+
+pub fetch-refused : (m : MemoryMap) (a : ℕ) → is_executable m a 4 ≡ false → None ≡ fetch m a
+fetch-refused m a h = sym (cond-false (is_executable m a 4) (Some (number_at m a 4)) None h)
+
+pub store-allowed : (m after : MemoryMap) (a n v : ℕ) → is_writable m a n ≡ true → after ≡ with_number a n v m → Some after ≡ store a n v m
+store-allowed m after a n v h e =
+    ap (λ (x : MemoryMap). Some x) e ∙ sym (cond-true (is_writable m a n) (Some (with_number a n v m)) None h)
+
+pub store-refused : (m : MemoryMap) (a n v : ℕ) → is_writable m a n ≡ false → None ≡ store a n v m
+store-refused m a n v h = sym (cond-false (is_writable m a n) (Some (with_number a n v m)) None h)
+
+fits : (v b : ℕ) → v < 72057594037927936 → b < 256 → v * 256 + b < 18446744073709551616
+fits v b h byte = omega arith
+
+pub number_fits : (v b i : ℕ) → v < 256 ^ i → i < 8 → b < 256 → v * 256 + b < 2 ^ 64
+number_fits v b i h small byte =
+    let p : 256 ^ i ≤ 256 ^ 7 = pow-le-pow_right {n = 256} (omega arith) {j = 7} (omega arith) in
+    let q : v < 256 ^ 7 = omega arith in
+    fits v b q byte
+
+-- one byte more of a number that is written
+pub written_more : (m after : MemoryMap) (a n i v : ℕ) → i < n → after ≡ with_byte (a + i) (v % 256) m → with_number (a + (i + 1)) (n - (i + 1)) (v / 256) after ≡ with_number (a + i) (n - i) v m
+written_more m after a n i v h e =
+    ap (λ (x : MemoryMap). with_number (a + (i + 1)) (n - (i + 1)) (v / 256) x) e
+    ∙ ap (λ (q : ℕ). with_number q (n - (i + 1)) (v / 256) (with_byte (a + i) (v % 256) m)) (let f : a + (i + 1) ≡ a + i + 1 = omega arith in f)
+    ∙ ap (λ (k : ℕ). with_number (a + i) k v m) (let f : suc (n - (i + 1)) ≡ n - i = omega arith in f)
+
+pub length-bytes_at : (m : MemoryMap) (a n : ℕ) → length (bytes_at m a n) ≡ n
+length-bytes_at m a zero = refl
+length-bytes_at m a (suc n) = omega (arith, length-bytes_at m (a + 1) n)
+
+pub get_or-bytes_at : (m : MemoryMap) (a n k : ℕ) → k < n → get_or (bytes_at m a n) k 0 ≡ byte_at m (a + k)
+get_or-bytes_at m a zero k h = absurd (omega arith)
+get_or-bytes_at m a (suc n) zero h = ap (λ (b : ℕ). byte_at m b) (let e : a ≡ a + 0 = omega arith in e)
+get_or-bytes_at m a (suc n) (suc k) h =
+    get_or-bytes_at m (a + 1) n k (omega arith) ∙ ap (λ (b : ℕ). byte_at m b) (let e : a + 1 + k ≡ a + suc k = omega arith in e)
+
+-- all of the bytes
+pub bytes_from : (m : MemoryMap) (a : ℕ) (bs : List ℕ) → ((k : ℕ) → k < length bs → get_or bs k 0 ≡ byte_at m (a + k)) → bs ≡ bytes_at m a (length bs)
+bytes_from m a bs h =
+    ext_get_or 0 bs (bytes_at m a (length bs)) (sym (length-bytes_at m a (length bs)))
+    (λ i below. h i below ∙ sym (get_or-bytes_at m a (length bs) i below))
+
+-- the right to each of the bytes
+pub allowed_each : (right : Rights → Bool) (m : MemoryMap) (a n : ℕ) → is_allowed right m a n ≡ true → (j : ℕ) → j < n → right (rights_at m (a + j)) ≡ true
+allowed_each right m a n h j below =
+    true_from_ne_false (right (rights_at m (a + j))) (λ e. both_ways (is_allowed right m a n) (refused_from right m a n j below e) h)
+
+-- one byte more
+pub bytes_more : (m after : MemoryMap) (a i : ℕ) (bs : List ℕ) → i < length bs → after ≡ with_byte (a + i) (get_or bs i 0) m → with_bytes (a + (i + 1)) (drop (i + 1) bs) after ≡ with_bytes (a + i) (drop i bs) m
+bytes_more m after a i bs h e =
+    ap (λ (x : MemoryMap). with_bytes (a + (i + 1)) (drop (i + 1) bs) x) e
+    ∙ ap (λ (q : ℕ). with_bytes q (drop (i + 1) bs) (with_byte (a + i) (get_or bs i 0) m)) (let f : a + (i + 1) ≡ a + i + 1 = omega arith in f)
+    ∙ ap (λ (xs : List ℕ). with_bytes (a + i) xs m) (sym (drop_more bs i 0 h))
+
+-- one page more
+pub given_more : (m after : MemoryMap) (first count i : ℕ) (r : Rights) → i < count → after ≡ with_rights (first + i) r m → given (first + (i + 1)) (count - (i + 1)) r after ≡ given (first + i) (count - i) r m
+given_more m after first count i r h e =
+    ap (λ (x : MemoryMap). given (first + (i + 1)) (count - (i + 1)) r x) e
+    ∙ ap (λ (q : ℕ). given q (count - (i + 1)) r (with_rights (first + i) r m)) (let f : first + (i + 1) ≡ first + i + 1 = omega arith in f)
+    ∙ ap (λ (k : ℕ). given (first + i) k r m) (let f : suc (count - (i + 1)) ≡ count - i = omega arith in f)
+
+-- neither the rights nor the bytes that are given change the areas and the layout
+pub same_regions-given : (m : MemoryMap) (first count : ℕ) (r : Rights) → ((given first count r m).areas ≡ m.areas) × ((given first count r m).layout ≡ m.layout)
+same_regions-given m first zero r = (refl, refl)
+same_regions-given m first (suc count) r = same_regions-given (with_rights first r m) (first + 1) count r
+
+pub same_regions-with_bytes : (m : MemoryMap) (a : ℕ) (bs : List ℕ) → ((with_bytes a bs m).areas ≡ m.areas) × ((with_bytes a bs m).layout ≡ m.layout)
+same_regions-with_bytes m a [] = (refl, refl)
+same_regions-with_bytes m a (b ∷ bs) = same_regions-with_bytes (with_byte a b m) (a + 1) bs
+
+pub same_regions-with_area : (image : ImageParts) (m : MemoryMap) (area : Area) → ((with_area image m area).areas ≡ m.areas) × ((with_area image m area).layout ≡ m.layout)
+same_regions-with_area image m area =
+    let g = same_regions-given m (page_of area.start) (page_of area.size) area.rights in
+    let w = same_regions-with_bytes (given (page_of area.start) (page_of area.size) area.rights m) area.vaddr (area_bytes image area) in
+    (w.0 ∙ g.0, w.1 ∙ g.1)
+
+same_regions-areas : (image : ImageParts) (m : MemoryMap) (areas : List Area) → ((fold (with_area image) m areas).areas ≡ m.areas) × ((fold (with_area image) m areas).layout ≡ m.layout)
+same_regions-areas image m [] = (refl, refl)
+same_regions-areas image m (a ∷ as_) =
+    let here = same_regions-with_area image m a in
+    let rest = same_regions-areas image (with_area image m a) as_ in
+    (rest.0 ∙ here.0, rest.1 ∙ here.1)
+
+-- a first memory keeps the areas and the layout
+pub same_regions-first : (image : ImageParts) (layout : Layout) → ((first_memory image layout).areas ≡ image.areas) × ((first_memory image layout).layout ≡ layout)
+same_regions-first image layout =
+    let m = fold (with_area image) (empty_memory image.areas layout) image.areas in
+    let g = same_regions-given m (page_of (stack_base layout)) (page_of layout.stack) read_and_write in
+    let a = same_regions-areas image (empty_memory image.areas layout) image.areas in
+    (g.0 ∙ a.0, g.1 ∙ a.1)

@@ -1,0 +1,687 @@
+//! The memory of a guest: a byte at each address, and the rights of each page of 4,096 bytes.
+//!
+//! Contracts see a memory as two finite maps, the bytes that aren't zero by their addresses and the rights by the
+//! numbers of their pages. The code keeps flat lists of all pages and bytes of the load areas and the three regions.
+#![tactic(auto)]
+
+mod find;
+mod lay;
+mod numbers;
+
+ghost use Rattle.std.specs.Prelude.{ℕ, ◌≡◌, ◌%◌, if◌then◌else◌, length, false, ◌≤◌, ◌+◌, ◌-◌, ◌<◌, ◌^◌, IfOk, MatchOption, MatchResult, IsTrue};
+ghost use Rattle.std.specs.Result.{result_ok};
+ghost use Rattle.coz_types.specs.Maps.{value_or};
+ghost use Rattle.guest_memory.specs.Memory.{empty_memory, first_memory, with_area, given, zeroed, IsSize, load, store, fetch, is_allowed, is_readable, is_writable, byte_at, number_at, with_rights, with_byte, with_bytes, bytes_at, rights_at, no_rights, IsHeld};
+ghost use Rattle.guest_memory.specs.Right.{has_right};
+ghost use Rattle.guest_memory.specs.Regions.{IsLayout, IsKnown, usual, page_of};
+ghost use Rattle.std.specs.List.{Contains};
+ghost use Rattle.coz_types.specs.Image.{IsAreaOf};
+
+use crate::find::find;
+use crate::lay::lay;
+use crate::numbers::{number_of, put_number, zero_from};
+use coz_types::{Address, Area, Image, Rights};
+use std::alloc::{AllocError, Global};
+use std::marker::Model;
+
+/// The bytes of a page.
+pub const PAGE: u64 = 4096;
+
+const MIB: u64 = 1024 * 1024;
+
+const BRK_BASE: Address = 0x20_0000_0000;
+
+const MAP_BASE: Address = 0x21_0000_0000;
+
+const STACK_TOP: Address = 0x40_0000_0000;
+
+/// The sizes in bytes of the regions that are no load areas, in whole pages.
+#[derive(Clone, Copy, Debug, PartialEq, Eq)]
+pub struct Layout {
+    /// From 0x2000000000 on, at most 16 MiB.
+    pub brk: u64,
+    /// From 0x2100000000 on, at most 48 MiB.
+    pub map: u64,
+    /// Up to 0x4000000000, at least a page and at most 1 MiB.
+    pub stack: u64,
+}
+
+impl Layout {
+    /// The greatest sizes, with which programs run.
+    pub fn usual() -> Layout
+        ensures sizes { result ≡ usual }
+        ensures valid { IsLayout result }
+    {
+        Layout {
+            brk: 16 * MIB,
+            map: 48 * MIB,
+            stack: MIB,
+        }
+    }
+}
+
+/// Some byte of a range lacks the right that was asked for.
+#[derive(Clone, Copy, Debug, PartialEq, Eq)]
+pub struct Access;
+
+/// Pages in a row, and where they begin among the pages of a memory.
+#[derive(Clone, Copy, Debug)]
+struct Span {
+    first: u64,
+    count: u64,
+    at: u64,
+}
+
+/// The rights of a page, and whether it was written or given rights since the memory was made.
+#[derive(Clone, Copy, Debug)]
+struct Page {
+    rights: Rights,
+    touched: bool,
+}
+
+const NO_RIGHTS: Rights = Rights {
+    read: false,
+    write: false,
+    execute: false,
+};
+
+/// A right to a byte.
+#[derive(Clone, Copy)]
+enum Right {
+    Read,
+    Write,
+    Execute,
+}
+
+/// The memory of a guest. All its room is taken when it is made.
+#[derive(Drop)]
+pub struct Memory {
+    areas: Vec<Area>,
+    layout: Layout,
+    spans: Vec<Span>,
+    pages: Vec<Page>,
+    bytes: Vec<u8>,
+}
+
+impl Model for Memory {
+    ghost use Rattle.guest_memory.specs.Memory.{MemoryMap};
+    ghost use Rattle.guest_memory.specs.Shown.{shown, IsMemory};
+
+    ghost Value = { MemoryMap };
+
+    ghost view = { λ m. shown m.areas.items m.layout m.spans.items m.pages.items m.bytes.items };
+
+    ghost invariant = { λ m. IsMemory m.areas.items m.layout m.spans.items m.pages.items m.bytes.items };
+}
+
+fn has(rights: Rights, right: Right) -> bool
+    ensures { result ≡ has_right right rights }
+{
+    match right {
+        Right::Read => rights.read,
+        Right::Write => rights.write,
+        Right::Execute => rights.execute,
+    }
+}
+
+/// The bytes from an address on to the end of its page.
+fn room_in_page(address: Address) -> usize
+    ensures { result ≡ 4096 - address % 4096 }
+{
+    (PAGE - address % PAGE) as usize
+}
+
+impl Memory {
+    /// The memory that a program begins with: the load areas with their rights and the file's bytes in them, and
+    /// a stack of zeros that may be read and written. Everything else has no rights.
+    pub fn new(alloc: Global, image: &Image, layout: Layout) -> Result<Memory, AllocError>
+        requires { IsLayout layout }
+        ensures { IfOk result (λ memory. memory ≡ first_memory image.now layout) }
+    {
+        let mut memory = Memory::empty(alloc, image, layout)?;
+        for area in image.areas() {
+            memory.put_area(image, *area);
+        }
+        let rights = Rights {
+            read: true,
+            write: true,
+            execute: false,
+        };
+        memory.give_run(
+            (STACK_TOP - layout.stack) / PAGE,
+            layout.stack / PAGE,
+            rights,
+        );
+        memory.forget_touched();
+        Ok(memory)
+    }
+
+    /// From now on no page was written or given rights.
+    fn forget_touched(&mut self)
+        ensures { self.new ≡ self.old }
+    {
+        for page in self.pages.iter_mut() {
+            page.touched = false;
+        }
+    }
+
+    /// Gives a load area its rights, and its bytes of the file.
+    fn put_area(&mut self, image: &Image, area: Area)
+        requires area { IsAreaOf image.now.file area }
+        requires known { Contains self.old.areas area }
+        ensures { self.new ≡ with_area image.now self.old area }
+    {
+        self.give_run(area.start / PAGE, area.size / PAGE, area.rights);
+        let file = image.file();
+        let bytes = &file[area.offset as usize..(area.offset + area.filled) as usize];
+        self.put_run(area.vaddr, bytes);
+    }
+
+    /// Gives pages in a row their rights.
+    fn give_run(&mut self, first: u64, count: u64, rights: Rights)
+        requires { (q : ℕ) → first ≤ q → q < first + count → IsKnown self.old.areas self.old.layout q }
+        ensures { self.new ≡ given first count rights self.old }
+    {
+        for i in 0..count {
+            let _ = &self.spans;
+            self.give_page(first + i, rights);
+        }
+    }
+
+    /// Gives so many pages in a row these rights, and makes them zeros if asked for. `page` is the address of the
+    /// first one.
+    pub fn give(&mut self, page: Address, pages: u64, rights: Rights, zero: bool)
+        requires known { (q : ℕ) → page_of page ≤ q → q < page_of page + pages → IsKnown self.old.areas self.old.layout q }
+        requires no_execute { rights.execute ≡ false }
+        ensures { self.new ≡ (if zero
+            then zeroed (page_of page) pages (given (page_of page) pages rights self.old)
+            else given (page_of page) pages rights self.old) }
+    {
+        self.give_run(page / PAGE, pages, rights);
+        if zero {
+            self.zero_run(page / PAGE, pages);
+        }
+    }
+
+    fn zero_run(&mut self, first: u64, count: u64)
+        requires { (q : ℕ) → first ≤ q → q < first + count → IsKnown self.old.areas self.old.layout q }
+        ensures { self.new ≡ zeroed first count self.old }
+    {
+        for i in 0..count {
+            let _ = &self.spans;
+            self.zero_page(first + i);
+        }
+    }
+
+    /// Makes a page one of zeros.
+    fn zero_page(&mut self, page: u64)
+        requires { IsKnown self.old.areas self.old.layout page }
+        ensures { self.new ≡ zeroed page 1 self.old }
+    {
+        match find(&self.spans, page) {
+            None => unreachable!(),
+            Some(index) => {
+                self.pages[index].touched = true;
+                zero_from(&mut self.bytes, index * 4096);
+            }
+        }
+    }
+
+    /// Writes bytes whatever the rights, page by page.
+    fn put_run(&mut self, address: Address, bytes: &[u8])
+        requires held { (j : ℕ) → j < length bytes.now → IsHeld self.old (address + j) }
+        requires low { address + length bytes.now ≤ 2 ^ 64 }
+        ensures { self.new ≡ with_bytes address bytes.now self.old }
+    {
+        let mut done = 0;
+        while done < bytes.len() {
+            let here = address + done as u64;
+            let count = (bytes.len() - done).min(room_in_page(here));
+            self.put_piece(here, &bytes[done..done + count]);
+            done += count;
+        }
+    }
+
+    /// Writes bytes that lie in one page.
+    fn put_piece(&mut self, address: Address, bytes: &[u8])
+        requires held { IsHeld self.old address }
+        requires fits { address % 4096 + length bytes.now ≤ 4096 }
+        ensures { self.new ≡ with_bytes address bytes.now self.old }
+    {
+        match find(&self.spans, address / PAGE) {
+            None => unreachable!(),
+            Some(index) => {
+                self.pages[index].touched = true;
+                let place = index * 4096 + (address % PAGE) as usize;
+                self.bytes[place..place + bytes.len()].copy_from_slice(bytes);
+            }
+        }
+    }
+
+    /// The pages of an image and a layout, zeros with no rights.
+    fn empty(alloc: Global, image: &Image, layout: Layout) -> Result<Memory, AllocError>
+        requires { IsLayout layout }
+        ensures { IfOk result (λ memory. memory ≡ empty_memory image.now.areas layout) }
+    {
+        let areas = Vec::from_slice(alloc, image.areas())?;
+        let mut wanted = Vec::new(alloc);
+        for area in image.areas() {
+            let first = area.start / PAGE;
+            let count = area.size / PAGE;
+            wanted.push(Span {
+                first,
+                count,
+                at: 0,
+            })?;
+        }
+        wanted.sort_by_key(|span| span.first)?;
+        wanted.push(Span {
+            first: BRK_BASE / PAGE,
+            count: layout.brk / PAGE,
+            at: 0,
+        })?;
+        wanted.push(Span {
+            first: MAP_BASE / PAGE,
+            count: layout.map / PAGE,
+            at: 0,
+        })?;
+        wanted.push(Span {
+            first: (STACK_TOP - layout.stack) / PAGE,
+            count: layout.stack / PAGE,
+            at: 0,
+        })?;
+        let (spans, total) = lay(alloc, &wanted)?;
+        let page = Page {
+            rights: NO_RIGHTS,
+            touched: false,
+        };
+        let pages = vec![in alloc; page; total]?;
+        let bytes = vec![in alloc; 0u8; total * 4096]?;
+        Ok(Memory {
+            areas,
+            layout,
+            spans,
+            pages,
+            bytes,
+        })
+    }
+
+    /// The layout that the memory was made with.
+    pub fn layout(&self) -> Layout
+        ensures layout { result ≡ self.now.layout }
+        ensures valid { IsLayout result }
+    {
+        self.layout
+    }
+
+    /// The number that stands at an address, for a size of 1, 2, 4 or 8 bytes.
+    pub fn load(&self, address: Address, size: u8) -> Result<u64, Access>
+        requires { IsSize size }
+        ensures { result_ok result ≡ load self.now address size }
+    {
+        match find(&self.spans, address / PAGE) {
+            None => Err(Access),
+            Some(index) => {
+                if !self.pages[index].rights.read {
+                    return Err(Access);
+                }
+                let within = (address % PAGE) as usize;
+                if within + size as usize <= 4096 {
+                    Ok(number_of(&self.bytes, index * 4096 + within, size))
+                } else {
+                    self.load_across(address, size)
+                }
+            }
+        }
+    }
+
+    #[inline(never)]
+    fn load_across(&self, address: Address, size: u8) -> Result<u64, Access>
+        requires { IsSize size }
+        ensures { result_ok result ≡ load self.now address size }
+    {
+        if self.readable(address, size as u64) {
+            Ok(self.number_across(address, size))
+        } else {
+            Err(Access)
+        }
+    }
+
+    /// The word that stands at an address, to be executed.
+    pub fn fetch(&self, address: Address) -> Result<u32, Access>
+        ensures { result_ok result ≡ fetch self.now address }
+    {
+        match find(&self.spans, address / PAGE) {
+            None => Err(Access),
+            Some(index) => {
+                if !self.pages[index].rights.execute {
+                    return Err(Access);
+                }
+                let within = (address % PAGE) as usize;
+                if within + 4 <= 4096 {
+                    Ok(number_of(&self.bytes, index * 4096 + within, 4) as u32)
+                } else {
+                    self.fetch_across(address)
+                }
+            }
+        }
+    }
+
+    #[inline(never)]
+    fn fetch_across(&self, address: Address) -> Result<u32, Access>
+        ensures { result_ok result ≡ fetch self.now address }
+    {
+        if self.all_have(address, 4, Right::Execute) {
+            Ok(self.number_across(address, 4) as u32)
+        } else {
+            Err(Access)
+        }
+    }
+
+    fn number_across(&self, address: Address, size: u8) -> u64
+        requires size { size ≤ 8 }
+        requires low { address + size ≤ 2 ^ 64 }
+        ensures number { result ≡ number_at self.now address size }
+        ensures below { result < 256 ^ size }
+    {
+        let mut value = 0;
+        for i in 0..size {
+            value = value * 256 + self.byte(address + (size - 1 - i) as u64) as u64;
+        }
+        value
+    }
+
+    /// Whether so many bytes from an address on may be read.
+    pub fn readable(&self, address: Address, count: u64) -> bool
+        ensures answer { result ≡ is_readable self.now address count }
+        ensures low { IsTrue result → address + count ≤ 2 ^ 64 }
+    {
+        self.all_have(address, count, Right::Read)
+    }
+
+    /// Whether so many bytes from an address on may be written.
+    pub fn writable(&self, address: Address, count: u64) -> bool
+        ensures answer { result ≡ is_writable self.now address count }
+        ensures low { IsTrue result → address + count ≤ 2 ^ 64 }
+    {
+        self.all_have(address, count, Right::Write)
+    }
+
+    fn all_have(&self, address: Address, count: u64, right: Right) -> bool
+        ensures answer { result ≡ is_allowed (has_right right) self.now address count }
+        ensures low { IsTrue result → address + count ≤ 2 ^ 64 }
+    {
+        if count == 0 {
+            return true;
+        }
+        let Some(last) = self.last_of(address, count) else {
+            return false;
+        };
+        for page in address / PAGE..last / PAGE + 1 {
+            if !has(self.rights_of(page), right) {
+                return false;
+            }
+        }
+        true
+    }
+
+    /// The last of some bytes, or none where it would be past all addresses.
+    fn last_of(&self, address: Address, count: u64) -> Option<Address>
+        requires { 0 < count }
+        ensures { MatchOption result (rights_at self.now (address + (count - 1)) ≡ no_rights) (λ last. last + 1 ≡ address + count) }
+    {
+        let _ = &self.spans;
+        address.checked_add(count - 1)
+    }
+
+    fn rights_of(&self, page: u64) -> Rights
+        ensures { result ≡ value_or no_rights self.now.rights page }
+    {
+        match find(&self.spans, page) {
+            None => NO_RIGHTS,
+            Some(index) => self.pages[index].rights,
+        }
+    }
+
+    fn byte(&self, address: Address) -> u8
+        ensures { result ≡ byte_at self.now address }
+    {
+        match find(&self.spans, address / PAGE) {
+            None => 0,
+            Some(index) => self.bytes[index * 4096 + (address % PAGE) as usize],
+        }
+    }
+
+    /// Writes a number at an address, in 1, 2, 4 or 8 bytes.
+    #[inline(always)]
+    pub fn store(&mut self, address: Address, size: u8, value: u64) -> Result<(), Access>
+        requires { IsSize size }
+        ensures { MatchResult result (λ _. Some self.new ≡ store address size value self.old)
+            (λ _. (None ≡ store address size value self.old) × (self.new ≡ self.old)) }
+    {
+        match find(&self.spans, address / PAGE) {
+            None => Err(Access),
+            Some(index) => {
+                if !self.pages[index].rights.write {
+                    return Err(Access);
+                }
+                let within = (address % PAGE) as usize;
+                if within + size as usize <= 4096 {
+                    self.pages[index].touched = true;
+                    put_number(&mut self.bytes, index * 4096 + within, size, value);
+                    Ok(())
+                } else {
+                    self.store_across(address, size, value)
+                }
+            }
+        }
+    }
+
+    #[inline(never)]
+    fn store_across(&mut self, address: Address, size: u8, value: u64) -> Result<(), Access>
+        requires { IsSize size }
+        ensures { MatchResult result (λ _. Some self.new ≡ store address size value self.old)
+            (λ _. (None ≡ store address size value self.old) × (self.new ≡ self.old)) }
+    {
+        if !self.writable(address, size as u64) {
+            return Err(Access);
+        }
+        let mut rest = value;
+        for i in 0..size {
+            self.put_byte(address + i as u64, (rest % 256) as u8);
+            rest /= 256;
+        }
+        Ok(())
+    }
+
+    /// Writes a byte whatever the rights.
+    fn put_byte(&mut self, address: Address, byte: u8)
+        requires { IsHeld self.old address }
+        ensures { self.new ≡ with_byte address byte self.old }
+    {
+        match find(&self.spans, address / PAGE) {
+            None => unreachable!(),
+            Some(index) => {
+                self.pages[index].touched = true;
+                self.bytes[index * 4096 + (address % PAGE) as usize] = byte;
+            }
+        }
+    }
+
+    /// Reads bytes from an address on; nothing is read where some byte may not be.
+    pub fn read_at(&self, address: Address, into: &mut [u8]) -> Result<(), Access>
+        ensures { MatchResult result
+            (λ _. IsTrue (is_readable self.now address (length into.old)) × (into.new ≡ bytes_at self.now address (length into.old)))
+            (λ _. (is_readable self.now address (length into.old) ≡ false) × (into.new ≡ into.old)) }
+    {
+        if !self.readable(address, into.len() as u64) {
+            return Err(Access);
+        }
+        let mut done = 0;
+        while done < into.len() {
+            let here = address + done as u64;
+            let count = (into.len() - done).min(room_in_page(here));
+            self.read_piece(here, &mut into[done..done + count]);
+            done += count;
+        }
+        Ok(())
+    }
+
+    /// Reads bytes that lie in one page, and zeros where there is no such page.
+    fn read_piece(&self, address: Address, into: &mut [u8])
+        requires { address % 4096 + length into.old ≤ 4096 }
+        ensures { into.new ≡ bytes_at self.now address (length into.old) }
+    {
+        match find(&self.spans, address / PAGE) {
+            None => into.fill(0),
+            Some(index) => {
+                let place = index * 4096 + (address % PAGE) as usize;
+                into.copy_from_slice(&self.bytes[place..place + into.len()]);
+            }
+        }
+    }
+
+    /// Writes bytes from an address on; nothing is written where some byte may not be.
+    pub fn copy_in(&mut self, address: Address, bytes: &[u8]) -> Result<(), Access>
+        ensures { MatchResult result
+            (λ _. IsTrue (is_writable self.old address (length bytes.now)) × (self.new ≡ with_bytes address bytes.now self.old))
+            (λ _. (is_writable self.old address (length bytes.now) ≡ false) × (self.new ≡ self.old)) }
+    {
+        if !self.writable(address, bytes.len() as u64) {
+            return Err(Access);
+        }
+        self.put_run(address, bytes);
+        Ok(())
+    }
+
+    fn give_page(&mut self, page: u64, rights: Rights)
+        requires { IsKnown self.old.areas self.old.layout page }
+        ensures { self.new ≡ with_rights page rights self.old }
+    {
+        match find(&self.spans, page) {
+            None => unreachable!(),
+            Some(index) => {
+                self.pages[index] = Page {
+                    rights,
+                    touched: true,
+                };
+            }
+        }
+    }
+}
+
+#[cfg(test)]
+mod tests {
+    use super::*;
+    use std::test::Fail;
+
+    // These lie on both sides of the border of the area's two pages.
+    const FILE: [u8; 5] = [0x13, 0x01, 0x50, 0x00, 0x73];
+
+    const BORDER: Address = 0x10FFE;
+
+    const STACK: Address = 0x3F_FFF0_0000;
+
+    fn program(alloc: Global) -> Result<Memory, AllocError>
+        ensures { IfOk result (λ memory. memory.layout ≡ usual) }
+    {
+        let rights = Rights {
+            read: true,
+            write: false,
+            execute: true,
+        };
+        let area = Area {
+            start: 0x10000,
+            size: 8192,
+            rights,
+            vaddr: BORDER,
+            offset: 0,
+            filled: 5,
+        };
+        let image = Image::new(&FILE, vec![in alloc; area]?, 0x10000, 0, 0);
+        Memory::new(alloc, &image, Layout::usual())
+    }
+
+    #[test]
+    fn a_new_memory_has_the_file_and_a_stack(rt: HostRuntime) -> Result<(), Fail> {
+        let memory = program(rt.alloc())?;
+        assert_eq!(rt; memory.layout(), Layout::usual());
+        assert_eq!(rt; memory.load(0x10FFC, 8), Ok(0x0073_0050_0113_0000));
+        for (address, wanted) in [
+            (BORDER, Ok(0x0050_0113)),
+            (0x11FFC, Ok(0)),
+            (0x11FFD, Err(Access)),
+            (0xFFFF, Err(Access)),
+            (BRK_BASE, Err(Access)),
+            (STACK, Ok(0)),
+            (STACK - 1, Err(Access)),
+            (STACK_TOP - 4, Ok(0)),
+            (STACK_TOP - 3, Err(Access)),
+            (u64::MAX, Err(Access)),
+        ] {
+            assert_eq!(rt; memory.load(address, 4), wanted, "load at {address}");
+        }
+        for (address, wanted) in [
+            (BORDER, Ok(0x0050_0113)),
+            (0x11FFD, Err(Access)),
+            (STACK, Err(Access)),
+        ] {
+            assert_eq!(rt; memory.fetch(address), wanted, "fetch at {address}");
+        }
+        for (address, count, readable, writable) in [
+            (0, 0, true, true),
+            (0x10000, 8192, true, false),
+            (0x10000, 8193, false, false),
+            (STACK, MIB, true, true),
+            (STACK, MIB + 1, false, false),
+            (STACK, u64::MAX, false, false),
+            (u64::MAX, 2, false, false),
+        ] {
+            assert_eq!(rt;
+                memory.readable(address, count),
+                readable,
+                "{count} at {address}"
+            );
+            assert_eq!(rt;
+                memory.writable(address, count),
+                writable,
+                "{count} at {address}"
+            );
+        }
+        Ok(())
+    }
+
+    #[test]
+    fn writes_reach_each_page_of_a_range(rt: HostRuntime) -> Result<(), Fail> {
+        let mut memory = program(rt.alloc())?;
+        let rights = Rights {
+            read: true,
+            write: true,
+            execute: false,
+        };
+        memory.give(BRK_BASE, 2, rights, true);
+        assert_eq!(rt;
+            memory.store(BRK_BASE + 0xFFC, 8, 0x1122_3344_5566_7788),
+            Ok(())
+        );
+        assert_eq!(rt; memory.store(BRK_BASE + 0x1FFC, 8, 7), Err(Access));
+        for (address, wanted) in [
+            (BRK_BASE + 0xFFC, 0x5566_7788),
+            (BRK_BASE + 0x1000, 0x1122_3344),
+            (BRK_BASE + 0x1FFC, 0),
+        ] {
+            assert_eq!(rt; memory.load(address, 4), Ok(wanted), "load at {address}");
+        }
+
+        let five = [1, 2, 3, 4, 5];
+        assert_eq!(rt; memory.copy_in(BRK_BASE + 0xFFD, &five), Ok(()));
+        assert_eq!(rt; memory.copy_in(BRK_BASE + 0x1FFC, &five), Err(Access));
+        let mut seven = [9; 7];
+        assert_eq!(rt; memory.read_at(BRK_BASE + 0x1FFC, &mut seven), Err(Access));
+        assert_eq!(rt; seven, [9; 7]);
+        assert_eq!(rt; memory.read_at(BRK_BASE + 0xFFC, &mut seven), Ok(()));
+        assert_eq!(rt; seven, [0x88, 1, 2, 3, 4, 5, 0x22]);
+        assert_eq!(rt; memory.load(BRK_BASE + 0x1FFC, 4), Ok(0));
+        Ok(())
+    }
+}

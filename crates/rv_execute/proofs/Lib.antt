@@ -1,0 +1,3 @@
+pub mod HeldLemmas
+mod Worked
+pub mod Orderly

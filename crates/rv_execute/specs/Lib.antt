@@ -1,0 +1,4 @@
+pub mod Reservations
+pub mod Held
+pub mod Execution
+pub mod Laws

@@ -1,0 +1,115 @@
+ghost use Rattle.std.specs.Prelude.{◌≡◌, ◌<◌};
+ghost use Rattle.guest_memory.specs.Memory.{IsSize};
+ghost use Rattle.rv_execute.specs.Reservations.{Reservations as Reserved};
+ghost use Rattle.rv_execute.specs.Execution.{setting, executed, register, address_at, load_size, loaded, load_to, store_size, store_at};
+
+use crate::hart::{HartState, Step, address_at};
+use crate::reservations::Reservations;
+use coz_types::{Address, TrapCause};
+use guest_memory::{Access, Memory};
+use rv_decode::{LoadOp, StoreOp};
+
+#[inline]
+fn load_size(op: LoadOp) -> u8
+    ensures size { result ≡ load_size op }
+    ensures is_size { IsSize result }
+{
+    match op {
+        LoadOp::Lb | LoadOp::Lbu => 1,
+        LoadOp::Lh | LoadOp::Lhu => 2,
+        LoadOp::Lw | LoadOp::Lwu => 4,
+        LoadOp::Ld => 8,
+    }
+}
+
+#[inline]
+fn store_size(op: StoreOp) -> u8
+    ensures size { result ≡ store_size op }
+    ensures is_size { IsSize result }
+{
+    match op {
+        StoreOp::Sb => 1,
+        StoreOp::Sh => 2,
+        StoreOp::Sw => 4,
+        StoreOp::Sd => 8,
+    }
+}
+
+/// The register that holds the signed number which the lowest 32 bits write.
+#[inline]
+pub fn low_word_extended(number: u64) -> u64
+    ensures { result ≡ loaded (LoadOp.Lw) number }
+{
+    i64::from(((number % 0x1_0000_0000) as u32).cast_signed()).cast_unsigned()
+}
+
+/// What a load of a number puts into a register.
+#[inline]
+fn loaded(op: LoadOp, number: u64) -> u64
+    ensures { result ≡ loaded op number }
+{
+    match op {
+        LoadOp::Lb => i64::from(((number % 0x100) as u8).cast_signed()).cast_unsigned(),
+        LoadOp::Lh => i64::from(((number % 0x1_0000) as u16).cast_signed()).cast_unsigned(),
+        LoadOp::Lw => low_word_extended(number),
+        LoadOp::Ld | LoadOp::Lbu | LoadOp::Lhu | LoadOp::Lwu => number,
+    }
+}
+
+#[inline]
+pub fn load(hart: &mut HartState, memory: &Memory, op: LoadOp, rd: u8, rs1: u8, offset: i32) -> Step
+    requires rd { rd < 32 }
+    requires rs1 { rs1 < 32 }
+    ensures { (r : Reserved) → executed hart.new memory.now r result
+        ≡ load_to op rd (address_at (register hart.old rs1) offset) (setting hart.old memory.now r) }
+{
+    let address = address_at(hart.value(rs1), offset);
+    match memory.load(address, load_size(op)) {
+        Err(Access) => Step::Fault(TrapCause::Access),
+        Ok(number) => hart.put(rd, loaded(op, number)),
+    }
+}
+
+/// Stores a number of so many bytes and moves the pc on.
+#[inline]
+fn store_at(
+    hart: &mut HartState,
+    memory: &mut Memory,
+    reservations: &mut Reservations,
+    address: Address,
+    size: u8,
+    value: u64,
+) -> Step
+    requires { IsSize size }
+    ensures { executed hart.new memory.new reservations.new result
+        ≡ store_at address size value (setting hart.old memory.old reservations.old) }
+{
+    match memory.store(address, size, value) {
+        Err(Access) => Step::Fault(TrapCause::Access),
+        Ok(()) => {
+            reservations.end_at(address, u64::from(size));
+            hart.proceed()
+        }
+    }
+}
+
+#[inline]
+pub fn store(
+    hart: &mut HartState,
+    memory: &mut Memory,
+    reservations: &mut Reservations,
+    op: StoreOp,
+    rs1: u8,
+    rs2: u8,
+    offset: i32,
+) -> Step
+    requires rs1 { rs1 < 32 }
+    requires rs2 { rs2 < 32 }
+    ensures { executed hart.new memory.new reservations.new result
+        ≡ store_at (address_at (register hart.old rs1) offset) (store_size op) (register hart.old rs2)
+        (setting hart.old memory.old reservations.old) }
+{
+    let address = address_at(hart.value(rs1), offset);
+    let value = hart.value(rs2);
+    store_at(hart, memory, reservations, address, store_size(op), value)
+}

@@ -1,0 +1,104 @@
+ghost use Rattle.std.specs.Prelude.{◌≡◌, ◌<◌, []};
+ghost use Rattle.rv_execute.specs.Reservations.{eight_at, without_own, with_reservation, is_touched, without_touched, is_reserved};
+
+use arrayvec::ArrayVec;
+use coz_types::{Address, HartId};
+use std::marker::Model;
+
+/// The reservations of up to 256 harts: each has at most one, of 8 aligned bytes.
+#[derive(Drop)]
+pub struct Reservations {
+    // Of each hart that has one, its number and the start of its 8 bytes. Few stand at a time, so a store looks at few.
+    held: ArrayVec<(u16, Address), 256>,
+}
+
+impl Model for Reservations {
+    ghost use Rattle.std.specs.Prelude.{List, ℕ};
+    ghost use Rattle.rv_execute.specs.Held.{AreApart};
+
+    ghost Value = { List (ℕ × ℕ) };
+
+    ghost view = { λ r. r.held.items };
+
+    ghost invariant = { λ r. AreApart r.held.items };
+}
+
+/// Whether the 8 bytes at `start` have one of `count` bytes from an address on.
+#[inline]
+fn touches(address: Address, count: u64, start: Address) -> bool
+    ensures { result ≡ is_touched address count start }
+{
+    if start >= address {
+        start - address < count
+    } else {
+        count > 0 && address - start < 8
+    }
+}
+
+impl Reservations {
+    /// No reservation.
+    pub fn new() -> Reservations
+        ensures { result ≡ [] }
+    {
+        Reservations {
+            held: ArrayVec::new(),
+        }
+    }
+
+    /// Ends each reservation whose 8 bytes have one of `count` bytes from an address on.
+    #[inline]
+    pub fn end_at(&mut self, address: Address, count: u64)
+        ensures { self.new ≡ without_touched address count self.old }
+    {
+        if !self.held.is_empty() {
+            self.held.retain(|held| !touches(address, count, held.1));
+        }
+    }
+
+    /// Ends the hart's own reservation.
+    #[inline]
+    pub(crate) fn end_own(&mut self, hart: HartId)
+        ensures { self.new ≡ without_own hart.0 self.old }
+    {
+        if !self.held.is_empty() {
+            self.held.retain(|held| held.0 != hart.0);
+        }
+    }
+
+    /// Makes the aligned 8 bytes that hold an address the hart's one reservation.
+    pub(crate) fn reserve(&mut self, hart: HartId, address: Address)
+        requires { hart.0 < 256 }
+        ensures { self.new ≡ with_reservation hart.0 address self.old }
+    {
+        self.end_own(hart);
+        self.held.push((hart.0, address / 8 * 8));
+    }
+
+    /// Whether the hart has a reservation of the bytes at an address.
+    pub(crate) fn is_reserved(&self, hart: HartId, address: Address) -> bool
+        ensures { result ≡ is_reserved hart.0 address self.now }
+    {
+        let start = address / 8 * 8;
+        self.held
+            .as_slice()
+            .iter()
+            .any(|held| held.0 == hart.0 && held.1 == start)
+    }
+
+    /// Makes these reservations the same as others.
+    pub fn copy_from(&mut self, other: &Reservations)
+        ensures { self.new ≡ other.now }
+    {
+        self.held.clear();
+        let Ok(()) = self.held.try_extend_from_slice(other.held.as_slice()) else {
+            unreachable!()
+        };
+    }
+}
+
+fn is_sent<T: Send>() {}
+
+// A worker may run on what another has begun.
+fn reservations_are_sent() {
+    is_sent::<Reservations>()
+}
