@@ -1,0 +1,21 @@
+# make         proves and builds the program, and leaves it as build/coz
+# make test    runs the merge gate
+# make try ARGS="run examples/one"    runs the program with no proof, in seconds
+
+ARGS ?= run examples/one
+
+.PHONY: build test try clean
+
+build:
+	cd crates/coz && rt run -- run data/one > /dev/null
+	mkdir -p build
+	cp crates/coz/out/coz build/coz
+
+test:
+	bash .ci/run
+
+try:
+	rt try coz -- $(ARGS)
+
+clean:
+	rm -rf build crates/*/out

@@ -1,0 +1,7 @@
+pub mod Words
+pub mod Record
+pub mod Text
+pub mod Verdict
+pub mod Answer
+pub mod Serve
+pub mod Headline

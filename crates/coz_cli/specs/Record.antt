@@ -1,0 +1,55 @@
+-- What a run prints, and its net part.
+use Rattle.std.specs.Prelude.{ℕ, ◌-◌, List, [], ◌∷◌, map}
+use Rattle.coz_types.specs.declared.record.Account.{Account}
+use Rattle.coz_types.specs.declared.record.Outcome.{Outcome}
+use Rattle.coz_types.specs.declared.record.Visit.{Visit}
+use Rattle.coz_types.specs.Image.{ImageParts}
+use Rattle.machines.specs.Shortened.{NetVisit}
+use Rattle.machines.specs.Records.{NetRecord, shortened_record}
+use Rattle.virtual_run.specs.Run.{experiment}
+use Rattle.coz_cli.specs.declared.record.RunRecord.{RunRecord}
+
+pub record RunParts : Type 0 where
+  pub outcome : Outcome
+  -- of each hart that was made, by number
+  pub accounts : List Account
+  pub visits : List Visit
+  pub output : List ℕ
+
+-- a record of the code as its parts
+abbrev pub parts : RunRecord → RunParts
+parts run = record { outcome = run.outcome; accounts = run.accounts.now; visits = run.visits.now; output = run.output.now }
+
+abbrev pub net_visit : Visit → NetVisit
+net_visit v = record { point = v.point.0; hart = v.hart.0; time = v.time - v.delay }
+
+-- what of a run the shortened machine has too: each time less the global delay then
+abbrev pub net : RunParts → NetRecord
+net run = record {
+  ending = run.outcome.ending;
+  time = run.outcome.time - run.outcome.delay;
+  retired = run.outcome.retired;
+  starts = run.outcome.starts;
+  output = run.output;
+  visits = map net_visit run.visits;
+}
+
+abbrev pub undelayed_visit : NetVisit → Visit
+undelayed_visit v = record { point = record { 0 = v.point }; hart = record { 0 = v.hart }; time = v.time; delay = 0 }
+
+-- a run of one hart that knows no delay
+abbrev pub undelayed : NetRecord → RunParts
+undelayed r = record {
+  outcome = record { ending = r.ending; time = r.time; delay = 0; retired = r.retired; starts = r.starts };
+  accounts = record { own = 0; paused = 0; credited = 0 } ∷ [];
+  visits = map undelayed_visit r.visits;
+  output = r.output;
+}
+
+-- the instructions that a run may retire
+abbrev pub run_budget : ℕ
+run_budget = 100000000
+
+-- what the run of an image comes to: the shortened machine without a selected line
+unfoldable pub run_of : ImageParts → RunParts
+run_of image = undelayed (shortened_record (experiment image run_budget))

@@ -1,0 +1,179 @@
+use crate::serve;
+use coz_files::{FreeGate, HeldFile, MemoryFiles, MemorySink};
+use std::alloc::{AllocError, Global};
+use std::test::Fail;
+use std::thread::Threads;
+
+/// The fixed parts of the two headers of a program of three words.
+const HEADERS: [u8; 120] = [
+    0x7F, 0x45, 0x4C, 0x46, 2, 1, 1, 0, 0, 0, 0, 0, 0, 0, 0, 0, 2, 0, 243, 0, 1, 0, 0, 0, 0, 0, 1,
+    0, 0, 0, 0, 0, 64, 0, 0, 0, 0, 0, 0, 0, 0, 0, 0, 0, 0, 0, 0, 0, 0, 0, 0, 0, 64, 0, 56, 0, 1, 0,
+    64, 0, 0, 0, 0, 0, 1, 0, 0, 0, 5, 0, 0, 0, 0, 0x10, 0, 0, 0, 0, 0, 0, 0, 0, 1, 0, 0, 0, 0, 0,
+    0, 0, 1, 0, 0, 0, 0, 0, 12, 0, 0, 0, 0, 0, 0, 0, 12, 0, 0, 0, 0, 0, 0, 0, 0, 0x10, 0, 0, 0, 0,
+    0, 0,
+];
+
+/// A program of these 12 bytes of text.
+fn program(alloc: Global, text: &[u8]) -> Result<Vec<u8>, AllocError> {
+    let mut file = HEADERS.to_vec(alloc)?;
+    for _ in 0..3976 {
+        file.push(0)?;
+    }
+    file.extend_from_slice(text)?;
+    Ok(file)
+}
+
+/// The texts of the programs, by path: three words each.
+const TEXTS: [(&str, [u8; 12]); 6] = [
+    // addi a0, x0, 0; addi a7, x0, 93; ecall
+    (
+        "one",
+        [0x13, 0x05, 0, 0, 0x93, 0x08, 0xD0, 0x05, 0x73, 0, 0, 0],
+    ),
+    // with 92 in place of 93
+    (
+        "other",
+        [0x13, 0x05, 0, 0, 0x93, 0x08, 0xC0, 0x05, 0x73, 0, 0, 0],
+    ),
+    // ebreak
+    ("break", [0x73, 0, 0x10, 0, 0, 0, 0, 0, 0, 0, 0, 0]),
+    // jalr x0, 0(x0)
+    ("fetch", [0x67, 0, 0, 0, 0, 0, 0, 0, 0, 0, 0, 0]),
+    // jalr x0, 2(x0)
+    ("misaligned", [0x67, 0, 0x20, 0, 0, 0, 0, 0, 0, 0, 0, 0]),
+    // lw x0, 0(x0)
+    ("access", [0x03, 0x20, 0, 0, 0, 0, 0, 0, 0, 0, 0, 0]),
+];
+
+fn held(alloc: Global, path: &str, bytes: Vec<u8>) -> Result<HeldFile, AllocError> {
+    Ok(HeldFile {
+        path: path.as_bytes().to_vec(alloc)?,
+        bytes,
+    })
+}
+
+/// The programs, their headers alone, and a file of this length.
+fn files(alloc: Global, fails: &[u64], length: usize) -> Result<MemoryFiles, AllocError> {
+    let mut held_files = Vec::new(alloc);
+    for (path, text) in &TEXTS {
+        held_files.push(held(alloc, path, program(alloc, text)?)?)?;
+    }
+    held_files.push(held(alloc, "headers", HEADERS.to_vec(alloc)?)?)?;
+    held_files.push(held(alloc, "big", vec![in alloc; 0u8; length]?)?)?;
+    Ok(MemoryFiles::new(held_files, fails.to_vec(alloc)?))
+}
+
+/// What is called, over which faults, and what it comes to.
+#[derive(Drop)]
+struct Case<'a> {
+    words: &'a [&'a str],
+    read_fails: &'a [u64],
+    put_fails: &'a [u64],
+    tell_fails: &'a [u64],
+    room: u64,
+    status: u8,
+    out: &'a [u8],
+    err: &'a [u8],
+}
+
+/// A call with no fault.
+fn plain_case<'a>(words: &'a [&'a str], status: u8, out: &'a [u8], err: &'a [u8]) -> Case<'a> {
+    Case {
+        words,
+        read_fails: &[],
+        put_fails: &[],
+        tell_fails: &[],
+        room: 1000,
+        status,
+        out,
+        err,
+    }
+}
+
+/// Whether the call comes to what the case says.
+fn comes_out<R: Threads + Sync + AllocGlobal>(rt: &R, case: &Case) -> Result<bool, AllocError> {
+    let alloc = rt.alloc();
+    let mut words = Vec::new(alloc);
+    for word in case.words {
+        words.push(String::from_str(alloc, word)?)?;
+    }
+    let length = if case.status == 8 { 33554433 } else { 0 };
+    let mut files = files(alloc, case.read_fails, length)?;
+    let mut out = MemorySink::new(alloc, case.room, case.put_fails.to_vec(alloc)?)?;
+    let mut err = MemorySink::new(alloc, 1000, case.tell_fails.to_vec(alloc)?)?;
+    let status = serve(rt, alloc, &words, &mut files, &mut out, &mut err, &FreeGate);
+    Ok(status == case.status && out.held() == case.out && err.held() == case.err)
+}
+
+const ONE: &[u8] =
+    b"end exited:0\ntime 4200\ndelay 0\nnet 4200\nretired 3\nstarts 0\nhart 0 own 0 paused 0 credited 0\noutput 0\n\n";
+
+const OTHER: &[u8] =
+    b"end unsupported:92\ntime 4200\ndelay 0\nnet 4200\nretired 3\nstarts 0\nhart 0 own 0 paused 0 credited 0\noutput 0\n\n";
+
+const BREAK: &[u8] =
+    b"end trapped:break:0:0x10000\ntime 100\ndelay 0\nnet 100\nretired 1\nstarts 0\nhart 0 own 0 paused 0 credited 0\noutput 0\n\n";
+
+const FETCH: &[u8] =
+    b"end trapped:fetch:0:0x0\ntime 300\ndelay 0\nnet 300\nretired 2\nstarts 0\nhart 0 own 0 paused 0 credited 0\noutput 0\n\n";
+
+const MISALIGNED: &[u8] =
+    b"end trapped:misaligned:0:0x10000\ntime 200\ndelay 0\nnet 200\nretired 1\nstarts 0\nhart 0 own 0 paused 0 credited 0\noutput 0\n\n";
+
+const ACCESS: &[u8] =
+    b"end trapped:access:0:0x10000\ntime 300\ndelay 0\nnet 300\nretired 1\nstarts 0\nhart 0 own 0 paused 0 credited 0\noutput 0\n\n";
+
+#[test]
+fn each_status_is_met(rt: HostRuntime) -> Result<(), Fail> {
+    let cases = [
+        plain_case(&["run", "one"], 0, ONE, b""),
+        plain_case(&["run", "other"], 1, OTHER, b""),
+        plain_case(&["run", "break"], 1, BREAK, b""),
+        plain_case(&["run", "fetch"], 1, FETCH, b""),
+        plain_case(&["run", "misaligned"], 1, MISALIGNED, b""),
+        plain_case(&["run", "access"], 1, ACCESS, b""),
+        plain_case(&[], 2, b"", b"coz: usage\n"),
+        plain_case(&["run"], 2, b"", b"coz: usage\n"),
+        plain_case(&["run", ""], 2, b"", b"coz: usage\n"),
+        plain_case(&["run", "-one"], 2, b"", b"coz: usage\n"),
+        plain_case(&["run", "one", "other"], 2, b"", b"coz: usage\n"),
+        plain_case(&["walk", "one"], 2, b"", b"coz: usage\n"),
+        plain_case(&["run", "headers"], 3, b"", b"coz: program: Unbuilt at 0\n"),
+        plain_case(&["run", "absent"], 5, b"", b"coz: read: absent\n"),
+        plain_case(&["run", "big"], 8, b"", b"coz: long: big\n"),
+    ];
+    for case in &cases {
+        assert!(rt; comes_out(&rt, case)?, "{:?}", case.words);
+    }
+    Ok(())
+}
+
+#[test]
+fn faults_of_the_outside_are_told(rt: HostRuntime) -> Result<(), Fail> {
+    let cases = [
+        Case {
+            read_fails: &[0],
+            ..plain_case(&["run", "one"], 5, b"", b"coz: read: one\n")
+        },
+        Case {
+            put_fails: &[0],
+            ..plain_case(&["run", "one"], 6, b"", b"coz: write\n")
+        },
+        Case {
+            room: 10,
+            ..plain_case(&["run", "one"], 6, b"end exited", b"coz: write\n")
+        },
+        Case {
+            tell_fails: &[0],
+            ..plain_case(&["walk"], 2, b"", b"")
+        },
+        Case {
+            tell_fails: &[2],
+            ..plain_case(&["walk"], 2, b"", b"coz: usage")
+        },
+    ];
+    for case in &cases {
+        assert!(rt; comes_out(&rt, case)?, "{:?}", case.words);
+    }
+    Ok(())
+}

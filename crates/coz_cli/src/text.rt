@@ -1,0 +1,159 @@
+ghost use Rattle.std.specs.Prelude.{◌≡◌, ◌++◌, ◌≤◌, codes, decimal, OnOk, IfOk, All};
+ghost use Rattle.coz_cli.specs.Text.{cause_text, address_text, ending_text, number_line, outcome_text, hart_text, harts_text, visit_text, visits_text, output_text, run_text};
+ghost use Rattle.coz_cli.specs.Record.{parts};
+ghost use Rattle.coz_types.specs.declared.record.Visit.{Visit};
+
+use crate::record::RunRecord;
+use coz_types::{Account, Ending, Outcome, TrapCause, Visit};
+use itoa::Buffer;
+use std::alloc::{AllocError, Global};
+
+fn push_number(text: &mut Vec<u8>, n: u64) -> Result<(), AllocError>
+    ensures { OnOk result (text.new.items ≡ text.old.items ++ decimal n) }
+{
+    let mut buffer = Buffer::new();
+    text.extend_from_slice(buffer.format(n).as_bytes())
+}
+
+fn push_line(text: &mut Vec<u8>, name: &[u8], n: u64) -> Result<(), AllocError>
+    ensures { OnOk result (text.new.items ≡ text.old.items ++ number_line name.now n) }
+{
+    text.extend_from_slice(name)?;
+    push_number(text, n)?;
+    text.extend_from_slice(b"\n")
+}
+
+fn cause_name(cause: TrapCause) -> &'static [u8]
+    ensures { result.now ≡ cause_text cause }
+{
+    match cause {
+        TrapCause::Fetch => b"fetch",
+        TrapCause::Illegal => b"illegal",
+        TrapCause::Misaligned => b"misaligned",
+        TrapCause::Access => b"access",
+        TrapCause::Break => b"break",
+    }
+}
+
+fn push_address(alloc: Global, text: &mut Vec<u8>, address: u64) -> Result<(), AllocError>
+    ensures { OnOk result (text.new.items ≡ text.old.items ++ address_text address) }
+{
+    let shown = format!(in alloc; "0x{address:x}")?;
+    text.extend_from_slice(shown.as_bytes())
+}
+
+fn push_ending(alloc: Global, text: &mut Vec<u8>, ending: Ending) -> Result<(), AllocError>
+    ensures { OnOk result (text.new.items ≡ text.old.items ++ ending_text ending) }
+{
+    match ending {
+        Ending::Exited(code) => {
+            text.extend_from_slice(b"exited:")?;
+            push_number(text, code as u64)
+        }
+        Ending::Trapped(trap) => {
+            text.extend_from_slice(b"trapped:")?;
+            text.extend_from_slice(cause_name(trap.cause))?;
+            text.extend_from_slice(b":")?;
+            push_number(text, trap.hart.0 as u64)?;
+            text.extend_from_slice(b":")?;
+            push_address(alloc, text, trap.pc)
+        }
+        Ending::Unsupported(number) => {
+            text.extend_from_slice(b"unsupported:")?;
+            push_number(text, number)
+        }
+        Ending::OutputFull => text.extend_from_slice(b"output-full"),
+        Ending::VisitsFull => text.extend_from_slice(b"visits-full"),
+        Ending::Stalled => text.extend_from_slice(b"stalled"),
+        Ending::Spent => text.extend_from_slice(b"spent"),
+    }
+}
+
+#[tactic(auto, unfolding(crate::specs::Text::outcome_text))]
+fn push_outcome(alloc: Global, text: &mut Vec<u8>, outcome: Outcome) -> Result<(), AllocError>
+    requires { outcome.delay ≤ outcome.time }
+    ensures { OnOk result (text.new.items ≡ text.old.items ++ outcome_text outcome) }
+{
+    text.extend_from_slice(b"end ")?;
+    push_ending(alloc, text, outcome.ending)?;
+    text.extend_from_slice(b"\n")?;
+    push_line(text, b"time ", outcome.time)?;
+    push_line(text, b"delay ", outcome.delay)?;
+    push_line(text, b"net ", outcome.time - outcome.delay)?;
+    push_line(text, b"retired ", outcome.retired)?;
+    push_line(text, b"starts ", outcome.starts)
+}
+
+#[tactic(auto, unfolding(crate::specs::Text::hart_text))]
+fn push_hart(text: &mut Vec<u8>, number: u64, account: Account) -> Result<(), AllocError>
+    ensures { OnOk result (text.new.items ≡ text.old.items ++ hart_text number account) }
+{
+    text.extend_from_slice(b"hart ")?;
+    push_number(text, number)?;
+    text.extend_from_slice(b" own ")?;
+    push_number(text, account.own)?;
+    text.extend_from_slice(b" paused ")?;
+    push_number(text, account.paused)?;
+    push_line(text, b" credited ", account.credited)
+}
+
+#[tactic(auto, unfolding(crate::specs::Text::harts_text))]
+fn push_harts(text: &mut Vec<u8>, accounts: &[Account]) -> Result<(), AllocError>
+    ensures { OnOk result (text.new.items ≡ text.old.items ++ harts_text 0 accounts.now) }
+{
+    for (number, account) in accounts.iter().enumerate() {
+        push_hart(text, number as u64, *account)?;
+    }
+    Ok(())
+}
+
+#[tactic(auto, unfolding(crate::specs::Text::visit_text))]
+fn push_visit(text: &mut Vec<u8>, visit: Visit) -> Result<(), AllocError>
+    requires { visit.delay ≤ visit.time }
+    ensures { OnOk result (text.new.items ≡ text.old.items ++ visit_text visit) }
+{
+    text.extend_from_slice(b"visit ")?;
+    push_number(text, visit.point.0 as u64)?;
+    text.extend_from_slice(b" hart ")?;
+    push_number(text, visit.hart.0 as u64)?;
+    text.extend_from_slice(b" time ")?;
+    push_number(text, visit.time)?;
+    text.extend_from_slice(b" delay ")?;
+    push_number(text, visit.delay)?;
+    push_line(text, b" net ", visit.time - visit.delay)
+}
+
+#[tactic(auto, unfolding(crate::specs::Text::visits_text))]
+fn push_visits(text: &mut Vec<u8>, visits: &[Visit]) -> Result<(), AllocError>
+    requires { All (λ (v : Visit). v.delay ≤ v.time) visits.now }
+    ensures { OnOk result (text.new.items ≡ text.old.items ++ visits_text visits.now) }
+{
+    for visit in visits {
+        push_visit(text, *visit)?;
+    }
+    Ok(())
+}
+
+#[tactic(auto, unfolding(crate::specs::Text::output_text))]
+fn push_output(text: &mut Vec<u8>, output: &[u8]) -> Result<(), AllocError>
+    ensures { OnOk result (text.new.items ≡ text.old.items ++ output_text output.now) }
+{
+    push_line(text, b"output ", output.len() as u64)?;
+    text.extend_from_slice(output)?;
+    text.extend_from_slice(b"\n")
+}
+
+/// What `run` prints.
+#[tactic(auto, unfolding(crate::specs::Text::run_text))]
+pub fn run_text<'a>(alloc: Global, run: RunRecord<'a>) -> Result<Vec<u8>, AllocError>
+    requires net { run.outcome.delay ≤ run.outcome.time }
+    requires net_visits { All (λ (v : Visit). v.delay ≤ v.time) run.visits.now }
+    ensures { IfOk result (λ text. text.items ≡ run_text (parts run.entry)) }
+{
+    let mut text = Vec::new(alloc);
+    push_outcome(alloc, &mut text, run.outcome)?;
+    push_harts(&mut text, run.accounts)?;
+    push_visits(&mut text, run.visits)?;
+    push_output(&mut text, run.output)?;
+    Ok(text)
+}

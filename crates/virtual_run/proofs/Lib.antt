@@ -1,0 +1,4 @@
+pub mod Moves
+pub mod PlainFiles
+pub mod Law
+mod Rows
