@@ -1,0 +1,14 @@
+pub mod Examples
+pub mod Programs
+pub mod Loops
+pub mod Opcodes
+pub mod Law
+pub mod Headers
+pub mod Extended
+pub mod Units
+pub mod Again
+pub mod HeadersAgain
+pub mod UnitsAgain
+pub mod Shorter
+pub mod Steps
+pub mod Whole

@@ -1,0 +1,15 @@
+use Rattle.std.proofs.Common.{◌≡◌, ◌≤◌, ◌+◌, ◌^◌, suc, length}
+use Rattle.dwarf_lines.specs.Reading.{units, reading}
+use Rattle.dwarf_lines.specs.Bounds.{weight}
+use Rattle.dwarf_lines.specs.Views.{so_far}
+use Rattle.dwarf_lines.proofs.read_lines.Given as goal
+
+-- what is still to be read reads as the whole does, and the table's items each took a byte or more
+abbrev pub invariant-loop-cursor : goal.invariant-loop-cursor
+invariant-loop-cursor l = record {
+  read : units (suc (length l.cursor.bytes)) (so_far l.draft) l.cursor ≡ reading l.section;
+  room : weight (so_far l.draft) + length l.cursor.bytes ≤ 2 ^ 25;
+}
+
+abbrev pub decreases-loop-cursor : goal.decreases-loop-cursor
+decreases-loop-cursor l = length l.cursor.bytes

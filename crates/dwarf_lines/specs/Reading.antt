@@ -1,0 +1,292 @@
+-- Reading a section field by field, up to the first fault.
+use Rattle.std.specs.Prelude.{◌≡◌, ℕ, zero, suc, ◌+◌, ◌-◌, Bool, true, false, not, ◌&&◌, List, [], ◌∷◌, length, get_or, ℤ, Result, Ok, Err, nat_lt, nat_le, ◌==◌, if◌then◌else◌}
+use Rattle.std.specs.Int.{w8, w16, w32, w64, cast_signed}
+use Rattle.leb_cursor.specs.declared.Short.{Short}
+use Rattle.leb_cursor.specs.declared.LebFault.{LebFault}
+use Rattle.leb_cursor.specs.declared.LebFault.TheVariants as leb
+use Rattle.leb_cursor.specs.Ahead.{Ahead, Reading, ◌>>=◌, number_at, bytes_at, part_at, text_at, uleb_at, sleb_at}
+use Rattle.dwarf_lines.specs.declared.LineKind.{LineKind}
+use Rattle.dwarf_lines.specs.declared.LineKind.TheVariants as kinds
+use Rattle.dwarf_lines.specs.declared.LineFault.{LineFault}
+use Rattle.dwarf_lines.specs.declared.LineError.{LineError}
+use Rattle.dwarf_lines.specs.declared.LineError.TheVariants as errors
+use Rattle.dwarf_lines.specs.Registers.{File, Table, Header, Operation, Copy, AdvancePc, AdvanceLine, SetFile, SetColumn, NegateStmt, ConstAddPc, FixedAdvancePc, Special, EndSequence, SetAddress, DefineFile, Pass, State, empty_table, after, has_line, begun, is_open, directory, view}
+
+-- ---- fields
+
+abbrev pub fault : LineKind → ℕ → LineFault
+fault kind place = record { kind = kind; place = place }
+
+-- what is read, unless the place has this fault
+abbrev pub wanted : {X : Type 0} → Bool → LineKind → ℕ → X → Result X LineFault
+wanted holds kind place x = if holds then Ok x else Err (fault kind place)
+
+abbrev pub field : {X : Type 0} → Result X Short → Result X LineFault
+field (Ok x) = Ok x
+field (Err e) = Err (fault kinds.Short e.place)
+
+abbrev pub leb_fault : LebFault → LineFault
+leb_fault (leb.Short e) = fault kinds.Short e.place
+leb_fault (leb.Wide place) = fault kinds.Wide place
+
+abbrev pub leb_field : {X : Type 0} → Result X LebFault → Result X LineFault
+leb_field (Ok x) = Ok x
+leb_field (Err e) = Err (leb_fault e)
+
+abbrev pub byte : Ahead → Reading ℕ LineFault
+byte a = field (number_at w8 a)
+
+abbrev pub half : Ahead → Reading ℕ LineFault
+half a = field (number_at w16 a)
+
+abbrev pub word : Ahead → Reading ℕ LineFault
+word a = field (number_at w32 a)
+
+abbrev pub unsigned : Ahead → Reading ℕ LineFault
+unsigned a = leb_field (uleb_at a)
+
+-- a byte that passes the test, else this fault at it
+abbrev pub byte_that : (ℕ → Bool) → LineKind → Ahead → Reading ℕ LineFault
+byte_that test kind a = do
+  b ← byte a
+  wanted (test b.0) kind a.place b
+
+-- the next so many bytes on their own; if there are fewer, Short at this place
+abbrev pub announced : ℕ → ℕ → Ahead → Reading Ahead LineFault
+announced place n a = if nat_le n (length a.bytes) then field (part_at n a) else Err (fault kinds.Short place)
+
+-- so many unsigned numbers, of whatever value
+unfoldable pub pass : ℕ → Ahead → Result Ahead LineFault
+pass zero a = Ok a
+pass (suc n) a = do
+  x ← unsigned a
+  pass n x.1
+
+-- texts up to an empty one; the count bounds them
+unfoldable pub texts : ℕ → Ahead → Reading (List (List ℕ)) LineFault
+texts zero a = Ok ([], a)
+texts (suc n) a = do
+  text ← field (text_at a)
+  elim (text.0) [
+    | [] ↦ Ok ([], text.1)
+    | b ∷ bs ↦ texts n text.1 >>= λ more. Ok (text.0 ∷ more.0, more.1)
+  ]
+
+-- what follows the name of a file
+abbrev pub named : List (List ℕ) → List ℕ → Ahead → Reading File LineFault
+named directories name a = do
+  number ← unsigned a
+  time ← unsigned number.1
+  size ← unsigned time.1
+  Ok (record { directory = directory directories number.0; name = name }, size.1)
+
+abbrev pub file : List (List ℕ) → Ahead → Reading File LineFault
+file directories a = do
+  name ← field (text_at a)
+  named directories name.0 name.1
+
+-- files up to an empty name
+unfoldable pub files : ℕ → List (List ℕ) → Ahead → Reading (List File) LineFault
+files zero directories a = Ok ([], a)
+files (suc n) directories a = do
+  name ← field (text_at a)
+  elim (name.0) [
+    | [] ↦ Ok ([], name.1)
+    | b ∷ bs ↦ named directories name.0 name.1 >>= λ first. files n directories first.1 >>= λ more. Ok (first.0 ∷ more.0, more.1)
+  ]
+
+-- ---- header (DWARF 4, 6.2.4)
+
+abbrev pub operations : ℕ → Ahead → Result Ahead LineFault
+operations version a =
+    elim (version == 4) [
+      | true ↦ byte_that (λ n. n == 1) kinds.ManyOps a >>= λ n. Ok n.1
+      | false ↦ Ok a
+    ]
+
+-- from minimum_instruction_length on
+unfoldable pub header : ℕ → Ahead → Result Header LineFault
+header version a = do
+  minimum ← byte a
+  rest ← operations version minimum.1
+  is_stmt ← byte rest
+  base ← byte is_stmt.1
+  range ← byte_that (λ n. nat_lt 0 n) kinds.ZeroRange base.1
+  opcode_base ← byte_that (λ n. nat_lt 0 n) kinds.OpcodeBaseZero range.1
+  lengths ← field (bytes_at (opcode_base.0 - 1) opcode_base.1)
+  directories ← texts (suc (length lengths.1.bytes)) lengths.1
+  entries ← files (suc (length directories.1.bytes)) directories.0 directories.1
+  Ok (record {
+    minimum_length = minimum.0;
+    is_stmt = not (is_stmt.0 == 0);
+    line_base = cast_signed w8 base.0;
+    line_range = range.0;
+    opcode_base = opcode_base.0;
+    lengths = lengths.0;
+    directories = directories.0;
+    files = entries.0;
+  })
+
+-- ---- opcodes (DWARF 4, 6.2.5)
+
+abbrev pub with_none : Operation → Ahead → Reading Operation LineFault
+with_none op a = Ok (op, a)
+
+abbrev pub with_unsigned : (ℕ → Operation) → Ahead → Reading Operation LineFault
+with_unsigned op a = do
+  n ← unsigned a
+  Ok (op n.0, n.1)
+
+abbrev pub with_signed : (ℤ → Operation) → Ahead → Reading Operation LineFault
+with_signed op a = do
+  z ← leb_field (sleb_at a)
+  Ok (op z.0, z.1)
+
+abbrev pub with_half : (ℕ → Operation) → Ahead → Reading Operation LineFault
+with_half op a = do
+  n ← half a
+  Ok (op n.0, n.1)
+
+abbrev pub passing : ℕ → Ahead → Reading Operation LineFault
+passing n a = do
+  rest ← pass n a
+  Ok (Pass, rest)
+
+-- opcodes 1 to 12
+abbrev pub standard : List (Ahead → Reading Operation LineFault)
+standard =
+    with_none Copy
+    ∷ with_unsigned AdvancePc
+    ∷ with_signed AdvanceLine
+    ∷ with_unsigned SetFile
+    ∷ with_unsigned SetColumn
+    ∷ with_none NegateStmt
+    ∷ with_none Pass
+    ∷ with_none ConstAddPc
+    ∷ with_half FixedAdvancePc
+    ∷ with_none Pass
+    ∷ with_none Pass
+    ∷ passing 1
+    ∷ []
+
+-- a body of this length, in an extended opcode at this place; what is left of the body is passed
+abbrev pub address : ℕ → ℕ → Ahead → Result Operation LineFault
+address place size a =
+    if size == 9
+    then (field (number_at w64 a) >>= λ n. Ok (SetAddress n.0))
+    else Err (fault kinds.AddressLength place)
+
+-- extended opcodes 0 to 3, after their number
+abbrev pub extended : Header → ℕ → ℕ → List (Ahead → Result Operation LineFault)
+extended h place size =
+    (λ a. Ok Pass)
+    ∷ (λ a. Ok EndSequence)
+    ∷ address place size
+    ∷ (λ a. file h.directories a >>= λ f. Ok (DefineFile f.0))
+    ∷ []
+
+abbrev pub body : Header → ℕ → Ahead → Result Operation LineFault
+body h place a =
+    elim (a.bytes) [
+      | [] ↦ Ok Pass
+      | b ∷ bs ↦ byte a >>= λ e. get_or (extended h place (length a.bytes)) e.0 (λ rest. Ok Pass) e.1
+    ]
+
+-- after the zero byte at this place
+abbrev pub extended_at : Header → ℕ → Ahead → Reading Operation LineFault
+extended_at h place a = do
+  size ← unsigned a
+  inside ← field (part_at size.0 size.1)
+  op ← body h place inside.0
+  Ok (op, inside.1)
+
+-- after the opcode at this place
+abbrev pub below_base : Header → ℕ → ℕ → Ahead → Reading Operation LineFault
+below_base h place zero a = extended_at h place a
+below_base h place (suc k) a = get_or standard k (passing (get_or h.lengths k 0)) a
+
+unfoldable pub operation : Header → Ahead → Reading Operation LineFault
+operation h a = do
+  o ← byte a
+  elim (nat_lt o.0 h.opcode_base) [
+    | true ↦ below_base h a.place o.0 o.1
+    | false ↦ Ok (Special o.0, o.1)
+  ]
+
+-- the opcodes up to the end of the bytes, of which there are at most so many
+unfoldable pub program : ℕ → Header → State → Ahead → Result State LineFault
+program zero h s a = Ok s
+program (suc n) h s a =
+    elim (a.bytes) [
+      | [] ↦ wanted (not (is_open s.table.rows)) kinds.Unended a.place s
+      | b ∷ bs ↦ operation h a >>= λ op. wanted (has_line h op.0 s) kinds.LineOut a.place (after h op.0 s) >>= λ next. program n h next op.1
+    ]
+
+-- the table when a program is done
+abbrev pub finished : Result State LineFault → Result Table LineFault
+finished reads = reads >>= λ s. Ok s.table
+
+-- ---- units
+
+abbrev pub is_read : ℕ → Bool
+is_read version = nat_le 2 version && nat_le version 4
+
+-- after the version, up to the unit's end
+unfoldable pub unit_body : ℕ → Table → Ahead → Result Table LineFault
+unit_body version t a = do
+  size ← word a
+  inside ← announced a.place size.0 size.1
+  h ← header version inside.0
+  finished (program (suc (length inside.1.bytes)) h (begun h t) inside.1)
+
+unfoldable pub unit : Table → Ahead → Reading Table LineFault
+unit t a = do
+  size ← word a
+  long ← wanted (nat_lt size.0 0xFFFFFFF0) kinds.LongForm a.place size
+  inside ← announced a.place long.0 long.1
+  version ← half inside.0
+  u ← elim (is_read version.0) [ true ↦ unit_body version.0 t version.1 | false ↦ Ok (record t { skipped = t.skipped + 1 }) ]
+  Ok (u, inside.1)
+
+unfoldable pub units : ℕ → Table → Ahead → Result Table LineFault
+units zero t a = Ok t
+units (suc n) t a =
+    elim (a.bytes) [
+      | [] ↦ Ok t
+      | b ∷ bs ↦ unit t a >>= λ u. units n u.0 u.1
+    ]
+
+-- the table of a section, or its first fault
+unfoldable pub reading : List ℕ → Result Table LineFault
+reading section = units (suc (length section)) empty_table (record { place = 0; bytes = section })
+
+-- ---- what calls answer
+
+-- The fault of a reading, unless memory ran out.
+abbrev pub Fails : {A : Type 0} → LineError → Result A LineFault → Type 0
+Fails errors.Memory reads = Unit {0}
+Fails (errors.Fault f) reads = reads ≡ Err f
+
+-- What a call answered is what this reading gives, unless memory ran out.
+abbrev pub Gives : {X A : Type 0} → (X → A) → Result X LineError → Result A LineFault → Type 0
+Gives view (Ok x) reads = reads ≡ Ok (view x)
+Gives view (Err e) reads = Fails e reads
+
+-- The same where memory isn't asked for.
+abbrev pub Finds : {X A : Type 0} → (X → A) → Result X LineFault → Result A LineFault → Type 0
+Finds view (Ok x) reads = reads ≡ Ok (view x)
+Finds view (Err e) reads = reads ≡ Err e
+
+-- The same of a walk over a cursor. After a fault the cursor is anywhere.
+abbrev pub Walks : {X A : Type 0} → (X → A) → Result X LineFault → Ahead → Reading A LineFault → Type 0
+Walks view (Ok x) new reads = reads ≡ Ok (view x, new)
+Walks view (Err e) new reads = reads ≡ Err e
+
+abbrev pub WalksOn : {X : Type 0} → Result X LineFault → Ahead → Result Ahead LineFault → Type 0
+WalksOn (Ok x) new reads = reads ≡ Ok new
+WalksOn (Err e) new reads = reads ≡ Err e
+
+-- The same where memory may run out.
+abbrev pub WalksOver : {X A : Type 0} → (X → A) → Result X LineError → Ahead → Reading A LineFault → Type 0
+WalksOver view (Ok x) new reads = reads ≡ Ok (view x, new)
+WalksOver view (Err e) new reads = Fails e reads

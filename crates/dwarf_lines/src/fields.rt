@@ -1,0 +1,118 @@
+//! The fields that headers and opcodes share.
+
+ghost use Rattle.std.specs.Prelude.{◌≡◌, ◌<◌, IfOk, nat_lt, List, ℕ, length, ◌++◌, take};
+ghost use Rattle.leb_cursor.specs.Ahead.{bytes_at, sleb_at, text_at};
+ghost use Rattle.dwarf_lines.specs.Reading.{Walks, WalksOn, WalksOver, field, leb_field, unsigned, byte, half, word, byte_that, operations, announced, pass};
+
+use crate::{LineError, LineFault, LineKind};
+use leb_cursor::Cursor;
+use std::alloc::Global;
+
+pub fn byte(cursor: &mut Cursor) -> Result<u8, LineFault>
+    ensures { Walks (λ x. x) result cursor.new (byte cursor.old) }
+{
+    Ok(cursor.byte()?)
+}
+
+pub fn half(cursor: &mut Cursor) -> Result<u16, LineFault>
+    ensures { Walks (λ x. x) result cursor.new (half cursor.old) }
+{
+    Ok(cursor.half()?)
+}
+
+pub fn word(cursor: &mut Cursor) -> Result<u32, LineFault>
+    ensures { Walks (λ x. x) result cursor.new (word cursor.old) }
+{
+    Ok(cursor.word()?)
+}
+
+/// The bytes before the next zero byte, which is passed too.
+pub fn text<'a>(cursor: &mut Cursor<'a>) -> Result<&'a [u8], LineFault>
+    ensures { Walks (λ x. x.now) result cursor.new (field (text_at cursor.old)) }
+{
+    Ok(cursor.text()?)
+}
+
+pub fn unsigned(cursor: &mut Cursor) -> Result<u64, LineFault>
+    ensures { Walks (λ x. x) result cursor.new (unsigned cursor.old) }
+{
+    Ok(cursor.uleb()?)
+}
+
+pub fn signed(cursor: &mut Cursor) -> Result<i64, LineFault>
+    ensures { Walks (λ x. x) result cursor.new (leb_field (sleb_at cursor.old)) }
+{
+    Ok(cursor.sleb()?)
+}
+
+/// A byte that isn't zero, else this fault at it.
+pub fn positive_byte(kind: LineKind, cursor: &mut Cursor) -> Result<u8, LineFault>
+    ensures read { Walks (λ x. x) result cursor.new (byte_that (λ n. nat_lt 0 n) kind cursor.old) }
+    ensures positive { IfOk result (λ n. 0 < n) }
+{
+    let place = cursor.place();
+    let value = byte(cursor)?;
+    if 0 < value {
+        Ok(value)
+    } else {
+        Err(LineFault { kind, place })
+    }
+}
+
+/// In version 4 the count of operations for an instruction, which has to be 1.
+pub fn one_operation(version: u16, cursor: &mut Cursor) -> Result<(), LineFault>
+    ensures { WalksOn result cursor.new (operations version cursor.old) }
+{
+    if version == 4 {
+        let place = cursor.place();
+        let count = byte(cursor)?;
+        if count != 1 {
+            return Err(LineFault {
+                kind: LineKind::ManyOps,
+                place,
+            });
+        }
+    }
+    Ok(())
+}
+
+/// The next bytes as a cursor of their own; where there are fewer, the fault is at this place,
+/// which announced them.
+pub fn announced<'a>(
+    place: u64,
+    count: u32,
+    cursor: &mut Cursor<'a>,
+) -> Result<Cursor<'a>, LineFault>
+    ensures { Walks (λ x. x) result cursor.new (announced place count cursor.old) }
+{
+    match cursor.part(count as u64) {
+        Ok(part) => Ok(part),
+        Err(_) => Err(LineFault {
+            kind: LineKind::Short,
+            place,
+        }),
+    }
+}
+
+/// The next bytes as a list.
+pub fn bytes(alloc: Global, count: u8, cursor: &mut Cursor) -> Result<Vec<u8>, LineError>
+    ensures { WalksOver (λ v. v.items) result cursor.new (field (bytes_at count cursor.old)) }
+{
+    let mut part = cursor.part(count as u64)?;
+    let mut items = Vec::with_capacity(alloc, count as usize)?;
+    while let Ok(item) = part.byte() {
+        items.push(item)?;
+    }
+    Ok(items)
+}
+
+/// Passes so many unsigned numbers.
+#[tactic(auto, unfolding(crate::specs::Reading::pass))]
+pub fn pass(count: u8, cursor: &mut Cursor) -> Result<(), LineFault>
+    ensures { WalksOn result cursor.new (pass count cursor.old) }
+{
+    for _ in 0..count {
+        unsigned(cursor)?;
+    }
+    Ok(())
+}

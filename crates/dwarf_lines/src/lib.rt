@@ -1,0 +1,175 @@
+//! Reads the line programs of a `.debug_line` section, versions 2 to 4 (DWARF 4, section 6.2).
+#![tactic(auto)]
+
+mod draft;
+mod entries;
+mod fields;
+mod header;
+mod opcode;
+mod registers;
+
+ghost use Rattle.std.specs.Prelude.{◌≡◌, ◌≤◌, length, IfOk, Ok};
+ghost use Rattle.dwarf_lines.specs.Registers.{Table, view};
+ghost use Rattle.dwarf_lines.specs.declared.LineError.TheVariants.{Fault, Memory};
+ghost use Rattle.dwarf_lines.specs.declared.LineKind.TheVariants.{Short};
+ghost use Rattle.dwarf_lines.specs.Reading.{Gives, reading, leb_fault};
+ghost use Rattle.dwarf_lines.specs.Spelling.{IsTable};
+ghost use Rattle.dwarf_lines.specs.Law.{HasOne};
+
+use crate::draft::Draft;
+use coz_lists::Items;
+use leb_cursor::{Cursor, LebFault};
+use std::alloc::{AllocError, AllocFailed, Global};
+
+/// What is wrong with a field.
+#[derive(Clone, Copy, Debug, PartialEq, Eq)]
+pub enum LineKind {
+    /// It runs past its bound.
+    Short,
+    /// A LEB128 number doesn't fit 64 bits.
+    Wide,
+    /// A unit_length of the 64-bit form, or a reserved one.
+    LongForm,
+    /// More than one operation for an instruction.
+    ManyOps,
+    ZeroRange,
+    OpcodeBaseZero,
+    /// A row whose line doesn't fit 32 bits.
+    LineOut,
+    /// A set_address that isn't 9 bytes long.
+    AddressLength,
+    /// A unit that ends within a sequence.
+    Unended,
+}
+
+/// A fault, and where in the section it is.
+#[derive(Clone, Copy, Debug, PartialEq, Eq)]
+pub struct LineFault {
+    pub kind: LineKind,
+    pub place: u64,
+}
+
+impl From<leb_cursor::Short> for LineFault {
+    ghost from_gives = { λ e f. f ≡ record { kind = Short; place = e.place } };
+
+    fn from(e: leb_cursor::Short) -> LineFault {
+        LineFault {
+            kind: LineKind::Short,
+            place: e.place,
+        }
+    }
+}
+
+impl From<LebFault> for LineFault {
+    ghost from_gives = { λ e f. f ≡ leb_fault e };
+
+    fn from(e: LebFault) -> LineFault {
+        match e {
+            LebFault::Short(short) => LineFault {
+                kind: LineKind::Short,
+                place: short.place,
+            },
+            LebFault::Wide { place } => LineFault {
+                kind: LineKind::Wide,
+                place,
+            },
+        }
+    }
+}
+
+/// Why a section has no table.
+#[derive(Clone, Copy, Debug, PartialEq, Eq)]
+pub enum LineError {
+    Fault(LineFault),
+    Memory,
+}
+
+impl From<LineFault> for LineError {
+    ghost from_gives = { λ f e. e ≡ Fault f };
+
+    fn from(f: LineFault) -> LineError {
+        LineError::Fault(f)
+    }
+}
+
+impl From<leb_cursor::Short> for LineError {
+    ghost from_gives = { λ s e. e ≡ Fault (record { kind = Short; place = s.place }) };
+
+    fn from(s: leb_cursor::Short) -> LineError {
+        LineError::Fault(LineFault {
+            kind: LineKind::Short,
+            place: s.place,
+        })
+    }
+}
+
+impl From<AllocError> for LineError {
+    ghost from_gives = { λ _ e. e ≡ Memory };
+
+    fn from(_e: AllocError) -> LineError {
+        LineError::Memory
+    }
+}
+
+impl<T: Drop> From<AllocFailed<T>> for LineError {
+    ghost from_gives = { λ _ e. e ≡ Memory };
+
+    fn from(_e: AllocFailed<T>) -> LineError {
+        LineError::Memory
+    }
+}
+
+/// From this address on the program is of this line, up to the next row of the sequence
+/// (DWARF 4, 6.2.2).
+#[derive(Clone, Copy, Debug, PartialEq, Eq)]
+pub struct Row {
+    /// How many sequences of the section ended before it.
+    pub sequence: u32,
+    pub address: u64,
+    /// The position of its file in the table's files, if the file number has an entry.
+    pub file: Option<u32>,
+    pub line: u32,
+    pub column: u64,
+    pub is_stmt: bool,
+    /// It ends its sequence.
+    pub ends: bool,
+}
+
+/// A file by its directory, which may be empty, and its name.
+#[derive(Clone, Copy, Debug, Drop)]
+pub struct FileName<'a> {
+    pub directory: &'a [u8],
+    pub name: &'a [u8],
+}
+
+/// The files and rows of a section in its order, and how many units of other versions were
+/// passed over.
+#[derive(Debug, Drop)]
+pub struct LineTable<'a> {
+    pub files: Items<FileName<'a>>,
+    pub rows: Items<Row>,
+    pub skipped: u32,
+}
+
+/// The rows of a `.debug_line` section, or its first fault.
+pub fn read_lines<'a>(alloc: Global, section: &'a [u8]) -> Result<LineTable<'a>, LineError>
+    requires { length section.now ≤ 33554432 }
+    // Which table or which fault it is.
+    ensures exact { Gives view result (reading section.now) }
+    // What is read is a table of the section.
+    ensures found { IfOk result (λ t. IsTable section.now (view t)) }
+    // A table of the section is read, unless memory runs out.
+    ensures only { (t : Table) → IsTable section.now t → Gives view result (Ok t) }
+    // Each section has exactly one table and no fault, or exactly one fault and no table.
+    ensures one { HasOne section.now }
+{
+    let mut cursor = Cursor::new(section);
+    let mut draft = Draft::new(alloc);
+    while cursor.left() > 0 {
+        draft.read_unit(alloc, &mut cursor)?;
+    }
+    Ok(draft.into_table())
+}
+
+#[cfg(test)]
+mod tests;

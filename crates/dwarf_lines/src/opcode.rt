@@ -1,0 +1,119 @@
+//! The opcodes of a line program (DWARF 4, 6.2.5).
+
+use crate::entries::read_file;
+use crate::fields::{byte, half, pass, signed, unsigned};
+use crate::header::Header;
+use crate::{FileName, LineFault, LineKind};
+use leb_cursor::Cursor;
+
+/// What an opcode says, with its operands.
+#[derive(Clone, Copy, Drop)]
+pub enum Operation<'a> {
+    Copy,
+    AdvancePc(u64),
+    AdvanceLine(i64),
+    SetFile(u64),
+    SetColumn(u64),
+    NegateStmt,
+    ConstAddPc,
+    FixedAdvancePc(u16),
+    Special(u8),
+    EndSequence,
+    SetAddress(u64),
+    DefineFile(FileName<'a>),
+    Pass,
+}
+
+impl<'a> Operation<'a> {
+    ghost use Rattle.std.specs.Prelude.{◌≡◌, ◌<◌};
+    ghost use Rattle.dwarf_lines.specs.Reading.{Walks, Finds, operation, below_base, extended_at, body};
+    ghost use Rattle.dwarf_lines.specs.Views.{operation_view, header_view};
+
+    /// The next opcode and its operands.
+    #[tactic(auto, unfolding(crate::specs::Reading::operation))]
+    pub fn read(header: &Header<'a>, cursor: &mut Cursor<'a>) -> Result<Operation<'a>, LineFault>
+        ensures { Walks operation_view result cursor.new (operation (header_view header.now) cursor.old) }
+    {
+        let place = cursor.place();
+        let opcode = byte(cursor)?;
+        if opcode >= header.opcode_base {
+            return Ok(Operation::Special(opcode));
+        }
+        if opcode == 0 {
+            return Operation::extended(header, place, cursor);
+        }
+        Operation::standard(opcode, header, cursor)
+    }
+
+    /// An opcode from 1 on that is below opcode_base.
+    fn standard(
+        opcode: u8,
+        header: &Header<'a>,
+        cursor: &mut Cursor<'a>,
+    ) -> Result<Operation<'a>, LineFault>
+        requires positive { 0 < opcode }
+        requires below { opcode < header.now.opcode_base }
+        ensures { Walks operation_view result cursor.new (below_base (header_view header.now) 0 opcode cursor.old) }
+    {
+        match opcode {
+            1 => Ok(Operation::Copy),
+            2 => Ok(Operation::AdvancePc(unsigned(cursor)?)),
+            3 => Ok(Operation::AdvanceLine(signed(cursor)?)),
+            4 => Ok(Operation::SetFile(unsigned(cursor)?)),
+            5 => Ok(Operation::SetColumn(unsigned(cursor)?)),
+            6 => Ok(Operation::NegateStmt),
+            7 | 10 | 11 => Ok(Operation::Pass),
+            8 => Ok(Operation::ConstAddPc),
+            9 => Ok(Operation::FixedAdvancePc(half(cursor)?)),
+            12 => {
+                pass(1, cursor)?;
+                Ok(Operation::Pass)
+            }
+            _ => {
+                pass(header.lengths[opcode as usize - 1], cursor)?;
+                Ok(Operation::Pass)
+            }
+        }
+    }
+
+    /// An extended opcode whose zero byte is at this place.
+    fn extended(
+        header: &Header<'a>,
+        place: u64,
+        cursor: &mut Cursor<'a>,
+    ) -> Result<Operation<'a>, LineFault>
+        ensures { Walks operation_view result cursor.new (extended_at (header_view header.now) place cursor.old) }
+    {
+        let size = unsigned(cursor)?;
+        let inside = cursor.part(size)?;
+        Operation::of_body(header, place, inside)
+    }
+
+    /// What the body of an extended opcode says. What is left of it is passed.
+    fn of_body(
+        header: &Header<'a>,
+        place: u64,
+        mut inside: Cursor<'a>,
+    ) -> Result<Operation<'a>, LineFault>
+        ensures { Finds operation_view result (body (header_view header.now) place inside.entry) }
+    {
+        let size = inside.left();
+        if size == 0 {
+            return Ok(Operation::Pass);
+        }
+        match byte(&mut inside)? {
+            1 => Ok(Operation::EndSequence),
+            2 => {
+                if size != 9 {
+                    return Err(LineFault {
+                        kind: LineKind::AddressLength,
+                        place,
+                    });
+                }
+                Ok(Operation::SetAddress(inside.double()?))
+            }
+            3 => Ok(Operation::DefineFile(read_file(header.directories.as_slice(), &mut inside)?)),
+            _ => Ok(Operation::Pass),
+        }
+    }
+}
