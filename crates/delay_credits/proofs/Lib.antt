@@ -1,0 +1,4 @@
+pub mod Standing
+pub mod Changes
+pub mod TicksLemmas
+mod Worked

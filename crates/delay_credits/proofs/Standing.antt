@@ -1,0 +1,67 @@
+-- A seat stands for the hart of its account and pause at each moment from which it was looked at.
+use Rattle.std.proofs.Common.{ℕ, zero, suc, ◌≡◌, ◌≤◌, ◌<◌, ◌+◌, ◌-◌, min, List, [], ◌∷◌, length, map, set, get_or, refl, ap, ap₂, ◌∙◌, arith, Option, Some, None}
+use Rattle.std.specs.Prelude.{All}
+use Rattle.coz_types.specs.declared.record.Account.{Account as GivenAccount}
+use Rattle.machines.specs.Places.{change}
+use Rattle.machines.specs.Delayed.{Account, Hart, fresh, run, stop}
+use Rattle.machines.specs.Steps.{sit_load, sit_hart}
+use Rattle.delay_credits.specs.declared.seat.Seat.{Seat}
+use Rattle.delay_credits.specs.declared.seat.Pending.{Pending}
+use Rattle.delay_credits.specs.Delays.{account_as}
+use Rattle.delay_credits.specs.Seats.{standing, since_of, settled, IsSound}
+
+-- a hart as it is so many ticks later
+pub standing-later : (latest now : ℕ) (seat : Seat) → since_of seat ≤ latest → latest ≤ now → sit_hart (now - latest) (standing latest seat) ≡ standing now seat
+standing-later latest now seat past later = go seat.account seat.pending past
+  where
+    go : (a : GivenAccount) (pending : Option Pending) → since_of (record { account = a; pending = pending }) ≤ latest → sit_hart (now - latest) (standing latest (record { account = a; pending = pending })) ≡ standing now (record { account = a; pending = pending })
+    go a None past = refl
+    go a (Some p) past =
+        let paused : a.paused + min (latest - p.since) p.pause + min (now - latest) (p.pause - (latest - p.since)) ≡ a.paused + min (now - p.since) p.pause = omega arith in
+        let work : 0 - (latest - p.since - p.pause) - (now - latest - (p.pause - (latest - p.since))) ≡ 0 - (now - p.since - p.pause) = omega arith in
+        let pause : p.pause - (latest - p.since) - (now - latest) ≡ p.pause - (now - p.since) = omega arith in
+        cc
+
+-- all harts as they are later
+pub standing-all : (latest now raised : ℕ) (seats : List Seat) → All (IsSound latest raised) seats → latest ≤ now → map (sit_hart (now - latest)) (map (standing latest) seats) ≡ map (standing now) seats
+standing-all latest now raised [] sound later = refl
+standing-all latest now raised (seat ∷ seats) sound later =
+    ap₂ (λ (x : Hart) (xs : List Hart). x ∷ xs)
+    (standing-later latest now seat (sound 0 seat (omega arith)).past later)
+    (standing-all latest now raised seats (λ k d (below : k < length seats). sound (suc k) d (omega arith)) later)
+
+-- the seat of one hart is written
+pub standing-set : (now h : ℕ) (f : Hart → Hart) (seats : List Seat) (seat d : Seat) → h < length seats → standing now seat ≡ f (standing now (get_or seats h d)) → map (standing now) (set seats h seat) ≡ change fresh h f (map (standing now) seats)
+standing-set now h f [] seat d below is = absurd (omega arith)
+standing-set now zero f (x ∷ xs) seat d below is = ap (λ (y : Hart). y ∷ map (standing now) xs) is
+standing-set now (suc h) f (x ∷ xs) seat d below is = ap (λ (ys : List Hart). standing now x ∷ ys) (standing-set now h f xs seat d (omega arith) is)
+
+-- the hart of one seat
+pub standing-read : (now h : ℕ) (seats : List Seat) (d : Seat) → h < length seats → get_or (map (standing now) seats) h fresh ≡ standing now (get_or seats h d)
+standing-read now h [] d below = absurd (omega arith)
+standing-read now zero (x ∷ xs) d below = refl
+standing-read now (suc h) (x ∷ xs) d below = standing-read now h xs d (omega arith)
+
+-- the account of a seat that was looked at is the hart's
+pub settled-account : (now : ℕ) (seat : Seat) → account_as (settled now seat).account ≡ (standing now seat).account
+settled-account now seat = go seat.account seat.pending
+  where
+    go : (a : GivenAccount) (pending : Option Pending) → account_as (settled now (record { account = a; pending = pending })).account ≡ (standing now (record { account = a; pending = pending })).account
+    go a None = refl
+    go a (Some p) = refl
+
+-- a hart that begins to run
+pub standing-start : (now : ℕ) (seat : Seat) → standing now (record { account = (settled now seat).account; pending = Some (record { since = now; pause = 0 }) }) ≡ run 0 (standing now seat)
+standing-start now seat = go (settled now seat).account (settled-account now seat)
+  where
+    go : (a : GivenAccount) → account_as a ≡ (standing now seat).account → standing now (record { account = a; pending = Some (record { since = now; pause = 0 }) }) ≡ run 0 (standing now seat)
+    go a is =
+        let paused : a.paused + min (now - now) 0 ≡ a.paused = omega arith in
+        let work : 0 - (now - now - 0) ≡ 0 = omega arith in
+        let pause : 0 - (now - now) ≡ 0 = omega arith in
+        let same : sit_load (now - now) (account_as a) (record { work = 0; pause = 0 }) ≡ record { account = account_as a; load = Some (record { work = 0; pause = 0 }) } = cc in
+        same ∙ ap (λ (b : Account). record { account = b; load = Some (record { work = 0; pause = 0 }) }) is
+
+-- a hart that no longer runs
+pub standing-stop : (now : ℕ) (seat : Seat) → standing now (record { account = (settled now seat).account; pending = None }) ≡ stop (standing now seat)
+standing-stop now seat = ap (λ (a : Account). record { account = a; load = None }) (settled-account now seat)

@@ -1,0 +1,10 @@
+use Rattle.std.proofs.Common.{ℕ, ◌≡◌, ◌<◌, ◌≤◌, slice_index_or}
+use Rattle.delay_credits.specs.declared.seat.Seat.{Seat}
+use Rattle.delay_credits.specs.Seats.{IsRaised}
+use Rattle.delay_credits.proofs.seat.raise_each.Given as goal
+
+abbrev pub invariant-loop-place : goal.invariant-loop-place
+invariant-loop-place l = record {
+  done : (k : ℕ) → k < l.place → (d : Seat) → IsRaised l.ticks l.now l.raiser k (slice_index_or l.initial.seats k d) (slice_index_or l.seats k d);
+  rest : (k : ℕ) → l.place ≤ k → (d : Seat) → slice_index_or l.seats k d ≡ slice_index_or l.initial.seats k d;
+}

@@ -1,0 +1,3 @@
+pub mod Delays
+pub mod Seats
+pub mod Ticks

@@ -1,0 +1,46 @@
+-- What the seats of harts stand for.
+use Rattle.std.specs.Prelude.{◌≡◌, ℕ, ◌+◌, ◌-◌, ◌≤◌, ◌<◌, ◌^◌, min, Some, None}
+use Rattle.machines.specs.Delayed.{Hart, raise_hart, total}
+use Rattle.machines.specs.Steps.{sit_load}
+use Rattle.delay_credits.specs.declared.seat.Seat.{Seat}
+use Rattle.delay_credits.specs.Delays.{account_as}
+
+-- a hart at a moment, worked out from its seat
+abbrev pub standing : ℕ → Seat → Hart
+standing moment seat =
+    elim (seat.pending) [
+      | None ↦ record { account = account_as seat.account; load = None }
+      | Some p ↦ sit_load (moment - p.since) (account_as seat.account) (record { work = 0; pause = p.pause })
+    ]
+
+abbrev pub owed : Seat → ℕ
+owed seat = elim (seat.pending) [ None ↦ 0 | Some p ↦ p.pause ]
+
+abbrev pub since_of : Seat → ℕ
+since_of seat = elim (seat.pending) [ None ↦ 0 | Some p ↦ p.since ]
+
+-- it was looked at by this moment, and no hart's total and pause are more than what was raised
+pub record IsSound (latest raised : ℕ) (seat : Seat) : Type 0 where
+  pub past : since_of seat ≤ latest
+  pub within : total (account_as seat.account) + owed seat ≤ raised
+
+-- the seat of the same hart, looked at at a moment
+abbrev pub settled : ℕ → Seat → Seat
+settled now seat =
+    elim (seat.pending) [
+      | None ↦ seat
+      | Some p ↦ record {
+        account = record seat.account { paused = seat.account.paused + min (now - p.since) p.pause };
+        pending = Some (record { since = now; pause = p.pause - (now - p.since) });
+      }
+    ]
+
+-- the account of a seat and its pause are less than 2 ^ 64 together with so many ticks
+abbrev pub Fits : ℕ → Seat → Type 0
+Fits ticks seat = total (account_as seat.account) + owed seat + ticks < 2 ^ 64
+
+-- a seat before and after a raise of so many ticks at a moment
+pub record IsRaised (ticks now raiser place : ℕ) (old new : Seat) : Type 0 where
+  pub stands : standing now new ≡ raise_hart ticks raiser place (standing now old)
+  pub past : since_of new ≤ now
+  pub within : total (account_as new.account) + owed new ≤ total (account_as old.account) + owed old + ticks

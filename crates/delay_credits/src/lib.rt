@@ -1,0 +1,167 @@
+//! The delay that each hart has raised, paused and been credited.
+#![tactic(auto)]
+
+mod seat;
+#[cfg(test)]
+mod tests;
+
+ghost use Rattle.std.specs.Prelude.{◌≡◌, ◌+◌, ◌≤◌, ◌<◌, ◌^◌, false, length, replicate, IfOk, IsTrue};
+ghost use Rattle.machines.specs.Delayed.{fresh, is_running, total};
+ghost use Rattle.delay_credits.specs.Delays.{none_raised, hart_at, pause_of, account_as, at, with_start, with_stop, with_raise, with_credit};
+
+use crate::seat::{Pending, Seat, raise_each, settle};
+use coz_types::{Account, HartId, Tick};
+use std::alloc::{AllocError, Global};
+use std::marker::Model;
+
+/// The accounts and pauses of harts of a number given at making, and the delay that they raised.
+///
+/// Contracts see each hart as it is at the latest moment that `start`, `stop` or `raise` got. The code keeps a hart as it
+/// was at an earlier moment, and works out a later one when it is asked for. Beside its making no call takes memory.
+#[derive(Drop)]
+pub struct Credits {
+    seats: Vec<Seat>,
+    latest: Tick,
+    raised: Tick,
+}
+
+impl Model for Credits {
+    ghost use Rattle.std.specs.Prelude.{◌≤◌, ◌^◌, map, All};
+    ghost use Rattle.delay_credits.specs.Delays.{Delays};
+
+    ghost Value = { Delays };
+
+    ghost use Rattle.delay_credits.specs.Seats.{standing, IsSound};
+
+    ghost view = { λ c. record { latest = c.latest; raised = c.raised; harts = map (standing c.latest) c.seats.items } };
+
+    ghost invariant = { λ c. (c.raised ≤ 10 ^ 17) × All (IsSound c.latest c.raised) c.seats.items };
+}
+
+const NOT_RUNNING: Seat = Seat {
+    account: Account {
+        own: 0,
+        paused: 0,
+        credited: 0,
+    },
+    pending: None,
+};
+
+impl Credits {
+    /// Harts that don't run, with accounts of zeros. Fails exactly where there is no memory for so many.
+    pub fn new(alloc: Global, harts: u32) -> Result<Credits, AllocError>
+        ensures { IfOk result (λ credits. credits ≡ none_raised harts) }
+    {
+        Ok(Credits {
+            seats: vec![in alloc; NOT_RUNNING; harts as usize]?,
+            latest: 0,
+            raised: 0,
+        })
+    }
+
+    /// A hart runs from a moment on, with no pause.
+    pub fn start(&mut self, hart: HartId, now: Tick)
+        requires below { hart.0 < length self.old.harts }
+        requires later { self.old.latest ≤ now }
+        ensures { self.new ≡ with_start hart.0 now self.old }
+    {
+        let place = usize::from(hart.0);
+        let account = settle(self.seats[place], now).account;
+        self.seats[place] = Seat {
+            account,
+            pending: Some(Pending {
+                since: now,
+                pause: 0,
+            }),
+        };
+        self.latest = now;
+    }
+
+    /// A running hart that has no pause before it waits or is gone from a moment on.
+    pub fn stop(&mut self, hart: HartId, now: Tick)
+        requires below { hart.0 < length self.old.harts }
+        requires later { self.old.latest ≤ now }
+        requires running { IsTrue (is_running (hart_at self.old hart.0)) }
+        requires unpaused { pause_of (hart_at (at now self.old) hart.0) ≡ 0 }
+        ensures { self.new ≡ with_stop hart.0 now self.old }
+    {
+        let place = usize::from(hart.0);
+        let account = settle(self.seats[place], now).account;
+        self.seats[place] = Seat {
+            account,
+            pending: None,
+        };
+        self.latest = now;
+    }
+
+    /// A running hart raises the delay at a moment: its own grows, and the pause of every other running hart.
+    pub fn raise(&mut self, hart: HartId, ticks: Tick, now: Tick)
+        requires below { hart.0 < length self.old.harts }
+        requires later { self.old.latest ≤ now }
+        requires running { IsTrue (is_running (hart_at self.old hart.0)) }
+        requires few { self.old.raised + ticks ≤ 10 ^ 17 }
+        ensures { self.new ≡ with_raise hart.0 ticks now self.old }
+    {
+        raise_each(&mut self.seats, ticks, now, usize::from(hart.0));
+        self.raised += ticks;
+        self.latest = now;
+    }
+
+    /// Credits a hart that doesn't run with what its total lacks of its waker's, which is all that was raised.
+    pub fn take_credit(&mut self, woken: HartId, waker: HartId)
+        requires woken_below { woken.0 < length self.old.harts }
+        requires waker_below { waker.0 < length self.old.harts }
+        requires waits { is_running (hart_at self.old woken.0) ≡ false }
+        requires whole { total (hart_at self.old waker.0).account ≡ self.old.raised }
+        ensures { self.new ≡ with_credit woken.0 waker.0 self.old }
+    {
+        let place = usize::from(woken.0);
+        let account = self.seats[place].account;
+        let total = account.own + account.paused + account.credited;
+        self.seats[place] = Seat {
+            account: Account {
+                credited: account.credited + (self.raised - total),
+                ..account
+            },
+            pending: None,
+        };
+    }
+
+    /// All that was raised.
+    pub fn raised(&self) -> Tick
+        ensures { result ≡ self.now.raised }
+    {
+        self.raised
+    }
+
+    /// The ticks of pause that a hart has before it at a moment, 0 for one that doesn't run.
+    pub fn pause(&self, hart: HartId, now: Tick) -> Tick
+        requires below { hart.0 < length self.now.harts }
+        requires later { self.now.latest ≤ now }
+        ensures { result ≡ pause_of (hart_at (at now self.now) hart.0) }
+    {
+        match self.seats[usize::from(hart.0)].pending {
+            None => 0,
+            Some(pending) => pending.pause.saturating_sub(now - pending.since),
+        }
+    }
+
+    /// A hart's account at a moment.
+    pub fn account(&self, hart: HartId, now: Tick) -> Account
+        requires below { hart.0 < length self.now.harts }
+        requires later { self.now.latest ≤ now }
+        ensures { account_as result ≡ (hart_at (at now self.now) hart.0).account }
+    {
+        settle(self.seats[usize::from(hart.0)], now).account
+    }
+
+    /// Makes these credits the same as others of as many harts.
+    pub fn copy_from(&mut self, other: &Credits)
+        requires { length self.old.harts ≡ length other.now.harts }
+        ensures { self.new ≡ other.now }
+    {
+        self.seats.copy_from_slice(&other.seats);
+        self.latest = other.latest;
+        self.raised = other.raised;
+    }
+}

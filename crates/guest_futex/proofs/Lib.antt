@@ -1,0 +1,3 @@
+pub mod WaitersLemmas
+pub mod Pass
+mod Order

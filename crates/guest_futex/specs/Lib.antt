@@ -1,0 +1,3 @@
+pub mod Waiters
+pub mod Apart
+pub mod Held

@@ -1,0 +1,104 @@
+ghost use Rattle.std.specs.Prelude.{◌≡◌, ◌≢◌, ◌+◌, ◌<◌, ◌≤◌, [], ◌++◌, length, take, All, IfOk};
+ghost use Rattle.guest_futex.specs.Waiters.{with_waiter, woken, left};
+ghost use Rattle.guest_futex.specs.Held.{waiters_of};
+
+use crate::HartList;
+use coz_types::{Address, HartId};
+use std::alloc::{AllocError, Global};
+use std::marker::Model;
+
+const ROOM: usize = 256;
+
+/// A hart that waits, and the address.
+#[derive(Clone, Copy, Drop)]
+struct Place {
+    address: Address,
+    hart: HartId,
+}
+
+/// Up to 256 harts that each wait for one address.
+///
+/// Contracts see the list of the waiters, the eldest first. Beside its making no call takes memory.
+#[derive(Drop)]
+pub struct Queue {
+    // The eldest first.
+    places: Vec<Place>,
+}
+
+impl Model for Queue {
+    ghost use Rattle.std.specs.Prelude.{◌≤◌, List};
+    ghost use Rattle.std.specs.Vec.{vec_capacity};
+    ghost use Rattle.guest_futex.specs.Waiters.{Waiter};
+    ghost use Rattle.guest_futex.specs.Apart.{AreApart};
+    ghost use Rattle.guest_futex.specs.Held.{waiters_of};
+
+    ghost Value = { List Waiter };
+
+    ghost view = { λ q. waiters_of q.places.items };
+
+    ghost invariant = { λ q. AreApart (waiters_of q.places.items) × (256 ≤ vec_capacity q.places) };
+}
+
+/// Appends the harts of the eldest waiters for an address to a list, at most `count`, and moves those that are left to
+/// the front. Returns how many are left.
+fn take_eldest(places: &mut [Place], address: Address, count: u32, into: &mut HartList) -> usize
+    requires { length into.old + length (woken address (waiters_of places.old) count) ≤ 256 }
+    ensures woken { into.new ≡ into.old ++ woken address (waiters_of places.old) count }
+    ensures left { waiters_of (take result places.new) ≡ left address (waiters_of places.old) count }
+{
+    let mut wanted = count;
+    let mut kept = 0;
+    for i in 0..places.len() {
+        let place = places[i];
+        if wanted > 0 && place.address == address {
+            into.push(place.hart);
+            wanted -= 1;
+        } else {
+            places[kept] = place;
+            kept += 1;
+        }
+    }
+    kept
+}
+
+impl Queue {
+    /// No waiters. Fails exactly where there is no memory for 256 of them.
+    pub fn new(alloc: Global) -> Result<Queue, AllocError>
+        ensures { IfOk result (λ queue. queue ≡ []) }
+    {
+        Ok(Queue {
+            places: Vec::with_capacity(alloc, ROOM)?,
+        })
+    }
+
+    /// A hart waits for an address from now on, as the youngest waiter.
+    pub fn wait(&mut self, address: Address, hart: HartId)
+        requires low { hart.0 < 256 }
+        requires apart { All (λ waiter. waiter.hart ≢ hart.0) self.old }
+        ensures { self.new ≡ with_waiter address hart.0 self.old }
+    {
+        let Ok(()) = self.places.push(Place { address, hart }) else {
+            unreachable!()
+        };
+    }
+
+    /// Takes the eldest waiters for an address, at most `count`, and appends them to a list.
+    pub fn wake(&mut self, address: Address, count: u32, into: &mut HartList)
+        requires { length into.old + length (woken address self.old count) ≤ 256 }
+        ensures woken { into.new ≡ into.old ++ woken address self.old count }
+        ensures left { self.new ≡ left address self.old count }
+    {
+        let kept = take_eldest(&mut self.places, address, count, into);
+        self.places.truncate(kept);
+    }
+
+    /// Makes these waiters the same as others.
+    pub fn copy_from(&mut self, other: &Queue)
+        ensures { self.new ≡ other.now }
+    {
+        self.places.clear();
+        let Ok(()) = self.places.extend_from_slice(&other.places) else {
+            unreachable!()
+        };
+    }
+}

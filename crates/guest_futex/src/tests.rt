@@ -1,0 +1,40 @@
+ghost use Rattle.std.specs.Prelude.{◌≡◌, ◌≢◌, ◌+◌, ◌<◌, ◌≤◌, length, All};
+ghost use Rattle.guest_futex.specs.Waiters.{with_waiter, woken, left};
+
+use super::*;
+use coz_types::HartId;
+use std::alloc::AllocError;
+use std::test::Fail;
+
+const HERE: u64 = 0x11000;
+
+const THERE: u64 = 0x11004;
+
+#[test]
+fn the_eldest_waiters_are_woken(rt: HostRuntime) -> Result<(), Fail> {
+    let mut queue = Queue::new(rt.alloc())?;
+    queue.wait(HERE, HartId(3));
+    queue.wait(HERE, HartId(5));
+    queue.wait(THERE, HartId(255));
+    queue.wait(HERE, HartId(2));
+    let mut other = Queue::new(rt.alloc())?;
+    other.wait(HERE, HartId(9));
+    other.copy_from(&queue);
+    let mut woken = HartList::new();
+    other.wake(HERE, 2, &mut woken);
+    assert_eq!(rt; woken.harts(), [HartId(3), HartId(5)].as_slice());
+    other.wake(HERE, 9, &mut woken);
+    assert_eq!(rt; woken.harts(), [HartId(3), HartId(5), HartId(2)].as_slice());
+    other.wake(HERE, 1, &mut woken);
+    other.wake(0x20000, 1, &mut woken);
+    assert_eq!(rt; woken.harts().len(), 3);
+    woken.clear();
+    other.wake(THERE, u32::MAX, &mut woken);
+    assert_eq!(rt; woken.harts(), [HartId(255)].as_slice());
+    queue.wake(HERE, 0, &mut woken);
+    queue.wake(HERE, 1, &mut woken);
+    assert_eq!(rt; woken.harts(), [HartId(255), HartId(3)].as_slice());
+    woken.push(HartId(8));
+    assert_eq!(rt; woken.harts().len(), 3);
+    Ok(())
+}
