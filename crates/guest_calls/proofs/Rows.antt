@@ -1,0 +1,192 @@
+-- What the functions of the calls share.
+use borrow.Rule.Slice.PartMut.{put_mid, post_of}
+use Rattle.std.specs.Vec.{with_items}
+use Rattle.std.proofs.Common.{ℕ, zero, suc, ◌-◌, min, Vec, append_assoc, ⊎_elim, ◌≡◌, ◌≢◌, ◌+◌, ◌<◌, ◌≤◌, ◌^◌, ◌++◌, List, [], ◌∷◌, length, take, drop, set, Bool, true, false, not, ◌&&◌, cond, Option, Some, None, Result, Ok, Err, MatchResult, IsTrue, refl, sym, ap, ◌∙◌, arith, pos, ℤ, replicate, eqb}
+use Rattle.std.proofs.lemmas.Bool.{ne_eqb}
+use Rattle.std.proofs.lemmas.Bool.{cases_lt, false≢true}
+use Rattle.std.proofs.lemmas.List.{get_or_past, length-append, length-take, length-drop, take_all, take-append-le, with_items_is}
+use Rattle.std.proofs.Math.Nat.{mod-eq_of_lt}
+use Rattle.std.proofs.Math.Seq.{take-append-add}
+use Rattle.coz_types.specs.Maps.{Map, value_at}
+use Rattle.coz_types.specs.Image.{ImageParts}
+use Rattle.machines.specs.Guest.{Retirement}
+use Rattle.guest_memory.specs.declared.Layout.{Layout}
+use Rattle.guest_memory.specs.Memory.{MemoryMap, with_bytes, is_readable, is_writable, byte_at, bytes_at, first_memory}
+use Rattle.guest_memory.proofs.Runs.{allowed_from, allowed_each, length-bytes_at, same_regions-with_bytes, same_regions-first}
+use Rattle.guest_areas.specs.Space.{RegionMap, Space, Answered, SharesRegions, space}
+use Rattle.guest_areas.specs.Entry.{stack_pointer, first_space}
+use Rattle.rv_execute.specs.Reservations.{Reservations}
+use Rattle.guest_calls.specs.declared.hart.Hart.{Hart}
+use Rattle.guest_calls.specs.Output.{Written, with_bytes_written}
+use Rattle.guest_calls.specs.Guest.{Guest, IsMade, no_hart, hart_at, is_running, is_running_status, memory_of, with_stored, hart_from, first_hart, first_guest}
+use Rattle.guest_calls.specs.Kept.{guest_of}
+use Rattle.guest_calls.specs.Calls.{number, replied, answered, of_space, leave, exit, woken_at_exit, cleared, unsupported, calls, call_of}
+
+-- an answer that fits stands as it is
+pub answered_count : (n h : ℕ) (g : Guest) → n < 2 ^ 64 → replied n h g ≡ answered (pos n) h g
+answered_count n h g fits = ap (λ (x : ℕ). replied x h g) (sym (mod-eq_of_lt fits))
+
+pub shares-stored : (r : RegionMap) (m after : MemoryMap) (a : ℕ) (bs : List ℕ) → SharesRegions r m → after ≡ with_bytes a bs m → SharesRegions r after
+shares-stored r m after a bs shared e =
+    let kept = same_regions-with_bytes m a bs in
+    record {
+      areas = shared.areas ∙ sym (ap (λ (x : MemoryMap). x.areas) e ∙ kept.0);
+      layout = shared.layout ∙ sym (ap (λ (x : MemoryMap). x.layout) e ∙ kept.1);
+    }
+
+pub readable-part : (m : MemoryMap) (a n k : ℕ) → is_readable m a n ≡ true → k ≤ n → is_readable m a k ≡ true
+readable-part m a n k may fits =
+    allowed_from (λ r. r.read) m a k (λ j below. allowed_each (λ r. r.read) m a n may j (omega arith))
+
+-- the first memory has the layout that it was made with
+pub first-again : (m : MemoryMap) (image : ImageParts) (layout : Layout) → m ≡ first_memory image layout → m ≡ first_memory image m.layout
+first-again m image layout e =
+    let kept = same_regions-first image layout in
+    e ∙ ap (first_memory image) (sym (ap (λ (x : MemoryMap). x.layout) e ∙ kept.1))
+
+-- a call of the areas, and its answer
+pub of_space-is : (g : Guest) (h : ℕ) (a : Answered) (z : ℤ) (after : Guest) → after ≡ record g { space = a.space } → z ≡ a.answer → answered z h after ≡ of_space g h a
+of_space-is g h a z after e f = ap (λ (x : Guest). answered z h x) e ∙ ap (λ (x : ℤ). answered x h (record g { space = a.space })) f
+
+-- a hart's exit, where nothing waits
+pub exit-uncleared : (g : Guest) (h : ℕ) → (hart_at g h).clear ≡ 0 → leave h [] g ≡ exit g h
+unfolding exit
+exit-uncleared g h e = rw e refl
+
+exit-refused : (g : Guest) (h : ℕ) (b : Bool) → is_writable (memory_of g) (hart_at g h).clear 4 ≡ false → b ≡ false
+    → leave h [] g ≡ cond (not b && is_writable (memory_of g) (hart_at g h).clear 4) (leave h (woken_at_exit g h) (cleared g h)) (leave h [] g)
+exit-refused g h b e f = rw (e, f) refl
+
+exit-stored : (g : Guest) (h : ℕ) (b : Bool) → g.waiters ≡ [] → is_writable (memory_of g) (hart_at g h).clear 4 ≡ true → b ≡ false
+    → leave h [] (with_stored (hart_at g h).clear (replicate 4 0) g) ≡ cond (not b && is_writable (memory_of g) (hart_at g h).clear 4) (leave h (woken_at_exit g h) (cleared g h)) (leave h [] g)
+exit-stored g h b none e f = rw (e, f, none) refl
+
+pub exit-cleared : {V E : Type 0} (g after : Guest) (h a : ℕ) (o : Result V E) → g.waiters ≡ [] → a ≡ (hart_at g h).clear → a ≢ 0
+    → MatchResult o
+    (λ _. IsTrue (is_writable (memory_of g) a 4) × (after ≡ with_stored a (replicate 4 0) g))
+    (λ _. (is_writable (memory_of g) a 4 ≡ false) × (after ≡ g))
+    → leave h [] after ≡ exit g h
+unfolding exit
+exit-cleared g after h a (Ok v) none at some m =
+    ap (leave h []) (m.1 ∙ ap (λ (x : ℕ). with_stored x (replicate 4 0) g) at)
+    ∙ exit-stored g h (eqb (hart_at g h).clear 0) none (ap (λ (x : ℕ). is_writable (memory_of g) x 4) (sym at) ∙ m.0) (ne_eqb (hart_at g h).clear 0 (λ (e : (hart_at g h).clear ≡ 0). some (at ∙ e)))
+exit-cleared g after h a (Err e) none at some m =
+    ap (leave h []) m.1
+    ∙ exit-refused g h (eqb (hart_at g h).clear 0) (ap (λ (x : ℕ). is_writable (memory_of g) x 4) (sym at) ∙ m.0) (ne_eqb (hart_at g h).clear 0 (λ (e : (hart_at g h).clear ≡ 0). some (at ∙ e)))
+
+-- a call by its number
+known_or : Guest → ℕ → ℕ → Option (Guest → ℕ → ℕ → Retirement Guest) → Retirement Guest
+known_or g h v o = elim o [ None ↦ unsupported g h | Some call ↦ call g h v ]
+
+pub call-known : (g : Guest) (h v n : ℕ) (call : Guest → ℕ → ℕ → Retirement Guest) → n ≡ number g h → value_at calls n ≡ Some call → call g h v ≡ call_of g h v
+unfolding call_of known_or
+call-known g h v n call e at = ap (known_or g h v) (sym at) ∙ ap (λ (x : ℕ). known_or g h v (value_at calls x)) e
+
+pub call-unknown : (g : Guest) (h v n : ℕ) → n ≡ number g h → value_at calls n ≡ None → unsupported g h ≡ call_of g h v
+unfolding call_of known_or
+call-unknown g h v n e at = ap (known_or g h v) (sym at) ∙ ap (λ (x : ℕ). known_or g h v (value_at calls x)) e
+
+skipped : {X : Type 0} (k n : ℕ) (x : X) (es : Map X) → n ≢ k → value_at ((k, x) ∷ es) n ≡ value_at es n
+skipped k n x es apart = rw (ne_eqb k n (λ e. apart (sym e)), value_at) refl
+
+-- the number is no key
+abbrev HasNo : {X : Type 0} → Map X → ℕ → Type 0
+HasNo [] n = Unit {0}
+HasNo (e ∷ es) n = (n ≢ e.0) × HasNo es n
+
+absent : {X : Type 0} (m : Map X) (n : ℕ) → HasNo m n → value_at m n ≡ None
+absent [] n no_key = refl
+absent (e ∷ es) n no_key = skipped e.0 n e.1 es no_key.0 ∙ absent es n no_key.1
+
+pub unknown : (n : ℕ) → n ≢ 29 → n ≢ 62 → n ≢ 63 → n ≢ 64 → n ≢ 65 → n ≢ 66 → n ≢ 93 → n ≢ 94 → n ≢ 96 → n ≢ 124 → n ≢ 135 → n ≢ 172 → n ≢ 178 → n ≢ 214 → n ≢ 215 → n ≢ 216 → n ≢ 222 → n ≢ 226 → n ≢ 233 → value_at calls n ≡ None
+unknown n n29 n62 n63 n64 n65 n66 n93 n94 n96 n124 n135 n172 n178 n214 n215 n216 n222 n226 n233 = absent calls n (n29, (n62, (n63, (n64, (n65, (n66, (n93, (n94, (n96, (n124, (n135, (n172, (n178, (n214, (n215, (n216, (n222, (n226, (n233, tt)))))))))))))))))))
+
+-- a running hart was made
+pub running-made : (g : Guest) (h : ℕ) → is_running g h ≡ true → IsMade g h
+running-made g h runs =
+    ⊎_elim (λ (below : h < length g.harts). below)
+    (λ (past : length g.harts ≤ h). absurd (let never : false ≡ true = ap (λ (x : Hart). is_running_status x.status) (sym (get_or_past g.harts h no_hart past)) ∙ runs in cc))
+    (cases_lt h (length g.harts))
+
+-- what is appended to an output
+slice_length : (xs : List ℕ) (w k : ℕ) → k ≤ length xs - w → length (take (w + k - w) (drop w xs)) ≡ k
+slice_length xs w k fits = simp (length-take, length-drop) (omega arith)
+
+pub unreadable-part : (m : MemoryMap) (a n w k : ℕ) (xs : List ℕ) → is_readable m a (length (take (w + k - w) (drop w xs))) ≡ false → is_readable m a n ≡ true → k ≤ n → k ≤ length xs - w → ⊥
+unreadable-part m a n w k xs refused may less fits =
+    let l = slice_length xs w k fits in
+    let part = readable-part m a n k may less in
+    false≢true (sym refused ∙ ap (is_readable m a) l ∙ part)
+
+bytes_prefix : (m : MemoryMap) (a n k : ℕ) → k ≤ n → take k (bytes_at m a n) ≡ bytes_at m a k
+bytes_prefix m a n zero fits = refl
+bytes_prefix m a zero (suc k) fits = absurd (omega arith)
+bytes_prefix m a (suc n) (suc k) fits = ap (λ (bs : List ℕ). byte_at m a ∷ bs) (bytes_prefix m (a + 1) n k (omega arith))
+
+cut_bytes : (m : MemoryMap) (a n room : ℕ) → take room (bytes_at m a n) ≡ bytes_at m a (min n room)
+cut_bytes m a n room =
+    ⊎_elim
+    (λ (less : room < n). bytes_prefix m a n room (omega arith) ∙ ap (bytes_at m a) (let e : room ≡ min n room = omega arith in e))
+    (λ (more : n ≤ room). take_all room (bytes_at m a n) (omega (arith, length-bytes_at m a n)) ∙ ap (bytes_at m a) (let e : n ≡ min n room = omega arith in e))
+    (cases_lt room n)
+
+-- the first w of xs, k others, and the rest of xs
+overwritten : (xs into : List ℕ) (w k : ℕ) → w ≤ length xs → length into ≡ k → take (w + k) (put_mid w (w + k - w) xs into) ≡ take w xs ++ into
+overwritten xs into w k inside size =
+    ap (take (w + k)) (sym (append_assoc (take w xs) into (post_of w (w + k - w) xs)))
+    ∙ take-append-le (w + k) (take w xs ++ into) (post_of w (w + k - w) xs) (simp (length-append, length-take) (omega arith))
+    ∙ take_all (w + k) (take w xs ++ into) (simp (length-append, length-take) (omega arith))
+
+overwritten_length : (xs into : List ℕ) (w k : ℕ) → w + k ≤ length xs → length into ≡ k → length (put_mid w (w + k - w) xs into) ≡ length xs
+overwritten_length xs into w k inside size = simp (length-append, length-take, length-drop) (omega arith)
+
+limited : (xs : List ℕ) (m : MemoryMap) (a n w : ℕ) → w ≤ length xs → take (length xs) (take w xs ++ bytes_at m a n) ≡ take w xs ++ bytes_at m a (min n (length xs - w))
+limited xs m a n w inside =
+    let size : length xs ≡ length (take w xs) + (length xs - w) = simp length-take (omega arith) in
+    ap (λ (k : ℕ). take k (take w xs ++ bytes_at m a n)) size
+    ∙ take-append-add (take w xs) (bytes_at m a n) (length xs - w)
+    ∙ ap (λ (bs : List ℕ). take w xs ++ bs) (cut_bytes m a n (length xs - w))
+
+abbrev pub written : List ℕ → ℕ → Written
+written bytes limit = record { bytes = bytes; limit = limit }
+
+pub appended : {Z : Type 0} (places : Vec ℕ Z) (now into : List ℕ) (w k n : ℕ) (m : MemoryMap) (a : ℕ) (old : Written) → now ≡ places.items → w ≤ length places.items → k ≡ min n (length places.items - w)
+    → into ≡ bytes_at m a (length (take (w + k - w) (drop w now))) → written (take w places.items) (length places.items) ≡ old
+    → written (take (w + k) (with_items places (put_mid w (w + k - w) now into)).items) (length (with_items places (put_mid w (w + k - w) now into)).items) ≡ with_bytes_written (bytes_at m a n) old
+appended places now into w k n m a old there inside e got was =
+    let ws : List ℕ = put_mid w (w + k - w) now into in
+    let same : length now ≡ length places.items = ap (λ (xs : List ℕ). length xs) there in
+    let fits : k ≤ length now - w = omega arith in
+    let size : length into ≡ k = ap (λ (xs : List ℕ). length xs) got ∙ length-bytes_at m a (length (take (w + k - w) (drop w now))) ∙ slice_length now w k fits in
+    let taken : into ≡ bytes_at m a k = got ∙ ap (bytes_at m a) (slice_length now w k fits) in
+    let total : length ws ≡ length now = overwritten_length now into w k (omega arith) size in
+    let items : (with_items places ws).items ≡ ws = with_items_is places ws (total ∙ same ∙ sym places.ok.0) in
+    let front : take (w + k) (with_items places ws).items ≡ take (length places.items) (take w places.items ++ bytes_at m a n) =
+    ap (take (w + k)) items
+    ∙ overwritten now into w k (omega arith) size
+    ∙ ap (λ (xs : List ℕ). take w xs ++ into) there
+    ∙ ap (λ (bs : List ℕ). take w places.items ++ bs) (taken ∙ ap (bytes_at m a) e)
+    ∙ sym (limited places.items m a n w inside) in
+    let limit : length (with_items places ws).items ≡ length places.items = ap (λ (xs : List ℕ). length xs) items ∙ total ∙ same in
+    ap (λ (bs : List ℕ). written bs (length (with_items places ws).items)) front
+    ∙ ap (written (take (length places.items) (take w places.items ++ bytes_at m a n))) limit
+    ∙ ap (with_bytes_written (bytes_at m a n)) was
+
+pub first-layout : (m : MemoryMap) (image : ImageParts) (layout : Layout) → m ≡ first_memory image layout → m.layout ≡ layout
+first-layout m image layout e = ap (λ (x : MemoryMap). x.layout) e ∙ (same_regions-first image layout).1
+
+pub first-made : (items : List Hart) (regions : RegionMap) (m : MemoryMap) (rs : Reservations) (input : List ℕ) (output : Written) (image : ImageParts) (limit : ℕ) (layout : Layout) → items ≡ first_hart image ∷ []
+    → space regions m ≡ first_space image layout → rs ≡ [] → output ≡ written [] limit → guest_of items regions m rs input output ≡ first_guest image input limit layout
+unfolding first_guest
+first-made items regions m rs input output image limit layout hs sp none empty =
+    ap (λ (x : List Hart). guest_of x regions m rs input output) hs
+    ∙ ap (λ (x : Space). guest_of (first_hart image ∷ []) x.regions x.memory rs input output) sp
+    ∙ ap (λ (x : Reservations). guest_of (first_hart image ∷ []) (first_space image layout).regions (first_space image layout).memory x input output) none
+    ∙ ap (λ (x : Written). guest_of (first_hart image ∷ []) (first_space image layout).regions (first_space image layout).memory [] input x) empty
+
+pub first-hart : (items before : List Hart) (hart : Hart) (sp entry : ℕ) (image : ImageParts) → items ≡ before ++ hart ∷ [] → before ≡ []
+    → hart ≡ hart_from (record { registers = set (replicate 32 0) 2 sp; pc = entry }) 0 → sp ≡ stack_pointer → entry ≡ image.entry → items ≡ first_hart image ∷ []
+first-hart items before hart sp entry image pushed empty made top start =
+    pushed
+    ∙ ap (λ (x : List Hart). x ++ hart ∷ []) empty
+    ∙ ap (λ (x : Hart). x ∷ []) (made ∙ ap (λ (x : ℕ). hart_from (record { registers = set (replicate 32 0) 2 x; pc = entry }) 0) top ∙ ap (λ (x : ℕ). hart_from (record { registers = set (replicate 32 0) 2 stack_pointer; pc = x }) 0) start)

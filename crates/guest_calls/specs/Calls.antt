@@ -1,0 +1,263 @@
+-- The system calls of a guest (Linux on riscv64): each by its number in a7, with its arguments in a0 to a5 and its answer in a0. The checks of each are in the order in which they are made.
+use Rattle.std.specs.Prelude.{ℕ, zero, suc, ◌+◌, ◌-◌, ◌*◌, ◌%◌, Bool, not, ◌&&◌, ◌||◌, if◌then◌else◌, nat_le, nat_lt, ◌==◌, min, List, [], ◌∷◌, ◌++◌, length, take, drop, replicate, Some, None, ℤ, pos, slice_index}
+use Rattle.std.specs.List.{list_all}
+use Rattle.coz_types.specs.declared.ending.Ending.TheVariants.{Exited, Unsupported}
+use Rattle.coz_types.specs.Maps.{Map, value_at}
+use Rattle.machines.specs.declared.Fate.{Fate}
+use Rattle.machines.specs.declared.Fate.TheVariants.{Goes, Leaves, Ends}
+use Rattle.machines.specs.Guest.{Retirement}
+use Rattle.rv_decode.specs.Fields.{twos}
+use Rattle.guest_memory.specs.Memory.{MemoryMap, is_readable, is_writable, number_at, bytes_at}
+use Rattle.guest_areas.specs.Answers.{bad_file, no_memory, bad_address, invalid, no_terminal, no_seek}
+use Rattle.guest_areas.specs.Space.{Space, Answered, has, with_break, map, unmap, protect}
+use Rattle.guest_futex.specs.Waiters.{woken, left}
+use Rattle.guest_calls.specs.declared.hart.HartStatus.TheVariants.{Gone}
+use Rattle.guest_calls.specs.declared.pieces.Piece.{Piece}
+use Rattle.guest_calls.specs.Answering.{after_call, with_result}
+use Rattle.guest_calls.specs.Guest.{Guest, hart_at, state_of, with_hart, with_state, with_running, is_over, thread_id, memory_of, with_stored, with_written}
+
+abbrev pub retirement : Guest → Fate → List ℕ → Retirement Guest
+retirement guest fate others = record { guest = guest; fate = fate; others = others }
+
+-- the piece that the pair of numbers at an address names
+abbrev pub piece_at : MemoryMap → ℕ → Piece
+piece_at m address = record { address = number_at m address 8; length = number_at m (address + 8) 8 }
+
+abbrev pub pieces_at : MemoryMap → ℕ → ℕ → List Piece
+pieces_at m address zero = []
+pieces_at m address (suc count) = piece_at m address ∷ pieces_at m (address + 16) count
+
+-- what so many bytes fill of each piece, in order
+abbrev pub filled : List Piece → ℕ → List Piece
+filled [] n = []
+filled (p ∷ ps) n = record { address = p.address; length = min p.length n } ∷ filled ps (n - p.length)
+
+abbrev pub total : List Piece → ℕ
+total [] = 0
+total (p ∷ ps) = p.length + total ps
+
+abbrev pub is_each_writable : MemoryMap → List Piece → Bool
+is_each_writable m ps = list_all (λ p. is_writable m p.address p.length) ps
+
+abbrev pub is_each_readable : MemoryMap → List Piece → Bool
+is_each_readable m ps = list_all (λ p. is_readable m p.address p.length) ps
+
+abbrev pub bytes_of : MemoryMap → List Piece → List ℕ
+bytes_of m [] = []
+bytes_of m (p ∷ ps) = bytes_at m p.address p.length ++ bytes_of m ps
+
+-- so many bytes of the input that is left are stored from an address on
+abbrev pub with_filled : ℕ → ℕ → Guest → Guest
+with_filled address count g = with_stored address (take count g.input) (record g { input = drop count g.input })
+
+-- the input fills the pieces
+abbrev pub with_read : List Piece → Guest → Guest
+with_read [] g = g
+with_read (p ∷ ps) g = with_read ps (with_filled p.address p.length g)
+
+-- the file number of the input, or of an output
+abbrev pub is_stream : ℕ → Bool
+is_stream number = nat_lt number 3
+
+abbrev pub is_input : ℕ → Bool
+is_input number = number == 0
+
+abbrev pub is_output : ℕ → Bool
+is_output number = number == 1 || number == 2
+
+-- private and anonymous, or shared and anonymous, at no fixed address
+abbrev pub is_mapping : ℕ → Bool
+is_mapping flags = has flags 0x20 && not (has flags 0x10) && (flags % 4 == 1 || flags % 4 == 2)
+
+-- a7, which is x17
+abbrev pub number : Guest → ℕ → ℕ
+number g h = slice_index (state_of g h).registers 17
+
+-- a0 is x10
+abbrev pub argument : Guest → ℕ → ℕ → ℕ
+argument g h i = slice_index (state_of g h).registers (10 + i)
+
+-- the hart has these 64 bits as its answer, and goes on
+abbrev pub replied : ℕ → ℕ → Guest → Retirement Guest
+replied n h g = retirement (with_state h (with_result n (state_of g h)) g) Goes []
+
+abbrev pub answered : ℤ → ℕ → Guest → Retirement Guest
+answered z h g = replied (twos 64 z) h g
+
+-- the guest after a hart has left
+abbrev pub left_by : ℕ → Guest → Guest
+left_by h g = with_hart h (record (hart_at g h) { state = after_call (state_of g h); status = Gone }) g
+
+-- a hart leaves; if it is the last, the run ends
+abbrev pub leave : ℕ → List ℕ → Guest → Retirement Guest
+leave h others g =
+    retirement (left_by h g) (if is_over (left_by h g) then Ends (Exited (argument g h 0 % 256)) else Leaves) others
+
+-- a call of hart h
+module _ (g : Guest) (h : ℕ) where
+  abbrev pub a0 : ℕ
+  a0 = argument g h 0
+
+  abbrev pub a1 : ℕ
+  a1 = argument g h 1
+
+  abbrev pub a2 : ℕ
+  a2 = argument g h 2
+
+  abbrev pub a3 : ℕ
+  a3 = argument g h 3
+
+  abbrev pub answer : ℤ → Retirement Guest
+  answer z = answered z h g
+
+  -- the run ends
+  abbrev pub unsupported : Retirement Guest
+  unsupported = retirement g (Ends (Unsupported (number g h))) []
+
+  abbrev pub of_space : Answered → Retirement Guest
+  of_space a = answered a.answer h (record g { space = a.space })
+
+  unfoldable pub ioctl : Retirement Guest
+  ioctl = if is_stream a0 then answer no_terminal else answer bad_file
+
+  unfoldable pub lseek : Retirement Guest
+  lseek = if is_stream a0 then answer no_seek else answer bad_file
+
+  -- the bytes that a read takes
+  abbrev pub read_length : ℕ
+  read_length = min a2 (length g.input)
+
+  unfoldable pub read : Retirement Guest
+  read =
+      if not (is_input a0) then answer bad_file
+      else if not (is_writable (memory_of g) a1 read_length) then answer bad_address
+      else answered (pos read_length) h (with_filled a1 read_length g)
+
+  unfoldable pub write : Retirement Guest
+  write =
+      if not (is_output a0) then answer bad_file
+      else if not (is_readable (memory_of g) a1 a2) then answer bad_address
+      else answered (pos a2) h (with_written (bytes_at (memory_of g) a1 a2) g)
+
+  -- no more pieces than these are named
+  abbrev pub are_few : Bool
+  are_few = nat_le a2 1024
+
+  -- a2 pairs at a1 name the pieces
+  abbrev pub is_named : Bool
+  is_named = is_readable (memory_of g) a1 (16 * a2)
+
+  unfoldable pub read_pieces : List Piece → Retirement Guest
+  read_pieces ps =
+      if not (is_each_writable (memory_of g) (filled ps (length g.input))) then answer bad_address
+      else answered (pos (total (filled ps (length g.input)))) h (with_read (filled ps (length g.input)) g)
+
+  unfoldable pub readv : Retirement Guest
+  readv =
+      if not (is_input a0) then answer bad_file
+      else if not are_few then answer invalid
+      else if not is_named then answer bad_address
+      else read_pieces (pieces_at (memory_of g) a1 a2)
+
+  unfoldable pub write_pieces : List Piece → Retirement Guest
+  write_pieces ps =
+      if not (is_each_readable (memory_of g) ps) then answer bad_address
+      else answered (pos (total ps)) h (with_written (bytes_of (memory_of g) ps) g)
+
+  unfoldable pub writev : Retirement Guest
+  writev =
+      if not (is_output a0) then answer bad_file
+      else if not are_few then answer invalid
+      else if not is_named then answer bad_address
+      else write_pieces (pieces_at (memory_of g) a1 a2)
+
+  unfoldable pub exit_group : Retirement Guest
+  exit_group = retirement g (Ends (Exited (a0 % 256))) []
+
+  abbrev pub clear_address : ℕ
+  clear_address = (hart_at g h).clear
+
+  abbrev pub is_cleared : Bool
+  is_cleared = not (clear_address == 0) && is_writable (memory_of g) clear_address 4
+
+  -- the eldest hart that waits for the clear address
+  abbrev pub woken_at_exit : List ℕ
+  woken_at_exit = woken clear_address g.waiters 1
+
+  -- the clear address has 0, and its eldest waiter is woken
+  abbrev pub cleared : Guest
+  cleared =
+      with_running woken_at_exit
+      (record (with_stored clear_address (replicate 4 0) g) { waiters = left clear_address g.waiters 1 })
+
+  unfoldable pub exit : Retirement Guest
+  exit = if is_cleared then leave h woken_at_exit cleared else leave h [] g
+
+  unfoldable pub set_tid_address : Retirement Guest
+  set_tid_address = answered (pos (thread_id h)) h (with_hart h (record (hart_at g h) { clear = a0 }) g)
+
+  unfoldable pub sched_yield : Retirement Guest
+  sched_yield = answer (pos 0)
+
+  unfoldable pub getpid : Retirement Guest
+  getpid = answer (pos 1)
+
+  unfoldable pub gettid : Retirement Guest
+  gettid = answer (pos (thread_id h))
+
+  unfoldable pub rt_sigprocmask : Retirement Guest
+  rt_sigprocmask =
+      if not (a3 == 8) then answer invalid
+      else if a2 == 0 then answer (pos 0)
+      else if not (is_writable (memory_of g) a2 8) then answer bad_address
+      else answered (pos 0) h (with_stored a2 (replicate 8 0) g)
+
+  unfoldable pub brk : Retirement Guest
+  brk = let space : Space = with_break a0 g.space in answered (pos space.regions.break) h (record g { space = space })
+
+  unfoldable pub munmap : Retirement Guest
+  munmap = of_space (unmap a0 a1 g.space)
+
+  unfoldable pub mremap : Retirement Guest
+  mremap = answer no_memory
+
+  unfoldable pub mmap : Retirement Guest
+  mmap = if is_mapping a3 then of_space (map a1 a2 g.space) else unsupported
+
+  unfoldable pub mprotect : Retirement Guest
+  mprotect = of_space (protect a0 a1 a2 g.space)
+
+  unfoldable pub madvise : Retirement Guest
+  madvise = answer invalid
+
+-- a call that doesn't read the net time
+abbrev pub at_any_time : (Guest → ℕ → Retirement Guest) → Guest → ℕ → ℕ → Retirement Guest
+at_any_time call g h v = call g h
+
+-- each call by its number
+abbrev pub calls : Map (Guest → ℕ → ℕ → Retirement Guest)
+calls =
+    (29, at_any_time ioctl)
+    ∷ (62, at_any_time lseek)
+    ∷ (63, at_any_time read)
+    ∷ (64, at_any_time write)
+    ∷ (65, at_any_time readv)
+    ∷ (66, at_any_time writev)
+    ∷ (93, at_any_time exit)
+    ∷ (94, at_any_time exit_group)
+    ∷ (96, at_any_time set_tid_address)
+    ∷ (124, at_any_time sched_yield)
+    ∷ (135, at_any_time rt_sigprocmask)
+    ∷ (172, at_any_time getpid)
+    ∷ (178, at_any_time gettid)
+    ∷ (214, at_any_time brk)
+    ∷ (215, at_any_time munmap)
+    ∷ (216, at_any_time mremap)
+    ∷ (222, at_any_time mmap)
+    ∷ (226, at_any_time mprotect)
+    ∷ (233, at_any_time madvise)
+    ∷ []
+
+-- the retirement of a hart at an ecall, at a net time
+unfoldable pub call_of : Guest → ℕ → ℕ → Retirement Guest
+call_of g h v = elim (value_at calls (number g h)) [ None ↦ unsupported g h | Some call ↦ call g h v ]

@@ -1,0 +1,509 @@
+//! The system calls, one function each.
+ghost use Rattle.std.specs.Prelude.{◌≡◌, ◌≤◌, ◌<◌, ◌%◌, [], length, Some, false, IsTrue, MatchResult, pos};
+ghost use Rattle.rv_decode.specs.declared.Instr.TheVariants.{Ecall};
+ghost use Rattle.guest_memory.specs.Memory.{is_writable};
+ghost use Rattle.guest_calls.specs.Guest.{IsMade, is_running, is_over, thread_id, memory_of, with_stored};
+ghost use Rattle.guest_calls.specs.Calls as calls;
+ghost use Rattle.guest_calls.specs.Calls.{retirement, number, argument, replied, answered, with_filled, call_of};
+ghost use Rattle.guest_calls.specs.Retire.{next_of};
+
+use crate::pieces::{PIECES, Piece, are_readable, are_writable, pieces_at};
+use crate::{Fate, Guest};
+use coz_types::{Address, Ending, HartId, Tick};
+use guest_futex::HartList;
+use guest_memory::Access;
+
+// The errors of Linux's calls.
+const BAD_FILE: i64 = -9;
+
+const NO_MEMORY: i64 = -12;
+
+const BAD_ADDRESS: i64 = -14;
+
+const INVALID: i64 = -22;
+
+const NO_TERMINAL: i64 = -25;
+
+const NO_SEEK: i64 = -29;
+
+fn is_stream(file: u64) -> bool
+    ensures { result ≡ calls.is_stream file }
+{
+    file < 3
+}
+
+fn is_input(file: u64) -> bool
+    ensures { result ≡ calls.is_input file }
+{
+    file == 0
+}
+
+fn is_output(file: u64) -> bool
+    ensures { result ≡ calls.is_output file }
+{
+    file == 1 || file == 2
+}
+
+/// Whether a mapping with these flags is anonymous, at no fixed address, and either shared or private.
+fn is_mapping(flags: u64) -> bool
+    ensures { result ≡ calls.is_mapping flags }
+{
+    let kind = flags % 4;
+    flags / 0x20 % 2 == 1 && flags / 0x10 % 2 != 1 && (kind == 1 || kind == 2)
+}
+
+impl<'a> Guest<'a> {
+    /// Retires the `ecall` at the pc of a running hart, at a net time.
+    pub fn call(&mut self, hart: HartId, net: Tick, started: &mut HartList) -> Fate
+        requires running { IsTrue (is_running self.old hart.0) }
+        requires started { started.old ≡ [] }
+        requires call { next_of self.old hart.0 ≡ Some Ecall }
+        ensures { retirement self.new result started.new ≡ call_of self.old hart.0 net }
+    {
+        let _ = &started;
+        match self.number(hart) {
+            29 => self.ioctl(hart),
+            62 => self.lseek(hart),
+            63 => self.read(hart),
+            64 => self.write(hart),
+            65 => self.readv(hart),
+            66 => self.writev(hart),
+            93 => self.exit(hart),
+            94 => self.exit_group(hart),
+            96 => self.set_tid_address(hart),
+            124 => self.sched_yield(hart),
+            135 => self.rt_sigprocmask(hart),
+            172 => self.getpid(hart),
+            178 => self.gettid(hart),
+            214 => self.brk(hart),
+            215 => self.munmap(hart),
+            216 => self.mremap(hart),
+            222 => self.mmap(hart),
+            226 => self.mprotect(hart),
+            233 => self.madvise(hart),
+            _ => self.unsupported(hart),
+        }
+    }
+
+    fn number(&self, hart: HartId) -> u64
+        requires { IsMade self.now hart.0 }
+        ensures { result ≡ number self.now hart.0 }
+    {
+        self.hart(hart).state.registers[17]
+    }
+
+    fn argument(&self, hart: HartId, index: usize) -> u64
+        requires made { IsMade self.now hart.0 }
+        requires index { index < 6 }
+        ensures { result ≡ argument self.now hart.0 index }
+    {
+        self.hart(hart).state.registers[10 + index]
+    }
+
+    /// The hart has these 64 bits as the answer, and goes on.
+    fn reply(&mut self, hart: HartId, value: u64) -> Fate
+        requires { IsMade self.old hart.0 }
+        ensures { retirement self.new result [] ≡ replied value hart.0 self.old }
+    {
+        self.harts[hart.0 as usize].answer(value);
+        Fate::Goes
+    }
+
+    fn answer(&mut self, hart: HartId, value: i64) -> Fate
+        requires { IsMade self.old hart.0 }
+        ensures { retirement self.new result [] ≡ answered value hart.0 self.old }
+    {
+        self.reply(hart, value.cast_unsigned())
+    }
+
+    fn answer_count(&mut self, hart: HartId, count: u64) -> Fate
+        requires { IsMade self.old hart.0 }
+        ensures { retirement self.new result [] ≡ answered (pos count) hart.0 self.old }
+    {
+        self.reply(hart, count)
+    }
+
+    /// The run ends: the call, or its options, are not supported.
+    fn unsupported(&mut self, hart: HartId) -> Fate
+        requires { IsMade self.old hart.0 }
+        ensures { retirement self.new result [] ≡ calls.unsupported self.old hart.0 }
+    {
+        Fate::Ends(Ending::Unsupported(self.number(hart)))
+    }
+
+    /// Writes bytes to the memory, as a store does; nothing is written where some byte may not be.
+    fn store(&mut self, address: Address, bytes: &[u8]) -> Result<(), Access>
+        ensures { MatchResult result
+            (λ _. IsTrue (is_writable (memory_of self.old) address (length bytes.now)) × (self.new ≡ with_stored address bytes.now self.old))
+            (λ _. (is_writable (memory_of self.old) address (length bytes.now) ≡ false) × (self.new ≡ self.old)) }
+    {
+        self.memory.copy_in(address, bytes)?;
+        self.reservations.end_at(address, bytes.len() as u64);
+        Ok(())
+    }
+
+    /// Linux: ioctl(2).
+    #[tactic(auto, unfolding(crate::specs::Calls::ioctl))]
+    fn ioctl(&mut self, hart: HartId) -> Fate
+        requires { IsMade self.old hart.0 }
+        ensures { retirement self.new result [] ≡ calls.ioctl self.old hart.0 }
+    {
+        if is_stream(self.argument(hart, 0)) {
+            self.answer(hart, NO_TERMINAL)
+        } else {
+            self.answer(hart, BAD_FILE)
+        }
+    }
+
+    /// Linux: lseek(2).
+    #[tactic(auto, unfolding(crate::specs::Calls::lseek))]
+    fn lseek(&mut self, hart: HartId) -> Fate
+        requires { IsMade self.old hart.0 }
+        ensures { retirement self.new result [] ≡ calls.lseek self.old hart.0 }
+    {
+        if is_stream(self.argument(hart, 0)) {
+            self.answer(hart, NO_SEEK)
+        } else {
+            self.answer(hart, BAD_FILE)
+        }
+    }
+
+    /// Linux: exit_group(2).
+    #[tactic(auto, unfolding(crate::specs::Calls::exit_group))]
+    fn exit_group(&mut self, hart: HartId) -> Fate
+        requires { IsMade self.old hart.0 }
+        ensures { retirement self.new result [] ≡ calls.exit_group self.old hart.0 }
+    {
+        Fate::Ends(Ending::Exited(self.code(hart)))
+    }
+
+    /// The low 8 bits of the first argument.
+    fn code(&self, hart: HartId) -> u8
+        requires { IsMade self.now hart.0 }
+        ensures { result ≡ calls.a0 self.now hart.0 % 256 }
+    {
+        (self.argument(hart, 0) % 256) as u8
+    }
+
+    /// Linux: exit(2), of one thread.
+    #[tactic(auto, unfolding(crate::specs::Calls::exit))]
+    fn exit(&mut self, hart: HartId) -> Fate
+        requires { IsMade self.old hart.0 }
+        ensures { retirement self.new result [] ≡ calls.exit self.old hart.0 }
+    {
+        let clear = self.clear_address(hart);
+        if clear == 0 {
+            return self.leave(hart);
+        }
+        // Where it may not be written, it is left as it is.
+        let _ = self.store(clear, &[0; 4]);
+        self.leave(hart)
+    }
+
+    /// The address that is cleared as the hart leaves, or 0. No hart waits for it.
+    fn clear_address(&self, hart: HartId) -> Address
+        requires { IsMade self.now hart.0 }
+        ensures address { result ≡ calls.clear_address self.now hart.0 }
+        ensures unawaited { self.now.waiters ≡ [] }
+    {
+        self.harts[hart.0 as usize].clear
+    }
+
+    /// The hart leaves; if it is the last, the run ends.
+    fn leave(&mut self, hart: HartId) -> Fate
+        requires { IsMade self.old hart.0 }
+        ensures { retirement self.new result [] ≡ calls.leave hart.0 [] self.old }
+    {
+        let code = self.code(hart);
+        self.remove(hart);
+        if self.is_over() {
+            Fate::Ends(Ending::Exited(code))
+        } else {
+            Fate::Leaves
+        }
+    }
+
+    fn remove(&mut self, hart: HartId)
+        requires { IsMade self.old hart.0 }
+        ensures { self.new ≡ calls.left_by hart.0 self.old }
+    {
+        self.harts[hart.0 as usize].leave();
+    }
+
+    fn is_over(&self) -> bool
+        ensures { result ≡ is_over self.now }
+    {
+        self.harts.iter().all(|hart| hart.is_gone())
+    }
+
+    /// Linux: set_tid_address(2).
+    #[tactic(auto, unfolding(crate::specs::Calls::set_tid_address))]
+    fn set_tid_address(&mut self, hart: HartId) -> Fate
+        requires { IsMade self.old hart.0 }
+        ensures { retirement self.new result [] ≡ calls.set_tid_address self.old hart.0 }
+    {
+        let address = self.argument(hart, 0);
+        self.harts[hart.0 as usize].clear = address;
+        self.answer_count(hart, thread_id(hart))
+    }
+
+    /// Linux: sched_yield(2).
+    #[tactic(auto, unfolding(crate::specs::Calls::sched_yield))]
+    fn sched_yield(&mut self, hart: HartId) -> Fate
+        requires { IsMade self.old hart.0 }
+        ensures { retirement self.new result [] ≡ calls.sched_yield self.old hart.0 }
+    {
+        self.answer(hart, 0)
+    }
+
+    /// Linux: getpid(2).
+    #[tactic(auto, unfolding(crate::specs::Calls::getpid))]
+    fn getpid(&mut self, hart: HartId) -> Fate
+        requires { IsMade self.old hart.0 }
+        ensures { retirement self.new result [] ≡ calls.getpid self.old hart.0 }
+    {
+        self.answer(hart, 1)
+    }
+
+    /// Linux: gettid(2).
+    #[tactic(auto, unfolding(crate::specs::Calls::gettid))]
+    fn gettid(&mut self, hart: HartId) -> Fate
+        requires { IsMade self.old hart.0 }
+        ensures { retirement self.new result [] ≡ calls.gettid self.old hart.0 }
+    {
+        self.answer_count(hart, thread_id(hart))
+    }
+
+    /// Stores so many bytes of the input that is left; nothing is done where some byte may not be written.
+    fn fill(&mut self, address: Address, count: u64) -> Result<(), Access>
+        requires { count ≤ length self.old.input }
+        ensures { MatchResult result
+            (λ _. IsTrue (is_writable (memory_of self.old) address count) × (self.new ≡ with_filled address count self.old))
+            (λ _. (is_writable (memory_of self.old) address count ≡ false) × (self.new ≡ self.old)) }
+    {
+        let input = self.input;
+        self.store(address, &input[..count as usize])?;
+        self.input = &input[count as usize..];
+        Ok(())
+    }
+
+    /// Linux: read(2).
+    #[tactic(auto, unfolding(crate::specs::Calls::read))]
+    fn read(&mut self, hart: HartId) -> Fate
+        requires { IsMade self.old hart.0 }
+        ensures { retirement self.new result [] ≡ calls.read self.old hart.0 }
+    {
+        let address = self.argument(hart, 1);
+        let count = self.argument(hart, 2).min(self.input.len() as u64);
+        if !is_input(self.argument(hart, 0)) {
+            return self.answer(hart, BAD_FILE);
+        }
+        match self.fill(address, count) {
+            Ok(()) => self.answer_count(hart, count),
+            Err(_) => self.answer(hart, BAD_ADDRESS),
+        }
+    }
+
+    /// Linux: write(2).
+    #[tactic(auto, unfolding(crate::specs::Calls::write))]
+    fn write(&mut self, hart: HartId) -> Fate
+        requires { IsMade self.old hart.0 }
+        ensures { retirement self.new result [] ≡ calls.write self.old hart.0 }
+    {
+        let address = self.argument(hart, 1);
+        let count = self.argument(hart, 2);
+        if !is_output(self.argument(hart, 0)) {
+            return self.answer(hart, BAD_FILE);
+        }
+        if !self.memory.readable(address, count) {
+            return self.answer(hart, BAD_ADDRESS);
+        }
+        self.output.append(&self.memory, address, count);
+        self.answer_count(hart, count)
+    }
+
+    /// Linux: readv(2).
+    #[tactic(auto, unfolding(crate::specs::Calls::readv))]
+    fn readv(&mut self, hart: HartId) -> Fate
+        requires { IsMade self.old hart.0 }
+        ensures { retirement self.new result [] ≡ calls.readv self.old hart.0 }
+    {
+        let address = self.argument(hart, 1);
+        let count = self.argument(hart, 2);
+        if !is_input(self.argument(hart, 0)) {
+            return self.answer(hart, BAD_FILE);
+        }
+        if count > PIECES as u64 {
+            return self.answer(hart, INVALID);
+        }
+        if !self.memory.readable(address, 16 * count) {
+            return self.answer(hart, BAD_ADDRESS);
+        }
+        let pieces = pieces_at(&self.memory, address, count);
+        self.read_pieces(hart, pieces.as_slice())
+    }
+
+    #[tactic(auto, unfolding(crate::specs::Calls::read_pieces))]
+    fn read_pieces(&mut self, hart: HartId, pieces: &[Piece]) -> Fate
+        requires { IsMade self.old hart.0 }
+        ensures { retirement self.new result [] ≡ calls.read_pieces self.old hart.0 pieces.now }
+    {
+        if !are_writable(&self.memory, pieces, self.input.len() as u64) {
+            return self.answer(hart, BAD_ADDRESS);
+        }
+        let count = self.fill_each(pieces);
+        self.answer_count(hart, count)
+    }
+
+    /// Fills pieces that may all be written with the input that is left, in order, and gives the count of the bytes.
+    fn fill_each(&mut self, pieces: &[Piece]) -> u64
+        requires { IsTrue (calls.is_each_writable (memory_of self.old) (calls.filled pieces.now (length self.old.input))) }
+        ensures filled { self.new ≡ calls.with_read (calls.filled pieces.now (length self.old.input)) self.old }
+        ensures count { result ≡ calls.total (calls.filled pieces.now (length self.old.input)) }
+    {
+        let before = self.input_left();
+        for piece in pieces {
+            let count = piece.length.min(self.input_left());
+            let Ok(()) = self.fill(piece.address, count) else {
+                unreachable!()
+            };
+        }
+        before - self.input_left()
+    }
+
+    /// The bytes that may still be read.
+    fn input_left(&self) -> u64
+        ensures { result ≡ length self.now.input }
+    {
+        self.input.len() as u64
+    }
+
+    /// Linux: writev(2).
+    #[tactic(auto, unfolding(crate::specs::Calls::writev))]
+    fn writev(&mut self, hart: HartId) -> Fate
+        requires { IsMade self.old hart.0 }
+        ensures { retirement self.new result [] ≡ calls.writev self.old hart.0 }
+    {
+        let address = self.argument(hart, 1);
+        let count = self.argument(hart, 2);
+        if !is_output(self.argument(hart, 0)) {
+            return self.answer(hart, BAD_FILE);
+        }
+        if count > PIECES as u64 {
+            return self.answer(hart, INVALID);
+        }
+        if !self.memory.readable(address, 16 * count) {
+            return self.answer(hart, BAD_ADDRESS);
+        }
+        let pieces = pieces_at(&self.memory, address, count);
+        self.write_pieces(hart, pieces.as_slice())
+    }
+
+    #[tactic(auto, unfolding(crate::specs::Calls::write_pieces))]
+    fn write_pieces(&mut self, hart: HartId, pieces: &[Piece]) -> Fate
+        requires { IsMade self.old hart.0 }
+        ensures { retirement self.new result [] ≡ calls.write_pieces self.old hart.0 pieces.now }
+    {
+        if !are_readable(&self.memory, pieces) {
+            return self.answer(hart, BAD_ADDRESS);
+        }
+        let total = self.output.append_each(&self.memory, pieces);
+        self.reply(hart, total)
+    }
+
+    /// Linux: rt_sigprocmask(2). No signal is ever blocked.
+    #[tactic(auto, unfolding(crate::specs::Calls::rt_sigprocmask))]
+    fn rt_sigprocmask(&mut self, hart: HartId) -> Fate
+        requires { IsMade self.old hart.0 }
+        ensures { retirement self.new result [] ≡ calls.rt_sigprocmask self.old hart.0 }
+    {
+        let old = self.argument(hart, 2);
+        if self.argument(hart, 3) != 8 {
+            return self.answer(hart, INVALID);
+        }
+        if old == 0 {
+            return self.answer(hart, 0);
+        }
+        match self.store(old, &[0; 8]) {
+            Ok(()) => self.answer(hart, 0),
+            Err(_) => self.answer(hart, BAD_ADDRESS),
+        }
+    }
+
+    /// Linux: brk(2).
+    #[tactic(auto, unfolding(crate::specs::Calls::brk))]
+    fn brk(&mut self, hart: HartId) -> Fate
+        requires { IsMade self.old hart.0 }
+        ensures { retirement self.new result [] ≡ calls.brk self.old hart.0 }
+    {
+        let to = self.argument(hart, 0);
+        let end = self.areas.brk(&mut self.memory, to);
+        self.answer_count(hart, end)
+    }
+
+    /// Linux: munmap(2).
+    #[tactic(auto, unfolding(crate::specs::Calls::munmap))]
+    fn munmap(&mut self, hart: HartId) -> Fate
+        requires { IsMade self.old hart.0 }
+        ensures { retirement self.new result [] ≡ calls.munmap self.old hart.0 }
+    {
+        let address = self.argument(hart, 0);
+        let length = self.argument(hart, 1);
+        let answer = self.areas.unmap(&mut self.memory, address, length);
+        self.answer(hart, answer)
+    }
+
+    /// Linux: mmap(2), of anonymous memory at no fixed address.
+    #[tactic(auto, unfolding(crate::specs::Calls::mmap))]
+    fn mmap(&mut self, hart: HartId) -> Fate
+        requires { IsMade self.old hart.0 }
+        ensures { retirement self.new result [] ≡ calls.mmap self.old hart.0 }
+    {
+        let length = self.argument(hart, 1);
+        let protection = self.argument(hart, 2);
+        if !is_mapping(self.argument(hart, 3)) {
+            return self.unsupported(hart);
+        }
+        let answer = self.areas.map(&mut self.memory, length, protection);
+        self.answer(hart, answer)
+    }
+
+    /// Linux: mprotect(2).
+    #[tactic(auto, unfolding(crate::specs::Calls::mprotect))]
+    fn mprotect(&mut self, hart: HartId) -> Fate
+        requires { IsMade self.old hart.0 }
+        ensures { retirement self.new result [] ≡ calls.mprotect self.old hart.0 }
+    {
+        let address = self.argument(hart, 0);
+        let length = self.argument(hart, 1);
+        let protection = self.argument(hart, 2);
+        let answer = self
+            .areas
+            .protect(&mut self.memory, address, length, protection);
+        self.answer(hart, answer)
+    }
+
+    /// Linux: mremap(2).
+    #[tactic(auto, unfolding(crate::specs::Calls::mremap))]
+    fn mremap(&mut self, hart: HartId) -> Fate
+        requires { IsMade self.old hart.0 }
+        ensures { retirement self.new result [] ≡ calls.mremap self.old hart.0 }
+    {
+        self.answer(hart, NO_MEMORY)
+    }
+
+    /// Linux: madvise(2).
+    #[tactic(auto, unfolding(crate::specs::Calls::madvise))]
+    fn madvise(&mut self, hart: HartId) -> Fate
+        requires { IsMade self.old hart.0 }
+        ensures { retirement self.new result [] ≡ calls.madvise self.old hart.0 }
+    {
+        self.answer(hart, INVALID)
+    }
+}
+
+fn thread_id(hart: HartId) -> u64
+    ensures { result ≡ thread_id hart.0 }
+{
+    hart.0 as u64 + 1
+}

@@ -1,0 +1,71 @@
+ghost use Rattle.std.specs.Prelude.{◌≡◌, set, replicate};
+ghost use Rattle.guest_calls.specs.declared.hart.HartStatus.TheVariants.{Gone};
+ghost use Rattle.guest_calls.specs.Answering.{after_call, with_result};
+ghost use Rattle.guest_calls.specs.Guest.{hart_from, is_gone_status};
+
+use coz_types::Address;
+use rv_execute::HartState;
+
+/// What a hart does.
+#[derive(Clone, Copy, Debug, PartialEq, Eq)]
+pub enum HartStatus {
+    Running,
+    Waiting,
+    Gone,
+}
+
+/// A hart that was made.
+#[derive(Clone, Copy, Debug)]
+pub struct Hart {
+    pub state: HartState,
+    pub status: HartStatus,
+    /// The address that is cleared as it leaves, or 0.
+    pub clear: Address,
+}
+
+impl Hart {
+    /// A program's first hart.
+    pub fn first(stack_pointer: Address, entry: Address) -> Hart
+        ensures { result ≡ hart_from (record { registers = set (replicate 32 0) 2 stack_pointer; pc = entry }) 0 }
+    {
+        let mut registers = [0; 32];
+        registers[2] = stack_pointer;
+        Hart {
+            state: HartState {
+                registers,
+                pc: entry,
+            },
+            status: HartStatus::Running,
+            clear: 0,
+        }
+    }
+
+    pub fn is_gone(&self) -> bool
+        ensures { result ≡ is_gone_status self.now.status }
+    {
+        matches!(self.status, HartStatus::Gone)
+    }
+
+    /// Moves the pc behind the call.
+    pub fn proceed(&mut self)
+        ensures { self.new ≡ record self.old { state = after_call self.old.state } }
+    {
+        self.state.pc = self.state.pc.wrapping_add(4);
+    }
+
+    /// Gives the call's answer to the hart, which goes on behind the call.
+    pub fn answer(&mut self, value: u64)
+        ensures { self.new ≡ record self.old { state = with_result value self.old.state } }
+    {
+        self.proceed();
+        self.state.registers[10] = value;
+    }
+
+    /// The hart is gone, behind the call.
+    pub fn leave(&mut self)
+        ensures { self.new ≡ record self.old { state = after_call self.old.state; status = Gone } }
+    {
+        self.proceed();
+        self.status = HartStatus::Gone;
+    }
+}

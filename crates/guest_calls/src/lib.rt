@@ -1,0 +1,175 @@
+//! A guest: its harts, its memory and its system calls (Linux on riscv64).
+#![tactic(auto)]
+
+mod calls;
+mod hart;
+mod output;
+mod pieces;
+#[cfg(test)]
+mod tests;
+
+ghost use Rattle.std.specs.Prelude.{◌≡◌, ◌≤◌, [], length, IfOk, IsTrue};
+ghost use Rattle.std.specs.Result.{result_ok};
+ghost use Rattle.guest_memory.specs.Regions.{IsLayout};
+ghost use Rattle.guest_calls.specs.Guest.{IsMade, is_running, pc_of, hart_at, first_guest};
+ghost use Rattle.guest_calls.specs.Calls.{retirement};
+ghost use Rattle.guest_calls.specs.Retire.{word_at, next_of, stepped, step, trap_of, retire};
+
+use crate::hart::Hart;
+use crate::output::Output;
+use coz_types::{Address, Ending, HartId, Image, Tick, Trap, TrapCause};
+use guest_areas::Areas;
+use guest_futex::HartList;
+use guest_memory::{Access, Layout, Memory};
+pub use hart::HartStatus;
+pub use machines::Fate;
+use rv_decode::{Instr, decode};
+use rv_execute::{Reservations, Step, execute};
+use std::alloc::{AllocError, Global};
+use std::marker::Model;
+
+/// The harts that may be made in a run.
+const HARTS: usize = 256;
+
+/// A guest. All its room is taken when it is made.
+#[derive(Drop)]
+pub struct Guest<'a> {
+    harts: Vec<Hart>,
+    memory: Memory,
+    areas: Areas,
+    reservations: Reservations,
+    /// The input that is left.
+    input: &'a [u8],
+    output: Output,
+}
+
+impl<'a> Model for Guest<'a> {
+    ghost use Rattle.guest_calls.specs.Guest.{Guest};
+
+    ghost Value = { Guest };
+
+    ghost use Rattle.guest_calls.specs.Kept.{guest_of, IsKept};
+
+    ghost view = { λ g. guest_of g.harts.items g.areas g.memory g.reservations g.input.now g.output };
+
+    ghost invariant = { λ g. IsKept g.harts.items g.areas g.memory };
+}
+
+impl<'a> Guest<'a> {
+    /// The guest that begins to run an image, with its first hart at the entry. The output's limit is from 1 to
+    /// 67,108,864 bytes.
+    pub fn new(
+        alloc: Global,
+        image: &'a Image<'a>,
+        input: &'a [u8],
+        output_limit: u64,
+        layout: Layout,
+    ) -> Result<Guest<'a>, AllocError>
+        requires some_output { 1 ≤ output_limit }
+        requires output { output_limit ≤ 67108864 }
+        requires layout { IsLayout layout }
+        ensures { IfOk result (λ guest. guest ≡ first_guest image.now input.now output_limit layout) }
+    {
+        let mut memory = Memory::new(alloc, image, layout)?;
+        let areas = Areas::new(alloc, &mut memory, image)?;
+        let mut harts = Vec::with_capacity(alloc, HARTS)?;
+        harts.push(Hart::first(areas.stack_pointer(), image.entry()))?;
+        let output = Output::new(alloc, output_limit as usize)?;
+        Ok(Guest {
+            harts,
+            memory,
+            areas,
+            reservations: Reservations::new(),
+            input,
+            output,
+        })
+    }
+
+    /// The next instruction of a hart that was made, or none where it can't be fetched or is not supported.
+    pub fn next(&self, hart: HartId) -> Option<Instr>
+        requires { IsMade self.now hart.0 }
+        ensures { result ≡ next_of self.now hart.0 }
+    {
+        match self.word(hart) {
+            Ok(word) => decode(word),
+            Err(_) => None,
+        }
+    }
+
+    /// The address of that instruction.
+    pub fn pc(&self, hart: HartId) -> Address
+        requires { IsMade self.now hart.0 }
+        ensures { result ≡ pc_of self.now hart.0 }
+    {
+        self.hart(hart).state.pc
+    }
+
+    /// How many harts were made.
+    pub fn harts(&self) -> u32
+        ensures { result ≡ length self.now.harts }
+    {
+        self.harts.len() as u32
+    }
+
+    /// The bytes that were written so far.
+    pub fn output(&self) -> &[u8]
+        ensures { result.now ≡ self.now.output }
+    {
+        self.output.bytes()
+    }
+
+    /// Retires the next instruction of a running hart, at a net time. `started` gets the harts that it makes or wakes,
+    /// in order.
+    pub fn retire(&mut self, hart: HartId, net: Tick, started: &mut HartList) -> Fate
+        requires running { IsTrue (is_running self.old hart.0) }
+        requires started { started.old ≡ [] }
+        ensures { retirement self.new result started.new ≡ retire self.old hart.0 net }
+    {
+        match self.step(hart) {
+            Step::Next => Fate::Goes,
+            Step::Call => self.call(hart, net, started),
+            Step::Fault(cause) => self.trap(hart, cause),
+        }
+    }
+
+    fn hart(&self, hart: HartId) -> &Hart
+        requires { IsMade self.now hart.0 }
+        ensures { result.now ≡ hart_at self.now hart.0 }
+    {
+        &self.harts[hart.0 as usize]
+    }
+
+    /// Executes a hart's next instruction.
+    fn step(&mut self, hart: HartId) -> Step
+        requires { IsMade self.old hart.0 }
+        ensures { stepped self.new result ≡ step self.old hart.0 }
+    {
+        let Ok(word) = self.word(hart) else {
+            return Step::Fault(TrapCause::Fetch);
+        };
+        let Some(instr) = decode(word) else {
+            return Step::Fault(TrapCause::Illegal);
+        };
+        let state = &mut self.harts[hart.0 as usize].state;
+        execute(state, hart, &mut self.memory, &mut self.reservations, instr)
+    }
+
+    /// The word at a hart's pc.
+    fn word(&self, hart: HartId) -> Result<u32, Access>
+        requires { IsMade self.now hart.0 }
+        ensures { result_ok result ≡ word_at self.now hart.0 }
+    {
+        self.memory.fetch(self.pc(hart))
+    }
+
+    fn trap(&self, hart: HartId, cause: TrapCause) -> Fate
+        requires { IsMade self.now hart.0 }
+        ensures { result ≡ trap_of self.now hart.0 cause }
+    {
+        Fate::Ends(Ending::Trapped(Trap {
+            cause,
+            hart,
+            pc: self.pc(hart),
+        }))
+    }
+}

@@ -1,0 +1,77 @@
+//! The pieces of a vectored read or write.
+ghost use Rattle.std.specs.Prelude.{◌≡◌, ◌≤◌, ◌+◌, ◌*◌, ◌^◌, IsTrue};
+ghost use Rattle.guest_memory.specs.Memory.{is_readable, number_at};
+ghost use Rattle.guest_calls.specs.Calls.{piece_at, pieces_at, filled, is_each_readable, is_each_writable};
+
+use arrayvec::ArrayVec;
+use coz_types::Address;
+use guest_memory::Memory;
+
+/// The pieces that one call may name (Linux: UIO_MAXIOV).
+pub const PIECES: usize = 1024;
+
+/// So many bytes at an address.
+#[derive(Clone, Copy, Debug, Default)]
+pub struct Piece {
+    pub address: Address,
+    pub length: u64,
+}
+
+fn number(memory: &Memory, address: Address) -> u64
+    requires { IsTrue (is_readable memory.now address 8) }
+    ensures { result ≡ number_at memory.now address 8 }
+{
+    let Ok(number) = memory.load(address, 8) else {
+        unreachable!()
+    };
+    number
+}
+
+/// The piece that the pair at an address names.
+fn piece_at(memory: &Memory, address: Address) -> Piece
+    requires named { IsTrue (is_readable memory.now address 16) }
+    requires low { address + 16 ≤ 2 ^ 64 }
+    ensures { result ≡ piece_at memory.now address }
+{
+    Piece {
+        address: number(memory, address),
+        length: number(memory, address + 8),
+    }
+}
+
+/// The pieces that so many pairs at an address name, each an address and a length of 8 bytes.
+pub fn pieces_at(memory: &Memory, address: Address, count: u64) -> ArrayVec<Piece, PIECES>
+    requires few { count ≤ 1024 }
+    requires named { IsTrue (is_readable memory.now address (16 * count)) }
+    requires low { address + 16 * count ≤ 2 ^ 64 }
+    ensures { result.items ≡ pieces_at memory.now address count }
+{
+    let mut pieces = ArrayVec::new();
+    for i in 0..count {
+        pieces.push(piece_at(memory, address + 16 * i));
+    }
+    pieces
+}
+
+pub fn are_readable(memory: &Memory, pieces: &[Piece]) -> bool
+    ensures { result ≡ is_each_readable memory.now pieces.now }
+{
+    pieces
+        .iter()
+        .all(|piece| memory.readable(piece.address, piece.length))
+}
+
+/// Whether so many bytes may fill the pieces in order.
+pub fn are_writable(memory: &Memory, pieces: &[Piece], count: u64) -> bool
+    ensures { result ≡ is_each_writable memory.now (filled pieces.now count) }
+{
+    let mut left = count;
+    for piece in pieces {
+        let count = piece.length.min(left);
+        if !memory.writable(piece.address, count) {
+            return false;
+        }
+        left -= count;
+    }
+    true
+}

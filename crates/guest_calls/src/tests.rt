@@ -1,0 +1,161 @@
+ghost use Rattle.std.specs.Prelude.{IsTrue};
+ghost use Rattle.guest_calls.specs.Guest.{is_running};
+
+use super::*;
+use coz_types::{Area, Rights};
+use std::test::Fail;
+
+const FILE: [u8; 4] = [0x73, 0, 0, 0];
+
+/// Three pairs, of 3 bytes on the stack, of 1 byte of the text, and of 1 byte at 0; and `hello`.
+const INPUT: [u8; 53] = [
+    0, 1, 0xFF, 0xFF, 0x3F, 0, 0, 0, 3, 0, 0, 0, 0, 0, 0, 0, 0, 0, 1, 0, 0, 0, 0, 0, 1, 0, 0, 0, 0,
+    0, 0, 0, 0, 0, 0, 0, 0, 0, 0, 0, 1, 0, 0, 0, 0, 0, 0, 0, 0x68, 0x65, 0x6C, 0x6C, 0x6F,
+];
+
+const TEXT: Address = 0x10000;
+
+const BRK: Address = 0x20_0000_0000;
+
+const MAP: Address = 0x21_0000_0000;
+
+const STACK: Address = 0x3F_FFFF_0000;
+
+impl<'a> Guest<'a> {
+    fn runs(&self) -> bool
+        ensures { IsTrue result → IsTrue (is_running self.now 0) }
+    {
+        !self.harts.is_empty() && matches!(self.harts[0].status, HartStatus::Running)
+    }
+
+    /// What becomes of the first hart as it makes a call, and its a0 then.
+    fn ask(&mut self, number: u64, arguments: [u64; 4]) -> Option<(Fate, i64)> {
+        if self.harts.is_empty() {
+            return None;
+        }
+        let state = &mut self.harts[0].state;
+        state.pc = TEXT;
+        state.registers[17] = number;
+        state.registers[10] = arguments[0];
+        state.registers[11] = arguments[1];
+        state.registers[12] = arguments[2];
+        state.registers[13] = arguments[3];
+        if !self.runs() {
+            return None;
+        }
+        let fate = self.retire(HartId(0), 0, &mut HartList::new());
+        if self.harts.is_empty() {
+            return None;
+        }
+        Some((fate, self.harts[0].state.registers[10].cast_signed()))
+    }
+}
+
+#[test]
+fn calls_answer_by_their_rows(rt: HostRuntime) -> Result<(), Fail> {
+    let rights = Rights {
+        read: true,
+        write: false,
+        execute: true,
+    };
+    let area = Area {
+        start: TEXT,
+        size: 4096,
+        rights,
+        vaddr: TEXT,
+        offset: 0,
+        filled: 4,
+    };
+    let image = Image::new(&FILE, vec![in rt.alloc(); area]?, TEXT, 0, 1);
+    let mut guest = Guest::new(rt.alloc(), &image, &INPUT, 5, Layout::usual())?;
+    assert_eq!(rt; guest.harts(), 1);
+    for (number, arguments, wanted) in [
+        // ioctl and lseek
+        (29, [0, 0, 0, 0], -25),
+        (29, [3, 0, 0, 0], -9),
+        (62, [2, 0, 0, 0], -29),
+        (62, [3, 0, 0, 0], -9),
+        // read: its file, its rights, and no bytes
+        (63, [1, STACK, 1, 0], -9),
+        (63, [0, TEXT, 1, 0], -14),
+        (63, [0, TEXT, 0, 0], 0),
+        (63, [0, STACK, 48, 0], 48),
+        // readv: a part that may not be written leaves all as it is
+        (65, [1, STACK, 1, 0], -9),
+        (65, [0, STACK, 1025, 0], -22),
+        (65, [0, 0, 1, 0], -14),
+        (65, [0, u64::MAX, 1, 0], -14),
+        (65, [0, STACK, 2, 0], -14),
+        (65, [0, 0, 0, 0], 0),
+        (65, [0, STACK, 1, 0], 3),
+        (65, [0, STACK, 2, 0], 2),
+        (63, [0, TEXT, 100, 0], 0),
+        // write and writev: the limit is 5
+        (64, [0, STACK, 1, 0], -9),
+        (64, [1, 0, 1, 0], -14),
+        (64, [1, STACK, u64::MAX, 0], -14),
+        (64, [1, STACK + 0x100, 1, 0], 1),
+        (66, [0, STACK, 1, 0], -9),
+        (66, [1, STACK, 1025, 0], -22),
+        (66, [1, 0, 1, 0], -14),
+        (66, [1, STACK, 3, 0], -14),
+        (66, [2, STACK, 1, 0], 3),
+        (66, [1, STACK, 2, 0], 4),
+        (64, [2, STACK, 100, 0], 100),
+        // set_tid_address, sched_yield, getpid and gettid
+        (96, [STACK, 0, 0, 0], 1),
+        (124, [0, 0, 0, 0], 0),
+        (172, [0, 0, 0, 0], 1),
+        (178, [0, 0, 0, 0], 1),
+        // rt_sigprocmask
+        (135, [0, 0, STACK, 7], -22),
+        (135, [0, 0, 0, 8], 0),
+        (135, [0, 0, TEXT, 8], -14),
+        (135, [0, 0, STACK, 8], 0),
+        // brk
+        (214, [0, 0, 0, 0], 0x20_0000_0000),
+        (214, [BRK + 5000, 0, 0, 0], 0x20_0000_1388),
+        (214, [BRK + 0x100_0001, 0, 0, 0], 0x20_0000_1388),
+        // mmap, munmap and mremap
+        (222, [0, 8192, 3, 0x22], 0x21_0000_0000),
+        (222, [0, 0, 3, 0x22], -22),
+        (222, [0, 1, 4, 0x22], -13),
+        (222, [0, u64::MAX, 3, 0x22], -12),
+        (215, [MAP + 1, 1, 0, 0], -22),
+        (215, [MAP, 1, 0, 0], 0),
+        (216, [0, 0, 0, 0], -12),
+        // mprotect and madvise
+        (226, [MAP + 0x1000, 4096, 1, 0], 0),
+        (226, [MAP, 8192, 1, 0], -12),
+        (233, [0, 0, 0, 0], -22),
+    ] {
+        let got = guest.ask(number, arguments);
+        assert_eq!(rt;
+            got,
+            Some((Fate::Goes, wanted)),
+            "{number} of {arguments:?}"
+        );
+    }
+    assert_eq!(rt; guest.output(), b"lloll".as_slice());
+
+    // What is not supported leaves the guest as it is; the last hart's exit ends the run.
+    for (number, arguments, wanted) in [
+        (98, [STACK, 0, 0, 0], Ending::Unsupported(98)),
+        (220, [0x10F00, 0, 0, 0], Ending::Unsupported(220)),
+        (222, [0, 1, 3, 0x20], Ending::Unsupported(222)),
+        (222, [0, 1, 3, 0x32], Ending::Unsupported(222)),
+        (1000, [0, 0, 0, 0], Ending::Unsupported(1000)),
+        (94, [0x107, 0, 0, 0], Ending::Exited(7)),
+        (93, [0x108, 0, 0, 0], Ending::Exited(8)),
+    ] {
+        let got = guest.ask(number, arguments);
+        let first = arguments[0].cast_signed();
+        assert_eq!(rt;
+            got,
+            Some((Fate::Ends(wanted), first)),
+            "{number} of {arguments:?}"
+        );
+    }
+    assert_eq!(rt; guest.ask(178, [0, 0, 0, 0]), None);
+    Ok(())
+}
