@@ -1,16 +1,18 @@
 -- A verdict of 0 or 1 prints a run whose net part is the shortened run.
-use Rattle.std.proofs.Common.{◌≡◌, ℕ, ◌-◌, ◌≤◌, IfSome, List, [], ◌∷◌, ◌++◌, length, map, codes, Option, Some, None, true, false, Bool, cond, nat_lt, refl, sym, ap, subst, ◌∙◌, arith}
+use Rattle.std.proofs.Common.{◌≡◌, ℕ, ◌-◌, ◌≤◌, IfSome, List, [], ◌∷◌, ◌++◌, length, map, codes, Option, Some, None, Result, Ok, Err, true, false, Bool, cond, nat_lt, refl, sym, ap, subst, ◌∙◌, arith}
 use Rattle.coz_types.specs.Image.{ImageParts}
 use Rattle.coz_files.specs.Held.{Held, file_at}
+use Rattle.elf_load.specs.declared.ElfFault.{ElfFault}
+use Rattle.elf_load.specs.Loaded.{loaded}
 use Rattle.machines.specs.Shortened.{NetVisit}
 use Rattle.machines.specs.Records.{NetRecord, IsShortened, shortened_record}
-use Rattle.virtual_run.specs.PlainFile.{plain_image}
+use Rattle.run_words.specs.Request.{Asked}
 use Rattle.virtual_run.specs.Run.{experiment}
 use Rattle.virtual_run.proofs.Law.{shortened_is}
 use Rattle.coz_cli.specs.Words.{request_of}
-use Rattle.coz_cli.specs.Record.{net, net_visit, undelayed, undelayed_visit, run_budget, run_of}
-use Rattle.coz_cli.specs.Verdict.{refused, verdict, request_verdict, file_verdict, program_verdict}
-use Rattle.coz_cli.specs.Headline.{PrintsShortened}
+use Rattle.coz_cli.specs.Record.{net, net_visit, undelayed, undelayed_visit, run_of}
+use Rattle.coz_cli.specs.Verdict.{Verdict, refused, verdict, request_verdict, read_verdict, input_verdict, loaded_verdict}
+use Rattle.coz_cli.specs.Headline.{PrintsShortened, IsInput}
 
 same_visit : (v : NetVisit) → net_visit (undelayed_visit v) ≡ v
 same_visit v =
@@ -28,42 +30,77 @@ net-undelayed r =
     ap (λ (n : ℕ). record { ending = r.ending; time = n; retired = r.retired; starts = r.starts; output = r.output; visits = map net_visit (map undelayed_visit r.visits) }) time
     ∙ ap (λ (vs : List NetVisit). record { ending = r.ending; time = r.time; retired = r.retired; starts = r.starts; output = r.output; visits = vs }) (same_visits r.visits)
 
-shortened_run : (image : ImageParts) → IsShortened (experiment image run_budget) (net (run_of image))
+shortened_run : (image : ImageParts) (input : List ℕ) (budget : ℕ) → 1 ≤ budget → IsShortened (experiment image input budget) (net (run_of image input budget))
 unfolding run_of
-shortened_run image =
-    subst (IsShortened (experiment image run_budget)) (sym (net-undelayed (shortened_record (experiment image run_budget)))) (shortened_is image run_budget (omega arith))
+shortened_run image input budget some =
+    subst (IsShortened (experiment image input budget)) (sym (net-undelayed (shortened_record (experiment image input budget)))) (shortened_is image input budget some)
 
--- at a program that runs
-program_prints : (words : List (List ℕ)) (held : Held) (path file : List ℕ) → request_of words ≡ Some path → file_at held path ≡ Some file → (found : Option ImageParts) → plain_image file ≡ found → (verdict words held).text ≡ (program_verdict found).text → (program_verdict found).status ≤ 1 → PrintsShortened words held
-program_prints words held path file named is None e printed low = absurd (omega arith)
-program_prints words held path file named is (Some image) e printed low = record {
-  path = path;
+-- the words, and the file that they name
+record IsNamed (words : List (List ℕ)) (held : Held) (asked : Asked) (file : List ℕ) : Type 0 where
+  named : request_of words ≡ Some asked
+  found : file_at held asked.target ≡ Some file
+  some_budget : 1 ≤ asked.budget
+
+-- at a program that runs on this input
+loaded_prints : (words : List (List ℕ)) (held : Held) (asked : Asked) (file input : List ℕ) → IsNamed words held asked file → IsInput held asked.input input → (found : Result ImageParts ElfFault) → loaded file ≡ found → (verdict words held).text ≡ (loaded_verdict input asked.budget found).text → (loaded_verdict input asked.budget found).status ≤ 1 → PrintsShortened words held
+loaded_prints words held asked file input is given (Err fault) e printed low = absurd (omega arith)
+loaded_prints words held asked file input is given (Ok image) e printed low = record {
+  asked = asked;
   file = file;
+  input = input;
   image = image;
-  run = run_of image;
-  named = named;
-  found = is;
+  run = run_of image input asked.budget;
+  named = is.named;
+  found = is.found;
+  given = given;
   program = e;
   printed = printed;
-  shortened = shortened_run image;
+  shortened = shortened_run image input asked.budget is.some_budget;
 }
 
--- at a file that is short enough
-short_prints : (words : List (List ℕ)) (held : Held) (path file : List ℕ) → request_of words ≡ Some path → file_at held path ≡ Some file → (long : Bool) → (verdict words held).text ≡ (cond long (refused 8 (codes "coz: long: " ++ path)) (program_verdict (plain_image file))).text → (cond long (refused 8 (codes "coz: long: " ++ path)) (program_verdict (plain_image file))).status ≤ 1 → PrintsShortened words held
-short_prints words held path file named is true printed low = absurd (omega arith)
-short_prints words held path file named is false printed low = program_prints words held path file named is (plain_image file) refl printed low
+-- of a file that is there and short enough, the verdict is what follows
+short_enough : (most : ℕ) (path file : List ℕ) (next : List ℕ → Verdict) (long : Bool) → (cond long (refused 8 (codes "coz: long: " ++ path)) (next file)).status ≤ 1 → cond long (refused 8 (codes "coz: long: " ++ path)) (next file) ≡ next file
+short_enough most path file next true low = absurd (omega arith)
+short_enough most path file next false low = refl
 
-file_prints : (words : List (List ℕ)) (held : Held) (path : List ℕ) → request_of words ≡ Some path → (file : Option (List ℕ)) → file_at held path ≡ file → (verdict words held).text ≡ (file_verdict path file).text → (file_verdict path file).status ≤ 1 → PrintsShortened words held
-file_prints words held path named None is printed low = absurd (omega arith)
-file_prints words held path named (Some file) is printed low = short_prints words held path file named is (nat_lt 33554432 (length file)) printed low
+record IsRead (most : ℕ) (path : List ℕ) (found : Option (List ℕ)) (next : List ℕ → Verdict) : Type 0 where
+  file : List ℕ
+  is : found ≡ Some file
+  same : read_verdict most path found next ≡ next file
 
-request_prints : (words : List (List ℕ)) (held : Held) (request : Option (List ℕ)) → request_of words ≡ request → (request_verdict request held).status ≤ 1 → PrintsShortened words held
-request_prints words held None named low = absurd (omega arith)
-request_prints words held (Some path) named low =
-    file_prints words held path named (file_at held path) refl (ap (λ (request : Option (List ℕ)). (request_verdict request held).text) named) low
+read_is : (most : ℕ) (path : List ℕ) (found : Option (List ℕ)) (next : List ℕ → Verdict) → (read_verdict most path found next).status ≤ 1 → IsRead most path found next
+read_is most path None next low = absurd (omega arith)
+read_is most path (Some file) next low = record { file = file; is = refl; same = short_enough most path file next (nat_lt most (length file)) low }
 
-pub run_prints : (words : List (List ℕ)) (held : Held) → (verdict words held).status ≤ 1 → PrintsShortened words held
-run_prints words held low = request_prints words held (request_of words) refl low
+low_of : (v w : Verdict) → v ≡ w → v.status ≤ 1 → w.status ≤ 1
+low_of v w same low = subst (λ (x : Verdict). x.status ≤ 1) same low
+
+text_of : (v w : Verdict) → v ≡ w → v.text ≡ w.text
+text_of v w same = ap (λ (x : Verdict). x.text) same
+
+input_prints : (words : List (List ℕ)) (held : Held) (asked : Asked) (file : List ℕ) → IsNamed words held asked file → (input : Option (List ℕ)) → asked.input ≡ input → (verdict words held).text ≡ (input_verdict asked input held file).text → (input_verdict asked input held file).status ≤ 1 → PrintsShortened words held
+input_prints words held asked file is None none printed low =
+    loaded_prints words held asked file [] is (subst (λ (o : Option (List ℕ)). IsInput held o []) (sym none) refl) (loaded file) refl printed low
+input_prints words held asked file is (Some path) given printed low =
+    let next : List ℕ → Verdict = λ input. loaded_verdict input asked.budget (loaded file) in
+    let read = read_is 16777216 path (file_at held path) next low in
+    loaded_prints words held asked file read.file is
+    (subst (λ (o : Option (List ℕ)). IsInput held o read.file) (sym given) read.is)
+    (loaded file) refl
+    (printed ∙ text_of _ _ read.same)
+    (low_of _ _ read.same low)
+
+request_prints : (words : List (List ℕ)) (held : Held) (request : Option Asked) → request_of words ≡ request → ((asked : Asked) → request ≡ Some asked → 1 ≤ asked.budget) → (request_verdict request held).status ≤ 1 → PrintsShortened words held
+request_prints words held None named some low = absurd (omega arith)
+request_prints words held (Some asked) named some low =
+    let next : List ℕ → Verdict = input_verdict asked asked.input held in
+    let read = read_is 33554432 asked.target (file_at held asked.target) next low in
+    input_prints words held asked read.file (record { named = named; found = read.is; some_budget = some asked refl }) asked.input refl
+    (ap (λ (request : Option Asked). (request_verdict request held).text) named ∙ text_of _ _ read.same)
+    (low_of _ _ read.same low)
+
+pub run_prints : (words : List (List ℕ)) (held : Held) → ((asked : Asked) → request_of words ≡ Some asked → 1 ≤ asked.budget) → (verdict words held).status ≤ 1 → PrintsShortened words held
+run_prints words held some low = request_prints words held (request_of words) refl some low
 
 pub if_some_weaker : {T : Type 0} (o : Option T) (P Q : T → Type 0) → ((x : T) → P x → Q x) → IfSome o P → IfSome o Q
 if_some_weaker None P Q f h = tt

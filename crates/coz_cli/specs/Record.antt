@@ -46,10 +46,6 @@ undelayed r = record {
   output = r.output;
 }
 
--- the instructions that a run may retire
-abbrev pub run_budget : ℕ
-run_budget = 100000000
-
--- what the run of an image comes to: the shortened machine without a selected line
-unfoldable pub run_of : ImageParts → RunParts
-run_of image = undelayed (shortened_record (experiment image run_budget))
+-- what the run of an image on an input comes to within a budget: the shortened machine without a selected line
+unfoldable pub run_of : ImageParts → List ℕ → ℕ → RunParts
+run_of image input budget = undelayed (shortened_record (experiment image input budget))

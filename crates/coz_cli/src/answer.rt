@@ -1,9 +1,9 @@
-ghost use Rattle.std.specs.Prelude.{◌≡◌, ◌≤◌, length, [], IfSome, IfNone};
+ghost use Rattle.std.specs.Prelude.{◌≡◌, ◌≤◌, ◌^◌, length, [], IfSome, IfNone};
 ghost use Rattle.coz_files.specs.Faults.{Rose};
 ghost use Rattle.coz_cli.specs.Words.{bytes_of, request_of};
 ghost use Rattle.coz_cli.specs.Record.{run_of};
-ghost use Rattle.coz_cli.specs.Verdict.{verdict, ending_status, program_verdict, run_verdict};
-ghost use Rattle.virtual_run.specs.PlainFile.{plain_image};
+ghost use Rattle.coz_cli.specs.Verdict.{verdict, ending_status, loaded_verdict, run_verdict};
+ghost use Rattle.elf_load.specs.Loaded.{loaded};
 ghost use Rattle.coz_cli.specs.Answer.{answered, IsMemory, IsRead, Suits, Settles};
 
 use crate::record::RunRecord;
@@ -11,20 +11,21 @@ use crate::text::run_text;
 use crate::words::request;
 use coz_files::{FileAnswer, Files};
 use coz_types::{Account, Ending, Image, Outcome};
+use elf_load::{ElfFault, LoadError, load};
 use std::alloc::Global;
-use virtual_run::{Plain, PlainError, plain};
+use virtual_run::Plain;
 
 /// The most bytes of a program's file.
 const MAX_PROGRAM: u64 = 33554432;
 
-/// The most instructions that a run retires.
-const BUDGET: u64 = 100000000;
+/// The most bytes of an input.
+const MAX_INPUT: u64 = 16777216;
 
 /// Why nothing is printed.
 #[derive(Clone, Copy)]
 pub enum Fault<'a> {
     Usage,
-    Program,
+    Program(ElfFault),
     Read(&'a str),
     Write,
     Long(&'a str),
@@ -38,7 +39,7 @@ pub enum Answer<'a> {
     Refused(Fault<'a>),
 }
 
-/// What the words come to, and the file that they name.
+/// What the words come to, and the files that they name.
 pub fn judge<'a, F: Files>(alloc: Global, words: &'a [String], files: &mut F) -> Answer<'a>
     ensures same { F.held files.new ≡ F.held files.old }
     ensures suits { Suits (request_of (bytes_of words.now)) result }
@@ -47,12 +48,22 @@ pub fn judge<'a, F: Files>(alloc: Global, words: &'a [String], files: &mut F) ->
     ensures untold { IsRead result → IfNone (F.held files.old) (Rose (F.faults files.old) (F.faults files.new)) }
     ensures no_fault { (IsRead result → ⊥) → F.faults files.new ≡ F.faults files.old }
 {
-    let Some(path) = request(words) else {
+    let Some(request) = request(words) else {
         return Answer::Refused(Fault::Usage);
     };
     let mut file = Vec::new(alloc);
-    match files.read_whole(path, MAX_PROGRAM, &mut file) {
-        FileAnswer::Whole => program_answer(alloc, &file),
+    match files.read_whole(request.target, MAX_PROGRAM, &mut file) {
+        FileAnswer::Whole => {}
+        FileAnswer::Longer => return Answer::Refused(Fault::Long(request.target)),
+        FileAnswer::Failed => return Answer::Refused(Fault::Read(request.target)),
+        FileAnswer::Memory => return Answer::Refused(Fault::Memory),
+    }
+    let Some(path) = request.input else {
+        return program_answer(alloc, &file, &[], request.budget);
+    };
+    let mut input = Vec::new(alloc);
+    match files.read_whole(path, MAX_INPUT, &mut input) {
+        FileAnswer::Whole => program_answer(alloc, &file, &input, request.budget),
         FileAnswer::Longer => Answer::Refused(Fault::Long(path)),
         FileAnswer::Failed => Answer::Refused(Fault::Read(path)),
         FileAnswer::Memory => Answer::Refused(Fault::Memory),
@@ -60,25 +71,28 @@ pub fn judge<'a, F: Files>(alloc: Global, words: &'a [String], files: &mut F) ->
 }
 
 /// What is written of the program that a file is, if it is one.
-fn program_answer<'a>(alloc: Global, file: &[u8]) -> Answer<'a>
-    requires { length file.now ≤ 33554432 }
+fn program_answer<'a>(alloc: Global, file: &[u8], input: &[u8], budget: u64) -> Answer<'a>
+    requires some_budget { 1 ≤ budget }
+    requires small_budget { budget ≤ 10 ^ 12 }
     ensures no_read { IsRead result → ⊥ }
-    ensures settled { (IsMemory result → ⊥) → answered result ≡ program_verdict (plain_image file.now) }
+    ensures settled { (IsMemory result → ⊥) → answered result ≡ loaded_verdict input.now budget (loaded file.now) }
 {
-    match plain(alloc, file) {
-        Ok(image) => run_answer(alloc, &image),
-        Err(PlainError::Unbuilt) => Answer::Refused(Fault::Program),
-        Err(PlainError::Memory) => Answer::Refused(Fault::Memory),
+    match load(alloc, file) {
+        Ok(image) => run_answer(alloc, &image, input, budget),
+        Err(LoadError::Fault(fault)) => Answer::Refused(Fault::Program(fault)),
+        Err(LoadError::Memory) => Answer::Refused(Fault::Memory),
     }
 }
 
 /// What is written of a program's run.
 #[tactic(auto, unfolding(crate::specs::Record::run_of))]
-fn run_answer<'a>(alloc: Global, image: &Image) -> Answer<'a>
+fn run_answer<'a>(alloc: Global, image: &Image, input: &[u8], budget: u64) -> Answer<'a>
+    requires some_budget { 1 ≤ budget }
+    requires small_budget { budget ≤ 10 ^ 12 }
     ensures no_read { IsRead result → ⊥ }
-    ensures settled { (IsMemory result → ⊥) → answered result ≡ run_verdict (run_of image.now) }
+    ensures settled { (IsMemory result → ⊥) → answered result ≡ run_verdict (run_of image.now input.now budget) }
 {
-    let mut machine = match Plain::new(alloc, image, &[], BUDGET) {
+    let mut machine = match Plain::new(alloc, image, input, budget) {
         Ok(machine) => machine,
         Err(_) => return Answer::Refused(Fault::Memory),
     };

@@ -52,13 +52,24 @@ fn held(alloc: Global, path: &str, bytes: Vec<u8>) -> Result<HeldFile, AllocErro
     })
 }
 
-/// The programs, their headers alone, and a file of this length.
+/// A program whose header flags compressed instructions.
+fn compressed(alloc: Global) -> Result<Vec<u8>, AllocError> {
+    let mut file = Vec::new(alloc);
+    file.extend_from_slice(&HEADERS[..48])?;
+    file.push(1)?;
+    file.extend_from_slice(&HEADERS[49..])?;
+    Ok(file)
+}
+
+/// The programs, headers alone, an input, and a file of this length.
 fn files(alloc: Global, fails: &[u64], length: usize) -> Result<MemoryFiles, AllocError> {
     let mut held_files = Vec::new(alloc);
     for (path, text) in &TEXTS {
         held_files.push(held(alloc, path, program(alloc, text)?)?)?;
     }
     held_files.push(held(alloc, "headers", HEADERS.to_vec(alloc)?)?)?;
+    held_files.push(held(alloc, "compressed", compressed(alloc)?)?)?;
+    held_files.push(held(alloc, "data", b"five".to_vec(alloc)?)?)?;
     held_files.push(held(alloc, "big", vec![in alloc; 0u8; length]?)?)?;
     Ok(MemoryFiles::new(held_files, fails.to_vec(alloc)?))
 }
@@ -123,6 +134,9 @@ const MISALIGNED: &[u8] =
 const ACCESS: &[u8] =
     b"end trapped:access:0:0x10000\ntime 300\ndelay 0\nnet 300\nretired 1\nstarts 0\nhart 0 own 0 paused 0 credited 0\noutput 0\n\n";
 
+const SPENT: &[u8] =
+    b"end spent\ntime 200\ndelay 0\nnet 200\nretired 2\nstarts 0\nhart 0 own 0 paused 0 credited 0\noutput 0\n\n";
+
 #[test]
 fn each_status_is_met(rt: HostRuntime) -> Result<(), Fail> {
     let cases = [
@@ -138,7 +152,39 @@ fn each_status_is_met(rt: HostRuntime) -> Result<(), Fail> {
         plain_case(&["run", "-one"], 2, b"", b"coz: usage\n"),
         plain_case(&["run", "one", "other"], 2, b"", b"coz: usage\n"),
         plain_case(&["walk", "one"], 2, b"", b"coz: usage\n"),
-        plain_case(&["run", "headers"], 3, b"", b"coz: program: Unbuilt at 0\n"),
+        plain_case(
+            &["run", "headers"],
+            3,
+            b"",
+            b"coz: program: HeaderOut at 64\n",
+        ),
+        plain_case(
+            &["run", "compressed"],
+            3,
+            b"",
+            b"coz: program: Compressed at 48\n",
+        ),
+        plain_case(&["run", "--", "one"], 0, ONE, b""),
+        plain_case(
+            &["run", "--budget=3", "one", "--input", "data"],
+            0,
+            ONE,
+            b"",
+        ),
+        plain_case(&["run", "one", "--budget", "2"], 1, SPENT, b""),
+        plain_case(
+            &["run", "one", "--input", "absent"],
+            5,
+            b"",
+            b"coz: read: absent\n",
+        ),
+        plain_case(
+            &["run", "one", "--input", "big"],
+            8,
+            b"",
+            b"coz: long: big\n",
+        ),
+        plain_case(&["run", "one", "--budget", "0"], 2, b"", b"coz: usage\n"),
         plain_case(&["run", "absent"], 5, b"", b"coz: read: absent\n"),
         plain_case(&["run", "big"], 8, b"", b"coz: long: big\n"),
     ];
@@ -154,6 +200,15 @@ fn faults_of_the_outside_are_told(rt: HostRuntime) -> Result<(), Fail> {
         Case {
             read_fails: &[0],
             ..plain_case(&["run", "one"], 5, b"", b"coz: read: one\n")
+        },
+        Case {
+            read_fails: &[1],
+            ..plain_case(
+                &["run", "one", "--input", "data"],
+                5,
+                b"",
+                b"coz: read: data\n",
+            )
         },
         Case {
             put_fails: &[0],

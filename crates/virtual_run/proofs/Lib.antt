@@ -1,4 +1,2 @@
 pub mod Moves
-pub mod PlainFiles
 pub mod Law
-mod Rows

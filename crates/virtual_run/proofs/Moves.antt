@@ -1,122 +1,93 @@
 -- One move of the shortened machine over the guest of one hart.
-use Rattle.std.proofs.Common.{◌≡◌, ℕ, ◌+◌, ◌-◌, ◌*◌, Bool, not, is_some, add-one, true, false, cond, ◌||◌, nat_le, List, [], ◌∷◌, Option, Some, None, refl, ap, sym, subst, ◌∙◌, arith}
+use Rattle.std.proofs.Common.{◌≡◌, ℕ, ◌+◌, ◌-◌, ◌*◌, Bool, not, is_some, add-one, true, false, cond, ◌||◌, nat_le, List, [], ◌∷◌, length, Option, Some, None, refl, ap, sym, subst, ◌∙◌, arith}
 use Rattle.coz_types.specs.declared.ending.Ending.{Ending}
-use Rattle.coz_types.specs.declared.ending.Ending.TheVariants.{Spent}
-use Rattle.coz_types.specs.declared.ending.TrapCause.{TrapCause}
-use Rattle.coz_types.specs.declared.ending.TrapCause.TheVariants.{Fetch, Illegal}
+use Rattle.coz_types.specs.declared.ending.Ending.TheVariants.{OutputFull, Spent}
 use Rattle.machines.specs.declared.Fate.{Fate}
 use Rattle.machines.specs.declared.Fate.TheVariants.{Goes, Waits, Leaves, Ends}
-use Rattle.machines.specs.Guest.{Experiment, Retirement, cost, cut, started, goes_on, own_ending, ending_after}
+use Rattle.machines.specs.Guest.{Experiment, Retirement, cost, cut, started, ending_after}
 use Rattle.machines.specs.Delayed.{is_any}
-use Rattle.machines.specs.Shortened.{Shortened, move, move_by, retire, retirement, leave, ending, begin, over_or, runs_any, unbegun, shortened}
+use Rattle.machines.specs.Shortened as short
+use Rattle.machines.specs.Shortened.{Shortened, move, move_by, retirement, leave, ending, begin, over_or, runs_any, unbegun, shortened}
 use Rattle.cost_table.specs.Costs.{cycles_of}
-use Rattle.rv_decode.specs.declared.Instr.{Instr}
-use Rattle.rv_decode.specs.Instructions.{instruction_of}
-use Rattle.guest_memory.specs.Memory.{fetch}
-use Rattle.rv_execute.specs.declared.hart.Step.{Step}
-use Rattle.rv_execute.specs.declared.hart.Step.TheVariants.{Next, Call, Fault}
-use Rattle.rv_execute.specs.Execution.{Setting, execute}
+use Rattle.guest_calls.specs.Guest.{Guest}
+use Rattle.guest_calls.specs.Retire.{next_of, retire}
 use Rattle.virtual_run.specs.Ending.{ending_of}
-use Rattle.virtual_run.specs.Guest as guest
-use Rattle.virtual_run.specs.Guest.{first_setting}
-use Rattle.virtual_run.specs.Run.{experiment_from, dues_of}
+use Rattle.virtual_run.specs.Run.{experiment_from, dues_of, output_limit}
 
 -- a state of the one hart
-abbrev pub state : ℕ → Setting → List (Option ℕ) → ℕ → Option Ending → Shortened Setting
+abbrev pub state : ℕ → Guest → List (Option ℕ) → ℕ → Option Ending → Shortened Guest
 state time g dues retired e = record { time = time; guest = g; dues = dues; visits = []; retired = retired; starts = 0; ending = e }
 
 -- what a move comes to with a retirement of the hart
-abbrev moved_by : Setting → ℕ → Retirement Setting → ℕ → ℕ → Shortened Setting
+abbrev moved_by : Guest → ℕ → Retirement Guest → ℕ → ℕ → Shortened Guest
 moved_by first budget r due retired =
-    let left : Shortened Setting = state due r.guest (None ∷ []) (retired + 1) None in
+    let left : Shortened Guest = state due r.guest (None ∷ []) (retired + 1) None in
     over_or
     (ending_after (experiment_from first budget) r 0 (is_any (started 0 r) || runs_any (None ∷ [])) (retired + 1))
     left
     (begin (experiment_from first budget) (started 0 r) due left)
 
--- where the budget is not spent, the hart's next instruction begins
-goes : (first : Setting) (budget : ℕ) (g : Setting) (due next retired : ℕ) (spent : Bool) → nat_le budget (retired + 1) ≡ spent
-    → (cond spent (Some Spent) None ≡ None → next ≡ due + 100 * cycles_of (guest.next_of g))
-    → state due g (dues_of (cond spent (Some Spent) None) next) (retired + 1) (cond spent (Some Spent) None) ≡ moved_by first budget (record { guest = g; fate = Goes; others = [] }) due retired
-unfolding begin cost cut ending_after
-goes first budget g due next retired true e starts = rw e refl
-goes first budget g due next retired false e starts =
-    let is : next ≡ due + 100 * cycles_of (guest.next_of g) - 0 = omega (arith, starts refl) in
-    rw e (ap (λ (n : ℕ). state due g (Some n ∷ []) (retired + 1) None) is)
+alone : Guest → Fate → Retirement Guest
+alone g fate = record { guest = g; fate = fate; others = [] }
 
-by_fate : (first : Setting) (budget : ℕ) (g : Setting) (fate : Fate) (due next retired : ℕ)
-    → (ending_of fate (retired + 1) budget ≡ None → next ≡ due + 100 * cycles_of (guest.next_of g))
-    → state due g (dues_of (ending_of fate (retired + 1) budget) next) (retired + 1) (ending_of fate (retired + 1) budget) ≡ moved_by first budget (record { guest = g; fate = fate; others = [] }) due retired
-unfolding begin cost cut ending_after
-by_fate first budget g Goes due next retired starts = goes first budget g due next retired (nat_le budget (retired + 1)) refl starts
-by_fate first budget g Waits due next retired starts = refl
-by_fate first budget g Leaves due next retired starts = refl
-by_fate first budget g (Ends e) due next retired starts = refl
+-- what the code's ending stands for
+ends_as : ℕ → Guest → ℕ → ℕ → ℕ → Option Ending → Shortened Guest
+ends_as due g next retired budget e = state due g (dues_of e next) (retired + 1) e
 
--- a retirement that makes and wakes no hart, and after which the hart goes on or the run ends
-pub record IsAlone (r : Retirement Setting) : Type 0 where
-  pub others : r.others ≡ []
-  pub fate : is_some (own_ending r.fate) ≡ not (goes_on r.fate)
+goes : (first : Guest) (budget : ℕ) (g : Guest) (due next retired : ℕ) (full spent : Bool) → nat_le output_limit (length g.output) ≡ full → nat_le budget (retired + 1) ≡ spent
+    → (cond full (Some OutputFull) (cond spent (Some Spent) None) ≡ None → next ≡ due + 100 * cycles_of (next_of g 0))
+    → ends_as due g next retired budget (cond full (Some OutputFull) (cond spent (Some Spent) None)) ≡ moved_by first budget (alone g Goes) due retired
+unfolding begin cost cut ending_after alone ends_as
+goes first budget g due next retired true spent fills is starts = rw fills refl
+goes first budget g due next retired false true fills is starts = rw (fills, is) refl
+goes first budget g due next retired false false fills is starts =
+    let due_is : next ≡ due + 100 * cycles_of (next_of g 0) - 0 = omega (arith, starts refl) in
+    rw (fills, is) (ap (λ (n : ℕ). state due g (Some n ∷ []) (retired + 1) None) due_is)
 
-going : (g : Setting) → IsAlone (guest.goes g)
-going g = record { others = refl; fate = refl }
+by_fate : (first : Guest) (budget : ℕ) (g : Guest) (fate : Fate) (due next retired : ℕ) (full : Bool) → nat_le output_limit (length g.output) ≡ full
+    → (ending_of fate full (retired + 1) budget ≡ None → next ≡ due + 100 * cycles_of (next_of g 0))
+    → ends_as due g next retired budget (ending_of fate full (retired + 1) budget) ≡ moved_by first budget (alone g fate) due retired
+unfolding begin cost cut ending_after alone ends_as
+by_fate first budget g Goes due next retired full fills starts = goes first budget g due next retired full (nat_le budget (retired + 1)) fills refl starts
+by_fate first budget g Waits due next retired true fills starts = rw fills refl
+by_fate first budget g Waits due next retired false fills starts = rw fills refl
+by_fate first budget g Leaves due next retired true fills starts = rw fills refl
+by_fate first budget g Leaves due next retired false fills starts = rw fills refl
+by_fate first budget g (Ends e) due next retired full fills starts = refl
 
-ending_alone : (g : Setting) (e : Ending) → IsAlone (guest.ends g e)
-ending_alone g e = record { others = refl; fate = refl }
-
-trap_alone : (g : Setting) (pc : ℕ) (cause : TrapCause) → IsAlone (guest.trapped g pc cause)
-trap_alone g pc cause = record { others = refl; fate = refl }
-
-after_alone : (pc : ℕ) (step : Step) (g : Setting) → IsAlone (guest.after pc step g)
-after_alone pc Next g = going g
-after_alone pc Call g = ending_alone g _
-after_alone pc (Fault cause) g = trap_alone g pc cause
-
-decoded_alone : (g : Setting) (i : Option Instr) → IsAlone (elim i as (λ _. Retirement Setting) [ None ↦ guest.trapped g g.hart.pc Illegal | Some instruction ↦ guest.after_execution g.hart.pc (execute 0 instruction g) ])
-decoded_alone g None = trap_alone g _ _
-decoded_alone g (Some i) = after_alone g.hart.pc (execute 0 i g).step (execute 0 i g).setting
-
-fetched_alone : (g : Setting) (word : Option ℕ) → IsAlone (elim word as (λ _. Retirement Setting) [ None ↦ guest.trapped g g.hart.pc Fetch | Some w ↦ elim (instruction_of w) [ None ↦ guest.trapped g g.hart.pc Illegal | Some instruction ↦ guest.after_execution g.hart.pc (execute 0 instruction g) ] ])
-fetched_alone g None = trap_alone g _ _
-fetched_alone g (Some w) = decoded_alone g (instruction_of w)
-
-pub alone : (g : Setting) → IsAlone (guest.retired g)
-alone g = fetched_alone g (fetch g.memory g.hart.pc)
-
-rebuilt : (r : Retirement Setting) (g : Setting) (fate : Fate) → g ≡ r.guest → fate ≡ r.fate → r.others ≡ [] → record { guest = g; fate = fate; others = [] } ≡ r
-rebuilt r g fate guest_is fate_is none =
-    ap (λ (x : Setting). record { guest = x; fate = fate; others = [] }) guest_is
-    ∙ ap (λ (x : Fate). record { guest = r.guest; fate = x; others = [] }) fate_is
-    ∙ ap (λ (x : List ℕ). record { guest = r.guest; fate = r.fate; others = x }) (sym none)
+rebuilt : (r : Retirement Guest) (g : Guest) (fate : Fate) (others : List ℕ) → record { guest = g; fate = fate; others = others } ≡ r → r.others ≡ [] → alone g fate ≡ r
+unfolding alone
+rebuilt r g fate others is none =
+    let empty : others ≡ [] = ap (λ (x : Retirement Guest). x.others) is ∙ none in
+    ap (λ (x : List ℕ). record { guest = g; fate = fate; others = x }) (sym empty) ∙ is
 
 -- a move of the machine where its one hart runs
-pub moved : (first : Setting) (budget : ℕ) (g after : Setting) (fate : Fate) (e : Option Ending) (due next time retired : ℕ)
-    → after ≡ (guest.retired g).guest → fate ≡ (guest.retired g).fate → e ≡ ending_of fate (retired + 1) budget
-    → (e ≡ None → next ≡ due + 100 * cycles_of (guest.next_of after))
+pub moved : (first : Guest) (budget : ℕ) (g after : Guest) (fate : Fate) (others : List ℕ) (full : Bool) (e : Option Ending) (due next time retired : ℕ)
+    → record { guest = after; fate = fate; others = others } ≡ retire g 0 due → (retire g 0 due).others ≡ [] → nat_le output_limit (length after.output) ≡ full → e ≡ ending_of fate full (retired + 1) budget
+    → (e ≡ None → next ≡ due + 100 * cycles_of (next_of after 0))
     → state due after (dues_of e next) (retired + 1) e ≡ move (experiment_from first budget) (state time g (Some due ∷ []) retired None)
-unfolding move move_by retire ending leave retirement guest.retire
-moved first budget g after fate e due next time retired guest_is fate_is e_is starts =
-    let whole : record { guest = after; fate = fate; others = [] } ≡ guest.retired g = rebuilt (guest.retired g) after fate guest_is fate_is (alone g).others in
+unfolding move move_by short.retire ending leave retirement ends_as
+moved first budget g after fate others full e due next time retired is none fills e_is starts =
     subst (λ (o : Option Ending). state due after (dues_of o next) (retired + 1) o ≡ move (experiment_from first budget) (state time g (Some due ∷ []) retired None)) (sym e_is)
-    (by_fate first budget after fate due next retired (λ none. starts (e_is ∙ none))
-    ∙ ap (λ (r : Retirement Setting). moved_by first budget r due retired) whole)
+    (by_fate first budget after fate due next retired full fills (λ n. starts (e_is ∙ n))
+    ∙ ap (λ (r : Retirement Guest). moved_by first budget r due retired) (rebuilt (retire g 0 due) after fate others is none))
 
 -- a state whose run goes on
-pub running : (x : Experiment Setting) (time due retired : ℕ) (g : Setting) (e : Option Ending) → e ≡ None
+pub running : (x : Experiment Guest) (time due retired : ℕ) (g : Guest) (e : Option Ending) → e ≡ None
     → move x (state time g (Some due ∷ []) retired None) ≡ move x (state time g (dues_of e due) retired e)
 running x time due retired g e is = ap (λ (o : Option Ending). move x (state time g (dues_of o due) retired o)) (sym is)
 
 -- before the first move
-pub begun : (first : Setting) (budget due : ℕ) → due ≡ 100 * cycles_of (guest.next_of first) → state 0 first (Some due ∷ []) 0 None ≡ shortened (experiment_from first budget) 0
+pub begun : (first : Guest) (budget due : ℕ) → due ≡ 100 * cycles_of (next_of first 0) → state 0 first (Some due ∷ []) 0 None ≡ shortened (experiment_from first budget) 0
 unfolding shortened begin unbegun cost cut
 begun first budget due is =
-    let whole : due ≡ 0 + 100 * cycles_of (guest.next_of first) - 0 = omega arith in
+    let whole : due ≡ 0 + 100 * cycles_of (next_of first 0) - 0 = omega arith in
     ap (λ (n : ℕ). state 0 first (Some n ∷ []) 0 None) whole
 
 pub not_none : (o : Option Ending) (b : Bool) → is_some o ≡ not b → b ≡ false → o ≡ None → ⊥
 not_none o b some is none = cc
 
 -- one move more
-pub once_more : (x : Experiment Setting) (s t : Shortened Setting) (n m : ℕ) → s ≡ shortened x n → t ≡ move x s → m ≡ n + 1 → t ≡ shortened x m
+pub once_more : (x : Experiment Guest) (s t : Shortened Guest) (n m : ℕ) → s ≡ shortened x n → t ≡ move x s → m ≡ n + 1 → t ≡ shortened x m
 unfolding shortened
 once_more x s t n m is moves next = moves ∙ ap (move x) is ∙ ap (shortened x) (sym (next ∙ add-one n))

@@ -1,8 +1,12 @@
 ghost use Rattle.std.specs.Prelude.{◌≡◌, ◌^◌, ◌≤◌, ◌+◌, [], length, Some, None, IfOk};
 
-use crate::{Run, Solo};
+use crate::Run;
+use crate::run::{HART, OUTPUT_LIMIT};
 use cost_table::cycles;
 use coz_types::{Ending, Image, Tick};
+use guest_calls::Guest;
+use guest_futex::HartList;
+use guest_memory::Layout;
 use std::alloc::{AllocError, Global};
 use std::marker::Model;
 
@@ -12,7 +16,7 @@ pub struct Plain<'a> {
     image: &'a Image<'a>,
     input: &'a [u8],
     budget: u64,
-    run: Run,
+    run: Run<'a>,
 }
 
 impl<'a> Model for Plain<'a> {
@@ -27,7 +31,7 @@ impl<'a> Model for Plain<'a> {
       state = state_of plain.run;
     } };
 
-    ghost invariant = { λ plain. IsReached plain.image.now plain.budget plain.run };
+    ghost invariant = { λ plain. IsReached plain.image.now plain.input.now plain.budget plain.run };
 }
 
 impl<'a> Plain<'a> {
@@ -48,13 +52,14 @@ impl<'a> Plain<'a> {
           image = image.now;
           input = input.now;
           budget = budget;
-          state = shortened (experiment image.now budget) 0;
+          state = shortened (experiment image.now input.now budget) 0;
         }) }
     {
-        let solo = Solo::new(alloc, image)?;
-        let due = 100 * cycles(solo.next());
+        let guest = Guest::new(alloc, image, input, OUTPUT_LIMIT, Layout::usual())?;
+        let due = 100 * cycles(guest.next(HART));
         let run = Run {
-            solo,
+            guest,
+            started: HartList::new(),
             due,
             time: 0,
             retired: 0,
@@ -71,9 +76,9 @@ impl<'a> Plain<'a> {
     /// Runs to the end, and gives it. A further run changes nothing and gives the same.
     pub fn run(&mut self) -> Ending
         ensures ended { self.new.state.ending ≡ Some result }
-        ensures record { let x = experiment self.old.image self.old.budget in
+        ensures record { let x = experiment self.old.image self.old.input self.old.budget in
             net_record_of x self.new.state result ≡ shortened_record x }
-        ensures shortened { let x = experiment self.old.image self.old.budget in IsShortened x (shortened_record x) }
+        ensures shortened { let x = experiment self.old.image self.old.input self.old.budget in IsShortened x (shortened_record x) }
         ensures visits { self.new.state.visits ≡ [] }
         ensures starts { self.new.state.starts ≡ 0 }
         ensures image { self.new.image ≡ self.old.image }
@@ -112,8 +117,8 @@ impl<'a> Plain<'a> {
 
     /// What was written.
     pub fn output(&self) -> &[u8]
-        ensures { result.now ≡ [] }
+        ensures { result.now ≡ self.now.state.guest.output }
     {
-        &[]
+        self.run.guest.output()
     }
 }

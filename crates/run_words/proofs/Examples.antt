@@ -1,0 +1,89 @@
+-- Word lists and their requests, computed.
+use Rattle.std.proofs.Common.{◌≡◌, List, [], ◌∷◌, codes, Option, Some, None, refl}
+use Rattle.run_words.specs.Said.{Text}
+use Rattle.run_words.specs.Request.{Asked, asked}
+use Rattle.run_words.specs.Slow.{request_in, items_in}
+
+abbrev run_one : Asked
+run_one = record { target = codes "one"; input = None; budget = 100000000 }
+
+plain : request_in (codes "run" ∷ codes "one" ∷ []) ≡ Some run_one
+unfolding items_in asked
+plain = refl
+
+after_dashes : request_in (codes "run" ∷ codes "--" ∷ codes "one" ∷ []) ≡ Some run_one
+unfolding items_in asked
+after_dashes = refl
+
+before_dashes : request_in (codes "run" ∷ codes "one" ∷ codes "--" ∷ []) ≡ Some run_one
+unfolding items_in asked
+before_dashes = refl
+
+attached : request_in (codes "run" ∷ codes "--budget=3" ∷ codes "one" ∷ []) ≡ Some (record run_one { budget = 3 })
+unfolding items_in asked
+attached = refl
+
+dashes_named : request_in (codes "run" ∷ codes "--" ∷ codes "--" ∷ []) ≡ Some (record run_one { target = codes "--" })
+unfolding items_in asked
+dashes_named = refl
+
+hyphen_attached : request_in (codes "run" ∷ codes "one" ∷ codes "--input=-x" ∷ []) ≡ Some (record run_one { input = Some (codes "-x") })
+unfolding items_in asked
+hyphen_attached = refl
+
+equals_inside : request_in (codes "run" ∷ codes "one" ∷ codes "--input=a=b" ∷ []) ≡ Some (record run_one { input = Some (codes "a=b") })
+unfolding items_in asked
+equals_inside = refl
+
+one_hyphen : request_in (codes "run" ∷ codes "-" ∷ codes "--input" ∷ codes "-" ∷ []) ≡ Some (record run_one { target = codes "-"; input = Some (codes "-") })
+unfolding items_in asked
+one_hyphen = refl
+
+zeros : request_in (codes "run" ∷ codes "one" ∷ codes "--budget" ∷ codes "00000000000000000003" ∷ []) ≡ Some (record run_one { budget = 3 })
+unfolding items_in asked
+zeros = refl
+
+-- ---- word lists with no request
+
+abbrev IsUsage : List Text → Type 0
+IsUsage words = request_in words ≡ None
+
+abbrev none_of : List (List Text)
+none_of =
+    []
+    ∷ (codes "run" ∷ [])
+    ∷ (codes "run" ∷ codes "one" ∷ codes "two" ∷ [])
+    ∷ (codes "run" ∷ codes "--input" ∷ [])
+    ∷ (codes "run" ∷ codes "one" ∷ codes "--budget" ∷ codes "2" ∷ codes "--budget" ∷ codes "2" ∷ [])
+    ∷ (codes "run" ∷ codes "one" ∷ codes "--input=" ∷ [])
+    ∷ (codes "run" ∷ codes "one" ∷ codes "--input" ∷ [] ∷ [])
+    ∷ (codes "run" ∷ [] ∷ [])
+    ∷ (codes "run" ∷ codes "one" ∷ codes "--speedup" ∷ codes "5" ∷ [])
+    ∷ (codes "run" ∷ codes "one" ∷ codes "--" ∷ codes "--budget" ∷ [])
+    ∷ (codes "run" ∷ codes "one" ∷ codes "--" ∷ codes "two" ∷ [])
+    ∷ (codes "run" ∷ codes "one" ∷ codes "--" ∷ codes "--" ∷ [])
+    ∷ (codes "run" ∷ codes "--" ∷ codes "one" ∷ codes "--" ∷ [])
+    ∷ (codes "run" ∷ codes "--" ∷ codes "--" ∷ codes "one" ∷ [])
+    ∷ (codes "run" ∷ codes "--" ∷ [])
+    ∷ (codes "run" ∷ codes "--budget" ∷ codes "--" ∷ codes "one" ∷ [])
+    ∷ (codes "run" ∷ codes "one" ∷ codes "--budget" ∷ codes "000000000000000000003" ∷ [])
+    ∷ (codes "run" ∷ codes "one" ∷ codes "--budget" ∷ codes "+3" ∷ [])
+    ∷ (codes "run" ∷ codes "one" ∷ codes "--budget" ∷ codes "0" ∷ [])
+    ∷ (codes "run" ∷ codes "one" ∷ codes "--budget" ∷ codes "1000000000001" ∷ [])
+    ∷ (codes "run" ∷ codes "one" ∷ codes "--workers" ∷ codes "2" ∷ [])
+    ∷ (codes "run" ∷ codes "one" ∷ codes "--help" ∷ [])
+    ∷ (codes "run" ∷ codes "one" ∷ codes "-h" ∷ [])
+    ∷ (codes "sing" ∷ codes "one" ∷ [])
+    ∷ []
+
+abbrev requests_of : List (List Text) → List (Option Asked)
+requests_of [] = []
+requests_of (words ∷ more) = request_in words ∷ requests_of more
+
+abbrev nothings : {A : Type 0} → List A → List (Option Asked)
+nothings [] = []
+nothings (x ∷ xs) = None ∷ nothings xs
+
+refused : requests_of none_of ≡ nothings none_of
+unfolding items_in asked
+refused = refl

@@ -1,0 +1,11 @@
+pub mod Bools
+pub mod Examples
+pub mod Cuts
+pub mod Sorts
+pub mod Meaning
+pub mod Exact
+pub mod Gather
+pub mod Items
+pub mod Comes
+pub mod Answer
+pub mod Numbers

@@ -1,0 +1,6 @@
+pub mod Said
+pub mod Values
+pub mod Request
+pub mod Slow
+pub mod Seen
+pub mod Kept

@@ -1,0 +1,73 @@
+//! What one word or two say.
+ghost use Rattle.std.specs.Prelude.{◌≡◌, ◌∷◌, None, Some, MatchOption, option_map, if◌then◌else◌, string_bytes, codes, false, ◌≤◌, length};
+ghost use Rattle.std.specs.Str.{bytes_eq};
+ghost use Rattle.run_words.specs.Said.{stands, option};
+ghost use Rattle.run_words.specs.Seen.{bytes_of};
+ghost use Rattle.run_words.specs.Slow.{put};
+ghost use Rattle.run_words.specs.Request.{input_name, budget_name};
+ghost use Rattle.run_words.specs.Kept.{item_of, run_items, named_item};
+
+/// An option of `run` with its value, or the positional.
+#[derive(Clone, Copy)]
+pub enum Item<'a> {
+    Target(&'a str),
+    Input(&'a str),
+    Budget(&'a str),
+}
+
+/// Whether a word may be a value of its own or the positional.
+fn stands(word: &str) -> bool
+    ensures { result ≡ stands word.now }
+{
+    match word.as_bytes() {
+        [first, _, ..] => *first != b'-',
+        _ => true,
+    }
+}
+
+/// The option of that name with this value, if `run` has it.
+fn named<'a>(name: &str, value: &'a str) -> Option<Item<'a>>
+    ensures { option_map item_of result ≡ named_item name.now value.now }
+{
+    match name {
+        "input" => Some(Item::Input(value)),
+        "budget" => Some(Item::Budget(value)),
+        _ => None,
+    }
+}
+
+/// The value of an option in a word of its own, and the words after it.
+fn value_first<'a>(words: &'a [String]) -> Option<(&'a str, &'a [String])>
+    ensures { MatchOption result
+        ((name : _) → run_items (Some name) (bytes_of words.now) ≡ None)
+        (λ r. ((name : _) → run_items (Some name) (bytes_of words.now) ≡ put (option name r.0.now) (run_items None (bytes_of r.1.now)))
+        × (length r.1.now ≤ length words.now)) }
+{
+    let (word, rest) = words.split_first()?;
+    if stands(word.as_str()) {
+        Some((word.as_str(), rest))
+    } else {
+        None
+    }
+}
+
+/// The item that a word, or it and the next, says, and the words after it.
+pub fn first_item<'a>(word: &'a str, rest: &'a [String]) -> Option<(Item<'a>, &'a [String])>
+    requires { bytes_eq word.now (codes "--") ≡ false }
+    ensures { MatchOption result
+        (run_items None (word.now ∷ bytes_of rest.now) ≡ None)
+        (λ r. (run_items None (word.now ∷ bytes_of rest.now) ≡ put (item_of r.0) (run_items None (bytes_of r.1.now)))
+        × (length r.1.now ≤ length rest.now)) }
+{
+    if stands(word) {
+        return Some((Item::Target(word), rest));
+    }
+    let text = word.strip_prefix("--")?;
+    match text.split_once('=') {
+        Some((name, value)) => Some((named(name, value)?, rest)),
+        None => {
+            let (value, left) = value_first(rest)?;
+            Some((named(text, value)?, left))
+        }
+    }
+}
