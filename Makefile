@@ -15,7 +15,7 @@ test:
 	bash .ci/run
 
 try:
-	rt try coz -- $(ARGS)
+	cd crates/coz && rt try $(foreach file,$(wildcard $(ARGS)),--data $(file)=$(abspath $(file))) -- $(ARGS)
 
 clean:
 	rm -rf build crates/*/out
