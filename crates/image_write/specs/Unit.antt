@@ -1,0 +1,86 @@
+-- The line unit of a written file, version 4.
+use Rattle.std.specs.Prelude.{ℕ, zero, suc, ◌+◌, ◌*◌, ◌/◌, ◌%◌, ◌^◌, Bool, List, [], ◌∷◌, ◌++◌, length, find, ℤ, pos, ◌-ℤ◌, unwrap_or, nat_lt, ◌==◌, if◌then◌else◌}
+use Rattle.std.specs.Int.{w16, w32, w64, to_le_bytes}
+use Rattle.rv_decode.specs.Fields.{twos, is_signed}
+
+-- ---- numbers, the lowest byte first
+
+unfoldable pub half : ℕ → List ℕ
+half n = to_le_bytes w16 n
+
+unfoldable pub word : ℕ → List ℕ
+word n = to_le_bytes w32 n
+
+unfoldable pub double : ℕ → List ℕ
+double n = to_le_bytes w64 n
+
+-- ---- LEB128 in the shortest form
+
+-- so many bytes of seven bits, the lowest first; all but the last have the upper bit
+abbrev pub groups : ℕ → ℕ → List ℕ
+groups zero n = []
+groups (suc zero) n = n % 128 ∷ []
+groups (suc (suc k)) n = (n % 128 + 128) ∷ groups (suc k) (n / 128)
+
+-- the first count of bytes, from 1 to 10, that the test takes
+unfoldable pub fewest : (ℕ → Bool) → ℕ
+fewest test = unwrap_or (find test (1 ∷ 2 ∷ 3 ∷ 4 ∷ 5 ∷ 6 ∷ 7 ∷ 8 ∷ 9 ∷ 10 ∷ [])) 10
+
+-- as few bytes as hold the number
+abbrev pub uleb : ℕ → List ℕ
+uleb n = groups (fewest (λ k. nat_lt n (2 ^ (7 * k)))) n
+
+abbrev pub sleb : ℤ → List ℕ
+sleb z = let count = fewest (λ k. is_signed (7 * k) z) in groups count (twos (7 * count) z)
+
+-- ---- the program
+
+abbrev pub set_address : ℕ → List ℕ
+set_address a = 0 ∷ 9 ∷ 2 ∷ [] ++ double a
+
+abbrev pub end_sequence : List ℕ
+end_sequence = 0 ∷ 1 ∷ 1 ∷ []
+
+-- by so many words
+abbrev pub advance_pc : ℕ → List ℕ
+advance_pc words = if words == 0 then [] else 2 ∷ uleb words
+
+abbrev pub advance_line : ℕ → ℕ → List ℕ
+advance_line old new = if old == new then [] else 3 ∷ sleb (pos new -ℤ pos old)
+
+-- a row so many words after the last one
+abbrev pub row : ℕ → ℕ → ℕ → List ℕ
+row words old new = advance_pc words ++ advance_line old new ++ 1 ∷ []
+
+-- what follows a row of this line, so many words ago
+abbrev pub rows : ℕ → ℕ → List ℕ → List ℕ
+rows words line [] = advance_pc words ++ end_sequence
+rows words line (l ∷ more) = if l == line then rows (words + 1) line more else row words line l ++ rows 1 l more
+
+-- the line register begins as 1
+abbrev pub line_program : List ℕ → List ℕ
+line_program [] = set_address 0x10000 ++ end_sequence
+line_program (l ∷ more) = set_address 0x10000 ++ row 0 1 l ++ rows 1 l more
+
+-- ---- the unit
+
+-- minimum_instruction_length 4, line_base -5, line_range 14, opcode_base 13, and the lengths of opcodes 1 to 12
+abbrev pub numbers : List ℕ
+numbers =
+    4 ∷ 1 ∷ 1 ∷ 0xFB ∷ 14 ∷ 13 ∷ []
+    ++ 0 ∷ 1 ∷ 1 ∷ 1 ∷ 1 ∷ 0 ∷ 0 ∷ 0 ∷ 1 ∷ 0 ∷ 0 ∷ 1 ∷ []
+
+-- no directory, and one file
+abbrev pub files : List ℕ → List ℕ
+files name = 0 ∷ [] ++ name ++ 0 ∷ 0 ∷ 0 ∷ 0 ∷ [] ++ 0 ∷ []
+
+-- the bytes behind their own count in four bytes
+abbrev pub counted : List ℕ → List ℕ
+counted bytes = word (length bytes) ++ bytes
+
+-- the version, the header behind its length, and the program
+abbrev pub unit_body : List ℕ → List ℕ → List ℕ
+unit_body lines name = half 4 ++ counted (numbers ++ files name) ++ line_program lines
+
+unfoldable pub unit : List ℕ → List ℕ → List ℕ
+unit lines name = counted (unit_body lines name)

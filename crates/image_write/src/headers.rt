@@ -1,0 +1,221 @@
+//! Where the parts of a written file lie, and its headers (ELF64).
+
+ghost use Rattle.std.specs.Prelude.{◌≡◌, ◌<◌, ◌≤◌, ◌+◌, ◌^◌, ◌++◌, length, IfOk};
+ghost use Rattle.rv_asm.specs.Assembled.{up_to_multiple, view};
+ghost use Rattle.image_write.specs.File.{IsWritable, has_content, whole_pages, text_room, content_place, unit_place, names_place, names_end, headers_place, segment_count, file_header, segment, segments, section, sections};
+
+use crate::numbers::{push_double, push_half, push_word};
+use rv_asm::Assembled;
+use std::alloc::{AllocError, Global};
+
+/// The bytes of a page, and where the text begins in the file.
+pub const PAGE: u64 = 4096;
+
+/// Where the text begins in memory.
+const TEXT_START: u64 = 0x1_0000;
+
+/// The names of the sections, each with a zero behind it.
+pub const NAMES: [u8; 35] = *b"\0.text\0.data\0.debug_line\0.shstrtab\0";
+
+/// The least multiple that isn't below `n`.
+fn up_to_multiple(multiple: u64, n: u64) -> u64
+    requires some { 0 < multiple }
+    requires multiple { multiple ≤ 2 ^ 32 }
+    requires small { n < 2 ^ 40 }
+    ensures value { result ≡ up_to_multiple multiple n }
+    ensures within { result < n + multiple }
+    ensures above { n ≤ result }
+{
+    (n + (multiple - 1)) / multiple * multiple
+}
+
+fn has_content(assembled: &Assembled) -> bool
+    ensures { result ≡ has_content (view assembled.now) }
+{
+    0 < assembled.content.len()
+}
+
+/// The text's length in whole pages.
+fn whole_pages(assembled: &Assembled) -> u64
+    requires { IsWritable (view assembled.now) }
+    ensures value { result ≡ whole_pages (view assembled.now) }
+    ensures small { result < 2 ^ 21 }
+    ensures above { length (view assembled.now).text ≤ result }
+{
+    up_to_multiple(PAGE, assembled.text.len() as u64)
+}
+
+/// How many bytes the text has with the zeros before the data.
+pub fn text_room(assembled: &Assembled) -> u64
+    requires { IsWritable (view assembled.now) }
+    ensures value { result ≡ text_room (view assembled.now) }
+    ensures small { result < 2 ^ 21 }
+    ensures above { length (view assembled.now).text ≤ result }
+{
+    if has_content(assembled) {
+        whole_pages(assembled)
+    } else {
+        assembled.text.len() as u64
+    }
+}
+
+fn content_place(assembled: &Assembled) -> u64
+    requires { IsWritable (view assembled.now) }
+    ensures value { result ≡ content_place (view assembled.now) }
+    ensures small { result < 2 ^ 22 }
+{
+    PAGE + text_room(assembled)
+}
+
+fn unit_place(assembled: &Assembled) -> u64
+    requires { IsWritable (view assembled.now) }
+    ensures value { result ≡ unit_place (view assembled.now) }
+    ensures small { result < 2 ^ 23 }
+{
+    content_place(assembled) + assembled.content.len() as u64
+}
+
+fn names_place(assembled: &Assembled, unit: &[u8]) -> u64
+    requires writable { IsWritable (view assembled.now) }
+    requires unit { length unit.now < 2 ^ 33 }
+    ensures value { result ≡ names_place unit.now (view assembled.now) }
+    ensures small { result < 2 ^ 34 }
+{
+    unit_place(assembled) + unit.len() as u64
+}
+
+pub fn names_end(assembled: &Assembled, unit: &[u8]) -> u64
+    requires writable { IsWritable (view assembled.now) }
+    requires unit { length unit.now < 2 ^ 33 }
+    ensures value { result ≡ names_end unit.now (view assembled.now) }
+    ensures small { result < 2 ^ 35 }
+{
+    names_place(assembled, unit) + 35
+}
+
+pub fn headers_place(assembled: &Assembled, unit: &[u8]) -> u64
+    requires writable { IsWritable (view assembled.now) }
+    requires unit { length unit.now < 2 ^ 33 }
+    ensures value { result ≡ headers_place unit.now (view assembled.now) }
+    ensures within { result < names_end unit.now (view assembled.now) + 8 }
+    ensures above { names_end unit.now (view assembled.now) ≤ result }
+{
+    up_to_multiple(8, names_end(assembled, unit))
+}
+
+pub fn segment_count(assembled: &Assembled) -> u16
+    ensures { result ≡ segment_count (view assembled.now) }
+{
+    if has_content(assembled) { 2 } else { 1 }
+}
+
+/// The header of the file: its entry, the place of the section headers, and how many segments there are.
+#[tactic(auto, unfolding(crate::specs::File::file_header))]
+pub fn file_header(
+    alloc: Global,
+    entry: u64,
+    headers: u64,
+    segments: u16,
+) -> Result<Vec<u8>, AllocError>
+    ensures { IfOk result (λ v. v.items ≡ file_header entry headers segments) }
+{
+    let magic = [0x7F, 0x45, 0x4C, 0x46, 2, 1, 1, 0, 0, 0, 0, 0, 0, 0, 0, 0];
+    let mut out = Vec::from_slice(alloc, &magic)?;
+    push_half(&mut out, 2)?;
+    push_half(&mut out, 243)?;
+    push_word(&mut out, 1)?;
+    push_double(&mut out, entry)?;
+    push_double(&mut out, 64)?;
+    push_double(&mut out, headers)?;
+    push_word(&mut out, 0)?;
+    push_half(&mut out, 64)?;
+    push_half(&mut out, 56)?;
+    push_half(&mut out, segments)?;
+    push_half(&mut out, 64)?;
+    push_half(&mut out, 5)?;
+    push_half(&mut out, 4)?;
+    Ok(out)
+}
+
+/// The header of a segment.
+#[tactic(auto, unfolding(crate::specs::File::segment))]
+fn segment(
+    alloc: Global,
+    flags: u32,
+    place: u64,
+    address: u64,
+    size: u64,
+) -> Result<Vec<u8>, AllocError>
+    ensures { IfOk result (λ v. v.items ≡ segment flags place address size) }
+{
+    let mut out = Vec::new(alloc);
+    push_word(&mut out, 1)?;
+    push_word(&mut out, flags)?;
+    push_double(&mut out, place)?;
+    push_double(&mut out, address)?;
+    push_double(&mut out, address)?;
+    push_double(&mut out, size)?;
+    push_double(&mut out, size)?;
+    push_double(&mut out, PAGE)?;
+    Ok(out)
+}
+
+/// The headers of the segments: the text, and the data if there is any.
+#[tactic(auto, unfolding(crate::specs::File::segments))]
+pub fn segments(alloc: Global, assembled: &Assembled) -> Result<Vec<u8>, AllocError>
+    requires { IsWritable (view assembled.now) }
+    ensures { IfOk result (λ v. v.items ≡ segments (view assembled.now)) }
+{
+    let mut out = segment(alloc, 5, PAGE, TEXT_START, assembled.text.len() as u64)?;
+    if has_content(assembled) {
+        let pages = whole_pages(assembled);
+        let size = assembled.content.len() as u64;
+        let data = segment(alloc, 6, PAGE + pages, TEXT_START + pages, size)?;
+        out.extend_from_slice(&data)?;
+    }
+    Ok(out)
+}
+
+/// The header of a section.
+#[tactic(auto, unfolding(crate::specs::File::section))]
+fn section(
+    alloc: Global,
+    name: u32,
+    kind: u32,
+    flags: u64,
+    place: u64,
+    size: u64,
+    align: u64,
+) -> Result<Vec<u8>, AllocError>
+    ensures { IfOk result (λ v. v.items ≡ section name kind flags place size align) }
+{
+    let mut out = Vec::new(alloc);
+    push_word(&mut out, name)?;
+    push_word(&mut out, kind)?;
+    push_double(&mut out, flags)?;
+    push_double(&mut out, 0)?;
+    push_double(&mut out, place)?;
+    push_double(&mut out, size)?;
+    push_word(&mut out, 0)?;
+    push_word(&mut out, 0)?;
+    push_double(&mut out, align)?;
+    push_double(&mut out, 0)?;
+    Ok(out)
+}
+
+/// The headers of the sections.
+#[tactic(auto, unfolding(crate::specs::File::sections))]
+pub fn sections(alloc: Global, assembled: &Assembled, unit: &[u8]) -> Result<Vec<u8>, AllocError>
+    requires writable { IsWritable (view assembled.now) }
+    requires unit { length unit.now < 2 ^ 33 }
+    ensures { IfOk result (λ v. v.items ≡ sections unit.now (view assembled.now)) }
+{
+    let text = assembled.text.len() as u64;
+    let content = assembled.content.len() as u64;
+    let mut out = section(alloc, 0, 0, 0, 0, 0, 0)?;
+    out.extend_from_slice(&section(alloc, 1, 1, 6, PAGE, text, 4)?)?;
+    out.extend_from_slice(&section(alloc, 7, 1, 3, content_place(assembled), content, 8)?)?;
+    out.extend_from_slice(&section(alloc, 13, 1, 0, unit_place(assembled), unit.len() as u64, 1)?)?;
+    out.extend_from_slice(&section(alloc, 25, 3, 0, names_place(assembled, unit), 35, 1)?)?;
+    Ok(out)
+}

@@ -1,0 +1,127 @@
+//! Numbers as bytes: of fixed width, the lowest byte first, and LEB128 in the shortest form.
+
+ghost use Rattle.std.specs.Prelude.{◌≡◌, ◌<◌, ◌≤◌, ◌+◌, ◌^◌, ◌*◌, ◌-◌, ◌++◌, length, replicate, IfOk, nat_lt, pos, neg_ℤ, ◌-ℤ◌, ◌≤ℤ◌};
+ghost use Rattle.rv_decode.specs.Fields.{twos, is_signed};
+ghost use Rattle.image_write.specs.Unit.{half, word, double, groups, fewest, uleb, sleb};
+
+use std::alloc::AllocError;
+
+/// A number of two bytes.
+#[tactic(auto, unfolding(crate::specs::Unit::half))]
+pub fn push_half(out: &mut Vec<u8>, n: u16) -> Result<(), AllocError>
+    ensures { IfOk result (λ _. out.new.items ≡ out.old.items ++ half n) }
+{
+    out.extend_from_slice(&n.to_le_bytes())
+}
+
+/// A number of four bytes.
+#[tactic(auto, unfolding(crate::specs::Unit::word))]
+pub fn push_word(out: &mut Vec<u8>, n: u32) -> Result<(), AllocError>
+    ensures { IfOk result (λ _. out.new.items ≡ out.old.items ++ word n) }
+{
+    out.extend_from_slice(&n.to_le_bytes())
+}
+
+/// A number of eight bytes.
+#[tactic(auto, unfolding(crate::specs::Unit::double))]
+pub fn push_double(out: &mut Vec<u8>, n: u64) -> Result<(), AllocError>
+    ensures { IfOk result (λ _. out.new.items ≡ out.old.items ++ double n) }
+{
+    out.extend_from_slice(&n.to_le_bytes())
+}
+
+/// So many zeros.
+pub fn push_zeros(out: &mut Vec<u8>, count: u32) -> Result<(), AllocError>
+    ensures { IfOk result (λ _. out.new.items ≡ out.old.items ++ replicate count 0) }
+{
+    let length = out.len();
+    out.resize(length + count as usize, 0)
+}
+
+/// So many groups of seven bits, the lowest first; all but the last have the upper bit.
+fn push_groups(out: &mut Vec<u8>, count: u32, n: u64) -> Result<(), AllocError>
+    requires { 1 ≤ count }
+    ensures { IfOk result (λ _. out.new.items ≡ out.old.items ++ groups count n) }
+{
+    let mut left = n;
+    for _ in 1..count {
+        out.push((left % 0x80) as u8 + 0x80)?;
+        left /= 0x80;
+    }
+    out.push((left % 0x80) as u8)?;
+    Ok(())
+}
+
+/// How many groups hold a number without sign.
+#[tactic(auto, unfolding(crate::specs::Unit::fewest))]
+fn unsigned_groups(n: u64) -> u32
+    requires { n < 2 ^ 21 }
+    ensures count { result ≡ fewest (λ k. nat_lt n (2 ^ (7 * k))) }
+    ensures some { 1 ≤ result }
+{
+    if n < 1 << 7 {
+        1
+    } else if n < 1 << 14 {
+        2
+    } else {
+        3
+    }
+}
+
+/// A number without sign in as few bytes as hold it.
+pub fn push_uleb(out: &mut Vec<u8>, n: u64) -> Result<(), AllocError>
+    requires { n < 2 ^ 21 }
+    ensures { IfOk result (λ _. out.new.items ≡ out.old.items ++ uleb n) }
+{
+    push_groups(out, unsigned_groups(n), n)
+}
+
+/// The lowest bits of a number in two's complement.
+fn low_bits(value: i64, bits: u32) -> u64
+    requires { bits ≤ 62 }
+    ensures { result ≡ twos bits value }
+{
+    value.rem_euclid(1 << bits) as u64
+}
+
+/// Whether a number is written by so many groups with its sign.
+fn fits_groups(n: i64, count: u32) -> bool
+    requires some { 1 ≤ count }
+    requires few { count ≤ 5 }
+    ensures { result ≡ is_signed (7 * count) n }
+{
+    let half: i64 = 1 << (7 * count - 1);
+    -half <= n && n < half
+}
+
+/// How many groups hold a number with its sign.
+#[tactic(auto, unfolding(crate::specs::Unit::fewest))]
+fn signed_groups(n: i64) -> u32
+    requires low { neg_ℤ (pos (2 ^ 33)) ≤ℤ n }
+    requires high { n ≤ℤ pos (2 ^ 33 - 1) }
+    ensures count { result ≡ fewest (λ k. is_signed (7 * k) n) }
+    ensures some { 1 ≤ result }
+    ensures few { result ≤ 5 }
+{
+    if fits_groups(n, 1) {
+        1
+    } else if fits_groups(n, 2) {
+        2
+    } else if fits_groups(n, 3) {
+        3
+    } else if fits_groups(n, 4) {
+        4
+    } else {
+        5
+    }
+}
+
+/// A number with a sign in as few bytes as hold it.
+pub fn push_sleb(out: &mut Vec<u8>, n: i64) -> Result<(), AllocError>
+    requires low { neg_ℤ (pos (2 ^ 33)) ≤ℤ n }
+    requires high { n ≤ℤ pos (2 ^ 33 - 1) }
+    ensures { IfOk result (λ _. out.new.items ≡ out.old.items ++ sleb n) }
+{
+    let count = signed_groups(n);
+    push_groups(out, count, low_bits(n, 7 * count))
+}

@@ -1,0 +1,145 @@
+//! The line unit of a written file (DWARF 4, section 6.2).
+
+ghost use Rattle.std.specs.Prelude.{◌≡◌, ◌<◌, ◌≤◌, ◌+◌, ◌*◌, ◌^◌, ◌++◌, length, IfOk};
+ghost use Rattle.image_write.specs.Unit.{set_address, end_sequence, advance_pc, advance_line, row, rows, line_program, numbers, files, counted, unit_body, unit};
+
+use crate::numbers::{push_double, push_half, push_sleb, push_uleb, push_word};
+use std::alloc::{AllocError, Global};
+
+/// Where the text begins.
+const TEXT_START: u64 = 0x1_0000;
+
+/// minimum_instruction_length, maximum_operations_per_instruction, default_is_stmt, line_base, line_range, opcode_base, and the lengths of the opcodes from 1 to 12.
+const NUMBERS: [u8; 18] = [4, 1, 1, 0xFB, 14, 13, 0, 1, 1, 1, 1, 0, 0, 0, 1, 0, 0, 1];
+
+/// The end of the sequence.
+const END_SEQUENCE: [u8; 3] = [0, 1, 1];
+
+/// The address moves on by so many words.
+fn push_advance_pc(out: &mut Vec<u8>, words: u32) -> Result<(), AllocError>
+    requires { words < 2 ^ 21 }
+    ensures { IfOk result (λ _. out.new.items ≡ out.old.items ++ advance_pc words) }
+{
+    if words == 0 {
+        return Ok(());
+    }
+    out.push(2)?;
+    push_uleb(out, u64::from(words))
+}
+
+/// The line changes.
+fn push_advance_line(out: &mut Vec<u8>, old: u32, new: u32) -> Result<(), AllocError>
+    ensures { IfOk result (λ _. out.new.items ≡ out.old.items ++ advance_line old new) }
+{
+    if old == new {
+        return Ok(());
+    }
+    out.push(3)?;
+    push_sleb(out, i64::from(new) - i64::from(old))
+}
+
+/// A row so many words after the last one.
+fn push_row(out: &mut Vec<u8>, words: u32, old: u32, new: u32) -> Result<(), AllocError>
+    requires { words < 2 ^ 21 }
+    ensures { IfOk result (λ _. out.new.items ≡ out.old.items ++ row words old new) }
+{
+    push_advance_pc(out, words)?;
+    push_advance_line(out, old, new)?;
+    out.push(1)?;
+    Ok(())
+}
+
+/// What follows the row of the first word, whose line is `line`.
+fn push_rows(out: &mut Vec<u8>, line: u32, lines: &[u32]) -> Result<(), AllocError>
+    requires { length lines.now < 2 ^ 20 }
+    ensures { IfOk result (λ _. out.new.items ≡ out.old.items ++ rows 1 line lines.now) }
+{
+    let mut words = 1;
+    let mut last = line;
+    for next in lines {
+        if *next == last {
+            words += 1;
+        } else {
+            push_row(out, words, last, *next)?;
+            words = 1;
+            last = *next;
+        }
+    }
+    push_advance_pc(out, words)?;
+    out.extend_from_slice(&END_SEQUENCE)
+}
+
+/// The program that makes the rows.
+fn line_program(alloc: Global, lines: &[u32]) -> Result<Vec<u8>, AllocError>
+    requires { length lines.now < 2 ^ 20 }
+    ensures { IfOk result (λ v. v.items ≡ line_program lines.now) }
+{
+    let mut out = Vec::from_slice(alloc, &[0, 9, 2])?;
+    push_double(&mut out, TEXT_START)?;
+    match lines.split_first() {
+        None => out.extend_from_slice(&END_SEQUENCE)?,
+        Some((first, rest)) => {
+            push_row(&mut out, 0, 1, *first)?;
+            push_rows(&mut out, *first, rest)?;
+        }
+    }
+    Ok(out)
+}
+
+/// The header's numbers, no directory, and one file.
+fn header(alloc: Global, name: &[u8]) -> Result<Vec<u8>, AllocError>
+    ensures { IfOk result (λ v. v.items ≡ numbers ++ files name.now) }
+{
+    let mut out = Vec::from_slice(alloc, &NUMBERS)?;
+    push_files(&mut out, name)?;
+    Ok(out)
+}
+
+fn push_files(out: &mut Vec<u8>, name: &[u8]) -> Result<(), AllocError>
+    ensures { IfOk result (λ _. out.new.items ≡ out.old.items ++ files name.now) }
+{
+    out.push(0)?;
+    out.extend_from_slice(name)?;
+    out.extend_from_slice(&[0, 0, 0, 0])?;
+    out.push(0)?;
+    Ok(())
+}
+
+/// The bytes behind their own count.
+fn counted(alloc: Global, bytes: &[u8]) -> Result<Vec<u8>, AllocError>
+    requires { length bytes.now < 2 ^ 32 }
+    ensures { IfOk result (λ v. v.items ≡ counted bytes.now) }
+{
+    let mut out = Vec::new(alloc);
+    push_word(&mut out, bytes.len() as u32)?;
+    out.extend_from_slice(bytes)?;
+    Ok(out)
+}
+
+/// The unit behind its length.
+fn unit_body(alloc: Global, lines: &[u32], name: &[u8]) -> Result<Vec<u8>, AllocError>
+    requires lines { length lines.now < 2 ^ 20 }
+    requires name { length name.now < 2 ^ 20 }
+    ensures { IfOk result (λ v. v.items ≡ unit_body lines.now name.now) }
+{
+    let header = counted(alloc, &header(alloc, name)?)?;
+    let program = line_program(alloc, lines)?;
+    let mut out = Vec::new(alloc);
+    push_half(&mut out, 4)?;
+    out.extend_from_slice(&header)?;
+    out.extend_from_slice(&program)?;
+    Ok(out)
+}
+
+/// The line unit, of version 4.
+#[tactic(auto, unfolding(crate::specs::Unit::unit))]
+pub fn unit(alloc: Global, lines: &[u32], name: &[u8]) -> Result<Vec<u8>, AllocError>
+    requires lines { length lines.now < 2 ^ 20 }
+    requires name { length name.now < 2 ^ 20 }
+    ensures items { IfOk result (λ v. v.items ≡ unit lines.now name.now) }
+    ensures small { IfOk result (λ v. length v.items < 2 ^ 33) }
+{
+    let body = unit_body(alloc, lines, name)?;
+    let out = counted(alloc, body.as_slice())?;
+    Ok(out)
+}

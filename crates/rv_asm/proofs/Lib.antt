@@ -1,0 +1,9 @@
+mod Skips
+mod Items
+mod Labels
+mod FirstLine
+mod LineTokens
+mod TakeLines
+mod Filling
+mod Faults
+mod Programs

@@ -1,0 +1,264 @@
+-- What a source stands for, or its first fault.
+use Rattle.std.specs.Prelude.{◌≡◌, ℕ, ◌+◌, ◌-◌, ◌*◌, ◌/◌, ◌^◌, Bool, true, false, not, ◌&&◌, List, [], ◌∷◌, ◌++◌, length, filter, is_some, flat_map, replicate, position, ℤ, pos, ◌-ℤ◌, Option, Some, None, Result, Ok, Err, nat_lt, nat_le, ◌==◌, if◌then◌else◌, bytes_eq, codes}
+use Rattle.std.specs.Map.{update}
+use Rattle.std.specs.Str.{byte}
+use Rattle.std.specs.Int.{w32, w64, to_le_bytes}
+use Rattle.rv_decode.specs.declared.Instr.{Instr}
+use Rattle.rv_decode.specs.declared.Instr.TheVariants as instr
+use Rattle.rv_decode.specs.declared.UpperOp.TheVariants.{Auipc}
+use Rattle.rv_decode.specs.declared.ImmOp.TheVariants.{Addi}
+use Rattle.rv_decode.specs.Fields.{is_signed, is_even}
+use Rattle.rv_decode.specs.Instructions.{word_of}
+use Rattle.rv_asm.specs.declared.AsmKind.{AsmKind}
+use Rattle.rv_asm.specs.declared.AsmKind.TheVariants as kinds
+use Rattle.rv_asm.specs.declared.AsmFault.{AsmFault}
+use Rattle.rv_asm.specs.declared.AsmError.{AsmError}
+use Rattle.rv_asm.specs.declared.AsmError.TheVariants as errors
+use Rattle.rv_asm.specs.declared.Assembled.{Assembled}
+use Rattle.rv_asm.specs.declared.state.Place.{Place}
+use Rattle.rv_asm.specs.declared.form.Form.{Form}
+use Rattle.rv_asm.specs.declared.form.Section.{Section}
+use Rattle.rv_asm.specs.declared.form.Section.TheVariants as sections
+use Rattle.rv_asm.specs.Tokens.{Read, wrong, ◌>>=◌, is_allowed, lines, Token, Name, Number, Text, Mark, Placed, tokens}
+use Rattle.rv_asm.specs.Table.{form_of}
+use Rattle.rv_asm.specs.Statements.{Use, Piece, Encoded, BranchTo, JumpTo, AddressTo, AddressOf, Bytes, Zeros, size, Statement, Puts, Aligns, Enters, belongs, statement, upper, lower}
+
+-- ---- the lines so far
+
+-- a piece in its place, and its line
+pub record Put : Type 0 where
+  pub line : ℕ
+  pub place : Place
+  pub piece : Piece
+
+-- the places of the labels by their names, the section and how long each one is, and the pieces in the order of the source
+pub record State : Type 0 where
+  pub labels : List ℕ → Option Place
+  pub section : Section
+  pub text : ℕ
+  pub content : ℕ
+  pub puts : List Put
+
+abbrev pub start : State
+start = record { labels = λ name. None; section = sections.Text; text = 0; content = 0; puts = [] }
+
+-- how long the section is that is written now
+abbrev pub here : State → ℕ
+here s = elim (s.section) [ sections.Text ↦ s.text | sections.Data ↦ s.content ]
+
+abbrev pub next_place : State → Place
+next_place s = record { section = s.section; offset = here s }
+
+-- ---- one more label, or one more statement
+
+abbrev pub with_label : List ℕ → ℕ → State → Read State
+with_label name column s =
+    if is_some (s.labels name) then wrong kinds.Twice column
+    else Ok (record s { labels = update bytes_eq s.labels name (Some (next_place s)) })
+
+abbrev pub grown : ℕ → State → State
+grown n s = elim (s.section) [ sections.Text ↦ record s { text = s.text + n } | sections.Data ↦ record s { content = s.content + n } ]
+
+abbrev pub with_piece : ℕ → ℕ → Piece → State → Read State
+with_piece line column piece s =
+    if nat_lt 1048576 (here s + size piece) then wrong kinds.Much column
+    else Ok (grown (size piece) (record s { puts = s.puts ++ record { line = line; place = next_place s; piece = piece } ∷ [] }))
+
+-- one after the other
+unfoldable pub with_pieces : ℕ → ℕ → List Piece → State → Read State
+with_pieces line column [] s = Ok s
+with_pieces line column (piece ∷ pieces) s = with_piece line column piece s >>= λ more. with_pieces line column pieces more
+
+-- the least multiple that isn't below n
+abbrev pub up_to_multiple : ℕ → ℕ → ℕ
+up_to_multiple m n = (n + (m - 1)) / m * m
+
+abbrev pub done : ℕ → ℕ → Statement → State → Read State
+done line column (Puts pieces) s = with_pieces line column pieces s
+done line column (Aligns bits) s = with_piece line column (Zeros (up_to_multiple (2 ^ bits) (here s) - here s)) s
+done line column (Enters section) s = Ok (record s { section = section })
+
+abbrev pub may_stand : Option Section → Section → Bool
+may_stand None now = true
+may_stand (Some sections.Text) sections.Text = true
+may_stand (Some sections.Data) sections.Data = true
+may_stand wanted now = false
+
+-- ---- a line
+
+abbrev pub name_in : Token → Option (List ℕ)
+name_in (Name n) = Some n
+name_in (Number n) = None
+name_in (Text bytes) = None
+name_in (Mark m) = None
+
+abbrev pub is_colon : Token → Bool
+is_colon (Mark m) = m == byte ":"
+is_colon (Name n) = false
+is_colon (Number n) = false
+is_colon (Text bytes) = false
+
+abbrev pub formed : Option (List ℕ) → Option Form
+formed None = None
+formed (Some name) = form_of name
+
+-- the statement that begins with this token; the line's bytes end before this column
+abbrev pub stated : ℕ → ℕ → Placed → List Placed → State → Read State
+stated line end t ts s =
+    elim (formed (name_in t.token)) [
+      | None ↦ wrong kinds.Name t.column
+      | Some form ↦ elim (may_stand (belongs form) s.section) [
+        | false ↦ wrong kinds.Section t.column
+        | true ↦ statement end form ts >>= λ what. done line t.column what s
+      ]
+    ]
+
+-- a token that begins a label, which a colon ends
+abbrev pub label_in : Token → Token → Option (List ℕ)
+label_in t c = if is_colon c then name_in t else None
+
+-- labels, and then at most one statement
+unfoldable pub take_tokens : ℕ → ℕ → List Placed → State → Read State
+take_tokens line end [] s = Ok s
+take_tokens line end (t ∷ []) s = stated line end t [] s
+take_tokens line end (t ∷ c ∷ ts) s =
+    elim (label_in t.token c.token) [
+      | Some name ↦ with_label name t.column s >>= λ more. take_tokens line end ts more
+      | None ↦ stated line end t (c ∷ ts) s
+    ]
+
+abbrev pub wanted : Bool → AsmKind → ℕ → Read Bool
+wanted holds kind column = if holds then Ok holds else wrong kind column
+
+-- each byte may stand in a line
+abbrev pub bytes_wanted : Option ℕ → Read Bool
+bytes_wanted None = Ok true
+bytes_wanted (Some k) = wrong kinds.Byte (k + 1)
+
+abbrev pub take_line : ℕ → List ℕ → State → Read State
+take_line n line s = do
+  few ← wanted (nat_le n 65536) kinds.Lines 1
+  allowed ← bytes_wanted (position (λ b. not (is_allowed b)) line)
+  ts ← tokens line
+  take_tokens n (length line + 1) ts s
+
+abbrev pub at_line : {A : Type 0} → ℕ → Read A → Result A AsmFault
+at_line n (Ok x) = Ok x
+at_line n (Err spot) = Err (record { kind = spot.kind; line = n; column = spot.column })
+
+unfoldable pub take_lines : ℕ → List (List ℕ) → State → Result State AsmFault
+take_lines n [] s = Ok s
+take_lines n (line ∷ more) s = at_line n (take_line n line s) >>= λ t. take_lines (n + 1) more t
+
+-- ---- after all lines: the bytes of the pieces
+
+-- data begins at the first page that isn't below the text's end
+abbrev pub address : State → Place → ℕ
+address s p = elim (p.section) [ sections.Text ↦ 0x10000 + p.offset | sections.Data ↦ 0x10000 + up_to_multiple 4096 s.text + p.offset ]
+
+abbrev pub address_in : State → ℕ → Option Place → Read ℕ
+address_in s column None = wrong kinds.Missing column
+address_in s column (Some p) = Ok (address s p)
+
+abbrev pub target : State → Use → Read ℕ
+target s label = address_in s label.column (s.labels label.name)
+
+-- how far a label is from an address, if so many bits and an even number reach it
+abbrev pub reach : State → ℕ → Use → ℕ → Read ℤ
+reach s bits label from = do
+  a ← target s label
+  let far = pos a -ℤ pos from in if is_signed bits far && is_even far then Ok far else wrong kinds.Far label.column
+
+abbrev pub word : Instr → List ℕ
+word i = to_le_bytes w32 (word_of i)
+
+-- an address as auipc and addi make it
+unfoldable pub load_address : ℕ → ℤ → List ℕ
+load_address rd far = word (instr.Upper Auipc rd (upper far)) ++ word (instr.Imm Addi rd rd (lower far))
+
+abbrev pub bytes_at : State → ℕ → Piece → Read (List ℕ)
+bytes_at s from (Encoded w) = Ok (to_le_bytes w32 w)
+bytes_at s from (BranchTo op rs1 rs2 label) = reach s 13 label from >>= λ far. Ok (word (instr.Branch op rs1 rs2 far))
+bytes_at s from (JumpTo rd label) = reach s 21 label from >>= λ far. Ok (word (instr.Jal rd far))
+bytes_at s from (AddressTo rd label) = target s label >>= λ a. Ok (load_address rd (pos a -ℤ pos from))
+bytes_at s from (AddressOf label) = target s label >>= λ a. Ok (to_le_bytes w64 a)
+bytes_at s from (Bytes bytes) = Ok bytes
+bytes_at s from (Zeros count) = Ok (replicate count 0)
+
+-- a piece's bytes, its section and its line
+pub record Filled : Type 0 where
+  pub section : Section
+  pub line : ℕ
+  pub bytes : List ℕ
+
+abbrev pub filled : State → Put → Result Filled AsmFault
+filled s p = at_line p.line (bytes_at s (address s p.place) p.piece) >>= λ bytes. Ok (record { section = p.place.section; line = p.line; bytes = bytes })
+
+unfoldable pub all_filled : State → List Put → Result (List Filled) AsmFault
+all_filled s [] = Ok []
+all_filled s (p ∷ ps) = do
+  first ← filled s p
+  more ← all_filled s ps
+  Ok (first ∷ more)
+
+-- ---- the whole
+
+-- what callers see of what was assembled
+pub record Program : Type 0 where
+  pub text : List ℕ
+  pub content : List ℕ
+  pub lines : List ℕ
+  pub entry : ℕ
+
+abbrev pub is_text : Section → Bool
+is_text sections.Text = true
+is_text sections.Data = false
+
+abbrev pub text_of : List Filled → List Filled
+text_of fs = filter (λ f. is_text f.section) fs
+
+abbrev pub content_of : List Filled → List Filled
+content_of fs = filter (λ f. not (is_text f.section)) fs
+
+abbrev pub joined : List Filled → List ℕ
+joined fs = flat_map (λ f. f.bytes) fs
+
+-- the line of each word of the text
+abbrev pub lines_of : List Filled → List ℕ
+lines_of fs = flat_map (λ f. replicate (length f.bytes / 4) f.line) (text_of fs)
+
+abbrev pub begin_of : State → Option Place → ℕ
+begin_of s None = 0x10000
+begin_of s (Some p) = if is_text p.section && nat_lt p.offset s.text then address s p else 0x10000
+
+-- where the program begins
+abbrev pub entry : State → ℕ
+entry s = begin_of s (s.labels (codes "_start"))
+
+abbrev pub program : State → List Filled → Program
+program s fs = record {
+  text = joined (text_of fs);
+  content = joined (content_of fs);
+  lines = lines_of fs;
+  entry = entry s;
+}
+
+unfoldable pub assembled : List ℕ → Result Program AsmFault
+assembled source = do
+  s ← take_lines 1 (lines source) start
+  fs ← all_filled s s.puts
+  if s.text == 0 then Err (record { kind = kinds.Empty; line = 1; column = 1 }) else Ok (program s fs)
+
+-- ---- what a call answered
+
+abbrev pub view : Assembled → Program
+view a = record { text = a.text; content = a.content; lines = a.lines; entry = a.entry }
+
+abbrev pub Fails : {A : Type 0} → AsmError → Result A AsmFault → Type 0
+Fails errors.Memory read = Unit {0}
+Fails (errors.Fault f) read = read ≡ Err f
+
+-- It is what is read, unless memory ran out.
+abbrev pub Gives : {X A : Type 0} → (X → A) → Result X AsmError → Result A AsmFault → Type 0
+Gives view (Ok x) read = read ≡ Ok (view x)
+Gives view (Err e) read = Fails e read

@@ -1,0 +1,163 @@
+-- What contracts see of the code's values.
+use Rattle.std.specs.Prelude.{◌≡◌, ℕ, ◌≤◌, List, [], ◌∷◌, ◌++◌, Option, None, Result, Ok, Err, option_map, map, length, replicate, ◌/◌}
+use denote.Ref.{Bor}
+use Rattle.std.specs.declared.alloc.AllocError.{AllocError}
+use Rattle.rv_asm.specs.declared.tokens.Token.{Token as CodeToken}
+use Rattle.rv_asm.specs.declared.tokens.Token.TheVariants as code
+use Rattle.rv_asm.specs.declared.tokens.Placed.{Placed as CodePlaced}
+use Rattle.rv_asm.specs.declared.tokens.LineError.{LineError}
+use Rattle.rv_asm.specs.declared.tokens.LineError.TheVariants as errors
+use Rattle.rv_asm.specs.declared.tokens.Found.{Found}
+use Rattle.rv_asm.specs.declared.tokens.Found.TheVariants as ahead
+use Rattle.rv_asm.specs.Tokens.{Spelling, Token, Name, Number, Text, Mark, Placed, Read, ◌>>=◌, Front, Blank, Comment, Begins, Wrong}
+use Rattle.rv_asm.specs.Table.{Named}
+use Rattle.rv_asm.specs.Statements.{Use, Piece, Encoded, BranchTo, JumpTo, AddressTo, AddressOf, Bytes, Zeros, Statement, Puts, Aligns, Enters}
+use Rattle.rv_asm.specs.Registers.{number_of}
+use Rattle.rv_asm.specs.declared.pieces.Piece.{Piece as CodePiece}
+use Rattle.rv_asm.specs.declared.pieces.Piece.TheVariants as puts
+use Rattle.rv_asm.specs.declared.pieces.Statement.{Statement as CodeStatement}
+use Rattle.rv_asm.specs.declared.pieces.Statement.TheVariants as does
+use Rattle.rv_asm.specs.declared.operands.NameUse.{NameUse}
+use Rattle.rv_asm.specs.declared.state.Place.{Place}
+use Rattle.rv_asm.specs.declared.state.Put.{Put as CodePut}
+use Rattle.rv_asm.specs.declared.state.State.{State as CodeState}
+use Rattle.rv_asm.specs.declared.AsmError.{AsmError}
+use Rattle.rv_asm.specs.declared.AsmError.TheVariants as faults
+use Rattle.rv_asm.specs.Assembled.{Put, State, label_in, Filled, Fails, joined, text_of, content_of, lines_of}
+use Rattle.rv_asm.specs.declared.AsmFault.{AsmFault}
+use Rattle.rv_asm.specs.declared.fill.Filled.{Filled as CodeFilled}
+use Rattle.rv_asm.specs.declared.form.Section.TheVariants as sections
+use Rattle.std.specs.BTreeMap.{BTreeMap, get_by}
+use Rattle.std.specs.Cmp.Lexicographic.{slice_cmp}
+use Rattle.std.specs.Ordering.{nat_cmp}
+
+-- an entry of a table in code
+abbrev pub seen : {A : Type 0} → Bor (List ℕ) × A → Named A
+seen r = (r.0.now, r.1)
+
+-- What was answered is this text, or this want of one, unless memory ran out.
+abbrev pub GivesText : {V : Type 0} → (V → List ℕ) → Result (Option (V × ℕ)) AllocError → Option Spelling → Type 0
+GivesText items (Ok answer) spelling = option_map (λ t. (items t.0, t.1)) answer ≡ spelling
+GivesText items (Err e) spelling = Unit {0}
+
+abbrev pub token_of : CodeToken → Token
+token_of (code.Name n) = Name n.now
+token_of (code.Number n) = Number n
+token_of (code.Text t) = Text t.items
+token_of (code.Mark m) = Mark m
+
+abbrev pub front_of : (CodeToken → Token) → Found → Front
+front_of view ahead.Blank = Blank
+front_of view ahead.Comment = Comment
+front_of view (ahead.Begins token bytes) = Begins (view token) bytes
+front_of view ahead.Wrong = Wrong
+
+-- a token that was found has some of so many bytes
+abbrev pub IsWithin : Found → ℕ → Type 0
+IsWithin ahead.Blank n = Unit {0}
+IsWithin ahead.Comment n = Unit {0}
+IsWithin (ahead.Begins token bytes) n = (1 ≤ bytes) × (bytes ≤ n)
+IsWithin ahead.Wrong n = Unit {0}
+
+abbrev pub placed_of : CodePlaced → Placed
+placed_of p = record { column = p.column; token = token_of p.token }
+
+abbrev pub FailsLine : {A : Type 0} → LineError → Read A → Type 0
+FailsLine errors.Memory read = Unit {0}
+FailsLine (errors.Fault kind column) read = read ≡ Err (record { kind = kind; column = column })
+
+-- It is what is read of the line, unless memory ran out.
+abbrev pub GivesLine : {X A : Type 0} → (X → A) → Result X LineError → Read A → Type 0
+GivesLine view (Ok x) read = read ≡ Ok (view x)
+GivesLine view (Err e) read = FailsLine e read
+
+-- What was done: now this is what is read of the line, or the line has a fault, unless memory ran out.
+abbrev pub Steps : {U A : Type 0} → Result U LineError → A → Read A → Type 0
+Steps (Ok u) new read = read ≡ Ok new
+Steps (Err e) new read = FailsLine e read
+
+-- behind these
+abbrev pub with_front : {A : Type 0} → List A → Read (List A) → Read (List A)
+with_front front read = read >>= λ more. Ok (front ++ more)
+
+abbrev pub all_placed : List CodePlaced → List Placed
+all_placed ts = map placed_of ts
+
+abbrev pub use_of : NameUse → Use
+use_of u = record { name = u.name.now; column = u.column }
+
+abbrev pub piece_of : CodePiece → Piece
+piece_of (puts.Encoded word) = Encoded word
+piece_of (puts.Branch op rs1 rs2 label) = BranchTo op (number_of rs1) (number_of rs2) (use_of label)
+piece_of (puts.Jump rd label) = JumpTo (number_of rd) (use_of label)
+piece_of (puts.LoadAddress rd label) = AddressTo (number_of rd) (use_of label)
+piece_of (puts.Address label) = AddressOf (use_of label)
+piece_of (puts.Bytes bytes) = Bytes bytes.items
+piece_of (puts.Zeros count) = Zeros count
+
+abbrev pub statement_of : CodeStatement → Statement
+statement_of (does.Puts ps) = Puts (map piece_of ps.items)
+statement_of (does.Aligns bits) = Aligns bits
+statement_of (does.Enters section) = Enters section
+
+-- the multiple that a statement fills up to is at most 2^12
+abbrev pub AlignsWithin : CodeStatement → Type 0
+AlignsWithin (does.Puts ps) = Unit {0}
+AlignsWithin (does.Aligns bits) = bits ≤ 12
+AlignsWithin (does.Enters section) = Unit {0}
+
+abbrev pub put_of : CodePut → Put
+put_of p = record { line = p.line; place = p.place; piece = piece_of p.piece }
+
+abbrev pub labels_of : BTreeMap (Bor (List ℕ)) Place → List ℕ → Option Place
+labels_of labels name = get_by (λ k. slice_cmp nat_cmp name k.now) labels
+
+abbrev pub state_of : CodeState → State
+state_of s = record { labels = labels_of s.labels; section = s.section; text = s.text; content = s.content; puts = map put_of s.puts.items }
+
+-- the label that a colon ends, if one begins there
+abbrev pub label_front : List Placed → Option Use
+label_front [] = None
+label_front (t ∷ []) = None
+label_front (t ∷ c ∷ ts) = option_map (λ name. record { name = name; column = t.column }) (label_in t.token c.token)
+
+abbrev pub error_at : ℕ → LineError → AsmError
+error_at line errors.Memory = faults.Memory
+error_at line (errors.Fault kind column) = faults.Fault (record { kind = kind; line = line; column = column })
+
+-- ---- after all lines
+
+-- the bytes of both sections, and the line of each word of the text
+pub record Parts : Type 0 where
+  pub text : List ℕ
+  pub content : List ℕ
+  pub lines : List ℕ
+
+abbrev pub no_parts : Parts
+no_parts = record { text = []; content = []; lines = [] }
+
+abbrev pub parts_of : CodeFilled → Parts
+parts_of f = record { text = f.text.items; content = f.content.items; lines = f.lines.items }
+
+-- with the bytes of one more piece
+abbrev pub with_filled : Parts → Filled → Parts
+with_filled parts f = elim (f.section) [
+  | sections.Text ↦ record { text = parts.text ++ f.bytes; content = parts.content; lines = parts.lines ++ replicate (length f.bytes / 4) f.line }
+  | sections.Data ↦ record { text = parts.text; content = parts.content ++ f.bytes; lines = parts.lines }
+]
+
+abbrev pub then_filled : Parts → Result Filled AsmFault → Result Parts AsmFault
+then_filled parts read = read >>= λ f. Ok (with_filled parts f)
+
+-- the parts that these make together
+abbrev pub all_parts : Result (List Filled) AsmFault → Result Parts AsmFault
+all_parts read = read >>= λ fs. Ok (record { text = joined (text_of fs); content = joined (content_of fs); lines = lines_of fs })
+
+-- behind these parts
+abbrev pub filled_on : Parts → Result (List Filled) AsmFault → Result Parts AsmFault
+filled_on parts read = read >>= λ fs. Ok (record { text = parts.text ++ joined (text_of fs); content = parts.content ++ joined (content_of fs); lines = parts.lines ++ lines_of fs })
+
+-- What was done: now this is what is read, or the source has a fault, unless memory ran out.
+abbrev pub StepsAll : {U A : Type 0} → Result U AsmError → A → Result A AsmFault → Type 0
+StepsAll (Ok u) new read = read ≡ Ok new
+StepsAll (Err e) new read = Fails e read

@@ -1,0 +1,260 @@
+//! After all lines: the bytes of the pieces, in the order of the source.
+
+ghost use Rattle.std.specs.Prelude.{◌≡◌, ◌≤◌, ◌<◌, ◌+◌, ◌-◌, ◌/◌, ◌^◌, ◌++◌, length, replicate, IfOk, IsTrue, Ok, pos, neg_ℤ, ◌≤ℤ◌};
+ghost use Rattle.std.specs.Int.{w32, to_le_bytes};
+ghost use Rattle.rv_decode.specs.Fields.{is_signed, is_even};
+ghost use Rattle.rv_decode.specs.Instructions.{InRange};
+ghost use Rattle.rv_decode.specs.declared.Instr.TheVariants as instr;
+ghost use Rattle.rv_decode.specs.declared.UpperOp.TheVariants.{Auipc};
+ghost use Rattle.rv_decode.specs.declared.ImmOp.TheVariants.{Addi};
+ghost use Rattle.rv_asm.specs.Statements.{upper, lower};
+ghost use Rattle.rv_asm.specs.Assembled.{Gives, address, target, reach, word, load_address, bytes_at, filled, all_filled, begin_of, entry};
+ghost use Rattle.rv_asm.specs.Views.{GivesLine, Steps, StepsAll, state_of, use_of, piece_of, put_of, with_front, with_filled, parts_of, then_filled, all_parts};
+
+use crate::form::Section;
+use crate::lines::error_at;
+use crate::operands::NameUse;
+use crate::pieces::{Piece, lower, upper};
+use crate::register::number_of;
+use crate::state::{Place, Put, State, up_to_multiple};
+use crate::tokens::LineError;
+use crate::{AsmError, AsmKind};
+use rv_decode::{ImmOp, Instr, UpperOp, encode};
+use std::alloc::{AllocError, Global};
+
+/// Where the text begins.
+pub const TEXT_START: u64 = 0x1_0000;
+
+/// The bytes of both sections, and the line of each word of the text.
+#[derive(Drop)]
+pub struct Filled {
+    pub text: Vec<u8>,
+    pub content: Vec<u8>,
+    pub lines: Vec<u32>,
+}
+
+/// The address of a place; data begins at the first page that isn't below the text's end.
+pub fn address(state: &State, place: Place) -> u64
+    ensures value { result ≡ address (state_of state.now) place }
+    ensures small { result < 2 ^ 34 }
+{
+    match place.section {
+        Section::Text => TEXT_START + u64::from(place.offset),
+        Section::Data => {
+            TEXT_START + up_to_multiple(4096, u64::from(state.text)) + u64::from(place.offset)
+        }
+    }
+}
+
+/// The address of a label.
+fn target(state: &State, label: NameUse) -> Result<u64, LineError>
+    ensures value { GivesLine (λ a. a) result (target (state_of state.now) (use_of label.entry)) }
+    ensures small { IfOk result (λ a. a < 2 ^ 34) }
+{
+    match state.labels.get(label.name) {
+        None => Err(LineError::Fault {
+            kind: AsmKind::Missing,
+            column: label.column,
+        }),
+        Some(place) => Ok(address(state, *place)),
+    }
+}
+
+/// How far a label is from a branch.
+fn branch_offset(state: &State, label: NameUse, from: u64) -> Result<i32, LineError>
+    requires { from < 2 ^ 34 }
+    ensures value { GivesLine (λ far. far) result (reach (state_of state.now) 13 (use_of label.entry) from) }
+    ensures near { IfOk result (λ far. IsTrue (is_signed 13 far)) }
+    ensures even { IfOk result (λ far. IsTrue (is_even far)) }
+{
+    let far = target(state, label)? as i64 - from as i64;
+    if -0x1000 <= far && far < 0x1000 && far % 2 == 0 {
+        Ok(far as i32)
+    } else {
+        Err(far_fault(label.column))
+    }
+}
+
+/// How far a label is from a jump.
+fn jump_offset(state: &State, label: NameUse, from: u64) -> Result<i32, LineError>
+    requires { from < 2 ^ 34 }
+    ensures value { GivesLine (λ far. far) result (reach (state_of state.now) 21 (use_of label.entry) from) }
+    ensures near { IfOk result (λ far. IsTrue (is_signed 21 far)) }
+    ensures even { IfOk result (λ far. IsTrue (is_even far)) }
+{
+    let far = target(state, label)? as i64 - from as i64;
+    if -0x10_0000 <= far && far < 0x10_0000 && far % 2 == 0 {
+        Ok(far as i32)
+    } else {
+        Err(far_fault(label.column))
+    }
+}
+
+/// A label that is out of reach or an odd number of bytes away.
+fn far_fault(column: u32) -> LineError
+    ensures { result ≡ LineError.Fault AsmKind.Far column }
+{
+    LineError::Fault {
+        kind: AsmKind::Far,
+        column,
+    }
+}
+
+/// An instruction's word.
+fn write_instruction(out: &mut Vec<u8>, instr: Instr) -> Result<(), AllocError>
+    requires { InRange instr }
+    ensures { IfOk result (λ _. out.new.items ≡ out.old.items ++ word instr) }
+{
+    out.extend_from_slice(&encode(instr).to_le_bytes())
+}
+
+/// The first of the two instructions that put an address so far away into a register.
+fn write_upper(out: &mut Vec<u8>, rd: u8, far: i128) -> Result<(), AllocError>
+    requires register { rd < 32 }
+    requires low { neg_ℤ (pos (2 ^ 100)) ≤ℤ far }
+    requires high { far ≤ℤ pos (2 ^ 100) }
+    ensures { IfOk result (λ _. out.new.items ≡ out.old.items ++ word (instr.Upper Auipc rd (upper far))) }
+{
+    let auipc = Instr::Upper {
+        op: UpperOp::Auipc,
+        rd,
+        value: upper(far),
+    };
+    write_instruction(out, auipc)
+}
+
+/// The second of the two.
+fn write_lower(out: &mut Vec<u8>, rd: u8, far: i128) -> Result<(), AllocError>
+    requires { rd < 32 }
+    ensures { IfOk result (λ _. out.new.items ≡ out.old.items ++ word (instr.Imm Addi rd rd (lower far))) }
+{
+    let addi = Instr::Imm {
+        op: ImmOp::Addi,
+        rd,
+        rs1: rd,
+        value: lower(far),
+    };
+    write_instruction(out, addi)
+}
+
+/// The two instructions that put an address so far away into a register.
+fn write_address_load(out: &mut Vec<u8>, rd: u8, far: i128) -> Result<(), AllocError>
+    requires register { rd < 32 }
+    requires low { neg_ℤ (pos (2 ^ 100)) ≤ℤ far }
+    requires high { far ≤ℤ pos (2 ^ 100) }
+    ensures { IfOk result (λ _. out.new.items ≡ out.old.items ++ load_address rd far) }
+{
+    write_upper(out, rd, far)?;
+    write_lower(out, rd, far)?;
+    Ok(())
+}
+
+/// So many zeros.
+fn write_zeros(out: &mut Vec<u8>, count: u32) -> Result<(), AllocError>
+    ensures { IfOk result (λ _. out.new.items ≡ out.old.items ++ replicate count 0) }
+{
+    let length = out.len();
+    out.resize(length + count as usize, 0)
+}
+
+/// The bytes of a piece at this address.
+fn write_piece(out: &mut Vec<u8>, state: &State, from: u64, piece: &Piece) -> Result<(), LineError>
+    requires { from < 2 ^ 34 }
+    ensures { Steps result out.new.items (with_front out.old.items (bytes_at (state_of state.now) from (piece_of piece.now))) }
+{
+    match piece {
+        Piece::Encoded(word) => out.extend_from_slice(&word.to_le_bytes())?,
+        Piece::Branch {
+            op,
+            rs1,
+            rs2,
+            label,
+        } => {
+            let branch = Instr::Branch {
+                op: *op,
+                rs1: number_of(*rs1),
+                rs2: number_of(*rs2),
+                offset: branch_offset(state, *label, from)?,
+            };
+            write_instruction(out, branch)?;
+        }
+        Piece::Jump { rd, label } => {
+            let jump = Instr::Jal {
+                rd: number_of(*rd),
+                offset: jump_offset(state, *label, from)?,
+            };
+            write_instruction(out, jump)?;
+        }
+        Piece::LoadAddress { rd, label } => {
+            let far = i128::from(target(state, *label)?) - i128::from(from);
+            write_address_load(out, number_of(*rd), far)?;
+        }
+        Piece::Address(label) => {
+            out.extend_from_slice(&target(state, *label)?.to_le_bytes())?;
+        }
+        Piece::Bytes(bytes) => out.extend_from_slice(bytes)?,
+        Piece::Zeros(count) => write_zeros(out, *count)?,
+    }
+    Ok(())
+}
+
+/// The line of each word, so many words of one line.
+fn push_lines(lines: &mut Vec<u32>, line: u32, words: usize) -> Result<(), AllocError>
+    ensures { IfOk result (λ _. lines.new.items ≡ lines.old.items ++ replicate words line) }
+{
+    for _ in 0..words {
+        lines.push(line)?;
+    }
+    Ok(())
+}
+
+/// The bytes of a piece in its place.
+fn fill_one(parts: &mut Filled, state: &State, put: &Put) -> Result<(), AsmError>
+    ensures { StepsAll result (parts_of parts.new) (then_filled (parts_of parts.old) (filled (state_of state.now) (put_of put.now))) }
+{
+    let from = address(state, put.place);
+    match put.place.section {
+        Section::Text => {
+            let before = parts.text.len();
+            if let Err(error) = write_piece(&mut parts.text, state, from, &put.piece) {
+                return Err(error_at(put.line, error));
+            }
+            let words = (parts.text.len() - before) / 4;
+            if push_lines(&mut parts.lines, put.line, words).is_err() {
+                return Err(AsmError::Memory);
+            }
+            Ok(())
+        }
+        Section::Data => match write_piece(&mut parts.content, state, from, &put.piece) {
+            Err(error) => Err(error_at(put.line, error)),
+            Ok(()) => Ok(()),
+        },
+    }
+}
+
+/// The bytes of all pieces in the order of the source.
+pub fn fill(alloc: Global, state: &State) -> Result<Filled, AsmError>
+    ensures { Gives parts_of result (all_parts (all_filled (state_of state.now) (state_of state.now).puts)) }
+{
+    let mut parts = Filled {
+        text: Vec::new(alloc),
+        content: Vec::new(alloc),
+        lines: Vec::new(alloc),
+    };
+    for put in &state.puts {
+        fill_one(&mut parts, state, put)?;
+    }
+    Ok(parts)
+}
+
+/// Where the program begins.
+pub fn entry(state: &State) -> u64
+    ensures { result ≡ entry (state_of state.now) }
+{
+    match state.labels.get(b"_start".as_slice()) {
+        Some(place) if matches!(place.section, Section::Text) && place.offset < state.text => {
+            address(state, *place)
+        }
+        _ => TEXT_START,
+    }
+}

@@ -1,0 +1,241 @@
+//! The lines of a source, one after the other.
+
+ghost use Rattle.std.specs.Prelude.{◌≡◌, ◌≤◌, ◌<◌, ◌+◌, ◌-◌, ◌^◌, ◌==◌, length, drop, option_map, position, not, ◌∷◌, Option, IfSome};
+ghost use Rattle.std.specs.List.{prefix_len};
+ghost use Rattle.std.specs.Str.{byte};
+ghost use Rattle.rv_asm.specs.Tokens.{is_allowed, lines};
+ghost use Rattle.rv_asm.specs.Statements.{belongs};
+ghost use Rattle.rv_asm.specs.Assembled.{Gives, start, may_stand, formed, name_in, stated, take_tokens, take_line, take_lines};
+ghost use Rattle.rv_asm.specs.Views.{Steps, state_of, placed_of, all_placed, token_of, use_of, label_front, error_at};
+
+use crate::form::{Form, Section};
+use crate::forms::{from_place, statement};
+use crate::operands::NameUse;
+use crate::state::State;
+use crate::table::form_of;
+use crate::tokens::{LineError, Placed, Token, is_blank, tokens};
+use crate::{AsmError, AsmFault, AsmKind};
+use std::alloc::Global;
+
+/// The most lines of a source.
+const MOST_LINES: u32 = 65_536;
+
+/// Whether a byte may stand in a line.
+fn is_allowed(byte: u8) -> bool
+    ensures { result ≡ is_allowed byte }
+{
+    is_blank(byte) || 0x20 <= byte && byte <= 0x7E
+}
+
+/// The section that a statement has to stand in, if it has one.
+fn belongs(form: Form) -> Option<Section>
+    ensures { result ≡ belongs form }
+{
+    match form {
+        Form::Enter(_) | Form::Global => None,
+        Form::Numbers(_) | Form::Ascii | Form::Zeros | Form::Align => Some(Section::Data),
+        _ => Some(Section::Text),
+    }
+}
+
+/// Whether a statement may stand in this section.
+fn may_stand(form: Form, now: Section) -> bool
+    ensures { result ≡ may_stand (belongs form) now }
+{
+    match belongs(form) {
+        None => true,
+        Some(Section::Text) => matches!(now, Section::Text),
+        Some(Section::Data) => matches!(now, Section::Data),
+    }
+}
+
+/// The form of the statement that begins with this token.
+fn form_in(first: &Token) -> Option<Form>
+    ensures { result ≡ formed (name_in (token_of first.now)) }
+{
+    match first {
+        Token::Name(name) => form_of(*name),
+        _ => None,
+    }
+}
+
+/// The label that begins at this place, if a colon follows the name there.
+fn label_at<'s>(tokens: &[Placed<'s>], place: usize) -> Option<NameUse<'s>>
+    requires { place ≤ length tokens.now }
+    ensures { option_map use_of result ≡ label_front (all_placed (drop place tokens.now)) }
+{
+    label_first(from_place(tokens, place))
+}
+
+/// The label that begins these tokens, if a colon follows the name there.
+fn label_first<'s>(tokens: &[Placed<'s>]) -> Option<NameUse<'s>>
+    ensures { option_map use_of result ≡ label_front (all_placed tokens.now) }
+{
+    match tokens {
+        [first, second, ..] => match (&first.token, &second.token) {
+            (Token::Name(name), Token::Mark(b':')) => Some(NameUse {
+                name: *name,
+                column: first.column,
+            }),
+            _ => None,
+        },
+        _ => None,
+    }
+}
+
+/// The statement that begins with this token.
+fn take_statement<'s>(
+    alloc: Global,
+    line: u32,
+    end: u32,
+    first: &Placed<'s>,
+    operands: &[Placed<'s>],
+    state: &mut State<'s>,
+) -> Result<(), LineError>
+    ensures { Steps result (state_of state.new) (stated line end (placed_of first.now) (all_placed operands.now) (state_of state.old)) }
+{
+    let column = first.column;
+    let Some(form) = form_in(&first.token) else {
+        return Err(LineError::Fault {
+            kind: AsmKind::Name,
+            column,
+        });
+    };
+    if !may_stand(form, state.section) {
+        return Err(LineError::Fault {
+            kind: AsmKind::Section,
+            column,
+        });
+    }
+    let what = statement(alloc, end, form, operands)?;
+    state.perform(line, column, what)
+}
+
+/// The statement that may follow the labels of a line.
+fn take_last<'s>(
+    alloc: Global,
+    line: u32,
+    end: u32,
+    tokens: &[Placed<'s>],
+    state: &mut State<'s>,
+) -> Result<(), LineError>
+    requires { label_front (all_placed tokens.now) ≡ None }
+    ensures { Steps result (state_of state.new) (take_tokens line end (all_placed tokens.now) (state_of state.old)) }
+{
+    match tokens.split_first() {
+        None => Ok(()),
+        Some((first, operands)) => take_statement(alloc, line, end, first, operands, state),
+    }
+}
+
+/// Labels, and then at most one statement.
+fn take_tokens<'s>(
+    alloc: Global,
+    line: u32,
+    end: u32,
+    tokens: &[Placed<'s>],
+    state: &mut State<'s>,
+) -> Result<(), LineError>
+    ensures { Steps result (state_of state.new) (take_tokens line end (all_placed tokens.now) (state_of state.old)) }
+{
+    let mut place = 0;
+    while let Some(label) = label_at(tokens, place) {
+        state.add_label(label.name, label.column)?;
+        place += 2;
+    }
+    take_last(alloc, line, end, from_place(tokens, place), state)
+}
+
+/// The place of the first byte that may not stand in a line.
+fn first_wrong_byte(line: &[u8]) -> Option<usize>
+    ensures place { result ≡ position (λ b. not (is_allowed b)) line.now }
+    ensures within { IfSome result (λ place. place < length line.now) }
+{
+    line.iter().position(|byte| !is_allowed(*byte))
+}
+
+/// A line without its end.
+#[tactic(auto, unfolding(crate::specs::Tokens::tokens))]
+fn take_line<'s>(
+    alloc: Global,
+    number: u32,
+    line: &'s [u8],
+    state: &mut State<'s>,
+) -> Result<(), LineError>
+    requires { length line.now ≤ 4194304 }
+    ensures value { Steps result (state_of state.new) (take_line number line.now (state_of state.old)) }
+{
+    if number > MOST_LINES {
+        return Err(LineError::Fault {
+            kind: AsmKind::Lines,
+            column: 1,
+        });
+    }
+    if let Some(place) = first_wrong_byte(line) {
+        return Err(LineError::Fault {
+            kind: AsmKind::Byte,
+            column: place as u32 + 1,
+        });
+    }
+    let found = tokens(alloc, line)?;
+    take_tokens(alloc, number, line.len() as u32 + 1, &found, state)
+}
+
+/// How many bytes a line has that begins these.
+fn line_length(bytes: &[u8]) -> usize
+    ensures length { result ≡ prefix_len (λ b. not (b == byte "\n")) bytes.now }
+    ensures within { result ≤ length bytes.now }
+{
+    let mut i = 0;
+    while i < bytes.len() && bytes[i] != b'\n' {
+        i += 1;
+    }
+    i
+}
+
+/// The line that begins these bytes.
+fn first_line(bytes: &[u8]) -> &[u8]
+    requires { 1 ≤ length bytes.now }
+    ensures lines { lines bytes.now ≡ result.now ∷ lines (drop (length result.now + 1) bytes.now) }
+    ensures within { length result.now ≤ length bytes.now }
+{
+    &bytes[..line_length(bytes)]
+}
+
+/// The line that begins at this place of the source.
+fn line_at(source: &[u8], place: usize) -> &[u8]
+    requires { place < length source.now }
+    ensures lines { lines (drop place source.now) ≡ result.now ∷ lines (drop (place + (length result.now + 1)) source.now) }
+    ensures within { place + length result.now ≤ length source.now }
+{
+    first_line(&source[place..])
+}
+
+/// The fault of a line, with the line's number.
+pub fn error_at(line: u32, error: LineError) -> AsmError
+    ensures { result ≡ error_at line error }
+{
+    match error {
+        LineError::Memory => AsmError::Memory,
+        LineError::Fault { kind, column } => AsmError::Fault(AsmFault { kind, line, column }),
+    }
+}
+
+/// The lines of a source.
+pub fn take_lines<'s>(alloc: Global, source: &'s [u8]) -> Result<State<'s>, AsmError>
+    requires { length source.now ≤ 4194304 }
+    ensures { Gives state_of result (take_lines 1 (lines source.now) start) }
+{
+    let mut state = State::new(alloc);
+    let mut number = 0;
+    let mut place = 0;
+    while place < source.len() {
+        let line = line_at(source, place);
+        number += 1;
+        if let Err(error) = take_line(alloc, number, line, &mut state) {
+            return Err(error_at(number, error));
+        }
+        place += line.len() + 1;
+    }
+    Ok(state)
+}

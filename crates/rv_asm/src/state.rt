@@ -1,0 +1,161 @@
+//! What the lines so far have made: labels with their places, and pieces in their places.
+
+ghost use Rattle.std.specs.Prelude.{◌≡◌, ◌≤◌, ◌<◌, ◌+◌, ◌-◌, ◌^◌, [], map};
+ghost use Rattle.rv_asm.specs.Assembled.{here, next_place, start, with_label, with_piece, with_pieces, up_to_multiple, done};
+ghost use Rattle.rv_asm.specs.Statements.{size};
+ghost use Rattle.rv_asm.specs.Views.{Steps, state_of, piece_of, statement_of, AlignsWithin};
+
+use crate::AsmKind;
+use crate::form::Section;
+use crate::pieces::{Piece, Statement};
+use crate::tokens::LineError;
+use std::alloc::Global;
+use std::collections::BTreeMap;
+
+/// The most bytes of a section.
+const MOST_BYTES: usize = 1_048_576;
+
+/// A place in a section.
+#[derive(Clone, Copy)]
+pub struct Place {
+    pub section: Section,
+    pub offset: u32,
+}
+
+/// A piece in its place, and the line of its statement.
+#[derive(Drop)]
+pub struct Put<'s> {
+    pub line: u32,
+    pub place: Place,
+    pub piece: Piece<'s>,
+}
+
+/// The labels, the section and how long each one is, and the pieces in the order of the source.
+#[derive(Drop)]
+pub struct State<'s> {
+    pub labels: BTreeMap<&'s [u8], Place>,
+    pub section: Section,
+    pub text: u32,
+    pub content: u32,
+    pub puts: Vec<Put<'s>>,
+}
+
+/// How many bytes a piece has.
+pub fn size(piece: &Piece) -> usize
+    ensures { result ≡ size (piece_of piece.now) }
+{
+    match piece {
+        Piece::Encoded(_) | Piece::Branch { .. } | Piece::Jump { .. } => 4,
+        Piece::LoadAddress { .. } | Piece::Address(_) => 8,
+        Piece::Bytes(bytes) => bytes.len(),
+        Piece::Zeros(count) => *count as usize,
+    }
+}
+
+/// The least multiple that isn't below `n`.
+pub fn up_to_multiple(multiple: u64, n: u64) -> u64
+    requires some { 0 < multiple }
+    requires multiple { multiple ≤ 2 ^ 32 }
+    requires small { n ≤ 2 ^ 32 }
+    ensures value { result ≡ up_to_multiple multiple n }
+    ensures within { result < n + multiple }
+    ensures above { n ≤ result }
+{
+    (n + (multiple - 1)) / multiple * multiple
+}
+
+impl<'s> State<'s> {
+    pub fn new(alloc: Global) -> State<'s>
+        ensures { state_of result ≡ start }
+    {
+        State {
+            labels: BTreeMap::new(alloc),
+            section: Section::Text,
+            text: 0,
+            content: 0,
+            puts: Vec::new(alloc),
+        }
+    }
+
+    fn here(&self) -> u32
+        ensures { result ≡ here (state_of self.now) }
+    {
+        match self.section {
+            Section::Text => self.text,
+            Section::Data => self.content,
+        }
+    }
+
+    fn next_place(&self) -> Place
+        ensures { result ≡ next_place (state_of self.now) }
+    {
+        Place {
+            section: self.section,
+            offset: self.here(),
+        }
+    }
+
+    /// A label where the next piece goes.
+    pub fn add_label(&mut self, name: &'s [u8], column: u32) -> Result<(), LineError>
+        ensures { Steps result (state_of self.new) (with_label name.now column (state_of self.old)) }
+    {
+        let place = self.next_place();
+        match self.labels.insert(name, place)? {
+            None => Ok(()),
+            Some(_) => Err(LineError::Fault {
+                kind: AsmKind::Twice,
+                column,
+            }),
+        }
+    }
+
+    /// One piece of a statement.
+    fn put(&mut self, line: u32, column: u32, piece: Piece<'s>) -> Result<(), LineError>
+        ensures { Steps result (state_of self.new) (with_piece line column (piece_of piece.entry) (state_of self.old)) }
+    {
+        let end = (self.here() as usize).saturating_add(size(&piece));
+        if end > MOST_BYTES {
+            return Err(LineError::Fault {
+                kind: AsmKind::Much,
+                column,
+            });
+        }
+        let place = self.next_place();
+        self.puts.push(Put { line, place, piece })?;
+        match self.section {
+            Section::Text => self.text = end as u32,
+            Section::Data => self.content = end as u32,
+        }
+        Ok(())
+    }
+
+    /// The pieces of a statement.
+    #[tactic(auto, unfolding(crate::specs::Assembled::with_pieces))]
+    fn put_all(&mut self, line: u32, column: u32, pieces: Vec<Piece<'s>>) -> Result<(), LineError>
+        ensures { Steps result (state_of self.new) (with_pieces line column (map piece_of pieces.entry.items) (state_of self.old)) }
+    {
+        for piece in pieces {
+            self.put(line, column, piece)?;
+        }
+        Ok(())
+    }
+
+    /// What a statement does.
+    pub fn perform(&mut self, line: u32, column: u32, what: Statement<'s>) -> Result<(), LineError>
+        requires { AlignsWithin what }
+        ensures { Steps result (state_of self.new) (done line column (statement_of what.entry) (state_of self.old)) }
+    {
+        match what {
+            Statement::Puts(pieces) => self.put_all(line, column, pieces),
+            Statement::Aligns(bits) => {
+                let here = u64::from(self.here());
+                let zeros = up_to_multiple(1 << bits, here) - here;
+                self.put(line, column, Piece::Zeros(zeros as u32))
+            }
+            Statement::Enters(section) => {
+                self.section = section;
+                Ok(())
+            }
+        }
+    }
+}
