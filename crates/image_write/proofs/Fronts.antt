@@ -4,11 +4,11 @@ use Rattle.rv_asm.specs.Assembled.{Program}
 use Rattle.image_write.specs.File.{file_header, segment, segments, has_content, whole_pages}
 use Rattle.image_write.proofs.Lengths.{length-half, length-word, length-double}
 
-length-segment : (flags place address size : ℕ) → length (segment flags place address size) ≡ 56
+pub length-segment : (flags place address size : ℕ) → length (segment flags place address size) ≡ 56
 unfolding segment
 length-segment flags place address size = simp (length-append, length-word, length-double)
 
-length-segments : (p : Program) → length (segments p) ≤ 112
+pub length-segments : (p : Program) → length (segments p) ≤ 112
 unfolding segments
 length-segments p =
     let content = segment 6 (4096 + whole_pages p) (0x10000 + whole_pages p) (length p.content) in
@@ -18,7 +18,7 @@ length-segments p =
       | false ↦ omega (arith, length-append {A = ℕ} text [], length-segment 5 4096 0x10000 (length p.text))
     ]
 
-length-file_header : (entry headers count : ℕ) → length (file_header entry headers count) ≡ 64
+pub length-file_header : (entry headers count : ℕ) → length (file_header entry headers count) ≡ 64
 unfolding file_header
 length-file_header entry headers count = simp (length-append, length-half, length-word, length-double)
 

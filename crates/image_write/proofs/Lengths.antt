@@ -33,7 +33,7 @@ over_group out count i n all more kept =
     ∙ ap (λ xs. out ++ xs) (sym (groups_step (count - i + 1) n (omega arith)))
     ∙ kept
 
-length-groups : (k n : ℕ) → length (groups k n) ≡ k
+pub length-groups : (k n : ℕ) → length (groups k n) ≡ k
 length-groups zero n = refl
 length-groups (suc zero) n = refl
 length-groups (suc (suc k)) n = omega (arith, length-groups (suc k) (n / 128))
@@ -94,10 +94,14 @@ length-counted bytes = omega (arith, length-append (word (length bytes)) bytes, 
 length-header : (name : List ℕ) → length (numbers ++ files name) ≡ length name + 24
 length-header name = simp length-append (omega arith)
 
-pub body_small : (ls name : List ℕ) → length ls < 2 ^ 20 → length name < 2 ^ 20 → length (unit_body ls name) < 2 ^ 32
-body_small ls name few short =
+-- the first number that isn't a length of the 32-bit form
+pub body_short : (ls name : List ℕ) → length ls < 2 ^ 20 → length name < 2 ^ 20 → length (unit_body ls name) < 0xFFFFFFF0
+body_short ls name few short =
     let header = numbers ++ files name in
     omega (arith, length-append (half 4 ++ counted header) (line_program ls), length-append (half 4) (counted header), length-half 4, length-counted header, length-header name, length-line_program ls)
+
+pub body_small : (ls name : List ℕ) → length ls < 2 ^ 20 → length name < 2 ^ 20 → length (unit_body ls name) < 2 ^ 32
+body_small ls name few short = omega (arith, body_short ls name few short)
 
 pub unit_small : (ls name : List ℕ) → length ls < 2 ^ 20 → length name < 2 ^ 20 → length (counted (unit_body ls name)) < 2 ^ 33
 unit_small ls name few short = omega (arith, length-counted (unit_body ls name), body_small ls name few short)

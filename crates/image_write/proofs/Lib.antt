@@ -1,3 +1,10 @@
 mod Lengths
+mod Leb
 mod Fronts
+mod Fields
+mod FileParts
+mod Loading
+mod LineSection
+mod Program
+mod Written
 mod Files

@@ -5,9 +5,14 @@ mod headers;
 mod numbers;
 mod unit;
 
-ghost use Rattle.std.specs.Prelude.{◌≡◌, ◌<◌, ◌≤◌, ◌-◌, ◌^◌, ◌++◌, length, replicate, nat_lt, IfOk};
-ghost use Rattle.rv_asm.specs.Assembled.{view};
+ghost use Rattle.std.specs.Prelude.{◌≡◌, ◌<◌, ◌≤◌, ◌-◌, ◌^◌, ◌++◌, length, replicate, nat_lt, option_map, IfOk, Ok, Some, codes};
+ghost use Rattle.elf_load.specs.Loaded.{loaded, section};
+ghost use Rattle.dwarf_lines.specs.Reading.{reading};
+ghost use Rattle.rv_asm.specs.Assembled.{IsProgram, view};
 ghost use Rattle.image_write.specs.File.{IsWritable, IsName, filled_up, file_header, segments, headers_place, segment_count, front, file_with, written_file};
+ghost use Rattle.image_write.specs.Image.{image_of};
+ghost use Rattle.image_write.specs.Unit.{unit};
+ghost use Rattle.image_write.specs.Lines.{table_of};
 
 use headers::{
     NAMES, PAGE, file_header, headers_place, names_end, sections, segment_count, segments,
@@ -78,7 +83,10 @@ fn file_with(alloc: Global, assembled: &Assembled, unit: &[u8]) -> Result<Vec<u8
 pub fn write_elf(alloc: Global, assembled: &Assembled, name: &[u8]) -> Result<Vec<u8>, AllocError>
     requires writable { IsWritable (view assembled.now) }
     requires named { IsName name.now }
-    ensures { IfOk result (λ v. v.items ≡ written_file (view assembled.now) name.now) }
+    ensures bytes { IfOk result (λ v. v.items ≡ written_file (view assembled.now) name.now) }
+    ensures loads { IsProgram (view assembled.now) → IfOk result (λ v. loaded v.items ≡ Ok (image_of (view assembled.now) v.items)) }
+    ensures line_unit { IsProgram (view assembled.now) → IfOk result (λ v. section v.items (codes ".debug_line") ≡ Some (unit (view assembled.now).lines name.now)) }
+    ensures lines { IsProgram (view assembled.now) → IfOk result (λ v. option_map reading (section v.items (codes ".debug_line")) ≡ Some (Ok (table_of (view assembled.now).lines name.now))) }
 {
     let unit = unit(alloc, assembled.lines.as_slice(), name)?;
     file_with(alloc, assembled, unit.as_slice())
@@ -88,7 +96,21 @@ pub fn write_elf(alloc: Global, assembled: &Assembled, name: &[u8]) -> Result<Ve
 mod tests {
     use super::*;
     use coz_lists::Items;
+    use rv_asm::assemble;
     use std::test::Fail;
+
+    // A caller of both has nothing to test in between.
+    #[test]
+    fn a_source_is_written(rt: HostRuntime) -> Result<(), Fail> {
+        let alloc = rt.alloc();
+        let source = b"addi a0, x0, 0\naddi a7, x0, 93\necall\n";
+        let length = match assemble(alloc, source) {
+            Ok(made) => write_elf(alloc, &made, b"one.s")?.len(),
+            Err(_) => 0,
+        };
+        assert_eq!(rt; length, 4536);
+        Ok(())
+    }
 
     // The bytes were told by an implementation that was written apart from this one.
     #[test]

@@ -5,5 +5,8 @@ mod FirstLine
 mod LineTokens
 mod TakeLines
 mod Filling
+mod WholeWords
+mod States
+mod Made
 mod Faults
 mod Programs

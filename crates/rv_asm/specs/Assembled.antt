@@ -1,5 +1,5 @@
 -- What a source stands for, or its first fault.
-use Rattle.std.specs.Prelude.{◌≡◌, ℕ, ◌+◌, ◌-◌, ◌*◌, ◌/◌, ◌^◌, Bool, true, false, not, ◌&&◌, List, [], ◌∷◌, ◌++◌, length, filter, is_some, flat_map, replicate, position, ℤ, pos, ◌-ℤ◌, Option, Some, None, Result, Ok, Err, nat_lt, nat_le, ◌==◌, if◌then◌else◌, bytes_eq, codes}
+use Rattle.std.specs.Prelude.{◌≡◌, ℕ, ◌+◌, ◌-◌, ◌*◌, ◌/◌, ◌%◌, ◌^◌, ◌<◌, ◌≤◌, All, Bool, true, false, not, ◌&&◌, List, [], ◌∷◌, ◌++◌, length, filter, is_some, flat_map, replicate, position, ℤ, pos, ◌-ℤ◌, Option, Some, None, Result, Ok, Err, nat_lt, nat_le, ◌==◌, if◌then◌else◌, bytes_eq, codes}
 use Rattle.std.specs.Map.{update}
 use Rattle.std.specs.Str.{byte}
 use Rattle.std.specs.Int.{w32, w64, to_le_bytes}
@@ -242,6 +242,17 @@ program s fs = record {
   lines = lines_of fs;
   entry = entry s;
 }
+
+-- what every source without a fault stands for: some words, each with its line, and the entry at one of them
+pub record IsProgram (p : Program) : Type 0 where
+  pub some : 0 < length p.text
+  pub text_fits : length p.text ≤ 1048576
+  pub content_fits : length p.content ≤ 1048576
+  pub whole : length p.text ≡ 4 * length p.lines
+  pub lines_fit : All (λ line. (1 ≤ line) × (line ≤ 65536)) p.lines
+  pub entry_whole : p.entry % 4 ≡ 0
+  pub entry_starts : 0x10000 ≤ p.entry
+  pub entry_within : p.entry < 0x10000 + length p.text
 
 unfoldable pub assembled : List ℕ → Result Program AsmFault
 assembled source = do

@@ -13,8 +13,8 @@ mod table;
 mod tokens;
 mod words;
 
-ghost use Rattle.std.specs.Prelude.{◌≡◌, ◌≤◌, length};
-ghost use Rattle.rv_asm.specs.Assembled.{Gives, assembled, view};
+ghost use Rattle.std.specs.Prelude.{◌≡◌, ◌≤◌, length, IfOk};
+ghost use Rattle.rv_asm.specs.Assembled.{Gives, IsProgram, assembled, view};
 
 use crate::fill::{entry, fill};
 use crate::lines::take_lines;
@@ -65,7 +65,8 @@ pub struct Assembled {
 #[tactic(auto, unfolding(crate::specs::Assembled::assembled))]
 pub fn assemble(alloc: Global, source: &[u8]) -> Result<Assembled, AsmError>
     requires { length source.now ≤ 4194304 }
-    ensures { Gives view result (assembled source.now) }
+    ensures value { Gives view result (assembled source.now) }
+    ensures program { IfOk result (λ a. IsProgram (view a)) }
 {
     let state = take_lines(alloc, source)?;
     let filled = fill(alloc, &state)?;

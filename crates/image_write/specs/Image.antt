@@ -1,0 +1,38 @@
+-- The image that a written file loads as.
+use Rattle.std.specs.Prelude.{ℕ, ◌+◌, true, false, List, [], ◌∷◌, length, if◌then◌else◌}
+use Rattle.coz_types.specs.declared.image.Area.{Area}
+use Rattle.coz_types.specs.Image.{ImageParts}
+use Rattle.rv_asm.specs.Assembled.{Program, up_to_multiple}
+use Rattle.image_write.specs.File.{has_content, whole_pages, segment_count}
+
+-- the text is read and executed
+abbrev pub text_area : Program → Area
+text_area p = record {
+  start = 0x10000;
+  size = whole_pages p;
+  rights = record { read = true; write = false; execute = true };
+  vaddr = 0x10000;
+  offset = 4096;
+  filled = length p.text;
+}
+
+-- the data is read and written, on the pages behind it
+abbrev pub data_area : Program → Area
+data_area p = record {
+  start = 0x10000 + whole_pages p;
+  size = up_to_multiple 4096 (length p.content);
+  rights = record { read = true; write = true; execute = false };
+  vaddr = 0x10000 + whole_pages p;
+  offset = 4096 + whole_pages p;
+  filled = length p.content;
+}
+
+-- Of the program headers, which stand before the text, none is loaded.
+unfoldable pub image_of : Program → List ℕ → ImageParts
+image_of p file = record {
+  file = file;
+  areas = text_area p ∷ (if has_content p then data_area p ∷ [] else []);
+  entry = p.entry;
+  headers = 0;
+  header_count = segment_count p;
+}
