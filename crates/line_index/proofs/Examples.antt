@@ -1,0 +1,80 @@
+-- Lines and entries computed address by address, on small tables.
+use Rattle.std.proofs.Common.{◌≡◌, ℕ, List, [], ◌∷◌, map, Option, Some, None, true, false, refl}
+use Rattle.std.specs.Fmt.{digits}
+use Rattle.coz_types.specs.declared.image.Area.{Area}
+use Rattle.dwarf_lines.specs.declared.Row.{Row}
+use Rattle.dwarf_lines.specs.Registers.{File, Table}
+use Rattle.line_index.specs.Lines.{Line, line_of, label, found, path}
+
+abbrev code : Area
+code = record { start = 0x10000; size = 4096; rights = record { read = true; write = false; execute = true }; vaddr = 0x10000; offset = 0; filled = 100 }
+
+abbrev storage : Area
+storage = record { start = 0x11000; size = 4096; rights = record { read = true; write = true; execute = false }; vaddr = 0x11000; offset = 0; filled = 100 }
+
+abbrev a_s : File
+a_s = record { directory = []; name = 97 ∷ 46 ∷ 115 ∷ [] }
+
+abbrev line : ℕ → Option Line
+line number = Some (record { path = 97 ∷ 46 ∷ 115 ∷ []; number = number })
+
+abbrev row : ℕ → ℕ → Option ℕ → ℕ → Row
+row sequence address file number = record { sequence = sequence; address = address; file = file; line = number; column = 0; is_stmt = true; ends = false }
+
+abbrev last : ℕ → ℕ → Row
+last sequence address = record { sequence = sequence; address = address; file = Some 0; line = 1; column = 0; is_stmt = true; ends = true }
+
+abbrev table : List File → List Row → Table
+table files rows = record { files = files; rows = rows; skipped = 0 }
+
+-- a sequence of three lines
+abbrev three : Table
+three = table (a_s ∷ []) (row 0 0x10000 (Some 0) 1 ∷ row 0 0x10008 (Some 0) 2 ∷ row 0 0x1004C (Some 0) 5 ∷ last 0 0x10054 ∷ [])
+
+lines_of_three : map (line_of three (code ∷ [])) (0xFFFF ∷ 0x10000 ∷ 0x10007 ∷ 0x10008 ∷ 0x1004B ∷ 0x1004C ∷ 0x10053 ∷ 0x10054 ∷ [])
+    ≡ None ∷ line 1 ∷ line 1 ∷ line 2 ∷ line 2 ∷ line 5 ∷ line 5 ∷ None ∷ []
+unfolding line_of
+lines_of_three = refl
+
+-- where two sequences overlap, the first row in file order has the address
+overlapping : map (line_of (table (a_s ∷ []) (row 0 0x10004 (Some 0) 1 ∷ row 1 0x10000 (Some 0) 2 ∷ last 0 0x10008 ∷ last 1 0x1000C ∷ [])) (code ∷ [])) (0x10000 ∷ 0x10003 ∷ 0x10004 ∷ 0x10007 ∷ 0x10008 ∷ 0x1000B ∷ [])
+    ≡ line 2 ∷ line 2 ∷ line 1 ∷ line 1 ∷ line 2 ∷ line 2 ∷ []
+unfolding line_of
+overlapping = refl
+
+-- a row whose next address is not greater covers nothing
+going_back : map (line_of (table (a_s ∷ []) (row 0 0x10008 (Some 0) 1 ∷ row 0 0x10004 (Some 0) 2 ∷ last 0 0x1000C ∷ [])) (code ∷ [])) (0x10003 ∷ 0x10004 ∷ 0x10008 ∷ 0x1000B ∷ 0x1000C ∷ [])
+    ≡ None ∷ line 2 ∷ line 2 ∷ line 2 ∷ None ∷ []
+unfolding line_of
+going_back = refl
+
+-- line 0, a file number without an entry and an empty path are no line, also where a later row covers the address
+no_lines : map (line_of (table (a_s ∷ record { directory = []; name = [] } ∷ []) (row 0 0x10000 (Some 0) 0 ∷ row 0 0x10004 None 7 ∷ row 0 0x10008 (Some 1) 7 ∷ last 0 0x1000C ∷ row 1 0x10000 (Some 0) 3 ∷ last 1 0x10010 ∷ [])) (code ∷ [])) (0x10000 ∷ 0x10004 ∷ 0x10008 ∷ 0x1000C ∷ [])
+    ≡ None ∷ None ∷ None ∷ line 3 ∷ []
+unfolding line_of
+no_lines = refl
+
+-- two file entries with one written path are one file, and addresses outside the executable areas have no line
+one_path : map (line_of (table (record { directory = 100 ∷ []; name = 97 ∷ [] } ∷ record { directory = []; name = 100 ∷ 47 ∷ 97 ∷ [] } ∷ []) (row 0 0x10FF8 (Some 0) 1 ∷ row 0 0x10FFC (Some 1) 1 ∷ last 0 0x11004 ∷ [])) (storage ∷ code ∷ [])) (0x10FF8 ∷ 0x10FFC ∷ 0x11000 ∷ [])
+    ≡ Some (record { path = 100 ∷ 47 ∷ 97 ∷ []; number = 1 }) ∷ Some (record { path = 100 ∷ 47 ∷ 97 ∷ []; number = 1 }) ∷ None ∷ []
+unfolding line_of
+one_path = refl
+
+-- a name that begins at the root has no directory in front, and an empty name has
+paths : map path (record { directory = 100 ∷ []; name = 47 ∷ 97 ∷ [] } ∷ record { directory = 100 ∷ []; name = [] } ∷ record { directory = []; name = 97 ∷ [] } ∷ [])
+    ≡ (47 ∷ 97 ∷ []) ∷ (100 ∷ 47 ∷ []) ∷ (97 ∷ []) ∷ []
+paths = refl
+
+-- a blank, a comma, a per cent sign and bytes above 126 are escaped
+escapes : label (record { path = 97 ∷ 32 ∷ 44 ∷ 37 ∷ 127 ∷ 255 ∷ 126 ∷ 33 ∷ []; number = 120 })
+    ≡ 97 ∷ 37 ∷ 50 ∷ 48 ∷ 37 ∷ 50 ∷ 67 ∷ 37 ∷ 50 ∷ 53 ∷ 37 ∷ 55 ∷ 70 ∷ 37 ∷ 70 ∷ 70 ∷ 126 ∷ 33 ∷ 58 ∷ 49 ∷ 50 ∷ 48 ∷ []
+unfolding digits
+escapes = refl
+
+-- of the lines b/a:1, c/a:1, c/a:2 and ca:1
+abbrev some_lines : List Line
+some_lines = record { path = 98 ∷ 47 ∷ 97 ∷ []; number = 1 } ∷ record { path = 99 ∷ 47 ∷ 97 ∷ []; number = 1 } ∷ record { path = 99 ∷ 47 ∷ 97 ∷ []; number = 2 } ∷ record { path = 99 ∷ 97 ∷ []; number = 1 } ∷ []
+
+found_lines : found (97 ∷ []) 1 some_lines ∷ found (97 ∷ []) 2 some_lines ∷ found (99 ∷ 47 ∷ 97 ∷ []) 1 some_lines ∷ found (99 ∷ 97 ∷ []) 1 some_lines ∷ found (97 ∷ []) 3 some_lines ∷ found (47 ∷ 97 ∷ []) 1 some_lines ∷ found [] 1 some_lines ∷ []
+    ≡ Some 0 ∷ Some 2 ∷ Some 1 ∷ Some 3 ∷ None ∷ None ∷ None ∷ []
+found_lines = refl

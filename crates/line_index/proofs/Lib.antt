@@ -1,0 +1,14 @@
+pub mod Merging
+pub mod Searching
+pub mod Covering
+pub mod Pieces
+pub mod Beginnings
+pub mod Order
+pub mod Whole
+pub mod Examples
+pub mod Starting
+pub mod Distinct
+pub mod Found
+pub mod Names
+pub mod Areas
+pub mod Building

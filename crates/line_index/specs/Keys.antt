@@ -1,0 +1,69 @@
+-- Lines by the position of their path, and the positions of lines.
+use Rattle.std.specs.Prelude.{◌≡◌, ℕ, ◌<◌, Bool, false, not, ◌&&◌, length, List, [], ◌∷◌, ◌++◌, map, slice_get, slice_set, get_or, Option, Some, None, option_map, option_and_then, ◌==◌, if◌then◌else◌, IfSome}
+use Rattle.std.specs.List.{filter_map}
+use Rattle.std.specs.declared.cmp.Ordering.{Ordering}
+use Rattle.std.specs.Ordering.{nat_cmp, ordering_then}
+use Rattle.std.specs.Cmp.Lexicographic.{slice_cmp}
+use Rattle.std.specs.Global.{Vec}
+use Rattle.dwarf_lines.specs.declared.Row.{Row}
+use Rattle.line_index.specs.declared.changes.Change.{Change}
+use Rattle.line_index.specs.declared.lines.Key.{Key}
+
+-- the paths without where they lie in memory
+abbrev pub texts : List (Vec ℕ) → List (List ℕ)
+texts paths = map (λ (path : Vec ℕ). path.items) paths
+
+abbrev pub path_cmp : Vec ℕ → Vec ℕ → Ordering
+path_cmp path other = slice_cmp nat_cmp path.items other.items
+
+-- the position of a path that is an entry
+abbrev pub path_place : List (Vec ℕ) → Option ℕ → Option (Option (List ℕ))
+path_place paths position = option_map (slice_get (texts paths)) position
+
+abbrev pub key_cmp : Key → Key → Ordering
+key_cmp k m = ordering_then (nat_cmp k.path m.path) (nat_cmp k.number m.number)
+
+abbrev pub with_path : ℕ → ℕ → Key
+with_path number path = record { path = path; number = number }
+
+-- the key of a row, where these are the positions of the files' paths
+abbrev pub row_key : List (Option ℕ) → Row → Option Key
+row_key ranks row =
+    if row.line == 0 then None
+    else option_and_then (λ k. option_and_then (λ rank. option_map (with_path row.line) rank) (slice_get ranks k)) row.file
+
+-- the key of the row at a position
+abbrev pub key_at : List Row → List (Option ℕ) → Option ℕ → Option Key
+key_at rows ranks position = option_and_then (λ k. option_and_then (row_key ranks) (slice_get rows k)) position
+
+-- the keys of the rows that changes name
+abbrev pub change_keys : List Row → List (Option ℕ) → List Change → List Key
+change_keys rows ranks changes = filter_map (λ (c : Change). key_at rows ranks c.position) changes
+
+abbrev pub key_change : List Row → List (Option ℕ) → Change → ℕ × Option (Option Key)
+key_change rows ranks c = (c.address, option_map Some (key_at rows ranks c.position))
+
+abbrev pub line_change : List Key → Change → ℕ × Option (Option Key)
+line_change keys c = (c.address, option_map (slice_get keys) c.position)
+
+-- it is one of so many
+abbrev pub IsBelow : ℕ → Change → Type 0
+IsBelow count c = IfSome c.position (λ k. k < count)
+
+abbrev pub is_at : ℕ → Option ℕ → Bool
+is_at k None = false
+is_at k (Some j) = j == k
+
+-- the address of a change at the end of its line's starts, unless the line stood there before
+abbrev pub with_start : Option ℕ → Change → List (List ℕ) → List (List ℕ)
+with_start before c lists = elim (c.position) [ None ↦ lists | Some k ↦ if is_at k before then lists else slice_set lists k (get_or lists k [] ++ c.address ∷ []) ]
+
+-- where the line at this position begins
+abbrev pub starts : ℕ → Option ℕ → List Change → List ℕ
+starts k before [] = []
+starts k before (c ∷ cs) = (if is_at k c.position && not (is_at k before) then c.address ∷ [] else []) ++ starts k c.position cs
+
+-- for each line where it begins
+pub record AreStarts (count : ℕ) (changes : List Change) (lists : List (List ℕ)) : Type 0 where
+  pub as_many : length lists ≡ count
+  pub each : (k : ℕ) → k < count → slice_get lists k ≡ Some (starts k None changes)

@@ -1,0 +1,6 @@
+pub mod Changes
+pub mod Lines
+pub mod Spans
+pub mod Keys
+pub mod Index
+pub mod View

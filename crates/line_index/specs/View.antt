@@ -1,0 +1,20 @@
+-- What callers see of an index, and what it keeps beside.
+use Rattle.std.specs.Prelude.{◌≡◌, ◌<◌, ◌^◌, length, map}
+use Rattle.line_index.specs.declared.LineIndex.TheInside.{Inside}
+use Rattle.line_index.specs.Changes.{IsRising}
+use Rattle.line_index.specs.Lines.{label}
+use Rattle.line_index.specs.Keys.{texts}
+use Rattle.line_index.specs.Index.{Index, line_at}
+
+abbrev pub index_view : Inside → Index
+index_view inside = record {
+  lines = map (line_at (texts inside.paths.items)) inside.lines.items;
+  entries = texts inside.entries.items;
+  changes = inside.changes.items;
+}
+
+pub record IsWhole (inside : Inside) : Type 0 where
+  pub few : length inside.lines.items < 2 ^ 32
+  pub labels : inside.labels.items ≡ map label (map (line_at (texts inside.paths.items)) inside.lines.items)
+  pub as_many : length inside.entries.items ≡ length inside.lines.items
+  pub rising : IsRising 0 inside.changes.items

@@ -1,0 +1,122 @@
+//! What stands at each address, as the list of where it changes.
+
+ghost use Rattle.std.specs.Prelude.{◌≡◌, ℕ, ◌+◌, ◌≤◌, ◌<◌, ◌^◌, length, IfOk, None};
+ghost use Rattle.line_index.specs.Changes.{value_at, IsRising, joined, next, least, position_after, ahead_after};
+
+use coz_types::Address;
+use std::alloc::{AllocError, Global};
+
+/// From this address on, up to the next change, a position in some list, or none.
+#[derive(Clone, Copy, Debug, PartialEq, Eq)]
+pub struct Change {
+    pub address: Address,
+    pub position: Option<u32>,
+}
+
+/// How two lists of changes become one.
+#[derive(Clone, Copy, Debug, PartialEq, Eq)]
+pub enum Join {
+    /// The first's position, and where it has none the second's.
+    Over,
+    /// The second's position where the first has one.
+    Within,
+}
+
+impl Join {
+    fn position(self, first: Option<u32>, second: Option<u32>) -> Option<u32>
+        ensures { result ≡ joined self first second }
+    {
+        match self {
+            Join::Over => first.or(second),
+            Join::Within => first.and(second),
+        }
+    }
+}
+
+/// A list of changes that is gone through: what stands now, and the changes ahead.
+#[derive(Clone, Copy, Drop)]
+struct Side<'a> {
+    position: Option<u32>,
+    ahead: &'a [Change],
+}
+
+impl<'a> Side<'a> {
+    fn next_address(&self) -> Option<Address>
+        ensures { result ≡ next self.now.ahead.now }
+    {
+        match self.ahead.split_first() {
+            Some((change, _)) => Some(change.address),
+            None => None,
+        }
+    }
+
+    /// Goes over the next change if it is at this address.
+    fn pass(&mut self, address: Address)
+        ensures position { self.new.position ≡ position_after address self.old.position self.old.ahead.now }
+        ensures ahead { self.new.ahead.now ≡ ahead_after address self.old.ahead.now }
+    {
+        if let Some((change, rest)) = self.ahead.split_first() {
+            if change.address == address {
+                self.position = change.position;
+                self.ahead = rest;
+            }
+        }
+    }
+}
+
+/// The lesser of two addresses, where there are two.
+fn least(first: Option<Address>, second: Option<Address>) -> Option<Address>
+    ensures { result ≡ least first second }
+{
+    match (first, second) {
+        (None, _) => second,
+        (Some(_), None) => first,
+        (Some(x), Some(y)) => { if x <= y { first } else { second } }
+    }
+}
+
+/// Two lists of changes as one.
+pub fn merged(
+    alloc: Global,
+    join: Join,
+    first: &[Change],
+    second: &[Change],
+) -> Result<Vec<Change>, AllocError>
+    requires first_rises { IsRising 0 first.now }
+    requires second_rises { IsRising 0 second.now }
+    ensures values { IfOk result (λ changes. (a : ℕ) → value_at a None changes.items ≡ joined join (value_at a None first.now) (value_at a None second.now)) }
+    ensures rises { IfOk result (λ changes. IsRising 0 changes.items) }
+    ensures few { IfOk result (λ changes. length changes.items ≤ length first.now + length second.now) }
+{
+    let mut changes = Vec::new(alloc);
+    let mut first = Side {
+        position: None,
+        ahead: first,
+    };
+    let mut second = Side {
+        position: None,
+        ahead: second,
+    };
+    while let Some(address) = least(first.next_address(), second.next_address()) {
+        first.pass(address);
+        second.pass(address);
+        changes.push(Change {
+            address,
+            position: join.position(first.position, second.position),
+        })?;
+    }
+    Ok(changes)
+}
+
+/// What stands at an address.
+pub fn position_at(changes: &[Change], address: Address) -> Option<u32>
+    requires { IsRising 0 changes.now }
+    ensures { result ≡ value_at address None changes.now }
+{
+    let passed = changes.partition_point(|change| change.address <= address);
+    if passed == 0 {
+        None
+    } else {
+        changes[passed - 1].position
+    }
+}

@@ -1,0 +1,68 @@
+//! Where each line begins.
+
+ghost use Rattle.std.specs.Prelude.{◌≡◌, ℕ, List, [], length, IfOk, OnOk, All};
+ghost use Rattle.line_index.specs.Keys.{IsBelow, AreStarts, is_at, texts, with_start};
+
+use crate::changes::Change;
+use coz_types::Address;
+use std::alloc::{AllocError, Global};
+
+/// So many empty lists.
+fn empty_lists(alloc: Global, count: usize) -> Result<Vec<Vec<Address>>, AllocError>
+    ensures as_many { IfOk result (λ lists. length lists.items ≡ count) }
+    ensures empty { IfOk result (λ lists. All (λ (list : List ℕ). list ≡ []) (texts lists.items)) }
+{
+    let mut lists = Vec::with_capacity(alloc, count)?;
+    while lists.len() < count {
+        lists.push(Vec::new(alloc))?;
+    }
+    Ok(lists)
+}
+
+/// This line stands at an address where this position stands.
+fn is_at(line: u32, position: Option<u32>) -> bool
+    ensures { result ≡ is_at line position }
+{
+    match position {
+        Some(other) => other == line,
+        None => false,
+    }
+}
+
+/// The address of a change is one more start of its line, unless that stood there before.
+fn add_start(
+    lists: &mut Vec<Vec<Address>>,
+    before: Option<u32>,
+    change: Change,
+) -> Result<(), AllocError>
+    requires { IsBelow (length lists.old.items) change }
+    ensures { OnOk result (texts lists.new.items ≡ with_start before change (texts lists.old.items)) }
+{
+    match change.position {
+        Some(line) => {
+            if !is_at(line, before) {
+                lists[line as usize].push(change.address)?;
+            }
+            Ok(())
+        }
+        None => Ok(()),
+    }
+}
+
+/// The addresses at which each line begins.
+pub fn entries(
+    alloc: Global,
+    changes: &[Change],
+    count: usize,
+) -> Result<Vec<Vec<Address>>, AllocError>
+    requires { All (IsBelow count) changes.now }
+    ensures { IfOk result (λ lists. AreStarts count changes.now (texts lists.items)) }
+{
+    let mut lists = empty_lists(alloc, count)?;
+    let mut before = None;
+    for change in changes {
+        add_start(&mut lists, before, *change)?;
+        before = change.position;
+    }
+    Ok(lists)
+}

@@ -1,0 +1,121 @@
+//! The lines of a program, by address and by name.
+#![tactic(auto)]
+
+mod changes;
+mod entries;
+mod find;
+mod labels;
+mod lines;
+mod paths;
+mod spans;
+
+ghost use Rattle.std.specs.Prelude.{◌≡◌, ◌≤◌, ◌<◌, length, IfOk, Some, option_map, map, slice_get};
+ghost use Rattle.dwarf_lines.specs.Registers.{view};
+ghost use Rattle.line_index.specs.Lines.{label, found};
+ghost use Rattle.line_index.specs.Index.{Index, IsIndex, position_at};
+
+use crate::changes::Change;
+use crate::entries::entries;
+use crate::labels::labels;
+use crate::lines::{Key, line_changes, sorted_keys};
+use crate::paths::{path_positions, sorted_paths};
+use crate::spans::covering_rows;
+use coz_types::{Address, Image, Label, LineId};
+use dwarf_lines::LineTable;
+use std::alloc::{AllocError, Global};
+use std::marker::Model;
+
+/// The lines of a program: where each begins, and which one an address has.
+#[derive(Drop)]
+pub struct LineIndex {
+    paths: Vec<Vec<u8>>,
+    lines: Vec<Key>,
+    labels: Vec<Label>,
+    entries: Vec<Vec<Address>>,
+    changes: Vec<Change>,
+}
+
+impl Model for LineIndex {
+    ghost use Rattle.line_index.specs.Index.{Index};
+
+    ghost Value = { Index };
+
+    ghost use Rattle.line_index.specs.View.{index_view, IsWhole};
+
+    ghost view = { index_view };
+
+    ghost invariant = { IsWhole };
+}
+
+impl LineIndex {
+    /// How many lines there are.
+    pub fn count(&self) -> u32
+        ensures { result ≡ length self.now.lines }
+    {
+        self.lines.len() as u32
+    }
+
+    /// The line of an address, unless it has none.
+    pub fn line_of(&self, address: Address) -> Option<LineId>
+        ensures { result ≡ option_map (λ k. record { 0 = k }) (position_at self.now address) }
+    {
+        changes::position_at(&self.changes, address).map(LineId)
+    }
+
+    /// The addresses at which runs of addresses with this line begin, rising.
+    pub fn entries(&self, line: LineId) -> &[Address]
+        requires { line.0 < length self.now.lines }
+        ensures { slice_get self.now.entries line.0 ≡ Some result.now }
+    {
+        &self.entries[line.0 as usize]
+    }
+
+    /// How the line is written: its escaped path, a colon and its number.
+    pub fn label(&self, line: LineId) -> &Label
+        requires { line.0 < length self.now.lines }
+        ensures { slice_get (map label self.now.lines) line.0 ≡ Some result.now }
+    {
+        &self.labels[line.0 as usize]
+    }
+
+    /// The line of this path and number, else the first whose path ends with a slash and the text.
+    pub fn find(&self, path: &[u8], number: u32) -> Option<LineId>
+        ensures { result ≡ option_map (λ k. record { 0 = k }) (found path.now number self.now.lines) }
+    {
+        find::find(&self.paths, &self.lines, path, number).map(LineId)
+    }
+}
+
+/// The index of a program's line table.
+pub fn build(alloc: Global, table: &LineTable, image: &Image) -> Result<LineIndex, AllocError>
+    requires few_rows { length table.now.rows ≤ 33554432 }
+    requires few_files { length table.now.files ≤ 33554432 }
+    ensures { IfOk result (λ index. IsIndex (view table.now) image.now.areas index) }
+{
+    let rows = table.rows.as_slice();
+    let files = table.files.as_slice();
+    let covering = covering_rows(alloc, rows, image.areas())?;
+    let paths = sorted_paths(alloc, files)?;
+    let positions = path_positions(alloc, &paths, files)?;
+    let lines = sorted_keys(alloc, rows, &positions, &covering)?;
+    let changes = line_changes(alloc, rows, &positions, &lines, &covering)?;
+    let entries = entries(alloc, &changes, lines.len())?;
+    let labels = labels(alloc, &paths, &lines)?;
+    Ok(LineIndex {
+        paths,
+        lines,
+        labels,
+        entries,
+        changes,
+    })
+}
+
+fn is_shared<T: Send + Sync>() {}
+
+// Workers share an index.
+fn index_is_shared() {
+    is_shared::<LineIndex>()
+}
+
+#[cfg(test)]
+mod tests;

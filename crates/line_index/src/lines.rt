@@ -1,0 +1,133 @@
+//! The lines that a program has, in order, and from which address on it has which.
+
+ghost use Rattle.std.specs.Prelude.{◌≡◌, ◌+◌, ◌≤◌, ◌<◌, ◌^◌, ◌↔◌, ℕ, [], ◌∷◌, ◌++◌, length, map, option_map, slice_get, Some, IfOk, OnOk, All, Contains};
+ghost use Rattle.std.specs.List.{cons_option};
+ghost use Rattle.std.specs.Option.{ForSome};
+ghost use Rattle.std.specs.List.Sorted.{IsStrictlySortedBy};
+ghost use Rattle.line_index.specs.declared.changes.Change.{Change};
+ghost use Rattle.line_index.specs.declared.lines.Key.{Key};
+ghost use Rattle.line_index.specs.Changes.{IsRising};
+ghost use Rattle.line_index.specs.Keys.{key_cmp, row_key, key_at, change_keys, key_change, line_change};
+
+use crate::changes::Change;
+use dwarf_lines::Row;
+use std::alloc::{AllocError, Global};
+
+/// A line by the position of its path in the order of paths, and its number.
+#[derive(Clone, Copy, Debug, PartialEq, Eq, PartialOrd, Ord)]
+pub struct Key {
+    pub path: u32,
+    pub number: u32,
+}
+
+/// The line of a row, where these are the positions of the files' paths.
+fn row_key(positions: &[Option<u32>], row: &Row) -> Option<Key>
+    ensures { result ≡ row_key positions.now row.now }
+{
+    if row.line == 0 {
+        return None;
+    }
+    let file = row.file?;
+    let position = positions.get(file as usize)?;
+    let path = (*position)?;
+    Some(Key {
+        path,
+        number: row.line,
+    })
+}
+
+/// The line of the row at a position.
+fn key_at(rows: &[Row], positions: &[Option<u32>], place: Option<u32>) -> Option<Key>
+    ensures { result ≡ key_at rows.now positions.now place }
+{
+    let place = place?;
+    let row = rows.get(place as usize)?;
+    row_key(positions, row)
+}
+
+/// One more line, if it is one.
+fn push_some(keys: &mut Vec<Key>, key: Option<Key>) -> Result<(), AllocError>
+    ensures { OnOk result (keys.new.items ≡ keys.old.items ++ cons_option key []) }
+{
+    match key {
+        Some(key) => {
+            keys.push(key)?;
+            Ok(())
+        }
+        None => Ok(()),
+    }
+}
+
+/// The lines of the rows that changes name.
+fn change_keys(
+    alloc: Global,
+    rows: &[Row],
+    positions: &[Option<u32>],
+    changes: &[Change],
+) -> Result<Vec<Key>, AllocError>
+    ensures keys { IfOk result (λ keys. keys.items ≡ change_keys rows.now positions.now changes.now) }
+    ensures few { IfOk result (λ keys. length keys.items ≤ length changes.now) }
+{
+    let mut keys = Vec::new(alloc);
+    for change in changes {
+        push_some(&mut keys, key_at(rows, positions, change.position))?;
+    }
+    Ok(keys)
+}
+
+/// Those lines in order, each once.
+pub fn sorted_keys(
+    alloc: Global,
+    rows: &[Row],
+    positions: &[Option<u32>],
+    changes: &[Change],
+) -> Result<Vec<Key>, AllocError>
+    ensures in_order { IfOk result (λ keys. IsStrictlySortedBy key_cmp keys.items) }
+    ensures each { IfOk result (λ keys. (key : Key) → Contains keys.items key ↔ Contains (change_keys rows.now positions.now changes.now) key) }
+    ensures few { IfOk result (λ keys. length keys.items ≤ length changes.now) }
+{
+    let mut keys = change_keys(alloc, rows, positions, changes)?;
+    keys.sort()?;
+    keys.dedup();
+    Ok(keys)
+}
+
+/// The position of a line.
+fn key_position(keys: &[Key], key: Option<Key>) -> Option<u32>
+    requires in_order { IsStrictlySortedBy key_cmp keys.now }
+    requires one { ForSome key (Contains keys.now) }
+    requires few { length keys.now < 2 ^ 32 }
+    ensures { option_map (slice_get keys.now) result ≡ option_map Some key }
+{
+    match key {
+        Some(key) => match keys.binary_search(&key) {
+            Ok(place) => Some(place as u32),
+            Err(_) => None,
+        },
+        None => None,
+    }
+}
+
+/// The changes with the positions of lines in place of rows.
+pub fn line_changes(
+    alloc: Global,
+    rows: &[Row],
+    positions: &[Option<u32>],
+    keys: &[Key],
+    changes: &[Change],
+) -> Result<Vec<Change>, AllocError>
+    requires in_order { IsStrictlySortedBy key_cmp keys.now }
+    requires each { (key : Key) → Contains (change_keys rows.now positions.now changes.now) key → Contains keys.now key }
+    requires few { length keys.now < 2 ^ 32 }
+    ensures { IfOk result (λ lines. map (line_change keys.now) lines.items ≡ map (key_change rows.now positions.now) changes.now) }
+{
+    let mut lines = Vec::with_capacity(alloc, changes.len())?;
+    for change in changes {
+        let position = key_position(keys, key_at(rows, positions, change.position));
+        lines.push(Change {
+            address: change.address,
+            position,
+        })?;
+    }
+    Ok(lines)
+}
