@@ -1,7 +1,8 @@
 pub mod Words
 pub mod Record
 pub mod Text
-pub mod Program
+pub mod FaultLines
+pub mod LineTable
 pub mod Verdict
 pub mod Answer
 pub mod Serve

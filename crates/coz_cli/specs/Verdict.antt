@@ -8,9 +8,17 @@ use Rattle.coz_types.specs.Image.{ImageParts}
 use Rattle.elf_load.specs.declared.ElfFault.{ElfFault}
 use Rattle.elf_load.specs.Loaded.{loaded}
 use Rattle.run_words.specs.Request.{Asked}
+use Rattle.run_words.specs.declared.Command.{Command}
+use Rattle.run_words.specs.declared.Command.TheVariants.{Run, Asm}
+use Rattle.rv_asm.specs.declared.AsmFault.{AsmFault}
+use Rattle.rv_asm.specs.Assembled.{Program, assembled}
+use Rattle.image_write.specs.File.{written_file}
 use Rattle.coz_cli.specs.Record.{RunParts, run_of}
 use Rattle.coz_cli.specs.Text.{run_text}
-use Rattle.coz_cli.specs.Program.{program_line}
+use Rattle.dwarf_lines.specs.declared.LineFault.{LineFault}
+use Rattle.dwarf_lines.specs.Registers.{Table}
+use Rattle.coz_cli.specs.LineTable.{table_in}
+use Rattle.coz_cli.specs.FaultLines.{program_line, table_line, source_line}
 
 pub record Verdict : Type 0 where
   pub status : ℕ
@@ -20,6 +28,10 @@ pub record Verdict : Type 0 where
 abbrev pub refused : ℕ → List ℕ → Verdict
 refused status line = record { status = status; text = []; line = line }
 
+-- all is printed, and nothing was run
+abbrev pub printed : List ℕ → Verdict
+printed text = record { status = 0; text = text; line = [] }
+
 abbrev pub ending_status : Ending → ℕ
 ending_status (Exited code) = 0
 ending_status _ = 1
@@ -28,10 +40,23 @@ ending_status _ = 1
 abbrev pub run_verdict : RunParts → Verdict
 run_verdict run = record { status = ending_status run.outcome.ending; text = run_text run; line = [] }
 
--- of the program that a file is, if it is one
-abbrev pub loaded_verdict : List ℕ → ℕ → Result ImageParts ElfFault → Verdict
-loaded_verdict input budget (Err fault) = refused 3 (program_line fault)
-loaded_verdict input budget (Ok image) = run_verdict (run_of image input budget)
+-- of the program that a file is, if it is one, and of what follows
+abbrev pub loaded_verdict : Result ImageParts ElfFault → (ImageParts → Verdict) → Verdict
+loaded_verdict (Err fault) next = refused 3 (program_line fault)
+loaded_verdict (Ok image) next = next image
+
+-- of a line table, if there is one, and of what follows
+abbrev pub table_verdict : Result Table LineFault → (Table → Verdict) → Verdict
+table_verdict (Err fault) next = refused 4 (table_line fault)
+table_verdict (Ok table) next = next table
+
+-- of a file that is to be a program with a line table, and of what follows
+abbrev pub program_verdict : List ℕ → (ImageParts → Table → Verdict) → Verdict
+program_verdict file next = loaded_verdict (loaded file) (λ image. table_verdict (table_in file) (next image))
+
+-- of a program's run on an input
+abbrev pub file_verdict : ℕ → List ℕ → List ℕ → Verdict
+file_verdict budget file input = program_verdict file (λ image table. run_verdict (run_of image input budget))
 
 -- of a path's file that may have so many bytes, and of what follows where it is there and has no more
 abbrev pub read_verdict : ℕ → List ℕ → Option (List ℕ) → (List ℕ → Verdict) → Verdict
@@ -40,12 +65,21 @@ read_verdict most path (Some file) next = if nat_lt most (length file) then refu
 
 -- of the input, which is empty where none is named
 abbrev pub input_verdict : Asked → Option (List ℕ) → Held → List ℕ → Verdict
-input_verdict asked None held file = loaded_verdict [] asked.budget (loaded file)
-input_verdict asked (Some path) held file = read_verdict 16777216 path (file_at held path) (λ input. loaded_verdict input asked.budget (loaded file))
+input_verdict asked None held file = file_verdict asked.budget file []
+input_verdict asked (Some path) held file = read_verdict 16777216 path (file_at held path) (file_verdict asked.budget file)
+
+-- of what a source stands for, under this name
+abbrev pub source_verdict : List ℕ → Result Program AsmFault → Verdict
+source_verdict name (Err fault) = refused 11 (source_line fault)
+source_verdict name (Ok program) = printed (written_file program name)
+
+abbrev pub command_verdict : Command → Asked → Held → Verdict
+command_verdict Run asked held = read_verdict 33554432 asked.target (file_at held asked.target) (input_verdict asked asked.input held)
+command_verdict Asm asked held = read_verdict 4194304 asked.target (file_at held asked.target) (λ source. source_verdict asked.target (assembled source))
 
 abbrev pub request_verdict : Option Asked → Held → Verdict
 request_verdict None held = refused 2 (codes "coz: usage")
-request_verdict (Some asked) held = read_verdict 33554432 asked.target (file_at held asked.target) (input_verdict asked asked.input held)
+request_verdict (Some asked) held = command_verdict asked.command asked held
 
 abbrev pub verdict : List (List ℕ) → Held → Verdict
 verdict words held = request_verdict (request_of words) held

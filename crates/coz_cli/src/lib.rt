@@ -2,7 +2,12 @@
 #![tactic(auto)]
 
 mod answer;
+mod fault_lines;
+mod kinds;
+mod line_table;
 mod record;
+mod run;
+mod source;
 mod text;
 mod top;
 mod words;

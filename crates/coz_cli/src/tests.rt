@@ -61,11 +61,24 @@ fn compressed(alloc: Global) -> Result<Vec<u8>, AllocError> {
     Ok(file)
 }
 
-/// The programs, headers alone, an input, and a file of this length.
+/// A source of the program `one`, and two that have a fault.
+const SOURCES: [(&str, &[u8]); 3] = [
+    (
+        "one.s",
+        b"    addi a0, x0, 0\n    addi a7, x0, 93\n    ecall\n",
+    ),
+    ("range.s", b"    addi a0, x0, 2048"),
+    ("empty.s", b""),
+];
+
+/// The programs, headers alone, the sources, an input, and a file of this length.
 fn files(alloc: Global, fails: &[u64], length: usize) -> Result<MemoryFiles, AllocError> {
     let mut held_files = Vec::new(alloc);
     for (path, text) in &TEXTS {
         held_files.push(held(alloc, path, program(alloc, text)?)?)?;
+    }
+    for (path, text) in &SOURCES {
+        held_files.push(held(alloc, path, text.to_vec(alloc)?)?)?;
     }
     held_files.push(held(alloc, "headers", HEADERS.to_vec(alloc)?)?)?;
     held_files.push(held(alloc, "compressed", compressed(alloc)?)?)?;
@@ -187,6 +200,21 @@ fn each_status_is_met(rt: HostRuntime) -> Result<(), Fail> {
         plain_case(&["run", "one", "--budget", "0"], 2, b"", b"coz: usage\n"),
         plain_case(&["run", "absent"], 5, b"", b"coz: read: absent\n"),
         plain_case(&["run", "big"], 8, b"", b"coz: long: big\n"),
+        plain_case(
+            &["asm", "range.s"],
+            11,
+            b"",
+            b"coz: source: Range at line 1 column 18\n",
+        ),
+        plain_case(
+            &["asm", "--", "empty.s"],
+            11,
+            b"",
+            b"coz: source: Empty at line 1 column 1\n",
+        ),
+        plain_case(&["asm", "one.s", "--budget", "3"], 2, b"", b"coz: usage\n"),
+        plain_case(&["asm", "absent"], 5, b"", b"coz: read: absent\n"),
+        plain_case(&["asm", "big"], 8, b"", b"coz: long: big\n"),
     ];
     for case in &cases {
         assert!(rt; comes_out(&rt, case)?, "{:?}", case.words);
@@ -219,6 +247,23 @@ fn faults_of_the_outside_are_told(rt: HostRuntime) -> Result<(), Fail> {
             ..plain_case(&["run", "one"], 6, b"end exited", b"coz: write\n")
         },
         Case {
+            read_fails: &[0],
+            ..plain_case(&["asm", "one.s"], 5, b"", b"coz: read: one.s\n")
+        },
+        Case {
+            put_fails: &[0],
+            ..plain_case(&["asm", "one.s"], 6, b"", b"coz: write\n")
+        },
+        Case {
+            room: 10,
+            ..plain_case(
+                &["asm", "one.s"],
+                6,
+                b"\x7fELF\x02\x01\x01\x00\x00\x00",
+                b"coz: write\n",
+            )
+        },
+        Case {
             tell_fails: &[0],
             ..plain_case(&["walk"], 2, b"", b"")
         },
@@ -230,5 +275,74 @@ fn faults_of_the_outside_are_told(rt: HostRuntime) -> Result<(), Fail> {
     for case in &cases {
         assert!(rt; comes_out(&rt, case)?, "{:?}", case.words);
     }
+    Ok(())
+}
+
+/// What a call answered and left.
+#[derive(Drop)]
+struct Served {
+    status: u8,
+    out: Vec<u8>,
+    err: Vec<u8>,
+}
+
+fn call<R: Threads + Sync + AllocGlobal>(
+    rt: &R,
+    words: &[&str],
+    files: MemoryFiles,
+) -> Result<Served, AllocError> {
+    let alloc = rt.alloc();
+    let mut texts = Vec::new(alloc);
+    for word in words {
+        texts.push(String::from_str(alloc, word)?)?;
+    }
+    let mut files = files;
+    let mut out = MemorySink::new(alloc, 5000, Vec::new(alloc))?;
+    let mut err = MemorySink::new(alloc, 1000, Vec::new(alloc))?;
+    let status = serve(rt, alloc, &texts, &mut files, &mut out, &mut err, &FreeGate);
+    Ok(Served {
+        status,
+        out: out.held().to_vec(alloc)?,
+        err: err.held().to_vec(alloc)?,
+    })
+}
+
+fn one_file(alloc: Global, path: &str, bytes: &[u8]) -> Result<MemoryFiles, AllocError> {
+    let held_files = vec![in alloc; held(alloc, path, bytes.to_vec(alloc)?)?]?;
+    Ok(MemoryFiles::new(held_files, Vec::new(alloc)))
+}
+
+/// The beginning of a line unit of 13 bytes, whose header says that it is longer.
+const SHORT_TABLE: [u8; 13] = [9, 0, 0, 0, 4, 0, 0x1B, 0, 0, 0, 4, 1, 1];
+
+/// The file of `one.s` with that unit as its line table.
+fn with_short_table(alloc: Global, file: &[u8]) -> Result<Vec<u8>, AllocError> {
+    let mut cut = Vec::new(alloc);
+    cut.extend_from_slice(file.get(..4108).unwrap_or(&[]))?;
+    cut.extend_from_slice(&SHORT_TABLE)?;
+    cut.extend_from_slice(file.get(4121..4440).unwrap_or(&[]))?;
+    // the size of the section
+    cut.push(13)?;
+    cut.extend_from_slice(file.get(4441..).unwrap_or(&[]))?;
+    Ok(cut)
+}
+
+#[test]
+fn what_is_assembled_runs(rt: HostRuntime) -> Result<(), Fail> {
+    let alloc = rt.alloc();
+    let source = SOURCES[0].1;
+    let made = call(&rt, &["asm", "one.s"], one_file(alloc, "one.s", source)?)?;
+    assert_eq!(rt; (made.status, made.out.len(), made.err.len()), (0, 4536, 0));
+    let run = call(&rt, &["run", "made"], one_file(alloc, "made", &made.out)?)?;
+    assert_eq!(rt;
+        (run.status, run.out.as_slice(), run.err.len()),
+        (0, ONE, 0)
+    );
+    let cut = with_short_table(alloc, &made.out)?;
+    let refused = call(&rt, &["run", "cut"], one_file(alloc, "cut", &cut)?)?;
+    assert_eq!(rt;
+        (refused.status, refused.out.len(), refused.err.as_slice()),
+        (4, 0, b"coz: lines: Short at 6\n".as_slice())
+    );
     Ok(())
 }

@@ -1,59 +1,40 @@
 -- The guest keeps the rules of a guest of the machines.
-use Rattle.std.proofs.Common.{◌≡◌, ℕ, zero, suc, ◌≤◌, ◌==◌, Bool, true, false, not, if◌then◌else◌, List, [], ◌∷◌, Option, is_some, IsNone, refl, sym, ap, subst, ◌∙◌, eqb-true}
+use Rattle.std.proofs.Common.{◌≡◌, ℕ, zero, suc, ◌≤◌, ◌<◌, ◌==◌, Bool, true, false, List, Option, IsNone, refl, sym, ◌∙◌, arith}
 use Rattle.std.proofs.Math.Dec.{eqb-suc-zero}
 use Rattle.coz_types.specs.Image.{ImageParts}
-use Rattle.coz_types.specs.declared.ending.Ending.{Ending}
-use Rattle.machines.specs.Places.{is_among, AllApart}
-use Rattle.machines.specs.Guest.{IsLawful, Retirement, started, goes_on, own_ending}
+use Rattle.machines.specs.Places.{is_among}
+use Rattle.machines.specs.Guest.{IsLawful, started, own_ending}
 use Rattle.guest_memory.specs.declared.Layout.{Layout}
 use Rattle.guest_calls.specs.Guest.{Guest, is_running, first_guest}
 use Rattle.guest_calls.specs.Retire.{retire}
 use Rattle.guest_calls.specs.Plug.{plug}
 use Rattle.guest_calls.specs.Orderly.{IsOrderly}
-use Rattle.guest_calls.proofs.Alone.{IsAlone, alone}
+pub use Rattle.guest_calls.proofs.Started.{running_low}
+use Rattle.guest_calls.proofs.Retired.{retire_started}
 
--- a retirement makes and wakes no hart
-pub others_none : (g : Guest) (h v : ℕ) → IsOrderly g → is_running g h ≡ true → (retire g h v).others ≡ []
-others_none g h v good runs = (alone g h v good runs).others
+-- a hart that a retirement starts runs after it
+pub started_runs : (g : Guest) (h v : ℕ) → IsOrderly g → is_running g h ≡ true → IsNone (own_ending (retire g h v).fate)
+    → (k : ℕ) → is_among k (started h (retire g h v)) ≡ true → is_running (retire g h v).guest k ≡ true
+started_runs g h v good runs none k among = (retire_started g h v good runs).running none k ∙ rw among refl
 
--- after a retirement the hart goes on or the run ends
-pub fate_is : (g : Guest) (h v : ℕ) → IsOrderly g → is_running g h ≡ true → is_some (own_ending (retire g h v).fate) ≡ not (goes_on (retire g h v).fate)
-fate_is g h v good runs = (alone g h v good runs).fate
+pub started_low : (g : Guest) (h v : ℕ) → IsOrderly g → is_running g h ≡ true → IsNone (own_ending (retire g h v).fate)
+    → (k : ℕ) → is_among k (started h (retire g h v)) ≡ true → k < 256
+started_low g h v good runs none k among =
+    (running_low (retire g h v).guest k (retire_started g h v good runs).orderly (started_runs g h v good runs none k among)).1
+
+-- the harts that a retirement makes or wakes didn't run before it
+pub others_idle : (g : Guest) (h v : ℕ) → IsOrderly g → is_running g h ≡ true → (k : ℕ) → is_among k (retire g h v).others ≡ true → is_running g k ≡ false
+others_idle g h v good runs = (retire_started g h v good runs).idle
 
 first_orderly : (image : ImageParts) (input : List ℕ) (output_limit : ℕ) (layout : Layout) → IsOrderly (first_guest image input output_limit layout)
 unfolding first_guest
-first_orderly image input output_limit layout = record { one_hart = refl; none_waits = refl }
+first_orderly image input output_limit layout = record { few = omega arith; waiting = tt; apart = tt }
 
 -- hart 0 runs at first
 first_runs : (image : ImageParts) (input : List ℕ) (output_limit : ℕ) (layout : Layout) (k : ℕ) → is_running (first_guest image input output_limit layout) k ≡ (k == 0)
 unfolding first_guest
 first_runs image input output_limit layout zero = refl
 first_runs image input output_limit layout (suc k) = sym (eqb-suc-zero k)
-
-all_apart : (h : ℕ) (goes : Bool) (others : List ℕ) → others ≡ [] → AllApart (if goes then h ∷ others else others)
-all_apart h true others none = subst (λ (hs : List ℕ). AllApart (h ∷ hs)) (sym none) (refl, tt)
-all_apart h false others none = subst AllApart (sym none) tt
-
--- where the run doesn't end, the hart goes on
-goes_where_none : (goes : Bool) (own : Option Ending) → is_some own ≡ not goes → IsNone own → goes ≡ true
-goes_where_none true own fate none = refl
-goes_where_none false own fate none = absurd (let never : true ≡ false = sym fate ∙ none in cc)
-
--- a running hart that is started runs as before
-same_bit : (is before : Bool) → (is ≡ true → before ≡ true) → before ≡ (if (if is then true else false) then true else if is then false else before)
-same_bit true before runs = runs refl
-same_bit false before runs = refl
-
-runs_by : (k h : ℕ) (goes before : Bool) (others : List ℕ) → others ≡ [] → goes ≡ true → (k ≡ h → before ≡ true)
-    → before ≡ (if is_among k (if goes then h ∷ others else others) then true else if k == h then false else before)
-runs_by k h goes before others none go runs = rw (none, go) (same_bit (k == h) before (λ e. runs (eqb-true k h e)))
-
-running_by : (g : Guest) (h k : ℕ) (r : Retirement Guest) → IsAlone g r → is_running g h ≡ true → IsNone (own_ending r.fate)
-    → is_running r.guest k ≡ (if is_among k (started h r) then true else if k == h then false else is_running g k)
-running_by g h k r is runs none =
-    let goes : goes_on r.fate ≡ true = goes_where_none (goes_on r.fate) (own_ending r.fate) is.fate none in
-    is.running goes k
-    ∙ runs_by k h (goes_on r.fate) (is_running g k) r.others is.others goes (λ e. ap (is_running g) e ∙ runs)
 
 pub lawful : (has_selected : ℕ → Bool) (point_at : ℕ → Option ℕ) (image : ImageParts) (input : List ℕ) (output_limit : ℕ) (layout : Layout) (speedup budget visit_limit : ℕ) → speedup ≤ 100
     → IsLawful
@@ -69,8 +50,8 @@ pub lawful : (has_selected : ℕ → Bool) (point_at : ℕ → Option ℕ) (imag
 lawful has_selected point_at image input output_limit layout speedup budget visit_limit in_range = record {
   first_good = first_orderly image input output_limit layout;
   first_running = first_runs image input output_limit layout;
-  stays_good = λ g h v good runs. (alone g h v good runs).orderly;
-  apart = λ g h v good runs. all_apart h (goes_on (retire g h v).fate) (retire g h v).others (alone g h v good runs).others;
-  running = λ g h v good runs none k. running_by g h k (retire g h v) (alone g h v good runs) runs none;
+  stays_good = λ g h v good runs. (retire_started g h v good runs).orderly;
+  apart = λ g h v good runs. (retire_started g h v good runs).apart;
+  running = λ g h v good runs. (retire_started g h v good runs).running;
   speedup_in_range = in_range;
 }

@@ -1,6 +1,12 @@
 pub mod Steady
 pub mod Steps
 pub mod Rows
+mod Waiting
+mod Keeping
+mod Rousing
 pub mod Vectors
-pub mod Alone
+pub mod RunningHarts
+pub mod Started
+pub mod ThreadRows
+pub mod Retired
 pub mod Law

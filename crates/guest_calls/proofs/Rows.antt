@@ -1,7 +1,7 @@
 -- What the functions of the calls share.
 use borrow.Rule.Slice.PartMut.{put_mid, post_of}
 use Rattle.std.specs.Vec.{with_items}
-use Rattle.std.proofs.Common.{ℕ, zero, suc, ◌-◌, min, Vec, append_assoc, ⊎_elim, ◌≡◌, ◌≢◌, ◌+◌, ◌<◌, ◌≤◌, ◌^◌, ◌++◌, List, [], ◌∷◌, length, take, drop, set, Bool, true, false, not, ◌&&◌, cond, Option, Some, None, Result, Ok, Err, MatchResult, IsTrue, refl, sym, ap, ◌∙◌, arith, pos, ℤ, replicate, eqb}
+use Rattle.std.proofs.Common.{ℕ, zero, suc, ◌-◌, min, Vec, append_assoc, ⊎_elim, ◌≡◌, ◌≢◌, ◌+◌, ◌<◌, ◌≤◌, ◌^◌, ◌++◌, List, [], ◌∷◌, length, take, drop, set, Bool, true, false, not, ◌&&◌, cond, if◌then◌else◌, Option, Some, None, Result, Ok, Err, MatchResult, IsTrue, refl, sym, ap, ◌∙◌, arith, pos, ℤ, replicate, eqb, get_or}
 use Rattle.std.proofs.lemmas.Bool.{ne_eqb}
 use Rattle.std.proofs.lemmas.Bool.{cases_lt, false≢true}
 use Rattle.std.proofs.lemmas.List.{get_or_past, length-append, length-take, length-drop, take_all, take-append-le, with_items_is}
@@ -9,18 +9,20 @@ use Rattle.std.proofs.Math.Nat.{mod-eq_of_lt}
 use Rattle.std.proofs.Math.Seq.{take-append-add}
 use Rattle.coz_types.specs.Maps.{Map, value_at}
 use Rattle.coz_types.specs.Image.{ImageParts}
+use Rattle.machines.specs.declared.Fate.{Fate}
 use Rattle.machines.specs.Guest.{Retirement}
 use Rattle.guest_memory.specs.declared.Layout.{Layout}
 use Rattle.guest_memory.specs.Memory.{MemoryMap, with_bytes, is_readable, is_writable, byte_at, bytes_at, first_memory}
 use Rattle.guest_memory.proofs.Runs.{allowed_from, allowed_each, length-bytes_at, same_regions-with_bytes, same_regions-first}
 use Rattle.guest_areas.specs.Space.{RegionMap, Space, Answered, SharesRegions, space}
 use Rattle.guest_areas.specs.Entry.{stack_pointer, first_space}
+use Rattle.guest_futex.specs.Waiters.{Waiter}
 use Rattle.rv_execute.specs.Reservations.{Reservations}
 use Rattle.guest_calls.specs.declared.hart.Hart.{Hart}
 use Rattle.guest_calls.specs.Output.{Written, with_bytes_written}
 use Rattle.guest_calls.specs.Guest.{Guest, IsMade, no_hart, hart_at, is_running, is_running_status, memory_of, with_stored, hart_from, first_hart, first_guest}
 use Rattle.guest_calls.specs.Kept.{guest_of}
-use Rattle.guest_calls.specs.Calls.{number, replied, answered, of_space, leave, exit, woken_at_exit, cleared, unsupported, calls, call_of}
+use Rattle.guest_calls.specs.Calls.{retirement, number, replied, answered, of_space, leave, exit, is_cleared, woken_at_exit, cleared, unsupported, calls, call_of}
 
 -- an answer that fits stands as it is
 pub answered_count : (n h : ℕ) (g : Guest) → n < 2 ^ 64 → replied n h g ≡ answered (pos n) h g
@@ -48,31 +50,20 @@ first-again m image layout e =
 pub of_space-is : (g : Guest) (h : ℕ) (a : Answered) (z : ℤ) (after : Guest) → after ≡ record g { space = a.space } → z ≡ a.answer → answered z h after ≡ of_space g h a
 of_space-is g h a z after e f = ap (λ (x : Guest). answered z h x) e ∙ ap (λ (x : ℤ). answered x h (record g { space = a.space })) f
 
--- a hart's exit, where nothing waits
-pub exit-uncleared : (g : Guest) (h : ℕ) → (hart_at g h).clear ≡ 0 → leave h [] g ≡ exit g h
+each_case : (h : ℕ) (b : Bool) (hs : List ℕ) (x y : Guest) → leave h (if b then hs else []) (if b then x else y) ≡ (if b then leave h hs x else leave h [] y)
+each_case h true hs x y = refl
+each_case h false hs x y = refl
+
+-- a hart leaves with the guest and the woken harts of each case
+pub exit-is : (g after : Guest) (h : ℕ) (others : List ℕ) (left : Guest) (fate : Fate)
+    → others ≡ (if is_cleared g h then woken_at_exit g h else []) → after ≡ (if is_cleared g h then cleared g h else g)
+    → retirement left fate [] ≡ leave h [] after → retirement left fate others ≡ exit g h
 unfolding exit
-exit-uncleared g h e = rw e refl
-
-exit-refused : (g : Guest) (h : ℕ) (b : Bool) → is_writable (memory_of g) (hart_at g h).clear 4 ≡ false → b ≡ false
-    → leave h [] g ≡ cond (not b && is_writable (memory_of g) (hart_at g h).clear 4) (leave h (woken_at_exit g h) (cleared g h)) (leave h [] g)
-exit-refused g h b e f = rw (e, f) refl
-
-exit-stored : (g : Guest) (h : ℕ) (b : Bool) → g.waiters ≡ [] → is_writable (memory_of g) (hart_at g h).clear 4 ≡ true → b ≡ false
-    → leave h [] (with_stored (hart_at g h).clear (replicate 4 0) g) ≡ cond (not b && is_writable (memory_of g) (hart_at g h).clear 4) (leave h (woken_at_exit g h) (cleared g h)) (leave h [] g)
-exit-stored g h b none e f = rw (e, f, none) refl
-
-pub exit-cleared : {V E : Type 0} (g after : Guest) (h a : ℕ) (o : Result V E) → g.waiters ≡ [] → a ≡ (hart_at g h).clear → a ≢ 0
-    → MatchResult o
-    (λ _. IsTrue (is_writable (memory_of g) a 4) × (after ≡ with_stored a (replicate 4 0) g))
-    (λ _. (is_writable (memory_of g) a 4 ≡ false) × (after ≡ g))
-    → leave h [] after ≡ exit g h
-unfolding exit
-exit-cleared g after h a (Ok v) none at some m =
-    ap (leave h []) (m.1 ∙ ap (λ (x : ℕ). with_stored x (replicate 4 0) g) at)
-    ∙ exit-stored g h (eqb (hart_at g h).clear 0) none (ap (λ (x : ℕ). is_writable (memory_of g) x 4) (sym at) ∙ m.0) (ne_eqb (hart_at g h).clear 0 (λ (e : (hart_at g h).clear ≡ 0). some (at ∙ e)))
-exit-cleared g after h a (Err e) none at some m =
-    ap (leave h []) m.1
-    ∙ exit-refused g h (eqb (hart_at g h).clear 0) (ap (λ (x : ℕ). is_writable (memory_of g) x 4) (sym at) ∙ m.0) (ne_eqb (hart_at g h).clear 0 (λ (e : (hart_at g h).clear ≡ 0). some (at ∙ e)))
+exit-is g after h others left fate woken is leaves =
+    ap (λ (r : Retirement Guest). record r { others = others }) leaves
+    ∙ ap (λ (x : Guest). leave h others x) is
+    ∙ ap (λ (hs : List ℕ). leave h hs (if is_cleared g h then cleared g h else g)) woken
+    ∙ each_case h (is_cleared g h) (woken_at_exit g h) (cleared g h) g
 
 -- a call by its number
 known_or : Guest → ℕ → ℕ → Option (Guest → ℕ → ℕ → Retirement Guest) → Retirement Guest
@@ -98,15 +89,18 @@ absent : {X : Type 0} (m : Map X) (n : ℕ) → HasNo m n → value_at m n ≡ N
 absent [] n no_key = refl
 absent (e ∷ es) n no_key = skipped e.0 n e.1 es no_key.0 ∙ absent es n no_key.1
 
-pub unknown : (n : ℕ) → n ≢ 29 → n ≢ 62 → n ≢ 63 → n ≢ 64 → n ≢ 65 → n ≢ 66 → n ≢ 93 → n ≢ 94 → n ≢ 96 → n ≢ 124 → n ≢ 135 → n ≢ 172 → n ≢ 178 → n ≢ 214 → n ≢ 215 → n ≢ 216 → n ≢ 222 → n ≢ 226 → n ≢ 233 → value_at calls n ≡ None
-unknown n n29 n62 n63 n64 n65 n66 n93 n94 n96 n124 n135 n172 n178 n214 n215 n216 n222 n226 n233 = absent calls n (n29, (n62, (n63, (n64, (n65, (n66, (n93, (n94, (n96, (n124, (n135, (n172, (n178, (n214, (n215, (n216, (n222, (n226, (n233, tt)))))))))))))))))))
+pub unknown : (n : ℕ) → n ≢ 29 → n ≢ 62 → n ≢ 63 → n ≢ 64 → n ≢ 65 → n ≢ 66 → n ≢ 93 → n ≢ 94 → n ≢ 96 → n ≢ 98 → n ≢ 124 → n ≢ 135 → n ≢ 172 → n ≢ 178 → n ≢ 214 → n ≢ 215 → n ≢ 216 → n ≢ 220 → n ≢ 222 → n ≢ 226 → n ≢ 233 → value_at calls n ≡ None
+unknown n n29 n62 n63 n64 n65 n66 n93 n94 n96 n98 n124 n135 n172 n178 n214 n215 n216 n220 n222 n226 n233 = absent calls n (n29, (n62, (n63, (n64, (n65, (n66, (n93, (n94, (n96, (n98, (n124, (n135, (n172, (n178, (n214, (n215, (n216, (n220, (n222, (n226, (n233, tt)))))))))))))))))))))
 
 -- a running hart was made
+pub made-running : (hs : List Hart) (h : ℕ) → is_running_status (get_or hs h no_hart).status ≡ true → h < length hs
+made-running hs h runs =
+    ⊎_elim (λ (below : h < length hs). below)
+    (λ (past : length hs ≤ h). absurd (let never : false ≡ true = ap (λ (x : Hart). is_running_status x.status) (sym (get_or_past hs h no_hart past)) ∙ runs in cc))
+    (cases_lt h (length hs))
+
 pub running-made : (g : Guest) (h : ℕ) → is_running g h ≡ true → IsMade g h
-running-made g h runs =
-    ⊎_elim (λ (below : h < length g.harts). below)
-    (λ (past : length g.harts ≤ h). absurd (let never : false ≡ true = ap (λ (x : Hart). is_running_status x.status) (sym (get_or_past g.harts h no_hart past)) ∙ runs in cc))
-    (cases_lt h (length g.harts))
+running-made g h runs = made-running g.harts h runs
 
 -- what is appended to an output
 slice_length : (xs : List ℕ) (w k : ℕ) → k ≤ length xs - w → length (take (w + k - w) (drop w xs)) ≡ k
@@ -175,14 +169,15 @@ appended places now into w k n m a old there inside e got was =
 pub first-layout : (m : MemoryMap) (image : ImageParts) (layout : Layout) → m ≡ first_memory image layout → m.layout ≡ layout
 first-layout m image layout e = ap (λ (x : MemoryMap). x.layout) e ∙ (same_regions-first image layout).1
 
-pub first-made : (items : List Hart) (regions : RegionMap) (m : MemoryMap) (rs : Reservations) (input : List ℕ) (output : Written) (image : ImageParts) (limit : ℕ) (layout : Layout) → items ≡ first_hart image ∷ []
-    → space regions m ≡ first_space image layout → rs ≡ [] → output ≡ written [] limit → guest_of items regions m rs input output ≡ first_guest image input limit layout
+pub first-made : (items : List Hart) (regions : RegionMap) (m : MemoryMap) (rs : Reservations) (ws : List Waiter) (input : List ℕ) (output : Written) (image : ImageParts) (limit : ℕ) (layout : Layout) → items ≡ first_hart image ∷ []
+    → space regions m ≡ first_space image layout → rs ≡ [] → ws ≡ [] → output ≡ written [] limit → guest_of items regions m rs ws input output ≡ first_guest image input limit layout
 unfolding first_guest
-first-made items regions m rs input output image limit layout hs sp none empty =
-    ap (λ (x : List Hart). guest_of x regions m rs input output) hs
-    ∙ ap (λ (x : Space). guest_of (first_hart image ∷ []) x.regions x.memory rs input output) sp
-    ∙ ap (λ (x : Reservations). guest_of (first_hart image ∷ []) (first_space image layout).regions (first_space image layout).memory x input output) none
-    ∙ ap (λ (x : Written). guest_of (first_hart image ∷ []) (first_space image layout).regions (first_space image layout).memory [] input x) empty
+first-made items regions m rs ws input output image limit layout hs sp none idle empty =
+    ap (λ (x : List Hart). guest_of x regions m rs ws input output) hs
+    ∙ ap (λ (x : Space). guest_of (first_hart image ∷ []) x.regions x.memory rs ws input output) sp
+    ∙ ap (λ (x : Reservations). guest_of (first_hart image ∷ []) (first_space image layout).regions (first_space image layout).memory x ws input output) none
+    ∙ ap (λ (x : List Waiter). guest_of (first_hart image ∷ []) (first_space image layout).regions (first_space image layout).memory [] x input output) idle
+    ∙ ap (λ (x : Written). guest_of (first_hart image ∷ []) (first_space image layout).regions (first_space image layout).memory [] [] input x) empty
 
 pub first-hart : (items before : List Hart) (hart : Hart) (sp entry : ℕ) (image : ImageParts) → items ≡ before ++ hart ∷ [] → before ≡ []
     → hart ≡ hart_from (record { registers = set (replicate 32 0) 2 sp; pc = entry }) 0 → sp ≡ stack_pointer → entry ≡ image.entry → items ≡ first_hart image ∷ []

@@ -14,6 +14,7 @@ use Rattle.rv_execute.specs.declared.hart.Step.{Step}
 use Rattle.rv_execute.specs.declared.hart.Step.TheVariants.{Next, Call, Fault}
 use Rattle.rv_execute.specs.Reservations.{Reservations}
 use Rattle.rv_execute.specs.Execution.{Setting, Executed, setting, executed, execute}
+use Rattle.guest_futex.specs.Waiters.{Waiter}
 use Rattle.guest_calls.specs.declared.hart.Hart.{Hart}
 use Rattle.guest_calls.specs.Guest.{Guest, no_hart, setting_of, with_setting}
 use Rattle.guest_calls.specs.Output.{Written}
@@ -132,12 +133,12 @@ shares-executed r h i s hart m rs result e shared =
     }
 
 -- what is executed on the hart's own registers, in its place
-pub step-in_place : (items : List Hart) (regions : RegionMap) (m after_m : MemoryMap) (r after_r : Reservations) (input : List ℕ) (output : Written) (g : Guest) (h w : ℕ) (i : Instr) (hart : Hart) (s : HartState) (result : Step)
-    → guest_of items regions m r input output ≡ g → hart ≡ get_or items h no_hart → Some w ≡ word_at g h → Some i ≡ instruction_of w
+pub step-in_place : (items : List Hart) (regions : RegionMap) (m after_m : MemoryMap) (r after_r : Reservations) (waiters : List Waiter) (input : List ℕ) (output : Written) (g : Guest) (h w : ℕ) (i : Instr) (hart : Hart) (s : HartState) (result : Step)
+    → guest_of items regions m r waiters input output ≡ g → hart ≡ get_or items h no_hart → Some w ≡ word_at g h → Some i ≡ instruction_of w
     → executed s after_m after_r result ≡ execute h i (setting hart.state m r)
-    → stepped (guest_of (set items h (record hart { state = s })) regions after_m after_r input output) result ≡ step g h
-step-in_place items regions m after_m r after_r input output g h w i hart s result view at e f x =
-    let old : Guest = guest_of items regions m r input output in
-    ap (λ (y : Hart). stepped (guest_of (set items h (record y { state = s })) regions after_m after_r input output) result) at
+    → stepped (guest_of (set items h (record hart { state = s })) regions after_m after_r waiters input output) result ≡ step g h
+step-in_place items regions m after_m r after_r waiters input output g h w i hart s result view at e f x =
+    let old : Guest = guest_of items regions m r waiters input output in
+    ap (λ (y : Hart). stepped (guest_of (set items h (record y { state = s })) regions after_m after_r waiters input output) result) at
     ∙ step-executed old h w i s after_m after_r result (e ∙ ap (λ (y : Guest). word_at y h) (sym view)) f (x ∙ ap (λ (y : Hart). execute h i (setting y.state m r)) at)
     ∙ ap (λ (y : Guest). step y h) view

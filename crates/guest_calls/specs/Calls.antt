@@ -1,20 +1,25 @@
 -- The system calls of a guest (Linux on riscv64): each by its number in a7, with its arguments in a0 to a5 and its answer in a0. The checks of each are in the order in which they are made.
-use Rattle.std.specs.Prelude.{ℕ, zero, suc, ◌+◌, ◌-◌, ◌*◌, ◌%◌, Bool, not, ◌&&◌, ◌||◌, if◌then◌else◌, nat_le, nat_lt, ◌==◌, min, List, [], ◌∷◌, ◌++◌, length, take, drop, replicate, Some, None, ℤ, pos, slice_index}
+use Rattle.std.specs.Prelude.{ℕ, zero, suc, ◌+◌, ◌-◌, ◌*◌, ◌%◌, ◌^◌, Bool, not, ◌&&◌, ◌||◌, if◌then◌else◌, nat_le, nat_lt, ◌==◌, min, max, List, [], ◌∷◌, ◌++◌, length, take, drop, replicate, Some, None, ℤ, pos, negsuc, slice_index}
+use Rattle.std.specs.Int.{w32, to_le_bytes}
+use Rattle.std.specs.Int.RustNames.{bit_and, bit_or}
 use Rattle.std.specs.List.{list_all}
 use Rattle.coz_types.specs.declared.ending.Ending.TheVariants.{Exited, Unsupported}
 use Rattle.coz_types.specs.Maps.{Map, value_at}
 use Rattle.machines.specs.declared.Fate.{Fate}
-use Rattle.machines.specs.declared.Fate.TheVariants.{Goes, Leaves, Ends}
+use Rattle.machines.specs.declared.Fate.TheVariants.{Goes, Waits, Leaves, Ends}
 use Rattle.machines.specs.Guest.{Retirement}
-use Rattle.rv_decode.specs.Fields.{twos}
+use Rattle.rv_decode.specs.Fields.{twos, signed}
 use Rattle.guest_memory.specs.Memory.{MemoryMap, is_readable, is_writable, number_at, bytes_at}
-use Rattle.guest_areas.specs.Answers.{bad_file, no_memory, bad_address, invalid, no_terminal, no_seek}
+use Rattle.guest_areas.specs.Answers.{bad_file, try_again, no_memory, bad_address, invalid, no_terminal, no_seek}
 use Rattle.guest_areas.specs.Space.{Space, Answered, has, with_break, map, unmap, protect}
-use Rattle.guest_futex.specs.Waiters.{woken, left}
-use Rattle.guest_calls.specs.declared.hart.HartStatus.TheVariants.{Gone}
+use Rattle.guest_futex.specs.Waiters.{with_waiter, woken, left}
+use Rattle.rv_execute.specs.declared.hart.HartState.{HartState}
+use Rattle.rv_execute.specs.Execution.{with_register}
+use Rattle.guest_calls.specs.declared.hart.Hart.{Hart}
+use Rattle.guest_calls.specs.declared.hart.HartStatus.TheVariants.{Waiting, Gone}
 use Rattle.guest_calls.specs.declared.pieces.Piece.{Piece}
 use Rattle.guest_calls.specs.Answering.{after_call, with_result}
-use Rattle.guest_calls.specs.Guest.{Guest, hart_at, state_of, with_hart, with_state, with_running, is_over, thread_id, memory_of, with_stored, with_written}
+use Rattle.guest_calls.specs.Guest.{Guest, hart_from, hart_at, state_of, with_hart, with_state, with_running, is_over, thread_id, memory_of, with_stored, with_written}
 
 abbrev pub retirement : Guest → Fate → List ℕ → Retirement Guest
 retirement guest fate others = record { guest = guest; fate = fate; others = others }
@@ -69,6 +74,46 @@ is_output number = number == 1 || number == 2
 abbrev pub is_mapping : ℕ → Bool
 is_mapping flags = has flags 0x20 && not (has flags 0x10) && (flags % 4 == 1 || flags % 4 == 2)
 
+-- the flags that a clone must have: memory, files and handlers are shared, and the child is a thread
+abbrev pub required_flags : ℕ
+required_flags = 0x10F00
+
+abbrev pub set_tls : ℕ
+set_tls = 0x80000
+
+abbrev pub parent_set_tid : ℕ
+parent_set_tid = 0x100000
+
+abbrev pub child_clear_tid : ℕ
+child_clear_tid = 0x200000
+
+abbrev pub child_set_tid : ℕ
+child_set_tid = 0x1000000
+
+-- those that it may have: a signal in the low 8 bits, SYSVSEM and DETACHED, which change nothing, and those above
+abbrev pub accepted_flags : ℕ
+accepted_flags = 0xFF + required_flags + 0x40000 + 0x400000 + set_tls + parent_set_tid + child_clear_tid + child_set_tid
+
+abbrev pub is_accepted : ℕ → Bool
+is_accepted flags = bit_and flags required_flags == required_flags && bit_or flags accepted_flags == accepted_flags
+
+-- the harts that are made in a run
+abbrev pub hart_limit : ℕ
+hart_limit = 256
+
+-- a word is stored, where its 4 bytes may be written
+abbrev pub with_word : ℕ → ℕ → Guest → Guest
+with_word address n g = if is_writable (memory_of g) address 4 then with_stored address (to_le_bytes w32 n) g else g
+
+-- the eldest harts that wait for an address run, at most so many
+abbrev pub with_woken : ℕ → ℕ → Guest → Guest
+with_woken address count g = with_running (woken address g.waiters count) (record g { waiters = left address g.waiters count })
+
+-- how many a wake takes at most
+abbrev pub wake_count : ℤ → ℕ
+wake_count (pos n) = max n 1
+wake_count (negsuc n) = 1
+
 -- a7, which is x17
 abbrev pub number : Guest → ℕ → ℕ
 number g h = slice_index (state_of g h).registers 17
@@ -106,6 +151,9 @@ module _ (g : Guest) (h : ℕ) where
 
   abbrev pub a3 : ℕ
   a3 = argument g h 3
+
+  abbrev pub a4 : ℕ
+  a4 = argument g h 4
 
   abbrev pub answer : ℤ → Retirement Guest
   answer z = answered z h g
@@ -186,15 +234,76 @@ module _ (g : Guest) (h : ℕ) where
 
   -- the clear address has 0, and its eldest waiter is woken
   abbrev pub cleared : Guest
-  cleared =
-      with_running woken_at_exit
-      (record (with_stored clear_address (replicate 4 0) g) { waiters = left clear_address g.waiters 1 })
+  cleared = with_woken clear_address 1 (with_stored clear_address (replicate 4 0) g)
 
   unfoldable pub exit : Retirement Guest
   exit = if is_cleared then leave h woken_at_exit cleared else leave h [] g
 
   unfoldable pub set_tid_address : Retirement Guest
   set_tid_address = answered (pos (thread_id h)) h (with_hart h (record (hart_at g h) { clear = a0 }) g)
+
+  -- the hart waits for an address, and has 0 as its answer once it is woken
+  abbrev pub waiting_for : ℕ → Guest
+  waiting_for address =
+      with_hart h (record (hart_at g h) { state = with_result 0 (state_of g h); status = Waiting }) (record g { waiters = with_waiter address h g.waiters })
+
+  unfoldable pub wait : Retirement Guest
+  wait =
+      if not (a3 == 0) then unsupported
+      else if not (a0 % 4 == 0) then answer invalid
+      else if not (is_readable (memory_of g) a0 4) then answer bad_address
+      else if not (number_at (memory_of g) a0 4 == a2 % 2 ^ 32) then answer try_again
+      else retirement (waiting_for a0) Waits []
+
+  abbrev pub most_woken : ℕ
+  most_woken = wake_count (signed 32 (a2 % 2 ^ 32))
+
+  -- the harts that a wake on a0 wakes
+  abbrev pub woken_here : List ℕ
+  woken_here = woken a0 g.waiters most_woken
+
+  unfoldable pub wake : Retirement Guest
+  wake =
+      if not (a0 % 4 == 0) then answer invalid
+      else record (answered (pos (length woken_here)) h (with_woken a0 most_woken g)) { others = woken_here }
+
+  -- 0 waits and 1 wakes; the flag 128 says that the waiters are threads of one program
+  unfoldable pub futex : Retirement Guest
+  futex = if a1 == 0 || a1 == 128 then wait else if a1 == 1 || a1 == 129 then wake else unsupported
+
+  -- the number of the hart that is made next
+  abbrev pub child : ℕ
+  child = length g.harts
+
+  abbrev pub child_stack : HartState → HartState
+  child_stack state = if a1 == 0 then state else with_register 2 a1 state
+
+  abbrev pub child_tls : HartState → HartState
+  child_tls state = if has a0 set_tls then with_register 4 a3 state else state
+
+  -- it goes on behind the call, with 0 as its answer
+  abbrev pub child_hart : Hart
+  child_hart =
+      hart_from (child_tls (child_stack (with_result 0 (state_of g h)))) (if has a0 child_clear_tid then a4 else 0)
+
+  abbrev pub with_child : Guest
+  with_child = record g { harts = g.harts ++ child_hart ∷ [] }
+
+  abbrev pub with_parent_tid : Guest → Guest
+  with_parent_tid changed = if has a0 parent_set_tid then with_word a2 (thread_id child) changed else changed
+
+  abbrev pub with_child_tid : Guest → Guest
+  with_child_tid changed = if has a0 child_set_tid then with_word a4 (thread_id child) changed else changed
+
+  -- the guest with the child, whose thread id is stored where the flags ask for it
+  abbrev pub cloned : Guest
+  cloned = with_child_tid (with_parent_tid with_child)
+
+  unfoldable pub clone : Retirement Guest
+  clone =
+      if not (is_accepted a0) then unsupported
+      else if nat_le hart_limit (length g.harts) then answer try_again
+      else record (answered (pos (thread_id child)) h cloned) { others = child ∷ [] }
 
   unfoldable pub sched_yield : Retirement Guest
   sched_yield = answer (pos 0)
@@ -246,6 +355,7 @@ calls =
     ∷ (93, at_any_time exit)
     ∷ (94, at_any_time exit_group)
     ∷ (96, at_any_time set_tid_address)
+    ∷ (98, at_any_time futex)
     ∷ (124, at_any_time sched_yield)
     ∷ (135, at_any_time rt_sigprocmask)
     ∷ (172, at_any_time getpid)
@@ -253,6 +363,7 @@ calls =
     ∷ (214, at_any_time brk)
     ∷ (215, at_any_time munmap)
     ∷ (216, at_any_time mremap)
+    ∷ (220, at_any_time clone)
     ∷ (222, at_any_time mmap)
     ∷ (226, at_any_time mprotect)
     ∷ (233, at_any_time madvise)

@@ -1,5 +1,5 @@
 -- A guest: its harts, its address space, and what it reads and writes.
-use Rattle.std.specs.Prelude.{ℕ, ◌+◌, ◌<◌, Bool, true, false, List, [], ◌∷◌, ◌++◌, get_or, set, replicate, length, take, fold}
+use Rattle.std.specs.Prelude.{ℕ, ◌+◌, ◌<◌, Bool, true, false, List, [], ◌∷◌, ◌++◌, get_or, set, replicate, length, take}
 use Rattle.std.specs.List.{list_all}
 use Rattle.coz_types.specs.Image.{ImageParts}
 use Rattle.guest_memory.specs.declared.Layout.{Layout}
@@ -60,12 +60,13 @@ pc_of g h = (state_of g h).pc
 abbrev pub with_state : ℕ → HartState → Guest → Guest
 with_state h state g = with_hart h (record (hart_at g h) { state = state }) g
 
-abbrev pub with_status : HartStatus → Guest → ℕ → Guest
-with_status status g h = with_hart h (record (hart_at g h) { status = status }) g
-
 -- these harts run
+abbrev pub with_running_each : List ℕ → List Hart → List Hart
+with_running_each [] harts = harts
+with_running_each (h ∷ hs) harts = with_running_each hs (set harts h (record (get_or harts h no_hart) { status = Running }))
+
 abbrev pub with_running : List ℕ → Guest → Guest
-with_running hs g = fold (with_status Running) g hs
+with_running hs g = record g { harts = with_running_each hs g.harts }
 
 abbrev pub is_running : Guest → ℕ → Bool
 is_running g h = is_running_status (hart_at g h).status

@@ -1,24 +1,30 @@
 -- What the fields of `Guest` stand for, and what holds of them.
-use Rattle.std.specs.Prelude.{ℕ, ◌≤◌, [], List, length}
+use Rattle.std.specs.Prelude.{ℕ, ◌≤◌, List, length}
 use Rattle.guest_memory.specs.Memory.{MemoryMap}
 use Rattle.guest_areas.specs.Space.{RegionMap, space, SharesRegions}
+use Rattle.guest_futex.specs.Waiters.{Waiter}
+use Rattle.guest_futex.specs.Apart.{AreApart}
 use Rattle.rv_execute.specs.Reservations.{Reservations}
 use Rattle.guest_calls.specs.declared.hart.Hart.{Hart}
 use Rattle.guest_calls.specs.Output.{Written}
 use Rattle.guest_calls.specs.Guest.{Guest}
+use Rattle.guest_calls.specs.Orderly.{AreWaiting}
 
--- no hart waits yet
-abbrev pub guest_of : List Hart → RegionMap → MemoryMap → Reservations → List ℕ → Written → Guest
-guest_of harts regions memory reservations input written = record {
+abbrev pub guest_of : List Hart → RegionMap → MemoryMap → Reservations → List Waiter → List ℕ → Written → Guest
+guest_of harts regions memory reservations waiters input written = record {
   harts = harts;
   space = space regions memory;
   reservations = reservations;
-  waiters = [];
+  waiters = waiters;
   input = input;
   output = written.bytes;
   output_limit = written.limit;
 }
 
-pub record IsKept (harts : List Hart) (regions : RegionMap) (memory : MemoryMap) : Type 0 where
+pub record IsKept (harts : List Hart) (capacity : ℕ) (waiters : List Waiter) (regions : RegionMap) (memory : MemoryMap) : Type 0 where
   pub few : length harts ≤ 256
+  -- no call takes memory
+  pub room : 256 ≤ capacity
+  pub waiting : AreWaiting harts waiters
+  pub apart : AreApart waiters
   pub shared : SharesRegions regions memory

@@ -1,8 +1,18 @@
 -- What holds of a guest between retirements.
-use Rattle.std.specs.Prelude.{◌≡◌, [], length}
-use Rattle.guest_calls.specs.Guest.{Guest}
+use Rattle.std.specs.Prelude.{◌≡◌, ℕ, ◌≤◌, List, [], ◌∷◌, length, get_or}
+use Rattle.guest_futex.specs.Waiters.{Waiter}
+use Rattle.guest_futex.specs.Apart.{AreApart}
+use Rattle.guest_calls.specs.declared.hart.Hart.{Hart}
+use Rattle.guest_calls.specs.declared.hart.HartStatus.TheVariants.{Waiting}
+use Rattle.guest_calls.specs.Guest.{Guest, no_hart}
+
+-- a hart that is among the waiters waits
+abbrev pub AreWaiting : List Hart → List Waiter → Type 0
+AreWaiting harts [] = Unit {0}
+AreWaiting harts (w ∷ ws) = ((get_or harts w.hart no_hart).status ≡ Waiting) × AreWaiting harts ws
 
 pub record IsOrderly (g : Guest) : Type 0 where
-  -- no call makes a hart
-  pub one_hart : length g.harts ≡ 1
-  pub none_waits : g.waiters ≡ []
+  pub few : length g.harts ≤ 256
+  pub waiting : AreWaiting g.harts g.waiters
+  -- no hart waits twice
+  pub apart : AreApart g.waiters

@@ -18,9 +18,9 @@ const BAD_FILE: i64 = -9;
 
 const NO_MEMORY: i64 = -12;
 
-const BAD_ADDRESS: i64 = -14;
+pub(crate) const BAD_ADDRESS: i64 = -14;
 
-const INVALID: i64 = -22;
+pub(crate) const INVALID: i64 = -22;
 
 const NO_TERMINAL: i64 = -25;
 
@@ -60,7 +60,6 @@ impl<'a> Guest<'a> {
         requires call { next_of self.old hart.0 ≡ Some Ecall }
         ensures { retirement self.new result started.new ≡ call_of self.old hart.0 net }
     {
-        let _ = &started;
         match self.number(hart) {
             29 => self.ioctl(hart),
             62 => self.lseek(hart),
@@ -68,9 +67,10 @@ impl<'a> Guest<'a> {
             64 => self.write(hart),
             65 => self.readv(hart),
             66 => self.writev(hart),
-            93 => self.exit(hart),
+            93 => self.exit(hart, started),
             94 => self.exit_group(hart),
             96 => self.set_tid_address(hart),
+            98 => self.futex(hart, started),
             124 => self.sched_yield(hart),
             135 => self.rt_sigprocmask(hart),
             172 => self.getpid(hart),
@@ -78,6 +78,7 @@ impl<'a> Guest<'a> {
             214 => self.brk(hart),
             215 => self.munmap(hart),
             216 => self.mremap(hart),
+            220 => self.clone(hart, started),
             222 => self.mmap(hart),
             226 => self.mprotect(hart),
             233 => self.madvise(hart),
@@ -85,14 +86,14 @@ impl<'a> Guest<'a> {
         }
     }
 
-    fn number(&self, hart: HartId) -> u64
+    pub(crate) fn number(&self, hart: HartId) -> u64
         requires { IsMade self.now hart.0 }
         ensures { result ≡ number self.now hart.0 }
     {
         self.hart(hart).state.registers[17]
     }
 
-    fn argument(&self, hart: HartId, index: usize) -> u64
+    pub(crate) fn argument(&self, hart: HartId, index: usize) -> u64
         requires made { IsMade self.now hart.0 }
         requires index { index < 6 }
         ensures { result ≡ argument self.now hart.0 index }
@@ -109,14 +110,14 @@ impl<'a> Guest<'a> {
         Fate::Goes
     }
 
-    fn answer(&mut self, hart: HartId, value: i64) -> Fate
+    pub(crate) fn answer(&mut self, hart: HartId, value: i64) -> Fate
         requires { IsMade self.old hart.0 }
         ensures { retirement self.new result [] ≡ answered value hart.0 self.old }
     {
         self.reply(hart, value.cast_unsigned())
     }
 
-    fn answer_count(&mut self, hart: HartId, count: u64) -> Fate
+    pub(crate) fn answer_count(&mut self, hart: HartId, count: u64) -> Fate
         requires { IsMade self.old hart.0 }
         ensures { retirement self.new result [] ≡ answered (pos count) hart.0 self.old }
     {
@@ -124,7 +125,7 @@ impl<'a> Guest<'a> {
     }
 
     /// The run ends: the call, or its options, are not supported.
-    fn unsupported(&mut self, hart: HartId) -> Fate
+    pub(crate) fn unsupported(&mut self, hart: HartId) -> Fate
         requires { IsMade self.old hart.0 }
         ensures { retirement self.new result [] ≡ calls.unsupported self.old hart.0 }
     {
@@ -132,7 +133,7 @@ impl<'a> Guest<'a> {
     }
 
     /// Writes bytes to the memory, as a store does; nothing is written where some byte may not be.
-    fn store(&mut self, address: Address, bytes: &[u8]) -> Result<(), Access>
+    pub(crate) fn store(&mut self, address: Address, bytes: &[u8]) -> Result<(), Access>
         ensures { MatchResult result
             (λ _. IsTrue (is_writable (memory_of self.old) address (length bytes.now)) × (self.new ≡ with_stored address bytes.now self.old))
             (λ _. (is_writable (memory_of self.old) address (length bytes.now) ≡ false) × (self.new ≡ self.old)) }
@@ -178,73 +179,11 @@ impl<'a> Guest<'a> {
     }
 
     /// The low 8 bits of the first argument.
-    fn code(&self, hart: HartId) -> u8
+    pub(crate) fn code(&self, hart: HartId) -> u8
         requires { IsMade self.now hart.0 }
         ensures { result ≡ calls.a0 self.now hart.0 % 256 }
     {
         (self.argument(hart, 0) % 256) as u8
-    }
-
-    /// Linux: exit(2), of one thread.
-    #[tactic(auto, unfolding(crate::specs::Calls::exit))]
-    fn exit(&mut self, hart: HartId) -> Fate
-        requires { IsMade self.old hart.0 }
-        ensures { retirement self.new result [] ≡ calls.exit self.old hart.0 }
-    {
-        let clear = self.clear_address(hart);
-        if clear == 0 {
-            return self.leave(hart);
-        }
-        // Where it may not be written, it is left as it is.
-        let _ = self.store(clear, &[0; 4]);
-        self.leave(hart)
-    }
-
-    /// The address that is cleared as the hart leaves, or 0. No hart waits for it.
-    fn clear_address(&self, hart: HartId) -> Address
-        requires { IsMade self.now hart.0 }
-        ensures address { result ≡ calls.clear_address self.now hart.0 }
-        ensures unawaited { self.now.waiters ≡ [] }
-    {
-        self.harts[hart.0 as usize].clear
-    }
-
-    /// The hart leaves; if it is the last, the run ends.
-    fn leave(&mut self, hart: HartId) -> Fate
-        requires { IsMade self.old hart.0 }
-        ensures { retirement self.new result [] ≡ calls.leave hart.0 [] self.old }
-    {
-        let code = self.code(hart);
-        self.remove(hart);
-        if self.is_over() {
-            Fate::Ends(Ending::Exited(code))
-        } else {
-            Fate::Leaves
-        }
-    }
-
-    fn remove(&mut self, hart: HartId)
-        requires { IsMade self.old hart.0 }
-        ensures { self.new ≡ calls.left_by hart.0 self.old }
-    {
-        self.harts[hart.0 as usize].leave();
-    }
-
-    fn is_over(&self) -> bool
-        ensures { result ≡ is_over self.now }
-    {
-        self.harts.iter().all(|hart| hart.is_gone())
-    }
-
-    /// Linux: set_tid_address(2).
-    #[tactic(auto, unfolding(crate::specs::Calls::set_tid_address))]
-    fn set_tid_address(&mut self, hart: HartId) -> Fate
-        requires { IsMade self.old hart.0 }
-        ensures { retirement self.new result [] ≡ calls.set_tid_address self.old hart.0 }
-    {
-        let address = self.argument(hart, 0);
-        self.harts[hart.0 as usize].clear = address;
-        self.answer_count(hart, thread_id(hart))
     }
 
     /// Linux: sched_yield(2).
@@ -502,7 +441,8 @@ impl<'a> Guest<'a> {
     }
 }
 
-fn thread_id(hart: HartId) -> u64
+/// The id of a hart's thread.
+pub(crate) fn thread_id(hart: HartId) -> u64
     ensures { result ≡ thread_id hart.0 }
 {
     hart.0 as u64 + 1

@@ -1,5 +1,5 @@
 ghost use Rattle.std.specs.Prelude.{◌≡◌, set, replicate};
-ghost use Rattle.guest_calls.specs.declared.hart.HartStatus.TheVariants.{Gone};
+ghost use Rattle.guest_calls.specs.declared.hart.HartStatus.TheVariants.{Waiting, Gone};
 ghost use Rattle.guest_calls.specs.Answering.{after_call, with_result};
 ghost use Rattle.guest_calls.specs.Guest.{hart_from, is_gone_status};
 
@@ -59,6 +59,14 @@ impl Hart {
     {
         self.proceed();
         self.state.registers[10] = value;
+    }
+
+    /// The hart waits, behind the call, whose answer is 0.
+    pub fn wait(&mut self)
+        ensures { self.new ≡ record self.old { state = with_result 0 self.old.state; status = Waiting } }
+    {
+        self.answer(0);
+        self.status = HartStatus::Waiting;
     }
 
     /// The hart is gone, behind the call.

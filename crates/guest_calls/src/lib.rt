@@ -7,6 +7,7 @@ mod output;
 mod pieces;
 #[cfg(test)]
 mod tests;
+mod threads;
 
 ghost use Rattle.std.specs.Prelude.{◌≡◌, ◌≤◌, [], length, IfOk, IsTrue};
 ghost use Rattle.std.specs.Result.{result_ok};
@@ -19,7 +20,7 @@ use crate::hart::Hart;
 use crate::output::Output;
 use coz_types::{Address, Ending, HartId, Image, Tick, Trap, TrapCause};
 use guest_areas::Areas;
-use guest_futex::HartList;
+use guest_futex::{HartList, Queue};
 use guest_memory::{Access, Layout, Memory};
 pub use hart::HartStatus;
 pub use machines::Fate;
@@ -38,6 +39,7 @@ pub struct Guest<'a> {
     memory: Memory,
     areas: Areas,
     reservations: Reservations,
+    queue: Queue,
     /// The input that is left.
     input: &'a [u8],
     output: Output,
@@ -48,11 +50,12 @@ impl<'a> Model for Guest<'a> {
 
     ghost Value = { Guest };
 
+    ghost use Rattle.std.specs.Vec.{vec_capacity};
     ghost use Rattle.guest_calls.specs.Kept.{guest_of, IsKept};
 
-    ghost view = { λ g. guest_of g.harts.items g.areas g.memory g.reservations g.input.now g.output };
+    ghost view = { λ g. guest_of g.harts.items g.areas g.memory g.reservations g.queue g.input.now g.output };
 
-    ghost invariant = { λ g. IsKept g.harts.items g.areas g.memory };
+    ghost invariant = { λ g. IsKept g.harts.items (vec_capacity g.harts) g.queue g.areas g.memory };
 }
 
 impl<'a> Guest<'a> {
@@ -75,11 +78,13 @@ impl<'a> Guest<'a> {
         let mut harts = Vec::with_capacity(alloc, HARTS)?;
         harts.push(Hart::first(areas.stack_pointer(), image.entry()))?;
         let output = Output::new(alloc, output_limit as usize)?;
+        let queue = Queue::new(alloc)?;
         Ok(Guest {
             harts,
             memory,
             areas,
             reservations: Reservations::new(),
+            queue,
             input,
             output,
         })

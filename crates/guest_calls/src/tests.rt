@@ -1,5 +1,5 @@
 ghost use Rattle.std.specs.Prelude.{IsTrue};
-ghost use Rattle.guest_calls.specs.Guest.{is_running};
+ghost use Rattle.guest_calls.specs.Guest.{is_running, IsMade};
 
 use super::*;
 use coz_types::{Area, Rights};
@@ -21,52 +21,71 @@ const MAP: Address = 0x21_0000_0000;
 
 const STACK: Address = 0x3F_FFFF_0000;
 
+const AREA: Area = Area {
+    start: TEXT,
+    size: 4096,
+    rights: Rights {
+        read: true,
+        write: false,
+        execute: true,
+    },
+    vaddr: TEXT,
+    offset: 0,
+    filled: 4,
+};
+
+/// A hart stands before a call with these arguments.
+fn prepare(guest: &mut Guest, hart: HartId, number: u64, arguments: [u64; 5])
+    requires { IsMade guest.old hart.0 }
+{
+    let state = &mut guest.harts[hart.0 as usize].state;
+    state.pc = TEXT;
+    state.registers[17] = number;
+    state.registers[10] = arguments[0];
+    state.registers[11] = arguments[1];
+    state.registers[12] = arguments[2];
+    state.registers[13] = arguments[3];
+    state.registers[14] = arguments[4];
+}
+
 impl<'a> Guest<'a> {
-    fn runs(&self) -> bool
-        ensures { IsTrue result → IsTrue (is_running self.now 0) }
+    fn runs(&self, hart: HartId) -> bool
+        ensures { IsTrue result → IsTrue (is_running self.now hart.0) }
     {
-        !self.harts.is_empty() && matches!(self.harts[0].status, HartStatus::Running)
+        let place = hart.0 as usize;
+        place < self.harts.len() && matches!(self.harts[place].status, HartStatus::Running)
     }
 
-    /// What becomes of the first hart as it makes a call, and its a0 then.
-    fn ask(&mut self, number: u64, arguments: [u64; 4]) -> Option<(Fate, i64)> {
-        if self.harts.is_empty() {
+    /// What becomes of a hart as it makes a call, and its a0 then; `started` gets the harts that it makes or wakes.
+    fn ask_as(
+        &mut self,
+        hart: HartId,
+        number: u64,
+        arguments: [u64; 5],
+        started: &mut HartList,
+    ) -> Option<(Fate, i64)> {
+        started.clear();
+        if hart.0 as usize >= self.harts.len() {
             return None;
         }
-        let state = &mut self.harts[0].state;
-        state.pc = TEXT;
-        state.registers[17] = number;
-        state.registers[10] = arguments[0];
-        state.registers[11] = arguments[1];
-        state.registers[12] = arguments[2];
-        state.registers[13] = arguments[3];
-        if !self.runs() {
+        prepare(self, hart, number, arguments);
+        if !self.runs(hart) {
             return None;
         }
-        let fate = self.retire(HartId(0), 0, &mut HartList::new());
-        if self.harts.is_empty() {
-            return None;
-        }
-        Some((fate, self.harts[0].state.registers[10].cast_signed()))
+        let fate = self.retire(hart, 0, started);
+        let made = self.harts.get(hart.0 as usize)?;
+        Some((fate, made.state.registers[10].cast_signed()))
+    }
+
+    /// The same of the first hart.
+    fn ask(&mut self, number: u64, [a0, a1, a2, a3]: [u64; 4]) -> Option<(Fate, i64)> {
+        self.ask_as(HartId(0), number, [a0, a1, a2, a3, 0], &mut HartList::new())
     }
 }
 
 #[test]
 fn calls_answer_by_their_rows(rt: HostRuntime) -> Result<(), Fail> {
-    let rights = Rights {
-        read: true,
-        write: false,
-        execute: true,
-    };
-    let area = Area {
-        start: TEXT,
-        size: 4096,
-        rights,
-        vaddr: TEXT,
-        offset: 0,
-        filled: 4,
-    };
-    let image = Image::new(&FILE, vec![in rt.alloc(); area]?, TEXT, 0, 1);
+    let image = Image::new(&FILE, vec![in rt.alloc(); AREA]?, TEXT, 0, 1);
     let mut guest = Guest::new(rt.alloc(), &image, &INPUT, 5, Layout::usual())?;
     assert_eq!(rt; guest.harts(), 1);
     for (number, arguments, wanted) in [
@@ -140,8 +159,16 @@ fn calls_answer_by_their_rows(rt: HostRuntime) -> Result<(), Fail> {
 
     // What is not supported leaves the guest as it is; the last hart's exit ends the run.
     for (number, arguments, wanted) in [
-        (98, [STACK, 0, 0, 0], Ending::Unsupported(98)),
-        (220, [0x10F00, 0, 0, 0], Ending::Unsupported(220)),
+        (98, [STACK, 2, 0, 0], Ending::Unsupported(98)),
+        (98, [STACK, 0x1_0000_0000, 0, 0], Ending::Unsupported(98)),
+        (98, [STACK, 128, 0, STACK], Ending::Unsupported(98)),
+        (220, [0x10E00, 0, 0, 0], Ending::Unsupported(220)),
+        (220, [0x10D00, 0, 0, 0], Ending::Unsupported(220)),
+        (220, [0x10B00, 0, 0, 0], Ending::Unsupported(220)),
+        (220, [0x10700, 0, 0, 0], Ending::Unsupported(220)),
+        (220, [0x00F00, 0, 0, 0], Ending::Unsupported(220)),
+        (220, [0x11F00, 0, 0, 0], Ending::Unsupported(220)),
+        (220, [0x1_0001_0F00, 0, 0, 0], Ending::Unsupported(220)),
         (222, [0, 1, 3, 0x20], Ending::Unsupported(222)),
         (222, [0, 1, 3, 0x32], Ending::Unsupported(222)),
         (1000, [0, 0, 0, 0], Ending::Unsupported(1000)),
@@ -157,5 +184,84 @@ fn calls_answer_by_their_rows(rt: HostRuntime) -> Result<(), Fail> {
         );
     }
     assert_eq!(rt; guest.ask(178, [0, 0, 0, 0]), None);
+    Ok(())
+}
+
+/// A call of a hart with its arguments, and what becomes of the hart, its a0 then, and the harts that are started.
+type Asked = (u16, u64, [u64; 5], Fate, i64, &'static [HartId]);
+
+const NONE: &[HartId] = &[];
+
+#[test]
+fn threads_wait_and_are_woken(rt: HostRuntime) -> Result<(), Fail> {
+    let image = Image::new(&FILE, vec![in rt.alloc(); AREA]?, TEXT, 0, 1);
+    let mut guest = Guest::new(rt.alloc(), &image, &INPUT, 5, Layout::usual())?;
+    let mut started = HartList::new();
+    let asked: [Asked; 22] = [
+        // thread ids are stored where they may be, and the child's clear address is a4
+        (
+            0,
+            220,
+            [0x17D0F11, STACK + 64, STACK, 7, STACK + 4],
+            Fate::Goes,
+            2,
+            &[HartId(1)],
+        ),
+        (1, 178, [0; 5], Fate::Goes, 2, NONE),
+        (
+            0,
+            220,
+            [0x1310F00, 0, TEXT, 0, TEXT],
+            Fate::Goes,
+            3,
+            &[HartId(2)],
+        ),
+        (0, 220, [0x10F00, 0, 0, 0, 0], Fate::Goes, 4, &[HartId(3)]),
+        // a wait: the address, the value of 32 bits
+        (0, 98, [STACK + 2, 0, 2, 0, 0], Fate::Goes, -22, NONE),
+        (0, 98, [MAP, 0, 2, 0, 0], Fate::Goes, -14, NONE),
+        (0, 98, [STACK, 0, 4, 0, 0], Fate::Goes, -11, NONE),
+        (
+            3,
+            98,
+            [STACK, 128, 0x5_0000_0002, 0, 0],
+            Fate::Waits,
+            0,
+            NONE,
+        ),
+        (0, 98, [STACK, 0, 2, 0, 0], Fate::Waits, 0, NONE),
+        (2, 98, [STACK + 4, 0, 2, 0, 0], Fate::Waits, 0, NONE),
+        // a wake: at least one, the eldest first, of that address
+        (1, 98, [STACK + 2, 1, 1, 0, 0], Fate::Goes, -22, NONE),
+        (1, 98, [STACK + 8, 1, 9, 0, 0], Fate::Goes, 0, NONE),
+        (1, 98, [STACK, 129, 0, 0, 0], Fate::Goes, 1, &[HartId(3)]),
+        (3, 98, [STACK, 0, 2, 0, 0], Fate::Waits, 0, NONE),
+        (
+            1,
+            98,
+            [STACK, 1, 9, 0, 0],
+            Fate::Goes,
+            2,
+            &[HartId(0), HartId(3)],
+        ),
+        (1, 98, [STACK, 1, 0xFFFF_FFFF, 0, 0], Fate::Goes, 0, NONE),
+        // an exit clears the address and wakes one hart
+        (3, 98, [STACK + 4, 0, 2, 0, 0], Fate::Waits, 0, NONE),
+        (1, 93, [5, 0, 0, 0, 0], Fate::Leaves, 5, &[HartId(2)]),
+        (0, 98, [STACK + 4, 0, 2, 0, 0], Fate::Goes, -11, NONE),
+        (2, 93, [0; 5], Fate::Leaves, 0, NONE),
+        (0, 98, [STACK + 4, 1, 1, 0, 0], Fate::Goes, 1, &[HartId(3)]),
+        (3, 93, [0; 5], Fate::Leaves, 0, NONE),
+    ];
+    for (hart, number, arguments, fate, a0, harts) in asked {
+        let got = guest.ask_as(HartId(hart), number, arguments, &mut started);
+        assert_eq!(rt; got, Some((fate, a0)), "{number} of {arguments:?}");
+        assert_eq!(rt; started.harts(), harts);
+    }
+    for made in 4..256 {
+        let got = guest.ask(220, [0x10F00, 0, 0, 0]);
+        assert_eq!(rt; got, Some((Fate::Goes, made + 1)));
+    }
+    assert_eq!(rt; guest.ask(220, [0x10F00, 0, 0, 0]), Some((Fate::Goes, -11)));
     Ok(())
 }

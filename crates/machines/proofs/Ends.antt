@@ -34,10 +34,10 @@ module _ {G : Type 0} (x : Experiment G) (Good : G → Type 0) (law : IsLawful x
   HasEnded n = (a : Ending) × ((shortened x n).ending ≡ Some a)
 
   -- it has retired an instruction with each move
-  record GoesOn (n : ℕ) : Type 0 where
-    none : (shortened x n).ending ≡ None
-    lives : Lives x Good (shortened x n)
-    count : (shortened x n).retired ≡ n
+  pub record GoesOn (n : ℕ) : Type 0 where
+    pub none : (shortened x n).ending ≡ None
+    pub lives : Lives x Good (shortened x n)
+    pub count : (shortened x n).retired ≡ n
 
   end_or_none : (o : Option Ending) → ((a : Ending) × (o ≡ Some a)) ⊎ (o ≡ None)
   end_or_none None = inr refl
@@ -78,6 +78,14 @@ module _ {G : Type 0} (x : Experiment G) (Good : G → Type 0) (law : IsLawful x
           let turn = turn_by (shortened x n).dues g.lives.some_hart.0 g.lives.some_hart.1 (next_turn (shortened x n).dues) refl in
           retired_next n turn.0 g turn.1
 
+  -- where there is no ending the run goes on
+  pub goes_on_at : (n : ℕ) → (shortened x n).ending ≡ None → GoesOn n
+  goes_on_at n none = go (goes_or_ended n)
+    where
+      go : HasEnded n ⊎ GoesOn n → GoesOn n
+      go (inr g) = g
+      go (inl e) = absurd (let no : ◌≡◌ {A = Option Ending} (Some e.0) None = sym e.1 ∙ none in cc)
+
   within_budget : 1 ≤ x.budget → HasEnded x.budget ⊎ GoesOn x.budget → HasEnded x.budget
   within_budget some (inl e) = e
   within_budget some (inr g) = absurd (over g.lives.within)
@@ -101,11 +109,16 @@ module _ {G : Type 0} (x : Experiment G) (Good : G → Type 0) (law : IsLawful x
       let so_far : shortened x (k + n) ≡ shortened x n = stays n a e k in
       ap (shortened x) (suc-add k n) ∙ next_is (k + n) ∙ ap (move x) so_far ∙ move_over x Good law (shortened x n) a e
 
+  -- a run that has ended within the budget stays as it is
+  pub at_last : (n : ℕ) (a : Ending) → n ≤ x.budget → (shortened x n).ending ≡ Some a → shortened x n ≡ shortened x x.budget
+  at_last n a few e =
+      let up : (x.budget - n) + n ≡ x.budget = omega arith in
+      sym (stays n a e (x.budget - n)) ∙ ap (shortened x) up
+
   -- a state of the run that has ended within the budget leaves its record
   pub recorded : (n : ℕ) (a : Ending) → n ≤ x.budget → (shortened x n).ending ≡ Some a → net_record_of x (shortened x n) a ≡ shortened_record x
   unfolding shortened_record
   recorded n a few e =
-      let up : (x.budget - n) + n ≡ x.budget = omega arith in
-      let same : shortened x n ≡ shortened x x.budget = sym (stays n a e (x.budget - n)) ∙ ap (shortened x) up in
+      let same : shortened x n ≡ shortened x x.budget = at_last n a few e in
       let ending : a ≡ unwrap_or (shortened x x.budget).ending Spent = sym (ap (λ (o : Option Ending). unwrap_or o Spent) (ap (λ (s : Shortened G). s.ending) (sym same) ∙ e)) in
       ap (λ (s : Shortened G). net_record_of x s a) same ∙ ap (net_record_of x (shortened x x.budget)) ending

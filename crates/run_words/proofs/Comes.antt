@@ -5,10 +5,11 @@ use Rattle.std.specs.Str.{bytes_eq}
 use Rattle.std.specs.declared.string.String.{String}
 use Rattle.std.proofs.lemmas.Slice.Eq.{bytes_eq-Decides}
 use Rattle.run_words.specs.Said.{Text, Item, target, dashes}
-use Rattle.run_words.specs.Request.{Run, option_names}
+use Rattle.run_words.specs.declared.command.Command.{Command}
+use Rattle.run_words.specs.Request.{option_names}
 use Rattle.run_words.specs.Slow.{put, items_in, after_dashes}
 use Rattle.run_words.specs.Seen.{bytes_of}
-use Rattle.run_words.specs.Kept.{Kept, taken, gathered, gathered_from, run_items}
+use Rattle.run_words.specs.Kept.{Kept, taken, gathered, gathered_from, command_items}
 use Rattle.run_words.proofs.Sorts as sorts
 
 then_same : {A : Type 0} (o : Option A) → option_and_then (λ x. Some x) o ≡ o
@@ -43,19 +44,19 @@ one_taken k next item read more is has = sym (one_more k item read more is ∙ a
 pub one_refused : (k : Kept) (item : Item) (read more : Option (List Item)) → read ≡ put item more → None ≡ taken k item → gathered_from k read ≡ None
 one_refused k item read more is has = one_more k item read more is ∙ ap (option_and_then (λ (n : Kept). gathered_from n more)) (sym has)
 
-pub all_taken : (k : Kept) (words : List (String Global)) → length words ≡ 0 → Some k ≡ gathered_from k (run_items None (bytes_of words))
+pub all_taken : (c : Command) (k : Kept) (words : List (String Global)) → length words ≡ 0 → Some k ≡ gathered_from k (command_items c None (bytes_of words))
 unfolding gathered items_in
-all_taken k [] e = refl
-all_taken k (w ∷ ws) e = absurd (omega arith)
+all_taken c k [] e = refl
+all_taken c k (w ∷ ws) e = absurd (omega arith)
 
-pub dashes_end : (k : Kept) (words rest : List (String Global)) (w : String Global) → words ≡ w ∷ rest → bytes_eq (string_bytes w) dashes ≡ true
-    → gathered_from k (after_dashes (bytes_of rest)) ≡ gathered_from k (run_items None (bytes_of words))
-dashes_end k words rest w is ends =
+pub dashes_end : (c : Command) (k : Kept) (words rest : List (String Global)) (w : String Global) → words ≡ w ∷ rest → bytes_eq (string_bytes w) dashes ≡ true
+    → gathered_from k (after_dashes (bytes_of rest)) ≡ gathered_from k (command_items c None (bytes_of words))
+dashes_end c k words rest w is ends =
     let word = (bytes_eq-Decides (string_bytes w) dashes).0 ends in
-    sym (ap (λ (ws : List (String Global)). gathered_from k (run_items None (bytes_of ws))) is
-    ∙ ap (λ (t : Text). gathered_from k (run_items None (t ∷ bytes_of rest))) word
-    ∙ ap (gathered_from k) (sorts.reads_dashes (option_names Run) (bytes_of rest)))
+    sym (ap (λ (ws : List (String Global)). gathered_from k (command_items c None (bytes_of ws))) is
+    ∙ ap (λ (t : Text). gathered_from k (command_items c None (t ∷ bytes_of rest))) word
+    ∙ ap (gathered_from k) (sorts.reads_dashes (option_names c) (bytes_of rest)))
 
-pub said_at : (words rest : List (String Global)) (w : String Global) (word : Text) (read : Option (List Item)) → words ≡ w ∷ rest → word ≡ string_bytes w
-    → run_items None (word ∷ bytes_of rest) ≡ read → run_items None (bytes_of words) ≡ read
-said_at words rest w word read is text reads = ap (λ (ws : List (String Global)). run_items None (bytes_of ws)) is ∙ ap (λ (t : Text). run_items None (t ∷ bytes_of rest)) (sym text) ∙ reads
+pub said_at : (c : Command) (words rest : List (String Global)) (w : String Global) (word : Text) (read : Option (List Item)) → words ≡ w ∷ rest → word ≡ string_bytes w
+    → command_items c None (word ∷ bytes_of rest) ≡ read → command_items c None (bytes_of words) ≡ read
+said_at c words rest w word read is text reads = ap (λ (ws : List (String Global)). command_items c None (bytes_of ws)) is ∙ ap (λ (t : Text). command_items c None (t ∷ bytes_of rest)) (sym text) ∙ reads

@@ -5,19 +5,20 @@ use Rattle.std.specs.List.{list_all}
 use Rattle.std.specs.Str.{bytes_eq}
 use Rattle.std.proofs.lemmas.Slice.Eq.{bytes_eq-Decides}
 use Rattle.run_words.specs.Said.{Text, Item}
-use Rattle.run_words.specs.Request.{Asked, Requests, Command, Run, asked, are_items_of, belongs, command_name, option_names, is_word}
-use Rattle.run_words.specs.Slow.{commands, items_in, request_in}
+use Rattle.run_words.specs.Request.{Asked, Requests, asked, are_items_of, belongs, command_name, option_names, is_word}
+use Rattle.run_words.specs.declared.command.Command.{Command}
+use Rattle.run_words.specs.declared.command.Command.TheVariants.{Run, Asm}
+use Rattle.run_words.specs.Slow.{commands, command_of, items_in, request_in}
 use Rattle.run_words.proofs.Bools.{both_true}
 use Rattle.run_words.proofs.Meaning.{is_name, said_back, said_forth, are_names_of}
 
 are_names : (c : Command) → list_all is_name (option_names c) ≡ true
 are_names Run = refl
+are_names Asm = refl
 
-abbrev named : Text → Option Command
-named word = find (λ c. bytes_eq (command_name c) word) commands
-
-named_is : (c : Command) → named (command_name c) ≡ Some c
+named_is : (c : Command) → command_of (command_name c) ≡ Some c
 named_is Run = refl
+named_is Asm = refl
 
 find_passes : {A : Type 0} (p : A → Bool) (xs : List A) (x : A) → find p xs ≡ Some x → p x ≡ true
 find_passes p [] x e = absurd cc
@@ -27,11 +28,11 @@ find_passes p (y ∷ xs) x e = by (find_passes p xs x) (p y) refl
     by more true d = let is : Some y ≡ Some x = sym (rw d refl) ∙ e in let same : y ≡ x = cc in subst (λ z. p z ≡ true) same d
     by more false d = more (sym (rw d refl) ∙ e)
 
-then_some : {A B : Type 0} (o : Option A) (f : A → Option B) (y : B) → option_and_then f o ≡ Some y → (x : A) × (o ≡ Some x) × (f x ≡ Some y)
+pub then_some : {A B : Type 0} (o : Option A) (f : A → Option B) (y : B) → option_and_then f o ≡ Some y → (x : A) × (o ≡ Some x) × (f x ≡ Some y)
 then_some None f y e = absurd cc
 then_some (Some x) f y e = (x, refl, e)
 
-if_some : {A : Type 0} (b : Bool) (o : Option A) (y : A) → (if b then o else None) ≡ Some y → (b ≡ true) × (o ≡ Some y)
+pub if_some : {A : Type 0} (b : Bool) (o : Option A) (y : A) → (if b then o else None) ≡ Some y → (b ≡ true) × (o ≡ Some y)
 if_some true o y e = (refl, e)
 if_some false o y e = absurd cc
 
@@ -44,8 +45,8 @@ asked_items c items r e =
 pub exact_back : (words : List Text) (r : Asked) → request_in words ≡ Some r → Requests words r
 exact_back [] r e = absurd cc
 exact_back (word ∷ rest) r e =
-    let a = if_some (list_all is_word (word ∷ rest)) (option_and_then (λ c. option_and_then (asked c) (items_in (option_names c) None rest)) (named word)) r e in
-    let n = then_some (named word) (λ c. option_and_then (asked c) (items_in (option_names c) None rest)) r a.1 in
+    let a = if_some (list_all is_word (word ∷ rest)) (option_and_then (λ c. option_and_then (asked c) (items_in (option_names c) None rest)) (command_of word)) r e in
+    let n = then_some (command_of word) (λ c. option_and_then (asked c) (items_in (option_names c) None rest)) r a.1 in
     let i = then_some (items_in (option_names n.0) None rest) (asked n.0) r n.2 in
     let is : command_name n.0 ≡ word = (bytes_eq-Decides (command_name n.0) word).0 (find_passes (λ c. bytes_eq (command_name c) word) commands n.0 n.1) in
     record {
@@ -64,7 +65,7 @@ exact_forth words r q =
     let items = said_forth names (are_names_of names (are_names q.command)) q.items q.rest q.said (asked_items q.command q.items r q.right) in
     let fit : list_all is_word (command_name q.command ∷ q.rest) ≡ true = subst (λ (ws : List Text). list_all is_word ws ≡ true) q.whole q.fit in
     ap request_in q.whole
-    ∙ ap (λ (b : Bool). if b then option_and_then (λ c. option_and_then (asked c) (items_in (option_names c) None q.rest)) (named (command_name q.command)) else None) fit
+    ∙ ap (λ (b : Bool). if b then option_and_then (λ c. option_and_then (asked c) (items_in (option_names c) None q.rest)) (command_of (command_name q.command)) else None) fit
     ∙ ap (λ (o : Option Command). option_and_then (λ c. option_and_then (asked c) (items_in (option_names c) None q.rest)) o) (named_is q.command)
     ∙ ap (λ (o : Option (List Item)). option_and_then (asked q.command) o) items
     ∙ q.right

@@ -1,11 +1,12 @@
 -- Word lists and their requests, computed.
 use Rattle.std.proofs.Common.{◌≡◌, List, [], ◌∷◌, codes, Option, Some, None, refl}
 use Rattle.run_words.specs.Said.{Text}
+use Rattle.run_words.specs.declared.command.Command.TheVariants.{Run, Asm}
 use Rattle.run_words.specs.Request.{Asked, asked}
 use Rattle.run_words.specs.Slow.{request_in, items_in}
 
 abbrev run_one : Asked
-run_one = record { target = codes "one"; input = None; budget = 100000000 }
+run_one = record { command = Run; target = codes "one"; input = None; budget = 100000000 }
 
 plain : request_in (codes "run" ∷ codes "one" ∷ []) ≡ Some run_one
 unfolding items_in asked
@@ -43,6 +44,10 @@ zeros : request_in (codes "run" ∷ codes "one" ∷ codes "--budget" ∷ codes "
 unfolding items_in asked
 zeros = refl
 
+asm_one : request_in (codes "asm" ∷ codes "one.s" ∷ codes "--" ∷ []) ≡ Some (record { command = Asm; target = codes "one.s"; input = None; budget = 0 })
+unfolding items_in asked
+asm_one = refl
+
 -- ---- word lists with no request
 
 abbrev IsUsage : List Text → Type 0
@@ -74,6 +79,9 @@ none_of =
     ∷ (codes "run" ∷ codes "one" ∷ codes "--help" ∷ [])
     ∷ (codes "run" ∷ codes "one" ∷ codes "-h" ∷ [])
     ∷ (codes "sing" ∷ codes "one" ∷ [])
+    ∷ (codes "asm" ∷ [])
+    ∷ (codes "asm" ∷ codes "one.s" ∷ codes "--budget" ∷ codes "3" ∷ [])
+    ∷ (codes "asm" ∷ codes "one.s" ∷ codes "--input=data" ∷ [])
     ∷ []
 
 abbrev requests_of : List (List Text) → List (Option Asked)

@@ -5,8 +5,10 @@ use Rattle.std.specs.List.{list_any, list_all}
 use Rattle.std.specs.Str.{bytes_eq}
 use Rattle.std.proofs.lemmas.Slice.Eq.{bytes_eq-Decides}
 use Rattle.run_words.specs.Said.{Text, Item, option, target}
-use Rattle.run_words.specs.Request.{Run, option_names, input_name, budget_name, is_among, belongs, has_text, same_kind, is_once, target_of, value_of, asked}
-use Rattle.run_words.specs.Kept.{Kept, nothing_kept, fits, is_good, with_item, gathered, kept_request}
+use Rattle.run_words.specs.declared.command.Command.{Command}
+use Rattle.run_words.specs.declared.command.Command.TheVariants.{Run, Asm}
+use Rattle.run_words.specs.Request.{option_names, input_name, budget_name, is_among, belongs, has_text, same_kind, is_once, target_of, value_of, Asked, asked}
+use Rattle.run_words.specs.Kept.{Kept, known_names, nothing_kept, fits, is_good, with_item, gathered, kept_request}
 use Rattle.run_words.proofs.Bools.{both_true}
 
 and_false : (a : Bool) → (a && false) ≡ false
@@ -39,7 +41,7 @@ one_name name = by (bytes_eq input_name name) refl
 abbrev IsNamed : Text → Type 0
 IsNamed name = (input_name ≡ name) ⊎ (budget_name ≡ name)
 
-named : (name : Text) → is_among (option_names Run) name ≡ true → IsNamed name
+named : (name : Text) → is_among (known_names) name ≡ true → IsNamed name
 named name e = by (bytes_eq input_name name) refl (bytes_eq budget_name name) refl
   where
     by : (a : Bool) → bytes_eq input_name name ≡ a → (c : Bool) → bytes_eq budget_name name ≡ c → IsNamed name
@@ -61,7 +63,7 @@ after_budget k t (option m v) = with_budget (bytes_eq input_name m) (bytes_eq bu
 
 after_item : (k : Kept) (i j : Item) → is_good k i ≡ true → is_good (with_item i k) j ≡ (is_good k j && not (same_kind i j))
 after_item k (target t) j good = after_target k t j
-after_item k (option n t) j good = by (named n (both_true _ _ (both_true (belongs (option_names Run) (option n t) && has_text (option n t)) (fits k (option n t)) good).0).0)
+after_item k (option n t) j good = by (named n (both_true _ _ (both_true (belongs (known_names) (option n t) && has_text (option n t)) (fits k (option n t)) good).0).0)
   where
     by : IsNamed n → is_good (with_item (option n t) k) j ≡ (is_good k j && not (same_kind (option n t) j))
     by (inl e) = subst (λ (m : Text). is_good (with_item (option m t) k) j ≡ (is_good k j && not (same_kind (option m t) j))) e (after_input k t j)
@@ -113,7 +115,7 @@ whole_item : (k : Kept) (i : Item) (items : List Item) → is_good k i ≡ true 
 whole_item k (target t) items good =
     let e = free k.target (both_true (has_text (target t)) (is_none k.target) good).1 in
     ap (λ (o : Option Text). record { target = first o (Some t); input = first k.input (value_of input_name items); budget = first k.budget (value_of budget_name items) }) (sym e)
-whole_item k (option n t) items good = by (named n (both_true _ _ (both_true (belongs (option_names Run) (option n t) && has_text (option n t)) (fits k (option n t)) good).0).0)
+whole_item k (option n t) items good = by (named n (both_true _ _ (both_true (belongs (known_names) (option n t) && has_text (option n t)) (fits k (option n t)) good).0).0)
   where
     input : is_good k (option input_name t) ≡ true → whole (with_item (option input_name t) k) items ≡ whole k (option input_name t ∷ items)
     input is =
@@ -154,31 +156,47 @@ gathered_is k (i ∷ items) = by (is_good k i) refl (gathered_is (with_item i k)
 
 -- ---- from nothing
 
-nothing_there : (j : Item) → is_good nothing_kept j ≡ (belongs (option_names Run) j && has_text j)
+nothing_there : (j : Item) → is_good nothing_kept j ≡ (belongs (known_names) j && has_text j)
 nothing_there (target t) = and_true (has_text (target t))
-nothing_there (option n t) = by (bytes_eq input_name n) (belongs (option_names Run) (option n t) && has_text (option n t))
+nothing_there (option n t) = by (bytes_eq input_name n) (belongs (known_names) (option n t) && has_text (option n t))
   where
     by : (a g : Bool) → (g && (if a then true else true)) ≡ g
     by true g = and_true g
     by false g = and_true g
 
-all_there : (items : List Item) → list_all (is_good nothing_kept) items ≡ (list_all (belongs (option_names Run)) items && list_all has_text items)
+all_there : (items : List Item) → list_all (is_good nothing_kept) items ≡ (list_all (belongs (known_names)) items && list_all has_text items)
 all_there [] = refl
-all_there (i ∷ items) = ap₂ ◌&&◌ (nothing_there i) (all_there items) ∙ by (belongs (option_names Run) i) (has_text i) (list_all (belongs (option_names Run)) items) (list_all has_text items)
+all_there (i ∷ items) = ap₂ ◌&&◌ (nothing_there i) (all_there items) ∙ by (belongs (known_names) i) (has_text i) (list_all (belongs (known_names)) items) (list_all has_text items)
   where
     by : (b t bs ts : Bool) → ((b && t) && (bs && ts)) ≡ ((b && bs) && (t && ts))
     by true true bs ts = refl
     by true false bs ts = sym (and_false bs)
     by false t bs ts = refl
 
-pub asked_is : (items : List Item) → option_and_then kept_request (gathered nothing_kept items) ≡ asked Run items
+-- options of a command are known
+known_item : (c : Command) (i : Item) → belongs (option_names c) i ≡ true → belongs known_names i ≡ true
+known_item Run i e = e
+known_item Asm (target t) e = refl
+known_item Asm (option n t) e = absurd cc
+
+known_items : (c : Command) (items : List Item) → list_all (belongs (option_names c)) items ≡ true → list_all (belongs known_names) items ≡ true
+known_items c [] e = refl
+known_items c (i ∷ items) e =
+    let both = both_true (belongs (option_names c) i) (list_all (belongs (option_names c)) items) e in
+    ap₂ ◌&&◌ (known_item c i both.0) (known_items c items both.1)
+
+pub asked_is : (c : Command) (items : List Item) → list_all (belongs (option_names c)) items ≡ true → option_and_then (kept_request c) (gathered nothing_kept items) ≡ asked c items
 unfolding asked
-asked_is items =
-    ap (option_and_then kept_request) (gathered_is nothing_kept items)
+asked_is c items belong =
+    ap (option_and_then (kept_request c)) (gathered_is nothing_kept items)
     ∙ through (list_all (is_good nothing_kept) items && is_once items) (whole nothing_kept items)
-    ∙ ap (λ (b : Bool). if b then kept_request (whole nothing_kept items) else None) (ap (λ (b : Bool). b && is_once items) (all_there items) ∙ swapped (list_all (belongs (option_names Run)) items) (list_all has_text items) (is_once items))
+    ∙ ap answer (ap (λ (b : Bool). b && is_once items) (all_there items) ∙ swapped (list_all (belongs known_names) items) (list_all has_text items) (is_once items))
+    ∙ ap (λ (b : Bool). answer ((b && is_once items) && list_all has_text items)) (known_items c items belong ∙ sym belong)
   where
-    through : (b : Bool) (w : Kept) → option_and_then kept_request (if b then Some w else None) ≡ (if b then kept_request w else None)
+    answer : Bool → Option Asked
+    answer b = if b then kept_request c (whole nothing_kept items) else None
+
+    through : (b : Bool) (w : Kept) → option_and_then (kept_request c) (if b then Some w else None) ≡ (if b then kept_request c w else None)
     through true w = refl
     through false w = refl
 

@@ -3,7 +3,9 @@ pub mod Examples
 pub mod Cuts
 pub mod Sorts
 pub mod Meaning
+pub mod Passing
 pub mod Exact
+pub mod Fit
 pub mod Gather
 pub mod Items
 pub mod Comes

@@ -11,7 +11,7 @@ use Rattle.run_words.proofs.Bools.{both_true, not_false}
 use Rattle.run_words.proofs.Sorts as walks
 use Rattle.run_words.proofs.Sorts.{IsPlain, IsFlag, IsNamed, Sorted, sorted}
 
-put_is : (item : Item) (read : Option (List Item)) (items : List Item) → put item read ≡ Some items → (more : List Item) × (read ≡ Some more) × (items ≡ item ∷ more)
+pub put_is : (item : Item) (read : Option (List Item)) (items : List Item) → put item read ≡ Some items → (more : List Item) × (read ≡ Some more) × (items ≡ item ∷ more)
 put_is item None items e = absurd cc
 put_is item (Some more) items e = (more, refl, cc)
 

@@ -4,14 +4,14 @@ use Rattle.std.specs.List.{list_all, list_any}
 use Rattle.std.specs.Str.{bytes_eq}
 use Rattle.run_words.specs.Said.{Text, Item, option, target, SaysAll}
 use Rattle.run_words.specs.Values.{number_in}
+use Rattle.run_words.specs.declared.command.Command.{Command}
+use Rattle.run_words.specs.declared.command.Command.TheVariants.{Run, Asm}
 
 -- ---- commands
 
-pub data Command : Type 0 where
-  Run : Command
-
 abbrev pub command_name : Command → Text
 command_name Run = codes "run"
+command_name Asm = codes "asm"
 
 abbrev pub input_name : Text
 input_name = codes "input"
@@ -22,6 +22,12 @@ budget_name = codes "budget"
 -- the options of a command
 abbrev pub option_names : Command → List Text
 option_names Run = input_name ∷ budget_name ∷ []
+option_names Asm = []
+
+-- the budget where the words give none; 0 where the command has none
+abbrev pub usual_budget : Command → ℕ
+usual_budget Run = 100000000
+usual_budget Asm = 0
 
 abbrev pub is_among : List Text → Text → Bool
 is_among names name = list_any (λ n. bytes_eq n name) names
@@ -72,6 +78,7 @@ are_items_of c items = list_all (belongs (option_names c)) items && is_once item
 -- ---- the request
 
 pub record Asked : Type 0 where
+  pub command : Command
   pub target : Text
   pub input : Option Text
   pub budget : ℕ
@@ -85,19 +92,19 @@ infixr 20 ◌>>=◌
 abbrev pub ◌>>=◌ : {A B : Type 0} → Option A → (A → Option B) → Option B
 o >>= f = option_and_then f o
 
--- the request of a positional, an input and a budget
-abbrev pub request_with : Option Text → Option Text → Option Text → Option Asked
-request_with program file number =
-    program >>= λ target.
+-- the request of a command, a positional, an input and a budget
+abbrev pub request_with : Command → Option Text → Option Text → Option Text → Option Asked
+request_with c path file number =
+    path >>= λ target.
     meaning file None (λ text. Some (Some text)) >>= λ input.
-    meaning number 100000000 (number_in 1 1000000000000) >>= λ budget.
-    Some (record { target = target; input = input; budget = budget })
+    meaning number (usual_budget c) (number_in 1 1000000000000) >>= λ budget.
+    Some (record { command = c; target = target; input = input; budget = budget })
 
 -- the request that the items make, where they are right
 unfoldable pub asked : Command → List Item → Option Asked
 asked c items =
     if are_items_of c items
-    then request_with (target_of items) (value_of input_name items) (value_of budget_name items)
+    then request_with c (target_of items) (value_of input_name items) (value_of budget_name items)
     else None
 
 abbrev pub has_no_zero : Text → Bool
@@ -106,6 +113,11 @@ has_no_zero word = list_all (λ b. not (b == 0)) word
 -- no zero byte, and not too long
 abbrev pub is_word : Text → Bool
 is_word word = has_no_zero word && nat_le (length word) 131072
+
+-- what is so of each request: its positional is a word that isn't empty
+pub record IsFit (request : Asked) : Type 0 where
+  pub some : nat_lt 0 (length request.target) ≡ true
+  pub word : is_word request.target ≡ true
 
 -- the words make this request: a command, and items that are right for it
 pub record Requests (words : List Text) (request : Asked) : Type 0 where

@@ -3,7 +3,9 @@ use Rattle.std.specs.Prelude.{◌==◌, true, false, List, [], ◌∷◌, ◌&&�
 use Rattle.std.specs.List.{list_all, list_any, before_first, after_first}
 use Rattle.std.specs.Str.{bytes_eq}
 use Rattle.run_words.specs.Said.{Text, Item, option, target, stands, dashes}
-use Rattle.run_words.specs.Request.{Asked, asked, command_name, option_names, is_among, is_word, ◌>>=◌, Command, Run}
+use Rattle.run_words.specs.Request.{Asked, asked, command_name, option_names, is_among, is_word, ◌>>=◌}
+use Rattle.run_words.specs.declared.command.Command.{Command}
+use Rattle.run_words.specs.declared.command.Command.TheVariants.{Run, Asm}
 
 -- what follows a word `--`
 abbrev pub after_dashes : List Text → Option (List Item)
@@ -41,14 +43,17 @@ items_in names None (word ∷ words) = elim (stands word) [
 ]
 
 abbrev pub commands : List Command
-commands = Run ∷ []
+commands = Run ∷ Asm ∷ []
+
+abbrev pub command_of : Text → Option Command
+command_of word = find (λ c. bytes_eq (command_name c) word) commands
 
 -- the request of the words
 abbrev pub request_in : List Text → Option Asked
 request_in [] = None
 request_in (word ∷ rest) =
     if list_all is_word (word ∷ rest) then (
-    find (λ c. bytes_eq (command_name c) word) commands >>= λ c.
+    command_of word >>= λ c.
     items_in (option_names c) None rest >>= λ items.
     asked c items
     ) else None

@@ -2,8 +2,9 @@
 ghost use Rattle.std.specs.Prelude.{◌≡◌, None, Some, option_map, is_none, ◌&&◌, if◌then◌else◌, nat_lt, length};
 ghost use Rattle.run_words.specs.Seen.{bytes_of};
 ghost use Rattle.run_words.specs.Slow.{after_dashes};
-ghost use Rattle.run_words.specs.Kept.{item_of, kept, nothing_kept, taken, gathered_from, run_items, copied_text, placed};
+ghost use Rattle.run_words.specs.Kept.{item_of, kept, nothing_kept, taken, gathered_from, command_items, copied_text, placed};
 
+use crate::command::Command;
 use crate::item::{Item, first_item};
 
 /// The texts that have come.
@@ -49,8 +50,8 @@ fn ended<'a>(found: Found<'a>, words: &'a [String]) -> Option<Found<'a>>
 }
 
 /// What the words after the command say.
-pub fn found_in<'a>(words: &'a [String]) -> Option<Found<'a>>
-    ensures { option_map kept result ≡ gathered_from nothing_kept (run_items None (bytes_of words.now)) }
+pub fn found_in<'a>(command: Command, words: &'a [String]) -> Option<Found<'a>>
+    ensures { option_map kept result ≡ gathered_from nothing_kept (command_items command None (bytes_of words.now)) }
 {
     let mut found = Found {
         target: None,
@@ -62,7 +63,7 @@ pub fn found_in<'a>(words: &'a [String]) -> Option<Found<'a>>
         if word.as_str() == "--" {
             return ended(found, after);
         }
-        let (item, left) = first_item(word.as_str(), after)?;
+        let (item, left) = first_item(command, word.as_str(), after)?;
         found = with_item(found, item)?;
         rest = left;
     }

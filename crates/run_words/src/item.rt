@@ -4,10 +4,13 @@ ghost use Rattle.std.specs.Str.{bytes_eq};
 ghost use Rattle.run_words.specs.Said.{stands, option};
 ghost use Rattle.run_words.specs.Seen.{bytes_of};
 ghost use Rattle.run_words.specs.Slow.{put};
-ghost use Rattle.run_words.specs.Request.{input_name, budget_name};
-ghost use Rattle.run_words.specs.Kept.{item_of, run_items, named_item};
+ghost use Rattle.run_words.specs.declared.command.Command.{Command};
+ghost use Rattle.run_words.specs.declared.command.Command.TheVariants.{Run};
+ghost use Rattle.run_words.specs.Kept.{item_of, command_items, named_item};
 
-/// An option of `run` with its value, or the positional.
+use crate::command::Command;
+
+/// An option with its value, or the positional.
 #[derive(Clone, Copy)]
 pub enum Item<'a> {
     Target(&'a str),
@@ -25,9 +28,9 @@ fn stands(word: &str) -> bool
     }
 }
 
-/// The option of that name with this value, if `run` has it.
-fn named<'a>(name: &str, value: &'a str) -> Option<Item<'a>>
-    ensures { option_map item_of result ≡ named_item name.now value.now }
+/// The option of `run` of that name with this value, if `run` has it.
+fn run_option<'a>(name: &str, value: &'a str) -> Option<Item<'a>>
+    ensures { option_map item_of result ≡ named_item Run name.now value.now }
 {
     match name {
         "input" => Some(Item::Input(value)),
@@ -36,11 +39,21 @@ fn named<'a>(name: &str, value: &'a str) -> Option<Item<'a>>
     }
 }
 
+/// The option of that name with this value, if the command has it.
+fn named<'a>(command: Command, name: &str, value: &'a str) -> Option<Item<'a>>
+    ensures { option_map item_of result ≡ named_item command name.now value.now }
+{
+    match command {
+        Command::Run => run_option(name, value),
+        Command::Asm => None,
+    }
+}
+
 /// The value of an option in a word of its own, and the words after it.
 fn value_first<'a>(words: &'a [String]) -> Option<(&'a str, &'a [String])>
     ensures { MatchOption result
-        ((name : _) → run_items (Some name) (bytes_of words.now) ≡ None)
-        (λ r. ((name : _) → run_items (Some name) (bytes_of words.now) ≡ put (option name r.0.now) (run_items None (bytes_of r.1.now)))
+        ((c : Command) → (name : _) → command_items c (Some name) (bytes_of words.now) ≡ None)
+        (λ r. ((c : Command) → (name : _) → command_items c (Some name) (bytes_of words.now) ≡ put (option name r.0.now) (command_items c None (bytes_of r.1.now)))
         × (length r.1.now ≤ length words.now)) }
 {
     let (word, rest) = words.split_first()?;
@@ -52,11 +65,15 @@ fn value_first<'a>(words: &'a [String]) -> Option<(&'a str, &'a [String])>
 }
 
 /// The item that a word, or it and the next, says, and the words after it.
-pub fn first_item<'a>(word: &'a str, rest: &'a [String]) -> Option<(Item<'a>, &'a [String])>
+pub fn first_item<'a>(
+    command: Command,
+    word: &'a str,
+    rest: &'a [String],
+) -> Option<(Item<'a>, &'a [String])>
     requires { bytes_eq word.now (codes "--") ≡ false }
     ensures { MatchOption result
-        (run_items None (word.now ∷ bytes_of rest.now) ≡ None)
-        (λ r. (run_items None (word.now ∷ bytes_of rest.now) ≡ put (item_of r.0) (run_items None (bytes_of r.1.now)))
+        (command_items command None (word.now ∷ bytes_of rest.now) ≡ None)
+        (λ r. (command_items command None (word.now ∷ bytes_of rest.now) ≡ put (item_of r.0) (command_items command None (bytes_of r.1.now)))
         × (length r.1.now ≤ length rest.now)) }
 {
     if stands(word) {
@@ -64,10 +81,10 @@ pub fn first_item<'a>(word: &'a str, rest: &'a [String]) -> Option<(Item<'a>, &'
     }
     let text = word.strip_prefix("--")?;
     match text.split_once('=') {
-        Some((name, value)) => Some((named(name, value)?, rest)),
+        Some((name, value)) => Some((named(command, name, value)?, rest)),
         None => {
             let (value, left) = value_first(rest)?;
-            Some((named(text, value)?, left))
+            Some((named(command, text, value)?, left))
         }
     }
 }

@@ -1,30 +1,29 @@
 //! The request of a command line.
 ghost use Rattle.std.specs.Prelude.{◌≡◌, option_map, Some, IfSome};
 ghost use Rattle.std.specs.List.{list_all};
-ghost use Rattle.run_words.specs.Request.{has_no_zero, is_word, Requests, Asked};
+ghost use Rattle.run_words.specs.Request.{has_no_zero, is_word, Requests, IsFit, Asked};
 ghost use Rattle.run_words.specs.Kept.{kept, kept_request, copied_text, budget_in};
 ghost use Rattle.run_words.specs.Seen.{bytes_of, seen};
 ghost use Rattle.run_words.specs.Slow.{request_in};
 
+use crate::command::{Command, command_of, usual_budget};
 use crate::found::{Found, found_in};
 use crate::number::number_in;
 
 /// The most bytes of a word.
 const MAX_WORD: usize = 131072;
 
-/// The budget, in retired instructions, where the words give none.
-const USUAL_BUDGET: u64 = 100000000;
-
 const GREATEST_BUDGET: u64 = 1000000000000;
 
-/// What the words `run PROG --input FILE --budget N` ask for.
+/// What the words ask for.
 #[derive(Clone, Copy)]
 pub struct Request<'a> {
-    /// The path of the program's file, which isn't empty.
+    pub command: Command,
+    /// The path of the program's or the source's file, which isn't empty.
     pub target: &'a str,
     /// The path of the file that the program reads, if it isn't to read an empty one.
     pub input: Option<&'a str>,
-    /// The most instructions to retire, 1 to 10^12.
+    /// The most instructions to retire: 1 to 10^12 for `run`, 0 for the others.
     pub budget: u64,
 }
 
@@ -46,21 +45,22 @@ fn are_words(words: &[String]) -> bool
     words.iter().all(|word| is_word(word.as_bytes()))
 }
 
-fn budget_of(text: Option<&str>) -> Option<u64>
-    ensures { result ≡ budget_in (copied_text text.entry) }
+fn budget_of(command: Command, text: Option<&str>) -> Option<u64>
+    ensures { result ≡ budget_in command (copied_text text.entry) }
 {
     match text {
-        None => Some(USUAL_BUDGET),
+        None => Some(usual_budget(command)),
         Some(number) => number_in(number, 1, GREATEST_BUDGET),
     }
 }
 
-fn request_of<'a>(found: Found<'a>) -> Option<Request<'a>>
-    ensures { option_map seen result ≡ kept_request (kept found.entry) }
+fn request_of<'a>(command: Command, found: Found<'a>) -> Option<Request<'a>>
+    ensures { option_map seen result ≡ kept_request command (kept found.entry) }
 {
     let target = found.target?;
-    let budget = budget_of(found.budget)?;
+    let budget = budget_of(command, found.budget)?;
     Some(Request {
+        command,
         target,
         input: found.input,
         budget,
@@ -68,17 +68,20 @@ fn request_of<'a>(found: Found<'a>) -> Option<Request<'a>>
 }
 
 /// The request that the words after the program's name make, or `None` where they make none:
-/// `run`, then the program's path, and `--input FILE` and `--budget N` in any order, each at most once.
+/// `asm` and the source's path; or `run`, the program's path, and `--input FILE` and `--budget N` in any order,
+/// each at most once.
 /// A value may stand in the option's word behind a `=`; a word `--` ends the options.
 /// A budget is 1 to 10^12 in 1 to 20 digits.
 pub fn read_words<'a>(words: &'a [String]) -> Option<Request<'a>>
     ensures exact { option_map seen result ≡ request_in (bytes_of words.now) }
     ensures requests { IfSome result (λ r. Requests (bytes_of words.now) (seen r)) }
+    ensures fit { IfSome result (λ r. IsFit (seen r)) }
     ensures only { (asked : Asked) → Requests (bytes_of words.now) asked → option_map seen result ≡ Some asked }
 {
-    let (command, rest) = words.split_first()?;
-    if !are_words(words) || command.as_str() != "run" {
+    let (first, rest) = words.split_first()?;
+    if !are_words(words) {
         return None;
     }
-    request_of(found_in(rest)?)
+    let command = command_of(first.as_str())?;
+    request_of(command, found_in(command, rest)?)
 }

@@ -1,4 +1,4 @@
-use crate::read_words;
+use crate::{Command, read_words};
 use std::alloc::{AllocError, Global};
 use std::test::Fail;
 
@@ -10,7 +10,7 @@ fn words_of(alloc: Global, texts: &[&str]) -> Result<Vec<String>, AllocError> {
     Ok(words)
 }
 
-/// Whether the words ask for this program, this input and this budget.
+/// Whether the words ask for a run of this program, with this input and this budget.
 fn asks(
     alloc: Global,
     texts: &[&str],
@@ -21,7 +21,10 @@ fn asks(
     let words = words_of(alloc, texts)?;
     Ok(match read_words(words.as_slice()) {
         Some(request) => {
-            request.target == target && request.input == input && request.budget == budget
+            request.command == Command::Run
+                && request.target == target
+                && request.input == input
+                && request.budget == budget
         }
         None => false,
     })
@@ -101,5 +104,38 @@ fn takes_and_refuses(rt: HostRuntime) -> Result<(), Fail> {
     assert!(rt; is_refused(alloc, &["run", "-one"])?);
     assert!(rt; is_refused(alloc, &["run", "o\0e"])?);
     assert!(rt; is_refused(alloc, &["walk", "one"])?);
+    Ok(())
+}
+
+/// Whether the words ask for this command and nothing more.
+fn asks_plainly(
+    alloc: Global,
+    texts: &[&str],
+    command: Command,
+    target: &str,
+) -> Result<bool, AllocError> {
+    let words = words_of(alloc, texts)?;
+    Ok(match read_words(words.as_slice()) {
+        Some(request) => {
+            request.command == command
+                && request.target == target
+                && request.input.is_none()
+                && request.budget == 0
+        }
+        None => false,
+    })
+}
+
+#[test]
+fn other_commands_have_no_options(rt: HostRuntime) -> Result<(), Fail> {
+    let alloc = rt.alloc();
+    for (name, command) in [("asm", Command::Asm)] {
+        assert!(rt; asks_plainly(alloc, &[name, "one"], command, "one")?);
+        assert!(rt; asks_plainly(alloc, &[name, "--", "-one"], command, "-one")?);
+        assert!(rt; is_refused(alloc, &[name])?);
+        assert!(rt; is_refused(alloc, &[name, "one", "two"])?);
+        assert!(rt; is_refused(alloc, &[name, "one", "--budget", "3"])?);
+        assert!(rt; is_refused(alloc, &[name, "one", "--input=data"])?);
+    }
     Ok(())
 }

@@ -1,3 +1,5 @@
+pub mod Keys
+pub mod Begin
 pub mod Moves
 pub mod Law
 mod Rows

@@ -1,13 +1,23 @@
--- The ending of a run of one hart.
-use Rattle.std.specs.Prelude.{ℕ, Bool, nat_le, if◌then◌else◌, Option, Some, None}
+-- The ending that a retirement may bring.
+use Rattle.std.specs.Prelude.{ℕ, Bool, not, ◌||◌, nat_le, List, [], ◌∷◌, Option}
 use Rattle.coz_types.specs.declared.ending.Ending.{Ending}
 use Rattle.coz_types.specs.declared.ending.Ending.TheVariants.{OutputFull, Stalled, Spent}
 use Rattle.machines.specs.declared.Fate.{Fate}
-use Rattle.machines.specs.declared.Fate.TheVariants.{Goes, Waits, Leaves, Ends}
+use Rattle.machines.specs.Guest.{goes_on, own_ending, when, first_ending}
+use Rattle.machines.specs.Delayed.{is_any}
+use Rattle.machines.specs.Shortened.{runs_any}
+use Rattle.hart_schedule.specs.Keys.{Keys}
 
--- how the run of one hart ends with a retirement, where the output is full or isn't, with so many retired instructions by then
-abbrev pub ending_of : Fate → Bool → ℕ → ℕ → Option Ending
-ending_of (Ends ending) full retired budget = Some ending
-ending_of Goes full retired budget = if full then Some OutputFull else if nat_le budget retired then Some Spent else None
-ending_of Waits full retired budget = Some (if full then OutputFull else Stalled)
-ending_of Leaves full retired budget = Some (if full then OutputFull else Stalled)
+-- how a run ends with a retirement of this fate, where the output is full or isn't, where some hart runs after it or none does, with so many retired instructions by then
+abbrev pub ending_of : Fate → Bool → Bool → ℕ → ℕ → Option Ending
+ending_of fate full some_hart_runs retired budget =
+    first_ending
+    (own_ending fate
+    ∷ when full OutputFull
+    ∷ when (not some_hart_runs) Stalled
+    ∷ when (nat_le budget retired) Spent
+    ∷ [])
+
+-- some hart runs after a retirement of this fate: the retiring one, one that it made or woke, or one of these others
+abbrev pub runs_after : Fate → List ℕ → Keys → Bool
+runs_after fate started others = goes_on fate || is_any started || runs_any others

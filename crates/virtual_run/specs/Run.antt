@@ -1,7 +1,7 @@
--- The run of a program of one hart: the shortened machine over its guest, without a selected line.
-use Rattle.std.specs.Prelude.{◌≡◌, ℕ, ◌+◌, ◌*◌, ◌^◌, ◌<◌, ◌≤◌, false, true, List, [], ◌∷◌, Option, Some, None}
-use Rattle.coz_types.specs.declared.ending.Ending.{Ending}
+-- The run of a program: the shortened machine over its guest, without a selected line.
+use Rattle.std.specs.Prelude.{◌≡◌, ℕ, ◌+◌, ◌*◌, ◌^◌, ◌≤◌, false, List, [], length, get_or, Option, Some, None, is_some}
 use Rattle.coz_types.specs.Image.{ImageParts}
+use Rattle.hart_schedule.specs.Keys.{Keys, key_of, IsEmpty}
 use Rattle.machines.specs.Guest.{Experiment}
 use Rattle.machines.specs.Shortened.{Shortened, shortened}
 use Rattle.guest_memory.specs.Regions.{usual}
@@ -32,22 +32,34 @@ experiment_from first budget = record {
 abbrev pub experiment : ImageParts → List ℕ → ℕ → Experiment Guest
 experiment image input budget = experiment_from (first_guest image input output_limit usual) budget
 
--- when the one hart retires, where the run goes on
-abbrev pub dues_of : Option Ending → ℕ → List (Option ℕ)
-dues_of None due = Some due ∷ []
-dues_of (Some ending) due = None ∷ []
+-- the harts that have been made as that run ends
+abbrev pub harts_made : ImageParts → List ℕ → ℕ → ℕ
+harts_made image input budget = length (shortened (experiment image input budget) budget).guest.harts
 
--- the state of the shortened machine that the code's fields stand for
-abbrev pub state_of : Run → Shortened Guest
-state_of run = record {
+-- the state of the shortened machine that the code's fields stand for, with these moments at which harts are due
+abbrev pub state_of : Run → List (Option ℕ) → Shortened Guest
+state_of run dues = record {
   time = run.time;
   guest = run.guest;
-  dues = dues_of run.ending run.due;
+  dues = dues;
   visits = [];
   retired = run.retired;
   starts = 0;
   ending = run.ending;
 }
+
+-- the keys are these moments
+abbrev pub AreDues : Keys → List (Option ℕ) → Type 0
+AreDues keys dues = (hart : ℕ) → key_of keys hart ≡ get_or dues hart None
+
+-- the fields stand for this state
+pub record IsStateOf (run : Run) (s : Shortened Guest) : Type 0 where
+  pub state : s ≡ state_of run s.dues
+  pub dues : AreDues run.schedule s.dues
+
+-- no hart is due later
+abbrev pub AreWithin : ℕ → Keys → Type 0
+AreWithin moment keys = (hart due : ℕ) → key_of keys hart ≡ Some due → due ≤ moment
 
 -- what contracts see of a run
 pub record Seen : Type 0 where
@@ -56,18 +68,21 @@ pub record Seen : Type 0 where
   pub budget : ℕ
   pub state : Shortened Guest
 
--- before and after each move: one hart was made, it runs where the run goes on, and no other was started
+-- between the moves of a run that goes on: the harts that run are those that are due
 pub record IsSteady (run : Run) : Type 0 where
+  pub goes : run.ending ≡ None
   pub orderly : IsOrderly run.guest
-  pub runs : run.ending ≡ None → is_running run.guest 0 ≡ true
-  pub idle : run.started ≡ []
+  pub running : (hart : ℕ) → is_running run.guest hart ≡ is_some (key_of run.schedule hart)
+  pub some_hart : ¬ IsEmpty run.schedule
+  pub room : length run.schedule ≡ 256
+  pub within : AreWithin (2 ^ 60) run.schedule
+  pub retired : run.retired ≤ 2 ^ 60
 
--- the fields are the state after as many moves as instructions were retired
+-- the fields stand for the state after as many moves as instructions were retired
 pub record IsReached (image : ImageParts) (input : List ℕ) (budget : ℕ) (run : Run) : Type 0 where
-  pub reached : state_of run ≡ shortened (experiment image input budget) run.retired
-  pub steady : IsSteady run
+  pub reached : IsStateOf run (shortened (experiment image input budget) run.retired)
+  pub room : length run.schedule ≡ 256
   pub some_budget : 1 ≤ budget
   pub small_budget : budget ≤ 10 ^ 12
-  pub within : run.retired ≤ budget
-  pub going : run.ending ≡ None → run.retired < budget
-  pub due : run.due ≤ 4000 * (run.retired + 1)
+  pub retired : run.retired ≤ budget
+  pub within : AreWithin (4000 * (run.retired + 1)) run.schedule

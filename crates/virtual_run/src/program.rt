@@ -1,16 +1,22 @@
-ghost use Rattle.std.specs.Prelude.{◌≡◌, ◌^◌, ◌≤◌, ◌+◌, [], length, Some, None, IfOk};
+ghost use Rattle.std.specs.Prelude.{◌≡◌, ◌^◌, ◌≤◌, [], length, Some, IfOk};
 
 use crate::Run;
-use crate::run::{HART, OUTPUT_LIMIT};
-use cost_table::cycles;
-use coz_types::{Ending, Image, Tick};
+use crate::run::{OUTPUT_LIMIT, begin};
+use coz_types::{Ending, HartId, Image, Tick};
 use guest_calls::Guest;
 use guest_futex::HartList;
 use guest_memory::Layout;
+use hart_schedule::Schedule;
 use std::alloc::{AllocError, Global};
 use std::marker::Model;
 
-/// The run of a program of one hart, without a selected line.
+/// The harts that may be made in a run.
+const HARTS: u32 = 256;
+
+/// The hart that a program begins with.
+const FIRST: HartId = HartId(0);
+
+/// The run of a program, without a selected line.
 #[derive(Drop)]
 pub struct Plain<'a> {
     image: &'a Image<'a>,
@@ -20,7 +26,8 @@ pub struct Plain<'a> {
 }
 
 impl<'a> Model for Plain<'a> {
-    ghost use Rattle.virtual_run.specs.Run.{Seen, state_of, IsReached};
+    ghost use Rattle.machines.specs.Shortened.{shortened};
+    ghost use Rattle.virtual_run.specs.Run.{Seen, experiment, IsReached};
 
     ghost Value = { Seen };
 
@@ -28,7 +35,7 @@ impl<'a> Model for Plain<'a> {
       image = plain.image.now;
       input = plain.input.now;
       budget = plain.budget;
-      state = state_of plain.run;
+      state = shortened (experiment plain.image.now plain.input.now plain.budget) plain.run.retired;
     } };
 
     ghost invariant = { λ plain. IsReached plain.image.now plain.input.now plain.budget plain.run };
@@ -56,11 +63,12 @@ impl<'a> Plain<'a> {
         }) }
     {
         let guest = Guest::new(alloc, image, input, OUTPUT_LIMIT, Layout::usual())?;
-        let due = 100 * cycles(guest.next(HART));
+        let mut schedule = Schedule::new(alloc, HARTS)?;
+        begin(&guest, &mut schedule, FIRST, 0);
         let run = Run {
             guest,
+            schedule,
             started: HartList::new(),
-            due,
             time: 0,
             retired: 0,
             ending: None,
@@ -79,6 +87,7 @@ impl<'a> Plain<'a> {
         ensures record { let x = experiment self.old.image self.old.input self.old.budget in
             net_record_of x self.new.state result ≡ shortened_record x }
         ensures shortened { let x = experiment self.old.image self.old.input self.old.budget in IsShortened x (shortened_record x) }
+        ensures last { self.new.state ≡ shortened (experiment self.old.image self.old.input self.old.budget) self.old.budget }
         ensures visits { self.new.state.visits ≡ [] }
         ensures starts { self.new.state.starts ≡ 0 }
         ensures image { self.new.image ≡ self.old.image }
@@ -110,9 +119,9 @@ impl<'a> Plain<'a> {
 
     /// How many harts were made.
     pub fn harts(&self) -> u32
-        ensures { result ≡ 1 }
+        ensures { result ≡ length self.now.state.guest.harts }
     {
-        1
+        self.run.guest.harts()
     }
 
     /// What was written.

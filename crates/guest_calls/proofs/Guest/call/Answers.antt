@@ -1,5 +1,5 @@
 use Rattle.std.proofs.Common.{sym, ◌∙◌, refl, arith}
-use Rattle.guest_calls.specs.Calls.{at_any_time, ioctl, lseek, read, write, readv, writev, exit, exit_group, set_tid_address, sched_yield, rt_sigprocmask, getpid, gettid, brk, munmap, mremap, mmap, mprotect, madvise}
+use Rattle.guest_calls.specs.Calls.{at_any_time, ioctl, lseek, read, write, readv, writev, exit, exit_group, set_tid_address, futex, sched_yield, rt_sigprocmask, getpid, gettid, brk, munmap, mremap, clone, mmap, mprotect, madvise}
 use Rattle.guest_calls.proofs.Rows.{call-known, call-unknown, unknown}
 use Rattle.guest_calls.proofs.Guest.call.Goals as goal
 
@@ -29,7 +29,7 @@ returns-in-66 c =
 
 pub returns-in-93 : goal.returns-in-93
 returns-in-93 c =
-    rw c.requires.started (c.exit.ensures ∙ call-known _ _ _ 93 (at_any_time exit) (sym c.in-93.is ∙ c.number.ensures) refl)
+    c.exit.ensures ∙ call-known _ _ _ 93 (at_any_time exit) (sym c.in-93.is ∙ c.number.ensures) refl
 
 pub returns-in-94 : goal.returns-in-94
 returns-in-94 c =
@@ -38,6 +38,10 @@ returns-in-94 c =
 pub returns-in-96 : goal.returns-in-96
 returns-in-96 c =
     rw c.requires.started (c.set_tid_address.ensures ∙ call-known _ _ _ 96 (at_any_time set_tid_address) (sym c.in-96.is ∙ c.number.ensures) refl)
+
+pub returns-in-98 : goal.returns-in-98
+returns-in-98 c =
+    c.futex.ensures ∙ call-known _ _ _ 98 (at_any_time futex) (sym c.in-98.is ∙ c.number.ensures) refl
 
 pub returns-in-124 : goal.returns-in-124
 returns-in-124 c =
@@ -67,6 +71,10 @@ pub returns-in-216 : goal.returns-in-216
 returns-in-216 c =
     rw c.requires.started (c.mremap.ensures ∙ call-known _ _ _ 216 (at_any_time mremap) (sym c.in-216.is ∙ c.number.ensures) refl)
 
+pub returns-in-220 : goal.returns-in-220
+returns-in-220 c =
+    c.clone.ensures ∙ call-known _ _ _ 220 (at_any_time clone) (sym c.in-220.is ∙ c.number.ensures) refl
+
 pub returns-in-222 : goal.returns-in-222
 returns-in-222 c =
     rw c.requires.started (c.mmap.ensures ∙ call-known _ _ _ 222 (at_any_time mmap) (sym c.in-222.is ∙ c.number.ensures) refl)
@@ -84,4 +92,4 @@ returns-in_default c =
     rw c.requires.started
     (c.unsupported.ensures
     ∙ call-unknown _ _ _ c.number.result c.number.ensures
-    (unknown c.number.result (omega arith) (omega arith) (omega arith) (omega arith) (omega arith) (omega arith) (omega arith) (omega arith) (omega arith) (omega arith) (omega arith) (omega arith) (omega arith) (omega arith) (omega arith) (omega arith) (omega arith) (omega arith) (omega arith)))
+    (unknown c.number.result (omega arith) (omega arith) (omega arith) (omega arith) (omega arith) (omega arith) (omega arith) (omega arith) (omega arith) (omega arith) (omega arith) (omega arith) (omega arith) (omega arith) (omega arith) (omega arith) (omega arith) (omega arith) (omega arith) (omega arith) (omega arith)))

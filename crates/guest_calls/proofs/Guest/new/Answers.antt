@@ -9,8 +9,9 @@ new-requires-2 c = first-again c.in_ok-memory.memory c.args.image.now c.args.lay
 
 pub returns : goal.returns
 returns c =
-    first-made c.push.new.self.items c.in_ok-areas.areas c.new-2.new.memory c.new-4.result c.args.input.now c.in_ok-output.output c.args.image.now c.args.output_limit c.args.layout
+    first-made c.push.new.self.items c.in_ok-areas.areas c.new-2.new.memory c.new-5.result c.in_ok-queue.queue c.args.input.now c.in_ok-output.output c.args.image.now c.args.output_limit c.args.layout
     (first-hart c.push.new.self.items c.in_ok-harts.harts.items c.first.result c.stack_pointer.result c.entry.result c.args.image.now c.in_ok-push.ensures.items c.in_ok-harts.ensures.items c.first.ensures c.stack_pointer.ensures c.entry.ensures.entry)
     (c.in_ok-areas.ensures.ok ∙ ap (λ (x : Layout). first_space c.args.image.now x) (first-layout c.in_ok-memory.memory c.args.image.now c.args.layout c.in_ok-memory.ensures))
-    c.new-4.ensures
+    c.new-5.ensures
+    c.in_ok-queue.ensures
     c.in_ok-output.ensures

@@ -1,44 +1,69 @@
-use Rattle.std.proofs.Common.{◌≤◌, ℕ, ◌∙◌, ap, sym, subst, arith}
+use Rattle.std.proofs.Common.{◌≡◌, ◌≤◌, ℕ, ◌∙◌, ap, sym, subst, arith}
 use Rattle.guest_memory.specs.Regions.{usual}
-use Rattle.guest_calls.specs.Guest.{first_guest}
-use Rattle.virtual_run.specs.Run.{Seen, experiment, output_limit, state_of}
-use Rattle.virtual_run.proofs.Moves.{once_more}
-use Rattle.virtual_run.proofs.Law.{shortened_is, recorded_of, told, same_told}
+use Rattle.guest_calls.specs.Guest.{Guest, first_guest}
+use Rattle.virtual_run.specs.Run.{Seen, output_limit}
+use Rattle.virtual_run.proofs.Law.{steady, below_budget, reached_next, none_is, told, same_told, recorded_of, last_of, shortened_is, ended_now, no_visits, no_starts}
 use Rattle.virtual_run.proofs.program.Plain.run.Goals as goal
+use Rattle.virtual_run.proofs.program.Plain.run.Goals.{In-Some}
+
+pub advance-requires : goal.advance-requires
+advance-requires c =
+    let now = c.loop-self.self-inside in
+    steady now.image.now now.input.now now.budget now.run c.loop-self.invariant.0
+    (none_is now.run.ending c.is_none.result c.is_none.ensures c.loop-self-test.true)
 
 pub loop-self-preserved : goal.loop-self-preserved
 loop-self-preserved c =
+    let now = c.loop-self.self-inside in
     let before = c.loop-self.invariant in
-    let now = c.loop-self.self-inside in (
-      record {
-        reached = once_more (experiment now.image.now now.input.now now.budget) (state_of now.run) (state_of c.advance.new.self) now.run.retired c.advance.new.self.retired before.0.reached (c.advance.ensures.moved (first_guest now.image.now now.input.now output_limit usual)) c.advance.ensures.retired;
-        steady = c.advance.ensures.steady;
-        some_budget = before.0.some_budget;
-        small_budget = before.0.small_budget;
-        within = c.advance.ensures.within;
-        going = c.advance.ensures.going;
-        due = omega (arith, before.0.due, c.advance.ensures.due, c.advance.ensures.retired);
-      },
+    let reached = before.0.reached in
+    let first : Guest = first_guest now.image.now now.input.now output_limit usual in
+    let none = none_is now.run.ending c.is_none.result c.is_none.ensures c.loop-self-test.true in (
+      reached_next now.image.now now.input.now now.budget now.run before.0 c.advance.new.self none (c.advance.ensures.moved first _ reached.dues) c.advance.ensures.room c.advance.ensures.retired c.advance.ensures.within,
       before.1,
       before.2,
       before.3,
     )
 
-pub returns-clause-record : goal.returns-clause-record
-returns-clause-record c =
-    let after = c.loop-self.invariant in
+pub loop-self-smaller : goal.loop-self-smaller
+loop-self-smaller c =
+    let now = c.loop-self.self-inside in
+    let below = below_budget now.image.now now.input.now now.budget now.run c.loop-self.invariant.0 (none_is now.run.ending c.is_none.result c.is_none.ensures c.loop-self-test.true) in
+    omega (arith, below, c.advance.ensures.retired)
+
+pub returns-clause-ended : goal.returns-clause-ended
+returns-clause-ended c =
+    let now = c.loop-self.self-inside in
+    ended_now now.image.now now.input.now now.budget now.run c.loop-self.invariant.0 c.in-Some.ending c.in-Some.is
+
+-- the arguments are those of the call
+as_told : (c : In-Some) → told c.args.self.now.image c.args.self.now.input c.args.self.now.budget ≡ told c.loop-self.self-inside.image.now c.loop-self.self-inside.input.now c.loop-self.self-inside.budget
+as_told c =
     let now = c.loop-self.self-inside in
     let old = c.args.self.now in
-    recorded_of (told now.image.now now.input.now now.budget) (told old.image old.input old.budget) now.run.retired (state_of now.run) c.in-Some.ending
-    (same_told now.image.now old.image now.input.now old.input now.budget old.budget
+    let after = c.loop-self.invariant in
+    same_told now.image.now old.image now.input.now old.input now.budget old.budget
     (sym (after.1 ∙ ap (λ (s : Seen). s.image) c.self.view_is))
     (sym (after.2 ∙ ap (λ (s : Seen). s.input) c.self.view_is))
-    (sym (after.3 ∙ ap (λ (s : Seen). s.budget) c.self.view_is)))
-    after.0.within
-    after.0.reached
-    c.in-Some.is
+    (sym (after.3 ∙ ap (λ (s : Seen). s.budget) c.self.view_is))
+
+pub returns-clause-record : goal.returns-clause-record
+returns-clause-record c = recorded_of _ _ c.loop-self.self-inside.run c.in-Some.ending (as_told c) c.loop-self.invariant.0 c.in-Some.is
+
+pub returns-clause-last : goal.returns-clause-last
+returns-clause-last c = last_of _ _ c.loop-self.self-inside.run c.in-Some.ending (as_told c) c.loop-self.invariant.0 c.in-Some.is
 
 pub returns-clause-shortened : goal.returns-clause-shortened
 returns-clause-shortened c =
     shortened_is c.args.self.now.image c.args.self.now.input c.args.self.now.budget
     (subst (λ (b : ℕ). 1 ≤ b) (ap (λ (s : Seen). s.budget) c.self.view_is) c.self.invariant.some_budget)
+
+pub returns-clause-visits : goal.returns-clause-visits
+returns-clause-visits c =
+    let now = c.loop-self.self-inside in
+    no_visits now.image.now now.input.now now.budget now.run c.loop-self.invariant.0
+
+pub returns-clause-starts : goal.returns-clause-starts
+returns-clause-starts c =
+    let now = c.loop-self.self-inside in
+    no_starts now.image.now now.input.now now.budget now.run c.loop-self.invariant.0

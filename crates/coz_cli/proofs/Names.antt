@@ -1,0 +1,12 @@
+-- The positional of a request can be a name in a file.
+use Rattle.std.proofs.Common.{◌≡◌, ℕ, ◌<◌, ◌≤◌, true, not, ◌==◌, nat_le, nat_lt, length, List, [], ◌∷◌, arith}
+use Rattle.std.specs.List.{AllPass}
+use Rattle.std.proofs.lemmas.Bool.{and_parts, leb-true, ltb-true}
+use Rattle.std.proofs.lemmas.List.Sums.{AllPass-from_list_all}
+use Rattle.image_write.specs.File.{IsName}
+use Rattle.run_words.specs.Request.{Asked, IsFit, has_no_zero}
+
+pub named : (request : Asked) → IsFit request → IsName request.target
+named request fit =
+    let word = and_parts (has_no_zero request.target) (nat_le (length request.target) 131072) fit.word in
+    (ltb-true 0 (length request.target) fit.some, leb-true (length request.target) 131072 word.1, AllPass-from_list_all (λ b. not (b == 0)) request.target word.0)

@@ -1,0 +1,127 @@
+//! The lines of faults, and their statuses.
+ghost use Rattle.std.specs.Prelude.{◌≡◌, ◌++◌, codes, decimal};
+ghost use Rattle.coz_files.specs.Puts.{Puts, Continues};
+ghost use Rattle.coz_cli.specs.FaultLines.{elf_kind_name, line_kind_name, asm_kind_name, program_line, table_line, source_line};
+ghost use Rattle.coz_cli.specs.Answer.{fault_status, fault_line};
+ghost use Rattle.coz_cli.specs.Serve.{IsPut};
+
+use crate::answer::Fault;
+use crate::kinds::{asm_kind_name, elf_kind_name, line_kind_name};
+use coz_files::{PutAnswer, Sink, put_next};
+use dwarf_lines::{LineFault, LineKind};
+use elf_load::{ElfFault, ElfKind};
+use itoa::Buffer;
+use rv_asm::{AsmFault, AsmKind};
+
+fn status_of(fault: Fault) -> u8
+    ensures { result ≡ fault_status fault.entry }
+{
+    match fault {
+        Fault::Usage => 2,
+        Fault::Program(_) => 3,
+        Fault::Lines(_) => 4,
+        Fault::Read(_) => 5,
+        Fault::Write => 6,
+        Fault::Long(_) => 8,
+        Fault::Memory => 10,
+        Fault::Source(_) => 11,
+    }
+}
+
+/// Puts three pieces, one behind the other.
+fn put_three<S: Sink>(sink: &mut S, first: &[u8], second: &[u8], third: &[u8]) -> PutAnswer
+    ensures { Puts S.holds S.faults sink.old sink.new result (first.now ++ second.now ++ third.now) }
+{
+    match sink.put(first) {
+        PutAnswer::Done => match sink.put(second) {
+            PutAnswer::Done => sink.put(third),
+            PutAnswer::Failed => PutAnswer::Failed,
+        },
+        PutAnswer::Failed => PutAnswer::Failed,
+    }
+}
+
+fn put_elf_kind<S: Sink>(sink: &mut S, so_far: PutAnswer, kind: ElfKind) -> PutAnswer
+    ensures { Continues S.holds S.faults sink.old sink.new so_far result (elf_kind_name kind) }
+{
+    put_next(sink, so_far, elf_kind_name(kind))
+}
+
+fn put_line_kind<S: Sink>(sink: &mut S, so_far: PutAnswer, kind: LineKind) -> PutAnswer
+    ensures { Continues S.holds S.faults sink.old sink.new so_far result (line_kind_name kind) }
+{
+    put_next(sink, so_far, line_kind_name(kind))
+}
+
+fn put_asm_kind<S: Sink>(sink: &mut S, so_far: PutAnswer, kind: AsmKind) -> PutAnswer
+    ensures { Continues S.holds S.faults sink.old sink.new so_far result (asm_kind_name kind) }
+{
+    put_next(sink, so_far, asm_kind_name(kind))
+}
+
+fn put_number<S: Sink>(sink: &mut S, so_far: PutAnswer, n: u64) -> PutAnswer
+    ensures { Continues S.holds S.faults sink.old sink.new so_far result (decimal n) }
+{
+    let mut buffer = Buffer::new();
+    put_next(sink, so_far, buffer.format(n).as_bytes())
+}
+
+/// Puts the line of a program's fault.
+fn put_program<S: Sink>(sink: &mut S, fault: ElfFault) -> PutAnswer
+    ensures { Puts S.holds S.faults sink.old sink.new result (program_line fault ++ codes "\n") }
+{
+    let answer = put_next(sink, PutAnswer::Done, b"coz: program: ");
+    let answer = put_elf_kind(sink, answer, fault.kind);
+    let answer = put_next(sink, answer, b" at ");
+    let answer = put_number(sink, answer, fault.place);
+    put_next(sink, answer, b"\n")
+}
+
+/// Puts the line of a line table's fault.
+fn put_table<S: Sink>(sink: &mut S, fault: LineFault) -> PutAnswer
+    ensures { Puts S.holds S.faults sink.old sink.new result (table_line fault ++ codes "\n") }
+{
+    let answer = put_next(sink, PutAnswer::Done, b"coz: lines: ");
+    let answer = put_line_kind(sink, answer, fault.kind);
+    let answer = put_next(sink, answer, b" at ");
+    let answer = put_number(sink, answer, fault.place);
+    put_next(sink, answer, b"\n")
+}
+
+/// Puts the line of a source's fault.
+fn put_source<S: Sink>(sink: &mut S, fault: AsmFault) -> PutAnswer
+    ensures { Puts S.holds S.faults sink.old sink.new result (source_line fault ++ codes "\n") }
+{
+    let answer = put_next(sink, PutAnswer::Done, b"coz: source: ");
+    let answer = put_asm_kind(sink, answer, fault.kind);
+    let answer = put_next(sink, answer, b" at line ");
+    let answer = put_number(sink, answer, fault.line as u64);
+    let answer = put_next(sink, answer, b" column ");
+    let answer = put_number(sink, answer, fault.column as u64);
+    put_next(sink, answer, b"\n")
+}
+
+/// Puts a fault's line.
+fn put_line<S: Sink>(sink: &mut S, fault: Fault) -> PutAnswer
+    ensures { Puts S.holds S.faults sink.old sink.new result (fault_line fault.entry ++ codes "\n") }
+{
+    match fault {
+        Fault::Usage => put_three(sink, b"coz: usage", b"", b"\n"),
+        Fault::Program(fault) => put_program(sink, fault),
+        Fault::Lines(fault) => put_table(sink, fault),
+        Fault::Read(path) => put_three(sink, b"coz: read: ", path.as_bytes(), b"\n"),
+        Fault::Write => put_three(sink, b"coz: write", b"", b"\n"),
+        Fault::Long(path) => put_three(sink, b"coz: long: ", path.as_bytes(), b"\n"),
+        Fault::Memory => put_three(sink, b"coz: memory", b"", b"\n"),
+        Fault::Source(fault) => put_source(sink, fault),
+    }
+}
+
+/// Tells a fault on the error sink, and gives its status. A fault of that sink changes nothing.
+pub fn tell<E: Sink>(err: &mut E, fault: Fault) -> u8
+    ensures status { result ≡ fault_status fault.entry }
+    ensures line { IsPut E.holds E.faults err.old err.new (fault_line fault.entry ++ codes "\n") }
+{
+    let _ = put_line(err, fault);
+    status_of(fault)
+}

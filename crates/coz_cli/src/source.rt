@@ -1,0 +1,55 @@
+ghost use Rattle.std.specs.Prelude.{◌≡◌, ◌≤◌, length, IfSome, IfNone, Some};
+ghost use Rattle.coz_files.specs.Faults.{Rose};
+ghost use Rattle.image_write.specs.File.{IsName};
+ghost use Rattle.run_words.specs.Seen.{seen};
+ghost use Rattle.run_words.specs.declared.Command.TheVariants.{Asm};
+ghost use Rattle.rv_asm.specs.Assembled.{assembled};
+ghost use Rattle.coz_cli.specs.Verdict.{command_verdict, source_verdict};
+ghost use Rattle.coz_cli.specs.Answer.{answered, IsMemory, IsRead, Suits, Settles};
+
+use crate::answer::{Answer, Fault};
+use coz_files::{FileAnswer, Files};
+use image_write::write_elf;
+use run_words::Request;
+use rv_asm::{AsmError, assemble};
+use std::alloc::Global;
+
+/// The most bytes of a source.
+const MAX_SOURCE: u64 = 4194304;
+
+/// What is written of the source that the request names.
+pub fn judge_source<'a, F: Files>(alloc: Global, request: Request<'a>, files: &mut F) -> Answer<'a>
+    requires named { IsName request.target.now }
+    ensures same { F.held files.new ≡ F.held files.old }
+    ensures suits { Suits (Some (seen request.entry)) result }
+    ensures settled { IfSome (F.held files.old) (λ held. (IsMemory result → ⊥) →
+        Settles (command_verdict Asm (seen request.entry) held) (F.faults files.old) (F.faults files.new) result) }
+    ensures untold { IsRead result → IfNone (F.held files.old) (Rose (F.faults files.old) (F.faults files.new)) }
+    ensures no_fault { (IsRead result → ⊥) → F.faults files.new ≡ F.faults files.old }
+{
+    let mut source = Vec::new(alloc);
+    match files.read_whole(request.target, MAX_SOURCE, &mut source) {
+        FileAnswer::Whole => source_answer(alloc, &source, request.target),
+        FileAnswer::Longer => Answer::Refused(Fault::Long(request.target)),
+        FileAnswer::Failed => Answer::Refused(Fault::Read(request.target)),
+        FileAnswer::Memory => Answer::Refused(Fault::Memory),
+    }
+}
+
+/// The file of what a source stands for, with the source's name in it.
+fn source_answer<'a>(alloc: Global, source: &[u8], name: &str) -> Answer<'a>
+    requires short { length source.now ≤ 4194304 }
+    requires named { IsName name.now }
+    ensures no_read { IsRead result → ⊥ }
+    ensures settled { (IsMemory result → ⊥) → answered result ≡ source_verdict name.now (assembled source.now) }
+{
+    let assembled = match assemble(alloc, source) {
+        Ok(assembled) => assembled,
+        Err(AsmError::Fault(fault)) => return Answer::Refused(Fault::Source(fault)),
+        Err(AsmError::Memory) => return Answer::Refused(Fault::Memory),
+    };
+    match write_elf(alloc, &assembled, name.as_bytes()) {
+        Ok(text) => Answer::Text { status: 0, text },
+        Err(_) => Answer::Refused(Fault::Memory),
+    }
+}

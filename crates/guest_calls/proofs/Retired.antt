@@ -1,0 +1,198 @@
+-- The retirement of a hart of an orderly guest, by what it does.
+use Rattle.std.proofs.Common.{◌≡◌, ℕ, ◌==◌, Bool, true, false, not, List, [], ◌∷◌, length, Option, Some, None, pos, refl, sym, subst, replicate}
+use Rattle.coz_types.specs.declared.ending.TrapCause.TheVariants.{Fetch, Illegal}
+use Rattle.coz_types.specs.Maps.{Map, value_at}
+use Rattle.machines.specs.Guest.{Retirement}
+use Rattle.rv_decode.specs.declared.Instr.{Instr}
+use Rattle.rv_decode.specs.Instructions.{instruction_of}
+use Rattle.guest_memory.specs.Memory.{is_readable, is_writable, bytes_at}
+use Rattle.guest_areas.specs.Answers.{bad_file, no_memory, bad_address, invalid, no_terminal, no_seek}
+use Rattle.guest_areas.specs.Space.{Space, with_break, map, unmap, protect}
+use Rattle.rv_execute.specs.declared.hart.Step.{Step}
+use Rattle.rv_execute.specs.declared.hart.Step.TheVariants.{Next, Call, Fault}
+use Rattle.rv_execute.specs.Execution.{Setting, execute}
+use Rattle.guest_calls.specs.declared.pieces.Piece.{Piece}
+use Rattle.guest_calls.specs.Guest.{Guest, hart_at, with_hart, with_state, with_setting, with_stored, with_written, is_running, memory_of, setting_of, thread_id}
+use Rattle.guest_calls.specs.Calls
+use Rattle.guest_calls.specs.Calls.{of_space, unsupported, a0, a1, a2, a3, with_filled, with_read, filled, total, is_each_writable, is_each_readable, bytes_of, pieces_at, are_few, is_named, read_length, is_stream, is_input, is_output, is_mapping, calls, call_of}
+use Rattle.guest_calls.specs.Retire.{word_at, Stepped, stepped, stepped_by, step, follows, retire}
+use Rattle.guest_calls.specs.Orderly.{IsOrderly}
+use Rattle.guest_calls.proofs.Steps.{step-call}
+use Rattle.guest_calls.proofs.Started.{IsStarted, IsAsBefore, either, same_harts, later, hart_kept, unchanged, still_orderly, none_beside, goes_started, ends_started, kept_started, answer_started, checked, of_space_started, unsupported_started}
+use Rattle.guest_calls.proofs.ThreadRows.{exit_started, futex_started, clone_started}
+
+-- each call
+ioctl_started : (g : Guest) (h : ℕ) → IsOrderly g → is_running g h ≡ true → IsStarted g h (Calls.ioctl g h)
+unfolding Calls.ioctl
+ioctl_started g h good runs = checked (is_stream (a0 g h)) no_terminal h g _ good runs (answer_started bad_file h g g refl refl good runs)
+
+lseek_started : (g : Guest) (h : ℕ) → IsOrderly g → is_running g h ≡ true → IsStarted g h (Calls.lseek g h)
+unfolding Calls.lseek
+lseek_started g h good runs = checked (is_stream (a0 g h)) no_seek h g _ good runs (answer_started bad_file h g g refl refl good runs)
+
+read_started : (g : Guest) (h : ℕ) → IsOrderly g → is_running g h ≡ true → IsStarted g h (Calls.read g h)
+unfolding Calls.read
+read_started g h good runs =
+    checked (not (is_input (a0 g h))) bad_file h g _ good runs
+    (checked (not (is_writable (memory_of g) (a1 g h) (read_length g h))) bad_address h g _ good runs
+    (answer_started (pos (read_length g h)) h g (with_filled (a1 g h) (read_length g h) g) refl refl good runs))
+
+write_started : (g : Guest) (h : ℕ) → IsOrderly g → is_running g h ≡ true → IsStarted g h (Calls.write g h)
+unfolding Calls.write
+write_started g h good runs =
+    checked (not (is_output (a0 g h))) bad_file h g _ good runs
+    (checked (not (is_readable (memory_of g) (a1 g h) (a2 g h))) bad_address h g _ good runs
+    (answer_started (pos (a2 g h)) h g (with_written (bytes_at (memory_of g) (a1 g h) (a2 g h)) g) refl refl good runs))
+
+read_kept : (ps : List Piece) (g : Guest) → IsAsBefore g (with_read ps g)
+read_kept [] g = unchanged g
+read_kept (p ∷ ps) g =
+    let next : Guest = with_filled p.address p.length g in
+    later g next (with_read (p ∷ ps) g) (same_harts g next refl refl) (read_kept ps next)
+
+read_pieces_started : (g : Guest) (h : ℕ) (ps : List Piece) → IsOrderly g → is_running g h ≡ true → IsStarted g h (Calls.read_pieces g h ps)
+unfolding Calls.read_pieces
+read_pieces_started g h ps good runs =
+    checked (not (is_each_writable (memory_of g) (filled ps (length g.input)))) bad_address h g _ good runs
+    (kept_started (pos (total (filled ps (length g.input)))) h g (with_read (filled ps (length g.input)) g) (read_kept (filled ps (length g.input)) g) good runs)
+
+readv_started : (g : Guest) (h : ℕ) → IsOrderly g → is_running g h ≡ true → IsStarted g h (Calls.readv g h)
+unfolding Calls.readv
+readv_started g h good runs =
+    checked (not (is_input (a0 g h))) bad_file h g _ good runs
+    (checked (not (are_few g h)) invalid h g _ good runs
+    (checked (not (is_named g h)) bad_address h g _ good runs
+    (read_pieces_started g h (pieces_at (memory_of g) (a1 g h) (a2 g h)) good runs)))
+
+write_pieces_started : (g : Guest) (h : ℕ) (ps : List Piece) → IsOrderly g → is_running g h ≡ true → IsStarted g h (Calls.write_pieces g h ps)
+unfolding Calls.write_pieces
+write_pieces_started g h ps good runs =
+    checked (not (is_each_readable (memory_of g) ps)) bad_address h g _ good runs
+    (answer_started (pos (total ps)) h g (with_written (bytes_of (memory_of g) ps) g) refl refl good runs)
+
+writev_started : (g : Guest) (h : ℕ) → IsOrderly g → is_running g h ≡ true → IsStarted g h (Calls.writev g h)
+unfolding Calls.writev
+writev_started g h good runs =
+    checked (not (is_output (a0 g h))) bad_file h g _ good runs
+    (checked (not (are_few g h)) invalid h g _ good runs
+    (checked (not (is_named g h)) bad_address h g _ good runs
+    (write_pieces_started g h (pieces_at (memory_of g) (a1 g h) (a2 g h)) good runs)))
+
+exit_group_started : (g : Guest) (h : ℕ) → IsOrderly g → is_running g h ≡ true → IsStarted g h (Calls.exit_group g h)
+unfolding Calls.exit_group
+exit_group_started g h good runs = ends_started g h g _ good
+
+set_tid_address_started : (g : Guest) (h : ℕ) → IsOrderly g → is_running g h ≡ true → IsStarted g h (Calls.set_tid_address g h)
+unfolding Calls.set_tid_address
+set_tid_address_started g h good runs = kept_started (pos (thread_id h)) h g (with_hart h (record (hart_at g h) { clear = a0 g h }) g) (hart_kept g h _ refl) good runs
+
+sched_yield_started : (g : Guest) (h : ℕ) → IsOrderly g → is_running g h ≡ true → IsStarted g h (Calls.sched_yield g h)
+unfolding Calls.sched_yield
+sched_yield_started g h good runs = answer_started (pos 0) h g g refl refl good runs
+
+getpid_started : (g : Guest) (h : ℕ) → IsOrderly g → is_running g h ≡ true → IsStarted g h (Calls.getpid g h)
+unfolding Calls.getpid
+getpid_started g h good runs = answer_started (pos 1) h g g refl refl good runs
+
+gettid_started : (g : Guest) (h : ℕ) → IsOrderly g → is_running g h ≡ true → IsStarted g h (Calls.gettid g h)
+unfolding Calls.gettid
+gettid_started g h good runs = answer_started (pos (thread_id h)) h g g refl refl good runs
+
+rt_sigprocmask_started : (g : Guest) (h : ℕ) → IsOrderly g → is_running g h ≡ true → IsStarted g h (Calls.rt_sigprocmask g h)
+unfolding Calls.rt_sigprocmask
+rt_sigprocmask_started g h good runs =
+    checked (not (a3 g h == 8)) invalid h g _ good runs
+    (checked (a2 g h == 0) (pos 0) h g _ good runs
+    (checked (not (is_writable (memory_of g) (a2 g h) 8)) bad_address h g _ good runs
+    (answer_started (pos 0) h g (with_stored (a2 g h) (replicate 8 0) g) refl refl good runs)))
+
+brk_started : (g : Guest) (h : ℕ) → IsOrderly g → is_running g h ≡ true → IsStarted g h (Calls.brk g h)
+unfolding Calls.brk
+brk_started g h good runs =
+    let space : Space = with_break (a0 g h) g.space in answer_started (pos space.regions.break) h g (record g { space = space }) refl refl good runs
+
+munmap_started : (g : Guest) (h : ℕ) → IsOrderly g → is_running g h ≡ true → IsStarted g h (Calls.munmap g h)
+unfolding Calls.munmap
+munmap_started g h good runs = of_space_started g h (unmap (a0 g h) (a1 g h) g.space) good runs
+
+mremap_started : (g : Guest) (h : ℕ) → IsOrderly g → is_running g h ≡ true → IsStarted g h (Calls.mremap g h)
+unfolding Calls.mremap
+mremap_started g h good runs = answer_started no_memory h g g refl refl good runs
+
+mmap_started : (g : Guest) (h : ℕ) → IsOrderly g → is_running g h ≡ true → IsStarted g h (Calls.mmap g h)
+unfolding Calls.mmap
+mmap_started g h good runs =
+    either (IsStarted g h) (is_mapping (a3 g h)) (of_space g h (map (a1 g h) (a2 g h) g.space)) (unsupported g h)
+    (of_space_started g h (map (a1 g h) (a2 g h) g.space) good runs) (unsupported_started g h good)
+
+mprotect_started : (g : Guest) (h : ℕ) → IsOrderly g → is_running g h ≡ true → IsStarted g h (Calls.mprotect g h)
+unfolding Calls.mprotect
+mprotect_started g h good runs = of_space_started g h (protect (a0 g h) (a1 g h) (a2 g h) g.space) good runs
+
+madvise_started : (g : Guest) (h : ℕ) → IsOrderly g → is_running g h ≡ true → IsStarted g h (Calls.madvise g h)
+unfolding Calls.madvise
+madvise_started g h good runs = answer_started invalid h g g refl refl good runs
+
+-- a call by its number
+abbrev Row : Type 0
+Row = Guest → ℕ → ℕ → Retirement Guest
+
+abbrev IsRow : Row → Type 0
+IsRow call = (g : Guest) (h v : ℕ) → IsOrderly g → is_running g h ≡ true → IsStarted g h (call g h v)
+
+abbrev AreRows : Map Row → Type 0
+AreRows [] = Unit {0}
+AreRows (e ∷ es) = IsRow e.1 × AreRows es
+
+abbrev IsRowIfSome : Option Row → Type 0
+IsRowIfSome None = Unit {0}
+IsRowIfSome (Some call) = IsRow call
+
+first_or : (b : Bool) (call : Row) (o : Option Row) → IsRow call → IsRowIfSome o → IsRowIfSome (elim b [ true ↦ Some call | false ↦ o ])
+first_or true call o row rows = row
+first_or false call o row rows = rows
+
+row_at : (m : Map Row) (n : ℕ) → AreRows m → IsRowIfSome (value_at m n)
+row_at [] n rows = tt
+row_at (e ∷ es) n rows = first_or (e.0 == n) e.1 (value_at es n) rows.0 (row_at es n rows.1)
+
+all_rows : AreRows calls
+all_rows =
+    ((λ g h v good runs. ioctl_started g h good runs), ((λ g h v good runs. lseek_started g h good runs), ((λ g h v good runs. read_started g h good runs), ((λ g h v good runs. write_started g h good runs), ((λ g h v good runs. readv_started g h good runs), ((λ g h v good runs. writev_started g h good runs), ((λ g h v good runs. exit_started g h good runs), ((λ g h v good runs. exit_group_started g h good runs), ((λ g h v good runs. set_tid_address_started g h good runs), ((λ g h v good runs. futex_started g h good runs), ((λ g h v good runs. sched_yield_started g h good runs), ((λ g h v good runs. rt_sigprocmask_started g h good runs), ((λ g h v good runs. getpid_started g h good runs), ((λ g h v good runs. gettid_started g h good runs), ((λ g h v good runs. brk_started g h good runs), ((λ g h v good runs. munmap_started g h good runs), ((λ g h v good runs. mremap_started g h good runs), ((λ g h v good runs. clone_started g h good runs), ((λ g h v good runs. mmap_started g h good runs), ((λ g h v good runs. mprotect_started g h good runs), ((λ g h v good runs. madvise_started g h good runs), tt)))))))))))))))))))))
+
+known_started : (o : Option Row) (g : Guest) (h v : ℕ) → IsRowIfSome o → IsOrderly g → is_running g h ≡ true → IsStarted g h (elim o [ None ↦ unsupported g h | Some call ↦ call g h v ])
+known_started None g h v row good runs = unsupported_started g h good
+known_started (Some call) g h v row good runs = row g h v good runs
+
+call_started : (g : Guest) (h v : ℕ) → IsOrderly g → is_running g h ≡ true → IsStarted g h (call_of g h v)
+unfolding call_of
+call_started g h v good runs = known_started (value_at calls (Calls.number g h)) g h v (row_at calls (Calls.number g h) all_rows) good runs
+
+-- a step
+executed_kept : (g : Guest) (h : ℕ) (s : Setting) → IsAsBefore g (with_setting h s g)
+executed_kept g h s =
+    let between : Guest = with_state h s.hart g in
+    later g between (with_setting h s g) (hart_kept g h _ refl) (same_harts between (with_setting h s g) refl refl)
+
+decoded_kept : (g : Guest) (h : ℕ) (o : Option Instr) → IsAsBefore g (elim o as (λ _. Stepped) [ None ↦ stepped g (Fault Illegal) | Some i ↦ stepped_by g h (execute h i (setting_of g h)) ]).guest
+decoded_kept g h None = unchanged g
+decoded_kept g h (Some i) = executed_kept g h (execute h i (setting_of g h)).setting
+
+fetched_kept : (g : Guest) (h : ℕ) (o : Option ℕ)
+    → IsAsBefore g (elim o as (λ _. Stepped) [ None ↦ stepped g (Fault Fetch) | Some w ↦ elim (instruction_of w) [ None ↦ stepped g (Fault Illegal) | Some i ↦ stepped_by g h (execute h i (setting_of g h)) ] ]).guest
+fetched_kept g h None = unchanged g
+fetched_kept g h (Some w) = decoded_kept g h (instruction_of w)
+
+step_kept : (g : Guest) (h : ℕ) → IsAsBefore g (step g h).guest
+unfolding step
+step_kept g h = fetched_kept g h (word_at g h)
+
+-- what follows a step, which leaves the guest as it is at a call
+follows_started : (g after : Guest) (h v : ℕ) (s : Step) → IsAsBefore g after → (s ≡ Call → after ≡ g) → IsOrderly g → is_running g h ≡ true → IsStarted g h (follows h v (stepped after s))
+follows_started g after h v Next kept same good runs = goes_started g h [] after (none_beside g h after kept good) runs
+follows_started g after h v Call kept same good runs = subst (λ (x : Guest). IsStarted g h (call_of x h v)) (sym (same refl)) (call_started g h v good runs)
+follows_started g after h v (Fault cause) kept same good runs = ends_started g h after _ (still_orderly g after kept good)
+
+pub retire_started : (g : Guest) (h v : ℕ) → IsOrderly g → is_running g h ≡ true → IsStarted g h (retire g h v)
+unfolding retire
+retire_started g h v good runs = follows_started g (step g h).guest h v (step g h).step (step_kept g h) (λ is. (step-call g h is).same) good runs

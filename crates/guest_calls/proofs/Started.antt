@@ -1,0 +1,162 @@
+-- Which harts run after a retirement of an orderly guest, and that the guest stays orderly.
+use Rattle.std.proofs.Common.{◌≡◌, ◌<◌, ◌≤◌, ℕ, ◌==◌, Bool, true, false, cond, if◌then◌else◌, List, [], ◌∷◌, length, IsNone, ℤ, refl, sym, ap, ◌∙◌, arith, eqb-true}
+use Rattle.std.proofs.lemmas.List.{length-set}
+use Rattle.coz_types.specs.declared.ending.Ending.{Ending}
+use Rattle.machines.specs.declared.Fate.{Fate}
+use Rattle.machines.specs.declared.Fate.TheVariants.{Goes, Ends}
+use Rattle.machines.specs.Guest.{Retirement, goes_on, started, own_ending}
+use Rattle.machines.specs.Places.{is_among, AllApart}
+use Rattle.rv_decode.specs.Fields.{twos}
+use Rattle.guest_areas.specs.Space.{Answered}
+use Rattle.guest_calls.specs.declared.hart.Hart.{Hart}
+use Rattle.guest_calls.specs.Answering.{with_result}
+use Rattle.guest_calls.specs.Guest.{Guest, hart_at, state_of, with_hart, with_state, is_running, is_running_status}
+use Rattle.guest_calls.specs.Calls.{retirement, answered, of_space, unsupported}
+use Rattle.guest_calls.specs.Orderly.{IsOrderly}
+use Rattle.guest_calls.proofs.Waiting.{status-set}
+use Rattle.guest_calls.proofs.RunningHarts.{status_at, made_running, waiting_same}
+
+-- what holds after a retirement of hart h: the harts that it starts run, and the others as before, but h itself
+pub record IsStarted (g : Guest) (h : ℕ) (r : Retirement Guest) : Type 0 where
+  pub orderly : IsOrderly r.guest
+  pub apart : AllApart (started h r)
+  pub running : IsNone (own_ending r.fate) → (k : ℕ) → is_running r.guest k ≡ (if is_among k (started h r) then true else if k == h then false else is_running g k)
+  -- those that it makes or wakes didn't run before
+  pub idle : (k : ℕ) → is_among k r.others ≡ true → is_running g k ≡ false
+
+-- each hart has the status that it had, and the same harts wait
+pub record IsAsBefore (g after : Guest) : Type 0 where
+  pub count : length after.harts ≡ length g.harts
+  pub waiters : after.waiters ≡ g.waiters
+  pub status : (k : ℕ) → status_at after.harts k ≡ status_at g.harts k
+
+-- beside the harts that ran, of which h is one, these others run, which didn't before
+pub record RunsBeside (g : Guest) (h : ℕ) (others : List ℕ) (after : Guest) : Type 0 where
+  pub orderly : IsOrderly after
+  pub apart : AllApart (h ∷ others)
+  pub running : (k : ℕ) → is_running after k ≡ (if is_among k others then true else is_running g k)
+  pub idle : (k : ℕ) → is_among k others ≡ true → is_running g k ≡ false
+
+-- a running hart is one of those that were made
+pub running_low : (g : Guest) (h : ℕ) → IsOrderly g → is_running g h ≡ true → (h < length g.harts) × (h < 256)
+running_low g h good runs =
+    let made : h < length g.harts = made_running g.harts h runs in
+    let few : length g.harts ≤ 256 = good.few in
+    (made, omega arith)
+
+pub either : {X : Type 0} (P : X → Type 0) (b : Bool) (x y : X) → P x → P y → P (cond b x y)
+either P true x y p q = p
+either P false x y p q = q
+
+pub same_harts : (g after : Guest) → after.harts ≡ g.harts → after.waiters ≡ g.waiters → IsAsBefore g after
+same_harts g after harts waiters = record {
+  count = ap (λ (hs : List Hart). length hs) harts;
+  waiters = waiters;
+  status = λ k. ap (λ (hs : List Hart). status_at hs k) harts;
+}
+
+pub later : (g between after : Guest) → IsAsBefore g between → IsAsBefore between after → IsAsBefore g after
+later g between after first second = record {
+  count = second.count ∙ first.count;
+  waiters = second.waiters ∙ first.waiters;
+  status = λ k. second.status k ∙ first.status k;
+}
+
+pub hart_kept : (g : Guest) (h : ℕ) (hart : Hart) → hart.status ≡ (hart_at g h).status → IsAsBefore g (with_hart h hart g)
+hart_kept g h hart e = record {
+  count = length-set g.harts h hart;
+  waiters = refl;
+  status = λ k. status-set g.harts h k hart e;
+}
+
+pub unchanged : (g : Guest) → IsAsBefore g g
+unchanged g = same_harts g g refl refl
+
+pub still_orderly : (g after : Guest) → IsAsBefore g after → IsOrderly g → IsOrderly after
+still_orderly g after kept good = record {
+  few = rw kept.count good.few;
+  waiting = rw kept.waiters (waiting_same g.harts after.harts g.waiters kept.status good.waiting);
+  apart = rw kept.waiters good.apart;
+}
+
+pub none_beside : (g : Guest) (h : ℕ) (after : Guest) → IsAsBefore g after → IsOrderly g → RunsBeside g h [] after
+none_beside g h after kept good = record {
+  orderly = still_orderly g after kept good;
+  apart = (refl, tt);
+  running = λ k. ap is_running_status (kept.status k);
+  idle = λ k among. absurd (let never : false ≡ true = among in cc);
+}
+
+pub beside_then : (g : Guest) (h : ℕ) (others : List ℕ) (after last : Guest) → RunsBeside g h others after → IsAsBefore after last → RunsBeside g h others last
+beside_then g h others after last beside kept = record {
+  orderly = still_orderly after last kept beside.orderly;
+  apart = beside.apart;
+  running = λ k. ap is_running_status (kept.status k) ∙ beside.running k;
+  idle = beside.idle;
+}
+
+-- the hart goes on
+goes_bit : (is other before : Bool) → (is ≡ true → before ≡ true) → (if other then true else before) ≡ (if (if is then true else other) then true else if is then false else before)
+goes_bit true true before runs = refl
+goes_bit true false before runs = runs refl
+goes_bit false true before runs = refl
+goes_bit false false before runs = refl
+
+pub goes_started : (g : Guest) (h : ℕ) (others : List ℕ) (after : Guest) → RunsBeside g h others after → is_running g h ≡ true → IsStarted g h (retirement after Goes others)
+goes_started g h others after beside runs = record {
+  orderly = beside.orderly;
+  apart = beside.apart;
+  running = λ none k. beside.running k ∙ goes_bit (k == h) (is_among k others) (is_running g k) (λ is. ap (is_running g) (eqb-true k h is) ∙ runs);
+  idle = beside.idle;
+}
+
+-- the run ends
+pub ends_started : (g : Guest) (h : ℕ) (after : Guest) (e : Ending) → IsOrderly after → IsStarted g h (retirement after (Ends e) [])
+ends_started g h after e good = record {
+  orderly = good;
+  apart = tt;
+  running = λ none k. absurd (let never : true ≡ false = none in cc);
+  idle = λ k among. absurd (let never : false ≡ true = among in cc);
+}
+
+-- the hart waits or leaves
+stops_bit : (is other before : Bool) → (is ≡ true → other ≡ false) → (if is then false else if other then true else before) ≡ (if other then true else if is then false else before)
+stops_bit true true before out = sym (out refl)
+stops_bit true false before out = refl
+stops_bit false other before out = refl
+
+pub stops_started : (g : Guest) (h : ℕ) (others : List ℕ) (after last : Guest) (fate : Fate) → goes_on fate ≡ false → RunsBeside g h others after → IsOrderly last
+    → ((k : ℕ) → is_running last k ≡ (if k == h then false else is_running after k)) → IsStarted g h (retirement last fate others)
+stops_started g h others after last fate stays beside orderly stops = record {
+  orderly = orderly;
+  apart = rw stays beside.apart.1;
+  running = λ none k. rw stays
+      (stops k
+      ∙ ap (λ (b : Bool). if k == h then false else b) (beside.running k)
+      ∙ stops_bit (k == h) (is_among k others) (is_running g k) (λ is. ap (λ (n : ℕ). is_among n others) (eqb-true k h is) ∙ beside.apart.0));
+  idle = beside.idle;
+}
+
+-- a call that is answered
+pub replied_started : (n h : ℕ) (g : Guest) (others : List ℕ) (after : Guest) → RunsBeside g h others after → is_running g h ≡ true
+    → IsStarted g h (retirement (with_state h (with_result n (state_of after h)) after) Goes others)
+replied_started n h g others after beside runs =
+    let last : Guest = with_state h (with_result n (state_of after h)) after in
+    goes_started g h others last (beside_then g h others after last beside (hart_kept after h _ refl)) runs
+
+pub kept_started : (z : ℤ) (h : ℕ) (g after : Guest) → IsAsBefore g after → IsOrderly g → is_running g h ≡ true → IsStarted g h (answered z h after)
+kept_started z h g after kept good runs = replied_started (twos 64 z) h g [] after (none_beside g h after kept good) runs
+
+pub answer_started : (z : ℤ) (h : ℕ) (g after : Guest) → after.harts ≡ g.harts → after.waiters ≡ g.waiters → IsOrderly g → is_running g h ≡ true → IsStarted g h (answered z h after)
+answer_started z h g after harts waiters good runs = kept_started z h g after (same_harts g after harts waiters) good runs
+
+-- each branch of a choice
+pub checked : (b : Bool) (z : ℤ) (h : ℕ) (g : Guest) (r : Retirement Guest) → IsOrderly g → is_running g h ≡ true → IsStarted g h r → IsStarted g h (if b then answered z h g else r)
+checked true z h g r good runs rest = answer_started z h g g refl refl good runs
+checked false z h g r good runs rest = rest
+
+pub of_space_started : (g : Guest) (h : ℕ) (a : Answered) → IsOrderly g → is_running g h ≡ true → IsStarted g h (of_space g h a)
+of_space_started g h a good runs = answer_started a.answer h g (record g { space = a.space }) refl refl good runs
+
+pub unsupported_started : (g : Guest) (h : ℕ) → IsOrderly g → IsStarted g h (unsupported g h)
+unsupported_started g h good = ends_started g h g _ good

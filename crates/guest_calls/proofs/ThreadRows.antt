@@ -1,0 +1,147 @@
+-- The calls by which harts are made, wait, are woken and leave.
+use Rattle.std.proofs.Common.{◌≡◌, ◌<◌, ℕ, ◌%◌, ◌^◌, ◌==◌, nat_le, Bool, true, false, not, ◌||◌, if◌then◌else◌, List, [], ◌∷◌, length, pos, refl, ◌∙◌, arith, replicate, length-append, leb-false, ne_eqb}
+use Rattle.std.specs.Int.{w32, to_le_bytes}
+use Rattle.std.proofs.lemmas.List.{length-set}
+use Rattle.coz_types.specs.declared.ending.Ending.{Ending}
+use Rattle.machines.specs.declared.Fate.TheVariants.{Waits, Leaves, Ends}
+use Rattle.machines.specs.Guest.{Retirement, goes_on}
+use Rattle.rv_decode.specs.Fields.{twos}
+use Rattle.guest_memory.specs.Memory.{is_readable, is_writable, number_at}
+use Rattle.guest_areas.specs.Answers.{try_again, bad_address, invalid}
+use Rattle.guest_areas.specs.Space.{has}
+use Rattle.guest_futex.specs.Waiters.{woken}
+use Rattle.guest_futex.specs.Apart.{AreOthers}
+use Rattle.guest_futex.proofs.WaitersLemmas.{apart-with_waiter, apart-left}
+use Rattle.guest_calls.specs.declared.hart.Hart.{Hart}
+use Rattle.guest_calls.specs.Guest.{Guest, with_hart, with_stored, is_running, is_over, memory_of, thread_id}
+use Rattle.guest_calls.specs.Calls
+use Rattle.guest_calls.specs.Calls.{retirement, answered, left_by, leave, unsupported, with_word, with_woken, clear_address, woken_at_exit, cleared, is_cleared, waiting_for, most_woken, woken_here, parent_set_tid, child_set_tid, child, with_child, with_parent_tid, with_child_tid, cloned, is_accepted, hart_limit, a0, a1, a2, a3, a4}
+use Rattle.guest_calls.specs.Orderly.{IsOrderly}
+use Rattle.guest_calls.proofs.Waiting.{others-running, waiting-elsewhere, waiting-append, waiting-with_waiter, waiting-woken, length-run_each}
+use Rattle.guest_calls.proofs.RunningHarts.{made_running, runs_here, runs_set, runs_append, next_idle, not_woken, apart_woken, woken_idle, runs_woken}
+use Rattle.guest_calls.proofs.Started.{IsStarted, IsAsBefore, RunsBeside, running_low, either, same_harts, later, unchanged, still_orderly, none_beside, beside_then, stops_started, replied_started, answer_started, checked, unsupported_started}
+
+-- waiters are woken
+woken_beside : (g : Guest) (h address count : ℕ) → IsOrderly g → is_running g h ≡ true → RunsBeside g h (woken address g.waiters count) (with_woken address count g)
+woken_beside g h address count good runs = record {
+  orderly = record {
+    few = rw (length-run_each (woken address g.waiters count) g.harts) good.few;
+    waiting = waiting-woken g.harts address g.waiters count good.apart good.waiting;
+    apart = apart-left address g.waiters count good.apart;
+  };
+  apart = (not_woken h address g.waiters count (others-running g.harts h g.waiters (runs_here g.harts h runs) good.waiting), apart_woken address g.waiters count good.apart);
+  running = λ k. runs_woken g.harts address g.waiters count k good.waiting;
+  idle = λ k among. woken_idle g.harts k address g.waiters count good.waiting among;
+}
+
+-- a running hart is no waiter, whatever becomes of it
+set_orderly : (g : Guest) (h : ℕ) (hart : Hart) → IsOrderly g → is_running g h ≡ true → IsOrderly (with_hart h hart g)
+set_orderly g h hart good runs = record {
+  few = rw (length-set g.harts h hart) good.few;
+  waiting = waiting-elsewhere g.harts h hart g.waiters (others-running g.harts h g.waiters (runs_here g.harts h runs) good.waiting) good.waiting;
+  apart = good.apart;
+}
+
+runs_still : (g : Guest) (h : ℕ) (others : List ℕ) (after : Guest) → RunsBeside g h others after → is_running g h ≡ true → is_running after h ≡ true
+runs_still g h others after beside runs = beside.running h ∙ rw beside.apart.0 runs
+
+never_goes : (over : Bool) (e : Ending) → goes_on (if over then Ends e else Leaves) ≡ false
+never_goes true e = refl
+never_goes false e = refl
+
+leave_started : (g : Guest) (h : ℕ) (others : List ℕ) (after : Guest) → RunsBeside g h others after → is_running g h ≡ true → IsStarted g h (leave h others after)
+leave_started g h others after beside runs =
+    let still : is_running after h ≡ true = runs_still g h others after beside runs in
+    stops_started g h others after (left_by h after) _ (never_goes (is_over (left_by h after)) _) beside (set_orderly after h _ beside.orderly still)
+    (λ k. runs_set after.harts h k _ (made_running after.harts h still))
+
+cleared_beside : (g : Guest) (h : ℕ) → IsOrderly g → is_running g h ≡ true → RunsBeside g h (woken_at_exit g h) (cleared g h)
+cleared_beside g h good runs =
+    let zeroed : Guest = with_stored (clear_address g h) (replicate 4 0) g in
+    let beside = woken_beside zeroed h (clear_address g h) 1 (still_orderly g zeroed (same_harts g zeroed refl refl) good) runs in
+    record { orderly = beside.orderly; apart = beside.apart; running = beside.running; idle = beside.idle }
+
+pub exit_started : (g : Guest) (h : ℕ) → IsOrderly g → is_running g h ≡ true → IsStarted g h (Calls.exit g h)
+unfolding Calls.exit
+exit_started g h good runs =
+    either (IsStarted g h) (is_cleared g h) (leave h (woken_at_exit g h) (cleared g h)) (leave h [] g)
+    (leave_started g h (woken_at_exit g h) (cleared g h) (cleared_beside g h good runs) runs)
+    (leave_started g h [] g (none_beside g h g (unchanged g) good) runs)
+
+waiting_orderly : (g : Guest) (h address : ℕ) → IsOrderly g → is_running g h ≡ true → IsOrderly (waiting_for g h address)
+waiting_orderly g h address good runs =
+    let others : AreOthers h g.waiters = others-running g.harts h g.waiters (runs_here g.harts h runs) good.waiting in
+    let low = running_low g h good runs in
+    record {
+      few = rw length-set good.few;
+      waiting = waiting-with_waiter g.harts h address _ g.waiters low.0 (runs_here g.harts h runs) refl good.waiting;
+      apart = apart-with_waiter address h g.waiters low.1 others good.apart;
+    }
+
+waits_started : (g : Guest) (h address : ℕ) → IsOrderly g → is_running g h ≡ true → IsStarted g h (retirement (waiting_for g h address) Waits [])
+waits_started g h address good runs =
+    stops_started g h [] g (waiting_for g h address) Waits refl (none_beside g h g (unchanged g) good) (waiting_orderly g h address good runs)
+    (λ k. runs_set g.harts h k _ (made_running g.harts h runs))
+
+wait_started : (g : Guest) (h : ℕ) → IsOrderly g → is_running g h ≡ true → IsStarted g h (Calls.wait g h)
+unfolding Calls.wait
+wait_started g h good runs =
+    either (IsStarted g h) (not (a3 g h == 0)) (unsupported g h) _ (unsupported_started g h good)
+    (checked (not (a0 g h % 4 == 0)) invalid h g _ good runs
+    (checked (not (is_readable (memory_of g) (a0 g h) 4)) bad_address h g _ good runs
+    (checked (not (number_at (memory_of g) (a0 g h) 4 == a2 g h % 2 ^ 32)) try_again h g _ good runs
+    (waits_started g h (a0 g h) good runs))))
+
+wake_started : (g : Guest) (h : ℕ) → IsOrderly g → is_running g h ≡ true → IsStarted g h (Calls.wake g h)
+unfolding Calls.wake
+wake_started g h good runs =
+    checked (not (a0 g h % 4 == 0)) invalid h g _ good runs
+    (replied_started (twos 64 (pos (length (woken_here g h)))) h g (woken_here g h) (with_woken (a0 g h) (most_woken g h) g) (woken_beside g h (a0 g h) (most_woken g h) good runs) runs)
+
+pub futex_started : (g : Guest) (h : ℕ) → IsOrderly g → is_running g h ≡ true → IsStarted g h (Calls.futex g h)
+unfolding Calls.futex
+futex_started g h good runs =
+    either (IsStarted g h) (a1 g h == 0 || a1 g h == 128) (Calls.wait g h) _ (wait_started g h good runs)
+    (either (IsStarted g h) (a1 g h == 1 || a1 g h == 129) (Calls.wake g h) (unsupported g h) (wake_started g h good runs) (unsupported_started g h good))
+
+-- a hart is made
+word_kept : (address n : ℕ) (g : Guest) → IsAsBefore g (with_word address n g)
+word_kept address n g =
+    let stored : Guest = with_stored address (to_le_bytes w32 n) g in
+    either (IsAsBefore g) (is_writable (memory_of g) address 4) stored g (same_harts g stored refl refl) (unchanged g)
+
+parent_kept : (g : Guest) (h : ℕ) (changed : Guest) → IsAsBefore changed (with_parent_tid g h changed)
+parent_kept g h changed =
+    either (IsAsBefore changed) (has (a0 g h) parent_set_tid) (with_word (a2 g h) (thread_id (child g h)) changed) changed (word_kept (a2 g h) (thread_id (child g h)) changed) (unchanged changed)
+
+child_kept : (g : Guest) (h : ℕ) (changed : Guest) → IsAsBefore changed (with_child_tid g h changed)
+child_kept g h changed =
+    either (IsAsBefore changed) (has (a0 g h) child_set_tid) (with_word (a4 g h) (thread_id (child g h)) changed) changed (word_kept (a4 g h) (thread_id (child g h)) changed) (unchanged changed)
+
+child_beside : (g : Guest) (h : ℕ) → IsOrderly g → is_running g h ≡ true → length g.harts < 256 → RunsBeside g h (child g h ∷ []) (with_child g h)
+child_beside g h good runs room =
+    let made : h < length g.harts = made_running g.harts h runs in
+    record {
+      orderly = record { few = rw length-append (omega arith); waiting = waiting-append g.harts _ g.waiters good.waiting; apart = good.apart };
+      apart = (rw (ne_eqb h (length g.harts) (omega arith)) refl, (refl, tt));
+      running = λ k. runs_append g.harts _ k refl;
+      idle = λ k among. next_idle g.harts k among;
+    }
+
+cloned_beside : (g : Guest) (h : ℕ) → IsOrderly g → is_running g h ≡ true → length g.harts < 256 → RunsBeside g h (child g h ∷ []) (cloned g h)
+cloned_beside g h good runs room =
+    let told : Guest = with_parent_tid g h (with_child g h) in
+    beside_then g h (child g h ∷ []) (with_child g h) (cloned g h) (child_beside g h good runs room)
+    (later (with_child g h) told (cloned g h) (parent_kept g h (with_child g h)) (child_kept g h told))
+
+with_room : (full : Bool) (g : Guest) (h : ℕ) (r : Retirement Guest) → nat_le hart_limit (length g.harts) ≡ full → IsOrderly g → is_running g h ≡ true → (length g.harts < 256 → IsStarted g h r)
+    → IsStarted g h (if full then answered try_again h g else r)
+with_room true g h r e good runs rest = answer_started try_again h g g refl refl good runs
+with_room false g h r e good runs rest = rest (leb-false 256 (length g.harts) e)
+
+pub clone_started : (g : Guest) (h : ℕ) → IsOrderly g → is_running g h ≡ true → IsStarted g h (Calls.clone g h)
+unfolding Calls.clone
+clone_started g h good runs =
+    either (IsStarted g h) (not (is_accepted (a0 g h))) (unsupported g h) _ (unsupported_started g h good)
+    (with_room (nat_le hart_limit (length g.harts)) g h _ refl good runs
+    (λ room. replied_started (twos 64 (pos (thread_id (child g h)))) h g (child g h ∷ []) (cloned g h) (cloned_beside g h good runs room) runs))
