@@ -46,12 +46,12 @@ right_before (suc b) x cs = value_at b x cs
 abbrev pub StartsAt : ℕ → ℕ → Option ℕ → List Change → Type 0
 StartsAt k a x cs = (is_at k (value_at a x cs) ≡ true) × (is_at k (right_before a x cs) ≡ false)
 
-both_parts : (p q : Bool) → (p && not q) ≡ true → (p ≡ true) × (q ≡ false)
+pub both_parts : (p q : Bool) → (p && not q) ≡ true → (p ≡ true) × (q ≡ false)
 both_parts true false e = (refl, refl)
 both_parts true true e = let no : ⊥ = cc in absurd no
 both_parts false q e = let no : ⊥ = cc in absurd no
 
-parts_both : (p q : Bool) → p ≡ true → q ≡ false → (p && not q) ≡ true
+pub parts_both : (p q : Bool) → p ≡ true → q ≡ false → (p && not q) ≡ true
 parts_both true false e f = refl
 parts_both true true e f = let no : ⊥ = cc in absurd no
 parts_both false q e f = let no : ⊥ = cc in absurd no

@@ -5,6 +5,7 @@ use Rattle.coz_types.specs.declared.image.Area.{Area}
 use Rattle.dwarf_lines.specs.declared.Row.{Row}
 use Rattle.dwarf_lines.specs.Registers.{File, Table}
 use Rattle.line_index.specs.Lines.{Line, line_of, label, found, path}
+use Rattle.line_index.specs.Listed.{lines_in, entries_in, position_in}
 
 abbrev code : Area
 code = record { start = 0x10000; size = 4096; rights = record { read = true; write = false; execute = true }; vaddr = 0x10000; offset = 0; filled = 100 }
@@ -15,8 +16,11 @@ storage = record { start = 0x11000; size = 4096; rights = record { read = true; 
 abbrev a_s : File
 a_s = record { directory = []; name = 97 ∷ 46 ∷ 115 ∷ [] }
 
+abbrev one : ℕ → Line
+one number = record { path = 97 ∷ 46 ∷ 115 ∷ []; number = number }
+
 abbrev line : ℕ → Option Line
-line number = Some (record { path = 97 ∷ 46 ∷ 115 ∷ []; number = number })
+line number = Some (one number)
 
 abbrev row : ℕ → ℕ → Option ℕ → ℕ → Row
 row sequence address file number = record { sequence = sequence; address = address; file = file; line = number; column = 0; is_stmt = true; ends = false }
@@ -37,10 +41,26 @@ unfolding line_of
 lines_of_three = refl
 
 -- where two sequences overlap, the first row in file order has the address
-overlapping : map (line_of (table (a_s ∷ []) (row 0 0x10004 (Some 0) 1 ∷ row 1 0x10000 (Some 0) 2 ∷ last 0 0x10008 ∷ last 1 0x1000C ∷ [])) (code ∷ [])) (0x10000 ∷ 0x10003 ∷ 0x10004 ∷ 0x10007 ∷ 0x10008 ∷ 0x1000B ∷ [])
+abbrev two : Table
+two = table (a_s ∷ []) (row 0 0x10004 (Some 0) 1 ∷ row 1 0x10000 (Some 0) 2 ∷ last 0 0x10008 ∷ last 1 0x1000C ∷ [])
+
+overlapping : map (line_of two (code ∷ [])) (0x10000 ∷ 0x10003 ∷ 0x10004 ∷ 0x10007 ∷ 0x10008 ∷ 0x1000B ∷ [])
     ≡ line 2 ∷ line 2 ∷ line 1 ∷ line 1 ∷ line 2 ∷ line 2 ∷ []
 unfolding line_of
 overlapping = refl
+
+-- the lines in order, where each begins, and the positions of the lines of addresses
+lines_of_two : lines_in two (code ∷ []) ≡ one 1 ∷ one 2 ∷ []
+unfolding lines_in line_of
+lines_of_two = refl
+
+entries_of_two : map (entries_in two (code ∷ [])) (one 1 ∷ one 2 ∷ one 3 ∷ []) ≡ (0x10004 ∷ []) ∷ (0x10000 ∷ 0x10008 ∷ []) ∷ [] ∷ []
+unfolding entries_in line_of
+entries_of_two = refl
+
+positions_of_two : map (position_in two (code ∷ [])) (0x10003 ∷ 0x10004 ∷ 0x10008 ∷ 0x1000C ∷ []) ≡ Some 1 ∷ Some 0 ∷ Some 1 ∷ None ∷ []
+unfolding position_in lines_in line_of
+positions_of_two = refl
 
 -- a row whose next address is not greater covers nothing
 going_back : map (line_of (table (a_s ∷ []) (row 0 0x10008 (Some 0) 1 ∷ row 0 0x10004 (Some 0) 2 ∷ last 0 0x1000C ∷ [])) (code ∷ [])) (0x10003 ∷ 0x10004 ∷ 0x10008 ∷ 0x1000B ∷ 0x1000C ∷ [])

@@ -12,3 +12,7 @@ pub mod Found
 pub mod Names
 pub mod Areas
 pub mod Building
+pub mod Ordered
+pub mod Bounds
+pub mod Listed
+pub mod Few

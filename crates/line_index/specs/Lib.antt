@@ -3,4 +3,5 @@ pub mod Lines
 pub mod Spans
 pub mod Keys
 pub mod Index
+pub mod Listed
 pub mod View

@@ -1,9 +1,8 @@
 //! Lines by name.
 
-ghost use Rattle.std.specs.Prelude.{◌≡◌, ◌+◌, ◌<◌, ◌^◌, length, map, position};
-ghost use Rattle.line_index.specs.declared.lines.Key.{Key};
-ghost use Rattle.line_index.specs.Lines.{is_line, ends_with, is_line_below, found};
-ghost use Rattle.line_index.specs.Keys.{texts};
+ghost use Rattle.std.specs.Prelude.{◌≡◌, ◌+◌, ◌<◌, ◌^◌, length, map};
+ghost use Rattle.line_index.specs.Lines.{ends_with, found};
+ghost use Rattle.line_index.specs.Keys.{texts, line_fit};
 ghost use Rattle.line_index.specs.Index.{line_at};
 
 use crate::labels::path_of;
@@ -20,19 +19,31 @@ fn ends_with(path: &[u8], text: &[u8]) -> bool
     }
 }
 
-/// The first line of this path and number.
-fn line_of_path(paths: &[Vec<u8>], keys: &[Key], path: &[u8], number: u32) -> Option<usize>
-    ensures { result ≡ position (λ (key : Key). is_line path.now number (line_at (texts paths.now) key)) keys.now }
-{
-    keys.iter()
-        .position(|key| key.number == number && path_of(paths, *key) == path)
+/// How a line meets the path and the number that are looked for.
+#[derive(Clone, Copy, Debug, PartialEq, Eq)]
+enum Fit {
+    /// Its path is that path.
+    Whole,
+    /// Its path ends with a slash and that path.
+    Ending,
+    Other,
 }
 
-/// The first line of this number whose path ends with a slash and the text.
-fn line_below(paths: &[Vec<u8>], keys: &[Key], text: &[u8], number: u32) -> Option<usize>
-    ensures { result ≡ position (λ (key : Key). is_line_below text.now number (line_at (texts paths.now) key)) keys.now }
+/// Reads a path's bytes at most once, since a path that ends so is longer than the text.
+fn line_fit(paths: &[Vec<u8>], key: Key, text: &[u8], number: u32) -> Fit
+    ensures { result ≡ line_fit text.now number (line_at (texts paths.now) key) }
 {
-    keys.iter().position(|key| key.number == number && ends_with(path_of(paths, *key), text))
+    if key.number != number {
+        return Fit::Other;
+    }
+    let path = path_of(paths, key);
+    if path == text {
+        Fit::Whole
+    } else if ends_with(path, text) {
+        Fit::Ending
+    } else {
+        Fit::Other
+    }
 }
 
 /// The line of this path and number, else the first whose path ends with a slash and the text.
@@ -40,11 +51,13 @@ pub fn find(paths: &[Vec<u8>], keys: &[Key], path: &[u8], number: u32) -> Option
     requires { length keys.now < 2 ^ 32 }
     ensures { result ≡ found path.now number (map (line_at (texts paths.now)) keys.now) }
 {
-    match line_of_path(paths, keys, path, number) {
-        Some(place) => Some(place as u32),
-        None => {
-            let place = line_below(paths, keys, path, number)?;
-            Some(place as u32)
+    let mut ending = None;
+    for (place, key) in keys.iter().enumerate() {
+        match line_fit(paths, *key, path, number) {
+            Fit::Whole => return Some(place as u32),
+            Fit::Ending => ending = ending.or(Some(place as u32)),
+            Fit::Other => {}
         }
     }
+    ending
 }

@@ -50,12 +50,24 @@ fn row(sequence: u32, address: u64, file: u32, line: u32) -> Row {
     }
 }
 
-fn index_of(alloc: Global, rows: &[Row]) -> Result<LineIndex, AllocError>
-    requires { length rows.now ≤ 100 }
+const fn file(name: &'static [u8]) -> FileName<'static> {
+    FileName {
+        directory: b"",
+        name,
+    }
+}
+
+fn index_of(
+    alloc: Global,
+    files: &[FileName<'static>],
+    rows: &[Row],
+) -> Result<LineIndex, AllocError>
+    requires few_files { length files.now ≤ 100 }
+    requires few_rows { length rows.now ≤ 100 }
 {
     let image = Image::new(b"code", vec![in alloc; CODE]?, 0x10000, 0, 0);
     let table = LineTable {
-        files: Items::new(Vec::from_slice(alloc, &FILES)?),
+        files: Items::new(Vec::from_slice(alloc, files)?),
         rows: Items::new(Vec::from_slice(alloc, rows)?),
         skipped: 0,
     };
@@ -69,6 +81,13 @@ fn are_lines(index: &LineIndex, lines: &[(Address, Option<LineId>)]) -> bool {
         .all(|(address, line)| index.line_of(*address) == *line)
 }
 
+/// Whether the line that is found for each path and number is the one beside them.
+fn are_found(index: &LineIndex, names: &[(&[u8], u32, Option<LineId>)]) -> bool {
+    names
+        .iter()
+        .all(|(path, number, line)| index.find(*path, *number) == *line)
+}
+
 #[test]
 fn the_first_row_in_file_order_has_the_address(rt: HostRuntime) -> Result<(), Fail> {
     let rows = [
@@ -77,7 +96,7 @@ fn the_first_row_in_file_order_has_the_address(rt: HostRuntime) -> Result<(), Fa
         row(1, 0x10000, 0, 2),
         row(1, 0x1000C, 0, 2),
     ];
-    let index = index_of(rt.alloc(), &rows)?;
+    let index = index_of(rt.alloc(), &FILES, &rows)?;
     let lines = [
         (0x10003, Some(LineId(1))),
         (0x10004, Some(LineId(0))),
@@ -101,7 +120,7 @@ fn two_entries_with_one_path_are_one_file(rt: HostRuntime) -> Result<(), Fail> {
         row(0, 0x10014, 0, 9),
         row(0, 0x20000, 0, 9),
     ];
-    let index = index_of(rt.alloc(), &rows)?;
+    let index = index_of(rt.alloc(), &FILES, &rows)?;
     let lines = [
         (0x10007, Some(LineId(1))),
         (0x10008, None),
@@ -117,5 +136,84 @@ fn two_entries_with_one_path_are_one_file(rt: HostRuntime) -> Result<(), Fail> {
         index.label(LineId(1)).bytes(),
         b"d/a%2C%20b%25.s:7".as_slice()
     );
+    Ok(())
+}
+
+#[test]
+fn a_row_covers_nothing_unless_the_next_address_is_greater(rt: HostRuntime) -> Result<(), Fail> {
+    let rows = [
+        row(0, 0x10008, 0, 1),
+        row(0, 0x10008, 0, 2),
+        row(0, 0x10004, 0, 3),
+        row(0, 0x10010, 0, 4),
+    ];
+    let index = index_of(rt.alloc(), &FILES, &rows)?;
+    let lines = [
+        (0x10003, None),
+        (0x10004, Some(LineId(0))),
+        (0x10008, Some(LineId(0))),
+        (0x1000F, Some(LineId(0))),
+        (0x10010, None),
+    ];
+    assert!(rt; are_lines(&index, &lines));
+    assert_eq!(rt; index.count(), 1);
+    assert_eq!(rt; index.entries(LineId(0)), [0x10004u64].as_slice());
+    Ok(())
+}
+
+#[test]
+fn a_whole_path_is_found_before_an_ending(rt: HostRuntime) -> Result<(), Fail> {
+    let files = [
+        file(b"c/b.s"),
+        file(b"b.s"),
+        file(b"a/b.s"),
+        file(b"xb.s"),
+        file(b"/b.s"),
+    ];
+    let rows = [
+        row(0, 0x10000, 0, 9),
+        row(0, 0x10004, 0, 7),
+        row(0, 0x10008, 1, 7),
+        row(0, 0x1000C, 2, 7),
+        row(0, 0x10010, 3, 9),
+        row(0, 0x10014, 4, 11),
+        row(0, 0x10018, 0, 1),
+    ];
+    let index = index_of(rt.alloc(), &files, &rows)?;
+    let names = [
+        (b"b.s".as_slice(), 7, Some(LineId(2))),
+        (b"b.s".as_slice(), 9, Some(LineId(4))),
+        (b"b.s".as_slice(), 11, Some(LineId(0))),
+        (b"/b.s".as_slice(), 11, Some(LineId(0))),
+        (b"a/b.s".as_slice(), 7, Some(LineId(1))),
+        (b"/b.s".as_slice(), 7, None),
+        (b"b.s".as_slice(), 1, None),
+        (b".s".as_slice(), 7, None),
+        (b"".as_slice(), 7, None),
+    ];
+    assert!(rt; are_found(&index, &names));
+    assert_eq!(rt; index.count(), 6);
+    Ok(())
+}
+
+#[test]
+fn labels_are_escaped_and_in_order(rt: HostRuntime) -> Result<(), Fail> {
+    let files = [file(b" %,\x7F~!\xFF"), file(b"b")];
+    let rows = [
+        row(0, 0x10000, 1, 1),
+        row(0, 0x10004, 0, 10),
+        row(0, 0x10008, 0, 9),
+        row(0, 0x1000C, 0, 1),
+    ];
+    let index = index_of(rt.alloc(), &files, &rows)?;
+    let labels = [
+        b"%20%25%2C%7F~!%FF:9".as_slice(),
+        b"%20%25%2C%7F~!%FF:10",
+        b"b:1",
+    ];
+    assert_eq!(rt; index.count(), 3);
+    for (place, label) in labels.iter().enumerate() {
+        assert_eq!(rt; index.label(LineId(place as u32)).bytes(), *label);
+    }
     Ok(())
 }

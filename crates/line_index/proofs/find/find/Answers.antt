@@ -1,13 +1,21 @@
-use Rattle.std.proofs.Common.{None, ◌∙◌, sym}
+use Rattle.std.proofs.Common.{sym, ◌∙◌, arith}
 use Rattle.line_index.specs.Keys.{texts}
-use Rattle.line_index.proofs.Names.{found_itself, found_below}
+use Rattle.line_index.proofs.Names.{found_starts, found_whole, found_ending, found_other, found_end}
 use Rattle.line_index.proofs.find.find.Goals as goal
+use Rattle.line_index.proofs.find.find.Goals.{in-Ending, in-Other}
 
-pub returns-in-Some : goal.returns-in-Some
-returns-in-Some c = found_itself c.args.path.now c.args.number (texts c.args.paths.now) c.args.keys.now c.in-Some.place (sym c.line_of_path.ensures ∙ c.in-Some.is)
+pub loop-place-init : goal.loop-place-init
+loop-place-init c = found_starts c.args.path.now c.args.number (texts c.args.paths.now) c.args.keys.now
 
-pub returns-in_ok-place-in-None : goal.returns-in_ok-place-in-None
-returns-in_ok-place-in-None c = found_below c.args.path.now c.args.number (texts c.args.paths.now) c.args.keys.now _ (sym c.line_of_path.ensures ∙ c.in-None.is) (sym c.line_below.ensures ∙ c.in_ok-place-in-None.was)
+pub returns-in-Whole : goal.returns-in-Whole
+returns-in-Whole c = sym (c.loop-place.invariant ∙ found_whole c.args.path.now c.args.number (texts c.args.paths.now) c.args.keys.now c.loop-place.ending c.loop-place.place _ c.loop-place-test.true (sym c.line_fit.ensures ∙ c.in-Whole.is))
 
-pub returns-in_err-place-in-None : goal.returns-in_err-place-in-None
-returns-in_err-place-in-None c = c.from_residual.ensures ∙ found_below c.args.path.now c.args.number (texts c.args.paths.now) c.args.keys.now None (sym c.line_of_path.ensures ∙ c.in-None.is) (sym c.line_below.ensures ∙ c.in_err-place-in-None.was)
+pub loop-place-preserved : goal.loop-place-preserved
+loop-place-preserved c =
+    elim c.match-line_fit.branch [
+      | in-Ending w ↦ c.loop-place.invariant ∙ found_ending c.args.path.now c.args.number (texts c.args.paths.now) c.args.keys.now c.loop-place.ending c.match-line_fit.ending c.loop-place.place _ c.loop-place-test.true (sym c.line_fit.ensures ∙ w.in-Ending.is) (w.ending-is ∙ w.or-ending.ensures)
+      | in-Other w ↦ c.loop-place.invariant ∙ found_other c.args.path.now c.args.number (texts c.args.paths.now) c.args.keys.now c.loop-place.ending c.match-line_fit.ending c.loop-place.place _ c.loop-place-test.true (sym c.line_fit.ensures ∙ w.in-Other.is) w.ending-is
+    ]
+
+pub returns : goal.returns
+returns c = sym (c.loop-place.invariant ∙ found_end c.args.path.now c.args.number (texts c.args.paths.now) c.args.keys.now c.loop-place.ending c.loop-place.place (omega arith))
