@@ -7,20 +7,24 @@ use Rattle.std.proofs.lemmas.Slice.Eq.{bytes_eq-Decides}
 use Rattle.run_words.specs.Said.{Text, Item}
 use Rattle.run_words.specs.Request.{Asked, Requests, asked, are_items_of, belongs, command_name, option_names, is_word}
 use Rattle.run_words.specs.declared.command.Command.{Command}
-use Rattle.run_words.specs.declared.command.Command.TheVariants.{Run, Asm}
+use Rattle.run_words.specs.declared.command.Command.TheVariants.{Run, Really, Lines, Asm}
 use Rattle.run_words.specs.Slow.{commands, command_of, items_in, request_in}
 use Rattle.run_words.proofs.Bools.{both_true}
 use Rattle.run_words.proofs.Meaning.{is_name, said_back, said_forth, are_names_of}
 
 are_names : (c : Command) → list_all is_name (option_names c) ≡ true
 are_names Run = refl
+are_names Really = refl
+are_names Lines = refl
 are_names Asm = refl
 
 named_is : (c : Command) → command_of (command_name c) ≡ Some c
 named_is Run = refl
+named_is Really = refl
+named_is Lines = refl
 named_is Asm = refl
 
-find_passes : {A : Type 0} (p : A → Bool) (xs : List A) (x : A) → find p xs ≡ Some x → p x ≡ true
+pub find_passes : {A : Type 0} (p : A → Bool) (xs : List A) (x : A) → find p xs ≡ Some x → p x ≡ true
 find_passes p [] x e = absurd cc
 find_passes p (y ∷ xs) x e = by (find_passes p xs x) (p y) refl
   where

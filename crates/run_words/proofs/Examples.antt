@@ -1,12 +1,13 @@
 -- Word lists and their requests, computed.
 use Rattle.std.proofs.Common.{◌≡◌, List, [], ◌∷◌, codes, Option, Some, None, refl}
 use Rattle.run_words.specs.Said.{Text}
-use Rattle.run_words.specs.declared.command.Command.TheVariants.{Run, Asm}
+use Rattle.run_words.specs.declared.command.Command.TheVariants.{Run, Really, Lines, Asm}
 use Rattle.run_words.specs.Request.{Asked, asked}
+use Rattle.run_words.specs.Values.{is_line, line_parts, pieces}
 use Rattle.run_words.specs.Slow.{request_in, items_in}
 
 abbrev run_one : Asked
-run_one = record { command = Run; target = codes "one"; input = None; budget = 100000000 }
+run_one = record { command = Run; target = codes "one"; input = None; line = None; speedup = 0; progress = None; budget = 100000000 }
 
 plain : request_in (codes "run" ∷ codes "one" ∷ []) ≡ Some run_one
 unfolding items_in asked
@@ -44,9 +45,57 @@ zeros : request_in (codes "run" ∷ codes "one" ∷ codes "--budget" ∷ codes "
 unfolding items_in asked
 zeros = refl
 
-asm_one : request_in (codes "asm" ∷ codes "one.s" ∷ codes "--" ∷ []) ≡ Some (record { command = Asm; target = codes "one.s"; input = None; budget = 0 })
+asm_one : request_in (codes "asm" ∷ codes "one.s" ∷ codes "--" ∷ []) ≡ Some (record { command = Asm; target = codes "one.s"; input = None; line = None; speedup = 0; progress = None; budget = 0 })
 unfolding items_in asked
 asm_one = refl
+
+lines_one : request_in (codes "lines" ∷ codes "one" ∷ []) ≡ Some (record { command = Lines; target = codes "one"; input = None; line = None; speedup = 0; progress = None; budget = 0 })
+unfolding items_in asked
+lines_one = refl
+
+-- ---- lines
+
+with_line : request_in (codes "run" ∷ codes "one" ∷ codes "--line" ∷ codes "one.s:3" ∷ codes "--speedup" ∷ codes "95" ∷ []) ≡ Some (record run_one { line = Some (codes "one.s:3"); speedup = 95 })
+unfolding items_in asked is_line
+with_line = refl
+
+no_speedup : request_in (codes "run" ∷ codes "one" ∷ codes "--line" ∷ codes "one.s:3" ∷ []) ≡ Some (record run_one { line = Some (codes "one.s:3") })
+unfolding items_in asked is_line
+no_speedup = refl
+
+colons : request_in (codes "run" ∷ codes "one" ∷ codes "--line=a:b:3" ∷ []) ≡ Some (record run_one { line = Some (codes "a:b:3") })
+unfolding items_in asked is_line
+colons = refl
+
+last_colon : line_parts (codes "a:b:3") ≡ (codes "a:b", 3)
+unfolding line_parts
+last_colon = refl
+
+greatest_line : request_in (codes "run" ∷ codes "one" ∷ codes "--line" ∷ codes "a:4294967295" ∷ []) ≡ Some (record run_one { line = Some (codes "a:4294967295") })
+unfolding items_in asked is_line
+greatest_line = refl
+
+two_lines : request_in (codes "run" ∷ codes "one" ∷ codes "--progress" ∷ codes "a:1,b:2" ∷ []) ≡ Some (record run_one { progress = Some (codes "a:1,b:2") })
+unfolding items_in asked is_line pieces
+two_lines = refl
+
+two_pieces : pieces (codes "a:1,b:2") ≡ codes "a:1" ∷ codes "b:2" ∷ []
+unfolding pieces
+two_pieces = refl
+
+really_all : request_in
+    (codes "really"
+    ∷ codes "--progress=b:2"
+    ∷ codes "--line"
+    ∷ codes "a:1"
+    ∷ codes "one"
+    ∷ codes "--speedup=007"
+    ∷ codes "--budget"
+    ∷ codes "9"
+    ∷ codes "--input=data"
+    ∷ []) ≡ Some (record { command = Really; target = codes "one"; input = Some (codes "data"); line = Some (codes "a:1"); speedup = 7; progress = Some (codes "b:2"); budget = 9 })
+unfolding items_in asked is_line pieces
+really_all = refl
 
 -- ---- word lists with no request
 
@@ -79,6 +128,25 @@ none_of =
     ∷ (codes "run" ∷ codes "one" ∷ codes "--help" ∷ [])
     ∷ (codes "run" ∷ codes "one" ∷ codes "-h" ∷ [])
     ∷ (codes "sing" ∷ codes "one" ∷ [])
+    ∷ (codes "run" ∷ codes "one" ∷ codes "--line" ∷ codes "a:1" ∷ codes "--speedup" ∷ codes "96" ∷ [])
+    ∷ (codes "run" ∷ codes "one" ∷ codes "--line" ∷ codes "a:1" ∷ codes "--speedup" ∷ codes "100" ∷ [])
+    ∷ (codes "run" ∷ codes "one" ∷ codes "--line" ∷ codes "a:1" ∷ codes "--speedup=-1" ∷ [])
+    ∷ (codes "run" ∷ codes "one" ∷ codes "--line" ∷ codes "a:1" ∷ codes "--speedup" ∷ codes "-1" ∷ [])
+    ∷ (codes "run" ∷ codes "one" ∷ codes "--speedup" ∷ codes "0" ∷ [])
+    ∷ (codes "run" ∷ codes "one" ∷ codes "--line" ∷ codes "a:1" ∷ codes "--line" ∷ codes "a:1" ∷ [])
+    ∷ (codes "run" ∷ codes "one" ∷ codes "--line" ∷ codes ":3" ∷ [])
+    ∷ (codes "run" ∷ codes "one" ∷ codes "--line" ∷ codes "3" ∷ [])
+    ∷ (codes "run" ∷ codes "one" ∷ codes "--line" ∷ codes "a:" ∷ [])
+    ∷ (codes "run" ∷ codes "one" ∷ codes "--line" ∷ codes "a,b:3" ∷ [])
+    ∷ (codes "run" ∷ codes "one" ∷ codes "--line" ∷ codes "a:0" ∷ [])
+    ∷ (codes "run" ∷ codes "one" ∷ codes "--line" ∷ codes "a:4294967296" ∷ [])
+    ∷ (codes "run" ∷ codes "one" ∷ codes "--progress" ∷ codes "a:1," ∷ [])
+    ∷ (codes "run" ∷ codes "one" ∷ codes "--progress" ∷ codes ",a:1" ∷ [])
+    ∷ (codes "run" ∷ codes "one" ∷ codes "--progress" ∷ codes "a:1,,b:2" ∷ [])
+    ∷ (codes "really" ∷ [])
+    ∷ (codes "lines" ∷ [])
+    ∷ (codes "lines" ∷ codes "one" ∷ codes "--budget" ∷ codes "3" ∷ [])
+    ∷ (codes "lines" ∷ codes "one" ∷ codes "--line" ∷ codes "a:1" ∷ [])
     ∷ (codes "asm" ∷ [])
     ∷ (codes "asm" ∷ codes "one.s" ∷ codes "--budget" ∷ codes "3" ∷ [])
     ∷ (codes "asm" ∷ codes "one.s" ∷ codes "--input=data" ∷ [])
@@ -93,5 +161,5 @@ nothings [] = []
 nothings (x ∷ xs) = None ∷ nothings xs
 
 refused : requests_of none_of ≡ nothings none_of
-unfolding items_in asked
+unfolding items_in asked is_line pieces
 refused = refl

@@ -7,6 +7,8 @@ pub mod Passing
 pub mod Exact
 pub mod Fit
 pub mod Gather
+pub mod Names
+pub mod Parts
 pub mod Items
 pub mod Comes
 pub mod Answer

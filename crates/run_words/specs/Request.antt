@@ -1,33 +1,49 @@
 -- The request of a command line.
-use Rattle.std.specs.Prelude.{◌≡◌, ℕ, Bool, not, ◌&&◌, ◌==◌, nat_lt, nat_le, true, false, List, [], ◌∷◌, length, codes, Option, Some, None, if◌then◌else◌, option_and_then, find}
+use Rattle.std.specs.Prelude.{◌≡◌, ℕ, ◌≤◌, ◌^◌, Bool, not, ◌&&◌, ◌==◌, nat_lt, nat_le, true, false, List, [], ◌∷◌, length, codes, Option, Some, None, IfSome, if◌then◌else◌, option_and_then, find}
 use Rattle.std.specs.List.{list_all, list_any}
 use Rattle.std.specs.Str.{bytes_eq}
 use Rattle.run_words.specs.Said.{Text, Item, option, target, SaysAll}
-use Rattle.run_words.specs.Values.{number_in}
+use Rattle.run_words.specs.Values.{number_in, is_line, is_list}
 use Rattle.run_words.specs.declared.command.Command.{Command}
-use Rattle.run_words.specs.declared.command.Command.TheVariants.{Run, Asm}
+use Rattle.run_words.specs.declared.command.Command.TheVariants.{Run, Really, Lines, Asm}
 
 -- ---- commands
 
 abbrev pub command_name : Command → Text
 command_name Run = codes "run"
+command_name Really = codes "really"
+command_name Lines = codes "lines"
 command_name Asm = codes "asm"
+
+-- the command runs the program
+abbrev pub runs : Command → Bool
+runs Run = true
+runs Really = true
+runs Lines = false
+runs Asm = false
 
 abbrev pub input_name : Text
 input_name = codes "input"
+
+abbrev pub line_name : Text
+line_name = codes "line"
+
+abbrev pub speedup_name : Text
+speedup_name = codes "speedup"
+
+abbrev pub progress_name : Text
+progress_name = codes "progress"
 
 abbrev pub budget_name : Text
 budget_name = codes "budget"
 
 -- the options of a command
 abbrev pub option_names : Command → List Text
-option_names Run = input_name ∷ budget_name ∷ []
-option_names Asm = []
+option_names c = if runs c then input_name ∷ line_name ∷ speedup_name ∷ progress_name ∷ budget_name ∷ [] else []
 
 -- the budget where the words give none; 0 where the command has none
 abbrev pub usual_budget : Command → ℕ
-usual_budget Run = 100000000
-usual_budget Asm = 0
+usual_budget c = if runs c then 100000000 else 0
 
 abbrev pub is_among : List Text → Text → Bool
 is_among names name = list_any (λ n. bytes_eq n name) names
@@ -39,7 +55,7 @@ text_of (option name value) = value
 text_of (target text) = text
 
 abbrev pub has_name : Text → Item → Bool
-has_name name (option n value) = bytes_eq name n
+has_name name (option n value) = bytes_eq n name
 has_name name (target text) = false
 
 abbrev pub is_target : Item → Bool
@@ -81,31 +97,53 @@ pub record Asked : Type 0 where
   pub command : Command
   pub target : Text
   pub input : Option Text
+  -- the line and the list of lines, as they were given
+  pub line : Option Text
+  pub speedup : ℕ
+  pub progress : Option Text
   pub budget : ℕ
 
--- what the value means, or what stands for it where it doesn't come
-abbrev pub meaning : {A : Type 0} → Option Text → A → (Text → Option A) → Option A
-meaning value absent read = elim value [ None ↦ Some absent | Some text ↦ read text ]
+-- there is none, or it passes
+abbrev pub none_or : (Text → Bool) → Option Text → Bool
+none_or test None = true
+none_or test (Some text) = test text
+
+-- the speedup that a value gives to a line; where no line is given, none can be given
+abbrev pub speedup_in : Option Text → Option Text → Option ℕ
+speedup_in line None = Some 0
+speedup_in None (Some number) = None
+speedup_in (Some line) (Some number) = number_in 0 95 number
+
+abbrev pub budget_in : Command → Option Text → Option ℕ
+budget_in c None = Some (usual_budget c)
+budget_in c (Some number) = number_in 1 1000000000000 number
 
 -- one value after the other, where all are there
 infixr 20 ◌>>=◌
 abbrev pub ◌>>=◌ : {A B : Type 0} → Option A → (A → Option B) → Option B
 o >>= f = option_and_then f o
 
--- the request of a command, a positional, an input and a budget
-abbrev pub request_with : Command → Option Text → Option Text → Option Text → Option Asked
-request_with c path file number =
+-- the request of a command, a positional, and the values of options by their names
+abbrev pub request_with : Command → Option Text → (Text → Option Text) → Option Asked
+request_with c path value =
+    if none_or is_line (value line_name) && none_or is_list (value progress_name) then (
     path >>= λ target.
-    meaning file None (λ text. Some (Some text)) >>= λ input.
-    meaning number (usual_budget c) (number_in 1 1000000000000) >>= λ budget.
-    Some (record { command = c; target = target; input = input; budget = budget })
+    speedup_in (value line_name) (value speedup_name) >>= λ speedup.
+    budget_in c (value budget_name) >>= λ budget.
+    Some (record {
+      command = c;
+      target = target;
+      input = value input_name;
+      line = value line_name;
+      speedup = speedup;
+      progress = value progress_name;
+      budget = budget;
+    })
+    ) else None
 
 -- the request that the items make, where they are right
 unfoldable pub asked : Command → List Item → Option Asked
-asked c items =
-    if are_items_of c items
-    then request_with c (target_of items) (value_of input_name items) (value_of budget_name items)
-    else None
+asked c items = if are_items_of c items then request_with c (target_of items) (λ name. value_of name items) else None
 
 abbrev pub has_no_zero : Text → Bool
 has_no_zero word = list_all (λ b. not (b == 0)) word
@@ -114,10 +152,18 @@ has_no_zero word = list_all (λ b. not (b == 0)) word
 abbrev pub is_word : Text → Bool
 is_word word = has_no_zero word && nat_le (length word) 131072
 
--- what is so of each request: its positional is a word that isn't empty
+-- what is so of each request
 pub record IsFit (request : Asked) : Type 0 where
+  -- its positional is a word that isn't empty
   pub some : nat_lt 0 (length request.target) ≡ true
   pub word : is_word request.target ≡ true
+  pub line : IfSome request.line (λ text. is_line text ≡ true)
+  pub speedup : request.speedup ≤ 95
+  -- a speedup is of a line
+  pub no_speedup : request.line ≡ None → request.speedup ≡ 0
+  pub progress : IfSome request.progress (λ text. is_list text ≡ true)
+  pub some_budget : runs request.command ≡ true → 1 ≤ request.budget
+  pub budget : request.budget ≤ 10 ^ 12
 
 -- the words make this request: a command, and items that are right for it
 pub record Requests (words : List Text) (request : Asked) : Type 0 where

@@ -11,4 +11,12 @@ abbrev pub bytes_of : List (String Global) → List Text
 bytes_of words = map string_bytes words
 
 abbrev pub seen : Request → Asked
-seen r = record { command = r.command; target = r.target.now; input = option_copied r.input; budget = r.budget }
+seen r = record {
+  command = r.command;
+  target = r.target.now;
+  input = option_copied r.input;
+  line = option_copied r.line;
+  speedup = r.speedup;
+  progress = option_copied r.progress;
+  budget = r.budget;
+}

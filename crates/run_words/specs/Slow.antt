@@ -5,7 +5,7 @@ use Rattle.std.specs.Str.{bytes_eq}
 use Rattle.run_words.specs.Said.{Text, Item, option, target, stands, dashes}
 use Rattle.run_words.specs.Request.{Asked, asked, command_name, option_names, is_among, is_word, ◌>>=◌}
 use Rattle.run_words.specs.declared.command.Command.{Command}
-use Rattle.run_words.specs.declared.command.Command.TheVariants.{Run, Asm}
+use Rattle.run_words.specs.declared.command.Command.TheVariants.{Run, Really, Lines, Asm}
 
 -- what follows a word `--`
 abbrev pub after_dashes : List Text → Option (List Item)
@@ -43,7 +43,7 @@ items_in names None (word ∷ words) = elim (stands word) [
 ]
 
 abbrev pub commands : List Command
-commands = Run ∷ Asm ∷ []
+commands = Run ∷ Really ∷ Lines ∷ Asm ∷ []
 
 abbrev pub command_of : Text → Option Command
 command_of word = find (λ c. bytes_eq (command_name c) word) commands

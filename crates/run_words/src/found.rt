@@ -2,40 +2,91 @@
 ghost use Rattle.std.specs.Prelude.{◌≡◌, None, Some, option_map, is_none, ◌&&◌, if◌then◌else◌, nat_lt, length};
 ghost use Rattle.run_words.specs.Seen.{bytes_of};
 ghost use Rattle.run_words.specs.Slow.{after_dashes};
-ghost use Rattle.run_words.specs.Kept.{item_of, kept, nothing_kept, taken, gathered_from, command_items, copied_text, placed};
+ghost use Rattle.run_words.specs.declared.item.Item.TheVariants.{Value};
+ghost use Rattle.run_words.specs.Kept.{item_of, kept, nothing_kept, with_item, taken, gathered_from, found_value, command_items, copied_text, may_come};
 
 use crate::command::Command;
-use crate::item::{Item, first_item};
+use crate::item::{Item, OptionName, first_item};
 
 /// The texts that have come.
 #[derive(Clone, Copy)]
 pub struct Found<'a> {
     pub target: Option<&'a str>,
     pub input: Option<&'a str>,
+    pub line: Option<&'a str>,
+    pub speedup: Option<&'a str>,
+    pub progress: Option<&'a str>,
     pub budget: Option<&'a str>,
 }
 
-/// The text in its place, if that is free and the text isn't empty.
-fn placed<'a>(place: Option<&'a str>, text: &'a str) -> Option<Option<&'a str>>
-    ensures { option_map copied_text result ≡ placed (copied_text place.entry) text.now }
+/// Whether the text may come into its place: that is free, and the text isn't empty.
+fn may_come(place: Option<&str>, text: &str) -> bool
+    ensures { result ≡ may_come (copied_text place.entry) text.now }
 {
-    if place.is_some() || text.is_empty() {
-        None
-    } else {
-        Some(Some(text))
+    place.is_none() && !text.is_empty()
+}
+
+fn value_of<'a>(found: Found<'a>, name: OptionName) -> Option<&'a str>
+    ensures { copied_text result ≡ found_value found.entry name }
+{
+    match name {
+        OptionName::Input => found.input,
+        OptionName::Line => found.line,
+        OptionName::Speedup => found.speedup,
+        OptionName::Progress => found.progress,
+        OptionName::Budget => found.budget,
     }
 }
 
+fn with_value<'a>(found: Found<'a>, name: OptionName, text: &'a str) -> Found<'a>
+    ensures { kept result ≡ with_item (item_of (Value name text.entry)) (kept found.entry) }
+{
+    let text = Some(text);
+    match name {
+        OptionName::Input => Found {
+            input: text,
+            ..found
+        },
+        OptionName::Line => Found {
+            line: text,
+            ..found
+        },
+        OptionName::Speedup => Found {
+            speedup: text,
+            ..found
+        },
+        OptionName::Progress => Found {
+            progress: text,
+            ..found
+        },
+        OptionName::Budget => Found {
+            budget: text,
+            ..found
+        },
+    }
+}
+
+/// What has come with the item, if it may come.
 fn with_item<'a>(found: Found<'a>, item: Item<'a>) -> Option<Found<'a>>
     ensures { option_map kept result ≡ taken (kept found.entry) (item_of item.entry) }
 {
-    let mut found = found;
     match item {
-        Item::Target(text) => found.target = placed(found.target, text)?,
-        Item::Input(text) => found.input = placed(found.input, text)?,
-        Item::Budget(text) => found.budget = placed(found.budget, text)?,
+        Item::Target(text) => {
+            if !may_come(found.target, text) {
+                return None;
+            }
+            Some(Found {
+                target: Some(text),
+                ..found
+            })
+        }
+        Item::Value(name, text) => {
+            if !may_come(value_of(found, name), text) {
+                return None;
+            }
+            Some(with_value(found, name, text))
+        }
     }
-    Some(found)
 }
 
 /// What has come in all, if these are the words after a word `--`.
@@ -56,6 +107,9 @@ pub fn found_in<'a>(command: Command, words: &'a [String]) -> Option<Found<'a>>
     let mut found = Found {
         target: None,
         input: None,
+        line: None,
+        speedup: None,
+        progress: None,
         budget: None,
     };
     let mut rest = words;

@@ -5,17 +5,25 @@ ghost use Rattle.run_words.specs.Said.{stands, option};
 ghost use Rattle.run_words.specs.Seen.{bytes_of};
 ghost use Rattle.run_words.specs.Slow.{put};
 ghost use Rattle.run_words.specs.declared.command.Command.{Command};
-ghost use Rattle.run_words.specs.declared.command.Command.TheVariants.{Run};
-ghost use Rattle.run_words.specs.Kept.{item_of, command_items, named_item};
+ghost use Rattle.run_words.specs.Kept.{option_of, item_of, command_items, named_item};
 
-use crate::command::Command;
+use crate::command::{Command, runs};
 
-/// An option with its value, or the positional.
+/// The options of a run.
+#[derive(Clone, Copy)]
+pub enum OptionName {
+    Input,
+    Line,
+    Speedup,
+    Progress,
+    Budget,
+}
+
+/// The positional, or the value of an option.
 #[derive(Clone, Copy)]
 pub enum Item<'a> {
     Target(&'a str),
-    Input(&'a str),
-    Budget(&'a str),
+    Value(OptionName, &'a str),
 }
 
 /// Whether a word may be a value of its own or the positional.
@@ -28,13 +36,16 @@ fn stands(word: &str) -> bool
     }
 }
 
-/// The option of `run` of that name with this value, if `run` has it.
-fn run_option<'a>(name: &str, value: &'a str) -> Option<Item<'a>>
-    ensures { option_map item_of result ≡ named_item Run name.now value.now }
+/// The option of that name.
+fn option_of(name: &str) -> Option<OptionName>
+    ensures { result ≡ option_of name.now }
 {
     match name {
-        "input" => Some(Item::Input(value)),
-        "budget" => Some(Item::Budget(value)),
+        "input" => Some(OptionName::Input),
+        "line" => Some(OptionName::Line),
+        "speedup" => Some(OptionName::Speedup),
+        "progress" => Some(OptionName::Progress),
+        "budget" => Some(OptionName::Budget),
         _ => None,
     }
 }
@@ -43,10 +54,11 @@ fn run_option<'a>(name: &str, value: &'a str) -> Option<Item<'a>>
 fn named<'a>(command: Command, name: &str, value: &'a str) -> Option<Item<'a>>
     ensures { option_map item_of result ≡ named_item command name.now value.now }
 {
-    match command {
-        Command::Run => run_option(name, value),
-        Command::Asm => None,
+    if !runs(command) {
+        return None;
     }
+    let option = option_of(name)?;
+    Some(Item::Value(option, value))
 }
 
 /// The value of an option in a word of its own, and the words after it.

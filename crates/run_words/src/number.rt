@@ -17,7 +17,7 @@ fn is_number(text: &[u8]) -> bool
 }
 
 /// The value of the digits.
-fn value_of(digits: &[u8]) -> u128
+pub(crate) fn value_of(digits: &[u8]) -> u128
     requires { is_number digits.now ≡ true }
     ensures { result ≡ digits_value 10 digits.now }
 {

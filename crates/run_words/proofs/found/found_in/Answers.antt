@@ -2,9 +2,13 @@ use Rattle.std.proofs.Common.{◌∙◌, ap, sym, None}
 use Rattle.std.specs.Str.{bytes_eq}
 use Rattle.run_words.specs.Seen.{bytes_of}
 use Rattle.run_words.specs.Said.{Text, dashes}
-use Rattle.run_words.specs.Kept.{item_of, kept, command_items}
+use Rattle.run_words.specs.Kept.{Kept, item_of, kept, gathered_from, command_items}
+use Rattle.run_words.proofs.Names.{nothing_is}
 use Rattle.run_words.proofs.Comes.{one_taken, one_refused, all_taken, dashes_end, said_at}
 use Rattle.run_words.proofs.found.found_in.Goals as goal
+
+pub loop-word-init : goal.loop-word-init
+loop-word-init c = ap (λ (k : Kept). gathered_from k (command_items c.args.command None (bytes_of c.args.words.now))) nothing_is
 
 pub returns-then-eq : goal.returns-then-eq
 returns-then-eq c =
