@@ -22,7 +22,7 @@ none_due [] e k = refl
 none_due (due ∷ dues) e zero = (some_before due (next_turn dues) e).0
 none_due (due ∷ dues) e (suc k) = none_due dues (some_before due (next_turn dues) e).1 k
 
-turn_by : (dues : List (Option ℕ)) (k : ℕ) → is_some (get_or dues k None) ≡ true → (o : Option Turn) → next_turn dues ≡ o → (t : Turn) × (next_turn dues ≡ Some t)
+pub turn_by : (dues : List (Option ℕ)) (k : ℕ) → is_some (get_or dues k None) ≡ true → (o : Option Turn) → next_turn dues ≡ o → (t : Turn) × (next_turn dues ≡ Some t)
 turn_by dues k some None e =
     let none : get_or dues k None ≡ None = none_due dues e k in
     let no : false ≡ true = ap is_some (sym none) ∙ some in
@@ -30,7 +30,7 @@ turn_by dues k some None e =
 turn_by dues k some (Some t) e = (t, e)
 
 module _ {G : Type 0} (x : Experiment G) (Good : G → Type 0) (law : IsLawful x Good) where
-  abbrev HasEnded : ℕ → Type 0
+  abbrev pub HasEnded : ℕ → Type 0
   HasEnded n = (a : Ending) × ((shortened x n).ending ≡ Some a)
 
   -- it has retired an instruction with each move
@@ -43,7 +43,7 @@ module _ {G : Type 0} (x : Experiment G) (Good : G → Type 0) (law : IsLawful x
   end_or_none None = inr refl
   end_or_none (Some a) = inl (a, refl)
 
-  next_is : (n : ℕ) → shortened x (suc n) ≡ move x (shortened x n)
+  pub next_is : (n : ℕ) → shortened x (suc n) ≡ move x (shortened x n)
   unfolding shortened
   next_is n = refl
 
@@ -68,7 +68,7 @@ module _ {G : Type 0} (x : Experiment G) (Good : G → Type 0) (law : IsLawful x
         count = ap (λ (s : Shortened G). s.retired) is ∙ retire_counts x Good law (shortened x n) t ∙ add-one (shortened x n).retired ∙ ap suc g.count;
       })
 
-  goes_or_ended : (n : ℕ) → HasEnded n ⊎ GoesOn n
+  pub goes_or_ended : (n : ℕ) → HasEnded n ⊎ GoesOn n
   goes_or_ended zero = inr (record { none = none_at_first.0; lives = lives_first x Good law; count = none_at_first.1 })
   goes_or_ended (suc n) = go (goes_or_ended n)
     where
@@ -86,7 +86,7 @@ module _ {G : Type 0} (x : Experiment G) (Good : G → Type 0) (law : IsLawful x
       go (inr g) = g
       go (inl e) = absurd (let no : ◌≡◌ {A = Option Ending} (Some e.0) None = sym e.1 ∙ none in cc)
 
-  within_budget : 1 ≤ x.budget → HasEnded x.budget ⊎ GoesOn x.budget → HasEnded x.budget
+  pub within_budget : 1 ≤ x.budget → HasEnded x.budget ⊎ GoesOn x.budget → HasEnded x.budget
   within_budget some (inl e) = e
   within_budget some (inr g) = absurd (over g.lives.within)
     where
@@ -103,7 +103,7 @@ module _ {G : Type 0} (x : Experiment G) (Good : G → Type 0) (law : IsLawful x
       let same : unwrap_or s.ending Spent ≡ e.0 = ap (λ (o : Option Ending). unwrap_or o Spent) e.1 in
       (x.budget, ap (option_map (net_record_of x s)) e.1 ∙ ap (λ (a : Ending). Some (net_record_of x s a)) (sym same))
 
-  stays : (n : ℕ) (a : Ending) → (shortened x n).ending ≡ Some a → (k : ℕ) → shortened x (k + n) ≡ shortened x n
+  pub stays : (n : ℕ) (a : Ending) → (shortened x n).ending ≡ Some a → (k : ℕ) → shortened x (k + n) ≡ shortened x n
   stays n a e zero = ap (shortened x) (zero-add n)
   stays n a e (suc k) =
       let so_far : shortened x (k + n) ≡ shortened x n = stays n a e k in

@@ -136,7 +136,7 @@ module _ {G : Type 0} (x : Experiment G) (Good : G → Type 0) (law : IsLawful x
   pub exists : (r : Record) × IsDelayed x r
   exists = let e = ends in (record_of x (delayed x e.0) e.1, (e.0, ap (option_map (record_of x (delayed x e.0))) e.2))
 
-  same_record : (d : Delayed G) (s : Shortened G) → Agrees d s → (o : Option Ending) → (IsSome o → d.now ≡ s.time + d.delay) → option_map net (option_map (record_of x d) o) ≡ option_map (net_record_of x s) o
+  pub same_record : (d : Delayed G) (s : Shortened G) → Agrees d s → (o : Option Ending) → (IsSome o → d.now ≡ s.time + d.delay) → option_map net (option_map (record_of x d) o) ≡ option_map (net_record_of x s) o
   same_record d s a None e = refl
   same_record d s a (Some ending) e =
       let moment : d.now ≡ s.time + d.delay = e refl in
