@@ -1,0 +1,4 @@
+pub mod Gathering
+pub mod Stable
+pub mod Searching
+pub mod Numbers

@@ -1,0 +1,12 @@
+-- What callers see of points.
+use Rattle.std.specs.Prelude.{◌≤◌, length}
+use Rattle.std.specs.List.Sorted.{IsNonDecreasingBy}
+use Rattle.progress_points.specs.declared.Points.TheInside.{Inside}
+use Rattle.progress_points.specs.Points.{Points, Mark, ids}
+
+abbrev pub points_view : Inside → Points
+points_view inside = record { lines = ids inside.lines.items; marks = inside.marks.items }
+
+pub record IsInOrder (inside : Inside) : Type 0 where
+  pub few : length inside.lines.items ≤ 64
+  pub in_order : IsNonDecreasingBy (λ (mark : Mark). mark.address) inside.marks.items

@@ -1,0 +1,115 @@
+use super::*;
+use coz_lists::Items;
+use coz_types::{Area, Image, Rights};
+use dwarf_lines::{FileName, LineTable, Row};
+use std::test::Fail;
+
+const CODE: Area = Area {
+    start: 0x10000,
+    size: 4096,
+    rights: Rights {
+        read: true,
+        write: false,
+        execute: true,
+    },
+    vaddr: 0x10000,
+    offset: 0,
+    filled: 4,
+};
+
+const FILES: [FileName<'static>; 1] = [FileName {
+    directory: b"",
+    name: b"a.s",
+}];
+
+fn row(address: u64, line: u32) -> Row {
+    Row {
+        sequence: 0,
+        address,
+        file: Some(0),
+        line,
+        column: 0,
+        is_stmt: true,
+        ends: false,
+    }
+}
+
+/// Lines 1 and 2 by turns, four bytes each, and then no line.
+fn index_of_two(alloc: Global) -> Result<LineIndex, AllocError> {
+    let image = Image::new(b"code", vec![in alloc; CODE]?, 0x10000, 0, 0);
+    let rows = [
+        row(0x10000, 1),
+        row(0x10004, 2),
+        row(0x10008, 1),
+        row(0x1000C, 2),
+        row(0x10010, 0),
+    ];
+    let table = LineTable {
+        files: Items::new(Vec::from_slice(alloc, &FILES)?),
+        rows: Items::new(Vec::from_slice(alloc, &rows)?),
+        skipped: 0,
+    };
+    line_index::build(alloc, &table, &image)
+}
+
+/// Whether the point of each address is the one beside it.
+fn are_points(points: &Points, table: &[(Address, Option<PointId>)]) -> bool {
+    table
+        .iter()
+        .all(|(address, point)| points.point_at(*address) == *point)
+}
+
+#[test]
+fn an_entry_has_the_point_of_its_line(rt: HostRuntime) -> Result<(), Fail> {
+    let index = index_of_two(rt.alloc())?;
+    assert_eq!(rt; index.count(), 2);
+    let points = Points::new(rt.alloc(), &index, &[LineId(0), LineId(1)])?;
+    let table = [
+        (0xFFFF, None),
+        (0x10000, Some(PointId(0))),
+        (0x10002, None),
+        (0x10004, Some(PointId(1))),
+        (0x10008, Some(PointId(0))),
+        (0x1000C, Some(PointId(1))),
+        (0x10010, None),
+    ];
+    assert!(rt; are_points(&points, &table));
+    assert_eq!(rt; points.count(), 2);
+    assert_eq!(rt; points.line(PointId(1)), LineId(1));
+    Ok(())
+}
+
+#[test]
+fn a_point_has_the_position_of_its_line(rt: HostRuntime) -> Result<(), Fail> {
+    let index = index_of_two(rt.alloc())?;
+    assert_eq!(rt; index.count(), 2);
+    let points = Points::new(rt.alloc(), &index, &[LineId(1)])?;
+    let table = [
+        (0x10000, None),
+        (0x10004, Some(PointId(0))),
+        (0x10008, None),
+        (0x1000C, Some(PointId(0))),
+    ];
+    assert!(rt; are_points(&points, &table));
+    Ok(())
+}
+
+#[test]
+fn without_lines_there_are_no_points(rt: HostRuntime) -> Result<(), Fail> {
+    let index = index_of_two(rt.alloc())?;
+    let points = Points::new(rt.alloc(), &index, &[])?;
+    assert!(rt; are_points(&points, &[(0x10000, None), (0x10004, None)]));
+    assert_eq!(rt; points.count(), 0);
+    Ok(())
+}
+
+#[test]
+fn at_most_64_lines_have_points(rt: HostRuntime) -> Result<(), Fail> {
+    let index = index_of_two(rt.alloc())?;
+    assert_eq!(rt; index.count(), 2);
+    let most = Points::new(rt.alloc(), &index, &[LineId(0); 64])?;
+    assert_eq!(rt; most.count(), 64);
+    let more = Points::new(rt.alloc(), &index, &[LineId(0); 65]);
+    assert_eq!(rt; more.err(), Some(PointsError::TooMany(65)));
+    Ok(())
+}
