@@ -1,18 +1,19 @@
 -- The beginning of the harts that a retirement started.
-use Rattle.std.proofs.Common.{◌≡◌, ◌≢◌, ℕ, ◌+◌, ◌≤◌, ◌<◌, Bool, true, false, if◌then◌else◌, ◌==◌, List, ◌∷◌, length, refl, sym, ap, subst, ◌∙◌, arith, eq-eqb, ne_eqb, Option, Some, None, ◌⊎◌, inl, inr, lit≤}
+use Rattle.std.proofs.Common.{◌≡◌, ◌≢◌, ℕ, ◌+◌, ◌-◌, ◌*◌, ◌≤◌, ◌<◌, Bool, true, false, if◌then◌else◌, ◌==◌, List, [], ◌∷◌, ◌++◌, length, filter, refl, sym, ap, subst, ◌∙◌, arith, eq-eqb, ne_eqb, Option, Some, None, ◌⊎◌, inl, inr, lit≤, length-append, mul-le-mul, mul_comm, add-mul}
 use Rattle.std.proofs.lemmas.Bool.{cases_eq}
-use Rattle.std.proofs.lemmas.List.{length-set}
+use Rattle.std.proofs.lemmas.List.{length-set, append_assoc}
 use Rattle.rv_decode.specs.declared.Instr.{Instr}
 use Rattle.rv_decode.specs.declared.Instr.TheVariants.{Reg}
 use Rattle.rv_decode.specs.declared.RegOp.{RegOp}
 use Rattle.rv_decode.specs.declared.RegOp.TheVariants.{Mul, Mulh, Mulhsu, Mulhu, Mulw}
-use Rattle.cost_table.specs.Costs.{register_cycles, instruction_cycles, cycles_of}
+use Rattle.cost_table.specs.Costs.{register_cycles, instruction_cycles, cycles_of, reduced_cost}
 use Rattle.hart_schedule.specs.Keys.{Keys, key_of, with_key, without_key}
 use Rattle.machines.specs.Places.{is_among}
-use Rattle.guest_calls.specs.Guest.{Guest}
+use Rattle.guest_calls.specs.Guest.{Guest, pc_of}
 use Rattle.guest_calls.specs.Retire.{next_of}
-use Rattle.virtual_run.specs.Begin.{due_from, IsIdle, AreIdle, AreBegun}
+use Rattle.virtual_run.specs.Begin.{ticks_of, many, IsIdle, AreIdle, AreBegun}
 use Rattle.virtual_run.specs.Run.{AreWithin}
+use Rattle.virtual_run.proofs.Many.{many_with, many_below}
 use Rattle.virtual_run.proofs.Keys.{with_key_at, without_key_at}
 
 -- the first of them
@@ -42,39 +43,76 @@ rest_idle g keys h v hs are = record {
   idle = λ k among. later_idle g keys h v k hs are among (other_than k h hs are.apart.0 among) (first_idle g keys h hs are).below;
 }
 
-begun_by : (g : Guest) (m : ℕ) (h k : ℕ) (among : Bool) (old o : Option ℕ) → (k ≡ h → among ≡ false) → (k ≡ h) ⊎ (k ≡ h → ⊥)
-    → o ≡ (if among then Some (due_from g m k) else if k == h then Some (due_from g m h) else old)
-    → o ≡ (if (if k == h then true else among) then Some (due_from g m k) else old)
-begun_by g m h k among old o out (inl same) is =
+begun_by : (ticks : ℕ → ℕ) (m : ℕ) (h k : ℕ) (among : Bool) (old o : Option ℕ) → (k ≡ h → among ≡ false) → (k ≡ h) ⊎ (k ≡ h → ⊥)
+    → o ≡ (if among then Some (m + ticks k) else if k == h then Some (m + ticks h) else old)
+    → o ≡ (if (if k == h then true else among) then Some (m + ticks k) else old)
+begun_by ticks m h k among old o out (inl same) is =
     let none : among ≡ false = out same in
-    let due : Some (due_from g m h) ≡ Some (due_from g m k) = ap (λ (n : ℕ). Some (due_from g m n)) (sym same) in
-    let first : o ≡ (if k == h then Some (due_from g m h) else old) = is ∙ rw none refl in
+    let due : Some (m + ticks h) ≡ Some (m + ticks k) = ap (λ (n : ℕ). Some (m + ticks n)) (sym same) in
+    let first : o ≡ (if k == h then Some (m + ticks h) else old) = is ∙ rw none refl in
     let now : (k == h) ≡ true = rw (same, eq-eqb h h refl) refl in
     rw now (first ∙ rw now due)
-begun_by g m h k among old o out (inr n) is = rw (ne_eqb k h n) (is ∙ rw (ne_eqb k h n) refl)
+begun_by ticks m h k among old o out (inr n) is = rw (ne_eqb k h n) (is ∙ rw (ne_eqb k h n) refl)
 
 -- the first begins, and then the others
-pub begun_more : (g : Guest) (m : ℕ) (h : ℕ) (hs : List ℕ) (old new : Keys) → h < length old → is_among h hs ≡ false
-    → AreBegun g m hs (with_key h (due_from g m h) old) new → AreBegun g m (h ∷ hs) old new
-begun_more g m h hs old new below out are k =
-    begun_by g m h k (is_among k hs) (key_of old k) (key_of new k) (λ same. ap (λ (n : ℕ). is_among n hs) same ∙ out) (cases_eq k h)
-    (are k ∙ ap (λ (o : Option ℕ). if is_among k hs then Some (due_from g m k) else o) (with_key_at old h (due_from g m h) k below))
+pub begun_more : (ticks : ℕ → ℕ) (m : ℕ) (h : ℕ) (hs : List ℕ) (old new : Keys) → h < length old → is_among h hs ≡ false
+    → AreBegun ticks m hs (with_key h (m + ticks h) old) new → AreBegun ticks m (h ∷ hs) old new
+begun_more ticks m h hs old new below out are k =
+    begun_by ticks m h k (is_among k hs) (key_of old k) (key_of new k) (λ same. ap (λ (n : ℕ). is_among n hs) same ∙ out) (cases_eq k h)
+    (are k ∙ ap (λ (o : Option ℕ). if is_among k hs then Some (m + ticks k) else o) (with_key_at old h (m + ticks h) k below))
 
--- the harts that are left are to begin, and what then has begun are all of them
-pub record IsBeginning (g : Guest) (m : ℕ) (all : List ℕ) (old : Keys) (left : List ℕ) (now : Keys) : Type 0 where
+head_by : (b : Bool) (h : ℕ) (rest : List ℕ) → (if b then h ∷ rest else rest) ≡ (if b then h ∷ [] else []) ++ rest
+head_by true h rest = refl
+head_by false h rest = refl
+
+-- the first of them is kept or isn't, and then the others
+pub filter_more : (p : ℕ → Bool) (h : ℕ) (hs : List ℕ) → filter p (h ∷ hs) ≡ filter p (h ∷ []) ++ filter p hs
+filter_more p h hs = head_by (p h) h (filter p hs)
+
+one_by : (b : Bool) (h : ℕ) → length (if b then h ∷ [] else []) ≤ 1
+one_by true h = omega arith
+one_by false h = omega arith
+
+pub one_at_most : (p : ℕ → Bool) (h : ℕ) → length (filter p (h ∷ [])) ≤ 1
+one_at_most p h = one_by (p h) h
+
+-- the harts that are left are to begin, and what then has begun are all of them, with the chosen ones of all of them behind those before
+pub record IsBeginning (g : Guest) (ticks : ℕ → ℕ) (p : ℕ → Bool) (m : ℕ) (all : List ℕ) (old : Keys) (before : List ℕ) (left : List ℕ) (now : Keys) (chosen : List ℕ) : Type 0 where
   pub idle : AreIdle g now left
-  pub room : length now ≡ length old
-  pub begins : (new : Keys) → AreBegun g m left now new → AreBegun g m all old new
+  pub room : length now ≡ 256
+  pub begins : (new : Keys) → AreBegun ticks m left now new → AreBegun ticks m all old new
+  pub chooses : chosen ++ filter p left ≡ before ++ filter p all
+  pub few : length chosen + many old ≤ length before + many now
+  pub below : length chosen ≤ many now
 
-pub beginning : (g : Guest) (m : ℕ) (hs : List ℕ) (keys : Keys) → AreIdle g keys hs → IsBeginning g m hs keys hs keys
-beginning g m hs keys idle = record { idle = idle; room = refl; begins = λ new are. are }
+pub beginning : (g : Guest) (ticks : ℕ → ℕ) (p : ℕ → Bool) (m : ℕ) (hs : List ℕ) (keys : Keys) (before : List ℕ) → AreIdle g keys hs → length keys ≡ 256 → length before ≤ many keys
+    → IsBeginning g ticks p m hs keys before hs keys before
+beginning g ticks p m hs keys before idle room below = record { idle = idle; room = room; begins = λ new are. are; chooses = refl; few = omega arith; below = below }
 
-pub one_more : (g : Guest) (m : ℕ) (all : List ℕ) (old : Keys) (h : ℕ) (hs : List ℕ) (now : Keys) → IsBeginning g m all old (h ∷ hs) now → IsBeginning g m all old hs (with_key h (due_from g m h) now)
-one_more g m all old h hs now b = record {
-  idle = rest_idle g now h (due_from g m h) hs b.idle;
-  room = length-set now h (Some (due_from g m h)) ∙ b.room;
-  begins = λ new are. b.begins new (begun_more g m h hs now new (first_idle g now h hs b.idle).below b.idle.apart.0 are);
-}
+-- there is room for another one that is chosen
+pub room_left : (g : Guest) (ticks : ℕ → ℕ) (p : ℕ → Bool) (m : ℕ) (all : List ℕ) (old : Keys) (before : List ℕ) (h : ℕ) (hs : List ℕ) (now : Keys) (chosen : List ℕ)
+    → IsBeginning g ticks p m all old before (h ∷ hs) now chosen → length chosen < 256
+room_left g ticks p m all old before h hs now chosen b =
+    let idle : IsIdle g now h = first_idle g now h hs b.idle in
+    let few : many now < length now = many_below now h idle.below idle.absent in
+    omega (arith, few, b.below, b.room)
+
+pub one_more : (g : Guest) (ticks : ℕ → ℕ) (p : ℕ → Bool) (m : ℕ) (all : List ℕ) (old : Keys) (before : List ℕ) (h : ℕ) (hs : List ℕ) (now : Keys) (chosen : List ℕ)
+    → IsBeginning g ticks p m all old before (h ∷ hs) now chosen
+    → IsBeginning g ticks p m all old before hs (with_key h (m + ticks h) now) (chosen ++ filter p (h ∷ []))
+one_more g ticks p m all old before h hs now chosen b =
+    let idle : IsIdle g now h = first_idle g now h hs b.idle in
+    let more : many (with_key h (m + ticks h) now) ≡ many now + 1 = many_with now h (m + ticks h) idle.below idle.absent in
+    let one : length (filter p (h ∷ [])) ≤ 1 = one_at_most p h in
+    let longer : length (chosen ++ filter p (h ∷ [])) ≡ length chosen + length (filter p (h ∷ [])) = length-append chosen (filter p (h ∷ [])) in
+    record {
+      idle = rest_idle g now h (m + ticks h) hs b.idle;
+      room = length-set now h (Some (m + ticks h)) ∙ b.room;
+      begins = λ new are. b.begins new (begun_more ticks m h hs now new idle.below b.idle.apart.0 are);
+      chooses = append_assoc chosen (filter p (h ∷ [])) (filter p hs) ∙ ap (λ (xs : List ℕ). chosen ++ xs) (sym (filter_more p h hs)) ∙ b.chooses;
+      few = omega (arith, b.few, more, one, longer);
+      below = omega (arith, b.below, more, one, longer);
+    }
 
 -- the retiring hart begins if it goes on, and then the others
 
@@ -82,19 +120,44 @@ pub again_idle : (b : Bool) (g : Guest) (h : ℕ) (hs : List ℕ) (keys : Keys) 
 again_idle true g h hs keys are e = first_idle g keys h hs are
 again_idle false g h hs keys are e = absurd (let no : false ≡ true = e in cc)
 
-pub others_left : (b : Bool) (g : Guest) (m h : ℕ) (hs : List ℕ) (keys now : Keys) → now ≡ (if b then with_key h (due_from g m h) keys else keys) → AreIdle g keys (if b then h ∷ hs else hs) → AreIdle g now hs
-others_left true g m h hs keys now is are = subst (λ (ks : Keys). AreIdle g ks hs) (sym is) (rest_idle g keys h (due_from g m h) hs are)
-others_left false g m h hs keys now is are = subst (λ (ks : Keys). AreIdle g ks hs) (sym is) are
+-- what the retiring hart leaves, if it goes on: these keys, and it is chosen or isn't
+pub record IsAgain (b : Bool) (ticks : ℕ → ℕ) (p : ℕ → Bool) (m h : ℕ) (keys now : Keys) (chosen : List ℕ) : Type 0 where
+  pub leaves : now ≡ (if b then with_key h (m + ticks h) keys else keys)
+  pub chooses : chosen ≡ (if b then filter p (h ∷ []) else [])
 
-pub all_begun : (b : Bool) (g : Guest) (m h : ℕ) (hs : List ℕ) (keys now new : Keys) → now ≡ (if b then with_key h (due_from g m h) keys else keys) → AreIdle g keys (if b then h ∷ hs else hs)
-    → AreBegun g m hs now new → AreBegun g m (if b then h ∷ hs else hs) keys new
-all_begun true g m h hs keys now new is are begun =
-    begun_more g m h hs keys new (first_idle g keys h hs are).below are.apart.0 (subst (λ (ks : Keys). AreBegun g m hs ks new) is begun)
-all_begun false g m h hs keys now new is are begun = subst (λ (ks : Keys). AreBegun g m hs ks new) is begun
+pub others_left : (b : Bool) (g : Guest) (ticks : ℕ → ℕ) (p : ℕ → Bool) (m h : ℕ) (hs : List ℕ) (keys now : Keys) (chosen : List ℕ) → IsAgain b ticks p m h keys now chosen
+    → AreIdle g keys (if b then h ∷ hs else hs) → AreIdle g now hs
+others_left true g ticks p m h hs keys now chosen is are = subst (λ (ks : Keys). AreIdle g ks hs) (sym is.leaves) (rest_idle g keys h (m + ticks h) hs are)
+others_left false g ticks p m h hs keys now chosen is are = subst (λ (ks : Keys). AreIdle g ks hs) (sym is.leaves) are
 
-pub same_room : (b : Bool) (g : Guest) (m h : ℕ) (keys now : Keys) → now ≡ (if b then with_key h (due_from g m h) keys else keys) → length now ≡ length keys
-same_room true g m h keys now is = ap length is ∙ length-set keys h (Some (due_from g m h))
-same_room false g m h keys now is = ap length is
+pub all_begun : (b : Bool) (g : Guest) (ticks : ℕ → ℕ) (p : ℕ → Bool) (m h : ℕ) (hs : List ℕ) (keys now new : Keys) (chosen : List ℕ) → IsAgain b ticks p m h keys now chosen
+    → AreIdle g keys (if b then h ∷ hs else hs) → AreBegun ticks m hs now new → AreBegun ticks m (if b then h ∷ hs else hs) keys new
+all_begun true g ticks p m h hs keys now new chosen is are begun =
+    begun_more ticks m h hs keys new (first_idle g keys h hs are).below are.apart.0 (subst (λ (ks : Keys). AreBegun ticks m hs ks new) is.leaves begun)
+all_begun false g ticks p m h hs keys now new chosen is are begun = subst (λ (ks : Keys). AreBegun ticks m hs ks new) is.leaves begun
+
+pub same_room : (b : Bool) (ticks : ℕ → ℕ) (p : ℕ → Bool) (m h : ℕ) (keys now : Keys) (chosen : List ℕ) → IsAgain b ticks p m h keys now chosen → length now ≡ length keys
+same_room true ticks p m h keys now chosen is = ap length is.leaves ∙ length-set keys h (Some (m + ticks h))
+same_room false ticks p m h keys now chosen is = ap length is.leaves
+
+-- as many have begun as are chosen at least
+pub again_few : (b : Bool) (g : Guest) (ticks : ℕ → ℕ) (p : ℕ → Bool) (m h : ℕ) (hs : List ℕ) (keys now : Keys) (chosen : List ℕ) → IsAgain b ticks p m h keys now chosen
+    → AreIdle g keys (if b then h ∷ hs else hs) → length chosen + many keys ≤ many now
+again_few true g ticks p m h hs keys now chosen is are =
+    let idle : IsIdle g keys h = first_idle g keys h hs are in
+    let more : many now ≡ many keys + 1 = ap many is.leaves ∙ many_with keys h (m + ticks h) idle.below idle.absent in
+    let one : length (filter p (h ∷ [])) ≤ 1 = one_at_most p h in
+    let same : length chosen ≡ length (filter p (h ∷ [])) = ap length is.chooses in
+    omega arith
+again_few false g ticks p m h hs keys now chosen is are =
+    let stays : many now ≡ many keys = ap many is.leaves in
+    let none : length chosen ≡ 0 = ap length is.chooses in
+    omega arith
+
+pub all_chosen : (b : Bool) (ticks : ℕ → ℕ) (p : ℕ → Bool) (m h : ℕ) (hs : List ℕ) (keys now : Keys) (chosen new : List ℕ) → IsAgain b ticks p m h keys now chosen
+    → new ≡ chosen ++ filter p hs → new ≡ filter p (if b then h ∷ hs else hs)
+all_chosen true ticks p m h hs keys now chosen new is more = more ∙ ap (λ (xs : List ℕ). xs ++ filter p hs) is.chooses ∙ sym (filter_more p h hs)
+all_chosen false ticks p m h hs keys now chosen new is more = more ∙ ap (λ (xs : List ℕ). xs ++ filter p hs) is.chooses
 
 register_few : (op : RegOp) → register_cycles op ≤ 40
 register_few Mul = lit≤ tt
@@ -113,16 +176,41 @@ pub cycles_few : (i : Option Instr) → cycles_of i ≤ 40
 cycles_few (Some i) = instruction_few i
 cycles_few None = lit≤ tt
 
-pub within_by : (g : Guest) (m h due : ℕ) (among : Bool) (o p : Option ℕ) (moment : ℕ) → o ≡ (if among then Some (due_from g m h) else p) → m ≤ moment → ((v : ℕ) → p ≡ Some v → v ≤ moment) → o ≡ Some due → due ≤ moment + 4000
-within_by g m h due true o p moment is soon within has =
-    let same : Some (due_from g m h) ≡ Some due = sym is ∙ has in
-    let due_is : due_from g m h ≡ due = cc in
-    omega (arith, cycles_few (next_of g h))
-within_by g m h due false o p moment is soon within has = let before : due ≤ moment = within due (sym is ∙ has) in omega arith
+less_of : (c r : ℕ) → c ≤ 40 → r ≤ 100 → c * r ≤ 4000
+less_of c r few less = mul-le-mul few less
+
+ticks_by : (b : Bool) (c s : ℕ) → c ≤ 40 → (if b then reduced_cost c s else 100 * c) ≤ 4000
+ticks_by true c s few = let less : 100 - s ≤ 100 = omega arith in less_of c (100 - s) few less
+ticks_by false c s few = omega arith
+
+cut_by : (b : Bool) (v c s : ℕ) → s ≤ 100 → v + (if b then reduced_cost c s else 100 * c) ≡ v + 100 * c - (if b then s * c else 0)
+cut_by true v c s small =
+    let parts : (100 - s + s) * c ≡ (100 - s) * c + s * c = add-mul (100 - s) s c in
+    let whole : 100 - s + s ≡ 100 = omega arith in
+    let turned : c * (100 - s) ≡ (100 - s) * c = mul_comm c (100 - s) in
+    let all : 100 * c ≡ (100 - s) * c + s * c = ap (λ (n : ℕ). n * c) (sym whole) ∙ parts in
+    omega (arith, turned, all)
+cut_by false v c s small = omega arith
+
+-- the ticks of a selected instruction are those of another one, less what it is spared
+pub ticks_less : (is_selected : ℕ → Bool) (speedup v : ℕ) (g : Guest) (h : ℕ) → speedup ≤ 100
+    → v + ticks_of is_selected speedup g h ≡ v + 100 * cycles_of (next_of g h) - (if is_selected (pc_of g h) then speedup * cycles_of (next_of g h) else 0)
+ticks_less is_selected speedup v g h small = cut_by (is_selected (pc_of g h)) v (cycles_of (next_of g h)) speedup small
+
+-- nor does a selected one
+pub ticks_few : (is_selected : ℕ → Bool) (speedup : ℕ) (g : Guest) (h : ℕ) → ticks_of is_selected speedup g h ≤ 4000
+ticks_few is_selected speedup g h = ticks_by (is_selected (pc_of g h)) (cycles_of (next_of g h)) speedup (cycles_few (next_of g h))
+
+pub within_by : (ticks : ℕ → ℕ) (m h due : ℕ) (among : Bool) (o p : Option ℕ) (moment : ℕ) → ticks h ≤ 4000 → o ≡ (if among then Some (m + ticks h) else p) → m ≤ moment → ((v : ℕ) → p ≡ Some v → v ≤ moment) → o ≡ Some due → due ≤ moment + 4000
+within_by ticks m h due true o p moment few is soon within has =
+    let same : Some (m + ticks h) ≡ Some due = sym is ∙ has in
+    let due_is : m + ticks h ≡ due = cc in
+    omega arith
+within_by ticks m h due false o p moment few is soon within has = let before : due ≤ moment = within due (sym is ∙ has) in omega arith
 
 -- what begins is due soon
-pub within_begun : (g : Guest) (m : ℕ) (hs : List ℕ) (old new : Keys) (moment : ℕ) → AreBegun g m hs old new → m ≤ moment → AreWithin moment old → AreWithin (moment + 4000) new
-within_begun g m hs old new moment begun soon within h due has = within_by g m h due (is_among h hs) (key_of new h) (key_of old h) moment (begun h) soon (within h) has
+pub within_begun : (ticks : ℕ → ℕ) (m : ℕ) (hs : List ℕ) (old new : Keys) (moment : ℕ) → ((h : ℕ) → ticks h ≤ 4000) → AreBegun ticks m hs old new → m ≤ moment → AreWithin moment old → AreWithin (moment + 4000) new
+within_begun ticks m hs old new moment few begun soon within h due has = within_by ticks m h due (is_among h hs) (key_of new h) (key_of old h) moment (few h) (begun h) soon (within h) has
 
 left_by : (k h : ℕ) (same : Bool) (o p : Option ℕ) (moment : ℕ) → o ≡ (if same then None else p) → ((v : ℕ) → p ≡ Some v → v ≤ moment) → (due : ℕ) → o ≡ Some due → due ≤ moment
 left_by k h true o p moment is within due has = absurd (let no : ◌≡◌ {A = Option ℕ} None (Some due) = sym is ∙ has in cc)

@@ -3,50 +3,75 @@ use Rattle.std.proofs.Common.{◌≡◌, ◌≢◌, ℕ, ◌+◌, ◌*◌, ◌^�
 use Rattle.std.proofs.lemmas.Bool.{cases_eq}
 use Rattle.std.proofs.lemmas.List.{length-set, length-replicate}
 use Rattle.coz_types.specs.declared.ending.Ending.{Ending}
+use Rattle.coz_types.specs.declared.ending.Ending.TheVariants.{OutputFull, VisitsFull}
 use Rattle.coz_types.specs.Image.{ImageParts}
 use Rattle.hart_schedule.specs.Keys.{Keys, key_of, with_key, without_key, IsEmpty}
 use Rattle.machines.specs.declared.Fate.{Fate}
-use Rattle.machines.specs.Guest.{Experiment, Retirement, IsLawful, goes_on, own_ending, first_of_two, started}
+use Rattle.machines.specs.Guest.{Experiment, Retirement, IsLawful, goes_on, own_ending, when, first_of_two, started}
 use Rattle.machines.specs.Places.{is_among}
 use Rattle.machines.specs.Shortened.{Shortened, shortened, move}
 use Rattle.machines.specs.Records.{IsShortened, shortened_record, net_record_of}
 use Rattle.machines.proofs.Ends.{goes_on_at, at_last, record_is, recorded}
+use Rattle.guest_memory.specs.declared.Layout.{Layout}
 use Rattle.guest_memory.specs.Regions.{usual}
-use Rattle.guest_calls.specs.Guest.{Guest, IsMade, is_running, first_guest}
+use Rattle.guest_calls.specs.Guest.{Guest, IsMade, pc_of, is_running, first_guest}
 use Rattle.guest_calls.specs.Retire.{retire}
 use Rattle.guest_calls.specs.Orderly.{IsOrderly}
 use Rattle.guest_calls.proofs.Law.{lawful, running_low, others_idle}
+use Rattle.virtual_run.specs.declared.choice.Choice.{Choice}
+use Rattle.virtual_run.specs.declared.choice.Setting.{Setting}
 use Rattle.virtual_run.specs.declared.run.Run.{Run}
-use Rattle.virtual_run.specs.Begin.{due_from, started_by, IsIdle, AreIdle}
+use Rattle.virtual_run.specs.Visits.{Visits}
+use Rattle.virtual_run.specs.Begin.{started_by, many, IsIdle, AreIdle}
 use Rattle.virtual_run.specs.Ending.{ending_of}
-use Rattle.virtual_run.specs.Run.{experiment, output_limit, visit_limit, AreWithin, IsStateOf, IsSteady, IsReached, state_of}
+use Rattle.virtual_run.specs.Run.{experiment, has_selected, selected_line, selects, selected_of, ticks_in, AreWithin, IsChoice, IsStateOf, IsSteady, IsReached, IsFirst, state_of}
 use Rattle.virtual_run.proofs.Keys.{without_key_at, no_keys}
-use Rattle.virtual_run.proofs.Begin.{within_later, within_by}
+use Rattle.virtual_run.proofs.Many.{many_with}
+use Rattle.virtual_run.proofs.Begin.{ticks_few, one_at_most, within_later, within_by}
 use Rattle.virtual_run.proofs.Moves.{outcome, run_of, once_more, first_key, first_state}
 
-pub lawful_run : (image : ImageParts) (input : List ℕ) (budget : ℕ) → IsLawful (experiment image input budget) IsOrderly
-lawful_run image input budget = lawful (λ _. false) (λ _. None) image input output_limit usual 0 budget visit_limit (omega arith)
+-- the experiment on a program is lawful
+pub lawful_run : (image : ImageParts) (position point : ℕ → Option ℕ) (input : List ℕ) (choice : Choice) → choice.speedup ≤ 95 → IsLawful (experiment image position point input choice) IsOrderly
+lawful_run image position point input choice small =
+    lawful (has_selected (selected_line choice) position) point image input choice.output_limit choice.layout choice.speedup choice.budget choice.visit_limit (omega arith)
 
 -- an image for laws that don't read it
 abbrev no_image : ImageParts
 no_image = record { file = []; areas = []; entry = 0; headers = 0; header_count = 0 }
 
-law : IsLawful (experiment no_image [] 1) IsOrderly
-law = lawful_run no_image [] 1
+abbrev plain : Choice
+plain = record { selected = None; speedup = 0; budget = 1; output_limit = 1; visit_limit = 1; layout = usual }
+
+law : IsLawful (experiment no_image (λ _. None) (λ _. None) [] plain) IsOrderly
+law = lawful_run no_image (λ _. None) (λ _. None) [] plain (omega arith)
 
 -- the first hart of a program that begins
-pub first_made : (image : ImageParts) (input : List ℕ) → IsMade (first_guest image input output_limit usual) 0
-first_made image input =
-    let first : IsLawful (experiment image input 1) IsOrderly = lawful_run image input 1 in
-    (running_low (first_guest image input output_limit usual) 0 first.first_good (first.first_running 0)).0
+pub first_made : (image : ImageParts) (input : List ℕ) (output_limit : ℕ) (layout : Layout) → IsMade (first_guest image input output_limit layout) 0
+first_made image input output_limit layout =
+    let first : IsLawful (experiment image (λ _. None) (λ _. None) input (record plain { output_limit = output_limit; layout = layout })) IsOrderly =
+    lawful_run image (λ _. None) (λ _. None) input (record plain { output_limit = output_limit; layout = layout }) (omega arith) in
+    (running_low (first_guest image input output_limit layout) 0 first.first_good (first.first_running 0)).0
 
 first_of : (o p : Option Ending) → first_of_two o p ≡ None → o ≡ None
 first_of None p none = refl
 first_of (Some a) p none = absurd (let no : ◌≡◌ {A = Option Ending} (Some a) None = none in cc)
 
 -- where the run goes on the guest asks for no ending
-pub none_own : (fate : Fate) (full some_hart_runs : Bool) (retired budget : ℕ) → ending_of fate full some_hart_runs retired budget ≡ None → own_ending fate ≡ None
-none_own fate full some_hart_runs retired budget none = first_of (own_ending fate) _ none
+pub none_own : (fate : Fate) (output_full visits_full some_hart_runs : Bool) (retired budget : ℕ) → ending_of fate output_full visits_full some_hart_runs retired budget ≡ None → own_ending fate ≡ None
+none_own fate output_full visits_full some_hart_runs retired budget none = first_of (own_ending fate) _ none
+
+rest_of : (o p : Option Ending) → first_of_two o p ≡ None → p ≡ None
+rest_of None p none = none
+rest_of (Some a) p none = absurd (let no : ◌≡◌ {A = Option Ending} (Some a) None = none in cc)
+
+not_when : (b : Bool) (e : Ending) → when b e ≡ None → b ≡ false
+not_when true e none = absurd (let no : ◌≡◌ {A = Option Ending} (Some e) None = none in cc)
+not_when false e none = refl
+
+-- nor are the visits full
+pub none_full : (fate : Fate) (output_full visits_full some_hart_runs : Bool) (retired budget : ℕ) → ending_of fate output_full visits_full some_hart_runs retired budget ≡ None → visits_full ≡ false
+none_full fate output_full visits_full some_hart_runs retired budget none =
+    not_when visits_full VisitsFull (first_of (when visits_full VisitsFull) _ (rest_of (when output_full OutputFull) _ (rest_of (own_ending fate) _ none)))
 
 none_key : (o : Option ℕ) → is_some o ≡ false → o ≡ None
 none_key None e = refl
@@ -104,26 +129,29 @@ started_idle g keys h due after fate others t retires own =
     let none : IsNone (own_ending (retire g h due).fate) = ap is_some (ap (λ (r : Retirement Guest). own_ending r.fate) (sym retires) ∙ own) in
     subst (λ (r : Retirement Guest). AreIdle r.guest (without_key h keys) (started h r)) (sym retires) (idle_by g keys h due t none)
 
-module _ (image : ImageParts) (input : List ℕ) (budget : ℕ) (run : Run) (r : IsReached image input budget run) where
+module _ (image : ImageParts) (position point : ℕ → Option ℕ) (input : List ℕ) (choice : Choice) (valid : IsChoice choice) (run : Run) (r : IsReached (experiment image position point input choice) run) where
   abbrev pub x : Experiment Guest
-  x = experiment image input budget
+  x = experiment image position point input choice
 
   abbrev pub s : Shortened Guest
   s = shortened x run.retired
 
+  abbrev is_lawful : IsLawful x IsOrderly
+  is_lawful = lawful_run image position point input choice valid.speedup
+
   guest_is : s.guest ≡ run.guest
   guest_is = ap (λ (t : Shortened Guest). t.guest) r.reached.state
 
-  ending_is : s.ending ≡ run.ending
+  pub ending_is : s.ending ≡ run.ending
   ending_is = ap (λ (t : Shortened Guest). t.ending) r.reached.state
 
-  retired_below : (s.retired ≡ 0) ⊎ (s.retired < budget) → s.retired ≡ run.retired → run.retired < budget
-  retired_below within count = let some : 1 ≤ budget = r.some_budget in omega arith
+  retired_below : (s.retired ≡ 0) ⊎ (s.retired < choice.budget) → s.retired ≡ run.retired → run.retired < choice.budget
+  retired_below within count = let some : 1 ≤ choice.budget = valid.some_budget in omega arith
 
   -- a run that goes on has budget left
-  pub below_budget : run.ending ≡ None → run.retired < budget
+  pub below_budget : run.ending ≡ None → run.retired < choice.budget
   below_budget none =
-      let g = goes_on_at x IsOrderly (lawful_run image input budget) run.retired (ending_is ∙ none) in
+      let g = goes_on_at x IsOrderly is_lawful run.retired (ending_is ∙ none) in
       retired_below g.lives.within g.count
 
   not_empty : (k : ℕ) → is_some (get_or s.dues k None) ≡ true → ¬ IsEmpty run.schedule
@@ -131,15 +159,19 @@ module _ (image : ImageParts) (input : List ℕ) (budget : ℕ) (run : Run) (r :
 
   pub steady : run.ending ≡ None → IsSteady run
   steady none =
-      let g = goes_on_at x IsOrderly (lawful_run image input budget) run.retired (ending_is ∙ none) in
+      let g = goes_on_at x IsOrderly is_lawful run.retired (ending_is ∙ none) in
+      let few : choice.budget ≤ 10 ^ 12 = valid.few in
+      let below : run.retired ≤ choice.budget = r.retired in
       record {
         goes = none;
         orderly = subst IsOrderly guest_is g.lives.good;
         running = λ k. ap (λ (g : Guest). is_running g k) (sym guest_is) ∙ g.lives.running k ∙ ap is_some (sym (r.reached.dues k));
         some_hart = not_empty g.lives.some_hart.0 g.lives.some_hart.1;
         room = r.room;
-        within = within_later (4000 * (run.retired + 1)) (2 ^ 60) run.schedule (omega (arith, r.retired, r.small_budget)) r.within;
-        retired = omega (arith, r.retired, r.small_budget);
+        unfull = subst (λ (n : ℕ). length run.visits.kept < n) (sym r.limit) (r.unfull none);
+        within = within_later (4000 * (run.retired + 1)) (2 ^ 60) run.schedule (omega (arith, below, few)) r.within;
+        retired = omega (arith, below, few);
+        few = r.few;
       }
 
   moved_state : (new : Run) → IsStateOf new (move x (state_of run s.dues)) → new.retired ≡ run.retired + 1 → IsStateOf new (shortened x new.retired)
@@ -147,62 +179,34 @@ module _ (image : ImageParts) (input : List ℕ) (budget : ℕ) (run : Run) (r :
       subst (IsStateOf new) (ap (move x) (sym r.reached.state) ∙ once_more x run.retired new.retired next) moved
 
   -- what holds of a run holds after a move
-  pub reached_next : (new : Run) → run.ending ≡ None → IsStateOf new (move x (state_of run s.dues)) → length new.schedule ≡ length run.schedule → new.retired ≡ run.retired + 1
-      → ((moment : ℕ) → AreWithin moment run.schedule → AreWithin (moment + 4000) new.schedule) → IsReached image input budget new
-  reached_next new none moved room next within = record {
+  pub reached_next : (new : Run) → run.ending ≡ None → IsStateOf new (move x (state_of run s.dues)) → length new.schedule ≡ 256 → new.visits.limit ≡ run.visits.limit
+      → (new.ending ≡ None → length new.visits.kept < choice.visit_limit) → new.retired ≡ run.retired + 1 → new.starts ≤ new.retired + many new.schedule
+      → ((moment : ℕ) → AreWithin moment run.schedule → AreWithin (moment + 4000) new.schedule) → IsReached x new
+  reached_next new none moved room limit unfull next few within = record {
     reached = moved_state new moved next;
-    room = room ∙ r.room;
-    some_budget = r.some_budget;
-    small_budget = r.small_budget;
-    retired = let below : run.retired < budget = below_budget none in omega arith;
+    room = room;
+    limit = limit ∙ r.limit;
+    unfull = unfull;
+    retired = let below : run.retired < choice.budget = below_budget none in omega arith;
+    few = few;
     within = within_later (4000 * (run.retired + 1) + 4000) (4000 * (new.retired + 1)) new.schedule (omega arith) (within (4000 * (run.retired + 1)) r.within);
   }
 
   pub ended_now : (e : Ending) → run.ending ≡ Some e → s.ending ≡ Some e
   ended_now e ended = ending_is ∙ ended
 
-  pub no_visits : s.visits ≡ []
-  no_visits = ap (λ (t : Shortened Guest). t.visits) r.reached.state
-
-  pub no_starts : s.starts ≡ 0
-  no_starts = ap (λ (t : Shortened Guest). t.starts) r.reached.state
-
-  last_now : (e : Ending) → run.ending ≡ Some e → s ≡ shortened x budget
-  last_now e ended = at_last x IsOrderly (lawful_run image input budget) run.retired e r.retired (ending_is ∙ ended)
+  pub last_now : (e : Ending) → run.ending ≡ Some e → s ≡ shortened x choice.budget
+  last_now e ended = at_last x IsOrderly is_lawful run.retired e r.retired (ending_is ∙ ended)
 
   -- the record of a run that has ended
-  recorded_now : (e : Ending) → run.ending ≡ Some e → net_record_of x s e ≡ shortened_record x
-  recorded_now e ended = recorded x IsOrderly (lawful_run image input budget) run.retired e r.retired (ending_is ∙ ended)
-
--- a run's arguments
-pub record Told : Type 0 where
-  pub image : ImageParts
-  pub input : List ℕ
-  pub budget : ℕ
-
-abbrev pub told : ImageParts → List ℕ → ℕ → Told
-told image input budget = record { image = image; input = input; budget = budget }
-
-pub same_told : (image old_image : ImageParts) (input old_input : List ℕ) (budget old_budget : ℕ) → old_image ≡ image → old_input ≡ input → old_budget ≡ budget → told old_image old_input old_budget ≡ told image input budget
-same_told image old_image input old_input budget old_budget image_is input_is budget_is = cc
-
--- the record of a run that has ended, of the arguments that it had at first
-pub recorded_of : (t old : Told) (run : Run) (e : Ending) → old ≡ t → IsReached t.image t.input t.budget run → run.ending ≡ Some e
-    → net_record_of (experiment old.image old.input old.budget) (shortened (experiment t.image t.input t.budget) run.retired) e ≡ shortened_record (experiment old.image old.input old.budget)
-recorded_of t old run e same r ended =
-    subst (λ (o : Told). net_record_of (experiment o.image o.input o.budget) (shortened (experiment t.image t.input t.budget) run.retired) e ≡ shortened_record (experiment o.image o.input o.budget)) (sym same)
-    (recorded_now t.image t.input t.budget run r e ended)
-
--- and its last state
-pub last_of : (t old : Told) (run : Run) (e : Ending) → old ≡ t → IsReached t.image t.input t.budget run → run.ending ≡ Some e
-    → shortened (experiment t.image t.input t.budget) run.retired ≡ shortened (experiment old.image old.input old.budget) old.budget
-last_of t old run e same r ended =
-    subst (λ (o : Told). shortened (experiment t.image t.input t.budget) run.retired ≡ shortened (experiment o.image o.input o.budget) o.budget) (sym same)
-    (last_now t.image t.input t.budget run r e ended)
+  pub recorded_now : (e : Ending) → run.ending ≡ Some e → net_record_of x s e ≡ shortened_record x
+  recorded_now e ended = recorded x IsOrderly is_lawful run.retired e r.retired (ending_is ∙ ended)
 
 -- the record of a program's run is one that it ends with
-pub shortened_is : (image : ImageParts) (input : List ℕ) (budget : ℕ) → 1 ≤ budget → IsShortened (experiment image input budget) (shortened_record (experiment image input budget))
-shortened_is image input budget some = record_is (experiment image input budget) IsOrderly (lawful_run image input budget) some
+pub shortened_is : (image : ImageParts) (position point : ℕ → Option ℕ) (input : List ℕ) (choice : Choice) → IsChoice choice
+    → IsShortened (experiment image position point input choice) (shortened_record (experiment image position point input choice))
+shortened_is image position point input choice valid =
+    record_is (experiment image position point input choice) IsOrderly (lawful_run image position point input choice valid.speedup) valid.some_budget
 
 -- a program that was loaded, and its first hart
 pub new_idle : (g : Guest) (keys : Keys) → keys ≡ replicate 256 None → IsMade g 0 → IsIdle g keys 0
@@ -215,19 +219,40 @@ new_idle g keys empty made = record {
 none_due : (due : ℕ) → ◌≡◌ {A = Option ℕ} None (Some due) → ⊥
 none_due due clash = cc
 
-first_within : (g : Guest) (keys : Keys) → keys ≡ with_key 0 (due_from g 0 0) (replicate 256 None) → AreWithin (4000 * (0 + 1)) keys
-first_within g keys is k due has =
-    let soon : due ≤ 0 + 4000 = within_by g 0 0 due (k == 0) (key_of keys k) None 0 (first_key (due_from g 0 0) keys is k) (omega arith) (λ v e. absurd (none_due v e)) has in
+first_within : (ticks : ℕ → ℕ) (keys : Keys) → ticks 0 ≤ 4000 → keys ≡ with_key 0 (0 + ticks 0) (replicate 256 None) → AreWithin (4000 * (0 + 1)) keys
+first_within ticks keys few is k due has =
+    let soon : due ≤ 0 + 4000 = within_by ticks 0 0 due (k == 0) (key_of keys k) None 0 few (first_key (0 + ticks 0) keys is k) (omega arith) (λ v e. absurd (none_due v e)) has in
     omega arith
 
 -- as a run begins
-pub first_reached : (image : ImageParts) (input : List ℕ) (budget : ℕ) (g : Guest) (keys : Keys) (others : List ℕ) → g ≡ first_guest image input output_limit usual → keys ≡ with_key 0 (due_from g 0 0) (replicate 256 None)
-    → 1 ≤ budget → budget ≤ 10 ^ 12 → IsReached image input budget (run_of 0 g keys others 0 None)
-first_reached image input budget g keys others is made some few = record {
-  reached = first_state (first_guest image input output_limit usual) g budget keys others is made;
-  room = ap length made ∙ length-set (replicate 256 None) 0 (Some (due_from g 0 0)) ∙ length-replicate {A = Option ℕ} 256 None;
-  some_budget = some;
-  small_budget = few;
-  retired = omega arith;
-  within = first_within g keys made;
-}
+pub first_run : (setting : Setting) (image : ImageParts) (input : List ℕ) (g : Guest) (keys : Keys) (others selected : List ℕ) (visits : Visits) (starts : ℕ) → IsChoice setting.choice
+    → g ≡ first_guest image input setting.choice.output_limit setting.choice.layout → keys ≡ with_key 0 (0 + ticks_in setting g 0) (replicate 256 None)
+    → visits ≡ record { kept = []; limit = setting.choice.visit_limit } → selected ≡ selected_of setting g (0 ∷ []) → starts ≡ length selected
+    → IsFirst setting image input (run_of 0 g keys others selected visits 0 starts None)
+first_run setting image input g keys others selected visits starts valid is made none chosen counted =
+    let first : Guest = first_guest image input setting.choice.output_limit setting.choice.layout in
+    let empty : Keys = replicate 256 None in
+    let ticks : ℕ = 0 + ticks_in setting g 0 in
+    let kept : visits.kept ≡ [] = ap (λ (vs : Visits). vs.kept) none in
+    let limit : visits.limit ≡ setting.choice.visit_limit = ap (λ (vs : Visits). vs.limit) none in
+    let none_kept : length visits.kept ≡ 0 = ap length kept in
+    let some : 1 ≤ setting.choice.visit_limit = valid.some_visits in
+    let one : length (selected_of setting g (0 ∷ [])) ≤ 1 = one_at_most (λ hart. selects setting (pc_of g hart)) 0 in
+    let same : length selected ≡ length (selected_of setting g (0 ∷ [])) = ap length chosen in
+    let below : 0 < length empty = rw length-replicate (lit< tt) in
+    let more : many keys ≡ many empty + 1 = ap many made ∙ many_with empty 0 ticks below (no_keys 256 0) in
+    record {
+      reached = record {
+        reached = first_state setting first g keys others selected visits starts valid.speedup is made kept (counted ∙ ap length chosen);
+        room = ap length made ∙ length-set empty 0 (Some ticks) ∙ length-replicate {A = Option ℕ} 256 None;
+        limit = limit;
+        unfull = λ _. omega (arith, none_kept, some);
+        retired = omega arith;
+        few = omega (arith, counted, same, one, more);
+        within = first_within (ticks_in setting g) keys (ticks_few (selects setting) setting.choice.speedup g 0) made;
+      };
+      retired = refl;
+      ending = refl;
+      kept = kept;
+      selected = chosen;
+    }

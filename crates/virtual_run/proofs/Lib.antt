@@ -1,5 +1,14 @@
 pub mod Keys
+pub mod Many
 pub mod Begin
 pub mod Moves
 pub mod Law
 mod Rows
+pub mod Credited
+pub mod CreditedSteps
+pub mod CreditedLists
+pub mod CreditedBounds
+pub mod CreditedPlaces
+pub mod Made
+pub mod CreditedBegin
+pub mod CreditedRun

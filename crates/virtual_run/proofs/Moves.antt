@@ -1,26 +1,33 @@
 -- One move of the shortened machine.
-use Rattle.std.proofs.Common.{◌≡◌, ℕ, zero, suc, ◌+◌, ◌-◌, ◌*◌, Bool, ◌||◌, true, false, if◌then◌else◌, ◌==◌, nat_le, List, [], ◌∷◌, length, get_or, filter, replicate, Option, Some, None, refl, ap, sym, subst, ◌∙◌, arith, add-one, ne_eqb, lit<}
+use Rattle.std.proofs.Common.{◌≡◌, ℕ, zero, suc, ◌+◌, ◌-◌, ◌*◌, ◌≤◌, Bool, ◌||◌, true, false, if◌then◌else◌, ◌==◌, nat_le, List, [], ◌∷◌, ◌++◌, map, length, get_or, replicate, Option, Some, None, option_map, refl, ap, sym, subst, ◌∙◌, arith, add-one, ne_eqb, lit<}
+use Rattle.std.specs.Option.{option_to_list}
+use Rattle.std.proofs.lemmas.List.{length-map, map-append}
 use Rattle.coz_types.specs.declared.ending.Ending.{Ending}
+use Rattle.coz_types.specs.declared.record.Visit.{Visit}
 use Rattle.hart_schedule.specs.Keys.{Keys, key_of, with_key, without_key, IsLeast}
 use Rattle.machines.specs.declared.Fate.{Fate}
 use Rattle.machines.specs.Guest.{Experiment, Retirement, cost, cut, goes_on, started, ending_after}
 use Rattle.machines.specs.Places.{change, change_each, is_among, AllApart}
 use Rattle.machines.specs.Delayed.{is_any}
 use Rattle.machines.specs.Shortened as short
-use Rattle.machines.specs.Shortened.{Shortened, Turn, next_turn, move, move_by, retirement, leave, ending, begin, over_or, runs_any, unbegun, shortened}
+use Rattle.machines.specs.Shortened.{Shortened, NetVisit, Turn, next_turn, move, move_by, retirement, leave, ending, begin, over_or, runs_any, unbegun, shortened}
 use Rattle.machines.proofs.Maps.{change_each_at}
 use Rattle.cost_table.specs.Costs.{cycles_of}
-use Rattle.guest_calls.specs.Guest.{Guest}
+use Rattle.progress_points.specs.Points.{point_of}
+use Rattle.guest_calls.specs.Guest.{Guest, pc_of}
 use Rattle.guest_calls.specs.Retire.{next_of, retire}
+use Rattle.virtual_run.specs.declared.choice.Setting.{Setting}
 use Rattle.virtual_run.specs.declared.run.Run.{Run}
-use Rattle.virtual_run.specs.Begin.{due_from, started_by, AreBegun}
+use Rattle.virtual_run.specs.Visits.{Visits, visits_of, net_of}
+use Rattle.virtual_run.specs.Begin.{started_by, AreBegun}
 use Rattle.virtual_run.specs.Ending.{ending_of, runs_after}
-use Rattle.virtual_run.specs.Run.{experiment_from, output_limit, AreDues, state_of, IsStateOf}
+use Rattle.virtual_run.specs.Run.{experiment_in, selects, selected_of, ticks_in, AreDues, state_of, IsStateOf}
 use Rattle.virtual_run.proofs.Keys.{with_key_at, no_keys, dues_without, next_is, same_runs}
+use Rattle.virtual_run.proofs.Begin.{ticks_less}
 
 -- a state of a run
-abbrev pub state : ℕ → Guest → List (Option ℕ) → ℕ → Option Ending → Shortened Guest
-state time g dues retired e = record { time = time; guest = g; dues = dues; visits = []; retired = retired; starts = 0; ending = e }
+abbrev pub state : ℕ → Guest → List (Option ℕ) → List NetVisit → ℕ → ℕ → Option Ending → Shortened Guest
+state time g dues visits retired starts e = record { time = time; guest = g; dues = dues; visits = visits; retired = retired; starts = starts; ending = e }
 
 abbrev pub outcome : Guest → Fate → List ℕ → Retirement Guest
 outcome g fate others = record { guest = g; fate = fate; others = others }
@@ -29,141 +36,173 @@ outcome g fate others = record { guest = g; fate = fate; others = others }
 abbrev taken : ℕ → List (Option ℕ) → List (Option ℕ)
 taken h dues = change None h (λ _. None) dues
 
--- what a move comes to with a retirement
-abbrev moved_by : Guest → ℕ → Retirement Guest → ℕ → ℕ → List (Option ℕ) → ℕ → Shortened Guest
-moved_by first budget r h due dues retired =
-    let left : Shortened Guest = state due r.guest (taken h dues) (retired + 1) None in
+-- the visit of a point, if there is one, at a net time
+abbrev net_visits : Option ℕ → ℕ → ℕ → List NetVisit
+net_visits point h due = option_to_list (option_map (λ p. record { point = p; hart = h; time = due }) point)
+
+-- what a move comes to with a retirement, after which there are these visits
+abbrev pub moved_by : Experiment Guest → ℕ → Retirement Guest → ℕ → ℕ → List (Option ℕ) → List NetVisit → ℕ → ℕ → Shortened Guest
+moved_by x h r due starts dues visits retired count =
+    let left : Shortened Guest = state due r.guest (taken h dues) visits (retired + 1) starts None in
     over_or
-    (ending_after (experiment_from first budget) r 0 (is_any (started h r) || runs_any (taken h dues)) (retired + 1))
+    (ending_after x r count (is_any (started h r) || runs_any (taken h dues)) (retired + 1))
     left
-    (begin (experiment_from first budget) (started h r) due left)
+    (begin x (started h r) due left)
 
 -- a hart's turn
-turned : (first : Guest) (budget time : ℕ) (g : Guest) (dues : List (Option ℕ)) (h due retired : ℕ) → next_turn dues ≡ Some (record { hart = h; due = due })
-    → move (experiment_from first budget) (state time g dues retired None) ≡ moved_by first budget (retire g h due) h due dues retired
+turned : (x : Experiment Guest) (time : ℕ) (g : Guest) (dues : List (Option ℕ)) (visits : List NetVisit) (h due retired starts : ℕ) → next_turn dues ≡ Some (record { hart = h; due = due })
+    → move x (state time g dues visits retired starts None)
+    ≡ moved_by x h (x.guest.retire g h due) due starts dues (visits ++ net_visits (x.guest.point g h) h due) retired (length (visits ++ net_visits (x.guest.point g h) h due))
 unfolding move move_by short.retire ending leave retirement
-turned first budget time g dues h due retired turn = ap (λ (t : Option Turn). move_by (experiment_from first budget) None t (state time g dues retired None)) turn
+turned x time g dues visits h due retired starts turn = ap (λ (t : Option Turn). move_by x None t (state time g dues visits retired starts None)) turn
 
 any_started : (b : Bool) (h : ℕ) (others : List ℕ) (keys dues : List (Option ℕ)) → runs_any keys ≡ runs_any dues
     → (is_any (if b then h ∷ others else others) || runs_any dues) ≡ (b || is_any others || runs_any keys)
 any_started true h others keys dues same = refl
 any_started false h others keys dues same = rw same refl
 
--- the ending of the machine is that of the code
-ends_as : (first : Guest) (budget : ℕ) (g : Guest) (fate : Fate) (others : List ℕ) (h : ℕ) (keys dues : List (Option ℕ)) (retired : ℕ) → runs_any keys ≡ runs_any dues
-    → ending_after (experiment_from first budget) (outcome g fate others) 0 (is_any (started h (outcome g fate others)) || runs_any dues) retired
-    ≡ ending_of fate (nat_le output_limit (length g.output)) (runs_after fate others keys) retired budget
-unfolding ending_after
-ends_as first budget g fate others h keys dues retired same =
-    ap (λ (b : Bool). ending_of fate (nat_le output_limit (length g.output)) b retired budget) (any_started (goes_on fate) h others keys dues same)
+-- a visit with the delay that there is then is one at its net time
+net_by : (point : Option ℕ) (h due delay : ℕ) → map net_of (visits_of point h (due + delay) delay) ≡ net_visits point h due
+net_by None h due delay = refl
+net_by (Some p) h due delay =
+    let net : due + delay - delay ≡ due = omega arith in
+    ap (λ (time : ℕ). net_visits (Some p) h time) net
 
-no_starts : (hs : List ℕ) → length (filter (λ _. false) hs) ≡ 0
-no_starts [] = refl
-no_starts (h ∷ hs) = no_starts hs
-
--- the moments once these harts have begun
-abbrev begun_dues : Guest → List ℕ → ℕ → List (Option ℕ) → List (Option ℕ)
-begun_dues g hs due dues = change_each None hs (λ h _. Some (due + 100 * cycles_of (next_of g h) - 0)) dues
-
-begin_is : (first : Guest) (budget : ℕ) (g : Guest) (hs : List ℕ) (due : ℕ) (dues : List (Option ℕ)) (retired : ℕ)
-    → begin (experiment_from first budget) hs due (state due g dues retired None) ≡ state due g (begun_dues g hs due dues) retired None
-unfolding begin cost cut
-begin_is first budget g hs due dues retired =
-    ap (λ (n : ℕ). record (state due g (begun_dues g hs due dues) retired None) { starts = n }) (let none : length (filter (λ _. false) hs) ≡ 0 = no_starts hs in omega arith)
+pub net_kept : (old new : List Visit) (point : Option ℕ) (h due delay : ℕ) → new ≡ old ++ visits_of point h (due + delay) delay → map net_of new ≡ map net_of old ++ net_visits point h due
+net_kept old new point h due delay is =
+    ap (map net_of) is
+    ∙ map-append net_of old (visits_of point h (due + delay) delay)
+    ∙ ap (λ (more : List NetVisit). map net_of old ++ more) (net_by point h due delay)
 
 begun_by : (b : Bool) (n m : ℕ) (o p : Option ℕ) → n ≡ m → o ≡ p → (if b then Some n else o) ≡ (if b then Some m else p)
 begun_by true n m o p due same = ap Some due
 begun_by false n m o p due same = same
 
-pub dues_begun : (g : Guest) (hs : List ℕ) (due : ℕ) (old new : Keys) (dues : List (Option ℕ)) → AllApart hs → AreDues old dues → AreBegun g due hs old new → AreDues new (begun_dues g hs due dues)
-dues_begun g hs due old new dues apart are begun k =
-    begun k
-    ∙ begun_by (is_among k hs) (due_from g due k) (due + 100 * cycles_of (next_of g k) - 0) (key_of old k) (get_or dues k None) (omega arith) (are k)
-    ∙ sym (change_each_at None hs (λ h _. Some (due + 100 * cycles_of (next_of g h) - 0)) k dues apart)
-
 -- the code's fields after a move
-abbrev pub run_of : ℕ → Guest → Keys → List ℕ → ℕ → Option Ending → Run
-run_of time g keys others retired e = record { guest = g; schedule = keys; started = others; time = time; retired = retired; ending = e }
+abbrev pub run_of : ℕ → Guest → Keys → List ℕ → List ℕ → Visits → ℕ → ℕ → Option Ending → Run
+run_of time g keys others selected visits retired starts e =
+    record { guest = g; schedule = keys; started = others; selected = selected; visits = visits; time = time; retired = retired; starts = starts; ending = e }
 
 -- a move as the code makes it, which leaves these keys once the retiring hart is taken out
-pub record IsMove (run : Run) (budget : ℕ) (left : Keys) (h due : ℕ) (after : Guest) (fate : Fate) (others : List ℕ) (e : Option Ending) : Type 0 where
+pub record IsMove (setting : Setting) (run : Run) (left : Keys) (h due : ℕ) (after : Guest) (fate : Fate) (others : List ℕ) (kept : List Visit) (e : Option Ending) : Type 0 where
   pub goes : run.ending ≡ None
   pub turn : key_of run.schedule h ≡ Some due
   pub first : IsLeast run.schedule h
   pub taken : left ≡ without_key h run.schedule
   pub retires : outcome after fate others ≡ retire run.guest h due
-  pub ends : e ≡ ending_of fate (nat_le output_limit (length after.output)) (runs_after fate others left) (run.retired + 1) budget
+  pub visits : map net_of kept ≡ map net_of run.visits.kept ++ net_visits (point_of setting.points.now (pc_of run.guest h)) h due
+  pub ends : e ≡ ending_of fate (nat_le setting.choice.output_limit (length after.output)) (nat_le setting.choice.visit_limit (length kept)) (runs_after fate others left) (run.retired + 1) setting.choice.budget
 
-dues_left : (run : Run) (budget : ℕ) (left : Keys) (h due : ℕ) (after : Guest) (fate : Fate) (others : List ℕ) (e : Option Ending) (dues : List (Option ℕ))
-    → IsMove run budget left h due after fate others e → AreDues run.schedule dues → AreDues left (taken h dues)
-dues_left run budget left h due after fate others e dues m are = subst (λ (keys : Keys). AreDues keys (taken h dues)) (sym m.taken) (dues_without run.schedule dues h are)
+module _ (setting : Setting) (first : Guest) where
+  abbrev x : Experiment Guest
+  x = experiment_in setting first
 
-moved : (first : Guest) (run : Run) (budget : ℕ) (left : Keys) (h due : ℕ) (after : Guest) (fate : Fate) (others : List ℕ) (e : Option Ending) (dues : List (Option ℕ))
-    → IsMove run budget left h due after fate others e → AreDues run.schedule dues
-    → move (experiment_from first budget) (state_of run dues)
-    ≡ over_or e (state due after (taken h dues) (run.retired + 1) None) (begin (experiment_from first budget) (started_by h fate others) due (state due after (taken h dues) (run.retired + 1) None))
-moved first run budget left h due after fate others e dues m are =
-    let rest : Shortened Guest = state due after (taken h dues) (run.retired + 1) None in
-    let same : runs_any left ≡ runs_any (taken h dues) = same_runs left (taken h dues) (dues_left run budget left h due after fate others e dues m are) in
-    ap (λ (o : Option Ending). move (experiment_from first budget) (state run.time run.guest dues run.retired o)) m.goes
-    ∙ turned first budget run.time run.guest dues h due run.retired (next_is run.schedule dues h due are m.turn m.first)
-    ∙ ap (λ (r : Retirement Guest). moved_by first budget r h due dues run.retired) (sym m.retires)
-    ∙ ap (λ (o : Option Ending). over_or o rest (begin (experiment_from first budget) (started_by h fate others) due rest))
-    (ends_as first budget after fate others h left (taken h dues) (run.retired + 1) same ∙ sym m.ends)
+  -- the ending of the machine is that of the code
+  ends_as : (g : Guest) (fate : Fate) (others : List ℕ) (h : ℕ) (keys dues : List (Option ℕ)) (count retired : ℕ) → runs_any keys ≡ runs_any dues
+      → ending_after x (outcome g fate others) count (is_any (started h (outcome g fate others)) || runs_any dues) retired
+      ≡ ending_of fate (nat_le setting.choice.output_limit (length g.output)) (nat_le setting.choice.visit_limit count) (runs_after fate others keys) retired setting.choice.budget
+  unfolding ending_after
+  ends_as g fate others h keys dues count retired same =
+      ap (λ (b : Bool). ending_of fate (nat_le setting.choice.output_limit (length g.output)) (nat_le setting.choice.visit_limit count) b retired setting.choice.budget)
+      (any_started (goes_on fate) h others keys dues same)
 
--- the run ends with the move
-pub ended : (first : Guest) (run : Run) (budget : ℕ) (left : Keys) (h due : ℕ) (after : Guest) (fate : Fate) (others : List ℕ) (e : Option Ending) (a : Ending) (dues : List (Option ℕ))
-    → IsMove run budget left h due after fate others e → e ≡ Some a → AreDues run.schedule dues
-    → IsStateOf (run_of due after left others (run.retired + 1) e) (move (experiment_from first budget) (state_of run dues))
-ended first run budget left h due after fate others e a dues m some are =
-    let rest : Shortened Guest = state due after (taken h dues) (run.retired + 1) None in
-    let is : move (experiment_from first budget) (state_of run dues) ≡ state due after (taken h dues) (run.retired + 1) e =
-    moved first run budget left h due after fate others e dues m are
-    ∙ ap (λ (o : Option Ending). over_or o rest (begin (experiment_from first budget) (started_by h fate others) due rest)) some
-    ∙ ap (λ (o : Option Ending). state due after (taken h dues) (run.retired + 1) o) (sym some) in
-    subst (IsStateOf (run_of due after left others (run.retired + 1) e)) (sym is)
-    (record { state = refl; dues = dues_left run budget left h due after fate others e dues m are })
+  -- the moments once these harts have begun
+  abbrev due_at : Guest → ℕ → ℕ → ℕ
+  due_at g due h = due + 100 * cycles_of (next_of g h) - (if selects setting (pc_of g h) then setting.choice.speedup * cycles_of (next_of g h) else 0)
 
--- the run goes on
-pub goes : (first : Guest) (run : Run) (budget : ℕ) (left new : Keys) (h due : ℕ) (after : Guest) (fate : Fate) (others : List ℕ) (e : Option Ending) (dues : List (Option ℕ))
-    → IsMove run budget left h due after fate others e → e ≡ None → AllApart (started_by h fate others) → AreBegun after due (started_by h fate others) left new → AreDues run.schedule dues
-    → IsStateOf (run_of due after new others (run.retired + 1) e) (move (experiment_from first budget) (state_of run dues))
-goes first run budget left new h due after fate others e dues m none apart begun are =
-    let hs : List ℕ = started_by h fate others in
-    let rest : Shortened Guest = state due after (taken h dues) (run.retired + 1) None in
-    let is : move (experiment_from first budget) (state_of run dues) ≡ state due after (begun_dues after hs due (taken h dues)) (run.retired + 1) e =
-    moved first run budget left h due after fate others e dues m are
-    ∙ ap (λ (o : Option Ending). over_or o rest (begin (experiment_from first budget) hs due rest)) none
-    ∙ begin_is first budget after hs due (taken h dues) (run.retired + 1)
-    ∙ ap (λ (o : Option Ending). state due after (begun_dues after hs due (taken h dues)) (run.retired + 1) o) (sym none) in
-    subst (IsStateOf (run_of due after new others (run.retired + 1) e)) (sym is)
-    (record { state = refl; dues = dues_begun after hs due left new (taken h dues) apart (dues_left run budget left h due after fate others e dues m are) begun })
+  abbrev begun_dues : Guest → List ℕ → ℕ → List (Option ℕ) → List (Option ℕ)
+  begun_dues g hs due dues = change_each None hs (λ h _. Some (due_at g due h)) dues
 
--- before the first move
+  begin_is : (g : Guest) (hs : List ℕ) (due : ℕ) (dues : List (Option ℕ)) (visits : List NetVisit) (retired starts : ℕ)
+      → begin x hs due (state due g dues visits retired starts None) ≡ state due g (begun_dues g hs due dues) visits retired (starts + length (selected_of setting g hs)) None
+  unfolding begin cost cut
+  begin_is g hs due dues visits retired starts = refl
+
+  pub dues_begun : (g : Guest) (hs : List ℕ) (due : ℕ) (old new : Keys) (dues : List (Option ℕ)) → setting.choice.speedup ≤ 95 → AllApart hs → AreDues old dues → AreBegun (ticks_in setting g) due hs old new → AreDues new (begun_dues g hs due dues)
+  dues_begun g hs due old new dues small apart are begun k =
+      begun k
+      ∙ begun_by (is_among k hs) (due + ticks_in setting g k) (due_at g due k) (key_of old k) (get_or dues k None) (ticks_less (selects setting) setting.choice.speedup due g k (omega arith)) (are k)
+      ∙ sym (change_each_at None hs (λ h _. Some (due_at g due h)) k dues apart)
+
+  module _ (run : Run) (left : Keys) (h due : ℕ) (after : Guest) (fate : Fate) (others : List ℕ) (visits : List Visit) (e : Option Ending) (m : IsMove setting run left h due after fate others visits e) (dues : List (Option ℕ)) (are : AreDues run.schedule dues) where
+    dues_left : AreDues left (taken h dues)
+    dues_left = subst (λ (keys : Keys). AreDues keys (taken h dues)) (sym m.taken) (dues_without run.schedule dues h are)
+
+    abbrev rest : Shortened Guest
+    rest = state due after (taken h dues) (map net_of visits) (run.retired + 1) run.starts None
+
+    abbrev net : List NetVisit
+    net = map net_of run.visits.kept ++ net_visits (point_of setting.points.now (pc_of run.guest h)) h due
+
+    moved : move x (state_of run dues) ≡ over_or e rest (begin x (started_by h fate others) due rest)
+    moved =
+        let same : runs_any left ≡ runs_any (taken h dues) = same_runs left (taken h dues) dues_left in
+        ap (λ (o : Option Ending). move x (state run.time run.guest dues (map net_of run.visits.kept) run.retired run.starts o)) m.goes
+        ∙ turned x run.time run.guest dues (map net_of run.visits.kept) h due run.retired run.starts (next_is run.schedule dues h due are m.turn m.first)
+        ∙ ap (λ (r : Retirement Guest). moved_by x h r due run.starts dues net run.retired (length net)) (sym m.retires)
+        ∙ ap (λ (vs : List NetVisit). moved_by x h (outcome after fate others) due run.starts dues vs run.retired (length vs)) (sym m.visits)
+        ∙ ap (λ (n : ℕ). moved_by x h (outcome after fate others) due run.starts dues (map net_of visits) run.retired n) (length-map visits net_of)
+        ∙ ap (λ (o : Option Ending). over_or o rest (begin x (started_by h fate others) due rest))
+        (ends_as after fate others h left (taken h dues) (length visits) (run.retired + 1) same ∙ sym m.ends)
+
+    -- the run ends with the move
+    pub ended : (a : Ending) (selected : List ℕ) (limit : ℕ) → e ≡ Some a
+        → IsStateOf (run_of due after left others selected (record { kept = visits; limit = limit }) (run.retired + 1) run.starts e) (move x (state_of run dues))
+    ended a selected limit some =
+        let is : move x (state_of run dues) ≡ state due after (taken h dues) (map net_of visits) (run.retired + 1) run.starts e =
+        moved
+        ∙ ap (λ (o : Option Ending). over_or o rest (begin x (started_by h fate others) due rest)) some
+        ∙ ap (λ (o : Option Ending). state due after (taken h dues) (map net_of visits) (run.retired + 1) run.starts o) (sym some) in
+        subst (IsStateOf (run_of due after left others selected (record { kept = visits; limit = limit }) (run.retired + 1) run.starts e)) (sym is)
+        (record { state = refl; dues = dues_left })
+
+    -- the run goes on
+    pub goes : (new : Keys) (selected : List ℕ) (limit starts : ℕ) → e ≡ None → setting.choice.speedup ≤ 95 → AllApart (started_by h fate others) → AreBegun (ticks_in setting after) due (started_by h fate others) left new
+        → starts ≡ run.starts + length (selected_of setting after (started_by h fate others))
+        → IsStateOf (run_of due after new others selected (record { kept = visits; limit = limit }) (run.retired + 1) starts e) (move x (state_of run dues))
+    goes new selected limit starts none small apart begun counted =
+        let hs : List ℕ = started_by h fate others in
+        let is : move x (state_of run dues) ≡ state due after (begun_dues after hs due (taken h dues)) (map net_of visits) (run.retired + 1) starts e =
+        moved
+        ∙ ap (λ (o : Option Ending). over_or o rest (begin x hs due rest)) none
+        ∙ begin_is after hs due (taken h dues) (map net_of visits) (run.retired + 1) run.starts
+        ∙ ap (λ (n : ℕ). state due after (begun_dues after hs due (taken h dues)) (map net_of visits) (run.retired + 1) n None) (sym counted)
+        ∙ ap (λ (o : Option Ending). state due after (begun_dues after hs due (taken h dues)) (map net_of visits) (run.retired + 1) starts o) (sym none) in
+        subst (IsStateOf (run_of due after new others selected (record { kept = visits; limit = limit }) (run.retired + 1) starts e)) (sym is)
+        (record { state = refl; dues = dues_begun after hs due left new (taken h dues) small apart dues_left begun })
+
+  -- before the first move
+  at_first : shortened x 0 ≡ state 0 first (Some (due_at first 0 0) ∷ []) [] 0 (length (selected_of setting first (0 ∷ []))) None
+  unfolding shortened begin unbegun cost cut
+  at_first =
+      let sum : 0 + length (selected_of setting first (0 ∷ [])) ≡ length (selected_of setting first (0 ∷ [])) = omega arith in
+      ap (λ (n : ℕ). state 0 first (Some (due_at first 0 0) ∷ []) [] 0 n None) sum
+
 pub first_key : (v : ℕ) (keys : Keys) → keys ≡ with_key 0 v (replicate 256 None) → (k : ℕ) → key_of keys k ≡ (if k == 0 then Some v else None)
 first_key v keys made k =
     ap (λ (keys : Keys). key_of keys k) made
     ∙ with_key_at (replicate 256 None) 0 v k (lit< tt)
     ∙ ap (λ (o : Option ℕ). if k == 0 then Some v else o) (no_keys 256 k)
 
-pub at_first : (first : Guest) (budget : ℕ) → shortened (experiment_from first budget) 0 ≡ state 0 first (Some (due_from first 0 0) ∷ []) 0 None
-unfolding shortened begin unbegun cost cut
-at_first first budget =
-    let whole : 0 + 100 * cycles_of (next_of first 0) - 0 ≡ due_from first 0 0 = omega arith in
-    ap (λ (n : ℕ). state 0 first (Some n ∷ []) 0 None) whole
-
 first_due : (v w k : ℕ) (keys : Keys) → v ≡ w → key_of keys k ≡ (if k == 0 then Some v else None) → key_of keys k ≡ get_or (Some w ∷ []) k None
 first_due v w zero keys same is = is ∙ ap Some same
 first_due v w (suc k) keys same is = is ∙ rw (ne_eqb (suc k) 0 (λ (e : suc k ≡ 0). let no : ⊥ = omega (arith, e) in no)) refl
 
-pub first_state : (first g : Guest) (budget : ℕ) (keys : Keys) (others : List ℕ) → g ≡ first → keys ≡ with_key 0 (due_from g 0 0) (replicate 256 None)
-    → IsStateOf (run_of 0 g keys others 0 None) (shortened (experiment_from first budget) 0)
-first_state first g budget keys others is made =
-    let due_is : due_from g 0 0 ≡ due_from first 0 0 = ap (λ (g : Guest). due_from g 0 0) is in
-    subst (IsStateOf (run_of 0 g keys others 0 None)) (sym (at_first first budget))
+pub first_state : (setting : Setting) (first g : Guest) (keys : Keys) (others selected : List ℕ) (visits : Visits) (starts : ℕ) → setting.choice.speedup ≤ 95 → g ≡ first → keys ≡ with_key 0 (0 + ticks_in setting g 0) (replicate 256 None)
+    → visits.kept ≡ [] → starts ≡ length (selected_of setting g (0 ∷ []))
+    → IsStateOf (run_of 0 g keys others selected visits 0 starts None) (shortened (experiment_in setting first) 0)
+first_state setting first g keys others selected visits starts small is made none counted =
+    let due_is : 0 + ticks_in setting g 0 ≡ due_at setting first first 0 0 =
+    ap (λ (g : Guest). 0 + ticks_in setting g 0) is ∙ ticks_less (selects setting) setting.choice.speedup 0 first 0 (omega arith) in
+    let starts_is : length (selected_of setting first (0 ∷ [])) ≡ starts = ap (λ (g : Guest). length (selected_of setting g (0 ∷ []))) (sym is) ∙ sym counted in
+    let dues : List (Option ℕ) = Some (due_at setting first first 0 0) ∷ [] in
+    subst (IsStateOf (run_of 0 g keys others selected visits 0 starts None)) (sym (at_first setting first))
     (record {
-      state = ap (λ (g : Guest). state 0 g (Some (due_from first 0 0) ∷ []) 0 None) (sym is);
-      dues = λ k. first_due (due_from g 0 0) (due_from first 0 0) k keys due_is (first_key (due_from g 0 0) keys made k);
+      state =
+          ap (λ (g : Guest). state 0 g dues [] 0 (length (selected_of setting first (0 ∷ []))) None) (sym is)
+          ∙ ap (λ (n : ℕ). state 0 g dues [] 0 n None) starts_is
+          ∙ ap (λ (vs : List Visit). state 0 g dues (map net_of vs) 0 starts None) (sym none);
+      dues = λ k. first_due (0 + ticks_in setting g 0) (due_at setting first first 0 0) k keys due_is (first_key (0 + ticks_in setting g 0) keys made k);
     })
 
 -- one move more

@@ -1,16 +1,17 @@
 -- How harts begin their next instructions.
-use Rattle.std.specs.Prelude.{◌≡◌, ℕ, ◌+◌, ◌*◌, ◌<◌, true, if◌then◌else◌, List, ◌∷◌, length, Some, None}
-use Rattle.cost_table.specs.Costs.{cycles_of}
+use Rattle.std.specs.Prelude.{◌≡◌, ℕ, suc, ◌+◌, ◌*◌, ◌<◌, Bool, true, if◌then◌else◌, List, [], ◌∷◌, length, Some, None}
+use Rattle.cost_table.specs.Costs.{cycles_of, reduced_cost}
 use Rattle.hart_schedule.specs.Keys.{Keys, key_of}
 use Rattle.machines.specs.declared.Fate.{Fate}
 use Rattle.machines.specs.Guest.{goes_on}
 use Rattle.machines.specs.Places.{is_among, AllApart}
-use Rattle.guest_calls.specs.Guest.{Guest, IsMade}
+use Rattle.guest_calls.specs.Guest.{Guest, IsMade, pc_of}
 use Rattle.guest_calls.specs.Retire.{next_of}
 
--- when a hart's next instruction retires that begins at a moment
-abbrev pub due_from : Guest → ℕ → ℕ → ℕ
-due_from g moment hart = moment + 100 * cycles_of (next_of g hart)
+-- the ticks of a hart's next instruction: fewer where its address is a selected one, as the speedup in per cent says
+abbrev pub ticks_of : (ℕ → Bool) → ℕ → Guest → ℕ → ℕ
+ticks_of is_selected speedup g hart =
+    if is_selected (pc_of g hart) then reduced_cost (cycles_of (next_of g hart)) speedup else 100 * cycles_of (next_of g hart)
 
 -- the harts that a retirement of this fate starts: the retiring one if it goes on, and those that it made or woke
 abbrev pub started_by : ℕ → Fate → List ℕ → List ℕ
@@ -27,7 +28,13 @@ pub record AreIdle (g : Guest) (keys : Keys) (harts : List ℕ) : Type 0 where
   pub apart : AllApart harts
   pub idle : (hart : ℕ) → is_among hart harts ≡ true → IsIdle g keys hart
 
--- the next instruction of each of these harts begins at a moment, and each other hart is due as before
-abbrev pub AreBegun : Guest → ℕ → List ℕ → Keys → Keys → Type 0
-AreBegun g moment harts old new =
-    (hart : ℕ) → key_of new hart ≡ (if is_among hart harts then Some (due_from g moment hart) else key_of old hart)
+-- each of these harts is due as many ticks after a moment as its next instruction takes, and each other hart as before
+abbrev pub AreBegun : (ℕ → ℕ) → ℕ → List ℕ → Keys → Keys → Type 0
+AreBegun ticks moment harts old new =
+    (hart : ℕ) → key_of new hart ≡ (if is_among hart harts then Some (moment + ticks hart) else key_of old hart)
+
+-- how many harts are in the schedule
+abbrev pub many : Keys → ℕ
+many [] = 0
+many (None ∷ keys) = many keys
+many (Some due ∷ keys) = suc (many keys)

@@ -1,19 +1,20 @@
 -- The ending that a retirement may bring.
 use Rattle.std.specs.Prelude.{ℕ, Bool, not, ◌||◌, nat_le, List, [], ◌∷◌, Option}
 use Rattle.coz_types.specs.declared.ending.Ending.{Ending}
-use Rattle.coz_types.specs.declared.ending.Ending.TheVariants.{OutputFull, Stalled, Spent}
+use Rattle.coz_types.specs.declared.ending.Ending.TheVariants.{OutputFull, VisitsFull, Stalled, Spent}
 use Rattle.machines.specs.declared.Fate.{Fate}
 use Rattle.machines.specs.Guest.{goes_on, own_ending, when, first_ending}
 use Rattle.machines.specs.Delayed.{is_any}
 use Rattle.machines.specs.Shortened.{runs_any}
 use Rattle.hart_schedule.specs.Keys.{Keys}
 
--- how a run ends with a retirement of this fate, where the output is full or isn't, where some hart runs after it or none does, with so many retired instructions by then
-abbrev pub ending_of : Fate → Bool → Bool → ℕ → ℕ → Option Ending
-ending_of fate full some_hart_runs retired budget =
+-- how a run ends with a retirement of this fate, where the output and the visits are full or aren't, where some hart runs after it or none does, with so many retired instructions by then
+abbrev pub ending_of : Fate → Bool → Bool → Bool → ℕ → ℕ → Option Ending
+ending_of fate output_full visits_full some_hart_runs retired budget =
     first_ending
     (own_ending fate
-    ∷ when full OutputFull
+    ∷ when output_full OutputFull
+    ∷ when visits_full VisitsFull
     ∷ when (not some_hart_runs) Stalled
     ∷ when (nat_le budget retired) Spent
     ∷ [])

@@ -1,40 +1,80 @@
--- The run of a program: the shortened machine over its guest, without a selected line.
-use Rattle.std.specs.Prelude.{◌≡◌, ℕ, ◌+◌, ◌*◌, ◌^◌, ◌≤◌, false, List, [], length, get_or, Option, Some, None, is_some}
+-- The run of a program: the machines over its guest, with a selected line and progress points.
+use Rattle.std.specs.Prelude.{◌≡◌, ℕ, ◌+◌, ◌*◌, ◌^◌, ◌≤◌, ◌<◌, ◌==◌, Bool, false, List, [], ◌∷◌, map, filter, length, get_or, Option, Some, None, is_some, option_map}
 use Rattle.coz_types.specs.Image.{ImageParts}
 use Rattle.hart_schedule.specs.Keys.{Keys, key_of, IsEmpty}
 use Rattle.machines.specs.Guest.{Experiment}
 use Rattle.machines.specs.Shortened.{Shortened, shortened}
-use Rattle.guest_memory.specs.Regions.{usual}
-use Rattle.guest_calls.specs.Guest.{Guest, is_running, first_guest}
+use Rattle.line_index.specs.Index.{position_at}
+use Rattle.progress_points.specs.Points.{point_of}
+use Rattle.guest_memory.specs.Regions.{IsLayout}
+use Rattle.guest_calls.specs.Guest.{Guest, pc_of, is_running, first_guest}
 use Rattle.guest_calls.specs.Plug.{plug}
 use Rattle.guest_calls.specs.Orderly.{IsOrderly}
+use Rattle.virtual_run.specs.declared.choice.Choice.{Choice}
+use Rattle.virtual_run.specs.declared.choice.Setting.{Setting}
 use Rattle.virtual_run.specs.declared.run.Run.{Run}
+use Rattle.virtual_run.specs.Visits.{net_of}
+use Rattle.virtual_run.specs.Begin.{ticks_of, many}
 
--- the limits of the commands
-abbrev pub output_limit : ℕ
-output_limit = 4194304
+-- within the limits
+pub record IsChoice (c : Choice) : Type 0 where
+  pub speedup : c.speedup ≤ 95
+  pub some_budget : 1 ≤ c.budget
+  pub few : c.budget ≤ 10 ^ 12
+  pub some_output : 1 ≤ c.output_limit
+  pub output : c.output_limit ≤ 67108864
+  pub some_visits : 1 ≤ c.visit_limit
+  pub visits : c.visit_limit ≤ 1048576
+  pub layout : IsLayout c.layout
 
-abbrev pub visit_limit : ℕ
-visit_limit = 1048576
+-- the number of the selected line
+abbrev pub selected_line : Choice → Option ℕ
+selected_line choice = option_map (λ line. line.0) choice.selected
 
--- no address has the selected line, and none is an entry of a progress line
-abbrev pub experiment_from : Guest → ℕ → Experiment Guest
-experiment_from first budget = record {
-  guest = plug (λ _. false) (λ _. None);
+abbrev pub is_line : ℕ → Option ℕ → Bool
+is_line line None = false
+is_line line (Some other) = other == line
+
+-- the address has the selected line; `position` gives the line of an address
+abbrev pub has_selected : Option ℕ → (ℕ → Option ℕ) → ℕ → Bool
+has_selected None position a = false
+has_selected (Some line) position a = is_line line (position a)
+
+-- the guest of a run: what lines and points addresses have, and what is chosen
+abbrev pub experiment_from : Guest → (ℕ → Option ℕ) → (ℕ → Option ℕ) → Choice → Experiment Guest
+experiment_from first position point choice = record {
+  guest = plug (has_selected (selected_line choice) position) point;
   first = first;
-  speedup = 0;
-  budget = budget;
-  visit_limit = visit_limit;
-  output_limit = output_limit;
+  speedup = choice.speedup;
+  budget = choice.budget;
+  visit_limit = choice.visit_limit;
+  output_limit = choice.output_limit;
 }
 
--- the run of an image on an input, within a budget
-abbrev pub experiment : ImageParts → List ℕ → ℕ → Experiment Guest
-experiment image input budget = experiment_from (first_guest image input output_limit usual) budget
+-- the run of an image on an input
+abbrev pub experiment : ImageParts → (ℕ → Option ℕ) → (ℕ → Option ℕ) → List ℕ → Choice → Experiment Guest
+experiment image position point input choice =
+    experiment_from (first_guest image input choice.output_limit choice.layout) position point choice
+
+-- in a setting, the guest of a run
+abbrev pub experiment_in : Setting → Guest → Experiment Guest
+experiment_in setting first = experiment_from first (position_at setting.index.now) (point_of setting.points.now) setting.choice
+
+-- whether an address has the selected line
+abbrev pub selects : Setting → ℕ → Bool
+selects setting = has_selected (selected_line setting.choice) (position_at setting.index.now)
+
+-- the ticks of a hart's next instruction
+abbrev pub ticks_in : Setting → Guest → ℕ → ℕ
+ticks_in setting = ticks_of (selects setting) setting.choice.speedup
+
+-- of these harts, those whose next instruction has the selected line
+abbrev pub selected_of : Setting → Guest → List ℕ → List ℕ
+selected_of setting g = filter (λ hart. selects setting (pc_of g hart))
 
 -- the harts that have been made as that run ends
-abbrev pub harts_made : ImageParts → List ℕ → ℕ → ℕ
-harts_made image input budget = length (shortened (experiment image input budget) budget).guest.harts
+abbrev pub harts_made : Experiment Guest → ℕ
+harts_made x = length (shortened x x.budget).guest.harts
 
 -- the state of the shortened machine that the code's fields stand for, with these moments at which harts are due
 abbrev pub state_of : Run → List (Option ℕ) → Shortened Guest
@@ -42,9 +82,9 @@ state_of run dues = record {
   time = run.time;
   guest = run.guest;
   dues = dues;
-  visits = [];
+  visits = map net_of run.visits.kept;
   retired = run.retired;
-  starts = 0;
+  starts = run.starts;
   ending = run.ending;
 }
 
@@ -61,13 +101,6 @@ pub record IsStateOf (run : Run) (s : Shortened Guest) : Type 0 where
 abbrev pub AreWithin : ℕ → Keys → Type 0
 AreWithin moment keys = (hart due : ℕ) → key_of keys hart ≡ Some due → due ≤ moment
 
--- what contracts see of a run
-pub record Seen : Type 0 where
-  pub image : ImageParts
-  pub input : List ℕ
-  pub budget : ℕ
-  pub state : Shortened Guest
-
 -- between the moves of a run that goes on: the harts that run are those that are due
 pub record IsSteady (run : Run) : Type 0 where
   pub goes : run.ending ≡ None
@@ -75,14 +108,25 @@ pub record IsSteady (run : Run) : Type 0 where
   pub running : (hart : ℕ) → is_running run.guest hart ≡ is_some (key_of run.schedule hart)
   pub some_hart : ¬ IsEmpty run.schedule
   pub room : length run.schedule ≡ 256
+  pub unfull : length run.visits.kept < run.visits.limit
   pub within : AreWithin (2 ^ 60) run.schedule
   pub retired : run.retired ≤ 2 ^ 60
+  pub few : run.starts ≤ run.retired + many run.schedule
 
 -- the fields stand for the state after as many moves as instructions were retired
-pub record IsReached (image : ImageParts) (input : List ℕ) (budget : ℕ) (run : Run) : Type 0 where
-  pub reached : IsStateOf run (shortened (experiment image input budget) run.retired)
+pub record IsReached (x : Experiment Guest) (run : Run) : Type 0 where
+  pub reached : IsStateOf run (shortened x run.retired)
   pub room : length run.schedule ≡ 256
-  pub some_budget : 1 ≤ budget
-  pub small_budget : budget ≤ 10 ^ 12
-  pub retired : run.retired ≤ budget
+  pub limit : run.visits.limit ≡ x.visit_limit
+  pub unfull : run.ending ≡ None → length run.visits.kept < x.visit_limit
+  pub retired : run.retired ≤ x.budget
+  pub few : run.starts ≤ run.retired + many run.schedule
   pub within : AreWithin (4000 * (run.retired + 1)) run.schedule
+
+-- as the run of an image on an input begins
+pub record IsFirst (setting : Setting) (image : ImageParts) (input : List ℕ) (run : Run) : Type 0 where
+  pub reached : IsReached (experiment_in setting (first_guest image input setting.choice.output_limit setting.choice.layout)) run
+  pub retired : run.retired ≡ 0
+  pub ending : run.ending ≡ None
+  pub kept : run.visits.kept ≡ []
+  pub selected : run.selected ≡ selected_of setting run.guest (0 ∷ [])

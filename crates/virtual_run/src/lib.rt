@@ -1,8 +1,14 @@
 //! The run of a program under virtual time.
 #![tactic(auto)]
 
-mod program;
+mod accounts;
+mod choice;
+mod machine;
 mod run;
+mod start;
+mod visits;
 
-pub use program::Plain;
-pub use run::Run;
+pub use choice::{Choice, Setting};
+pub use machine::Machine;
+pub use run::{Retired, Run};
+pub use visits::Visits;

@@ -1,32 +1,53 @@
-ghost use Rattle.std.specs.Prelude.{◌≡◌, ℕ, ◌+◌, ◌^◌, ◌≤◌, List, Option, Some, length, map, nat_le, if◌then◌else◌, IsTrue};
-ghost use Rattle.hart_schedule.specs.Keys.{key_of, with_key, without_key, IsEmpty, IsLeast};
-ghost use Rattle.machines.specs.Guest.{goes_on};
+ghost use Rattle.std.specs.Prelude.{◌≡◌, ℕ, ◌+◌, ◌^◌, ◌≤◌, ◌<◌, ◌++◌, [], List, Option, Some, None, length, nat_le, IsSome, IfOk};
+ghost use Rattle.hart_schedule.specs.Keys.{key_of, without_key, IsEmpty, IsLeast};
 ghost use Rattle.machines.specs.Delayed.{is_any};
 ghost use Rattle.machines.specs.Shortened.{move, runs_any};
-ghost use Rattle.virtual_run.specs.Begin.{due_from, started_by, IsIdle, AreIdle, AreBegun};
+ghost use Rattle.progress_points.specs.Points.{point_of};
+ghost use Rattle.guest_calls.specs.Guest.{pc_of};
+ghost use Rattle.guest_calls.specs.Calls.{retirement};
+ghost use Rattle.guest_calls.specs.Retire.{retire};
+ghost use Rattle.virtual_run.specs.Begin.{started_by, many, AreIdle, AreBegun};
 ghost use Rattle.virtual_run.specs.Ending.{ending_of, runs_after};
+ghost use Rattle.virtual_run.specs.Visits.{visits_of};
 
-use cost_table::cycles;
-use coz_types::{Ending, HartId, Tick};
+use crate::start::{begin, begin_again, begin_each};
+use crate::{Choice, Setting, Visits};
+use coz_types::{Address, Ending, HartId, Image, Tick, Visit};
 use guest_calls::{Fate, Guest};
 use guest_futex::HartList;
 use hart_schedule::Schedule;
+use std::alloc::{AllocError, Global};
 
-/// The most bytes that a run writes.
-pub const OUTPUT_LIMIT: u64 = 4194304;
+/// The harts that may be made in a run.
+const HARTS: u32 = 256;
 
-/// A run without a selected line.
+/// The hart that a program begins with.
+const FIRST: HartId = HartId(0);
+
+/// A run in which a selected line really costs less.
 #[derive(Drop)]
 pub struct Run<'a> {
     pub guest: Guest<'a>,
-    /// When each running hart retires.
+    /// When each running hart retires, in net ticks.
     pub schedule: Schedule,
     /// The harts that the last retirement made or woke, in order.
     pub started: HartList,
-    /// When the last retirement was.
+    /// Of the harts that began last, in order, those whose next instruction has the selected line.
+    pub selected: HartList,
+    pub visits: Visits,
+    /// When the last retirement was, in net ticks.
     pub time: Tick,
     pub retired: u64,
+    /// How many selected instructions were begun.
+    pub starts: u64,
     pub ending: Option<Ending>,
+}
+
+/// A hart that has retired an instruction, and what became of it.
+#[derive(Clone, Copy, Debug)]
+pub struct Retired {
+    pub hart: HartId,
+    pub fate: Fate,
 }
 
 /// A hart, and when it retires.
@@ -52,35 +73,25 @@ fn take_first(schedule: &mut Schedule) -> Turn
     Turn { hart, due }
 }
 
-/// A hart's next instruction begins at a moment.
-pub fn begin(guest: &Guest, schedule: &mut Schedule, hart: HartId, moment: Tick)
-    requires idle { IsIdle guest.now schedule.old hart.0 }
-    requires moment { moment ≤ 2 ^ 60 }
-    ensures { schedule.new ≡ with_key hart.0 (due_from guest.now moment hart.0) schedule.old }
+/// Keeps the visit of the point at an address, if there is one.
+fn keep_visit(
+    setting: &Setting,
+    visits: &mut Visits,
+    address: Address,
+    hart: HartId,
+    time: Tick,
+    delay: Tick,
+)
+    requires { length visits.old.kept < visits.old.limit }
+    ensures { visits.new ≡ record visits.old { kept = visits.old.kept ++ visits_of (point_of setting.now.points.now address) hart.0 time delay } }
 {
-    schedule.put(hart, moment + 100 * cycles(guest.next(hart)));
-}
-
-/// The next instruction of the hart that retired begins at that moment, if the hart goes on.
-fn begin_again(guest: &Guest, schedule: &mut Schedule, hart: HartId, fate: Fate, moment: Tick)
-    requires idle { IsTrue (goes_on fate) → IsIdle guest.now schedule.old hart.0 }
-    requires moment { moment ≤ 2 ^ 60 }
-    ensures { schedule.new ≡ (if goes_on fate then with_key hart.0 (due_from guest.now moment hart.0) schedule.old else schedule.old) }
-{
-    if let Fate::Goes = fate {
-        begin(guest, schedule, hart, moment);
-    }
-}
-
-/// The next instructions of these harts begin at a moment.
-fn begin_each(guest: &Guest, schedule: &mut Schedule, harts: &[HartId], moment: Tick)
-    requires idle { AreIdle guest.now schedule.old (map (λ hart. hart.0) harts.now) }
-    requires moment { moment ≤ 2 ^ 60 }
-    ensures begun { AreBegun guest.now moment (map (λ hart. hart.0) harts.now) schedule.old schedule.new }
-    ensures room { length schedule.new ≡ length schedule.old }
-{
-    for hart in harts {
-        begin(guest, schedule, *hart, moment);
+    if let Some(point) = setting.points.point_at(address) {
+        visits.push(Visit {
+            point,
+            hart,
+            time,
+            delay,
+        });
     }
 }
 
@@ -98,19 +109,22 @@ fn runs_any(schedule: &Schedule) -> bool
     schedule.least().is_some()
 }
 
-/// How a run ends with a retirement: as the hart's fate says, or as the output is full, no hart runs or the budget is spent.
+/// How a run ends with a retirement: as the hart's fate says, or as the output or the visits are full, no hart runs or
+/// the budget is spent.
 fn ending_after(
     fate: Fate,
-    full: bool,
+    output_full: bool,
+    visits_full: bool,
     some_hart_runs: bool,
     retired: u64,
     budget: u64,
 ) -> Option<Ending>
-    ensures { result ≡ ending_of fate full some_hart_runs retired budget }
+    ensures { result ≡ ending_of fate output_full visits_full some_hart_runs retired budget }
 {
     match fate {
         Fate::Ends(ending) => Some(ending),
-        _ if full => Some(Ending::OutputFull),
+        _ if output_full => Some(Ending::OutputFull),
+        _ if visits_full => Some(Ending::VisitsFull),
         _ if !some_hart_runs => Some(Ending::Stalled),
         _ if budget <= retired => Some(Ending::Spent),
         _ => None,
@@ -119,33 +133,108 @@ fn ending_after(
 
 impl<'a> Run<'a> {
     ghost use Rattle.guest_calls.specs.Guest.{Guest};
-    ghost use Rattle.virtual_run.specs.Run.{state_of, experiment_from, output_limit, AreDues, AreWithin, IsStateOf, IsSteady};
+    ghost use Rattle.virtual_run.specs.Run.{experiment_in, selected_of, ticks_in, state_of, AreDues, AreWithin, IsChoice, IsStateOf, IsSteady, IsFirst};
 
-    /// One move: the hart that is due first retires, and where the run goes on the harts that this started begin.
-    pub fn advance(&mut self, budget: u64)
-        requires { IsSteady self.old }
-        ensures moved { (first : Guest) (dues : List (Option ℕ)) → AreDues self.old.schedule dues → IsStateOf self.new (move (experiment_from first budget) (state_of self.old dues)) }
-        ensures room { length self.new.schedule ≡ length self.old.schedule }
+    /// A run that is about to begin.
+    pub fn new(
+        alloc: Global,
+        image: &'a Image<'a>,
+        input: &'a [u8],
+        setting: &Setting,
+    ) -> Result<Run<'a>, AllocError>
+        requires { IsChoice setting.now.choice }
+        ensures { IfOk result (λ run. IsFirst setting.now image.now input.now run) }
+    {
+        let choice = setting.choice;
+        let guest = Guest::new(alloc, image, input, choice.output_limit, choice.layout)?;
+        let visits = Visits::new(alloc, choice.visit_limit)?;
+        let mut schedule = Schedule::new(alloc, HARTS)?;
+        let mut selected = HartList::new();
+        begin(setting, &guest, &mut schedule, &mut selected, FIRST, 0);
+        let starts = selected.harts().len() as u64;
+        Ok(Run {
+            guest,
+            schedule,
+            started: HartList::new(),
+            selected,
+            visits,
+            time: 0,
+            retired: 0,
+            starts,
+            ending: None,
+        })
+    }
+
+    /// One move: the hart that is due first retires, and where the run goes on the harts that this started begin. A visit
+    /// is kept with the delay that is given, at a time that is later by it.
+    pub fn advance(&mut self, setting: &Setting, delay: Tick) -> Retired
+        requires steady { IsSteady self.old }
+        requires speedup { setting.now.choice.speedup ≤ 95 }
+        requires delay { delay ≤ 10 ^ 17 }
+        ensures moved { (first : Guest) (dues : List (Option ℕ)) → AreDues self.old.schedule dues → IsStateOf self.new (move (experiment_in setting.now first) (state_of self.old dues)) }
+        ensures turn { key_of self.old.schedule result.hart.0 ≡ Some self.new.time }
+        ensures first { IsLeast self.old.schedule result.hart.0 }
+        ensures retires { retirement self.new.guest result.fate self.new.started ≡ retire self.old.guest result.hart.0 self.new.time }
+        ensures visits { self.new.visits ≡ record self.old.visits {
+          kept = self.old.visits.kept ++ visits_of (point_of setting.now.points.now (pc_of self.old.guest result.hart.0)) result.hart.0 (self.new.time + delay) delay;
+        } }
+        ensures ending { self.new.ending ≡ ending_of result.fate
+            (nat_le setting.now.choice.output_limit (length self.new.guest.output))
+            (nat_le setting.now.choice.visit_limit (length self.new.visits.kept))
+            (runs_after result.fate self.new.started (without_key result.hart.0 self.old.schedule))
+            self.new.retired setting.now.choice.budget }
+        ensures unfull { self.new.ending ≡ None → length self.new.visits.kept < setting.now.choice.visit_limit }
+        ensures selected { self.new.ending ≡ None → self.new.selected ≡ selected_of setting.now self.new.guest (started_by result.hart.0 result.fate self.new.started) }
+        ensures none_selected { IsSome self.new.ending → self.new.selected ≡ [] }
+        ensures room { length self.new.schedule ≡ 256 }
         ensures retired { self.new.retired ≡ self.old.retired + 1 }
+        ensures few { self.new.starts ≤ self.new.retired + many self.new.schedule }
         ensures within { (moment : ℕ) → AreWithin moment self.old.schedule → AreWithin (moment + 4000) self.new.schedule }
     {
         let turn = take_first(&mut self.schedule);
+        let address = self.guest.pc(turn.hart);
+        keep_visit(
+            setting,
+            &mut self.visits,
+            address,
+            turn.hart,
+            turn.due + delay,
+            delay,
+        );
         self.started.clear();
+        self.selected.clear();
         let fate = self.guest.retire(turn.hart, turn.due, &mut self.started);
         self.time = turn.due;
         self.retired += 1;
-        self.ending = self.ending_after(fate, budget);
+        self.ending = self.ending_after(&setting.choice, fate);
         if self.ending.is_none() {
-            self.begin_started(turn.hart, fate);
+            self.begin_started(setting, turn.hart, fate);
+        }
+        Retired {
+            hart: turn.hart,
+            fate,
         }
     }
 
     /// How the run ends with a retirement of this fate, if it does.
-    fn ending_after(&self, fate: Fate, budget: u64) -> Option<Ending>
-        ensures { result ≡ ending_of fate (nat_le output_limit (length self.now.guest.output)) (runs_after fate self.now.started self.now.schedule) self.now.retired budget }
+    fn ending_after(&self, choice: &Choice, fate: Fate) -> Option<Ending>
+        ensures { result ≡ ending_of fate
+            (nat_le choice.now.output_limit (length self.now.guest.output))
+            (nat_le choice.now.visit_limit (length self.now.visits.kept))
+            (runs_after fate self.now.started self.now.schedule)
+            self.now.retired choice.now.budget }
     {
-        let full = OUTPUT_LIMIT <= self.guest.output().len() as u64;
-        ending_after(fate, full, self.runs_after(fate), self.retired, budget)
+        let output_full = choice.output_limit <= self.guest.output().len() as u64;
+        let visits_full = choice.visit_limit <= self.visits.all().len() as u64;
+        let some_hart_runs = self.runs_after(fate);
+        ending_after(
+            fate,
+            output_full,
+            visits_full,
+            some_hart_runs,
+            self.retired,
+            choice.budget,
+        )
     }
 
     /// Some hart runs after a retirement of this fate.
@@ -159,19 +248,37 @@ impl<'a> Run<'a> {
     }
 
     /// The harts that a retirement of this fate started begin at its moment.
-    fn begin_started(&mut self, hart: HartId, fate: Fate)
+    fn begin_started(&mut self, setting: &Setting, hart: HartId, fate: Fate)
         requires idle { AreIdle self.old.guest self.old.schedule (started_by hart.0 fate self.old.started) }
         requires moment { self.old.time ≤ 2 ^ 60 }
-        ensures begun { AreBegun self.old.guest self.old.time (started_by hart.0 fate self.old.started) self.old.schedule self.new.schedule }
-        ensures room { length self.new.schedule ≡ length self.old.schedule }
-        ensures rest { self.new ≡ record self.old { schedule = self.new.schedule } }
+        requires speedup { setting.now.choice.speedup ≤ 95 }
+        requires room { length self.old.schedule ≡ 256 }
+        requires selected { self.old.selected ≡ [] }
+        requires few { self.old.starts ≤ 2 ^ 62 }
+        ensures begun { AreBegun (ticks_in setting.now self.old.guest) self.old.time (started_by hart.0 fate self.old.started) self.old.schedule self.new.schedule }
+        ensures selected { self.new.selected ≡ selected_of setting.now self.old.guest (started_by hart.0 fate self.old.started) }
+        ensures room { length self.new.schedule ≡ 256 }
+        ensures starts { self.new.starts ≡ self.old.starts + length self.new.selected }
+        ensures few { length self.new.selected + many self.old.schedule ≤ many self.new.schedule }
+        ensures rest { self.new ≡ record self.old { schedule = self.new.schedule; selected = self.new.selected; starts = self.new.starts } }
     {
-        begin_again(&self.guest, &mut self.schedule, hart, fate, self.time);
-        begin_each(
+        begin_again(
+            setting,
             &self.guest,
             &mut self.schedule,
+            &mut self.selected,
+            hart,
+            fate,
+            self.time,
+        );
+        begin_each(
+            setting,
+            &self.guest,
+            &mut self.schedule,
+            &mut self.selected,
             self.started.harts(),
             self.time,
         );
+        self.starts += self.selected.harts().len() as u64;
     }
 }

@@ -1,104 +1,156 @@
-use Rattle.std.proofs.Common.{◌≡◌, ℕ, ◌+◌, List, length, nat_le, Option, None, is_some, arith, ap, subst, sym, ◌∙◌}
-use Rattle.std.proofs.lemmas.List.{length-set}
+use Rattle.std.proofs.Common.{◌≡◌, ℕ, ◌+◌, ◌≤◌, List, ◌++◌, length, nat_le, Option, Some, None, arith, ap, subst, sym, ◌∙◌}
 use Rattle.coz_types.specs.declared.ending.Ending.{Ending}
-use Rattle.hart_schedule.specs.Keys.{Keys, without_key}
+use Rattle.hart_schedule.specs.Keys.{Keys, key_of, without_key, IsLeast}
+use Rattle.machines.specs.declared.Fate.{Fate}
 use Rattle.machines.specs.Shortened.{move}
+use Rattle.progress_points.specs.Points.{point_of}
+use Rattle.guest_calls.specs.Guest.{Guest, pc_of}
+use Rattle.guest_calls.specs.Retire.{retire}
+use Rattle.virtual_run.specs.declared.choice.Setting.{Setting}
 use Rattle.virtual_run.specs.declared.run.Run.{Run}
-use Rattle.virtual_run.specs.Begin.{started_by, AreIdle}
-use Rattle.virtual_run.specs.Ending.{runs_after}
-use Rattle.virtual_run.specs.Run.{experiment_from, output_limit, state_of, IsStateOf}
-use Rattle.virtual_run.proofs.Begin.{within_begun, within_left, within_later}
+use Rattle.virtual_run.specs.Visits.{Visits, visits_of}
+use Rattle.virtual_run.specs.Begin.{started_by, many, AreIdle}
+use Rattle.virtual_run.specs.Ending.{ending_of, runs_after}
+use Rattle.virtual_run.specs.Run.{experiment_in, selects, ticks_in, state_of, IsStateOf, IsSteady}
+use Rattle.virtual_run.proofs.Many.{many_few, many_without}
+use Rattle.virtual_run.proofs.Begin.{ticks_few, within_begun, within_left, within_later}
 use Rattle.virtual_run.proofs.Law.{IsTurn, started_idle, none_own, none_is, some_is}
-use Rattle.virtual_run.proofs.Moves.{IsMove, ended, goes}
+use Rattle.virtual_run.proofs.Moves.{IsMove, outcome, net_kept, ended, goes}
 use Rattle.virtual_run.proofs.run.Run.advance.Goals as goal
+use Rattle.virtual_run.proofs.run.Run.advance.Goals.{then-is_none, else-is_none}
 
-pub retire-fate-requires-clause-running : goal.retire-fate-requires-clause-running
-retire-fate-requires-clause-running c = c.requires.running c.take_first-turn.result.hart.0 ∙ ap is_some c.take_first-turn.ensures.due
+-- the calls of a move up to the judging of its ending
+record IsLeft (setting : Setting) (run : Run) (left : Keys) (h due delay : ℕ) (after : Guest) (fate : Fate) (others : List ℕ) (now : Visits) (address : ℕ) (e : Option Ending) : Type 0 where
+  steady : IsSteady run
+  turn : key_of run.schedule h ≡ Some due
+  first : IsLeast run.schedule h
+  taken : left ≡ without_key h run.schedule
+  place : address ≡ pc_of run.guest h
+  retires : outcome after fate others ≡ retire run.guest h due
+  keeps : now ≡ record run.visits { kept = run.visits.kept ++ visits_of (point_of setting.points.now address) h (due + delay) delay }
+  ends : e ≡ ending_of fate (nat_le setting.choice.output_limit (length after.output)) (nat_le setting.choice.visit_limit (length now.kept)) (runs_after fate others left) (run.retired + 1) setting.choice.budget
+
+module _ (setting : Setting) (run : Run) (left : Keys) (h due delay : ℕ) (after : Guest) (fate : Fate) (others : List ℕ) (now : Visits) (address : ℕ) (e : Option Ending) (l : IsLeft setting run left h due delay after fate others now address e) where
+  move_is : IsMove setting run left h due after fate others now.kept e
+  move_is = record {
+    goes = l.steady.goes;
+    turn = l.turn;
+    first = l.first;
+    taken = l.taken;
+    retires = l.retires;
+    visits =
+        net_kept run.visits.kept now.kept (point_of setting.points.now (pc_of run.guest h)) h due delay
+        (ap (λ (vs : Visits). vs.kept) l.keeps ∙ ap (λ (a : ℕ). run.visits.kept ++ visits_of (point_of setting.points.now a) h (due + delay) delay) l.place);
+    ends = l.ends;
+  }
+
+  -- where the run goes on, the harts that the move started can begin
+  idle_then : e ≡ None → AreIdle after left (started_by h fate others)
+  idle_then none =
+      let turn : IsTurn run.guest run.schedule h due = record { orderly = l.steady.orderly; running = l.steady.running; room = l.steady.room; turn = l.turn } in
+      let own = none_own fate (nat_le setting.choice.output_limit (length after.output)) (nat_le setting.choice.visit_limit (length now.kept)) (runs_after fate others left) (run.retired + 1) setting.choice.budget (sym l.ends ∙ none) in
+      subst (λ (keys : Keys). AreIdle after keys (started_by h fate others)) (sym l.taken) (started_idle run.guest run.schedule h due after fate others turn l.retires own)
+
+  -- one hart less is due
+  many_left : many run.schedule ≡ many left + 1
+  many_left = many_without run.schedule h due l.turn ∙ ap (λ (keys : Keys). many keys + 1) (sym l.taken)
 
 pub begin_started-requires-clause-idle : goal.begin_started-requires-clause-idle
 begin_started-requires-clause-idle c =
-    let s = c.args.self.now in
-    let h : ℕ = c.take_first-turn.result.hart.0 in
-    let due : ℕ = c.take_first-turn.result.due in
-    let left : Keys = c.take_first-turn.new.schedule in
-    let after = c.retire-fate.new.self in
-    let fate = c.retire-fate.result in
-    let others : List ℕ = c.retire-fate.new.started in
-    let e : Option Ending = c.ending_after-self.result in
-    let turn : IsTurn s.guest s.schedule h due = record { orderly = c.requires.orderly; running = c.requires.running; room = c.requires.room; turn = c.take_first-turn.ensures.due } in
-    let none : e ≡ None = none_is e c.is_none.result c.is_none.ensures c.if-is_none.true in
-    let own = none_own fate (nat_le output_limit (length after.output)) (runs_after fate others left) (s.retired + 1) c.args.budget (sym c.ending_after-self.ensures ∙ none) in
-    let idle : AreIdle after (without_key h s.schedule) (started_by h fate others) = started_idle s.guest s.schedule h due after fate others turn c.retire-fate.ensures own in
-    subst (λ (keys : Keys). AreIdle after keys (started_by h fate others)) (sym c.take_first-turn.ensures.rest) idle
-
-pub begin_started-requires-clause-moment : goal.begin_started-requires-clause-moment
-begin_started-requires-clause-moment c = c.requires.within c.take_first-turn.result.hart.0 c.take_first-turn.result.due c.take_first-turn.ensures.due
-
-pub returns-then-is_none-clause-moved : goal.returns-then-is_none-clause-moved
-returns-then-is_none-clause-moved c first dues are =
-    let s = c.args.self.now in
-    let h : ℕ = c.take_first-turn.result.hart.0 in
-    let due : ℕ = c.take_first-turn.result.due in
-    let left : Keys = c.take_first-turn.new.schedule in
-    let after = c.retire-fate.new.self in
-    let fate = c.retire-fate.result in
-    let others : List ℕ = c.retire-fate.new.started in
-    let e : Option Ending = c.ending_after-self.result in
-    let turn : IsTurn s.guest s.schedule h due = record { orderly = c.requires.orderly; running = c.requires.running; room = c.requires.room; turn = c.take_first-turn.ensures.due } in
-    let none : e ≡ None = none_is e c.is_none.result c.is_none.ensures c.if-is_none.true in
-    let own = none_own fate (nat_le output_limit (length after.output)) (runs_after fate others left) (s.retired + 1) c.args.budget (sym c.ending_after-self.ensures ∙ none) in
-    let idle : AreIdle after (without_key h s.schedule) (started_by h fate others) = started_idle s.guest s.schedule h due after fate others turn c.retire-fate.ensures own in
-    let move_is : IsMove s c.args.budget left h due after fate others e =
-    record {
-      goes = c.requires.goes;
+    idle_then c.args.setting.now c.args.self.now c.take_first-turn.new.schedule c.take_first-turn.result.hart.0 c.take_first-turn.result.due c.args.delay c.retire-fate.new.self c.retire-fate.result c.retire-fate.new.started
+    c.keep_visit.new.visits c.pc-address.result c.ending_after-self.result
+    (record {
+      steady = c.requires.steady;
       turn = c.take_first-turn.ensures.due;
       first = c.take_first-turn.ensures.first;
       taken = c.take_first-turn.ensures.rest;
+      place = c.pc-address.ensures;
       retires = c.retire-fate.ensures;
+      keeps = c.keep_visit.ensures;
       ends = c.ending_after-self.ensures;
-    } in
-    subst (λ (run : Run). IsStateOf run (move (experiment_from first c.args.budget) (state_of s dues))) (sym c.begin_started.ensures.rest)
-    (goes first s c.args.budget left c.begin_started.new.self.schedule h due after fate others e dues move_is none idle.apart c.begin_started.ensures.begun are)
+    })
+    (none_is c.ending_after-self.result c.is_none.result c.is_none.ensures c.if-is_none.true)
 
-pub returns-then-is_none-clause-room : goal.returns-then-is_none-clause-room
-returns-then-is_none-clause-room c =
-    c.begin_started.ensures.room ∙ ap length c.take_first-turn.ensures.rest ∙ length-set c.args.self.now.schedule c.take_first-turn.result.hart.0 None
+pub begin_started-requires-clause-few : goal.begin_started-requires-clause-few
+begin_started-requires-clause-few c =
+    let few : many c.args.self.now.schedule ≤ length c.args.self.now.schedule = many_few c.args.self.now.schedule in
+    let room : length c.args.self.now.schedule ≡ 256 = c.requires.steady.room in
+    let retired = c.requires.steady.retired in
+    let starts = c.requires.steady.few in
+    omega arith
 
-pub returns-then-is_none-clause-within : goal.returns-then-is_none-clause-within
-returns-then-is_none-clause-within c moment within =
+abbrev After : Type 0
+After = goal.After-result-1
+
+left_is : (c : After) → IsLeft c.args.setting.now c.args.self.now c.take_first-turn.new.schedule c.take_first-turn.result.hart.0 c.take_first-turn.result.due c.args.delay c.retire-fate.new.self c.retire-fate.result c.retire-fate.new.started
+    c.keep_visit.new.visits c.pc-address.result c.ending_after-self.result
+left_is c = record {
+  steady = c.requires.steady;
+  turn = c.take_first-turn.ensures.due;
+  first = c.take_first-turn.ensures.first;
+  taken = c.take_first-turn.ensures.rest;
+  place = c.pc-address.ensures;
+  retires = c.retire-fate.ensures;
+  keeps = c.keep_visit.ensures;
+  ends = c.ending_after-self.ensures;
+}
+
+pub returns-clause-moved : goal.returns-clause-moved
+returns-clause-moved c first dues are =
+    let setting : Setting = c.args.setting.now in
+    let s : Run = c.args.self.now in
+    let left : Keys = c.take_first-turn.new.schedule in
     let h : ℕ = c.take_first-turn.result.hart.0 in
     let due : ℕ = c.take_first-turn.result.due in
-    within_begun c.retire-fate.new.self due (started_by h c.retire-fate.result c.retire-fate.new.started) c.take_first-turn.new.schedule c.begin_started.new.self.schedule moment
-    c.begin_started.ensures.begun
-    (within h due c.take_first-turn.ensures.due)
-    (within_left c.args.self.now.schedule c.take_first-turn.new.schedule h moment c.take_first-turn.ensures.rest within)
+    let after : Guest = c.retire-fate.new.self in
+    let fate : Fate = c.retire-fate.result in
+    let others : List ℕ = c.retire-fate.new.started in
+    let now : Visits = c.keep_visit.new.visits in
+    let e : Option Ending = c.ending_after-self.result in
+    let l = left_is c in
+    let m = move_is setting s left h due c.args.delay after fate others now c.pc-address.result e l in
+    let IsNext : Run → Type 0 = λ run. IsStateOf run (move (experiment_in setting first) (state_of s dues)) in
+    elim c.if-is_none.branch [
+      | then-is_none w ↦
+          let none = none_is e c.is_none.result c.is_none.ensures w.if-is_none.true in
+          let idle = idle_then setting s left h due c.args.delay after fate others now c.pc-address.result e l none in
+          let b = w.begin_started in
+          subst IsNext (sym w.self-is)
+          (subst IsNext (sym b.ensures.rest)
+          (goes setting first s left h due after fate others now.kept e m dues are b.new.self.schedule b.new.self.selected now.limit b.new.self.starts none c.requires.speedup idle.apart b.ensures.begun
+          (b.ensures.starts ∙ ap (λ (hs : List ℕ). s.starts + length hs) b.ensures.selected)))
+      | else-is_none w ↦
+          let some = some_is e c.is_none.result c.is_none.ensures w.if-is_none.false in
+          subst IsNext (sym w.self-is) (ended setting first s left h due after fate others now.kept e m dues are some.0 c.clear-2.new.self now.limit some.1)
+    ]
 
-pub returns-else-is_none-clause-moved : goal.returns-else-is_none-clause-moved
-returns-else-is_none-clause-moved c first dues are =
-    let s = c.args.self.now in
+pub returns-clause-few : goal.returns-clause-few
+returns-clause-few c =
+    let IsFew : Run → Type 0 = λ run. run.starts ≤ run.retired + many run.schedule in
+    let less : many c.args.self.now.schedule ≡ many c.take_first-turn.new.schedule + 1 = many_left _ _ _ _ _ _ _ _ _ _ _ _ (left_is c) in
+    let before = c.requires.steady.few in
+    elim c.if-is_none.branch [
+      | then-is_none w ↦
+          let b = w.begin_started in
+          let starts = b.ensures.starts in
+          let few = b.ensures.few in
+          subst IsFew (sym w.self-is) (subst IsFew (sym b.ensures.rest) (omega (arith, less, before, starts, few)))
+      | else-is_none w ↦ subst IsFew (sym w.self-is) (omega (arith, less, before))
+    ]
+
+pub returns-clause-within : goal.returns-clause-within
+returns-clause-within c moment within =
     let h : ℕ = c.take_first-turn.result.hart.0 in
     let due : ℕ = c.take_first-turn.result.due in
     let left : Keys = c.take_first-turn.new.schedule in
-    let after = c.retire-fate.new.self in
-    let fate = c.retire-fate.result in
-    let others : List ℕ = c.retire-fate.new.started in
-    let e : Option Ending = c.ending_after-self.result in
-    let move_is : IsMove s c.args.budget left h due after fate others e =
-    record {
-      goes = c.requires.goes;
-      turn = c.take_first-turn.ensures.due;
-      first = c.take_first-turn.ensures.first;
-      taken = c.take_first-turn.ensures.rest;
-      retires = c.retire-fate.ensures;
-      ends = c.ending_after-self.ensures;
-    } in
-    let some = some_is e c.is_none.result c.is_none.ensures c.if-is_none.false in
-    ended first s c.args.budget left h due after fate others e some.0 dues move_is some.1 are
-
-pub returns-else-is_none-clause-room : goal.returns-else-is_none-clause-room
-returns-else-is_none-clause-room c = ap length c.take_first-turn.ensures.rest ∙ length-set c.args.self.now.schedule c.take_first-turn.result.hart.0 None
-
-pub returns-else-is_none-clause-within : goal.returns-else-is_none-clause-within
-returns-else-is_none-clause-within c moment within =
-    within_later moment (moment + 4000) c.take_first-turn.new.schedule (omega arith)
-    (within_left c.args.self.now.schedule c.take_first-turn.new.schedule c.take_first-turn.result.hart.0 moment c.take_first-turn.ensures.rest within)
+    let soon = within_left c.args.self.now.schedule left h moment c.take_first-turn.ensures.rest within in
+    let ends : Run → Type 0 = λ run. (hart due : ℕ) → key_of run.schedule hart ≡ Some due → due ≤ moment + 4000 in
+    elim c.if-is_none.branch [
+      | then-is_none w ↦
+          let b = w.begin_started in
+          let ticks = ticks_in c.args.setting.now c.retire-fate.new.self in
+          let few : (hart : ℕ) → ticks hart ≤ 4000 = ticks_few (selects c.args.setting.now) c.args.setting.now.choice.speedup c.retire-fate.new.self in
+          subst ends (sym w.self-is)
+          (within_begun ticks due (started_by h c.retire-fate.result c.retire-fate.new.started) left b.new.self.schedule moment few b.ensures.begun (within h due c.take_first-turn.ensures.due) soon)
+      | else-is_none w ↦ subst ends (sym w.self-is) (within_later moment (moment + 4000) left (omega arith) soon)
+    ]

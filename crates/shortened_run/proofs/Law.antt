@@ -1,0 +1,58 @@
+-- What holds of a shortened run from move to move, and at its end.
+use Rattle.std.proofs.Common.{◌≡◌, ℕ, List, [], ◌++◌, Option, Some, None, refl, sym, subst}
+use Rattle.std.proofs.lemmas.List.Elements.{All-nil, All-cons, All-append}
+use Rattle.coz_types.specs.declared.ending.Ending.{Ending}
+use Rattle.coz_types.specs.declared.record.Visit.{Visit}
+use Rattle.coz_types.specs.Image.{ImageParts}
+use Rattle.machines.specs.Guest.{Experiment}
+use Rattle.machines.specs.Shortened.{Shortened, shortened}
+use Rattle.machines.specs.Records.{net_record_of, IsShortened, shortened_record}
+use Rattle.line_index.specs.Index.{Index, position_at}
+use Rattle.progress_points.specs.Points.{Points, point_of}
+use Rattle.guest_calls.specs.Guest.{Guest}
+use Rattle.virtual_run.specs.declared.choice.Choice.{Choice}
+use Rattle.virtual_run.specs.declared.choice.Setting.{Setting}
+use Rattle.virtual_run.specs.declared.run.Run.{Run}
+use Rattle.virtual_run.specs.Visits.{visits_of}
+use Rattle.virtual_run.proofs.Law.{recorded_now, last_now, shortened_is}
+use Rattle.shortened_run.specs.Seen.{Seen, experiment_with, AreUndelayed, IsShort}
+
+pub none_undelayed : AreUndelayed []
+none_undelayed = All-nil (λ visit. visit.delay ≡ 0)
+
+-- a visit with no delay is kept with none
+one_undelayed : (point : Option ℕ) (h time : ℕ) → AreUndelayed (visits_of point h time 0)
+one_undelayed None h time = none_undelayed
+one_undelayed (Some p) h time = All-cons (λ visit. visit.delay ≡ 0) (record { point = record { 0 = p }; hart = record { 0 = h }; time = time; delay = 0 }) [] refl none_undelayed
+
+pub more_undelayed : (old new : List Visit) (point : Option ℕ) (h time : ℕ) → new ≡ old ++ visits_of point h time 0 → AreUndelayed old → AreUndelayed new
+more_undelayed old new point h time is before = subst AreUndelayed (sym is) (All-append (λ visit. visit.delay ≡ 0) old (visits_of point h time 0) before (one_undelayed point h time))
+
+module _ (image : ImageParts) (input : List ℕ) (setting : Setting) (run : Run) (short : IsShort image input setting run) (old : Experiment Guest) (same : old ≡ experiment_with image input setting) where
+  abbrev x : Experiment Guest
+  x = experiment_with image input setting
+
+  -- the record of a run that has ended, of what was run at first
+  pub recorded_of : (e : Ending) → run.ending ≡ Some e → net_record_of old (shortened x run.retired) e ≡ shortened_record old
+  recorded_of e ended =
+      subst (λ (o : Experiment Guest). net_record_of o (shortened x run.retired) e ≡ shortened_record o) (sym same)
+      (recorded_now image (position_at setting.index.now) (point_of setting.points.now) input setting.choice short.valid run short.reached e ended)
+
+  pub last_of : (e : Ending) → run.ending ≡ Some e → shortened x run.retired ≡ shortened old old.budget
+  last_of e ended =
+      subst (λ (o : Experiment Guest). shortened x run.retired ≡ shortened o o.budget) (sym same)
+      (last_now image (position_at setting.index.now) (point_of setting.points.now) input setting.choice short.valid run short.reached e ended)
+
+  pub shortened_of : IsShortened old (shortened_record old)
+  shortened_of =
+      subst (λ (o : Experiment Guest). IsShortened o (shortened_record o)) (sym same)
+      (shortened_is image (position_at setting.index.now) (point_of setting.points.now) input setting.choice short.valid)
+
+-- what is seen of a run with these parts
+abbrev pub seen : ImageParts → Index → Points → List ℕ → Choice → Shortened Guest → Seen
+seen image index points input choice state = record { image = image; index = index; points = points; input = input; choice = choice; state = state }
+
+pub same_seen : (image old_image : ImageParts) (index old_index : Index) (points old_points : Points) (input old_input : List ℕ) (choice old_choice : Choice) (state : Shortened Guest)
+    → image ≡ old_image → index ≡ old_index → points ≡ old_points → input ≡ old_input → choice ≡ old_choice
+    → seen image index points input choice state ≡ seen old_image old_index old_points old_input old_choice state
+same_seen image old_image index old_index points old_points input old_input choice old_choice state image_is index_is points_is input_is choice_is = cc

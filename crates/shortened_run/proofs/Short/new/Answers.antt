@@ -1,0 +1,11 @@
+use Rattle.std.proofs.Common.{sym, subst}
+use Rattle.shortened_run.specs.Seen.{AreUndelayed}
+use Rattle.shortened_run.proofs.Law.{none_undelayed}
+use Rattle.shortened_run.proofs.Short.new.Goals as goal
+
+pub invariant_of-result : goal.invariant_of-result
+invariant_of-result c = record {
+  valid = c.requires;
+  reached = c.in_ok-run.ensures.reached;
+  undelayed = subst AreUndelayed (sym c.in_ok-run.ensures.kept) none_undelayed;
+}

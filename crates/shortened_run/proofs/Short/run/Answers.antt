@@ -1,0 +1,104 @@
+use Rattle.std.proofs.Common.{◌≡◌, ◌<◌, ◌+◌, ◌∙◌, ap, sym, arith}
+use Rattle.line_index.specs.Index.{position_at}
+use Rattle.progress_points.specs.Points.{point_of}
+use Rattle.machines.specs.Shortened.{Shortened}
+use Rattle.guest_calls.specs.Guest.{Guest, first_guest, pc_of}
+use Rattle.virtual_run.specs.declared.choice.Setting.{Setting}
+use Rattle.virtual_run.specs.Visits.{Visits}
+use Rattle.virtual_run.proofs.Law.{steady, below_budget, reached_next, none_is, ended_now}
+use Rattle.shortened_run.specs.Seen.{Seen, experiment_of, experiment_with}
+use Rattle.shortened_run.proofs.Law.{more_undelayed, recorded_of, last_of, shortened_of, seen, same_seen}
+use Rattle.shortened_run.proofs.Short.run.Goals as goal
+use Rattle.shortened_run.proofs.Short.run.Goals.{In-Some}
+
+pub advance-requires-clause-steady : goal.advance-requires-clause-steady
+advance-requires-clause-steady c =
+    let now = c.loop-self.self-inside in
+    let short = c.loop-self.invariant.0 in
+    steady now.image.now (position_at now.setting.index.now) (point_of now.setting.points.now) now.input.now now.setting.choice short.valid now.run short.reached
+    (none_is now.run.ending c.is_none.result c.is_none.ensures c.loop-self-test.true)
+
+pub advance-requires-clause-speedup : goal.advance-requires-clause-speedup
+advance-requires-clause-speedup c = c.loop-self.invariant.0.valid.speedup
+
+pub loop-self-preserved : goal.loop-self-preserved
+loop-self-preserved c =
+    let now = c.loop-self.self-inside in
+    let before = c.loop-self.invariant in
+    let short = before.0 in
+    let new = c.advance.new.self in
+    let did = c.advance.ensures in
+    let first : Guest = first_guest now.image.now now.input.now now.setting.choice.output_limit now.setting.choice.layout in
+    let none = none_is now.run.ending c.is_none.result c.is_none.ensures c.loop-self-test.true in (
+      record {
+        valid = short.valid;
+        reached =
+            reached_next now.image.now (position_at now.setting.index.now) (point_of now.setting.points.now) now.input.now now.setting.choice short.valid now.run short.reached new none
+            (did.moved first _ short.reached.reached.dues) did.room (ap (λ (vs : Visits). vs.limit) did.visits) did.unfull did.retired did.few did.within;
+        undelayed =
+            more_undelayed now.run.visits.kept new.visits.kept (point_of now.setting.points.now (pc_of now.run.guest c.advance.result.hart.0)) c.advance.result.hart.0 (new.time + 0)
+            (ap (λ (vs : Visits). vs.kept) did.visits) short.undelayed;
+      },
+      before.1,
+      before.2,
+      before.3,
+    )
+
+pub loop-self-smaller : goal.loop-self-smaller
+loop-self-smaller c =
+    let now = c.loop-self.self-inside in
+    let short = c.loop-self.invariant.0 in
+    let below : now.run.retired < now.setting.choice.budget = below_budget now.image.now (position_at now.setting.index.now) (point_of now.setting.points.now) now.input.now now.setting.choice short.valid now.run short.reached
+    (none_is now.run.ending c.is_none.result c.is_none.ensures c.loop-self-test.true) in
+    omega (arith, below, c.advance.ensures.retired)
+
+pub returns-clause-ended : goal.returns-clause-ended
+returns-clause-ended c =
+    let now = c.loop-self.self-inside in
+    let short = c.loop-self.invariant.0 in
+    ended_now now.image.now (position_at now.setting.index.now) (point_of now.setting.points.now) now.input.now now.setting.choice short.valid now.run short.reached c.in-Some.ending c.in-Some.is
+
+-- the setting and what else is run are those of the call
+image_is : (c : In-Some) → c.loop-self.self-inside.image.now ≡ c.args.self.now.image
+image_is c = c.loop-self.invariant.1 ∙ ap (λ (s : Seen). s.image) c.self.view_is
+
+index_is : (c : In-Some) → c.loop-self.self-inside.setting.index.now ≡ c.args.self.now.index
+index_is c = ap (λ (s : Setting). s.index.now) c.loop-self.invariant.3 ∙ ap (λ (s : Seen). s.index) c.self.view_is
+
+points_are : (c : In-Some) → c.loop-self.self-inside.setting.points.now ≡ c.args.self.now.points
+points_are c = ap (λ (s : Setting). s.points.now) c.loop-self.invariant.3 ∙ ap (λ (s : Seen). s.points) c.self.view_is
+
+input_is : (c : In-Some) → c.loop-self.self-inside.input.now ≡ c.args.self.now.input
+input_is c = c.loop-self.invariant.2 ∙ ap (λ (s : Seen). s.input) c.self.view_is
+
+choice_is : (c : In-Some) → c.loop-self.self-inside.setting.choice ≡ c.args.self.now.choice
+choice_is c = ap (λ (s : Setting). s.choice) c.loop-self.invariant.3 ∙ ap (λ (s : Seen). s.choice) c.self.view_is
+
+seen_is : (c : In-Some) (state : Shortened Guest)
+    → seen c.loop-self.self-inside.image.now c.loop-self.self-inside.setting.index.now c.loop-self.self-inside.setting.points.now c.loop-self.self-inside.input.now c.loop-self.self-inside.setting.choice state
+    ≡ record c.args.self.now { state = state }
+seen_is c state =
+    same_seen c.loop-self.self-inside.image.now c.args.self.now.image c.loop-self.self-inside.setting.index.now c.args.self.now.index c.loop-self.self-inside.setting.points.now c.args.self.now.points
+    c.loop-self.self-inside.input.now c.args.self.now.input c.loop-self.self-inside.setting.choice c.args.self.now.choice state (image_is c) (index_is c) (points_are c) (input_is c) (choice_is c)
+
+-- so what is run is what was to be run
+as_before : (c : In-Some) → experiment_of c.args.self.now ≡ experiment_with c.loop-self.self-inside.image.now c.loop-self.self-inside.input.now c.loop-self.self-inside.setting
+as_before c = ap experiment_of (sym (seen_is c c.args.self.now.state))
+
+pub returns-clause-record : goal.returns-clause-record
+returns-clause-record c =
+    let now = c.loop-self.self-inside in
+    recorded_of now.image.now now.input.now now.setting now.run c.loop-self.invariant.0 (experiment_of c.args.self.now) (as_before c) c.in-Some.ending c.in-Some.is
+
+pub returns-clause-shortened : goal.returns-clause-shortened
+returns-clause-shortened c =
+    let now = c.loop-self.self-inside in
+    shortened_of now.image.now now.input.now now.setting now.run c.loop-self.invariant.0 (experiment_of c.args.self.now) (as_before c)
+
+pub returns-clause-last : goal.returns-clause-last
+returns-clause-last c =
+    let now = c.loop-self.self-inside in
+    last_of now.image.now now.input.now now.setting now.run c.loop-self.invariant.0 (experiment_of c.args.self.now) (as_before c) c.in-Some.ending c.in-Some.is
+
+pub returns-clause-rest : goal.returns-clause-rest
+returns-clause-rest c = seen_is c _

@@ -1,0 +1,14 @@
+use Rattle.std.proofs.Common.{◌≡◌, ◌-◌}
+use Rattle.shortened_run.specs.Seen.{IsShort}
+use Rattle.shortened_run.proofs.Short.run.Given as goal
+
+-- the state is one of the run, whose image, input and setting stay
+abbrev pub invariant-loop-self : goal.invariant-loop-self
+invariant-loop-self l =
+    IsShort l.self-inside.image.now l.self-inside.input.now l.self-inside.setting l.self-inside.run
+    × (l.self-inside.image.now ≡ l.initial.self-inside.image.now)
+    × (l.self-inside.input.now ≡ l.initial.self-inside.input.now)
+    × (l.self-inside.setting ≡ l.initial.self-inside.setting)
+
+abbrev pub decreases-loop-self : goal.decreases-loop-self
+decreases-loop-self l = l.self-inside.setting.choice.budget - l.self-inside.run.retired

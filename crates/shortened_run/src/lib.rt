@@ -1,0 +1,138 @@
+//! The shortened run of a program: its selected line really costs less.
+#![tactic(auto)]
+
+ghost use Rattle.std.specs.Prelude.{◌≡◌, Some, IfOk, map};
+ghost use Rattle.virtual_run.specs.Visits.{net_of};
+ghost use Rattle.shortened_run.specs.Seen.{experiment_of, AreUndelayed};
+
+use coz_types::{Ending, Image, Tick, Visit};
+use line_index::LineIndex;
+use progress_points::Points;
+use std::alloc::{AllocError, Global};
+use std::marker::Model;
+pub use virtual_run::Choice;
+use virtual_run::{Run, Setting};
+
+/// The run of a program in which the instructions of its selected line cost less.
+#[derive(Drop)]
+pub struct Short<'a> {
+    image: &'a Image<'a>,
+    input: &'a [u8],
+    setting: Setting<'a>,
+    run: Run<'a>,
+}
+
+impl<'a> Model for Short<'a> {
+    ghost use Rattle.machines.specs.Shortened.{shortened};
+    ghost use Rattle.shortened_run.specs.Seen.{Seen, experiment_with, IsShort};
+
+    ghost Value = { Seen };
+
+    ghost view = { λ short. record {
+      image = short.image.now;
+      index = short.setting.index.now;
+      points = short.setting.points.now;
+      input = short.input.now;
+      choice = short.setting.choice;
+      state = shortened (experiment_with short.image.now short.input.now short.setting) short.run.retired;
+    } };
+
+    ghost invariant = { λ short. IsShort short.image.now short.input.now short.setting short.run };
+}
+
+impl<'a> Short<'a> {
+    ghost use Rattle.line_index.specs.Index.{position_at};
+    ghost use Rattle.progress_points.specs.Points.{point_of};
+    ghost use Rattle.machines.specs.Shortened.{shortened};
+    ghost use Rattle.machines.specs.Records.{net_record_of, IsShortened, shortened_record};
+    ghost use Rattle.virtual_run.specs.Run.{experiment, IsChoice};
+
+    /// A run that is about to begin.
+    pub fn new(
+        alloc: Global,
+        image: &'a Image<'a>,
+        index: &'a LineIndex,
+        points: &'a Points,
+        input: &'a [u8],
+        choice: Choice,
+    ) -> Result<Short<'a>, AllocError>
+        requires { IsChoice choice }
+        ensures { IfOk result (λ short. short ≡ record {
+          image = image.now;
+          index = index.now;
+          points = points.now;
+          input = input.now;
+          choice = choice;
+          state = shortened (experiment image.now (position_at index.now) (point_of points.now) input.now choice) 0;
+        }) }
+    {
+        let setting = Setting {
+            index,
+            points,
+            choice,
+        };
+        let run = Run::new(alloc, image, input, &setting)?;
+        Ok(Short {
+            image,
+            input,
+            setting,
+            run,
+        })
+    }
+
+    /// Runs to the end, and gives it. A further run changes nothing and gives the same.
+    pub fn run(&mut self) -> Ending
+        ensures ended { self.new.state.ending ≡ Some result }
+        ensures record { let x = experiment_of self.old in net_record_of x self.new.state result ≡ shortened_record x }
+        ensures shortened { let x = experiment_of self.old in IsShortened x (shortened_record x) }
+        ensures last { self.new.state ≡ shortened (experiment_of self.old) self.old.choice.budget }
+        ensures rest { self.new ≡ record self.old { state = self.new.state } }
+    {
+        while self.run.ending.is_none() {
+            self.run.advance(&self.setting, 0);
+        }
+        match self.run.ending {
+            Some(ending) => ending,
+            None => unreachable!(),
+        }
+    }
+
+    /// The moment of the last retirement, in ticks.
+    pub fn net(&self) -> Tick
+        ensures { result ≡ self.now.state.time }
+    {
+        self.run.time
+    }
+
+    /// How many instructions were retired.
+    pub fn retired(&self) -> u64
+        ensures { result ≡ self.now.state.retired }
+    {
+        self.run.retired
+    }
+
+    /// How many instructions of the selected line were begun.
+    pub fn starts(&self) -> u64
+        ensures { result ≡ self.now.state.starts }
+    {
+        self.run.starts
+    }
+
+    /// The visits of progress points, in order, each with a delay of 0.
+    pub fn visits(&self) -> &[Visit]
+        ensures visits { map net_of result.now ≡ self.now.state.visits }
+        ensures undelayed { AreUndelayed result.now }
+    {
+        self.run.visits.all()
+    }
+
+    /// What was written.
+    pub fn output(&self) -> &[u8]
+        ensures { result.now ≡ self.now.state.guest.output }
+    {
+        self.run.guest.output()
+    }
+}
+
+#[cfg(test)]
+mod tests;

@@ -1,0 +1,100 @@
+-- The global delay is bounded by the number of selected starts.
+use Rattle.std.proofs.Common.{◌≡◌, ℕ, zero, suc, ◌+◌, ◌*◌, ◌≤◌, Bool, true, false, if◌then◌else◌, List, [], ◌∷◌, length, filter, fold, refl, sym, ap, ◌∙◌, subst, arith, Option, Some, None, ◌⊎◌, inl, inr, add-zero}
+use Rattle.std.proofs.Math.Nat.{mul-le-mul}
+use Rattle.coz_types.specs.declared.ending.Ending.{Ending}
+use Rattle.machines.specs.Places.{change_each}
+use Rattle.machines.specs.Guest.{Experiment, IsLawful, cost, cut, started}
+use Rattle.machines.specs.Delayed.{Delayed, fresh, run, over_or, raise, begin, retirement, leave, give_credit, ending, retire, unbegun, after, delayed}
+use Rattle.machines.specs.Shortened.{shortened}
+use Rattle.machines.specs.Steps.{jump}
+use Rattle.machines.specs.Standing.{ticks_left, next, standing}
+use Rattle.machines.proofs.Standing.{Retires, retires_at, stays}
+
+-- each selected start raised at most so many ticks
+abbrev pub Bounded : {G : Type 0} → ℕ → Delayed G → Type 0
+Bounded most d = d.delay ≤ most * d.starts
+
+some_or_none : (o : Option Ending) → (o ≡ None) ⊎ ((a : Ending) × (o ≡ Some a))
+some_or_none None = inl refl
+some_or_none (Some a) = inr (a, refl)
+
+module _ {G : Type 0} (x : Experiment G) where
+  pub raises_starts : (hs : List ℕ) (d : Delayed G) → (fold (raise x) d hs).starts ≡ d.starts + length hs
+  unfolding raise
+  raises_starts [] d = sym (add-zero d.starts)
+  raises_starts (h ∷ hs) d = let e : (fold (raise x) (raise x d h) hs).starts ≡ d.starts + 1 + length hs = raises_starts hs (raise x d h) in omega arith
+
+  -- as many selected starts as selected harts begin
+  pub begin_starts : (hs : List ℕ) (d : Delayed G) → (begin x hs d).starts ≡ d.starts + length (filter (x.guest.is_selected d.guest) hs)
+  unfolding begin
+  begin_starts hs d = raises_starts (filter (x.guest.is_selected d.guest) hs) (record d { harts = change_each fresh hs (λ h. run (cost x d.guest h)) d.harts })
+
+  pub credit_starts : (h : ℕ) (d : Delayed G) → ((give_credit x h d).starts ≡ d.starts) × ((give_credit x h d).delay ≡ d.delay) × ((leave x h d).starts ≡ d.starts) × ((leave x h d).delay ≡ d.delay)
+  unfolding give_credit leave
+  credit_starts h d = (refl, refl, refl, refl)
+
+  pub standing_suc : (n : ℕ) → standing x (suc n) ≡ next x (standing x n)
+  unfolding standing
+  standing_suc n = refl
+
+  pub standing_zero : standing x 0 ≡ delayed x 0
+  unfolding standing
+  standing_zero = refl
+
+  module _ (most : ℕ) (few : (g : G) (h : ℕ) → cut x g h ≤ most) where
+    raise_bounded : (h : ℕ) (d : Delayed G) → Bounded most d → Bounded most (raise x d h)
+    unfolding raise
+    raise_bounded h d b = let f : cut x d.guest h ≤ most = few d.guest h in omega arith
+
+    raises_bounded : (hs : List ℕ) (d : Delayed G) → Bounded most d → Bounded most (fold (raise x) d hs)
+    raises_bounded [] d b = b
+    raises_bounded (h ∷ hs) d b = raises_bounded hs (raise x d h) (raise_bounded h d b)
+
+    begin_bounded : (hs : List ℕ) (d : Delayed G) → Bounded most d → Bounded most (begin x hs d)
+    unfolding begin
+    begin_bounded hs d b = raises_bounded (filter (x.guest.is_selected d.guest) hs) (record d { harts = change_each fresh hs (λ h. run (cost x d.guest h)) d.harts }) b
+
+    over_bounded : (o : Option Ending) (d next : Delayed G) → Bounded most d → Bounded most next → Bounded most (over_or o d next)
+    over_bounded None d next b c = c
+    over_bounded (Some a) d next b c = b
+
+    retire_bounded : (h : ℕ) (d : Delayed G) → Bounded most d → Bounded most (retire x h d)
+    unfolding retire
+    retire_bounded h d b =
+        let c = credit_starts h d in
+        over_bounded (ending x h d) (leave x h d) (begin x (started h (retirement x h d)) (give_credit x h d))
+        (rw (c.2, c.3) b) (begin_bounded (started h (retirement x h d)) (give_credit x h d) (rw (c.0, c.1) b))
+
+    jump_bounded : (k : ℕ) (d : Delayed G) → Bounded most d → Bounded most (jump k d)
+    unfolding jump
+    jump_bounded k d b = b
+
+    first_bounded : Bounded most (delayed x 0)
+    unfolding delayed after unbegun
+    first_bounded = begin_bounded (0 ∷ []) (unbegun x) (omega arith)
+
+module _ {G : Type 0} (x : Experiment G) (Good : G → Type 0) (law : IsLawful x Good) where
+  -- what holds of a state holds of the next one, if it holds after each retirement that may come
+  pub next_by : (P : Delayed G → Type 0) (n : ℕ) → P (standing x n)
+      → ((h : ℕ) → (standing x n).ending ≡ None → Retires x Good law (standing x n) (shortened x n) h → P (retire x h (jump (ticks_left (standing x n).harts) (standing x n))))
+      → P (standing x (suc n))
+  next_by P n before step = go (some_or_none (standing x n).ending)
+    where
+      go : ((standing x n).ending ≡ None) ⊎ ((a : Ending) × ((standing x n).ending ≡ Some a)) → P (standing x (suc n))
+      go (inl none) = let r = retires_at x Good law n none in subst P (sym (standing_suc x n ∙ r.1.is)) (step r.0 none r.1)
+      go (inr e) = subst P (sym (ap (standing x) (let one : suc n ≡ 1 + n = omega arith in one) ∙ stays x Good law n e.0 e.1 1)) before
+
+  pub standing_bounded : (most : ℕ) → ((g : G) (h : ℕ) → cut x g h ≤ most) → (n : ℕ) → Bounded most (standing x n)
+  standing_bounded most few zero = subst (Bounded most) (sym (standing_zero x)) (first_bounded x most few)
+  standing_bounded most few (suc n) =
+      next_by (Bounded most) n (standing_bounded most few n)
+      (λ h none r. retire_bounded x most few h (jump (ticks_left (standing x n).harts) (standing x n)) (jump_bounded x most few (ticks_left (standing x n).harts) (standing x n) (standing_bounded most few n)))
+
+-- where instructions have at most so many cycles, and the speedup is at most so many per cent
+pub cut_few : {G : Type 0} (x : Experiment G) (cycles speedup : ℕ) → ((g : G) (h : ℕ) → x.guest.cycles g h ≤ cycles) → x.speedup ≤ speedup → (g : G) (h : ℕ) → cut x g h ≤ speedup * cycles
+unfolding cut
+cut_few x cycles speedup few small g h = go (x.guest.is_selected g h)
+  where
+    go : (b : Bool) → (if b then x.speedup * x.guest.cycles g h else 0) ≤ speedup * cycles
+    go true = mul-le-mul small (few g h)
+    go false = omega arith

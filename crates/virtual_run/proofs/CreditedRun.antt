@@ -1,0 +1,643 @@
+-- The delayed run of a program, step by step in code.
+use Rattle.std.proofs.Common.{◌≡◌, ℕ, zero, suc, ◌+◌, ◌-◌, ◌*◌, ◌^◌, ◌≤◌, ◌<◌, Bool, true, false, if◌then◌else◌, ◌==◌, List, [], ◌∷◌, ◌++◌, map, length, get_or, slice_get, filter, nat_le, refl, sym, ap, ap₂, ◌∙◌, subst, arith, Option, Some, None, is_some, option_map, option_to_list, IsSome, eqb-true, replicate, lit<, add-one, mul_comm, ◌⊎◌}
+use Rattle.std.proofs.lemmas.List.{length-map, length-replicate, length-set, map-append}
+use Rattle.std.specs.List.{All}
+use Rattle.std.proofs.lemmas.List.Elements.{All-nil, All-cons, All-head, All-tail}
+use Rattle.coz_types.specs.declared.ending.Ending.{Ending}
+use Rattle.coz_types.specs.declared.record.Account.{Account as GivenAccount}
+use Rattle.coz_types.specs.declared.record.Outcome.{Outcome}
+use Rattle.coz_types.specs.declared.record.Visit.{Visit as GivenVisit}
+use Rattle.coz_types.specs.Image.{ImageParts}
+use Rattle.cost_table.specs.Costs.{cycles_of}
+use Rattle.hart_schedule.specs.Keys.{key_of, without_key, IsLeast}
+use Rattle.line_index.specs.Index.{position_at}
+use Rattle.progress_points.specs.Points.{point_of}
+use Rattle.machines.specs.declared.Fate.{Fate}
+use Rattle.machines.specs.Places.{is_among}
+use Rattle.machines.specs.Guest.{Experiment, Retirement, IsLawful, goes_on, own_ending, started}
+use Rattle.machines.specs.Delayed.{Account, Load, Hart, Delayed, Visit, fresh, is_running, stop, run as run_from, begin, unbegun, after, delayed}
+use Rattle.machines.specs.Shortened.{Shortened, Turn, shortened, move}
+use Rattle.machines.specs.Shortened as short
+use Rattle.machines.specs.Agreement.{LoadAgrees, Agrees}
+use Rattle.machines.specs.Steps.{Steps, sit_hart}
+use Rattle.machines.specs.Standing.{standing, delayed_record}
+use Rattle.machines.specs.Records.{net, record_of, IsDelayed, IsShortened, shortened_record}
+use Rattle.machines.proofs.Ends.{goes_on_at, record_is}
+use Rattle.machines.proofs.Stepping.{begin_frame}
+use Rattle.machines.proofs.Standing.{agrees, in_time, end_in_time, steps_is, last, recorded_delayed, delayed_is, net_is}
+use Rattle.delay_credits.specs.Delays.{Delays, account_as, hart_at, pause_of, at, with_start, with_stop, none_raised}
+use Rattle.delay_credits.specs.Ticks.{without_work}
+use Rattle.guest_calls.specs.Calls.{retirement}
+use Rattle.guest_calls.specs.Guest.{Guest, IsMade, pc_of, is_running as runs_in}
+use Rattle.guest_calls.specs.Orderly.{IsOrderly}
+use Rattle.guest_calls.specs.Retire.{next_of, retire}
+use Rattle.guest_calls.proofs.Law.{running_low, others_idle}
+use Rattle.virtual_run.specs.declared.choice.Setting.{Setting}
+use Rattle.virtual_run.specs.declared.run.Run.{Run}
+use Rattle.virtual_run.specs.Begin.{started_by, many, AreIdle}
+use Rattle.virtual_run.specs.Ending.{ending_of, runs_after}
+use Rattle.virtual_run.specs.Visits.{Visits, visits_of}
+use Rattle.virtual_run.specs.Run.{selected_of, state_of, AreWithin, IsChoice, IsReached, IsStateOf, IsSteady, IsFirst}
+use Rattle.virtual_run.specs.Credited.{raise_ticks, with_credits, with_starts, with_raises, with_begun, settled_by, Holds, CanBegin}
+use Rattle.virtual_run.specs.DelayedRun.{Seen, experiment_with, experiment_of, visit_as, net_due_of, account_in, outcome_of, IsPaced}
+use Rattle.virtual_run.proofs.Keys.{has_place, next_is}
+use Rattle.virtual_run.proofs.Many.{many_few}
+use Rattle.virtual_run.proofs.Begin.{cycles_few}
+use Rattle.virtual_run.proofs.Law.{lawful_run, steady, reached_next, IsTurn, started_idle, none_own}
+use Rattle.virtual_run.proofs.Credited.{among_filter, holds_begin}
+use Rattle.virtual_run.proofs.CreditedLists.{at_latest, change_length, raises_length, raises_latest, start_is}
+use Rattle.virtual_run.proofs.CreditedBegin.{others_among, begun_places}
+use Rattle.virtual_run.proofs.CreditedBounds.{standing_bounded, cut_few}
+use Rattle.virtual_run.proofs.CreditedPlaces.{IsCounted, standing_has, standing_good}
+use Rattle.virtual_run.proofs.CreditedSteps.{IsNext, visit_at}
+use Rattle.virtual_run.proofs.CreditedSteps as steps
+use Rattle.virtual_run.proofs.Made.{retire_grows, first_count}
+
+-- the experiment, and that it counts the harts that were made
+pub lawful_with : (image : ImageParts) (input : List ℕ) (setting : Setting) → IsChoice setting.choice → IsLawful (experiment_with image input setting) IsOrderly
+lawful_with image input setting valid = lawful_run image (position_at setting.index.now) (point_of setting.points.now) input setting.choice valid.speedup
+
+counted_with : (image : ImageParts) (input : List ℕ) (setting : Setting) → IsCounted (experiment_with image input setting) IsOrderly (λ g. length g.harts)
+counted_with image input setting = record {
+  first = first_count image input setting.choice.output_limit setting.choice.layout;
+  made = λ g h good runs. (running_low g h good runs).0;
+  grows = λ g h v good runs. retire_grows g h v good;
+}
+
+-- visits as the machine keeps them
+visit_kept : (o : Option ℕ) (h time delay : ℕ) → map visit_as (visits_of o h time delay) ≡ option_to_list (option_map (λ p. record { point = p; hart = h; time = time; delay = delay }) o)
+visit_kept None h time delay = refl
+visit_kept (Some p) h time delay = refl
+
+-- what a move of the engine promises
+pub record IsAdvance (setting : Setting) (run new : Run) (h : ℕ) (fate : Fate) (delay : ℕ) (x : Experiment Guest) (dues : List (Option ℕ)) : Type 0 where
+  pub goes : run.ending ≡ None
+  pub moved : IsStateOf new (move x (state_of run dues))
+  pub turn : key_of run.schedule h ≡ Some new.time
+  pub first : IsLeast run.schedule h
+  pub retires : retirement new.guest fate new.started ≡ retire run.guest h new.time
+  pub visits : new.visits ≡ record run.visits { kept = run.visits.kept ++ visits_of (point_of setting.points.now (pc_of run.guest h)) h (new.time + delay) delay }
+  pub ending : new.ending ≡ ending_of fate
+      (nat_le setting.choice.output_limit (length new.guest.output))
+      (nat_le setting.choice.visit_limit (length new.visits.kept))
+      (runs_after fate new.started (without_key h run.schedule))
+      new.retired setting.choice.budget
+  pub unfull : new.ending ≡ None → length new.visits.kept < setting.choice.visit_limit
+  pub selected : new.ending ≡ None → new.selected ≡ selected_of setting new.guest (started_by h fate new.started)
+  pub room : length new.schedule ≡ 256
+  pub retired : new.retired ≡ run.retired + 1
+  pub few : new.starts ≤ new.retired + many new.schedule
+  pub within : (moment : ℕ) → AreWithin moment run.schedule → AreWithin (moment + 4000) new.schedule
+
+module _ (image : ImageParts) (input : List ℕ) (setting : Setting) (run : Run) (credits : Delays) (now : ℕ) (p : IsPaced image input setting run credits now) where
+  abbrev x : Experiment Guest
+  x = experiment_with image input setting
+
+  abbrev d : Delayed Guest
+  d = standing x run.retired
+
+  abbrev s : Shortened Guest
+  s = shortened x run.retired
+
+  law : IsLawful x IsOrderly
+  law = lawful_with image input setting p.valid
+
+  pub agree : Agrees d s
+  agree = agrees x IsOrderly law run.retired
+
+  pub ending_now : d.ending ≡ run.ending
+  ending_now = agree.ending ∙ ap (λ (t : Shortened Guest). t.ending) p.reached.reached.state
+
+  pub retired_now : d.retired ≡ run.retired
+  retired_now = agree.retired ∙ ap (λ (t : Shortened Guest). t.retired) p.reached.reached.state
+
+  pub starts_now : d.starts ≡ run.starts
+  starts_now = agree.starts ∙ ap (λ (t : Shortened Guest). t.starts) p.reached.reached.state
+
+  short_guest : s.guest ≡ run.guest
+  short_guest = ap (λ (t : Shortened Guest). t.guest) p.reached.reached.state
+
+  pub guest_now : d.guest ≡ run.guest
+  guest_now = agree.guest ∙ short_guest
+
+  pub now_is : now ≡ d.now
+  now_is = p.moment
+
+  pub harts_now : length d.harts ≡ length run.guest.harts
+  harts_now = standing_has x IsOrderly law (λ g. length g.harts) (counted_with image input setting) run.retired ∙ ap (λ (g : Guest). length g.harts) guest_now
+
+  -- the delay is at most 3800 ticks a start
+  delay_few : d.delay ≤ 3800 * d.starts
+  delay_few = standing_bounded x IsOrderly law 3800 (cut_few x 40 95 (λ g h. cycles_few (next_of g h)) p.valid.speedup) run.retired
+
+  starts_few : run.starts ≤ 10 ^ 12 + 256
+  starts_few =
+      let most : many run.schedule ≤ length run.schedule = many_few run.schedule in
+      let room : length run.schedule ≡ 256 = p.reached.room in
+      let few : run.starts ≤ run.retired + many run.schedule = p.reached.few in
+      let below : run.retired ≤ setting.choice.budget = p.reached.retired in
+      let budget : setting.choice.budget ≤ 10 ^ 12 = p.valid.few in
+      omega arith
+
+  pub raised_few : credits.raised ≤ 10 ^ 16
+  raised_few =
+      let few : d.delay ≤ 3800 * d.starts = delay_few in
+      let starts : d.starts ≡ run.starts = starts_now in
+      let most : run.starts ≤ 10 ^ 12 + 256 = starts_few in
+      let is : credits.raised ≡ d.delay = p.holds.raised in
+      omega arith
+
+  pub is_steady : run.ending ≡ None → IsSteady run
+  is_steady none = steady image (position_at setting.index.now) (point_of setting.points.now) input setting.choice p.valid run p.reached none
+
+  module _ (new : Run) (h : ℕ) (fate : Fate) (delay : ℕ) (given : delay ≡ credits.raised) (a : IsAdvance setting run new h fate delay x s.dues) where
+    abbrev t : Turn
+    t = record { hart = h; due = new.time }
+
+    abbrev pub later_now : ℕ
+    later_now = new.time + delay
+
+    next : IsNext x IsOrderly law run.retired t later_now credits
+    next = record {
+      goes = ending_now ∙ a.goes;
+      turn = next_is run.schedule s.dues h new.time p.reached.reached.dues a.turn a.first;
+      moment = ap (λ (m : ℕ). new.time + m) given;
+      holds = p.holds;
+    }
+
+    pub time_few : new.time ≤ 10 ^ 16
+    time_few =
+        let due : new.time ≤ 4000 * (run.retired + 1) = p.reached.within h new.time a.turn in
+        let below : run.retired ≤ setting.choice.budget = p.reached.retired in
+        let budget : setting.choice.budget ≤ 10 ^ 12 = p.valid.few in
+        omega arith
+
+    pub hart_below : h < length credits.harts
+    hart_below = subst (λ (n : ℕ). h < n) (p.reached.room ∙ sym p.room) (has_place run.schedule h new.time a.turn)
+
+    pub is_later : credits.latest ≤ later_now
+    is_later = steps.later x IsOrderly law run.retired t later_now credits next
+
+    pub hart_runs : is_running (hart_at credits h) ≡ true
+    hart_runs = steps.running x IsOrderly law run.retired t later_now credits next
+
+    pub hart_unpaused : pause_of (hart_at (at later_now credits) h) ≡ 0
+    hart_unpaused = steps.unpaused x IsOrderly law run.retired t later_now credits next
+
+    abbrev stopped : Delays
+    stopped = with_stop h later_now credits
+
+    stopped_places : length stopped.harts ≡ 256
+    stopped_places =
+        let same : length (at later_now credits).harts ≡ length credits.harts = length-map credits.harts (sit_hart (later_now - credits.latest)) in
+        change_length h stop (at later_now credits).harts (subst (λ (n : ℕ). h < n) (sym same) hart_below) ∙ same ∙ p.room
+
+    turned : IsTurn run.guest run.schedule h new.time
+    turned = let st : IsSteady run = is_steady a.goes in record { orderly = st.orderly; running = st.running; room = st.room; turn = a.turn }
+
+    begin_idle : new.ending ≡ None → AreIdle new.guest (without_key h run.schedule) (started_by h fate new.started)
+    begin_idle none =
+        let own : own_ending fate ≡ None = none_own fate _ _ _ new.retired setting.choice.budget (sym a.ending ∙ none) in
+        started_idle run.guest run.schedule h new.time new.guest fate new.started turned a.retires own
+
+    hart_ran : runs_in run.guest h ≡ true
+    hart_ran = turned.running h ∙ ap is_some a.turn
+
+    still_idle : (k : ℕ) → is_among k new.started ≡ true → runs_in s.guest k ≡ false
+    still_idle k among =
+        ap (λ (g : Guest). runs_in g k) short_guest
+        ∙ others_idle run.guest h new.time turned.orderly hart_ran k (ap (λ (r : Retirement Guest). is_among k r.others) (sym a.retires) ∙ among)
+
+    pub reached_new : IsReached x new
+    reached_new = reached_next image (position_at setting.index.now) (point_of setting.points.now) input setting.choice p.valid run p.reached new a.goes a.moved a.room (ap (λ (v : Visits). v.limit) a.visits) a.unfull a.retired a.few a.within
+
+    next_count : new.retired ≡ suc run.retired
+    next_count = a.retired ∙ add-one run.retired
+
+    after_is : (standing x (suc run.retired)).ending ≡ new.ending
+    after_is =
+        (agrees x IsOrderly law (suc run.retired)).ending
+        ∙ ap (λ (n : ℕ). (shortened x n).ending) (sym next_count)
+        ∙ ap (λ (t : Shortened Guest). t.ending) reached_new.reached.state
+
+    after_starts : (standing x (suc run.retired)).starts ≡ new.starts
+    after_starts =
+        (agrees x IsOrderly law (suc run.retired)).starts
+        ∙ ap (λ (n : ℕ). (shortened x n).starts) (sym next_count)
+        ∙ ap (λ (t : Shortened Guest). t.starts) reached_new.reached.state
+
+    abbrev r : Retirement Guest
+    r = retirement new.guest fate new.started
+
+    retires_as : r ≡ x.guest.retire s.guest h new.time
+    retires_as = a.retires ∙ ap (λ (g : Guest). retire g h new.time) (sym short_guest)
+
+    raises_few : new.ending ≡ None → credits.raised + 3800 * length new.selected ≤ 10 ^ 17
+    raises_few none =
+        let few : d.delay ≤ 3800 * d.starts = delay_few in
+        let is : credits.raised ≡ d.delay = p.holds.raised in
+        let more : (standing x (suc run.retired)).starts ≡ d.starts + length (filter (x.guest.is_selected new.guest) (started_by h fate new.started)) = steps.starts_next x IsOrderly law run.retired t later_now credits next r retires_as (after_is ∙ none) in
+        let same : length new.selected ≡ length (filter (x.guest.is_selected new.guest) (started_by h fate new.started)) = ap length (a.selected none) in
+        let starts : (standing x (suc run.retired)).starts ≡ new.starts = after_starts in
+        let most : many new.schedule ≤ length new.schedule = many_few new.schedule in
+        let room : length new.schedule ≡ 256 = a.room in
+        let kept : new.starts ≤ new.retired + many new.schedule = a.few in
+        let below : new.retired ≤ setting.choice.budget = reached_new.retired in
+        let budget : setting.choice.budget ≤ 10 ^ 12 = p.valid.few in
+        omega arith
+
+    -- where the run goes on, what it started can begin
+    pub can_begin : new.ending ≡ None → CanBegin stopped new.guest h fate new.started new.selected
+    can_begin none =
+        let idle = begin_idle none in
+        let many_harts : length (without_key h run.schedule) ≡ 256 = length-set run.schedule h None ∙ p.reached.room in
+        let low : (k : ℕ) → is_among k (started_by h fate new.started) ≡ true → k < length stopped.harts = λ k among. subst (λ (n : ℕ). k < n) (many_harts ∙ sym stopped_places) (idle.idle k among).below in
+        let chosen : (k : ℕ) → is_among k new.selected ≡ true → is_among k (started_by h fate new.started) ≡ true =
+        λ k among. (among_filter (x.guest.is_selected new.guest) k (started_by h fate new.started) (ap (is_among k) (sym (a.selected none)) ∙ among)).1 in
+        record {
+          below = subst (λ (n : ℕ). h < n) (p.room ∙ sym stopped_places) hart_below;
+          whole = steps.whole_stopped x IsOrderly law run.retired t later_now credits next;
+          rest = λ k among. record {
+            below = low k (others_among (goes_on fate) h k new.started among);
+            rests = steps.idle x IsOrderly law run.retired t later_now credits next k (still_idle k among);
+          };
+          started = low;
+          selected = chosen;
+          made = λ k among. (idle.idle k (chosen k among)).made;
+          few = raises_few none;
+        }
+
+    settled : Delays
+    settled = settled_by new.ending (raise_ticks new.guest setting.choice.speedup) h fate new.started new.selected stopped
+
+    ticks_are : (k : ℕ) → raise_ticks new.guest setting.choice.speedup k ≡ x.speedup * x.guest.cycles new.guest k
+    ticks_are k = mul_comm (cycles_of (next_of new.guest k)) setting.choice.speedup
+
+    settled_holds : (o : Option Ending) → new.ending ≡ o
+        → Holds (settled_by o (raise_ticks new.guest setting.choice.speedup) h fate new.started new.selected stopped) (standing x (suc run.retired))
+        × (length (settled_by o (raise_ticks new.guest setting.choice.speedup) h fate new.started new.selected stopped).harts ≡ 256)
+    settled_holds (Some e) is = (steps.holds_ended x IsOrderly law run.retired t later_now credits next e (after_is ∙ is), stopped_places)
+    settled_holds None is =
+        let ticks : ℕ → ℕ = raise_ticks new.guest setting.choice.speedup in (
+          subst (λ (hs : List ℕ). Holds (with_begun ticks h fate new.started hs stopped) (standing x (suc run.retired))) (sym (a.selected is))
+              (steps.holds_goes x IsOrderly law run.retired t later_now credits next ticks r retires_as ticks_are (after_is ∙ is)),
+          begun_places stopped new.guest h fate new.started new.selected (can_begin is) ticks ∙ stopped_places,
+        )
+
+    kept_next : map visit_as new.visits.kept ≡ (standing x (suc run.retired)).visits
+    unfolding visit_at
+    kept_next =
+        let point : Option ℕ = point_of setting.points.now (pc_of run.guest h) in
+        ap (λ (v : Visits). map visit_as v.kept) a.visits
+        ∙ map-append visit_as run.visits.kept (visits_of point h later_now delay)
+        ∙ ap₂ (λ (vs ws : List Visit). vs ++ ws) p.visits
+        (visit_kept point h later_now delay ∙ ap₂ (λ (m : ℕ) (g : Guest). visit_at x h later_now m g) given (sym short_guest))
+        ∙ sym (steps.visits_next x IsOrderly law run.retired t later_now credits next)
+
+    latest_is : (o : Option Ending) → (settled_by o (raise_ticks new.guest setting.choice.speedup) h fate new.started new.selected stopped).latest ≡ later_now
+    latest_is (Some e) = refl
+    latest_is None = raises_latest (raise_ticks new.guest setting.choice.speedup) new.selected (with_starts (started_by h fate new.started) (with_credits new.started stopped))
+
+    -- the fields stand for the state after the retirement
+    pub paced_next : (after : Delays) → after ≡ settled_by new.ending (raise_ticks new.guest setting.choice.speedup) h fate new.started new.selected stopped → IsPaced image input setting new after later_now
+    paced_next after is =
+        let both = settled_holds new.ending refl in
+        let holds : Holds after (standing x new.retired) = subst (λ (n : ℕ). Holds after (standing x n)) (sym next_count) (subst (λ (c : Delays). Holds c (standing x (suc run.retired))) (sym is) both.0) in
+        record {
+          valid = p.valid;
+          reached = reached_new;
+          holds = holds;
+          room = ap (λ (c : Delays). length c.harts) is ∙ both.1;
+          visits = kept_next ∙ ap (λ (n : ℕ). (standing x n).visits) (sym next_count);
+          moment = sym (latest_is new.ending) ∙ ap (λ (c : Delays). c.latest) (sym is) ∙ holds.latest;
+        }
+
+    -- the moves up to the retirement
+    pub steps_next : Steps x d (standing x new.retired)
+    steps_next =
+        let by = steps_is x IsOrderly law run.retired t (ending_now ∙ a.goes) next.turn in
+        subst (λ (n : ℕ). Steps x d (standing x n)) (sym next_count) by.steps
+
+-- when a hart retires, of its load
+due_of : (now delay : ℕ) (a : Account) (o : Option Load) (due : Option ℕ) → LoadAgrees now delay a o due → due ≡ option_map (λ load. now + load.work + load.pause - delay) o
+due_of now delay a None None agree = refl
+due_of now delay a None (Some u) agree = absurd agree
+due_of now delay a (Some l) None agree = absurd agree
+due_of now delay a (Some l) (Some u) agree = ap Some (let same : u ≡ now + l.work + l.pause - delay = omega arith in same)
+
+account_held : (hart : Hart) → (without_work hart).account ≡ hart.account
+account_held hart = go hart.account hart.load
+  where
+    go : (a : Account) (o : Option Load) → (without_work (record { account = a; load = o })).account ≡ a
+    go a None = refl
+    go a (Some l) = refl
+
+-- the hart at a place, if there is one
+place_some : (harts : List Hart) (h : ℕ) → h < length harts → slice_get harts h ≡ Some (get_or harts h fresh)
+place_some [] h below = absurd (omega arith)
+place_some (hart ∷ harts) zero below = refl
+place_some (hart ∷ harts) (suc h) below = let less : h < length harts = omega arith in place_some harts h less
+
+place_none : (harts : List Hart) (h : ℕ) → length harts ≤ h → slice_get harts h ≡ None
+place_none [] h past = refl
+place_none (hart ∷ harts) zero past = absurd (omega arith)
+place_none (hart ∷ harts) (suc h) past = let more : length harts ≤ h = omega arith in place_none harts h more
+
+given_in_time : (vs : List GivenVisit) → All (λ (v : Visit). v.delay ≤ v.time) (map visit_as vs) → All (λ (v : GivenVisit). v.delay ≤ v.time) vs
+given_in_time [] all = All-nil (λ v. v.delay ≤ v.time)
+given_in_time (v ∷ vs) all =
+    All-cons (λ v. v.delay ≤ v.time) v vs (All-head (λ v. v.delay ≤ v.time) (visit_as v) (map visit_as vs) all)
+    (given_in_time vs (All-tail (λ v. v.delay ≤ v.time) (visit_as v) (map visit_as vs) all))
+
+same_outcome : (e : Ending) (m m' g g' r r' s s' : ℕ) → m ≡ m' → g ≡ g' → r ≡ r' → s ≡ s'
+    → ◌≡◌ {A = Outcome} (record { ending = e; time = m; delay = g; retired = r; starts = s }) (record { ending = e; time = m'; delay = g'; retired = r'; starts = s' })
+same_outcome e m m' g g' r r' s s' is_m is_g is_r is_s = cc
+
+-- what the methods that change nothing give
+module _ (image : ImageParts) (input : List ℕ) (setting : Setting) (run : Run) (credits : Delays) (now : ℕ) (p : IsPaced image input setting run credits now) where
+  abbrev seen : Delayed Guest
+  seen = standing (experiment_with image input setting) run.retired
+
+  pub due_ended : (h : ℕ) (e : Ending) → run.ending ≡ Some e → None ≡ net_due_of seen h
+  due_ended h e is = rw (ending_now image input setting run credits now p, is) refl
+
+  pub due_goes : (h : ℕ) → run.ending ≡ None → key_of run.schedule h ≡ net_due_of seen h
+  due_goes h none =
+      let hart : Hart = get_or seen.harts h fresh in
+      rw (ending_now image input setting run credits now p, none)
+      (p.reached.reached.dues h
+      ∙ due_of seen.now seen.delay hart.account hart.load (get_or (shortened (experiment_with image input setting) run.retired).dues h None) ((agree image input setting run credits now p).harts h))
+
+  pub latest_now : credits.latest ≡ now
+  latest_now = p.holds.latest ∙ sym p.moment
+
+  pub account_some : (h : ℕ) (given : GivenAccount) → h < length run.guest.harts → account_as given ≡ (hart_at (at now credits) h).account → Some (account_as given) ≡ account_in seen h
+  account_some h given made is =
+      let hart : Hart = get_or seen.harts h fresh in
+      let there : h < length seen.harts = rw (harts_now image input setting run credits now p) made in
+      ap Some (is ∙ ap (λ (c : Delays). (hart_at c h).account) (at_latest credits now latest_now) ∙ ap (λ (o : Hart). o.account) (p.holds.harts h) ∙ account_held hart)
+      ∙ sym (ap (λ (o : Option Hart). option_map (λ (h : Hart). h.account) o) (place_some seen.harts h there))
+
+  pub account_none : (h : ℕ) → length run.guest.harts ≤ h → ◌≡◌ {A = Option Account} None (account_in seen h)
+  account_none h past =
+      let there : length seen.harts ≤ h = rw (harts_now image input setting run credits now p) past in
+      sym (ap (λ (o : Option Hart). option_map (λ (h : Hart). h.account) o) (place_none seen.harts h there))
+
+  pub harts_few : length run.guest.harts ≤ 256
+  harts_few =
+      let good : IsOrderly seen.guest = standing_good (experiment_with image input setting) IsOrderly (lawful_with image input setting p.valid) run.retired in
+      subst (λ (g : Guest). length g.harts ≤ 256) (guest_now image input setting run credits now p) good.few
+
+  pub visits_in_time : All (λ (v : Visit). v.delay ≤ v.time) seen.visits
+  visits_in_time = in_time (experiment_with image input setting) IsOrderly (lawful_with image input setting p.valid) run.retired
+
+  pub kept_in_time : All (λ (v : GivenVisit). v.delay ≤ v.time) run.visits.kept
+  kept_in_time = given_in_time run.visits.kept (subst (All (λ (v : Visit). v.delay ≤ v.time)) (sym p.visits) visits_in_time)
+
+  pub outcome_some : (e : Ending) → run.ending ≡ Some e → Some (record { ending = e; time = now; delay = credits.raised; retired = run.retired; starts = run.starts }) ≡ outcome_of seen
+  outcome_some e is =
+      rw (ending_now image input setting run credits now p, is)
+      (ap Some (same_outcome e now seen.now credits.raised seen.delay run.retired seen.retired run.starts seen.starts
+      p.moment p.holds.raised (sym (retired_now image input setting run credits now p)) (sym (starts_now image input setting run credits now p))))
+
+  pub outcome_none : run.ending ≡ None → ◌≡◌ {A = Option Outcome} None (outcome_of seen)
+  outcome_none is = rw (ending_now image input setting run credits now p, is) refl
+
+-- what contracts see of the fields
+abbrev pub seen_of : ImageParts → List ℕ → Setting → Run → Seen
+seen_of image input setting run = record {
+  image = image;
+  index = setting.index.now;
+  points = setting.points.now;
+  input = input;
+  choice = setting.choice;
+  state = standing (experiment_with image input setting) run.retired;
+}
+
+pub none_of : (o : Option Ending) → is_some o ≡ false → o ≡ None
+none_of None e = refl
+none_of (Some a) e = absurd (let no : true ≡ false = e in cc)
+
+some_none : (o : Option Ending) → is_some o ≡ true → o ≡ None → ⊥
+some_none o some none = let no : false ≡ true = sym (ap is_some none) ∙ some in cc
+
+module _ (image : ImageParts) (input : List ℕ) (setting : Setting) (run : Run) (credits : Delays) (now : ℕ) (p : IsPaced image input setting run credits now) where
+  -- a run that has ended
+  pub not_over : (v : Seen) → seen_of image input setting run ≡ v → is_some run.ending ≡ true → v.state.ending ≡ None → ⊥
+  not_over v view some none = some_none run.ending some (sym (ending_now image input setting run credits now p) ∙ ap (λ (v : Seen). v.state.ending) view ∙ none)
+
+  -- one that goes on
+  pub not_ended : (v : Seen) → seen_of image input setting run ≡ v → run.ending ≡ None → IsSome v.state.ending → ⊥
+  not_ended v view none some = let no : false ≡ true = sym (ap is_some (sym (ap (λ (v : Seen). v.state.ending) view) ∙ ending_now image input setting run credits now p ∙ none)) ∙ some in cc
+
+  -- beside the shortened machine
+  pub agrees_seen : (v : Seen) → seen_of image input setting run ≡ v → Agrees v.state (shortened (experiment_of v) v.state.retired)
+  agrees_seen v view =
+      subst (λ (v : Seen). Agrees v.state (shortened (experiment_of v) v.state.retired)) view
+      (subst (λ (n : ℕ). Agrees (standing (experiment_with image input setting) run.retired) (shortened (experiment_with image input setting) n)) (sym (retired_now image input setting run credits now p)) (agree image input setting run credits now p))
+
+  pub next_seen : (v : Seen) (n : ℕ) → seen_of image input setting run ≡ v → n ≡ run.retired + 1 → standing (experiment_with image input setting) n ≡ standing (experiment_of v) (v.state.retired + 1)
+  next_seen v n view is =
+      subst (λ (v : Seen). standing (experiment_with image input setting) n ≡ standing (experiment_of v) (v.state.retired + 1)) view
+      (ap (standing (experiment_with image input setting)) (is ∙ ap (λ (m : ℕ). m + 1) (sym (retired_now image input setting run credits now p))))
+
+  pub steps_seen : (v : Seen) (d : Delayed Guest) → seen_of image input setting run ≡ v → Steps (experiment_with image input setting) (standing (experiment_with image input setting) run.retired) d → Steps (experiment_of v) v.state d
+  steps_seen v d view steps = subst (λ (v : Seen). Steps (experiment_of v) v.state d) view steps
+
+  -- another state of the same run beside the shortened machine
+  pub agrees_after : (v : Seen) (n : ℕ) → seen_of image input setting run ≡ v → (standing (experiment_with image input setting) n).retired ≡ n
+      → Agrees (standing (experiment_with image input setting) n) (shortened (experiment_of v) (standing (experiment_with image input setting) n).retired)
+  agrees_after v n view count =
+      subst (λ (v : Seen). Agrees (standing (experiment_with image input setting) n) (shortened (experiment_of v) (standing (experiment_with image input setting) n).retired)) view
+      (subst (λ (m : ℕ). Agrees (standing (experiment_with image input setting) n) (shortened (experiment_with image input setting) m)) (sym count) (agrees (experiment_with image input setting) IsOrderly (lawful_with image input setting p.valid) n))
+
+one_bit : (b : Bool) → (if b then true else false) ≡ true → b ≡ true
+one_bit true e = refl
+one_bit false e = e
+
+only_first : (k : ℕ) → is_among k (0 ∷ []) ≡ true → k ≡ 0
+only_first k e = eqb-true k 0 (one_bit (k == 0) e)
+
+-- what contracts see of a run between two steps
+module _ (image : ImageParts) (input : List ℕ) (setting : Setting) (run : Run) (credits : Delays) (now : ℕ) (p : IsPaced image input setting run credits now) where
+  abbrev paced_x : Experiment Guest
+  paced_x = experiment_with image input setting
+
+  pub stands_seen : (v : Seen) → seen_of image input setting run ≡ v → v.state ≡ standing (experiment_of v) run.retired
+  stands_seen v view = subst (λ (v : Seen). v.state ≡ standing (experiment_of v) run.retired) view refl
+
+  pub agrees_so_far : (v : Seen) → seen_of image input setting run ≡ v → Agrees v.state (shortened (experiment_of v) run.retired)
+  agrees_so_far v view = subst (λ (v : Seen). Agrees v.state (shortened (experiment_of v) run.retired)) view (agree image input setting run credits now p)
+
+  -- a hart is due as in the shortened machine
+  pub due_seen : (v : Seen) (h : ℕ) → seen_of image input setting run ≡ v → key_of run.schedule h ≡ key_of (shortened (experiment_of v) v.state.retired).dues h
+  due_seen v h view =
+      subst (λ (v : Seen). key_of run.schedule h ≡ key_of (shortened (experiment_of v) v.state.retired).dues h) view
+      (p.reached.reached.dues h ∙ ap (λ (n : ℕ). key_of (shortened paced_x n).dues h) (sym (retired_now image input setting run credits now p)))
+
+  pub none_seen : (v : Seen) → seen_of image input setting run ≡ v → run.ending ≡ None → v.state.ending ≡ None
+  none_seen v view none = sym (ap (λ (v : Seen). v.state.ending) view) ∙ ending_now image input setting run credits now p ∙ none
+
+  -- an ended run isn't before its delay
+  pub delay_in_time : (e : Ending) → run.ending ≡ Some e → credits.raised ≤ now
+  delay_in_time e over =
+      let d : Delayed Guest = standing paced_x run.retired in
+      let raised : credits.raised ≡ d.delay = p.holds.raised in
+      let moment : now ≡ d.now = p.moment in
+      let in_time : d.delay ≤ d.now = end_in_time paced_x IsOrderly (lawful_with image input setting p.valid) run.retired e (ending_now image input setting run credits now p ∙ over) in
+      omega arith
+
+-- as a run begins
+module _ (image : ImageParts) (input : List ℕ) (setting : Setting) (run : Run) (valid : IsChoice setting.choice) (f : IsFirst setting image input run) where
+  abbrev begun_x : Experiment Guest
+  begun_x = experiment_with image input setting
+
+  short_first : (shortened begun_x 0).guest ≡ begun_x.first
+  unfolding shortened short.begin short.unbegun
+  short_first = refl
+
+  guest_first : run.guest ≡ begun_x.first
+  guest_first = sym (ap (λ (t : Shortened Guest). t.guest) f.reached.reached.state) ∙ ap (λ (n : ℕ). (shortened begun_x n).guest) f.retired ∙ short_first
+
+  pub first_made_here : (hs : List ℕ) → hs ≡ run.selected → (k : ℕ) → is_among k hs ≡ true → IsMade run.guest k
+  first_made_here hs is k among =
+      let chosen : is_among k (filter (begun_x.guest.is_selected run.guest) (0 ∷ [])) ≡ true = ap (is_among k) (sym (is ∙ f.selected)) ∙ among in
+      let first : k ≡ 0 = only_first k (among_filter (begun_x.guest.is_selected run.guest) k (0 ∷ []) chosen).1 in
+      let one : length run.guest.harts ≡ 1 = ap (λ (g : Guest). length g.harts) guest_first ∙ first_count image input setting.choice.output_limit setting.choice.layout in
+      omega arith
+
+  first_raised : Delays
+  first_raised = with_raises (raise_ticks run.guest setting.choice.speedup) (filter (begun_x.guest.is_selected run.guest) (0 ∷ [])) (with_starts (0 ∷ []) (none_raised 256))
+
+  first_raised_is : first_raised ≡ with_raises (raise_ticks run.guest setting.choice.speedup) (filter (begun_x.guest.is_selected run.guest) (0 ∷ [])) (with_starts (0 ∷ []) (none_raised 256))
+  unfolding first_raised
+  first_raised_is = refl
+
+  none_held : (k n : ℕ) → get_or (replicate n fresh) k fresh ≡ fresh
+  none_held k zero = refl
+  none_held zero (suc n) = refl
+  none_held (suc k) (suc n) = none_held k n
+
+  holds_none : Holds (none_raised 256) (unbegun begun_x)
+  unfolding unbegun
+  holds_none = record { latest = refl; raised = refl; harts = λ k. none_held k 256 }
+
+  unbegun_guest : (unbegun begun_x).guest ≡ begun_x.first
+  unfolding unbegun
+  unbegun_guest = refl
+
+  standing_first : standing begun_x 0 ≡ begin begun_x (0 ∷ []) (unbegun begun_x)
+  unfolding standing delayed after
+  standing_first = refl
+
+  first_visits : (standing begun_x 0).visits ≡ []
+  unfolding standing delayed after unbegun
+  first_visits = ap (λ o. o.visits) (begin_frame begun_x (0 ∷ []) (unbegun begun_x))
+
+  first_holds : Holds first_raised (standing begun_x 0)
+  unfolding first_raised
+  first_holds =
+      let same : (unbegun begun_x).guest ≡ run.guest = unbegun_guest ∙ sym guest_first in
+      subst (Holds first_raised) (sym standing_first)
+      (subst (λ (g : Guest). Holds (with_raises (raise_ticks run.guest setting.choice.speedup) (filter (begun_x.guest.is_selected g) (0 ∷ [])) (with_starts (0 ∷ []) (none_raised 256))) (begin begun_x (0 ∷ []) (unbegun begun_x))) same
+      (holds_begin begun_x (0 ∷ []) (raise_ticks run.guest setting.choice.speedup) (none_raised 256) (unbegun begun_x)
+      (λ h. mul_comm (cycles_of (next_of run.guest h)) setting.choice.speedup ∙ ap (λ (g : Guest). setting.choice.speedup * cycles_of (next_of g h)) (sym same)) holds_none))
+
+  pub first_paced : (made started raised : Delays) (hs : List ℕ) → made ≡ none_raised 256 → started ≡ with_start 0 0 made → hs ≡ run.selected → raised ≡ with_raises (raise_ticks run.guest setting.choice.speedup) hs started
+      → IsPaced image input setting run raised 0
+  first_paced made started raised hs is_made is_started is_selected is_raised =
+      let ticks : ℕ → ℕ = raise_ticks run.guest setting.choice.speedup in
+      let starts : started ≡ with_starts (0 ∷ []) (none_raised 256) = is_started ∙ ap (with_start 0 0) is_made ∙ start_is 0 0 (none_raised 256) refl in
+      let is : raised ≡ first_raised = is_raised ∙ ap₂ (with_raises ticks) (is_selected ∙ f.selected) starts ∙ sym first_raised_is in
+      let holds : Holds raised (standing begun_x run.retired) = subst (λ (n : ℕ). Holds raised (standing begun_x n)) (sym f.retired) (subst (λ (c : Delays). Holds c (standing begun_x 0)) (sym is) first_holds) in
+      record {
+        valid = valid;
+        reached = f.reached;
+        holds = holds;
+        room = ap (λ (c : Delays). length c.harts) (is ∙ first_raised_is) ∙ raises_length ticks (filter (begun_x.guest.is_selected run.guest) (0 ∷ [])) (with_starts (0 ∷ []) (none_raised 256))
+            ∙ change_length 0 (run_from 0) (replicate 256 fresh) (rw length-replicate (lit< tt)) ∙ length-replicate {A = Hart} 256 fresh;
+        visits = ap (map visit_as) f.kept ∙ sym (ap (λ (n : ℕ). (standing begun_x n).visits) f.retired ∙ first_visits);
+        moment = sym (raises_latest ticks (filter (begun_x.guest.is_selected run.guest) (0 ∷ [])) (with_starts (0 ∷ []) (none_raised 256))) ∙ ap (λ (c : Delays). c.latest) (sym (is ∙ first_raised_is)) ∙ holds.latest;
+      }
+
+-- a run between two steps: only its state changes, and it stands after as many retirements as it counts
+pub record IsGoing (old new : Seen) : Type 0 where
+  pub valid : IsChoice old.choice
+  pub rest : new ≡ record old { state = new.state }
+  pub stands : new.state ≡ standing (experiment_of old) new.state.retired
+  pub within : new.state.retired ≤ old.choice.budget
+
+pub going_first : (image : ImageParts) (input : List ℕ) (setting : Setting) (run : Run) (credits : Delays) (now : ℕ) → IsPaced image input setting run credits now → (v : Seen) → seen_of image input setting run ≡ v → IsGoing v v
+going_first image input setting run credits now p v view =
+    let count : (standing (experiment_with image input setting) run.retired).retired ≡ run.retired = retired_now image input setting run credits now p in
+    subst (λ (v : Seen). IsGoing v v) view
+    (record {
+      valid = p.valid;
+      rest = refl;
+      stands = ap (standing (experiment_with image input setting)) (sym count);
+      within = rw count p.reached.retired;
+    })
+
+lawful_of : (v : Seen) → IsChoice v.choice → IsLawful (experiment_of v) IsOrderly
+lawful_of v valid = lawful_run v.image (position_at v.index) (point_of v.points) v.input v.choice valid.speedup
+
+budget_left : (n retired budget : ℕ) → retired ≡ n → (retired ≡ 0) ⊎ (retired < budget) → 1 ≤ budget → n < budget
+budget_left n retired budget count within some = omega arith
+
+module _ (old now : Seen) (g : IsGoing old now) where
+  -- a run that goes on has budget left
+  pub left_over : now.state.ending ≡ None → now.state.retired < old.choice.budget
+  left_over none =
+      let x : Experiment Guest = experiment_of old in
+      let n : ℕ = now.state.retired in
+      let agree : Agrees (standing x n) (shortened x n) = agrees x IsOrderly (lawful_of old g.valid) n in
+      let goes : (shortened x n).ending ≡ None = sym agree.ending ∙ ap (λ (d : Delayed Guest). d.ending) (sym g.stands) ∙ none in
+      let on = goes_on_at x IsOrderly (lawful_of old g.valid) n goes in
+      budget_left n (shortened x n).retired old.choice.budget on.count on.lives.within g.valid.some_budget
+
+  same_run : experiment_of now ≡ experiment_of old
+  same_run = ap experiment_of g.rest
+
+  pub going_next : (new : Seen) → now.state.ending ≡ None → (now.state.ending ≡ None → new.state ≡ standing (experiment_of now) (now.state.retired + 1)) → (now.state.ending ≡ None → Steps (experiment_of now) now.state new.state)
+      → new ≡ record now { state = new.state } → IsGoing old new
+  going_next new none next steps rest =
+      let x : Experiment Guest = experiment_of old in
+      let count : new.state.retired ≡ now.state.retired + 1 = (steps none).retires in
+      let left : now.state.retired < old.choice.budget = left_over none in
+      record {
+        valid = g.valid;
+        rest = rest ∙ ap (λ (v : Seen). record v { state = new.state }) g.rest;
+        stands = next none ∙ ap (λ (y : Experiment Guest). standing y (now.state.retired + 1)) same_run ∙ ap (standing x) (sym count);
+        within = omega arith;
+      }
+
+  pub going_smaller : (new : Seen) → now.state.ending ≡ None → (now.state.ending ≡ None → Steps (experiment_of now) now.state new.state) → old.choice.budget - new.state.retired < old.choice.budget - now.state.retired
+  going_smaller new none steps =
+      let count : new.state.retired ≡ now.state.retired + 1 = (steps none).retires in
+      let left : now.state.retired < old.choice.budget = left_over none in
+      omega arith
+
+  abbrev run_x : Experiment Guest
+  run_x = experiment_of old
+
+  module _ (e : Ending) (over : now.state.ending ≡ Some e) where
+    stands_over : (standing run_x now.state.retired).ending ≡ Some e
+    stands_over = ap (λ (d : Delayed Guest). d.ending) (sym g.stands) ∙ over
+
+    pub record_now : record_of run_x now.state e ≡ delayed_record run_x
+    record_now = ap (λ (d : Delayed Guest). record_of run_x d e) g.stands ∙ recorded_delayed run_x IsOrderly (lawful_of old g.valid) now.state.retired e g.within stands_over
+
+    pub last_now : now.state ≡ standing run_x old.choice.budget
+    last_now = g.stands ∙ last run_x IsOrderly (lawful_of old g.valid) now.state.retired e g.within stands_over
+
+    pub agrees_last : Agrees now.state (shortened run_x old.choice.budget)
+    agrees_last = subst (λ (d : Delayed Guest). Agrees d (shortened run_x old.choice.budget)) (sym last_now) (agrees run_x IsOrderly (lawful_of old g.valid) old.choice.budget)
+
+  pub delayed_now : IsDelayed run_x (delayed_record run_x)
+  delayed_now = delayed_is run_x IsOrderly (lawful_of old g.valid) g.valid.some_budget
+
+  pub law_now : net (delayed_record run_x) ≡ shortened_record run_x
+  law_now = net_is run_x IsOrderly (lawful_of old g.valid) g.valid.some_budget
+
+  pub shortened_now : IsShortened run_x (shortened_record run_x)
+  shortened_now = record_is run_x IsOrderly (lawful_of old g.valid) g.valid.some_budget

@@ -1,0 +1,259 @@
+-- A step of the delayed machine, on the credits that hold its accounts and pauses.
+use Rattle.std.proofs.Common.{◌≡◌, ℕ, suc, ◌+◌, ◌-◌, ◌*◌, ◌≤◌, true, false, List, ◌++◌, length, get_or, filter, refl, sym, ap, ap₂, ◌∙◌, subst, arith, eqb-true, Option, Some, None, is_some, option_map, option_to_list, ◌⊎◌, inl, inr}
+use Rattle.std.proofs.lemmas.Bool.{cases_eq}
+use Rattle.coz_types.specs.declared.ending.Ending.{Ending}
+use Rattle.machines.specs.Places.{change}
+use Rattle.machines.specs.Guest.{Experiment, Retirement, IsLawful, started}
+use Rattle.machines.specs.Delayed.{Account, Load, Hart, Visit, Delayed, total, fresh, is_ready, is_running, stop, account_of, over_or, begin, retirement, leave, give_credit, ending, retire}
+use Rattle.machines.specs.Shortened.{Shortened, Turn, next_turn, shortened}
+use Rattle.machines.specs.Agreement.{Agrees}
+use Rattle.machines.specs.Steps.{sit_hart, jump}
+use Rattle.machines.specs.Standing.{standing}
+use Rattle.machines.proofs.Maps.{change_same, change_other}
+use Rattle.machines.proofs.Turns.{first_is, turn_has}
+use Rattle.machines.proofs.Harts.{alike}
+use Rattle.machines.proofs.Retire.{Ready, ready_is, account_at}
+use Rattle.machines.proofs.Short.{Lives}
+use Rattle.machines.proofs.Ends.{goes_on_at}
+use Rattle.machines.proofs.Stepping.{begin_frame}
+use Rattle.machines.proofs.Standing.{StepsBy, steps_is, agrees, jump_agrees, visit_of, retire_visits}
+use Rattle.delay_credits.specs.Delays.{Delays, hart_at, pause_of, at, with_stop}
+use Rattle.delay_credits.specs.Ticks.{without_work}
+use Rattle.virtual_run.specs.Credited.{Holds, with_credits, with_starts, with_raises}
+use Rattle.virtual_run.proofs.CreditedBounds.{begin_starts, credit_starts}
+use Rattle.virtual_run.proofs.Credited.{holds_jump, holds_leave, holds_credit, holds_begin}
+
+-- a hart without its work
+runs_held : (hart : Hart) → is_running (without_work hart) ≡ is_running hart
+runs_held hart = go hart.account hart.load
+  where
+    go : (a : Account) (o : Option Load) → is_running (without_work (record { account = a; load = o })) ≡ is_some o
+    go a None = refl
+    go a (Some l) = refl
+
+account_held : (hart : Hart) → (without_work hart).account ≡ hart.account
+account_held hart = go hart.account hart.load
+  where
+    go : (a : Account) (o : Option Load) → (without_work (record { account = a; load = o })).account ≡ a
+    go a None = refl
+    go a (Some l) = refl
+
+-- one that is ready has no pause before it
+unpaused_ready : (hart : Hart) → is_ready hart ≡ true → pause_of (without_work hart) ≡ 0
+unpaused_ready hart r = go hart.account hart.load r
+  where
+    go : (a : Account) (o : Option Load) → is_ready (record { account = a; load = o }) ≡ true → pause_of (without_work (record { account = a; load = o })) ≡ 0
+    go a None r = refl
+    go a (Some l) r = let none : l.work + l.pause ≡ 0 = eqb-true _ _ r in omega arith
+
+runs_sat : (n : ℕ) (hart : Hart) → is_running (sit_hart n hart) ≡ is_running hart
+runs_sat n hart = go hart.account hart.load
+  where
+    go : (a : Account) (o : Option Load) → is_running (sit_hart n (record { account = a; load = o })) ≡ is_some o
+    go a None = refl
+    go a (Some l) = refl
+
+-- a run that ends with a retirement, or goes on
+over_ended : {G : Type 0} (o : Option Ending) (d next : Delayed G) (a : Ending) → next.ending ≡ None → (over_or o d next).ending ≡ Some a → over_or o d next ≡ record d { ending = Some a }
+over_ended None d next a none e = absurd (let no : ◌≡◌ {A = Option Ending} None (Some a) = sym none ∙ e in cc)
+over_ended (Some b) d next a none e = ap (λ (o : Option Ending). record d { ending = o }) e
+
+over_goes : {G : Type 0} (o : Option Ending) (d next : Delayed G) → (over_or o d next).ending ≡ None → over_or o d next ≡ next
+over_goes None d next e = refl
+over_goes (Some b) d next e = absurd (let no : ◌≡◌ {A = Option Ending} (Some b) None = e in cc)
+
+module _ {G : Type 0} (x : Experiment G) where
+  credit_ending : (h : ℕ) (d : Delayed G) → (give_credit x h d).ending ≡ d.ending
+  unfolding give_credit leave
+  credit_ending h d = refl
+
+  retire_ended : (h : ℕ) (d : Delayed G) (a : Ending) → d.ending ≡ None → (retire x h d).ending ≡ Some a → retire x h d ≡ record (leave x h d) { ending = Some a }
+  unfolding retire
+  retire_ended h d a none e =
+      let hs : List ℕ = started h (retirement x h d) in
+      over_ended (ending x h d) (leave x h d) (begin x hs (give_credit x h d)) a (ap (λ o. o.ending) (begin_frame x hs (give_credit x h d)) ∙ credit_ending h d ∙ none) e
+
+  retire_goes : (h : ℕ) (d : Delayed G) → (retire x h d).ending ≡ None → retire x h d ≡ begin x (started h (retirement x h d)) (give_credit x h d)
+  unfolding retire
+  retire_goes h d e = over_goes (ending x h d) (leave x h d) (begin x (started h (retirement x h d)) (give_credit x h d)) e
+
+  credit_guest : (h : ℕ) (d : Delayed G) → (give_credit x h d).guest ≡ (retirement x h d).guest
+  unfolding give_credit leave
+  credit_guest h d = refl
+
+  retirement_is : (h due : ℕ) (d : Delayed G) (g : G) → d.guest ≡ g → d.now - d.delay ≡ due → retirement x h d ≡ x.guest.retire g h due
+  unfolding retirement
+  retirement_is h due d g same moment = ap₂ (λ g v. x.guest.retire g h v) same moment
+
+  leave_now : (h : ℕ) (d : Delayed G) → (leave x h d).now ≡ d.now
+  unfolding leave
+  leave_now h d = refl
+
+  leave_harts : (h k : ℕ) (c : Delays) (d : Delayed G) → Holds c d → hart_at (record c { harts = change fresh h stop c.harts }) k ≡ without_work (get_or (leave x h d).harts k fresh)
+  leave_harts h k c d holds = (holds_leave x h c d holds).harts k
+
+  jump_parts : (n : ℕ) (d : Delayed G) → ((jump n d).now ≡ d.now + n) × ((jump n d).delay ≡ d.delay) × ((jump n d).guest ≡ d.guest) × ((jump n d).ending ≡ d.ending) × ((jump n d).visits ≡ d.visits) × ((jump n d).starts ≡ d.starts)
+  unfolding jump
+  jump_parts n d = (refl, refl, refl, refl, refl, refl)
+
+  unfoldable pub visit_at : (h : ℕ) (now delay : ℕ) (g : G) → List Visit
+  visit_at h now delay g = option_to_list (option_map (λ p. record { point = p; hart = h; time = now; delay = delay }) (x.guest.point g h))
+
+module _ {G : Type 0} (x : Experiment G) (Good : G → Type 0) (law : IsLawful x Good) where
+  -- hart t.hart retires next, at the real time now, from the state after n retirements, which the credits hold
+  pub record IsNext (n : ℕ) (t : Turn) (now : ℕ) (c : Delays) : Type 0 where
+    pub goes : (standing x n).ending ≡ None
+    pub turn : next_turn (shortened x n).dues ≡ Some t
+    pub moment : now ≡ t.due + c.raised
+    pub holds : Holds c (standing x n)
+
+  module _ (n : ℕ) (t : Turn) (now : ℕ) (c : Delays) (next : IsNext n t now c) where
+    abbrev d : Delayed G
+    d = standing x n
+
+    abbrev k : ℕ
+    k = t.due + d.delay - d.now
+
+    abbrev s : Shortened G
+    s = shortened x n
+
+    steps : StepsBy x Good law n t k
+    steps = steps_is x Good law n t next.goes next.turn
+
+    both : Agrees (jump k d) s
+    both = jump_agrees x k d s (agrees x Good law n) next.goes steps.ticks
+
+    now_is : now ≡ d.now + k
+    now_is = next.moment ∙ ap (λ m. t.due + m) next.holds.raised ∙ sym steps.moment
+
+    -- the moment isn't earlier
+    pub later : c.latest ≤ now
+    later = let latest : c.latest ≡ d.now = next.holds.latest in let is : now ≡ d.now + k = now_is in omega arith
+
+    held : Holds (at now c) (jump k d)
+    held = holds_jump k now c d now_is next.holds
+
+    this_ready : is_ready (get_or (jump k d).harts t.hart fresh) ≡ true
+    this_ready = (first_is fresh is_ready (jump k d).harts t.hart steps.ready).passes
+
+    ready : Ready (jump k d).now (jump k d).delay (get_or (jump k d).harts t.hart fresh).account (get_or s.dues t.hart None)
+    ready =
+        let this : Hart = get_or (jump k d).harts t.hart fresh in
+        ready_is (jump k d).now (jump k d).delay this.account this.load (get_or s.dues t.hart None) (both.harts t.hart) this_ready
+
+    -- the hart has no pause before it then
+    pub unpaused : pause_of (hart_at (at now c) t.hart) ≡ 0
+    unpaused = ap pause_of (held.harts t.hart) ∙ unpaused_ready (get_or (jump k d).harts t.hart fresh) this_ready
+
+    stopped : Holds (with_stop t.hart now c) (leave x t.hart (jump k d))
+    stopped = holds_leave x t.hart (at now c) (jump k d) held
+
+    -- the hart runs
+    pub running : is_running (hart_at c t.hart) ≡ true
+    running =
+        let this : Hart = get_or d.harts t.hart fresh in
+        ap is_running (next.holds.harts t.hart)
+        ∙ runs_held this
+        ∙ alike d.now d.delay this.account this.load (get_or s.dues t.hart None) ((agrees x Good law n).harts t.hart)
+        ∙ ap is_some (turn_has s.dues t next.turn)
+
+    raised_is : c.raised ≡ (jump k d).delay
+    raised_is = next.holds.raised ∙ sym (jump_parts x k d).1
+
+    -- its total is all that was raised, also once it has stopped
+    pub whole : total (hart_at (at now c) t.hart).account ≡ c.raised
+    whole =
+        let this : Hart = get_or (jump k d).harts t.hart fresh in
+        ap (λ (o : Hart). total o.account) (held.harts t.hart) ∙ ap total (account_held this) ∙ ready.has_all ∙ sym raised_is
+
+    pub whole_stopped : total (hart_at (with_stop t.hart now c) t.hart).account ≡ c.raised
+    whole_stopped = ap (λ (o : Hart). total o.account) (change_same fresh t.hart stop (at now c).harts) ∙ whole
+
+    idle_by : (i : ℕ) → x.guest.is_running s.guest i ≡ false → (t.hart ≡ i) ⊎ (t.hart ≡ i → ⊥) → is_running (hart_at (with_stop t.hart now c) i) ≡ false
+    idle_by i none (inl same) = subst (λ (j : ℕ). is_running (hart_at (with_stop t.hart now c) j) ≡ false) same (ap is_running (change_same fresh t.hart stop (at now c).harts))
+    idle_by i none (inr other) =
+        let that : Hart = get_or (jump k d).harts i fresh in
+        let lives : Lives x Good s = (goes_on_at x Good law n (sym (agrees x Good law n).ending ∙ next.goes)).lives in
+        ap is_running (change_other fresh t.hart i stop (at now c).harts other ∙ held.harts i)
+        ∙ runs_held that
+        ∙ alike (jump k d).now (jump k d).delay that.account that.load (get_or s.dues i None) (both.harts i)
+        ∙ sym (lives.running i)
+        ∙ none
+
+    -- a hart that doesn't run doesn't run after it
+    pub idle : (i : ℕ) → x.guest.is_running s.guest i ≡ false → is_running (hart_at (with_stop t.hart now c) i) ≡ false
+    idle i none = idle_by i none (cases_eq t.hart i)
+
+    jump_goes : (jump k d).ending ≡ None
+    jump_goes = (jump_parts x k d).3 ∙ next.goes
+
+    -- the run ends
+    pub holds_ended : (a : Ending) → (standing x (suc n)).ending ≡ Some a → Holds (with_stop t.hart now c) (standing x (suc n))
+    holds_ended a e =
+        let j : Delayed G = jump k d in
+        let is : standing x (suc n) ≡ record (leave x t.hart j) { ending = Some a } = steps.is ∙ retire_ended x t.hart j a jump_goes (ap (λ (o : Delayed G). o.ending) (sym steps.is) ∙ e) in
+        subst (Holds (with_stop t.hart now c)) (sym is) (record { latest = stopped.latest; raised = stopped.raised; harts = stopped.harts })
+
+    due_is : (jump k d).now - (jump k d).delay ≡ t.due
+    due_is =
+        let m : d.now + k ≡ t.due + d.delay = steps.moment in
+        let due : d.now + k - d.delay ≡ t.due = omega arith in
+        ap₂ (λ m n. m - n) (jump_parts x k d).0 (jump_parts x k d).1 ∙ due
+
+    retires : retirement x t.hart (jump k d) ≡ x.guest.retire s.guest t.hart t.due
+    retires = retirement_is x t.hart t.due (jump k d) s.guest both.guest due_is
+
+    -- the credits after a retirement from which the run goes on
+    abbrev pub begun : (ℕ → ℕ) → Retirement G → Delays
+    begun ticks r = with_raises ticks (filter (x.guest.is_selected r.guest) (started t.hart r)) (with_starts (started t.hart r) (with_credits r.others (with_stop t.hart now c)))
+
+    begins : (ticks : ℕ → ℕ) → let r : Retirement G = retirement x t.hart (jump k d) in
+        ((h : ℕ) → ticks h ≡ x.speedup * x.guest.cycles r.guest h) → Holds (begun ticks r) (begin x (started t.hart r) (give_credit x t.hart (jump k d)))
+    begins ticks are =
+        let j : Delayed G = jump k d in
+        let r : Retirement G = retirement x t.hart j in
+        let all : total (account_of j.harts t.hart) ≡ j.delay = ap total (account_at t.hart j.harts) ∙ ready.has_all in
+        let credits : Holds (with_credits r.others (with_stop t.hart now c)) (give_credit x t.hart j) = holds_credit x t.hart (with_stop t.hart now c) j all stopped in
+        subst
+        (λ (g : G). ((h : ℕ) → ticks h ≡ x.speedup * x.guest.cycles g h)
+        → Holds (with_raises ticks (filter (x.guest.is_selected g) (started t.hart r)) (with_starts (started t.hart r) (with_credits r.others (with_stop t.hart now c)))) (begin x (started t.hart r) (give_credit x t.hart j)))
+        (credit_guest x t.hart j)
+        (λ are. holds_begin x (started t.hart r) ticks (with_credits r.others (with_stop t.hart now c)) (give_credit x t.hart j) are credits)
+        are
+
+    pub holds_goes : (ticks : ℕ → ℕ) (r : Retirement G) → r ≡ x.guest.retire s.guest t.hart t.due → ((h : ℕ) → ticks h ≡ x.speedup * x.guest.cycles r.guest h) → (standing x (suc n)).ending ≡ None
+        → Holds (begun ticks r) (standing x (suc n))
+    holds_goes ticks r is are none =
+        let j : Delayed G = jump k d in
+        let same : retirement x t.hart j ≡ r = retires ∙ sym is in
+        let begun_is : standing x (suc n) ≡ begin x (started t.hart (retirement x t.hart j)) (give_credit x t.hart j) = steps.is ∙ retire_goes x t.hart j (ap (λ (o : Delayed G). o.ending) (sym steps.is) ∙ none) in
+        subst (Holds (begun ticks r)) (sym begun_is)
+        (subst (λ (q : Retirement G). Holds (begun ticks q) (begin x (started t.hart (retirement x t.hart j)) (give_credit x t.hart j))) same
+        (begins ticks (λ h. are h ∙ ap (λ (q : Retirement G). x.speedup * x.guest.cycles q.guest h) (sym same))))
+
+    -- the visit of the hart, if there is one
+    pub visits_next : (standing x (suc n)).visits ≡ d.visits ++ visit_at x t.hart now c.raised s.guest
+    unfolding visit_at
+    visits_next =
+        let j : Delayed G = jump k d in
+        let p = jump_parts x k d in
+        ap (λ (o : Delayed G). o.visits) steps.is
+        ∙ retire_visits x t.hart j
+        ∙ ap (λ (vs : List Visit). vs ++ visit_of x t.hart j) p.4
+        ∙ ap (λ (vs : List Visit). d.visits ++ vs) (visit_is j.now j.delay j.guest (p.0 ∙ sym now_is) (sym raised_is) both.guest)
+      where
+        visit_is : (m e : ℕ) (g : G) → m ≡ now → e ≡ c.raised → g ≡ s.guest → visit_at x t.hart m e g ≡ visit_at x t.hart now c.raised s.guest
+        visit_is m e g is_now is_raised is_guest = rw (is_now, is_raised, is_guest) refl
+
+    -- each selected hart that begins is a start
+    pub starts_next : (r : Retirement G) → r ≡ x.guest.retire s.guest t.hart t.due → (standing x (suc n)).ending ≡ None
+        → (standing x (suc n)).starts ≡ d.starts + length (filter (x.guest.is_selected r.guest) (started t.hart r))
+    starts_next r is none =
+        let j : Delayed G = jump k d in
+        let q : Retirement G = retirement x t.hart j in
+        let same : q ≡ r = retires ∙ sym is in
+        let begun_is : standing x (suc n) ≡ begin x (started t.hart q) (give_credit x t.hart j) = steps.is ∙ retire_goes x t.hart j (ap (λ (o : Delayed G). o.ending) (sym steps.is) ∙ none) in
+        ap (λ (o : Delayed G). o.starts) begun_is
+        ∙ begin_starts x (started t.hart q) (give_credit x t.hart j)
+        ∙ ap₂ (λ (m : ℕ) (g : G). m + length (filter (x.guest.is_selected g) (started t.hart q))) ((credit_starts x t.hart j).0 ∙ (jump_parts x k d).5) (credit_guest x t.hart j)
+        ∙ ap (λ (o : Retirement G). d.starts + length (filter (x.guest.is_selected o.guest) (started t.hart o))) same

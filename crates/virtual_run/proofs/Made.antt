@@ -1,0 +1,306 @@
+-- The harts that a retirement of the guest makes or wakes are among those that were made by then, and each hart that it makes is one of them.
+use Rattle.std.proofs.Common.{◌≡◌, ℕ, zero, suc, ◌+◌, ◌%◌, ◌^◌, ◌<◌, ◌==◌, max, nat_le, Bool, true, false, not, ◌||◌, if◌then◌else◌, List, [], ◌∷◌, length, get_or, set, eqb, pos, ℤ, Option, Some, None, refl, sym, ap, ◌∙◌, subst, arith, replicate, length-append, ⊎_elim}
+use Rattle.std.specs.Int.{w32, to_le_bytes}
+use Rattle.std.proofs.lemmas.Bool.{cases_Bool}
+use Rattle.std.proofs.lemmas.List.{length-set}
+use Rattle.coz_types.specs.declared.ending.TrapCause.TheVariants.{Fetch, Illegal}
+use Rattle.coz_types.specs.Image.{ImageParts}
+use Rattle.coz_types.specs.Maps.{Map, value_at}
+use Rattle.machines.specs.declared.Fate.{Fate}
+use Rattle.machines.specs.Guest.{Retirement}
+use Rattle.rv_decode.specs.declared.Instr.{Instr}
+use Rattle.rv_decode.specs.Instructions.{instruction_of}
+use Rattle.guest_memory.specs.declared.Layout.{Layout}
+use Rattle.guest_memory.specs.Memory.{is_readable, is_writable, bytes_at, number_at}
+use Rattle.guest_areas.specs.Answers.{bad_file, no_memory, bad_address, invalid, no_terminal, no_seek, try_again}
+use Rattle.guest_areas.specs.Space.{Space, Answered, with_break, map, unmap, protect, has}
+use Rattle.guest_futex.specs.Waiters.{Waiter, woken}
+use Rattle.rv_execute.specs.declared.hart.Step.{Step}
+use Rattle.rv_execute.specs.declared.hart.Step.TheVariants.{Next, Call, Fault}
+use Rattle.rv_execute.specs.Execution.{execute}
+use Rattle.guest_calls.specs.declared.hart.Hart.{Hart}
+use Rattle.guest_calls.specs.declared.hart.HartStatus.TheVariants.{Running, Waiting, Gone}
+use Rattle.guest_calls.specs.declared.pieces.Piece.{Piece}
+use Rattle.guest_calls.specs.Guest.{Guest, hart_at, no_hart, with_hart, with_stored, with_written, with_running_each, memory_of, setting_of, thread_id, first_guest}
+use Rattle.guest_calls.specs.Calls
+use Rattle.guest_calls.specs.Calls.{retirement, answered, of_space, unsupported, left_by, leave, with_word, with_woken, clear_address, woken_at_exit, cleared, is_cleared, waiting_for, most_woken, woken_here, parent_set_tid, child_set_tid, child, with_child, with_parent_tid, with_child_tid, cloned, is_accepted, hart_limit, a0, a1, a2, a3, a4, with_filled, with_read, filled, total, is_each_writable, is_each_readable, bytes_of, pieces_at, are_few, is_named, read_length, is_stream, is_input, is_output, is_mapping, calls, call_of}
+use Rattle.guest_calls.specs.Retire.{word_at, Stepped, stepped, stepped_by, step, follows, retire}
+use Rattle.guest_calls.specs.Orderly.{AreWaiting, IsOrderly}
+use Rattle.guest_calls.proofs.Steps.{step-call}
+use Rattle.guest_calls.proofs.Started.{either}
+use Rattle.virtual_run.proofs.CreditedPlaces.{places}
+
+-- so many harts were made before
+abbrev pub Grows : ℕ → Retirement Guest → Type 0
+Grows n r = length r.guest.harts ≡ places r.others n
+
+-- no hart is made
+answer_grows : (z : ℤ) (h n : ℕ) (g : Guest) → length g.harts ≡ n → Grows n (answered z h g)
+answer_grows z h n g same = length-set g.harts h _ ∙ same
+
+ends_grows : (n : ℕ) (g : Guest) (fate : Fate) → length g.harts ≡ n → Grows n (retirement g fate [])
+ends_grows n g fate same = same
+
+checked : (b : Bool) (z : ℤ) (h : ℕ) (g : Guest) (r : Retirement Guest) → Grows (length g.harts) r → Grows (length g.harts) (if b then answered z h g else r)
+checked true z h g r rest = answer_grows z h (length g.harts) g refl
+checked false z h g r rest = rest
+
+of_space_grows : (g : Guest) (h : ℕ) (a : Answered) → Grows (length g.harts) (of_space g h a)
+of_space_grows g h a = answer_grows a.answer h (length g.harts) (record g { space = a.space }) refl
+
+-- waiters that are woken were made
+made_waiting : (harts : List Hart) (h : ℕ) → (get_or harts h no_hart).status ≡ Waiting → h < length harts
+made_waiting [] h waits = absurd (let never : Gone ≡ Waiting = waits in cc)
+made_waiting (x ∷ xs) zero waits = omega arith
+made_waiting (x ∷ xs) (suc h) waits = let below : h < length xs = made_waiting xs h waits in omega arith
+
+woken_places : (harts : List Hart) (address : ℕ) (ws : List Waiter) (count : ℕ) → AreWaiting harts ws → places (woken address ws count) (length harts) ≡ length harts
+woken_places harts address [] count waiting = refl
+woken_places harts address (w ∷ ws) zero waiting = refl
+woken_places harts address (w ∷ ws) (suc count) waiting =
+    ⊎_elim
+    (λ (here : eqb w.address address ≡ true).
+    let made : w.hart < length harts = made_waiting harts w.hart waiting.0 in
+    let same : max (length harts) (suc w.hart) ≡ length harts = omega arith in
+    rw here (ap (places (woken address ws count)) same ∙ woken_places harts address ws count waiting.1))
+    (λ (elsewhere : eqb w.address address ≡ false). rw elsewhere (woken_places harts address ws (suc count) waiting.1))
+    (cases_Bool (eqb w.address address))
+
+running_each : (hs : List ℕ) (harts : List Hart) → length (with_running_each hs harts) ≡ length harts
+running_each [] harts = refl
+running_each (h ∷ hs) harts =
+    let run : Hart = record (get_or harts h no_hart) { status = Running } in
+    running_each hs (set harts h run) ∙ length-set harts h run
+
+woken_count : (g : Guest) (address count : ℕ) → IsOrderly g → length (with_woken address count g).harts ≡ places (woken address g.waiters count) (length g.harts)
+woken_count g address count good = running_each (woken address g.waiters count) g.harts ∙ sym (woken_places g.harts address g.waiters count good.waiting)
+
+leave_grows : (h n : ℕ) (others : List ℕ) (g : Guest) → length g.harts ≡ places others n → Grows n (leave h others g)
+leave_grows h n others g same = length-set g.harts h _ ∙ same
+
+exit_grows : (g : Guest) (h : ℕ) → IsOrderly g → Grows (length g.harts) (Calls.exit g h)
+unfolding Calls.exit
+exit_grows g h good =
+    either (Grows (length g.harts)) (is_cleared g h) (leave h (woken_at_exit g h) (cleared g h)) (leave h [] g)
+    (leave_grows h (length g.harts) (woken_at_exit g h) (cleared g h) (woken_count (with_stored (clear_address g h) (replicate 4 0) g) (clear_address g h) 1 (record { few = good.few; waiting = good.waiting; apart = good.apart })))
+    (leave_grows h (length g.harts) [] g refl)
+
+wait_grows : (g : Guest) (h : ℕ) → Grows (length g.harts) (Calls.wait g h)
+unfolding Calls.wait
+wait_grows g h =
+    either (Grows (length g.harts)) (not (a3 g h == 0)) (unsupported g h) _ refl
+    (checked (not (a0 g h % 4 == 0)) invalid h g _
+    (checked (not (is_readable (memory_of g) (a0 g h) 4)) bad_address h g _
+    (checked (not (number_at (memory_of g) (a0 g h) 4 == a2 g h % 2 ^ 32)) try_again h g _
+    (length-set g.harts h _))))
+
+wake_grows : (g : Guest) (h : ℕ) → IsOrderly g → Grows (length g.harts) (Calls.wake g h)
+unfolding Calls.wake
+wake_grows g h good =
+    checked (not (a0 g h % 4 == 0)) invalid h g _
+    (length-set (with_woken (a0 g h) (most_woken g h) g).harts h _ ∙ woken_count g (a0 g h) (most_woken g h) good)
+
+futex_grows : (g : Guest) (h : ℕ) → IsOrderly g → Grows (length g.harts) (Calls.futex g h)
+unfolding Calls.futex
+futex_grows g h good =
+    either (Grows (length g.harts)) (a1 g h == 0 || a1 g h == 128) (Calls.wait g h) _ (wait_grows g h)
+    (either (Grows (length g.harts)) (a1 g h == 1 || a1 g h == 129) (Calls.wake g h) (unsupported g h) (wake_grows g h good) refl)
+
+-- a hart is made
+SameCount : Guest → Guest → Type 0
+SameCount g after = length after.harts ≡ length g.harts
+
+word_count : (address n : ℕ) (g : Guest) → length (with_word address n g).harts ≡ length g.harts
+word_count address n g = either (λ (after : Guest). length after.harts ≡ length g.harts) (is_writable (memory_of g) address 4) (with_stored address (to_le_bytes w32 n) g) g refl refl
+
+told_count : (b : Bool) (address n : ℕ) (g : Guest) → length (if b then with_word address n g else g).harts ≡ length g.harts
+told_count true address n g = word_count address n g
+told_count false address n g = refl
+
+cloned_count : (g : Guest) (h : ℕ) → length (cloned g h).harts ≡ suc (length g.harts)
+cloned_count g h =
+    told_count (has (a0 g h) child_set_tid) (a4 g h) (thread_id (child g h)) (with_parent_tid g h (with_child g h))
+    ∙ told_count (has (a0 g h) parent_set_tid) (a2 g h) (thread_id (child g h)) (with_child g h)
+    ∙ length-append g.harts _
+    ∙ (let one : length g.harts + 1 ≡ suc (length g.harts) = omega arith in one)
+
+clone_grows : (g : Guest) (h : ℕ) → Grows (length g.harts) (Calls.clone g h)
+unfolding Calls.clone
+clone_grows g h =
+    let most : suc (length g.harts) ≡ max (length g.harts) (suc (length g.harts)) = omega arith in
+    either (Grows (length g.harts)) (not (is_accepted (a0 g h))) (unsupported g h) _ refl
+    (checked (nat_le hart_limit (length g.harts)) try_again h g _
+    (length-set (cloned g h).harts h _ ∙ cloned_count g h ∙ most))
+
+-- each other call
+ioctl_grows : (g : Guest) (h : ℕ) → Grows (length g.harts) (Calls.ioctl g h)
+unfolding Calls.ioctl
+ioctl_grows g h = checked (is_stream (a0 g h)) no_terminal h g _ (answer_grows bad_file h (length g.harts) g refl)
+
+lseek_grows : (g : Guest) (h : ℕ) → Grows (length g.harts) (Calls.lseek g h)
+unfolding Calls.lseek
+lseek_grows g h = checked (is_stream (a0 g h)) no_seek h g _ (answer_grows bad_file h (length g.harts) g refl)
+
+read_grows : (g : Guest) (h : ℕ) → Grows (length g.harts) (Calls.read g h)
+unfolding Calls.read
+read_grows g h =
+    checked (not (is_input (a0 g h))) bad_file h g _
+    (checked (not (is_writable (memory_of g) (a1 g h) (read_length g h))) bad_address h g _
+    (answer_grows (pos (read_length g h)) h (length g.harts) (with_filled (a1 g h) (read_length g h) g) refl))
+
+write_grows : (g : Guest) (h : ℕ) → Grows (length g.harts) (Calls.write g h)
+unfolding Calls.write
+write_grows g h =
+    checked (not (is_output (a0 g h))) bad_file h g _
+    (checked (not (is_readable (memory_of g) (a1 g h) (a2 g h))) bad_address h g _
+    (answer_grows (pos (a2 g h)) h (length g.harts) (with_written (bytes_at (memory_of g) (a1 g h) (a2 g h)) g) refl))
+
+read_count : (ps : List Piece) (g : Guest) → length (with_read ps g).harts ≡ length g.harts
+read_count [] g = refl
+read_count (p ∷ ps) g = read_count ps (with_filled p.address p.length g)
+
+read_pieces_grows : (g : Guest) (h : ℕ) (ps : List Piece) → Grows (length g.harts) (Calls.read_pieces g h ps)
+unfolding Calls.read_pieces
+read_pieces_grows g h ps =
+    checked (not (is_each_writable (memory_of g) (filled ps (length g.input)))) bad_address h g _
+    (answer_grows (pos (total (filled ps (length g.input)))) h (length g.harts) (with_read (filled ps (length g.input)) g) (read_count (filled ps (length g.input)) g))
+
+readv_grows : (g : Guest) (h : ℕ) → Grows (length g.harts) (Calls.readv g h)
+unfolding Calls.readv
+readv_grows g h =
+    checked (not (is_input (a0 g h))) bad_file h g _
+    (checked (not (are_few g h)) invalid h g _
+    (checked (not (is_named g h)) bad_address h g _
+    (read_pieces_grows g h (pieces_at (memory_of g) (a1 g h) (a2 g h)))))
+
+write_pieces_grows : (g : Guest) (h : ℕ) (ps : List Piece) → Grows (length g.harts) (Calls.write_pieces g h ps)
+unfolding Calls.write_pieces
+write_pieces_grows g h ps =
+    checked (not (is_each_readable (memory_of g) ps)) bad_address h g _
+    (answer_grows (pos (total ps)) h (length g.harts) (with_written (bytes_of (memory_of g) ps) g) refl)
+
+writev_grows : (g : Guest) (h : ℕ) → Grows (length g.harts) (Calls.writev g h)
+unfolding Calls.writev
+writev_grows g h =
+    checked (not (is_output (a0 g h))) bad_file h g _
+    (checked (not (are_few g h)) invalid h g _
+    (checked (not (is_named g h)) bad_address h g _
+    (write_pieces_grows g h (pieces_at (memory_of g) (a1 g h) (a2 g h)))))
+
+exit_group_grows : (g : Guest) (h : ℕ) → Grows (length g.harts) (Calls.exit_group g h)
+unfolding Calls.exit_group
+exit_group_grows g h = refl
+
+set_tid_address_grows : (g : Guest) (h : ℕ) → Grows (length g.harts) (Calls.set_tid_address g h)
+unfolding Calls.set_tid_address
+set_tid_address_grows g h =
+    let told : Hart = record (hart_at g h) { clear = a0 g h } in
+    answer_grows (pos (thread_id h)) h (length g.harts) (with_hart h told g) (length-set g.harts h told)
+
+sched_yield_grows : (g : Guest) (h : ℕ) → Grows (length g.harts) (Calls.sched_yield g h)
+unfolding Calls.sched_yield
+sched_yield_grows g h = answer_grows (pos 0) h (length g.harts) g refl
+
+getpid_grows : (g : Guest) (h : ℕ) → Grows (length g.harts) (Calls.getpid g h)
+unfolding Calls.getpid
+getpid_grows g h = answer_grows (pos 1) h (length g.harts) g refl
+
+gettid_grows : (g : Guest) (h : ℕ) → Grows (length g.harts) (Calls.gettid g h)
+unfolding Calls.gettid
+gettid_grows g h = answer_grows (pos (thread_id h)) h (length g.harts) g refl
+
+rt_sigprocmask_grows : (g : Guest) (h : ℕ) → Grows (length g.harts) (Calls.rt_sigprocmask g h)
+unfolding Calls.rt_sigprocmask
+rt_sigprocmask_grows g h =
+    checked (not (a3 g h == 8)) invalid h g _
+    (checked (a2 g h == 0) (pos 0) h g _
+    (checked (not (is_writable (memory_of g) (a2 g h) 8)) bad_address h g _
+    (answer_grows (pos 0) h (length g.harts) (with_stored (a2 g h) (replicate 8 0) g) refl)))
+
+brk_grows : (g : Guest) (h : ℕ) → Grows (length g.harts) (Calls.brk g h)
+unfolding Calls.brk
+brk_grows g h = let space : Space = with_break (a0 g h) g.space in answer_grows (pos space.regions.break) h (length g.harts) (record g { space = space }) refl
+
+munmap_grows : (g : Guest) (h : ℕ) → Grows (length g.harts) (Calls.munmap g h)
+unfolding Calls.munmap
+munmap_grows g h = of_space_grows g h (unmap (a0 g h) (a1 g h) g.space)
+
+mremap_grows : (g : Guest) (h : ℕ) → Grows (length g.harts) (Calls.mremap g h)
+unfolding Calls.mremap
+mremap_grows g h = answer_grows no_memory h (length g.harts) g refl
+
+mmap_grows : (g : Guest) (h : ℕ) → Grows (length g.harts) (Calls.mmap g h)
+unfolding Calls.mmap
+mmap_grows g h =
+    either (Grows (length g.harts)) (is_mapping (a3 g h)) (of_space g h (map (a1 g h) (a2 g h) g.space)) (unsupported g h)
+    (of_space_grows g h (map (a1 g h) (a2 g h) g.space)) refl
+
+mprotect_grows : (g : Guest) (h : ℕ) → Grows (length g.harts) (Calls.mprotect g h)
+unfolding Calls.mprotect
+mprotect_grows g h = of_space_grows g h (protect (a0 g h) (a1 g h) (a2 g h) g.space)
+
+madvise_grows : (g : Guest) (h : ℕ) → Grows (length g.harts) (Calls.madvise g h)
+unfolding Calls.madvise
+madvise_grows g h = answer_grows invalid h (length g.harts) g refl
+
+-- a call by its number
+abbrev Row : Type 0
+Row = Guest → ℕ → ℕ → Retirement Guest
+
+abbrev IsRow : Row → Type 0
+IsRow call = (g : Guest) (h v : ℕ) → IsOrderly g → Grows (length g.harts) (call g h v)
+
+abbrev AreRows : Map Row → Type 0
+AreRows [] = Unit {0}
+AreRows (e ∷ es) = IsRow e.1 × AreRows es
+
+abbrev IsRowIfSome : Option Row → Type 0
+IsRowIfSome None = Unit {0}
+IsRowIfSome (Some call) = IsRow call
+
+first_or : (b : Bool) (call : Row) (o : Option Row) → IsRow call → IsRowIfSome o → IsRowIfSome (elim b [ true ↦ Some call | false ↦ o ])
+first_or true call o row rows = row
+first_or false call o row rows = rows
+
+row_at : (m : Map Row) (n : ℕ) → AreRows m → IsRowIfSome (value_at m n)
+row_at [] n rows = tt
+row_at (e ∷ es) n rows = first_or (e.0 == n) e.1 (value_at es n) rows.0 (row_at es n rows.1)
+
+all_rows : AreRows calls
+all_rows =
+    ((λ g h v good. ioctl_grows g h), ((λ g h v good. lseek_grows g h), ((λ g h v good. read_grows g h), ((λ g h v good. write_grows g h), ((λ g h v good. readv_grows g h), ((λ g h v good. writev_grows g h), ((λ g h v good. exit_grows g h good), ((λ g h v good. exit_group_grows g h), ((λ g h v good. set_tid_address_grows g h), ((λ g h v good. futex_grows g h good), ((λ g h v good. sched_yield_grows g h), ((λ g h v good. rt_sigprocmask_grows g h), ((λ g h v good. getpid_grows g h), ((λ g h v good. gettid_grows g h), ((λ g h v good. brk_grows g h), ((λ g h v good. munmap_grows g h), ((λ g h v good. mremap_grows g h), ((λ g h v good. clone_grows g h), ((λ g h v good. mmap_grows g h), ((λ g h v good. mprotect_grows g h), ((λ g h v good. madvise_grows g h), tt)))))))))))))))))))))
+
+known_grows : (o : Option Row) (g : Guest) (h v : ℕ) → IsRowIfSome o → IsOrderly g → Grows (length g.harts) (elim o [ None ↦ unsupported g h | Some call ↦ call g h v ])
+known_grows None g h v row good = refl
+known_grows (Some call) g h v row good = row g h v good
+
+call_grows : (g : Guest) (h v : ℕ) → IsOrderly g → Grows (length g.harts) (call_of g h v)
+unfolding call_of
+call_grows g h v good = known_grows (value_at calls (Calls.number g h)) g h v (row_at calls (Calls.number g h) all_rows) good
+
+-- a step
+decoded_count : (g : Guest) (h : ℕ) (o : Option Instr) → length (elim o as (λ _. Stepped) [ None ↦ stepped g (Fault Illegal) | Some i ↦ stepped_by g h (execute h i (setting_of g h)) ]).guest.harts ≡ length g.harts
+decoded_count g h None = refl
+decoded_count g h (Some i) = length-set g.harts h _
+
+fetched_count : (g : Guest) (h : ℕ) (o : Option ℕ)
+    → length (elim o as (λ _. Stepped) [ None ↦ stepped g (Fault Fetch) | Some w ↦ elim (instruction_of w) [ None ↦ stepped g (Fault Illegal) | Some i ↦ stepped_by g h (execute h i (setting_of g h)) ] ]).guest.harts ≡ length g.harts
+fetched_count g h None = refl
+fetched_count g h (Some w) = decoded_count g h (instruction_of w)
+
+step_count : (g : Guest) (h : ℕ) → length (step g h).guest.harts ≡ length g.harts
+unfolding step
+step_count g h = fetched_count g h (word_at g h)
+
+follows_grows : (g after : Guest) (h v : ℕ) (s : Step) → length after.harts ≡ length g.harts → (s ≡ Call → after ≡ g) → IsOrderly g → Grows (length g.harts) (follows h v (stepped after s))
+follows_grows g after h v Next same is good = same
+follows_grows g after h v Call same is good = subst (λ (x : Guest). Grows (length g.harts) (call_of x h v)) (sym (is refl)) (call_grows g h v good)
+follows_grows g after h v (Fault cause) same is good = same
+
+pub retire_grows : (g : Guest) (h v : ℕ) → IsOrderly g → Grows (length g.harts) (retire g h v)
+unfolding retire
+retire_grows g h v good = follows_grows g (step g h).guest h v (step g h).step (step_count g h) (λ is. (step-call g h is).same) good
+
+pub first_count : (image : ImageParts) (input : List ℕ) (output_limit : ℕ) (layout : Layout) → length (first_guest image input output_limit layout).harts ≡ 1
+unfolding first_guest
+first_count image input output_limit layout = refl

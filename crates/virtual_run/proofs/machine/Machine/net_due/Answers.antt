@@ -1,0 +1,25 @@
+use Rattle.std.proofs.Common.{ap, ◌∙◌, is_some, Option}
+use Rattle.coz_types.specs.declared.ending.Ending.{Ending}
+use Rattle.virtual_run.specs.DelayedRun.{Seen, net_due_of}
+use Rattle.virtual_run.proofs.CreditedRun.{due_ended, due_goes, due_seen, not_over}
+use Rattle.virtual_run.proofs.machine.Machine.net_due.Goals as goal
+
+pub returns-in-Some-clause-due : goal.returns-in-Some-clause-due
+returns-in-Some-clause-due c =
+    let m = c.self.inside in
+    due_ended m.image.now m.input.now m.setting m.run m.credits m.moment c.self.invariant c.args.hart.0 c.in-Some.field-0 c.in-Some.is ∙ ap (λ (v : Seen). net_due_of v.state c.args.hart.0) c.self.view_is
+
+pub returns-in-None-clause-due : goal.returns-in-None-clause-due
+returns-in-None-clause-due c =
+    let m = c.self.inside in
+    c.key.ensures ∙ due_goes m.image.now m.input.now m.setting m.run m.credits m.moment c.self.invariant c.args.hart.0 c.in-None.is ∙ ap (λ (v : Seen). net_due_of v.state c.args.hart.0) c.self.view_is
+
+pub returns-in-Some-clause-shortened : goal.returns-in-Some-clause-shortened
+returns-in-Some-clause-shortened c none =
+    let m = c.self.inside in
+    absurd (not_over m.image.now m.input.now m.setting m.run m.credits m.moment c.self.invariant c.args.self.now c.self.view_is (ap (λ (o : Option Ending). is_some o) c.in-Some.is) none)
+
+pub returns-in-None-clause-shortened : goal.returns-in-None-clause-shortened
+returns-in-None-clause-shortened c none =
+    let m = c.self.inside in
+    c.key.ensures ∙ due_seen m.image.now m.input.now m.setting m.run m.credits m.moment c.self.invariant c.args.self.now c.args.hart.0 c.self.view_is

@@ -1,0 +1,19 @@
+use Rattle.std.proofs.Common.{ap, sym, ◌∙◌}
+use Rattle.virtual_run.specs.DelayedRun.{Seen}
+use Rattle.virtual_run.proofs.CreditedRun.{retired_now, stands_seen, agrees_so_far}
+use Rattle.virtual_run.proofs.machine.Machine.retired.Goals as goal
+
+pub returns-clause-count : goal.returns-clause-count
+returns-clause-count c =
+    let m = c.self.inside in
+    sym (retired_now m.image.now m.input.now m.setting m.run m.credits m.moment c.self.invariant) ∙ ap (λ (v : Seen). v.state.retired) c.self.view_is
+
+pub returns-clause-stands : goal.returns-clause-stands
+returns-clause-stands c =
+    let m = c.self.inside in
+    stands_seen m.image.now m.input.now m.setting m.run m.credits m.moment c.self.invariant c.args.self.now c.self.view_is
+
+pub returns-clause-agrees : goal.returns-clause-agrees
+returns-clause-agrees c =
+    let m = c.self.inside in
+    agrees_so_far m.image.now m.input.now m.setting m.run m.credits m.moment c.self.invariant c.args.self.now c.self.view_is

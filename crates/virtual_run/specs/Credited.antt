@@ -1,0 +1,86 @@
+-- The accounts and pauses of a delayed state, as credits hold them.
+use Rattle.std.specs.Prelude.{◌≡◌, ℕ, ◌+◌, ◌*◌, ◌^◌, ◌≤◌, ◌<◌, true, false, List, [], ◌∷◌, length, slice_index_or, Option, Some, None}
+use Rattle.coz_types.specs.declared.ending.Ending.{Ending}
+use Rattle.cost_table.specs.Costs.{cycles_of, raise_of}
+use Rattle.machines.specs.declared.Fate.{Fate}
+use Rattle.machines.specs.Places.{change_each, change_from, is_among}
+use Rattle.machines.specs.Delayed.{Delayed, Hart, fresh, is_running, total, run, credit, raise_hart}
+use Rattle.delay_credits.specs.Delays.{Delays, hart_at}
+use Rattle.delay_credits.specs.Ticks.{without_work}
+use Rattle.guest_calls.specs.Guest.{Guest, IsMade}
+use Rattle.guest_calls.specs.Retire.{next_of}
+use Rattle.virtual_run.specs.Begin.{started_by}
+
+-- each of these harts is held without its work
+abbrev pub AreHeld : List Hart → List Hart → Type 0
+AreHeld held harts = (k : ℕ) → slice_index_or held k fresh ≡ without_work (slice_index_or harts k fresh)
+
+-- credits hold the accounts and pauses of a delayed state
+pub record Holds {G : Type 0} (c : Delays) (d : Delayed G) : Type 0 where
+  pub latest : c.latest ≡ d.now
+  pub raised : c.raised ≡ d.delay
+  pub harts : AreHeld c.harts d.harts
+
+-- each of these harts is credited with what its total lacks of all that was raised
+abbrev pub with_credits : List ℕ → Delays → Delays
+with_credits hs c = record c { harts = change_each fresh hs (λ _. credit c.raised) c.harts }
+
+-- these harts run from the latest moment on, with no pause
+abbrev pub with_starts : List ℕ → Delays → Delays
+with_starts hs c = record c { harts = change_each fresh hs (λ _. run 0) c.harts }
+
+-- a hart raises the delay at the latest moment
+abbrev pub with_one_raise : ℕ → ℕ → Delays → Delays
+with_one_raise ticks h c = record c { raised = c.raised + ticks; harts = change_from 0 (raise_hart ticks h) c.harts }
+
+-- these harts raise it in turn, each by its own ticks
+abbrev pub with_raises : (ℕ → ℕ) → List ℕ → Delays → Delays
+with_raises ticks [] c = c
+with_raises ticks (h ∷ hs) c = with_raises ticks hs (with_one_raise (ticks h) h c)
+
+-- a hart of these credits runs, or doesn't
+pub record Runs (c : Delays) (k : ℕ) : Type 0 where
+  pub below : k < length c.harts
+  pub runs : is_running (hart_at c k) ≡ true
+
+pub record Rests (c : Delays) (k : ℕ) : Type 0 where
+  pub below : k < length c.harts
+  pub rests : is_running (hart_at c k) ≡ false
+
+-- each of these harts runs, or none does, or each is one of these credits'
+abbrev pub AllRun : Delays → List ℕ → Type 0
+AllRun c hs = (k : ℕ) → is_among k hs ≡ true → Runs c k
+
+abbrev pub AllRest : Delays → List ℕ → Type 0
+AllRest c hs = (k : ℕ) → is_among k hs ≡ true → Rests c k
+
+abbrev pub AllBelow : Delays → List ℕ → Type 0
+AllBelow c hs = (k : ℕ) → is_among k hs ≡ true → k < length c.harts
+
+abbrev pub AllMade : Guest → List ℕ → Type 0
+AllMade g hs = (k : ℕ) → is_among k hs ≡ true → IsMade g k
+
+-- the ticks by which a hart's next instruction raises the delay where it is selected, at a speedup in per cent
+abbrev pub raise_ticks : Guest → ℕ → ℕ → ℕ
+raise_ticks g speedup hart = raise_of (cycles_of (next_of g hart)) speedup
+
+-- after a retirement from which the run goes on: the harts that it made or woke are credited, all that it started run, and then the selected ones raise the delay in turn
+abbrev pub with_begun : (ℕ → ℕ) → ℕ → Fate → List ℕ → List ℕ → Delays → Delays
+with_begun ticks hart fate others selected c = with_raises ticks selected (with_starts (started_by hart fate others) (with_credits others c))
+
+-- after a retirement with which a run ends or goes on
+abbrev pub settled_by : Option Ending → (ℕ → ℕ) → ℕ → Fate → List ℕ → List ℕ → Delays → Delays
+settled_by None ticks hart fate others selected c = with_begun ticks hart fate others selected c
+settled_by (Some ending) ticks hart fate others selected c = c
+
+-- what the harts and the credits must be where it goes on
+pub record CanBegin (c : Delays) (g : Guest) (hart : ℕ) (fate : Fate) (others raisers : List ℕ) : Type 0 where
+  -- the hart that retired has all that was raised, and those that it made or woke don't run
+  pub below : hart < length c.harts
+  pub whole : total (hart_at c hart).account ≡ c.raised
+  pub rest : AllRest c others
+  pub started : AllBelow c (started_by hart fate others)
+  -- the selected ones were started
+  pub selected : (k : ℕ) → is_among k raisers ≡ true → is_among k (started_by hart fate others) ≡ true
+  pub made : AllMade g raisers
+  pub few : c.raised + 3800 * length raisers ≤ 10 ^ 17

@@ -1,0 +1,63 @@
+-- The delayed run of a program.
+use Rattle.std.specs.Prelude.{◌≡◌, ℕ, ◌+◌, ◌-◌, List, map, length, slice_index_or, slice_get, Option, Some, None, option_map}
+use Rattle.coz_types.specs.declared.record.Outcome.{Outcome}
+use Rattle.coz_types.specs.declared.record.Visit.{Visit as GivenVisit}
+use Rattle.coz_types.specs.Image.{ImageParts}
+use Rattle.line_index.specs.Index.{Index, position_at}
+use Rattle.progress_points.specs.Points.{Points, point_of}
+use Rattle.machines.specs.Guest.{Experiment}
+use Rattle.machines.specs.Delayed.{Account, Visit, Delayed, fresh}
+use Rattle.machines.specs.Standing.{standing}
+use Rattle.delay_credits.specs.Delays.{Delays}
+use Rattle.guest_calls.specs.Guest.{Guest}
+use Rattle.virtual_run.specs.declared.choice.Choice.{Choice}
+use Rattle.virtual_run.specs.declared.choice.Setting.{Setting}
+use Rattle.virtual_run.specs.declared.run.Run.{Run}
+use Rattle.virtual_run.specs.Run.{experiment, IsChoice, IsReached}
+use Rattle.virtual_run.specs.Credited.{Holds}
+
+-- what contracts see of a delayed run
+pub record Seen : Type 0 where
+  pub image : ImageParts
+  pub index : Index
+  pub points : Points
+  pub input : List ℕ
+  pub choice : Choice
+  pub state : Delayed Guest
+
+-- the run of an image on an input in a setting
+abbrev pub experiment_with : ImageParts → List ℕ → Setting → Experiment Guest
+experiment_with image input setting = experiment image (position_at setting.index.now) (point_of setting.points.now) input setting.choice
+
+-- what is run
+abbrev pub experiment_of : Seen → Experiment Guest
+experiment_of seen = experiment seen.image (position_at seen.index) (point_of seen.points) seen.input seen.choice
+
+-- a visit as the machine keeps it
+abbrev pub visit_as : GivenVisit → Visit
+visit_as visit = record { point = visit.point.0; hart = visit.hart.0; time = visit.time; delay = visit.delay }
+
+-- the net moment at which a hart of a run that goes on retires: as many ticks from now on as it works and pauses before it, less the global delay
+abbrev pub net_due_of : Delayed Guest → ℕ → Option ℕ
+net_due_of d hart =
+    elim (d.ending) [
+      | None ↦ option_map (λ load. d.now + load.work + load.pause - d.delay) (slice_index_or d.harts hart fresh).load
+      | Some ending ↦ None
+    ]
+
+-- the account of a hart that was made
+abbrev pub account_in : Delayed Guest → ℕ → Option Account
+account_in d hart = option_map (λ h. h.account) (slice_get d.harts hart)
+
+-- how a run that has ended came out
+abbrev pub outcome_of : Delayed Guest → Option Outcome
+outcome_of d = option_map (λ ending. record { ending = ending; time = d.now; delay = d.delay; retired = d.retired; starts = d.starts }) d.ending
+
+-- the choice is within the limits, and the fields stand for the state after as many retirements as the engine counts
+pub record IsPaced (image : ImageParts) (input : List ℕ) (setting : Setting) (run : Run) (credits : Delays) (now : ℕ) : Type 0 where
+  pub valid : IsChoice setting.choice
+  pub reached : IsReached (experiment_with image input setting) run
+  pub holds : Holds credits (standing (experiment_with image input setting) run.retired)
+  pub room : length credits.harts ≡ 256
+  pub visits : map visit_as run.visits.kept ≡ (standing (experiment_with image input setting) run.retired).visits
+  pub moment : now ≡ (standing (experiment_with image input setting) run.retired).now

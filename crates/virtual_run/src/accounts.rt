@@ -1,0 +1,105 @@
+//! The accounts and pauses of the harts that a retirement starts.
+
+ghost use Rattle.std.specs.Prelude.{◌≡◌, ◌+◌, ◌*◌, ◌^◌, ◌≤◌, ◌<◌, [], ◌∷◌, length, map, None, if◌then◌else◌, IsTrue};
+ghost use Rattle.machines.specs.Delayed.{is_running, total};
+ghost use Rattle.machines.specs.Guest.{goes_on};
+ghost use Rattle.delay_credits.specs.Delays.{hart_at, pause_of, at, with_stop};
+ghost use Rattle.guest_calls.specs.Guest.{IsMade};
+ghost use Rattle.virtual_run.specs.Credited.{raise_ticks, with_credits, with_starts, with_raises, with_begun, settled_by, AllRest, AllBelow, AllRun, AllMade, CanBegin};
+
+use crate::{Retired, Run};
+use cost_table::{cycles, raise};
+use coz_types::{HartId, Tick};
+use delay_credits::Credits;
+use guest_calls::{Fate, Guest};
+
+/// Each of these harts is credited with what its total lacks of its waker's, which is all that was raised.
+fn credit_each(credits: &mut Credits, harts: &[HartId], waker: HartId)
+    requires rest { AllRest credits.old (map (λ hart. hart.0) harts.now) }
+    requires waker_below { waker.0 < length credits.old.harts }
+    requires whole { total (hart_at credits.old waker.0).account ≡ credits.old.raised }
+    ensures { credits.new ≡ with_credits (map (λ hart. hart.0) harts.now) credits.old }
+{
+    for hart in harts {
+        credits.take_credit(*hart, waker);
+    }
+}
+
+/// A hart that goes on runs from the latest moment on, with no pause.
+fn start_again(credits: &mut Credits, hart: HartId, fate: Fate, now: Tick)
+    requires below { IsTrue (goes_on fate) → hart.0 < length credits.old.harts }
+    requires now { credits.old.latest ≡ now }
+    ensures { credits.new ≡ (if goes_on fate then with_starts (hart.0 ∷ []) credits.old else credits.old) }
+{
+    if let Fate::Goes = fate {
+        credits.start(hart, now);
+    }
+}
+
+/// These harts run from the latest moment on, with no pause.
+fn start_each(credits: &mut Credits, harts: &[HartId], now: Tick)
+    requires below { AllBelow credits.old (map (λ hart. hart.0) harts.now) }
+    requires now { credits.old.latest ≡ now }
+    ensures { credits.new ≡ with_starts (map (λ hart. hart.0) harts.now) credits.old }
+{
+    for hart in harts {
+        credits.start(*hart, now);
+    }
+}
+
+/// The ticks by which a hart's next instruction raises the delay where it is selected, at a speedup in per cent.
+fn raised_by(guest: &Guest, hart: HartId, speedup: u8) -> Tick
+    requires made { IsMade guest.now hart.0 }
+    requires speedup { speedup ≤ 95 }
+    ensures ticks { result ≡ raise_ticks guest.now speedup hart.0 }
+    ensures few { result ≤ 3800 }
+{
+    raise(cycles(guest.next(hart)), speedup)
+}
+
+/// These harts raise the delay in turn at the latest moment, each by its next instruction.
+pub fn raise_each(credits: &mut Credits, guest: &Guest, harts: &[HartId], speedup: u8, now: Tick)
+    requires run { AllRun credits.old (map (λ hart. hart.0) harts.now) }
+    requires made { AllMade guest.now (map (λ hart. hart.0) harts.now) }
+    requires speedup { speedup ≤ 95 }
+    requires now { credits.old.latest ≡ now }
+    requires few { credits.old.raised + 3800 * length (map (λ hart. hart.0) harts.now) ≤ 10 ^ 17 }
+    ensures { credits.new ≡ with_raises (raise_ticks guest.now speedup) (map (λ hart. hart.0) harts.now) credits.old }
+{
+    for hart in harts {
+        credits.raise(*hart, raised_by(guest, *hart, speedup), now);
+    }
+}
+
+/// What follows a retirement from which the run goes on: the harts that it made or woke are credited, all that it started
+/// run, and only then those of them that are selected raise the delay in turn.
+fn begin_started(credits: &mut Credits, run: &Run, retired: Retired, speedup: u8, now: Tick)
+    requires can { CanBegin credits.old run.now.guest retired.hart.0 retired.fate run.now.started run.now.selected }
+    requires speedup { speedup ≤ 95 }
+    requires now { credits.old.latest ≡ now }
+    ensures { credits.new ≡ with_begun (raise_ticks run.now.guest speedup) retired.hart.0 retired.fate run.now.started run.now.selected credits.old }
+{
+    credit_each(credits, run.started.harts(), retired.hart);
+    start_again(credits, retired.hart, retired.fate, now);
+    start_each(credits, run.started.harts(), now);
+    raise_each(credits, &run.guest, run.selected.harts(), speedup, now);
+}
+
+/// What a retirement at a moment and the starts after it make of the accounts and pauses: the hart stops, and where the run
+/// goes on what it started begins.
+pub fn settle(credits: &mut Credits, run: &Run, retired: Retired, speedup: u8, now: Tick)
+    requires below { retired.hart.0 < length credits.old.harts }
+    requires later { credits.old.latest ≤ now }
+    requires running { IsTrue (is_running (hart_at credits.old retired.hart.0)) }
+    requires unpaused { pause_of (hart_at (at now credits.old) retired.hart.0) ≡ 0 }
+    requires can { run.now.ending ≡ None →
+        CanBegin (with_stop retired.hart.0 now credits.old) run.now.guest retired.hart.0 retired.fate run.now.started run.now.selected }
+    requires speedup { speedup ≤ 95 }
+    ensures { credits.new ≡ settled_by run.now.ending (raise_ticks run.now.guest speedup) retired.hart.0 retired.fate run.now.started run.now.selected
+        (with_stop retired.hart.0 now credits.old) }
+{
+    credits.stop(retired.hart, now);
+    if run.ending.is_none() {
+        begin_started(credits, run, retired, speedup, now);
+    }
+}

@@ -1,0 +1,48 @@
+//! What is chosen for a run, and what it reads.
+
+ghost use Rattle.std.specs.Prelude.{◌≡◌};
+ghost use Rattle.virtual_run.specs.Run.{selects};
+
+use coz_types::{Address, LineId};
+use guest_memory::Layout;
+use line_index::LineIndex;
+use progress_points::Points;
+
+/// What is chosen for a run.
+#[derive(Clone, Copy, Debug)]
+pub struct Choice {
+    /// The line whose instructions are to cost less.
+    pub selected: Option<LineId>,
+    /// By how many per cent they are to cost less, at most 95.
+    pub speedup: u8,
+    /// So many instructions are retired at most, from 1 to 10^12.
+    pub budget: u64,
+    /// So many bytes are written at most, from 1 to 67,108,864.
+    pub output_limit: u64,
+    /// So many visits are kept at most, from 1 to 1,048,576.
+    pub visit_limit: u64,
+    pub layout: Layout,
+}
+
+/// What a run reads beside its image and its input, and what is chosen for it.
+#[derive(Clone, Copy)]
+pub struct Setting<'a> {
+    pub index: &'a LineIndex,
+    pub points: &'a Points,
+    pub choice: Choice,
+}
+
+impl<'a> Setting<'a> {
+    /// The address has the selected line. Where none is selected the index is not asked.
+    pub fn has_selected(&self, address: Address) -> bool
+        ensures { result ≡ selects self.now address }
+    {
+        let Some(selected) = self.choice.selected else {
+            return false;
+        };
+        match self.index.line_of(address) {
+            Some(line) => line.0 == selected.0,
+            None => false,
+        }
+    }
+}

@@ -1,0 +1,244 @@
+ghost use Rattle.std.specs.Prelude.{◌≡◌, ◌+◌, ◌≤◌, map, length, Some, None, IfOk, IsSome, MatchOption, All, option_map};
+ghost use Rattle.hart_schedule.specs.Keys.{key_of};
+ghost use Rattle.delay_credits.specs.Delays.{account_as};
+ghost use Rattle.virtual_run.specs.DelayedRun.{experiment_of, visit_as, net_due_of, account_in, outcome_of};
+
+use crate::accounts::{raise_each, settle};
+use crate::{Choice, Run, Setting};
+use coz_types::{Account, Ending, HartId, Image, Outcome, Tick, Visit};
+use delay_credits::Credits;
+use line_index::LineIndex;
+use progress_points::Points;
+use std::alloc::{AllocError, Global};
+use std::marker::Model;
+
+/// The harts that may be made in a run.
+const HARTS: u32 = 256;
+
+/// The hart that a program begins with.
+const FIRST: HartId = HartId(0);
+
+/// The delayed run of a program: as an instruction of the selected line starts, every other running hart is made to pause
+/// for what that instruction is to be spared.
+#[derive(Drop)]
+pub struct Machine<'a> {
+    image: &'a Image<'a>,
+    input: &'a [u8],
+    setting: Setting<'a>,
+    run: Run<'a>,
+    credits: Credits,
+    /// The real moment of the last retirement, in ticks.
+    moment: Tick,
+}
+
+impl<'a> Model for Machine<'a> {
+    ghost use Rattle.machines.specs.Standing.{standing};
+    ghost use Rattle.virtual_run.specs.DelayedRun.{Seen, experiment_with, IsPaced};
+
+    ghost Value = { Seen };
+
+    ghost view = { λ m. record {
+      image = m.image.now;
+      index = m.setting.index.now;
+      points = m.setting.points.now;
+      input = m.input.now;
+      choice = m.setting.choice;
+      state = standing (experiment_with m.image.now m.input.now m.setting) m.run.retired;
+    } };
+
+    ghost invariant = { λ m. IsPaced m.image.now m.input.now m.setting m.run m.credits m.moment };
+}
+
+impl<'a> Machine<'a> {
+    ghost use Rattle.machines.specs.Shortened.{shortened};
+    ghost use Rattle.machines.specs.Agreement.{Agrees};
+    ghost use Rattle.machines.specs.Steps.{Steps};
+    ghost use Rattle.machines.specs.Standing.{standing, delayed_record};
+    ghost use Rattle.machines.specs.Records.{net, record_of, IsDelayed, IsShortened, shortened_record};
+    ghost use Rattle.line_index.specs.Index.{position_at};
+    ghost use Rattle.progress_points.specs.Points.{point_of};
+    ghost use Rattle.virtual_run.specs.Run.{experiment, IsChoice};
+
+    /// A run that is about to begin.
+    pub fn new(
+        alloc: Global,
+        image: &'a Image<'a>,
+        index: &'a LineIndex,
+        points: &'a Points,
+        input: &'a [u8],
+        choice: Choice,
+    ) -> Result<Machine<'a>, AllocError>
+        requires { IsChoice choice }
+        ensures { IfOk result (λ machine. machine ≡ record {
+          image = image.now;
+          index = index.now;
+          points = points.now;
+          input = input.now;
+          choice = choice;
+          state = standing (experiment image.now (position_at index.now) (point_of points.now) input.now choice) 0;
+        }) }
+    {
+        let setting = Setting {
+            index,
+            points,
+            choice,
+        };
+        let run = Run::new(alloc, image, input, &setting)?;
+        let mut credits = Credits::new(alloc, HARTS)?;
+        credits.start(FIRST, 0);
+        raise_each(
+            &mut credits,
+            &run.guest,
+            run.selected.harts(),
+            choice.speedup,
+            0,
+        );
+        Ok(Machine {
+            image,
+            input,
+            setting,
+            run,
+            credits,
+            moment: 0,
+        })
+    }
+
+    /// Runs up to and including the next retirement, with what begins after it. Gives the ending once the run has ended; a
+    /// further step changes nothing and gives the same.
+    pub fn step(&mut self) -> Option<Ending>
+        ensures ended { result ≡ self.new.state.ending }
+        ensures next { self.old.state.ending ≡ None → self.new.state ≡ standing (experiment_of self.old) (self.old.state.retired + 1) }
+        ensures steps { self.old.state.ending ≡ None → Steps (experiment_of self.old) self.old.state self.new.state }
+        ensures over { IsSome self.old.state.ending → self.new.state ≡ self.old.state }
+        ensures rest { self.new ≡ record self.old { state = self.new.state } }
+        ensures agrees { Agrees self.new.state (shortened (experiment_of self.old) self.new.state.retired) }
+    {
+        if self.run.ending.is_some() {
+            return self.run.ending;
+        }
+        let raised = self.credits.raised();
+        let retired = self.run.advance(&self.setting, raised);
+        self.moment = self.run.time + raised;
+        settle(
+            &mut self.credits,
+            &self.run,
+            retired,
+            self.setting.choice.speedup,
+            self.moment,
+        );
+        self.run.ending
+    }
+
+    /// Runs to the end, and gives it. A further run changes nothing and gives the same.
+    pub fn run(&mut self) -> Ending
+        ensures ended { self.new.state.ending ≡ Some result }
+        ensures record { let x = experiment_of self.old in record_of x self.new.state result ≡ delayed_record x }
+        ensures delayed { let x = experiment_of self.old in IsDelayed x (delayed_record x) }
+        ensures law { let x = experiment_of self.old in net (delayed_record x) ≡ shortened_record x }
+        ensures shortened { let x = experiment_of self.old in IsShortened x (shortened_record x) }
+        ensures last { self.new.state ≡ standing (experiment_of self.old) self.old.choice.budget }
+        ensures rest { self.new ≡ record self.old { state = self.new.state } }
+        ensures agrees { Agrees self.new.state (shortened (experiment_of self.old) self.old.choice.budget) }
+    {
+        let mut ending = self.run.ending;
+        while ending.is_none() {
+            ending = self.step();
+        }
+        match ending {
+            Some(ending) => ending,
+            None => unreachable!(),
+        }
+    }
+
+    /// The moment of the last retirement, in ticks.
+    pub fn now(&self) -> Tick
+        ensures { result ≡ self.now.state.now }
+    {
+        self.moment
+    }
+
+    /// The global delay, in ticks.
+    pub fn raised(&self) -> Tick
+        ensures { result ≡ self.now.state.delay }
+    {
+        self.credits.raised()
+    }
+
+    /// When a hart retires next, in net ticks; None where it isn't running or the run has ended.
+    pub fn net_due(&self, hart: HartId) -> Option<Tick>
+        ensures due { result ≡ net_due_of self.now.state hart.0 }
+        ensures shortened { self.now.state.ending ≡ None →
+            result ≡ key_of (shortened (experiment_of self.now) self.now.state.retired).dues hart.0 }
+    {
+        match self.run.ending {
+            Some(_) => None,
+            None => self.run.schedule.key(hart),
+        }
+    }
+
+    /// A hart's account; None where it was never made.
+    pub fn account(&self, hart: HartId) -> Option<Account>
+        ensures { option_map account_as result ≡ account_in self.now.state hart.0 }
+    {
+        if u32::from(hart.0) < self.run.guest.harts() {
+            Some(self.credits.account(hart, self.moment))
+        } else {
+            None
+        }
+    }
+
+    /// How many harts were made.
+    pub fn harts(&self) -> u32
+        ensures guest { result ≡ length self.now.state.guest.harts }
+        ensures accounts { result ≡ length self.now.state.harts }
+        ensures few { result ≤ 256 }
+    {
+        self.run.guest.harts()
+    }
+
+    /// How many instructions were retired. The run stands after as many retirements, beside the shortened machine.
+    pub fn retired(&self) -> u64
+        ensures count { result ≡ self.now.state.retired }
+        ensures stands { self.now.state ≡ standing (experiment_of self.now) result }
+        ensures agrees { Agrees self.now.state (shortened (experiment_of self.now) result) }
+    {
+        self.run.retired
+    }
+
+    /// How many instructions of the selected line were begun.
+    pub fn starts(&self) -> u64
+        ensures { result ≡ self.now.state.starts }
+    {
+        self.run.starts
+    }
+
+    /// The visits of progress points, in order. None was before its delay was raised.
+    pub fn visits(&self) -> &[Visit]
+        ensures visits { map visit_as result.now ≡ self.now.state.visits }
+        ensures in_time { All (λ visit. visit.delay ≤ visit.time) result.now }
+    {
+        self.run.visits.all()
+    }
+
+    /// What was written.
+    pub fn output(&self) -> &[u8]
+        ensures { result.now ≡ self.now.state.guest.output }
+    {
+        self.run.guest.output()
+    }
+
+    /// How the run came out; None before it has ended.
+    pub fn outcome(&self) -> Option<Outcome>
+        ensures outcome { result ≡ outcome_of self.now.state }
+        ensures in_time { MatchOption result (self.now.state.ending ≡ None) (λ outcome. outcome.delay ≤ outcome.time) }
+    {
+        let ending = self.run.ending?;
+        Some(Outcome {
+            ending,
+            time: self.moment,
+            delay: self.credits.raised(),
+            retired: self.run.retired,
+            starts: self.run.starts,
+        })
+    }
+}

@@ -1,0 +1,52 @@
+ghost use Rattle.std.specs.Prelude.{◌≡◌, ◌≤◌, ◌<◌, ◌++◌, [], ◌∷◌, length, IfOk};
+
+use coz_types::Visit;
+use std::alloc::{AllocError, Global};
+use std::marker::Model;
+
+/// The visits of a run, in order, up to a limit. The room for them is taken when it is made.
+#[derive(Drop)]
+pub struct Visits {
+    kept: Vec<Visit>,
+    limit: u64,
+}
+
+impl Model for Visits {
+    ghost use Rattle.std.specs.Prelude.{◌≤◌, length};
+    ghost use Rattle.std.specs.Vec.{vec_capacity};
+    ghost use Rattle.virtual_run.specs.Visits.{Visits};
+
+    ghost Value = { Visits };
+
+    ghost view = { λ v. record { kept = v.kept.items; limit = v.limit } };
+
+    ghost invariant = { λ v. (v.limit ≤ vec_capacity v.kept) × (v.limit ≤ 1048576) };
+}
+
+impl Visits {
+    /// No visits, with room for so many.
+    pub fn new(alloc: Global, limit: u64) -> Result<Visits, AllocError>
+        requires { limit ≤ 1048576 }
+        ensures { IfOk result (λ visits. visits ≡ record { kept = []; limit = limit }) }
+    {
+        let kept = Vec::with_capacity(alloc, limit as usize)?;
+        Ok(Visits { kept, limit })
+    }
+
+    /// Appends a visit.
+    pub fn push(&mut self, visit: Visit)
+        requires { length self.old.kept < self.old.limit }
+        ensures { self.new ≡ record self.old { kept = self.old.kept ++ visit ∷ [] } }
+    {
+        let Ok(()) = self.kept.push(visit) else {
+            unreachable!()
+        };
+    }
+
+    /// The visits, the first of them first.
+    pub fn all(&self) -> &[Visit]
+        ensures { result.now ≡ self.now.kept }
+    {
+        &self.kept
+    }
+}
