@@ -1,6 +1,5 @@
 -- The positional of a request can be a name in a file.
-use Rattle.std.proofs.Common.{◌≡◌, ℕ, ◌<◌, ◌≤◌, true, not, ◌==◌, nat_le, nat_lt, length, List, [], ◌∷◌, arith}
-use Rattle.std.specs.List.{AllPass}
+use Rattle.std.proofs.Common.{not, ◌==◌, nat_le, length}
 use Rattle.std.proofs.lemmas.Bool.{and_parts, leb-true, ltb-true}
 use Rattle.std.proofs.lemmas.List.Sums.{AllPass-from_list_all}
 use Rattle.image_write.specs.File.{IsName}

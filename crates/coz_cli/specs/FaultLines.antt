@@ -60,3 +60,9 @@ asm_kind_name Empty = codes "Empty"
 
 abbrev pub source_line : AsmFault → List ℕ
 source_line fault = codes "coz: source: " ++ asm_kind_name fault.kind ++ codes " at line " ++ decimal fault.line ++ codes " column " ++ decimal fault.column
+
+abbrev pub no_line_line : List ℕ → List ℕ
+no_line_line piece = codes "coz: selection: no line " ++ piece
+
+abbrev pub points_line : ℕ → List ℕ
+points_line count = codes "coz: selection: " ++ decimal count ++ codes " points"

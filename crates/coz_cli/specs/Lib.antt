@@ -3,7 +3,12 @@ pub mod Record
 pub mod Text
 pub mod FaultLines
 pub mod LineTable
+pub mod Selection
+pub mod Found
+pub mod Experiment
 pub mod Verdict
+pub mod Kind
+pub mod LinesText
 pub mod Answer
 pub mod Serve
 pub mod Headline

@@ -1,14 +1,18 @@
 -- The printed texts.
 use Rattle.std.specs.Prelude.{ℕ, ◌+◌, ◌-◌, List, [], ◌∷◌, ◌++◌, length, codes, decimal, false}
+use Rattle.std.specs.List.{flat_map}
 use Rattle.std.specs.Fmt.{digits}
 use Rattle.coz_types.specs.declared.ending.Ending.{Ending}
 use Rattle.coz_types.specs.declared.ending.Ending.TheVariants.{Exited, Trapped, Unsupported, OutputFull, VisitsFull, Stalled, Spent}
 use Rattle.coz_types.specs.declared.ending.TrapCause.{TrapCause}
 use Rattle.coz_types.specs.declared.ending.TrapCause.TheVariants.{Fetch, Illegal, Misaligned, Access, Break}
-use Rattle.coz_types.specs.declared.record.Account.{Account}
-use Rattle.coz_types.specs.declared.record.Outcome.{Outcome}
-use Rattle.coz_types.specs.declared.record.Visit.{Visit}
-use Rattle.coz_cli.specs.Record.{RunParts}
+use Rattle.coz_types.specs.declared.image.Area.{Area}
+use Rattle.machines.specs.Delayed.{Account, Visit}
+use Rattle.machines.specs.Shortened.{NetVisit}
+use Rattle.machines.specs.Records.{Record, NetRecord}
+use Rattle.dwarf_lines.specs.Registers.{Table}
+use Rattle.line_index.specs.Lines.{Line, label}
+use Rattle.line_index.specs.Listed.{lines_in, entries_in}
 
 abbrev pub cause_text : TrapCause → List ℕ
 cause_text Fetch = codes "fetch"
@@ -33,13 +37,13 @@ ending_text Spent = codes "spent"
 abbrev pub number_line : List ℕ → ℕ → List ℕ
 number_line name n = name ++ decimal n ++ codes "\n"
 
-unfoldable pub outcome_text : Outcome → List ℕ
-outcome_text o = codes "end " ++ ending_text o.ending ++ codes "\n"
-    ++ number_line (codes "time ") o.time
-    ++ number_line (codes "delay ") o.delay
-    ++ number_line (codes "net ") (o.time - o.delay)
-    ++ number_line (codes "retired ") o.retired
-    ++ number_line (codes "starts ") o.starts
+unfoldable pub outcome_text : Record → List ℕ
+outcome_text r = codes "end " ++ ending_text r.ending ++ codes "\n"
+    ++ number_line (codes "time ") r.time
+    ++ number_line (codes "delay ") r.delay
+    ++ number_line (codes "net ") (r.time - r.delay)
+    ++ number_line (codes "retired ") r.retired
+    ++ number_line (codes "starts ") r.starts
 
 unfoldable pub hart_text : ℕ → Account → List ℕ
 hart_text number account = codes "hart " ++ decimal number
@@ -52,8 +56,8 @@ harts_text number [] = []
 harts_text number (account ∷ accounts) = hart_text number account ++ harts_text (number + 1) accounts
 
 unfoldable pub visit_text : Visit → List ℕ
-visit_text v = codes "visit " ++ decimal v.point.0
-    ++ codes " hart " ++ decimal v.hart.0
+visit_text v = codes "visit " ++ decimal v.point
+    ++ codes " hart " ++ decimal v.hart
     ++ codes " time " ++ decimal v.time
     ++ codes " delay " ++ decimal v.delay
     ++ codes " net " ++ decimal (v.time - v.delay) ++ codes "\n"
@@ -66,5 +70,51 @@ unfoldable pub output_text : List ℕ → List ℕ
 output_text output = number_line (codes "output ") (length output) ++ output ++ codes "\n"
 
 -- what `run` prints
-unfoldable pub run_text : RunParts → List ℕ
-run_text run = outcome_text run.outcome ++ harts_text 0 run.accounts ++ visits_text run.visits ++ output_text run.output
+unfoldable pub run_text : Record → List ℕ
+run_text r = outcome_text r ++ harts_text 0 r.accounts ++ visits_text r.visits ++ output_text r.output
+
+-- ---- of a run that knows no delays
+
+unfoldable pub net_outcome_text : NetRecord → List ℕ
+net_outcome_text r = codes "end " ++ ending_text r.ending ++ codes "\n"
+    ++ number_line (codes "net ") r.time
+    ++ number_line (codes "retired ") r.retired
+    ++ number_line (codes "starts ") r.starts
+
+unfoldable pub net_visit_text : NetVisit → List ℕ
+net_visit_text v = codes "visit " ++ decimal v.point
+    ++ codes " hart " ++ decimal v.hart
+    ++ codes " net " ++ decimal v.time ++ codes "\n"
+
+unfoldable pub net_visits_text : List NetVisit → List ℕ
+net_visits_text [] = []
+net_visits_text (visit ∷ visits) = net_visit_text visit ++ net_visits_text visits
+
+-- what `really` prints
+unfoldable pub really_text : NetRecord → List ℕ
+really_text r = net_outcome_text r ++ net_visits_text r.visits ++ output_text r.output
+
+-- ---- of a program's lines
+
+-- each address behind a comma
+unfoldable pub more_addresses : List ℕ → List ℕ
+more_addresses [] = []
+more_addresses (a ∷ more) = codes "," ++ address_text a ++ more_addresses more
+
+-- the addresses with a comma between each two
+unfoldable pub addresses_text : List ℕ → List ℕ
+addresses_text [] = []
+addresses_text (a ∷ more) = address_text a ++ more_addresses more
+
+unfoldable pub labelled_text : List ℕ → List ℕ → List ℕ
+labelled_text label addresses = label ++ codes "\t" ++ addresses_text addresses ++ codes "\n"
+
+-- a line with its entry addresses
+abbrev pub line_text : Line → List ℕ → List ℕ
+line_text line entries = labelled_text (label line) entries
+
+-- what `lines` prints: the units that were passed over, and each line in order with its entry addresses
+unfoldable pub lines_text : Table → List Area → List ℕ
+lines_text table areas =
+    number_line (codes "skipped ") table.skipped
+    ++ flat_map (λ line. line_text line (entries_in table areas line)) (lines_in table areas)

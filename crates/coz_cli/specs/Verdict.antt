@@ -9,16 +9,22 @@ use Rattle.elf_load.specs.declared.ElfFault.{ElfFault}
 use Rattle.elf_load.specs.Loaded.{loaded}
 use Rattle.run_words.specs.Request.{Asked}
 use Rattle.run_words.specs.declared.Command.{Command}
-use Rattle.run_words.specs.declared.Command.TheVariants.{Run, Asm}
+use Rattle.run_words.specs.declared.Command.TheVariants.{Run, Really, Lines, Asm}
 use Rattle.rv_asm.specs.declared.AsmFault.{AsmFault}
 use Rattle.rv_asm.specs.Assembled.{Program, assembled}
 use Rattle.image_write.specs.File.{written_file}
-use Rattle.coz_cli.specs.Record.{RunParts, run_of}
-use Rattle.coz_cli.specs.Text.{run_text}
+use Rattle.machines.specs.Guest.{Experiment}
+use Rattle.machines.specs.Records.{Record, NetRecord, shortened_record}
+use Rattle.machines.specs.Standing.{delayed_record}
+use Rattle.guest_calls.specs.Guest.{Guest}
+use Rattle.line_index.specs.Listed.{lines_in}
+use Rattle.coz_cli.specs.Text.{run_text, really_text, lines_text}
+use Rattle.coz_cli.specs.Selection.{Chosen, Unchosen, no_line, many_points, chosen}
+use Rattle.coz_cli.specs.Experiment.{experiment_of}
 use Rattle.dwarf_lines.specs.declared.LineFault.{LineFault}
 use Rattle.dwarf_lines.specs.Registers.{Table}
 use Rattle.coz_cli.specs.LineTable.{table_in}
-use Rattle.coz_cli.specs.FaultLines.{program_line, table_line, source_line}
+use Rattle.coz_cli.specs.FaultLines.{program_line, table_line, source_line, no_line_line, points_line}
 
 pub record Verdict : Type 0 where
   pub status : ℕ
@@ -37,8 +43,12 @@ ending_status (Exited code) = 0
 ending_status _ = 1
 
 -- of a run
-abbrev pub run_verdict : RunParts → Verdict
-run_verdict run = record { status = ending_status run.outcome.ending; text = run_text run; line = [] }
+abbrev pub run_verdict : Record → Verdict
+run_verdict r = record { status = ending_status r.ending; text = run_text r; line = [] }
+
+-- of a run that knows no delays
+abbrev pub really_verdict : NetRecord → Verdict
+really_verdict r = record { status = ending_status r.ending; text = really_text r; line = [] }
 
 -- of the program that a file is, if it is one, and of what follows
 abbrev pub loaded_verdict : Result ImageParts ElfFault → (ImageParts → Verdict) → Verdict
@@ -54,9 +64,21 @@ table_verdict (Ok table) next = next table
 abbrev pub program_verdict : List ℕ → (ImageParts → Table → Verdict) → Verdict
 program_verdict file next = loaded_verdict (loaded file) (λ image. table_verdict (table_in file) (next image))
 
--- of a program's run on an input
-abbrev pub file_verdict : ℕ → List ℕ → List ℕ → Verdict
-file_verdict budget file input = program_verdict file (λ image table. run_verdict (run_of image input budget))
+-- of the line and the points that are named, and of what follows
+abbrev pub chosen_verdict : Result Chosen Unchosen → (Chosen → Verdict) → Verdict
+chosen_verdict (Err (no_line piece)) next = refused 7 (no_line_line piece)
+chosen_verdict (Err (many_points count)) next = refused 7 (points_line count)
+chosen_verdict (Ok chosen) next = next chosen
+
+-- of the experiment that a request asks for, on a program with its line table and an input
+abbrev pub asked_verdict : Asked → (Experiment Guest → Verdict) → List ℕ → ImageParts → Table → Verdict
+asked_verdict asked print input image table =
+    chosen_verdict (chosen (lines_in table image.areas) asked) (λ choice.
+    print (experiment_of image table input asked choice))
+
+-- on a program's file
+abbrev pub file_verdict : Asked → (Experiment Guest → Verdict) → List ℕ → List ℕ → Verdict
+file_verdict asked print file input = program_verdict file (asked_verdict asked print input)
 
 -- of a path's file that may have so many bytes, and of what follows where it is there and has no more
 abbrev pub read_verdict : ℕ → List ℕ → Option (List ℕ) → (List ℕ → Verdict) → Verdict
@@ -64,9 +86,19 @@ read_verdict most path None next = refused 5 (codes "coz: read: " ++ path)
 read_verdict most path (Some file) next = if nat_lt most (length file) then refused 8 (codes "coz: long: " ++ path) else next file
 
 -- of the input, which is empty where none is named
-abbrev pub input_verdict : Asked → Option (List ℕ) → Held → List ℕ → Verdict
-input_verdict asked None held file = file_verdict asked.budget file []
-input_verdict asked (Some path) held file = read_verdict 16777216 path (file_at held path) (file_verdict asked.budget file)
+abbrev pub input_verdict : Option (List ℕ) → Held → (List ℕ → Verdict) → Verdict
+input_verdict None held next = next []
+input_verdict (Some path) held next = read_verdict 16777216 path (file_at held path) next
+
+-- of an experiment, by what is printed of it
+abbrev pub experiment_verdict : Asked → Held → (Experiment Guest → Verdict) → Verdict
+experiment_verdict asked held print =
+    read_verdict 33554432 asked.target (file_at held asked.target) (λ file.
+    input_verdict asked.input held (file_verdict asked print file))
+
+-- of a program's lines
+abbrev pub lines_verdict : List ℕ → Verdict
+lines_verdict file = program_verdict file (λ image table. printed (lines_text table image.areas))
 
 -- of what a source stands for, under this name
 abbrev pub source_verdict : List ℕ → Result Program AsmFault → Verdict
@@ -74,7 +106,9 @@ source_verdict name (Err fault) = refused 11 (source_line fault)
 source_verdict name (Ok program) = printed (written_file program name)
 
 abbrev pub command_verdict : Command → Asked → Held → Verdict
-command_verdict Run asked held = read_verdict 33554432 asked.target (file_at held asked.target) (input_verdict asked asked.input held)
+command_verdict Run asked held = experiment_verdict asked held (λ x. run_verdict (delayed_record x))
+command_verdict Really asked held = experiment_verdict asked held (λ x. really_verdict (shortened_record x))
+command_verdict Lines asked held = read_verdict 33554432 asked.target (file_at held asked.target) lines_verdict
 command_verdict Asm asked held = read_verdict 4194304 asked.target (file_at held asked.target) (λ source. source_verdict asked.target (assembled source))
 
 abbrev pub request_verdict : Option Asked → Held → Verdict

@@ -4,7 +4,8 @@ ghost use Rattle.coz_cli.specs.Words.{bytes_of, request_of};
 ghost use Rattle.coz_cli.specs.Verdict.{verdict};
 ghost use Rattle.coz_cli.specs.Answer.{IsMemory, IsRead, Suits, Settles};
 
-use crate::run::judge_run;
+use crate::experiment::{Kind, judge_experiment};
+use crate::lines::judge_lines;
 use crate::source::judge_source;
 use crate::words::request;
 use coz_files::Files;
@@ -22,6 +23,9 @@ pub enum Fault<'a> {
     Lines(LineFault),
     Read(&'a str),
     Write,
+    /// A line that is named is none of the program's.
+    NoLine(&'a str),
+    ManyPoints(u64),
     Long(&'a str),
     Memory,
     Source(AsmFault),
@@ -47,7 +51,9 @@ pub fn judge<'a, F: Files>(alloc: Global, words: &'a [String], files: &mut F) ->
         return Answer::Refused(Fault::Usage);
     };
     match request.command {
-        Command::Run => judge_run(alloc, request, files),
+        Command::Run => judge_experiment(alloc, request, Kind::Delayed, files),
+        Command::Really => judge_experiment(alloc, request, Kind::Shortened, files),
+        Command::Lines => judge_lines(alloc, request, files),
         Command::Asm => judge_source(alloc, request, files),
     }
 }

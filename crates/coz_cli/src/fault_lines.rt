@@ -1,7 +1,7 @@
 //! The lines of faults, and their statuses.
 ghost use Rattle.std.specs.Prelude.{◌≡◌, ◌++◌, codes, decimal};
 ghost use Rattle.coz_files.specs.Puts.{Puts, Continues};
-ghost use Rattle.coz_cli.specs.FaultLines.{elf_kind_name, line_kind_name, asm_kind_name, program_line, table_line, source_line};
+ghost use Rattle.coz_cli.specs.FaultLines.{elf_kind_name, line_kind_name, asm_kind_name, program_line, table_line, source_line, points_line};
 ghost use Rattle.coz_cli.specs.Answer.{fault_status, fault_line};
 ghost use Rattle.coz_cli.specs.Serve.{IsPut};
 
@@ -22,6 +22,8 @@ fn status_of(fault: Fault) -> u8
         Fault::Lines(_) => 4,
         Fault::Read(_) => 5,
         Fault::Write => 6,
+        Fault::NoLine(_) => 7,
+        Fault::ManyPoints(_) => 7,
         Fault::Long(_) => 8,
         Fault::Memory => 10,
         Fault::Source(_) => 11,
@@ -101,6 +103,16 @@ fn put_source<S: Sink>(sink: &mut S, fault: AsmFault) -> PutAnswer
     put_next(sink, answer, b"\n")
 }
 
+/// Puts the line of too many points.
+fn put_points<S: Sink>(sink: &mut S, count: u64) -> PutAnswer
+    ensures { Puts S.holds S.faults sink.old sink.new result (points_line count ++ codes "\n") }
+{
+    let answer = put_next(sink, PutAnswer::Done, b"coz: selection: ");
+    let answer = put_number(sink, answer, count);
+    let answer = put_next(sink, answer, b" points");
+    put_next(sink, answer, b"\n")
+}
+
 /// Puts a fault's line.
 fn put_line<S: Sink>(sink: &mut S, fault: Fault) -> PutAnswer
     ensures { Puts S.holds S.faults sink.old sink.new result (fault_line fault.entry ++ codes "\n") }
@@ -111,6 +123,10 @@ fn put_line<S: Sink>(sink: &mut S, fault: Fault) -> PutAnswer
         Fault::Lines(fault) => put_table(sink, fault),
         Fault::Read(path) => put_three(sink, b"coz: read: ", path.as_bytes(), b"\n"),
         Fault::Write => put_three(sink, b"coz: write", b"", b"\n"),
+        Fault::NoLine(piece) => {
+            put_three(sink, b"coz: selection: no line ", piece.as_bytes(), b"\n")
+        }
+        Fault::ManyPoints(count) => put_points(sink, count),
         Fault::Long(path) => put_three(sink, b"coz: long: ", path.as_bytes(), b"\n"),
         Fault::Memory => put_three(sink, b"coz: memory", b"", b"\n"),
         Fault::Source(fault) => put_source(sink, fault),

@@ -2,11 +2,16 @@
 #![tactic(auto)]
 
 mod answer;
+mod experiment;
 mod fault_lines;
 mod kinds;
 mod line_table;
+mod lines;
+mod lines_text;
 mod record;
-mod run;
+mod runs;
+mod selection;
+mod short_text;
 mod source;
 mod text;
 mod top;

@@ -297,7 +297,7 @@ fn call<R: Threads + Sync + AllocGlobal>(
         texts.push(String::from_str(alloc, word)?)?;
     }
     let mut files = files;
-    let mut out = MemorySink::new(alloc, 5000, Vec::new(alloc))?;
+    let mut out = MemorySink::new(alloc, 20000, Vec::new(alloc))?;
     let mut err = MemorySink::new(alloc, 1000, Vec::new(alloc))?;
     let status = serve(rt, alloc, &texts, &mut files, &mut out, &mut err, &FreeGate);
     Ok(Served {
@@ -344,5 +344,216 @@ fn what_is_assembled_runs(rt: HostRuntime) -> Result<(), Fail> {
         (refused.status, refused.out.len(), refused.err.as_slice()),
         (4, 0, b"coz: lines: Short at 6\n".as_slice())
     );
+    Ok(())
+}
+
+/// Programs of one hart and of two, and one that traps.
+const LINED: [(&str, &[u8]); 3] = [
+    (
+        "d/one.s",
+        b"    addi a0, x0, 0\n    addi a7, x0, 93\n    ecall\n",
+    ),
+    (
+        "two.s",
+        b"li a0, 69376\nli a1, 0\nli a7, 220\necall\naddi t0, t0, 1\nli a0, 0\nli a7, 93\necall\n",
+    ),
+    ("trap.s", b"    ebreak\n"),
+];
+
+const ONE_LINES: &[u8] = b"skipped 0\nd/one.s:1\t0x10000\nd/one.s:2\t0x10004\nd/one.s:3\t0x10008\n";
+
+const DELAYED: &[u8] =
+    b"end exited:0\ntime 4200\ndelay 3800\nnet 400\nretired 3\nstarts 1\nhart 0 own 3800 paused 0 credited 0\noutput 0\n\n";
+
+const SHORT: &[u8] = b"end exited:0\nnet 400\nretired 3\nstarts 1\noutput 0\n\n";
+
+const COUNTED: &[u8] =
+    b"end exited:0\ntime 4200\ndelay 0\nnet 4200\nretired 3\nstarts 1\nhart 0 own 0 paused 0 credited 0\noutput 0\n\n";
+
+const VISITED: &[u8] =
+    b"end exited:0\ntime 4200\ndelay 50\nnet 4150\nretired 3\nstarts 1\nhart 0 own 50 paused 0 credited 0\nvisit 0 hart 0 time 100 delay 50 net 50\nvisit 1 hart 0 time 4200 delay 50 net 4150\noutput 0\n\n";
+
+const SHORT_VISITED: &[u8] =
+    b"end exited:0\nnet 4150\nretired 3\nstarts 1\nvisit 0 hart 0 net 50\nvisit 1 hart 0 net 4150\noutput 0\n\n";
+
+const TWO_START: &[u8] =
+    b"end exited:0\ntime 8750\ndelay 100\nnet 8650\nretired 13\nstarts 2\nhart 0 own 50 paused 50 credited 0\nhart 1 own 50 paused 50 credited 0\nvisit 0 hart 0 time 4650 delay 100 net 4550\nvisit 0 hart 1 time 4650 delay 100 net 4550\noutput 0\n\n";
+
+const TIE_IS_CUT: &[u8] =
+    b"end exited:0\ntime 8750\ndelay 100\nnet 8650\nretired 13\nstarts 2\nhart 0 own 50 paused 50 credited 0\nhart 1 own 50 paused 50 credited 0\nvisit 0 hart 0 time 4500 delay 0 net 4500\nvisit 0 hart 1 time 4550 delay 50 net 4500\noutput 0\n\n";
+
+const CHILD_IS_CREDITED: &[u8] =
+    b"end exited:0\ntime 8700\ndelay 50\nnet 8650\nretired 13\nstarts 1\nhart 0 own 50 paused 0 credited 0\nhart 1 own 0 paused 0 credited 50\noutput 0\n\n";
+
+const TRAP_IS_VISITED: &[u8] =
+    b"end trapped:break:0:0x10000\nnet 50\nretired 1\nstarts 1\nvisit 0 hart 0 net 50\noutput 0\n\n";
+
+/// Words about these programs, and what they come to: the status, the output and the line of the fault.
+const NAMED: [(&[&str], u8, &[u8], &[u8]); 13] = [
+    (&["lines", "d/one"], 0, ONE_LINES, b""),
+    (
+        &["run", "d/one", "--line", "one.s:3", "--speedup", "95"],
+        0,
+        DELAYED,
+        b"",
+    ),
+    (
+        &["really", "d/one", "--line", "one.s:3", "--speedup", "95"],
+        0,
+        SHORT,
+        b"",
+    ),
+    (&["run", "d/one", "--line=d/one.s:2"], 0, COUNTED, b""),
+    (
+        &[
+            "run",
+            "d/one",
+            "--line=one.s:1",
+            "--speedup=50",
+            "--progress=one.s:3,one.s:1,d/one.s:3",
+        ],
+        0,
+        VISITED,
+        b"",
+    ),
+    (
+        &[
+            "really",
+            "d/one",
+            "--line=one.s:1",
+            "--speedup=50",
+            "--progress=one.s:3,one.s:1",
+        ],
+        0,
+        SHORT_VISITED,
+        b"",
+    ),
+    (
+        &[
+            "run",
+            "two",
+            "--line=two.s:5",
+            "--speedup=50",
+            "--progress=two.s:6",
+        ],
+        0,
+        TWO_START,
+        b"",
+    ),
+    (
+        &[
+            "run",
+            "two",
+            "--line=two.s:6",
+            "--speedup=50",
+            "--progress=two.s:5",
+        ],
+        0,
+        TIE_IS_CUT,
+        b"",
+    ),
+    (
+        &["run", "two", "--line=two.s:3", "--speedup=50"],
+        0,
+        CHILD_IS_CREDITED,
+        b"",
+    ),
+    (
+        &[
+            "really",
+            "trap",
+            "--line=trap.s:1",
+            "--speedup=50",
+            "--progress=trap.s:1",
+        ],
+        1,
+        TRAP_IS_VISITED,
+        b"",
+    ),
+    (
+        &["run", "d/one", "--line", "one.s:9"],
+        7,
+        b"",
+        b"coz: selection: no line one.s:9\n",
+    ),
+    (
+        &["really", "d/one", "--progress", "one.s:1,two.s:1,three.s:1"],
+        7,
+        b"",
+        b"coz: selection: no line two.s:1\n",
+    ),
+    (
+        &["run", "d/one", "--line", "s:1", "--progress", "two.s:1"],
+        7,
+        b"",
+        b"coz: selection: no line s:1\n",
+    ),
+];
+
+/// The programs of these sources, each at its path without the ending.
+fn lined_programs<R: Threads + Sync + AllocGlobal>(rt: &R) -> Result<Vec<HeldFile>, AllocError> {
+    let alloc = rt.alloc();
+    let mut programs = Vec::new(alloc);
+    for (name, source) in &LINED {
+        let made = call(rt, &["asm", *name], one_file(alloc, *name, *source)?)?;
+        let path = name.strip_suffix(".s").unwrap_or(*name);
+        programs.push(held(alloc, path, made.out)?)?;
+    }
+    Ok(programs)
+}
+
+fn copies(alloc: Global, programs: &[HeldFile]) -> Result<MemoryFiles, AllocError> {
+    let mut files = Vec::new(alloc);
+    for program in programs {
+        files.push(HeldFile {
+            path: program.path.to_vec(alloc)?,
+            bytes: program.bytes.to_vec(alloc)?,
+        })?;
+    }
+    Ok(MemoryFiles::new(files, Vec::new(alloc)))
+}
+
+#[test]
+fn lines_are_named(rt: HostRuntime) -> Result<(), Fail> {
+    let alloc = rt.alloc();
+    let programs = lined_programs(&rt)?;
+    for (words, status, out, err) in &NAMED {
+        let served = call(&rt, words, copies(alloc, &programs)?)?;
+        assert_eq!(rt;
+            (served.status, served.out.as_slice(), served.err.as_slice()),
+            (*status, *out, *err)
+        );
+    }
+    Ok(())
+}
+
+/// A source of so many instructions, one a line, and the list of its lines.
+fn long_source(alloc: Global, count: u32) -> Result<(Vec<u8>, String), AllocError> {
+    let mut source = Vec::new(alloc);
+    let mut list = String::new(alloc);
+    for line in 0..count {
+        source.extend_from_slice(b"nop\n")?;
+        if line > 0 {
+            list.push_str(",")?;
+        }
+        let named = format!(in alloc; "p.s:{}", line + 1)?;
+        list.push_str(named.as_str())?;
+    }
+    Ok((source, list))
+}
+
+#[test]
+fn there_are_64_points_at_most(rt: HostRuntime) -> Result<(), Fail> {
+    let alloc = rt.alloc();
+    for (count, status, err) in [
+        (64u32, 1u8, b"".as_slice()),
+        (65, 7, b"coz: selection: 65 points\n".as_slice()),
+    ] {
+        let (source, list) = long_source(alloc, count)?;
+        let made = call(&rt, &["asm", "p.s"], one_file(alloc, "p.s", &source)?)?;
+        let words = ["really", "p", "--progress", list.as_str()];
+        let served = call(&rt, &words, one_file(alloc, "p", &made.out)?)?;
+        assert_eq!(rt; (served.status, served.err.as_slice()), (status, err));
+    }
     Ok(())
 }

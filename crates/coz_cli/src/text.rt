@@ -1,21 +1,23 @@
-ghost use Rattle.std.specs.Prelude.{◌≡◌, ◌++◌, ◌≤◌, codes, decimal, OnOk, IfOk, All};
+ghost use Rattle.std.specs.Prelude.{◌≡◌, ◌++◌, ◌≤◌, codes, decimal, map, OnOk, IfOk, All};
+ghost use Rattle.delay_credits.specs.Delays.{account_as};
+ghost use Rattle.virtual_run.specs.DelayedRun.{visit_as};
 ghost use Rattle.coz_cli.specs.Text.{cause_text, address_text, ending_text, number_line, outcome_text, hart_text, harts_text, visit_text, visits_text, output_text, run_text};
-ghost use Rattle.coz_cli.specs.Record.{parts};
+ghost use Rattle.coz_cli.specs.Record.{record_of};
 ghost use Rattle.coz_types.specs.declared.record.Visit.{Visit};
 
 use crate::record::RunRecord;
-use coz_types::{Account, Ending, Outcome, TrapCause, Visit};
+use coz_types::{Account, Ending, TrapCause, Visit};
 use itoa::Buffer;
 use std::alloc::{AllocError, Global};
 
-fn push_number(text: &mut Vec<u8>, n: u64) -> Result<(), AllocError>
+pub fn push_number(text: &mut Vec<u8>, n: u64) -> Result<(), AllocError>
     ensures { OnOk result (text.new.items ≡ text.old.items ++ decimal n) }
 {
     let mut buffer = Buffer::new();
     text.extend_from_slice(buffer.format(n).as_bytes())
 }
 
-fn push_line(text: &mut Vec<u8>, name: &[u8], n: u64) -> Result<(), AllocError>
+pub fn push_line(text: &mut Vec<u8>, name: &[u8], n: u64) -> Result<(), AllocError>
     ensures { OnOk result (text.new.items ≡ text.old.items ++ number_line name.now n) }
 {
     text.extend_from_slice(name)?;
@@ -35,14 +37,14 @@ fn cause_name(cause: TrapCause) -> &'static [u8]
     }
 }
 
-fn push_address(alloc: Global, text: &mut Vec<u8>, address: u64) -> Result<(), AllocError>
+pub fn push_address(alloc: Global, text: &mut Vec<u8>, address: u64) -> Result<(), AllocError>
     ensures { OnOk result (text.new.items ≡ text.old.items ++ address_text address) }
 {
     let shown = format!(in alloc; "0x{address:x}")?;
     text.extend_from_slice(shown.as_bytes())
 }
 
-fn push_ending(alloc: Global, text: &mut Vec<u8>, ending: Ending) -> Result<(), AllocError>
+pub fn push_ending(alloc: Global, text: &mut Vec<u8>, ending: Ending) -> Result<(), AllocError>
     ensures { OnOk result (text.new.items ≡ text.old.items ++ ending_text ending) }
 {
     match ending {
@@ -70,10 +72,11 @@ fn push_ending(alloc: Global, text: &mut Vec<u8>, ending: Ending) -> Result<(), 
 }
 
 #[tactic(auto, unfolding(crate::specs::Text::outcome_text))]
-fn push_outcome(alloc: Global, text: &mut Vec<u8>, outcome: Outcome) -> Result<(), AllocError>
-    requires { outcome.delay ≤ outcome.time }
-    ensures { OnOk result (text.new.items ≡ text.old.items ++ outcome_text outcome) }
+fn push_outcome<'a>(alloc: Global, text: &mut Vec<u8>, run: RunRecord<'a>) -> Result<(), AllocError>
+    requires { run.outcome.delay ≤ run.outcome.time }
+    ensures { OnOk result (text.new.items ≡ text.old.items ++ outcome_text (record_of run.entry)) }
 {
+    let outcome = run.outcome;
     text.extend_from_slice(b"end ")?;
     push_ending(alloc, text, outcome.ending)?;
     text.extend_from_slice(b"\n")?;
@@ -86,7 +89,7 @@ fn push_outcome(alloc: Global, text: &mut Vec<u8>, outcome: Outcome) -> Result<(
 
 #[tactic(auto, unfolding(crate::specs::Text::hart_text))]
 fn push_hart(text: &mut Vec<u8>, number: u64, account: Account) -> Result<(), AllocError>
-    ensures { OnOk result (text.new.items ≡ text.old.items ++ hart_text number account) }
+    ensures { OnOk result (text.new.items ≡ text.old.items ++ hart_text number (account_as account)) }
 {
     text.extend_from_slice(b"hart ")?;
     push_number(text, number)?;
@@ -99,7 +102,7 @@ fn push_hart(text: &mut Vec<u8>, number: u64, account: Account) -> Result<(), Al
 
 #[tactic(auto, unfolding(crate::specs::Text::harts_text))]
 fn push_harts(text: &mut Vec<u8>, accounts: &[Account]) -> Result<(), AllocError>
-    ensures { OnOk result (text.new.items ≡ text.old.items ++ harts_text 0 accounts.now) }
+    ensures { OnOk result (text.new.items ≡ text.old.items ++ harts_text 0 (map account_as accounts.now)) }
 {
     for (number, account) in accounts.iter().enumerate() {
         push_hart(text, number as u64, *account)?;
@@ -110,7 +113,7 @@ fn push_harts(text: &mut Vec<u8>, accounts: &[Account]) -> Result<(), AllocError
 #[tactic(auto, unfolding(crate::specs::Text::visit_text))]
 fn push_visit(text: &mut Vec<u8>, visit: Visit) -> Result<(), AllocError>
     requires { visit.delay ≤ visit.time }
-    ensures { OnOk result (text.new.items ≡ text.old.items ++ visit_text visit) }
+    ensures { OnOk result (text.new.items ≡ text.old.items ++ visit_text (visit_as visit)) }
 {
     text.extend_from_slice(b"visit ")?;
     push_number(text, visit.point.0 as u64)?;
@@ -126,7 +129,7 @@ fn push_visit(text: &mut Vec<u8>, visit: Visit) -> Result<(), AllocError>
 #[tactic(auto, unfolding(crate::specs::Text::visits_text))]
 fn push_visits(text: &mut Vec<u8>, visits: &[Visit]) -> Result<(), AllocError>
     requires { All (λ (v : Visit). v.delay ≤ v.time) visits.now }
-    ensures { OnOk result (text.new.items ≡ text.old.items ++ visits_text visits.now) }
+    ensures { OnOk result (text.new.items ≡ text.old.items ++ visits_text (map visit_as visits.now)) }
 {
     for visit in visits {
         push_visit(text, *visit)?;
@@ -135,7 +138,7 @@ fn push_visits(text: &mut Vec<u8>, visits: &[Visit]) -> Result<(), AllocError>
 }
 
 #[tactic(auto, unfolding(crate::specs::Text::output_text))]
-fn push_output(text: &mut Vec<u8>, output: &[u8]) -> Result<(), AllocError>
+pub fn push_output(text: &mut Vec<u8>, output: &[u8]) -> Result<(), AllocError>
     ensures { OnOk result (text.new.items ≡ text.old.items ++ output_text output.now) }
 {
     push_line(text, b"output ", output.len() as u64)?;
@@ -148,10 +151,10 @@ fn push_output(text: &mut Vec<u8>, output: &[u8]) -> Result<(), AllocError>
 pub fn run_text<'a>(alloc: Global, run: RunRecord<'a>) -> Result<Vec<u8>, AllocError>
     requires net { run.outcome.delay ≤ run.outcome.time }
     requires net_visits { All (λ (v : Visit). v.delay ≤ v.time) run.visits.now }
-    ensures { IfOk result (λ text. text.items ≡ run_text (parts run.entry)) }
+    ensures { IfOk result (λ text. text.items ≡ run_text (record_of run.entry)) }
 {
     let mut text = Vec::new(alloc);
-    push_outcome(alloc, &mut text, run.outcome)?;
+    push_outcome(alloc, &mut text, run)?;
     push_harts(&mut text, run.accounts)?;
     push_visits(&mut text, run.visits)?;
     push_output(&mut text, run.output)?;

@@ -9,3 +9,6 @@ returns-in-Long g c = rw c.in-Long.is (rw c.as_bytes-in-Long.ensures.value at c.
 -- the long name stops the search
 pub returns-in-Memory : goal.returns-in-Memory
 returns-in-Memory g c = rw c.in-Memory.is c.put_three-in-Memory.ensures
+
+pub returns-in-NoLine : goal.returns-in-NoLine
+returns-in-NoLine g c = rw c.in-NoLine.is (rw c.as_bytes-in-NoLine.ensures.value at c.put_three-in-NoLine.ensures)

@@ -1,0 +1,37 @@
+-- What the code finds of the lines that are named.
+use Rattle.std.specs.Prelude.{◌≡◌, ◌<◌, ℕ, length, List, [], map, Option, Some, None, option_map, Result, Ok, Err, find, is_none, All}
+use Rattle.std.specs.List.{filter_map}
+use Rattle.std.specs.Borrow.{Bor}
+use Rattle.std.specs.Option.{option_copied}
+use Rattle.std.specs.Global.{Vec}
+use Rattle.coz_types.specs.declared.LineId.{LineId}
+use Rattle.line_index.specs.Lines.{Line}
+use Rattle.run_words.specs.Said.{Text}
+use Rattle.run_words.specs.Values.{pieces}
+use Rattle.coz_cli.specs.declared.selection.Unchosen.{Unchosen as CodeUnchosen}
+use Rattle.coz_cli.specs.declared.selection.Unchosen.TheVariants.{NoLine, Memory}
+use Rattle.coz_cli.specs.Selection.{no_line, selected_line, line_found, rising}
+
+abbrev pub id_of : LineId → ℕ
+id_of line = line.0
+
+abbrev pub ids : List LineId → List ℕ
+ids lines = map id_of lines
+
+-- the selected line, as the definition has it
+abbrev pub IsSelected : List Line → Option (Bor Text) → Result (Option LineId) (Bor Text) → Type 0
+IsSelected lines text (Ok selected) = selected_line lines (option_copied text) ≡ Ok (option_map id_of selected)
+IsSelected lines text (Err piece) = selected_line lines (option_copied text) ≡ Err (no_line piece.now)
+
+abbrev pub pieces_of : Option (Bor Text) → List Text
+pieces_of None = []
+pieces_of (Some list) = pieces list.now
+
+-- of the pieces of a list, if there is one
+abbrev pub AreProgressLines : List Line → Option (Bor Text) → Result (Vec LineId) CodeUnchosen → Type 0
+AreProgressLines lines list (Ok found) =
+    (find (λ text. is_none (line_found lines text)) (pieces_of list) ≡ None)
+    × (ids found.items ≡ rising (filter_map (line_found lines) (pieces_of list)))
+    × All (λ (line : LineId). line.0 < length lines) found.items
+AreProgressLines lines list (Err (NoLine piece)) = find (λ text. is_none (line_found lines text)) (pieces_of list) ≡ Some piece.now
+AreProgressLines lines list (Err Memory) = Unit {0}

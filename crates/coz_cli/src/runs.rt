@@ -1,0 +1,131 @@
+//! The runs of programs, and what is written of them.
+ghost use Rattle.std.specs.Prelude.{◌≡◌, ◌≤◌, length, IfOk, IsSome, map, Some};
+ghost use Rattle.coz_types.specs.declared.ending.Ending.{Ending};
+ghost use Rattle.delay_credits.specs.Delays.{account_as};
+ghost use Rattle.line_index.specs.Index.{position_at};
+ghost use Rattle.progress_points.specs.Points.{point_of};
+ghost use Rattle.virtual_run.specs.Run.{IsChoice, experiment};
+ghost use Rattle.virtual_run.specs.DelayedRun.{experiment_of};
+ghost use Rattle.guest_calls.specs.Guest.{Guest};
+ghost use Rattle.machines.specs.Delayed.{Hart};
+ghost use Rattle.machines.specs.Records.{record_of, shortened_record};
+ghost use Rattle.machines.specs.Standing.{delayed_record};
+ghost use Rattle.coz_cli.specs.Text.{run_text};
+ghost use Rattle.coz_cli.specs.Verdict.{ending_status, really_verdict, run_verdict};
+ghost use Rattle.coz_cli.specs.Answer.{answered, IsMemory, IsRead};
+
+use crate::answer::{Answer, Fault};
+use crate::record::{RunRecord, ShortRecord};
+use crate::short_text::really_text;
+use crate::text::run_text;
+use coz_types::{Account, Ending, HartId, Image};
+use line_index::LineIndex;
+use progress_points::Points;
+use shortened_run::Short;
+use std::alloc::{AllocError, Global};
+use virtual_run::{Choice, Machine};
+
+fn ending_status(ending: Ending) -> u8
+    ensures { result ≡ ending_status ending }
+{
+    match ending {
+        Ending::Exited(_) => 0,
+        _ => 1,
+    }
+}
+
+/// The account of each hart that was made.
+fn accounts(alloc: Global, machine: &Machine) -> Result<Vec<Account>, AllocError>
+    ensures { IfOk result (λ accounts. map account_as accounts.items ≡ map (λ (hart : Hart). hart.account) machine.now.state.harts) }
+{
+    let mut accounts = Vec::new(alloc);
+    for number in 0..machine.harts() {
+        let Some(account) = machine.account(HartId(number as u16)) else {
+            unreachable!()
+        };
+        accounts.push(account)?;
+    }
+    Ok(accounts)
+}
+
+/// What `run` prints of a run that has ended.
+fn machine_text(alloc: Global, machine: &Machine) -> Result<Vec<u8>, AllocError>
+    requires ended { IsSome machine.now.state.ending }
+    requires later { machine.now.state.delay ≤ machine.now.state.now }
+    ensures { (ending : Ending) → machine.now.state.ending ≡ Some ending → IfOk result (λ text. text.items ≡
+        run_text (record_of (experiment_of machine.now) machine.now.state ending)) }
+{
+    let Some(outcome) = machine.outcome() else {
+        unreachable!()
+    };
+    let accounts = accounts(alloc, machine)?;
+    let record = RunRecord {
+        outcome,
+        accounts: &accounts,
+        visits: machine.visits(),
+        output: machine.output(),
+    };
+    run_text(alloc, record)
+}
+
+/// What is written of a program's delayed run.
+pub fn run_answer<'a>(
+    alloc: Global,
+    image: &Image,
+    index: &LineIndex,
+    points: &Points,
+    input: &[u8],
+    choice: Choice,
+) -> Answer<'a>
+    requires { IsChoice choice }
+    ensures no_read { IsRead result → ⊥ }
+    ensures settled { (IsMemory result → ⊥) → answered result ≡
+        run_verdict (delayed_record (experiment image.now (position_at index.now) (point_of points.now) input.now choice)) }
+{
+    let Ok(mut machine) = Machine::new(alloc, image, index, points, input, choice) else {
+        return Answer::Refused(Fault::Memory);
+    };
+    let ending = machine.run();
+    let Ok(text) = machine_text(alloc, &machine) else {
+        return Answer::Refused(Fault::Memory);
+    };
+    Answer::Text {
+        status: ending_status(ending),
+        text,
+    }
+}
+
+/// What is written of a program's shortened run.
+pub fn really_answer<'a>(
+    alloc: Global,
+    image: &Image,
+    index: &LineIndex,
+    points: &Points,
+    input: &[u8],
+    choice: Choice,
+) -> Answer<'a>
+    requires { IsChoice choice }
+    ensures no_read { IsRead result → ⊥ }
+    ensures settled { (IsMemory result → ⊥) → answered result ≡
+        really_verdict (shortened_record (experiment image.now (position_at index.now) (point_of points.now) input.now choice)) }
+{
+    let Ok(mut short) = Short::new(alloc, image, index, points, input, choice) else {
+        return Answer::Refused(Fault::Memory);
+    };
+    let ending = short.run();
+    let record = ShortRecord {
+        ending,
+        net: short.net(),
+        retired: short.retired(),
+        starts: short.starts(),
+        visits: short.visits(),
+        output: short.output(),
+    };
+    match really_text(alloc, record) {
+        Ok(text) => Answer::Text {
+            status: ending_status(ending),
+            text,
+        },
+        Err(_) => Answer::Refused(Fault::Memory),
+    }
+}

@@ -1,0 +1,98 @@
+//! The lines and progress points that a request names.
+ghost use Rattle.std.specs.Prelude.{◌≡◌, ◌<◌, ◌≤◌, true, length, map, Option, Some, None, Ok, Err, option_map, OnOk, IfSome, MatchResult};
+ghost use Rattle.std.specs.List.Sorted.{IsStrictlyIncreasing, IsPartitionPoint};
+ghost use Rattle.run_words.specs.Values.{is_line, is_list};
+ghost use Rattle.coz_cli.specs.declared.selection.Unchosen.TheVariants.{Memory};
+ghost use Rattle.coz_cli.specs.Selection.{line_found, with_number};
+ghost use Rattle.coz_cli.specs.Found.{ids, id_of, IsSelected, AreProgressLines};
+
+use coz_types::LineId;
+use line_index::LineIndex;
+use run_words::{first_piece, line_parts};
+use std::alloc::{AllocError, Global};
+
+/// Why lines that are named are not chosen.
+#[derive(Clone, Copy)]
+pub enum Unchosen<'a> {
+    /// This one isn't a line of the program.
+    NoLine(&'a str),
+    Memory,
+}
+
+impl<'a> From<AllocError> for Unchosen<'a> {
+    ghost from_gives = { λ _ e. e ≡ Memory };
+
+    fn from(_: AllocError) -> Unchosen<'a> {
+        Unchosen::Memory
+    }
+}
+
+/// The line that a text names, if the program has it.
+fn line_found(index: &LineIndex, text: &str) -> Option<LineId>
+    requires { is_line text.now ≡ true }
+    ensures { option_map id_of result ≡ line_found index.now.lines text.now }
+{
+    let (path, number) = line_parts(text);
+    index.find(path, number)
+}
+
+/// The selected line, if one is named; the text that names none of the program's.
+pub fn selected_line<'a>(
+    index: &LineIndex,
+    line: Option<&'a str>,
+) -> Result<Option<LineId>, &'a str>
+    requires { IfSome line (λ text. is_line text.now ≡ true) }
+    ensures { IsSelected index.now.lines line.entry result }
+{
+    let Some(text) = line else {
+        return Ok(None);
+    };
+    match line_found(index, text) {
+        Some(line) => Ok(Some(line)),
+        None => Err(text),
+    }
+}
+
+/// How many of rising lines stand below a line.
+fn place_of(lines: &[LineId], line: LineId) -> usize
+    requires { IsStrictlyIncreasing (ids lines.now) }
+    ensures within { result ≤ length lines.now }
+    ensures place { IsPartitionPoint (λ other. other.0 < line.0) (λ other. line.0 ≤ other.0) lines.now result }
+{
+    lines.partition_point(|other| other.0 < line.0)
+}
+
+/// Puts a line among rising ones, unless it is there.
+fn put_line(lines: &mut Vec<LineId>, line: LineId) -> Result<(), AllocError>
+    requires { IsStrictlyIncreasing (ids lines.old.items) }
+    ensures { OnOk result (ids lines.new.items ≡ with_number (ids lines.old.items) line.0) }
+{
+    let place = place_of(lines, line);
+    if place < lines.len() && lines[place] == line {
+        return Ok(());
+    }
+    lines.insert(place, line)?;
+    Ok(())
+}
+
+/// The lines of progress points, rising and without repeats.
+pub fn progress_lines<'a>(
+    alloc: Global,
+    index: &LineIndex,
+    list: Option<&'a str>,
+) -> Result<Vec<LineId>, Unchosen<'a>>
+    requires { IfSome list (λ text. is_list text.now ≡ true) }
+    ensures { AreProgressLines index.now.lines list.entry result }
+{
+    let mut lines = Vec::new(alloc);
+    let mut rest = list;
+    while let Some(text) = rest {
+        let (piece, after) = first_piece(text);
+        let Some(line) = line_found(index, piece) else {
+            return Err(Unchosen::NoLine(piece));
+        };
+        put_line(&mut lines, line)?;
+        rest = after;
+    }
+    Ok(lines)
+}
