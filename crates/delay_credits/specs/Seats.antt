@@ -1,5 +1,5 @@
 -- What the seats of harts stand for.
-use Rattle.std.specs.Prelude.{◌≡◌, ℕ, ◌+◌, ◌-◌, ◌≤◌, ◌<◌, ◌^◌, min, Some, None}
+use Rattle.std.specs.Prelude.{◌≡◌, ℕ, ◌+◌, ◌-◌, ◌≤◌, ◌<◌, ◌^◌, min, List, length, slice_index_or, Some, None}
 use Rattle.machines.specs.Delayed.{Hart, raise_hart, total}
 use Rattle.machines.specs.Steps.{sit_load}
 use Rattle.delay_credits.specs.declared.seat.Seat.{Seat}
@@ -23,6 +23,10 @@ since_of seat = elim (seat.pending) [ None ↦ 0 | Some p ↦ p.since ]
 pub record IsSound (latest raised : ℕ) (seat : Seat) : Type 0 where
   pub past : since_of seat ≤ latest
   pub within : total (account_as seat.account) + owed seat ≤ raised
+
+-- no hart from a place on runs
+abbrev pub AreIdleFrom : ℕ → List Seat → Type 0
+AreIdleFrom first seats = (place : ℕ) → first ≤ place → place < length seats → (d : Seat) → (slice_index_or seats place d).pending ≡ None
 
 -- the seat of the same hart, looked at at a moment
 abbrev pub settled : ℕ → Seat → Seat

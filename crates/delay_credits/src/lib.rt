@@ -21,21 +21,23 @@ use std::marker::Model;
 #[derive(Drop)]
 pub struct Credits {
     seats: Vec<Seat>,
+    // One past the greatest place that was ever started, so a raise ends here.
+    used: usize,
     latest: Tick,
     raised: Tick,
 }
 
 impl Model for Credits {
-    ghost use Rattle.std.specs.Prelude.{◌≤◌, ◌^◌, map, All};
+    ghost use Rattle.std.specs.Prelude.{◌≤◌, ◌^◌, length, map, All};
     ghost use Rattle.delay_credits.specs.Delays.{Delays};
 
     ghost Value = { Delays };
 
-    ghost use Rattle.delay_credits.specs.Seats.{standing, IsSound};
+    ghost use Rattle.delay_credits.specs.Seats.{standing, AreIdleFrom, IsSound};
 
     ghost view = { λ c. record { latest = c.latest; raised = c.raised; harts = map (standing c.latest) c.seats.items } };
 
-    ghost invariant = { λ c. (c.raised ≤ 10 ^ 17) × All (IsSound c.latest c.raised) c.seats.items };
+    ghost invariant = { λ c. (c.raised ≤ 10 ^ 17) × All (IsSound c.latest c.raised) c.seats.items × (c.used ≤ length c.seats.items) × AreIdleFrom c.used c.seats.items };
 }
 
 const NOT_RUNNING: Seat = Seat {
@@ -54,6 +56,7 @@ impl Credits {
     {
         Ok(Credits {
             seats: vec![in alloc; NOT_RUNNING; harts as usize]?,
+            used: 0,
             latest: 0,
             raised: 0,
         })
@@ -74,6 +77,7 @@ impl Credits {
                 pause: 0,
             }),
         };
+        self.used = self.used.max(place + 1);
         self.latest = now;
     }
 
@@ -102,7 +106,7 @@ impl Credits {
         requires few { self.old.raised + ticks ≤ 10 ^ 17 }
         ensures { self.new ≡ with_raise hart.0 ticks now self.old }
     {
-        raise_each(&mut self.seats, ticks, now, usize::from(hart.0));
+        raise_each(&mut self.seats, self.used, ticks, now, usize::from(hart.0));
         self.raised += ticks;
         self.latest = now;
     }
@@ -161,6 +165,7 @@ impl Credits {
         ensures { self.new ≡ other.now }
     {
         self.seats.copy_from_slice(&other.seats);
+        self.used = other.used;
         self.latest = other.latest;
         self.raised = other.raised;
     }

@@ -1,5 +1,5 @@
 ghost use Rattle.std.specs.Prelude.{◌≡◌, ◌≤◌, ◌<◌, ℕ, length, slice_index_or, All};
-ghost use Rattle.delay_credits.specs.Seats.{settled, since_of, Fits, IsRaised};
+ghost use Rattle.delay_credits.specs.Seats.{settled, since_of, AreIdleFrom, Fits, IsRaised};
 
 use coz_types::{Account, Tick};
 
@@ -68,14 +68,17 @@ pub(crate) fn raise_seat(seat: Seat, ticks: Tick, now: Tick, raiser: usize, plac
     }
 }
 
-/// Raises the delay for each hart that runs.
-pub(crate) fn raise_each(seats: &mut [Seat], ticks: Tick, now: Tick, raiser: usize)
+/// Raises the delay for each hart that runs: those are among the first `used`.
+pub(crate) fn raise_each(seats: &mut [Seat], used: usize, ticks: Tick, now: Tick, raiser: usize)
+    requires within { used ≤ length seats.old }
+    requires idle { AreIdleFrom used seats.old }
     requires past { All (λ seat. since_of seat ≤ now) seats.old }
     requires fits { All (Fits ticks) seats.old }
-    ensures { (place : ℕ) → place < length seats.old → (d : Seat) →
+    ensures raised { (place : ℕ) → place < length seats.old → (d : Seat) →
         IsRaised ticks now raiser place (slice_index_or seats.old place d) (slice_index_or seats.new place d) }
+    ensures idle { AreIdleFrom used seats.new }
 {
-    for place in 0..seats.len() {
+    for place in 0..used {
         seats[place] = raise_seat(seats[place], ticks, now, raiser, place);
     }
 }
