@@ -1,1 +1,3 @@
 mod Worked
+pub mod Played
+pub mod Winning

@@ -1,2 +1,2 @@
 pub mod Keys
-pub mod Scan
+pub mod Tournament

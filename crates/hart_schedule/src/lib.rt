@@ -3,11 +3,12 @@
 
 #[cfg(test)]
 mod tests;
+mod tournament;
 
-ghost use Rattle.std.specs.Prelude.{◌≡◌, ◌<◌, ◌≤◌, ◌+◌, length, replicate, IfOk, MatchOption};
+ghost use Rattle.std.specs.Prelude.{◌≡◌, ◌<◌, ◌≤◌, length, replicate, IfOk, MatchOption};
 ghost use Rattle.hart_schedule.specs.Keys.{key_of, with_key, without_key, IsEmpty, IsLeast};
-ghost use Rattle.hart_schedule.specs.Scan.{IsLeastBelow};
 
+use crate::tournament::{Contender, PLACES, replay};
 use coz_types::{HartId, Tick};
 use std::alloc::{AllocError, Global};
 use std::marker::Model;
@@ -15,57 +16,27 @@ use std::marker::Model;
 /// Harts of a number given at making, each with a key or not in it.
 ///
 /// Contracts see the list of the keys by the numbers of the harts. Beside its making no call takes memory.
+/// `key` and `least` read one place; `put` and `take` change one, and a leaf of a tournament with the eight places above it.
 #[derive(Drop)]
 pub struct Schedule {
     keys: Vec<Option<Tick>>,
-    // No place from here on was ever used, so a scan ends here.
-    used: usize,
+    // The tournament of the harts that are in it: place 1 has the winner, and place 256 + h the contender h.
+    winners: Vec<Option<Contender>>,
 }
 
 impl Model for Schedule {
     ghost use Rattle.std.specs.Prelude.{◌≤◌, List, ℕ, length, Option};
-    ghost use Rattle.hart_schedule.specs.Scan.{AreEmptyFrom};
+    ghost use Rattle.hart_schedule.specs.Tournament.{IsTournament};
 
     ghost Value = { List (Option ℕ) };
 
     ghost view = { λ s. s.keys.items };
 
-    ghost invariant = { λ s. (length s.keys.items ≤ 256) × (s.used ≤ length s.keys.items) × AreEmptyFrom s.used s.keys.items };
-}
-
-/// A place and its key, the earlier one: the one that was found below `place`, or `place`.
-fn earlier(
-    keys: &[Option<Tick>],
-    place: usize,
-    found: Option<(usize, Tick)>,
-) -> Option<(usize, Tick)>
-    requires within { place < length keys.now }
-    requires found { IsLeastBelow keys.now place found }
-    ensures { IsLeastBelow keys.now (place + 1) result }
-{
-    let Some(key) = keys[place] else {
-        return found;
-    };
-    match found {
-        Some(first) if first.1 <= key => found,
-        _ => Some((place, key)),
-    }
-}
-
-/// Of the first `count` places, the first one that has the least key, with that key.
-fn least_place(keys: &[Option<Tick>], count: usize) -> Option<(usize, Tick)>
-    requires { count ≤ length keys.now }
-    ensures { IsLeastBelow keys.now count result }
-{
-    let mut found = None;
-    for place in 0..count {
-        found = earlier(keys, place, found);
-    }
-    found
+    ghost invariant = { λ s. (length s.keys.items ≤ 256) × IsTournament s.keys.items s.winners.items };
 }
 
 impl Schedule {
-    /// An empty schedule of 1 to 256 harts. Fails exactly where there is no memory for their keys.
+    /// An empty schedule of 1 to 256 harts. Fails exactly where there is no memory for their keys and the tournament.
     pub fn new(alloc: Global, harts: u32) -> Result<Schedule, AllocError>
         requires some { 1 ≤ harts }
         requires few { harts ≤ 256 }
@@ -73,7 +44,7 @@ impl Schedule {
     {
         Ok(Schedule {
             keys: vec![in alloc; None; harts as usize]?,
-            used: 0,
+            winners: vec![in alloc; None; PLACES]?,
         })
     }
 
@@ -83,17 +54,16 @@ impl Schedule {
         requires absent { key_of self.old hart.0 ≡ None }
         ensures { self.new ≡ with_key hart.0 key self.old }
     {
-        let place = usize::from(hart.0);
-        self.keys[place] = Some(key);
-        self.used = self.used.max(place + 1);
+        self.keys[usize::from(hart.0)] = Some(key);
+        replay(&mut self.winners, hart, Some(Contender { key, hart }));
     }
 
     /// The hart with the least key, among equal keys the least-numbered one; None exactly where the schedule is empty.
     pub fn least(&self) -> Option<HartId>
         ensures { MatchOption result (IsEmpty self.now) (λ hart. IsLeast self.now hart.0) }
     {
-        let (place, _) = least_place(&self.keys, self.used)?;
-        Some(HartId(place as u16))
+        let first = self.winners[1]?;
+        Some(first.hart)
     }
 
     /// Takes a hart out, and gives its key; None exactly where it isn't in the schedule.
@@ -101,10 +71,10 @@ impl Schedule {
         ensures key { result ≡ key_of self.old hart.0 }
         ensures rest { self.new ≡ without_key hart.0 self.old }
     {
-        let place = usize::from(hart.0);
         let key = self.key(hart);
         if key.is_some() {
-            self.keys[place] = None;
+            self.keys[usize::from(hart.0)] = None;
+            replay(&mut self.winners, hart, None);
         }
         key
     }
@@ -127,6 +97,6 @@ impl Schedule {
         ensures { self.new ≡ other.now }
     {
         self.keys.copy_from_slice(&other.keys);
-        self.used = other.used;
+        self.winners.copy_from_slice(&other.winners);
     }
 }

@@ -25,3 +25,18 @@ fn the_least_is_by_key_and_then_by_number(rt: HostRuntime) -> Result<(), Fail> {
     assert_eq!(rt; first.take(HartId(2)), Some(90));
     Ok(())
 }
+
+#[test]
+fn falling_keys_are_taken_from_the_last_hart(rt: HostRuntime) -> Result<(), Fail> {
+    let mut schedule = Schedule::new(rt.alloc(), 256)?;
+    for hart in 0u16..256 {
+        schedule.put(HartId(hart), Tick::from(1000 - hart));
+    }
+    for taken in 0u16..256 {
+        let hart = HartId(255 - taken);
+        assert_eq!(rt; schedule.least(), Some(hart));
+        assert_eq!(rt; schedule.take(hart), Some(Tick::from(745 + taken)));
+    }
+    assert_eq!(rt; schedule.least(), None);
+    Ok(())
+}
