@@ -1,3 +1,4 @@
 mod Worked
 pub mod Played
 pub mod Winning
+pub mod Late

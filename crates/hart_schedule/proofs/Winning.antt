@@ -50,7 +50,7 @@ from_leaf hart (Some key) c e =
     (ap (λ (x : Contender). x.hart.0) is, ap (λ (x : Contender). Some x.key) is)
 
 -- a winner anywhere is in the schedule by its key
-in_schedule : (keys : Keys) (places : Places) → IsTournament keys places → (c : Contender) (n p : ℕ) → 512 ≤ p + n → 1 ≤ p → p < 512 → at places p ≡ Some c → key_of keys c.hart.0 ≡ Some c.key
+pub in_schedule : (keys : Keys) (places : Places) → IsTournament keys places → (c : Contender) (n p : ℕ) → 512 ≤ p + n → 1 ≤ p → p < 512 → at places p ≡ Some c → key_of keys c.hart.0 ≡ Some c.key
 in_schedule keys places all c zero p few low high is = absurd (omega arith)
 in_schedule keys places all c (suc n) p few low high is =
     ⊎_elim

@@ -1,2 +1,4 @@
 pub mod Keys
 pub mod Tournament
+pub mod Scan
+pub mod Late

@@ -1,6 +1,7 @@
 //! The schedule: which hart is due first.
 #![tactic(auto)]
 
+mod scan;
 #[cfg(test)]
 mod tests;
 mod tournament;
@@ -8,31 +9,37 @@ mod tournament;
 ghost use Rattle.std.specs.Prelude.{◌≡◌, ◌<◌, ◌≤◌, length, replicate, IfOk, MatchOption};
 ghost use Rattle.hart_schedule.specs.Keys.{key_of, with_key, without_key, IsEmpty, IsLeast};
 
+use crate::scan::{earlier, least_place};
 use crate::tournament::{Contender, PLACES, replay};
 use coz_types::{HartId, Tick};
 use std::alloc::{AllocError, Global};
 use std::marker::Model;
 
+/// So many first harts are looked at one by one, as most programs have no more.
+const FIRST: usize = 8;
+
 /// Harts of a number given at making, each with a key or not in it.
 ///
 /// Contracts see the list of the keys by the numbers of the harts. Beside its making no call takes memory.
-/// `key` and `least` read one place; `put` and `take` change one, and a leaf of a tournament with the eight places above it.
+/// `key` reads one place, and `least` the first eight keys and one place of a tournament. `put` and `take` change one key and,
+/// of a later hart, a leaf of the tournament with the eight places above it.
 #[derive(Drop)]
 pub struct Schedule {
     keys: Vec<Option<Tick>>,
-    // The tournament of the harts that are in it: place 1 has the winner, and place 256 + h the contender h.
+    // The tournament of the later harts: place 1 has the winner, and place 256 + h the contender h.
     winners: Vec<Option<Contender>>,
 }
 
 impl Model for Schedule {
     ghost use Rattle.std.specs.Prelude.{◌≤◌, List, ℕ, length, Option};
     ghost use Rattle.hart_schedule.specs.Tournament.{IsTournament};
+    ghost use Rattle.hart_schedule.specs.Late.{late};
 
     ghost Value = { List (Option ℕ) };
 
     ghost view = { λ s. s.keys.items };
 
-    ghost invariant = { λ s. (length s.keys.items ≤ 256) × IsTournament s.keys.items s.winners.items };
+    ghost invariant = { λ s. (length s.keys.items ≤ 256) × IsTournament (late s.keys.items) s.winners.items };
 }
 
 impl Schedule {
@@ -54,16 +61,19 @@ impl Schedule {
         requires absent { key_of self.old hart.0 ≡ None }
         ensures { self.new ≡ with_key hart.0 key self.old }
     {
-        self.keys[usize::from(hart.0)] = Some(key);
-        replay(&mut self.winners, hart, Some(Contender { key, hart }));
+        let place = usize::from(hart.0);
+        self.keys[place] = Some(key);
+        if place >= FIRST {
+            replay(&mut self.winners, hart, Some(Contender { key, hart }));
+        }
     }
 
     /// The hart with the least key, among equal keys the least-numbered one; None exactly where the schedule is empty.
     pub fn least(&self) -> Option<HartId>
         ensures { MatchOption result (IsEmpty self.now) (λ hart. IsLeast self.now hart.0) }
     {
-        let first = self.winners[1]?;
-        Some(first.hart)
+        let first = least_place(&self.keys, self.keys.len().min(FIRST));
+        earlier(first, self.winners[1])
     }
 
     /// Takes a hart out, and gives its key; None exactly where it isn't in the schedule.
@@ -73,8 +83,11 @@ impl Schedule {
     {
         let key = self.key(hart);
         if key.is_some() {
-            self.keys[usize::from(hart.0)] = None;
-            replay(&mut self.winners, hart, None);
+            let place = usize::from(hart.0);
+            self.keys[place] = None;
+            if place >= FIRST {
+                replay(&mut self.winners, hart, None);
+            }
         }
         key
     }

@@ -1,7 +1,8 @@
-use Rattle.std.proofs.Common.{◌<◌, ◌∙◌, length, None, sym, ap, drop}
+use Rattle.std.proofs.Common.{◌<◌, ◌≤◌, ◌∙◌, length, None, sym, ap, drop, arith}
 use Rattle.std.proofs.lemmas.List.{length-set}
 use Rattle.hart_schedule.specs.Tournament.{at}
-use Rattle.hart_schedule.proofs.Winning.{all_written, changed_hart, is_below}
+use Rattle.hart_schedule.proofs.Late.{changed_late}
+use Rattle.hart_schedule.proofs.Winning.{all_written, is_below}
 use Rattle.hart_schedule.proofs.Schedule.take.Goals as goal
 
 pub invariant_of-self : goal.invariant_of-self
@@ -13,5 +14,7 @@ invariant_of-self c =
     let all = c.self.invariant.1 in
     let size = c.replay.auto.places ∙ ap length c.deref_mut.ensures.value in
     let below : c.args.hart.0 < length keys = rw c.self.view_is (is_below c.args.self.now c.args.hart.0 c.key-key.result c.key-key.ensures (sym c.if-is_some.ensures)) in
-    let tournament = changed_hart keys old new c.args.hart.0 None few all below (size ∙ all.size) c.replay.ensures.leaf (λ k low differs. c.replay.ensures.others k low differs ∙ ap (λ ws. at ws k) c.deref_mut.ensures.value) c.replay.ensures.played in
-    rw (length-set keys c.from.result None, c.from.ensures, all_written c.self.inside.winners.len new (drop (length new) old) (c.replay.auto.places ∙ c.deref_mut.ensures.len)) (few, tournament)
+    let place = c.from-place.ensures in
+    let late : 8 ≤ c.args.hart.0 = omega (arith, c.if-place-ge-FIRST.true, place) in
+    let tournament = changed_late keys old new c.args.hart.0 None few all late below (size ∙ all.size) c.replay.ensures.leaf (λ k low differs. c.replay.ensures.others k low differs ∙ ap (λ ws. at ws k) c.deref_mut.ensures.value) c.replay.ensures.played in
+    rw (length-set keys c.from-place.result None, c.from-place.ensures, all_written c.self.inside.winners.len new (drop (length new) old) (c.replay.auto.places ∙ c.deref_mut.ensures.len)) (few, tournament)
