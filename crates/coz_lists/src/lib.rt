@@ -18,24 +18,28 @@ impl<T> Model for Items<T> {
 }
 
 impl<T> Items<T> {
+    /// The list of the vector's items.
     pub fn new(items: Vec<T>) -> Items<T>
         ensures { result ≡ items.items }
     {
         Items { held: items }
     }
 
+    /// The vector that holds the items.
     pub fn into_vec(self) -> Vec<T>
         ensures { result.items ≡ self }
     {
         self.held
     }
 
+    /// The items, in order.
     pub fn as_slice(&self) -> &[T]
         ensures { result.now ≡ self.now }
     {
         &self.held
     }
 
+    /// How many items there are.
     pub fn len(&self) -> usize
         ensures { result ≡ length self.now }
     {
@@ -51,15 +55,4 @@ fn items_are_shared() {
 }
 
 #[cfg(test)]
-mod tests {
-    use super::*;
-    use std::test::Fail;
-
-    #[test]
-    fn a_list_gives_its_vector_back(rt: HostRuntime) -> Result<(), Fail> {
-        let items = Items::new(vec![in rt.alloc(); 3u64, 5]?);
-        assert_eq!(rt; items.as_slice(), [3u64, 5].as_slice());
-        assert_eq!(rt; items.into_vec().as_slice(), [3u64, 5].as_slice());
-        Ok(())
-    }
-}
+mod tests;

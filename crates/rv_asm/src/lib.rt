@@ -21,24 +21,37 @@ use crate::lines::take_lines;
 use coz_lists::Items;
 use std::alloc::Global;
 
-/// What is wrong with a source.
+/// What is wrong with a source: in each line `Lines`, `Byte` and `Token` are judged first, and then what stands in it from left
+/// to right; `Missing` and `Far` come after all lines, and `Empty` last.
 #[derive(Clone, Copy, Debug, PartialEq, Eq)]
 pub enum AsmKind {
+    /// There are more than 65,536 lines.
     Lines,
+    /// A byte that may not stand in a source.
     Byte,
+    /// Bytes that form no token.
     Token,
+    /// A label that is there already.
     Twice,
+    /// A statement's first token is no instruction and no directive.
     Name,
+    /// A statement that the section doesn't take.
     Section,
+    /// A token that the statement doesn't have there, a missing or a spare one.
     Operand,
+    /// A number out of its range.
     Range,
+    /// A section would have more than 1,048,576 bytes.
     Much,
+    /// A label that is nowhere.
     Missing,
+    /// A branch or a jump that doesn't reach its label, or is an odd number of bytes away from it.
     Far,
+    /// There is no instruction.
     Empty,
 }
 
-/// A fault, and where in the source it is.
+/// A fault, and where in the source it is: its line and the column of its first byte, both counted from 1.
 #[derive(Clone, Copy, Debug, PartialEq, Eq)]
 pub struct AsmFault {
     pub kind: AsmKind,
@@ -46,22 +59,27 @@ pub struct AsmFault {
     pub column: u32,
 }
 
+/// Why a source isn't assembled.
 #[derive(Debug, Drop)]
 pub enum AsmError {
     Memory,
     Fault(AsmFault),
 }
 
-/// The words and the data that a source stands for, the line of each word, and where the program begins.
+/// What a source stands for.
 #[derive(Drop)]
 pub struct Assembled {
+    /// The bytes of the instructions, four for each.
     pub text: Items<u8>,
+    /// The bytes of the data.
     pub content: Items<u8>,
+    /// The line of each instruction, from 1.
     pub lines: Items<u32>,
+    /// The address of the first instruction that runs.
     pub entry: u64,
 }
 
-/// What a source stands for, or its first fault: lines in order, then labels that are nowhere or too far, then a source without instructions.
+/// What a source of at most 4,194,304 bytes stands for, or its first fault.
 #[tactic(auto, unfolding(crate::specs::Assembled::assembled))]
 pub fn assemble(alloc: Global, source: &[u8]) -> Result<Assembled, AsmError>
     requires { length source.now ≤ 4194304 }
@@ -86,101 +104,4 @@ pub fn assemble(alloc: Global, source: &[u8]) -> Result<Assembled, AsmError>
 }
 
 #[cfg(test)]
-mod tests {
-    use super::*;
-    use std::test::Fail;
-
-    /// The kind, line and column of a source's fault.
-    fn fault_of(alloc: Global, source: &[u8]) -> Option<(AsmKind, u32, u32)> {
-        if source.len() > 4_194_304 {
-            return None;
-        }
-        match assemble(alloc, source) {
-            Err(AsmError::Fault(fault)) => Some((fault.kind, fault.line, fault.column)),
-            _ => None,
-        }
-    }
-
-    /// The only word of a source's text.
-    fn word_of(alloc: Global, source: &[u8]) -> Option<u32> {
-        if source.len() > 4_194_304 {
-            return None;
-        }
-        match assemble(alloc, source) {
-            Ok(made) => match made.text.as_slice() {
-                [a, b, c, d] => Some(u32::from_le_bytes([*a, *b, *c, *d])),
-                _ => None,
-            },
-            _ => None,
-        }
-    }
-
-    // The places were told by an implementation that was written apart from this one.
-    #[test]
-    fn the_first_fault_is_told(rt: HostRuntime) -> Result<(), Fail> {
-        let rows: [(&[u8], AsmKind, u32, u32); 20] = [
-            (b"    addi a0, x0, 2048", AsmKind::Range, 1, 18),
-            (b"", AsmKind::Empty, 1, 1),
-            (b"addi a0 x0, 0", AsmKind::Operand, 1, 9),
-            (b"foo", AsmKind::Name, 1, 1),
-            (b"j nowhere", AsmKind::Missing, 1, 3),
-            (b".data\naddi x0, x0, 0", AsmKind::Section, 2, 1),
-            (b"nop ; x", AsmKind::Token, 1, 5),
-            (b"x: x: nop", AsmKind::Twice, 1, 4),
-            (b"nop\nnop # \x01", AsmKind::Byte, 2, 7),
-            // two on a line, and two on two lines
-            (b"x: x: foo", AsmKind::Twice, 1, 4),
-            (b"foo @", AsmKind::Token, 1, 5),
-            (b"@ \x7F", AsmKind::Byte, 1, 3),
-            (b"j nowhere\nfoo", AsmKind::Name, 2, 1),
-            (b".byte 300 x", AsmKind::Section, 1, 1),
-            (b".data\n.byte 300 x", AsmKind::Range, 2, 7),
-            (b"j a\nj b", AsmKind::Missing, 1, 3),
-            (b".data\n.zero 1048576\n.byte 1", AsmKind::Much, 3, 1),
-            (b"nop\nj t\n.data\n.zero 1044484\nt:", AsmKind::Far, 2, 3),
-            (b"beq x0, x0, t\n.data\n.byte 1\nt:", AsmKind::Far, 1, 13),
-            (b".data\n.dword t", AsmKind::Missing, 2, 8),
-        ];
-        for (source, kind, line, column) in rows {
-            assert_eq!(rt; fault_of(rt.alloc(), source), Some((kind, line, column)));
-        }
-        let lines = vec![in rt.alloc(); b'\n'; 65_537]?;
-        assert_eq!(rt;
-            fault_of(rt.alloc(), &lines),
-            Some((AsmKind::Lines, 65_537, 1))
-        );
-        assert_eq!(rt;
-            fault_of(rt.alloc(), &lines[1..]),
-            Some((AsmKind::Empty, 1, 1))
-        );
-        Ok(())
-    }
-
-    // The words are those of the GNU assembler, and a section of exactly its limit is taken.
-    #[test]
-    fn statements_have_their_words(rt: HostRuntime) -> Result<(), Fail> {
-        let rows: [(&[u8], u32); 15] = [
-            (b"add x23, x13, x21", 0x0156_8bb3),
-            (b"ld x4, 1406(x24)", 0x57ec_3203),
-            (b"sd x31, -1(x26)", 0xfffd_3fa3),
-            (b"t: beq x27, x3, t", 0x003d_8063),
-            (b"jalr x22, 0(x31)", 0x000f_8b67),
-            (b"lui x29, 1048575", 0xffff_feb7),
-            (b"auipc x4, 1", 0x0000_1217),
-            (b"lr.w x22, (x6)", 0x1003_2b2f),
-            (b"amoadd.w.aq x0, x8, (x29)", 0x048e_a02f),
-            (b"sc.d.aqrl x13, x6, (x18)", 0x1e69_36af),
-            (b"fence", 0x0ff0_000f),
-            (b"ecall", 0x0000_0073),
-            (b"li a0, -2048", 0x8000_0513),
-            (b"ret", 0x0000_8067),
-            (b"_start: nop # \" not a text", 0x0000_0013),
-        ];
-        for (source, word) in rows {
-            assert_eq!(rt; word_of(rt.alloc(), source), Some(word));
-        }
-        let full = b"nop\n.data\n.zero 1048576";
-        assert_eq!(rt; word_of(rt.alloc(), full), Some(0x0000_0013));
-        Ok(())
-    }
-}
+mod tests;

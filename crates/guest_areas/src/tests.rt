@@ -1,0 +1,149 @@
+ghost use Rattle.std.specs.Prelude.{IfOk};
+ghost use Rattle.guest_areas.specs.Space.{SharesRegions};
+
+use super::*;
+use guest_memory::Access;
+use std::test::Fail;
+
+const FILE: [u8; 4] = [0x73, 0, 0, 0];
+
+const TEXT: Address = 0x10000;
+
+const MIB: u64 = 1024 * 1024;
+
+const MAPPED: i64 = 0x21_0000_0000;
+
+#[derive(Clone, Copy, Debug)]
+enum Call {
+    Map(u64, u64),
+    Unmap(Address, u64),
+    Protect(Address, u64, u64),
+}
+
+fn program(alloc: Global) -> Result<(Areas, Memory), AllocError>
+    ensures { IfOk result (λ made. SharesRegions made.0 made.1) }
+{
+    let rights = Rights {
+        read: true,
+        write: false,
+        execute: true,
+    };
+    let area = Area {
+        start: TEXT,
+        size: 4096,
+        rights,
+        vaddr: TEXT,
+        offset: 0,
+        filled: 4,
+    };
+    let image = Image::new(&FILE, vec![in alloc; area]?, TEXT, 0x10040, 2);
+    let mut memory = Memory::new(alloc, &image, Layout::usual())?;
+    let areas = Areas::new(alloc, &mut memory, &image)?;
+    Ok((areas, memory))
+}
+
+fn answer(areas: &mut Areas, memory: &mut Memory, call: Call) -> i64
+    requires { SharesRegions areas.old memory.old }
+    ensures { SharesRegions areas.new memory.new }
+{
+    match call {
+        Call::Map(length, protection) => areas.map(memory, length, protection),
+        Call::Unmap(address, length) => areas.unmap(memory, address, length),
+        Call::Protect(address, length, protection) => {
+            areas.protect(memory, address, length, protection)
+        }
+    }
+}
+
+#[test]
+fn the_break_and_the_entry(rt: HostRuntime) -> Result<(), Fail> {
+    let (mut areas, mut memory) = program(rt.alloc())?;
+    let end = BRK_BASE + 16 * MIB;
+    for (to, wanted) in [
+        (0, BRK_BASE),
+        (BRK_BASE + 5000, BRK_BASE + 5000),
+        (BRK_BASE - 1, BRK_BASE + 5000),
+        (end + 1, BRK_BASE + 5000),
+        (end, end),
+        (BRK_BASE + 1, BRK_BASE + 1),
+    ] {
+        assert_eq!(rt; areas.brk(&mut memory, to), wanted, "to {to}");
+    }
+    assert_eq!(rt; memory.writable(BRK_BASE, 4096), true);
+    assert_eq!(rt; memory.readable(BRK_BASE + 4096, 1), false);
+    assert_eq!(rt; memory.load(BRK_BASE, 8), Ok(0));
+
+    assert_eq!(rt; areas.stack_pointer(), 0x3F_FFFF_FF50);
+    for (address, wanted) in [
+        (0x3F_FFFF_FF50, 1),
+        (0x3F_FFFF_FF58, 0x3F_FFFF_FFE0),
+        (0x3F_FFFF_FF60, 0),
+        (0x3F_FFFF_FF68, 0),
+        (0x3F_FFFF_FF70, 3),
+        (0x3F_FFFF_FF78, 0x10040),
+        (0x3F_FFFF_FF80, 4),
+        (0x3F_FFFF_FF88, 56),
+        (0x3F_FFFF_FF90, 5),
+        (0x3F_FFFF_FF98, 2),
+        (0x3F_FFFF_FFA0, 6),
+        (0x3F_FFFF_FFA8, 4096),
+        (0x3F_FFFF_FFB0, 9),
+        (0x3F_FFFF_FFB8, TEXT),
+        (0x3F_FFFF_FFC0, 25),
+        (0x3F_FFFF_FFC8, 0x3F_FFFF_FFF0),
+        (0x3F_FFFF_FFD0, 0),
+        (0x3F_FFFF_FFD8, 0),
+        (0x3F_FFFF_FFE0, 0x676F_7270),
+        (0x3F_FFFF_FFE8, 0),
+        (0x3F_FFFF_FFF0, 0),
+        (0x3F_FFFF_FFF8, 0),
+    ] {
+        assert_eq!(rt; memory.load(address, 8), Ok(wanted), "at {address}");
+    }
+    Ok(())
+}
+
+#[test]
+fn mappings_take_the_lowest_run(rt: HostRuntime) -> Result<(), Fail> {
+    let (mut areas, mut memory) = program(rt.alloc())?;
+    for (call, wanted) in [
+        (Call::Map(0, 3), -22),
+        (Call::Map(1, 4), -13),
+        (Call::Map(u64::MAX, 3), -12),
+        (Call::Map(48 * MIB + 1, 3), -12),
+        (Call::Map(4096, 3), MAPPED),
+        (Call::Map(4097, 3), MAPPED + 0x1000),
+        (Call::Unmap(MAP_BASE + 1, 4096), -22),
+        (Call::Unmap(MAP_BASE, 0), -22),
+        (Call::Unmap(MAP_BASE - 4096, 8192), -22),
+        (Call::Unmap(MAP_BASE + 48 * MIB - 4096, 4097), -22),
+        (Call::Unmap(MAP_BASE, u64::MAX), -22),
+        (Call::Unmap(MAP_BASE, 1), 0),
+        (Call::Map(8192, 1), MAPPED + 0x3000),
+        (Call::Map(1, 1), MAPPED),
+        (Call::Protect(MAP_BASE + 1, 4096, 3), -22),
+        (Call::Protect(MAP_BASE, 0, 4), 0),
+        (Call::Protect(MAP_BASE, 1, 4), -13),
+        (Call::Protect(MAP_BASE, 0x6000, 3), -12),
+        (Call::Protect(MAP_BASE, u64::MAX, 3), -12),
+        (Call::Protect(MAP_BASE + 0x1000, 4096, 1), 0),
+        (Call::Protect(TEXT, 4096, 2), 0),
+    ] {
+        let got = answer(&mut areas, &mut memory, call);
+        assert_eq!(rt; got, wanted, "{call:?}");
+    }
+    for (address, readable, writable) in [
+        (MAP_BASE, true, false),
+        (MAP_BASE + 0x1000, true, false),
+        (MAP_BASE + 0x2000, true, true),
+        (MAP_BASE + 0x4000, true, false),
+        (MAP_BASE + 0x5000, false, false),
+        (TEXT, true, true),
+    ] {
+        assert_eq!(rt; memory.readable(address, 4096), readable, "at {address}");
+        assert_eq!(rt; memory.writable(address, 4096), writable, "at {address}");
+    }
+    assert_eq!(rt; memory.fetch(TEXT), Err(Access));
+    assert_eq!(rt; memory.load(TEXT, 4), Ok(0x73));
+    Ok(())
+}
