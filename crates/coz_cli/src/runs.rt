@@ -5,7 +5,7 @@ ghost use Rattle.delay_credits.specs.Delays.{account_as};
 ghost use Rattle.line_index.specs.Index.{position_at};
 ghost use Rattle.progress_points.specs.Points.{point_of};
 ghost use Rattle.virtual_run.specs.Run.{IsChoice, experiment};
-ghost use Rattle.virtual_run.specs.DelayedRun.{experiment_of};
+ghost use Rattle.virtual_run.specs.Seen.{experiment_of};
 ghost use Rattle.guest_calls.specs.Guest.{Guest};
 ghost use Rattle.machines.specs.Delayed.{Hart};
 ghost use Rattle.machines.specs.Records.{record_of, shortened_record};

@@ -14,8 +14,9 @@ use Rattle.virtual_run.specs.declared.choice.Choice.{Choice}
 use Rattle.virtual_run.specs.declared.choice.Setting.{Setting}
 use Rattle.virtual_run.specs.declared.run.Run.{Run}
 use Rattle.virtual_run.specs.Visits.{visits_of}
+use Rattle.virtual_run.specs.Seen.{Seen, experiment_with}
 use Rattle.virtual_run.proofs.Law.{recorded_now, last_now, shortened_is}
-use Rattle.shortened_run.specs.Seen.{Seen, experiment_with, AreUndelayed, IsShort}
+use Rattle.shortened_run.specs.ShortenedRun.{AreUndelayed, IsShort}
 
 pub none_undelayed : AreUndelayed []
 none_undelayed = All-nil (λ visit. visit.delay ≡ 0)
@@ -49,7 +50,7 @@ module _ (image : ImageParts) (input : List ℕ) (setting : Setting) (run : Run)
       (shortened_is image (position_at setting.index.now) (point_of setting.points.now) input setting.choice short.valid)
 
 -- what is seen of a run with these parts
-abbrev pub seen : ImageParts → Index → Points → List ℕ → Choice → Shortened Guest → Seen
+abbrev pub seen : ImageParts → Index → Points → List ℕ → Choice → Shortened Guest → Seen (Shortened Guest)
 seen image index points input choice state = record { image = image; index = index; points = points; input = input; choice = choice; state = state }
 
 pub same_seen : (image old_image : ImageParts) (index old_index : Index) (points old_points : Points) (input old_input : List ℕ) (choice old_choice : Choice) (state : Shortened Guest)

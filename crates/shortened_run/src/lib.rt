@@ -3,7 +3,8 @@
 
 ghost use Rattle.std.specs.Prelude.{◌≡◌, Some, IfOk, map};
 ghost use Rattle.virtual_run.specs.Visits.{net_of};
-ghost use Rattle.shortened_run.specs.Seen.{experiment_of, AreUndelayed};
+ghost use Rattle.virtual_run.specs.Seen.{experiment_of};
+ghost use Rattle.shortened_run.specs.ShortenedRun.{AreUndelayed};
 
 use coz_types::{Ending, Image, Tick, Visit};
 use line_index::LineIndex;
@@ -23,10 +24,12 @@ pub struct Short<'a> {
 }
 
 impl<'a> Model for Short<'a> {
-    ghost use Rattle.machines.specs.Shortened.{shortened};
-    ghost use Rattle.shortened_run.specs.Seen.{Seen, experiment_with, IsShort};
+    ghost use Rattle.machines.specs.Shortened.{Shortened, shortened};
+    ghost use Rattle.guest_calls.specs.Guest.{Guest};
+    ghost use Rattle.virtual_run.specs.Seen.{Seen, experiment_with};
+    ghost use Rattle.shortened_run.specs.ShortenedRun.{IsShort};
 
-    ghost Value = { Seen };
+    ghost Value = { Seen (Shortened Guest) };
 
     ghost view = { λ short. record {
       image = short.image.now;

@@ -39,7 +39,8 @@ use Rattle.virtual_run.specs.Ending.{ending_of, runs_after}
 use Rattle.virtual_run.specs.Visits.{Visits, visits_of}
 use Rattle.virtual_run.specs.Run.{selected_of, state_of, AreWithin, IsChoice, IsReached, IsStateOf, IsSteady, IsFirst}
 use Rattle.virtual_run.specs.Credited.{raise_ticks, with_credits, with_starts, with_raises, with_begun, settled_by, Holds, CanBegin}
-use Rattle.virtual_run.specs.DelayedRun.{Seen, experiment_with, experiment_of, visit_as, net_due_of, account_in, outcome_of, IsPaced}
+use Rattle.virtual_run.specs.Seen.{Seen, experiment_with, experiment_of}
+use Rattle.virtual_run.specs.DelayedRun.{visit_as, net_due_of, account_in, outcome_of, IsPaced}
 use Rattle.virtual_run.proofs.Keys.{has_place, next_is}
 use Rattle.virtual_run.proofs.Many.{many_few}
 use Rattle.virtual_run.proofs.Begin.{cycles_few}
@@ -404,7 +405,7 @@ module _ (image : ImageParts) (input : List ℕ) (setting : Setting) (run : Run)
   outcome_none is = rw (ending_now image input setting run credits now p, is) refl
 
 -- what contracts see of the fields
-abbrev pub seen_of : ImageParts → List ℕ → Setting → Run → Seen
+abbrev pub seen_of : ImageParts → List ℕ → Setting → Run → Seen (Delayed Guest)
 seen_of image input setting run = record {
   image = image;
   index = setting.index.now;
@@ -423,32 +424,32 @@ some_none o some none = let no : false ≡ true = sym (ap is_some none) ∙ some
 
 module _ (image : ImageParts) (input : List ℕ) (setting : Setting) (run : Run) (credits : Delays) (now : ℕ) (p : IsPaced image input setting run credits now) where
   -- a run that has ended
-  pub not_over : (v : Seen) → seen_of image input setting run ≡ v → is_some run.ending ≡ true → v.state.ending ≡ None → ⊥
-  not_over v view some none = some_none run.ending some (sym (ending_now image input setting run credits now p) ∙ ap (λ (v : Seen). v.state.ending) view ∙ none)
+  pub not_over : (v : Seen (Delayed Guest)) → seen_of image input setting run ≡ v → is_some run.ending ≡ true → v.state.ending ≡ None → ⊥
+  not_over v view some none = some_none run.ending some (sym (ending_now image input setting run credits now p) ∙ ap (λ (v : Seen (Delayed Guest)). v.state.ending) view ∙ none)
 
   -- one that goes on
-  pub not_ended : (v : Seen) → seen_of image input setting run ≡ v → run.ending ≡ None → IsSome v.state.ending → ⊥
-  not_ended v view none some = let no : false ≡ true = sym (ap is_some (sym (ap (λ (v : Seen). v.state.ending) view) ∙ ending_now image input setting run credits now p ∙ none)) ∙ some in cc
+  pub not_ended : (v : Seen (Delayed Guest)) → seen_of image input setting run ≡ v → run.ending ≡ None → IsSome v.state.ending → ⊥
+  not_ended v view none some = let no : false ≡ true = sym (ap is_some (sym (ap (λ (v : Seen (Delayed Guest)). v.state.ending) view) ∙ ending_now image input setting run credits now p ∙ none)) ∙ some in cc
 
   -- beside the shortened machine
-  pub agrees_seen : (v : Seen) → seen_of image input setting run ≡ v → Agrees v.state (shortened (experiment_of v) v.state.retired)
+  pub agrees_seen : (v : Seen (Delayed Guest)) → seen_of image input setting run ≡ v → Agrees v.state (shortened (experiment_of v) v.state.retired)
   agrees_seen v view =
-      subst (λ (v : Seen). Agrees v.state (shortened (experiment_of v) v.state.retired)) view
+      subst (λ (v : Seen (Delayed Guest)). Agrees v.state (shortened (experiment_of v) v.state.retired)) view
       (subst (λ (n : ℕ). Agrees (standing (experiment_with image input setting) run.retired) (shortened (experiment_with image input setting) n)) (sym (retired_now image input setting run credits now p)) (agree image input setting run credits now p))
 
-  pub next_seen : (v : Seen) (n : ℕ) → seen_of image input setting run ≡ v → n ≡ run.retired + 1 → standing (experiment_with image input setting) n ≡ standing (experiment_of v) (v.state.retired + 1)
+  pub next_seen : (v : Seen (Delayed Guest)) (n : ℕ) → seen_of image input setting run ≡ v → n ≡ run.retired + 1 → standing (experiment_with image input setting) n ≡ standing (experiment_of v) (v.state.retired + 1)
   next_seen v n view is =
-      subst (λ (v : Seen). standing (experiment_with image input setting) n ≡ standing (experiment_of v) (v.state.retired + 1)) view
+      subst (λ (v : Seen (Delayed Guest)). standing (experiment_with image input setting) n ≡ standing (experiment_of v) (v.state.retired + 1)) view
       (ap (standing (experiment_with image input setting)) (is ∙ ap (λ (m : ℕ). m + 1) (sym (retired_now image input setting run credits now p))))
 
-  pub steps_seen : (v : Seen) (d : Delayed Guest) → seen_of image input setting run ≡ v → Steps (experiment_with image input setting) (standing (experiment_with image input setting) run.retired) d → Steps (experiment_of v) v.state d
-  steps_seen v d view steps = subst (λ (v : Seen). Steps (experiment_of v) v.state d) view steps
+  pub steps_seen : (v : Seen (Delayed Guest)) (d : Delayed Guest) → seen_of image input setting run ≡ v → Steps (experiment_with image input setting) (standing (experiment_with image input setting) run.retired) d → Steps (experiment_of v) v.state d
+  steps_seen v d view steps = subst (λ (v : Seen (Delayed Guest)). Steps (experiment_of v) v.state d) view steps
 
   -- another state of the same run beside the shortened machine
-  pub agrees_after : (v : Seen) (n : ℕ) → seen_of image input setting run ≡ v → (standing (experiment_with image input setting) n).retired ≡ n
+  pub agrees_after : (v : Seen (Delayed Guest)) (n : ℕ) → seen_of image input setting run ≡ v → (standing (experiment_with image input setting) n).retired ≡ n
       → Agrees (standing (experiment_with image input setting) n) (shortened (experiment_of v) (standing (experiment_with image input setting) n).retired)
   agrees_after v n view count =
-      subst (λ (v : Seen). Agrees (standing (experiment_with image input setting) n) (shortened (experiment_of v) (standing (experiment_with image input setting) n).retired)) view
+      subst (λ (v : Seen (Delayed Guest)). Agrees (standing (experiment_with image input setting) n) (shortened (experiment_of v) (standing (experiment_with image input setting) n).retired)) view
       (subst (λ (m : ℕ). Agrees (standing (experiment_with image input setting) n) (shortened (experiment_with image input setting) m)) (sym count) (agrees (experiment_with image input setting) IsOrderly (lawful_with image input setting p.valid) n))
 
 one_bit : (b : Bool) → (if b then true else false) ≡ true → b ≡ true
@@ -463,20 +464,20 @@ module _ (image : ImageParts) (input : List ℕ) (setting : Setting) (run : Run)
   abbrev paced_x : Experiment Guest
   paced_x = experiment_with image input setting
 
-  pub stands_seen : (v : Seen) → seen_of image input setting run ≡ v → v.state ≡ standing (experiment_of v) run.retired
-  stands_seen v view = subst (λ (v : Seen). v.state ≡ standing (experiment_of v) run.retired) view refl
+  pub stands_seen : (v : Seen (Delayed Guest)) → seen_of image input setting run ≡ v → v.state ≡ standing (experiment_of v) run.retired
+  stands_seen v view = subst (λ (v : Seen (Delayed Guest)). v.state ≡ standing (experiment_of v) run.retired) view refl
 
-  pub agrees_so_far : (v : Seen) → seen_of image input setting run ≡ v → Agrees v.state (shortened (experiment_of v) run.retired)
-  agrees_so_far v view = subst (λ (v : Seen). Agrees v.state (shortened (experiment_of v) run.retired)) view (agree image input setting run credits now p)
+  pub agrees_so_far : (v : Seen (Delayed Guest)) → seen_of image input setting run ≡ v → Agrees v.state (shortened (experiment_of v) run.retired)
+  agrees_so_far v view = subst (λ (v : Seen (Delayed Guest)). Agrees v.state (shortened (experiment_of v) run.retired)) view (agree image input setting run credits now p)
 
   -- a hart is due as in the shortened machine
-  pub due_seen : (v : Seen) (h : ℕ) → seen_of image input setting run ≡ v → key_of run.schedule h ≡ key_of (shortened (experiment_of v) v.state.retired).dues h
+  pub due_seen : (v : Seen (Delayed Guest)) (h : ℕ) → seen_of image input setting run ≡ v → key_of run.schedule h ≡ key_of (shortened (experiment_of v) v.state.retired).dues h
   due_seen v h view =
-      subst (λ (v : Seen). key_of run.schedule h ≡ key_of (shortened (experiment_of v) v.state.retired).dues h) view
+      subst (λ (v : Seen (Delayed Guest)). key_of run.schedule h ≡ key_of (shortened (experiment_of v) v.state.retired).dues h) view
       (p.reached.reached.dues h ∙ ap (λ (n : ℕ). key_of (shortened paced_x n).dues h) (sym (retired_now image input setting run credits now p)))
 
-  pub none_seen : (v : Seen) → seen_of image input setting run ≡ v → run.ending ≡ None → v.state.ending ≡ None
-  none_seen v view none = sym (ap (λ (v : Seen). v.state.ending) view) ∙ ending_now image input setting run credits now p ∙ none
+  pub none_seen : (v : Seen (Delayed Guest)) → seen_of image input setting run ≡ v → run.ending ≡ None → v.state.ending ≡ None
+  none_seen v view none = sym (ap (λ (v : Seen (Delayed Guest)). v.state.ending) view) ∙ ending_now image input setting run credits now p ∙ none
 
   -- an ended run isn't before its delay
   pub delay_in_time : (e : Ending) → run.ending ≡ Some e → credits.raised ≤ now
@@ -561,16 +562,16 @@ module _ (image : ImageParts) (input : List ℕ) (setting : Setting) (run : Run)
       }
 
 -- a run between two steps: only its state changes, and it stands after as many retirements as it counts
-pub record IsGoing (old new : Seen) : Type 0 where
+pub record IsGoing (old new : Seen (Delayed Guest)) : Type 0 where
   pub valid : IsChoice old.choice
   pub rest : new ≡ record old { state = new.state }
   pub stands : new.state ≡ standing (experiment_of old) new.state.retired
   pub within : new.state.retired ≤ old.choice.budget
 
-pub going_first : (image : ImageParts) (input : List ℕ) (setting : Setting) (run : Run) (credits : Delays) (now : ℕ) → IsPaced image input setting run credits now → (v : Seen) → seen_of image input setting run ≡ v → IsGoing v v
+pub going_first : (image : ImageParts) (input : List ℕ) (setting : Setting) (run : Run) (credits : Delays) (now : ℕ) → IsPaced image input setting run credits now → (v : Seen (Delayed Guest)) → seen_of image input setting run ≡ v → IsGoing v v
 going_first image input setting run credits now p v view =
     let count : (standing (experiment_with image input setting) run.retired).retired ≡ run.retired = retired_now image input setting run credits now p in
-    subst (λ (v : Seen). IsGoing v v) view
+    subst (λ (v : Seen (Delayed Guest)). IsGoing v v) view
     (record {
       valid = p.valid;
       rest = refl;
@@ -578,13 +579,13 @@ going_first image input setting run credits now p v view =
       within = rw count p.reached.retired;
     })
 
-lawful_of : (v : Seen) → IsChoice v.choice → IsLawful (experiment_of v) IsOrderly
+lawful_of : (v : Seen (Delayed Guest)) → IsChoice v.choice → IsLawful (experiment_of v) IsOrderly
 lawful_of v valid = lawful_run v.image (position_at v.index) (point_of v.points) v.input v.choice valid.speedup
 
 budget_left : (n retired budget : ℕ) → retired ≡ n → (retired ≡ 0) ⊎ (retired < budget) → 1 ≤ budget → n < budget
 budget_left n retired budget count within some = omega arith
 
-module _ (old now : Seen) (g : IsGoing old now) where
+module _ (old now : Seen (Delayed Guest)) (g : IsGoing old now) where
   -- a run that goes on has budget left
   pub left_over : now.state.ending ≡ None → now.state.retired < old.choice.budget
   left_over none =
@@ -598,7 +599,7 @@ module _ (old now : Seen) (g : IsGoing old now) where
   same_run : experiment_of now ≡ experiment_of old
   same_run = ap experiment_of g.rest
 
-  pub going_next : (new : Seen) → now.state.ending ≡ None → (now.state.ending ≡ None → new.state ≡ standing (experiment_of now) (now.state.retired + 1)) → (now.state.ending ≡ None → Steps (experiment_of now) now.state new.state)
+  pub going_next : (new : Seen (Delayed Guest)) → now.state.ending ≡ None → (now.state.ending ≡ None → new.state ≡ standing (experiment_of now) (now.state.retired + 1)) → (now.state.ending ≡ None → Steps (experiment_of now) now.state new.state)
       → new ≡ record now { state = new.state } → IsGoing old new
   going_next new none next steps rest =
       let x : Experiment Guest = experiment_of old in
@@ -606,12 +607,12 @@ module _ (old now : Seen) (g : IsGoing old now) where
       let left : now.state.retired < old.choice.budget = left_over none in
       record {
         valid = g.valid;
-        rest = rest ∙ ap (λ (v : Seen). record v { state = new.state }) g.rest;
+        rest = rest ∙ ap (λ (v : Seen (Delayed Guest)). record v { state = new.state }) g.rest;
         stands = next none ∙ ap (λ (y : Experiment Guest). standing y (now.state.retired + 1)) same_run ∙ ap (standing x) (sym count);
         within = omega arith;
       }
 
-  pub going_smaller : (new : Seen) → now.state.ending ≡ None → (now.state.ending ≡ None → Steps (experiment_of now) now.state new.state) → old.choice.budget - new.state.retired < old.choice.budget - now.state.retired
+  pub going_smaller : (new : Seen (Delayed Guest)) → now.state.ending ≡ None → (now.state.ending ≡ None → Steps (experiment_of now) now.state new.state) → old.choice.budget - new.state.retired < old.choice.budget - now.state.retired
   going_smaller new none steps =
       let count : new.state.retired ≡ now.state.retired + 1 = (steps none).retires in
       let left : now.state.retired < old.choice.budget = left_over none in

@@ -1,23 +1,30 @@
 -- Runs of small programs, computed on the definitions of both machines.
-use Rattle.std.proofs.Common.{◌≡◌, ℕ, ◌*◌, ◌==◌, if◌then◌else◌, List, [], ◌∷◌, ◌++◌, length, Option, Some, None, refl, true, false}
+use Rattle.std.proofs.Common.{◌≡◌, ℕ, ◌*◌, ◌≤◌, ◌==◌, if◌then◌else◌, List, [], ◌∷◌, ◌++◌, length, Option, Some, None, refl, true, false, lit≤}
+use Rattle.std.specs.Prelude.{⊤}
 use Rattle.std.specs.List.{flat_map}
 use Rattle.std.specs.Int.{w32, to_le_bytes}
 use Rattle.coz_types.specs.declared.ending.Ending.TheVariants.{Exited, Unsupported, Trapped, VisitsFull, Spent, Stalled}
 use Rattle.coz_types.specs.declared.ending.TrapCause.TheVariants.{Misaligned}
 use Rattle.coz_types.specs.declared.image.Area.{Area}
 use Rattle.coz_types.specs.Image.{ImageParts}
-use Rattle.machines.specs.Guest.{Experiment, cost, cut, ending_after}
+use Rattle.machines.specs.Places.{first_place}
+use Rattle.machines.specs.Guest.{Experiment, IsLawful, cost, cut, ending_after}
 use Rattle.machines.specs.Shortened as short
 use Rattle.machines.specs.Delayed as long
-use Rattle.machines.specs.Records.{NetRecord, Record, net_outcome, outcome}
+use Rattle.machines.specs.Steps.{jump}
+use Rattle.machines.specs.Standing.{delayed_record}
+use Rattle.machines.specs.Records.{NetRecord, Record, net, net_outcome, outcome, shortened_record}
 use Rattle.rv_execute.specs.Execution.{execute}
 use Rattle.guest_areas.specs.Entry.{with_numbers, with_entry}
 use Rattle.guest_memory.specs.Regions.{usual}
 use Rattle.guest_calls.specs.Guest.{Guest, first_guest}
 use Rattle.guest_calls.specs.Calls.{call_of, exit, exit_group, futex, wait, wake, clone, sched_yield}
+use Rattle.guest_calls.specs.Orderly.{IsOrderly}
 use Rattle.guest_calls.specs.Retire.{next_of, step, retire}
 use Rattle.virtual_run.specs.declared.choice.Choice.{Choice}
 use Rattle.virtual_run.specs.Run.{experiment}
+use Rattle.virtual_run.proofs.Law.{lawful_run}
+use Rattle.virtual_run.proofs.Jumps.{computed, computed_is}
 
 bytes_of : List ℕ → List ℕ
 bytes_of words = flat_map (to_le_bytes w32) words
@@ -116,53 +123,276 @@ waits =
     ∷ 0x00100613 ∷ 0x06200893 ∷ 0x00000073 ∷ 0x05D00893 ∷ 0x00000073 ∷ [])
     (0 ∷ [])
 
+-- what a proof unfolds to compute a run
+unfoldable runs_on_literals : ⊤
+unfolding bytes_of text_area data_area program program_with plain trial shortened_end delayed_end only_at second second_end
+    shortened_record short.shortened short.move short.move_by short.unbegun short.begin short.retire short.leave short.retirement short.ending
+    long.delayed long.after long.move long.move_by long.unbegun long.begin long.raise long.retire long.leave long.give_credit long.retirement long.ending long.tick jump
+    cost cut ending_after first_guest with_numbers with_entry next_of retire step call_of execute clone futex wait wake exit exit_group sched_yield
+runs_on_literals = tt
+
 one_shortened : shortened_end one 100 3 ≡ Some (record { ending = Exited 0; time = 4200; retired = 3; starts = 0; output = []; visits = [] })
-unfolding shortened_end trial plain one bytes_of text_area program short.shortened short.move short.move_by short.unbegun short.begin short.retire short.leave short.retirement short.ending cost cut ending_after first_guest with_numbers with_entry next_of retire step call_of execute exit
+unfolding runs_on_literals one
 one_shortened = refl
 
 other_shortened : shortened_end other 100 3 ≡ Some (record { ending = Unsupported 92; time = 4200; retired = 3; starts = 0; output = []; visits = [] })
-unfolding shortened_end trial plain other bytes_of text_area program short.shortened short.move short.move_by short.unbegun short.begin short.retire short.leave short.retirement short.ending cost cut ending_after first_guest with_numbers with_entry next_of retire step call_of execute
+unfolding runs_on_literals other
 other_shortened = refl
 
 one_spent : shortened_end one 2 3 ≡ Some (record { ending = Spent; time = 200; retired = 2; starts = 0; output = []; visits = [] })
-unfolding shortened_end trial plain one bytes_of text_area program short.shortened short.move short.move_by short.unbegun short.begin short.retire short.leave short.retirement short.ending cost cut ending_after first_guest with_numbers with_entry next_of retire step call_of execute exit
+unfolding runs_on_literals one
 one_spent = refl
 
 between_shortened : shortened_end between 100 1 ≡ Some (record { ending = Trapped (record { cause = Misaligned; hart = record { 0 = 0 }; pc = 0x10000 }); time = 200; retired = 1; starts = 0; output = []; visits = [] })
-unfolding shortened_end trial plain between bytes_of text_area program short.shortened short.move short.move_by short.unbegun short.begin short.retire short.leave short.retirement short.ending cost cut ending_after first_guest with_numbers with_entry next_of retire step call_of execute
+unfolding runs_on_literals between
 between_shortened = refl
 
 stall_shortened : shortened_end stall 100 6 ≡ Some (record { ending = Stalled; time = 4500; retired = 6; starts = 0; output = []; visits = [] })
-unfolding shortened_end trial plain stall bytes_of text_area data_area program_with short.shortened short.move short.move_by short.unbegun short.begin short.retire short.leave short.retirement short.ending cost cut ending_after first_guest with_numbers with_entry next_of retire step call_of execute futex wait
+unfolding runs_on_literals stall
 stall_shortened = refl
 
 two_shortened : shortened_end two 100 13 ≡ Some (record { ending = Exited 0; time = 8700; retired = 13; starts = 0; output = []; visits = [] })
-unfolding shortened_end trial plain two bytes_of text_area program short.shortened short.move short.move_by short.unbegun short.begin short.retire short.leave short.retirement short.ending cost cut ending_after first_guest with_numbers with_entry next_of retire step call_of execute clone exit
+unfolding runs_on_literals two
 two_shortened = refl
 
 join_shortened : shortened_end join 100 20 ≡ Some (record { ending = Exited 0; time = 17000; retired = 20; starts = 0; output = []; visits = [] })
-unfolding shortened_end trial plain join bytes_of text_area data_area program_with short.shortened short.move short.move_by short.unbegun short.begin short.retire short.leave short.retirement short.ending cost cut ending_after first_guest with_numbers with_entry next_of retire step call_of execute clone futex wait exit exit_group sched_yield
+unfolding runs_on_literals join
 join_shortened = refl
 
 waits_shortened : shortened_end waits 100 57 ≡ Some (record { ending = Exited 0; time = 43300; retired = 57; starts = 0; output = []; visits = [] })
-unfolding shortened_end trial plain waits bytes_of text_area data_area program_with short.shortened short.move short.move_by short.unbegun short.begin short.retire short.leave short.retirement short.ending cost cut ending_after first_guest with_numbers with_entry next_of retire step call_of execute clone futex wait wake exit exit_group sched_yield
+unfolding runs_on_literals waits
 waits_shortened = refl
 
 -- at a speedup of 95 the second instruction costs a twentieth
 one_selected : second_end 95 10 one 3 ≡ Some (record { ending = Exited 0; time = 4105; retired = 3; starts = 1; output = []; visits = record { point = 0; hart = 0; time = 105 } ∷ [] })
-unfolding second_end second only_at one plain bytes_of text_area program short.shortened short.move short.move_by short.unbegun short.begin short.retire short.leave short.retirement short.ending cost cut ending_after first_guest with_numbers with_entry next_of retire step call_of execute exit
+unfolding runs_on_literals one
 one_selected = refl
 
 -- at a speedup of 0 a start is counted too
 one_whole : second_end 0 10 one 3 ≡ Some (record { ending = Exited 0; time = 4200; retired = 3; starts = 1; output = []; visits = record { point = 0; hart = 0; time = 200 } ∷ [] })
-unfolding second_end second only_at one plain bytes_of text_area program short.shortened short.move short.move_by short.unbegun short.begin short.retire short.leave short.retirement short.ending cost cut ending_after first_guest with_numbers with_entry next_of retire step call_of execute exit
+unfolding runs_on_literals one
 one_whole = refl
 
 one_full : second_end 95 1 one 2 ≡ Some (record { ending = VisitsFull; time = 105; retired = 2; starts = 1; output = []; visits = record { point = 0; hart = 0; time = 105 } ∷ [] })
-unfolding second_end second only_at one plain bytes_of text_area program short.shortened short.move short.move_by short.unbegun short.begin short.retire short.leave short.retirement short.ending cost cut ending_after first_guest with_numbers with_entry next_of retire step call_of execute exit
+unfolding runs_on_literals one
 one_full = refl
 
 -- tick by tick
 one_delayed : delayed_end one 100 4203 ≡ Some (record { ending = Exited 0; time = 4200; delay = 0; retired = 3; starts = 0; output = []; visits = []; accounts = record { own = 0; paused = 0; credited = 0 } ∷ [] })
-unfolding delayed_end trial plain one bytes_of text_area program long.delayed long.after long.move long.move_by long.unbegun long.begin long.raise long.retire long.leave long.give_credit long.retirement long.ending long.tick cost cut ending_after first_guest with_numbers with_entry next_of retire step call_of exit execute
+unfolding runs_on_literals one
 one_delayed = refl
+
+-- a run in which the instruction at an address has the selected line, and points have these entries
+abbrev chosen : ImageParts → ℕ → ℕ → List ℕ → Experiment Guest
+chosen image address speedup entries =
+    experiment image (only_at address) (λ a. first_place (λ entry. entry == a) entries) [] (record (plain 100) { selected = Some (record { 0 = 0 }); speedup = speedup })
+
+chosen_lawful : (image : ImageParts) (address speedup : ℕ) (entries : List ℕ) → speedup ≤ 95 → IsLawful (chosen image address speedup entries) IsOrderly
+chosen_lawful image address speedup entries few =
+    lawful_run image (only_at address) (λ a. first_place (λ entry. entry == a) entries) [] (record (plain 100) { selected = Some (record { 0 = 0 }); speedup = speedup }) few
+
+-- the delayed run leaves this record; the shortened run leaves that one, which is its net part
+record Leaves (x : Experiment Guest) (r : Record) (n : NetRecord) : Type 0 where
+  delayed : delayed_record x ≡ r
+  shortened : shortened_record x ≡ n
+  is_net : net r ≡ n
+
+-- two harts are due at the moment 4500. What the first of them starts then makes the other pause, so that their visits of one net time are 50 ticks apart.
+abbrev tie : Experiment Guest
+tie = chosen two 0x10018 50 (0x10014 ∷ [])
+
+abbrev tie_record : Record
+tie_record = record {
+  ending = Exited 0;
+  time = 8750;
+  delay = 100;
+  retired = 13;
+  starts = 2;
+  output = [];
+  visits = record { point = 0; hart = 0; time = 4500; delay = 0 }
+      ∷ record { point = 0; hart = 1; time = 4550; delay = 50 }
+      ∷ [];
+  accounts = record { own = 50; paused = 50; credited = 0 } ∷ record { own = 50; paused = 50; credited = 0 } ∷ [];
+}
+
+abbrev tie_net : NetRecord
+tie_net = record {
+  ending = Exited 0;
+  time = 8650;
+  retired = 13;
+  starts = 2;
+  output = [];
+  visits = record { point = 0; hart = 0; time = 4500 }
+      ∷ record { point = 0; hart = 1; time = 4500 }
+      ∷ [];
+}
+
+tie_computed : outcome tie (computed tie 13) ≡ Some tie_record
+unfolding runs_on_literals two
+tie_computed = refl
+
+tie_shortened : shortened_record tie ≡ tie_net
+unfolding runs_on_literals two
+tie_shortened = refl
+
+tie_leaves : Leaves tie tie_record tie_net
+unfolding runs_on_literals
+tie_leaves = record {
+  delayed = computed_is tie IsOrderly (chosen_lawful two 0x10018 50 (0x10014 ∷ []) (lit≤ tt)) 13 tie_record (lit≤ tt) tie_computed;
+  shortened = tie_shortened;
+  is_net = refl;
+}
+
+-- two harts start the selected instruction as one makes the other: each pauses for the other's start
+abbrev both : Experiment Guest
+both = chosen two 0x10014 50 (0x10018 ∷ [])
+
+abbrev both_record : Record
+both_record = record {
+  ending = Exited 0;
+  time = 8750;
+  delay = 100;
+  retired = 13;
+  starts = 2;
+  output = [];
+  visits = record { point = 0; hart = 0; time = 4650; delay = 100 }
+      ∷ record { point = 0; hart = 1; time = 4650; delay = 100 }
+      ∷ [];
+  accounts = record { own = 50; paused = 50; credited = 0 } ∷ record { own = 50; paused = 50; credited = 0 } ∷ [];
+}
+
+abbrev both_net : NetRecord
+both_net = record {
+  ending = Exited 0;
+  time = 8650;
+  retired = 13;
+  starts = 2;
+  output = [];
+  visits = record { point = 0; hart = 0; time = 4550 }
+      ∷ record { point = 0; hart = 1; time = 4550 }
+      ∷ [];
+}
+
+both_computed : outcome both (computed both 13) ≡ Some both_record
+unfolding runs_on_literals two
+both_computed = refl
+
+both_shortened : shortened_record both ≡ both_net
+unfolding runs_on_literals two
+both_shortened = refl
+
+both_leaves : Leaves both both_record both_net
+unfolding runs_on_literals
+both_leaves = record {
+  delayed = computed_is both IsOrderly (chosen_lawful two 0x10014 50 (0x10018 ∷ []) (lit≤ tt)) 13 both_record (lit≤ tt) both_computed;
+  shortened = both_shortened;
+  is_net = refl;
+}
+
+-- a hart is credited with what was raised before it was made
+abbrev made : Experiment Guest
+made = chosen two 0x1000C 50 []
+
+abbrev made_record : Record
+made_record = record {
+  ending = Exited 0;
+  time = 8700;
+  delay = 50;
+  retired = 13;
+  starts = 1;
+  output = [];
+  visits = [];
+  accounts = record { own = 50; paused = 0; credited = 0 } ∷ record { own = 0; paused = 0; credited = 50 } ∷ [];
+}
+
+abbrev made_net : NetRecord
+made_net = record {
+  ending = Exited 0;
+  time = 8650;
+  retired = 13;
+  starts = 1;
+  output = [];
+  visits = [];
+}
+
+made_computed : outcome made (computed made 13) ≡ Some made_record
+unfolding runs_on_literals two
+made_computed = refl
+
+made_shortened : shortened_record made ≡ made_net
+unfolding runs_on_literals two
+made_shortened = refl
+
+made_leaves : Leaves made made_record made_net
+unfolding runs_on_literals
+made_leaves = record {
+  delayed = computed_is made IsOrderly (chosen_lawful two 0x1000C 50 [] (lit≤ tt)) 13 made_record (lit≤ tt) made_computed;
+  shortened = made_shortened;
+  is_net = refl;
+}
+
+-- while one hart waits, the other makes ten selected divisions. The waiter doesn't pause for them: it is credited with them as it is woken.
+abbrev woken : Experiment Guest
+woken = chosen waits 0x10048 95 (0x10028 ∷ 0x10048 ∷ 0x10068 ∷ [])
+
+abbrev woken_record : Record
+woken_record = record {
+  ending = Exited 0;
+  time = 43300;
+  delay = 19000;
+  retired = 57;
+  starts = 10;
+  output = [];
+  visits = record { point = 0; hart = 0; time = 8900; delay = 0 }
+      ∷ record { point = 1; hart = 1; time = 14600; delay = 1900 }
+      ∷ record { point = 1; hart = 1; time = 16800; delay = 3800 }
+      ∷ record { point = 1; hart = 1; time = 19000; delay = 5700 }
+      ∷ record { point = 1; hart = 1; time = 21200; delay = 7600 }
+      ∷ record { point = 1; hart = 1; time = 23400; delay = 9500 }
+      ∷ record { point = 1; hart = 1; time = 25600; delay = 11400 }
+      ∷ record { point = 1; hart = 1; time = 27800; delay = 13300 }
+      ∷ record { point = 1; hart = 1; time = 30000; delay = 15200 }
+      ∷ record { point = 1; hart = 1; time = 32200; delay = 17100 }
+      ∷ record { point = 1; hart = 1; time = 34400; delay = 19000 }
+      ∷ record { point = 2; hart = 1; time = 39100; delay = 19000 }
+      ∷ [];
+  accounts = record { own = 0; paused = 0; credited = 19000 } ∷ record { own = 19000; paused = 0; credited = 0 } ∷ [];
+}
+
+abbrev woken_net : NetRecord
+woken_net = record {
+  ending = Exited 0;
+  time = 24300;
+  retired = 57;
+  starts = 10;
+  output = [];
+  visits = record { point = 0; hart = 0; time = 8900 }
+      ∷ record { point = 1; hart = 1; time = 12700 }
+      ∷ record { point = 1; hart = 1; time = 13000 }
+      ∷ record { point = 1; hart = 1; time = 13300 }
+      ∷ record { point = 1; hart = 1; time = 13600 }
+      ∷ record { point = 1; hart = 1; time = 13900 }
+      ∷ record { point = 1; hart = 1; time = 14200 }
+      ∷ record { point = 1; hart = 1; time = 14500 }
+      ∷ record { point = 1; hart = 1; time = 14800 }
+      ∷ record { point = 1; hart = 1; time = 15100 }
+      ∷ record { point = 1; hart = 1; time = 15400 }
+      ∷ record { point = 2; hart = 1; time = 20100 }
+      ∷ [];
+}
+
+woken_computed : outcome woken (computed woken 57) ≡ Some woken_record
+unfolding runs_on_literals waits
+woken_computed = refl
+
+woken_shortened : shortened_record woken ≡ woken_net
+unfolding runs_on_literals waits
+woken_shortened = refl
+
+woken_leaves : Leaves woken woken_record woken_net
+unfolding runs_on_literals
+woken_leaves = record {
+  delayed = computed_is woken IsOrderly (chosen_lawful waits 0x10048 95 (0x10028 ∷ 0x10048 ∷ 0x10068 ∷ []) (lit≤ tt)) 57 woken_record (lit≤ tt) woken_computed;
+  shortened = woken_shortened;
+  is_net = refl;
+}

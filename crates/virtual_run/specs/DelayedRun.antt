@@ -3,35 +3,15 @@ use Rattle.std.specs.Prelude.{◌≡◌, ℕ, ◌+◌, ◌-◌, List, map, lengt
 use Rattle.coz_types.specs.declared.record.Outcome.{Outcome}
 use Rattle.coz_types.specs.declared.record.Visit.{Visit as GivenVisit}
 use Rattle.coz_types.specs.Image.{ImageParts}
-use Rattle.line_index.specs.Index.{Index, position_at}
-use Rattle.progress_points.specs.Points.{Points, point_of}
-use Rattle.machines.specs.Guest.{Experiment}
 use Rattle.machines.specs.Delayed.{Account, Visit, Delayed, fresh}
 use Rattle.machines.specs.Standing.{standing}
 use Rattle.delay_credits.specs.Delays.{Delays}
 use Rattle.guest_calls.specs.Guest.{Guest}
-use Rattle.virtual_run.specs.declared.choice.Choice.{Choice}
 use Rattle.virtual_run.specs.declared.choice.Setting.{Setting}
 use Rattle.virtual_run.specs.declared.run.Run.{Run}
-use Rattle.virtual_run.specs.Run.{experiment, IsChoice, IsReached}
+use Rattle.virtual_run.specs.Run.{IsChoice, IsReached}
+use Rattle.virtual_run.specs.Seen.{experiment_with}
 use Rattle.virtual_run.specs.Credited.{Holds}
-
--- what contracts see of a delayed run
-pub record Seen : Type 0 where
-  pub image : ImageParts
-  pub index : Index
-  pub points : Points
-  pub input : List ℕ
-  pub choice : Choice
-  pub state : Delayed Guest
-
--- the run of an image on an input in a setting
-abbrev pub experiment_with : ImageParts → List ℕ → Setting → Experiment Guest
-experiment_with image input setting = experiment image (position_at setting.index.now) (point_of setting.points.now) input setting.choice
-
--- what is run
-abbrev pub experiment_of : Seen → Experiment Guest
-experiment_of seen = experiment seen.image (position_at seen.index) (point_of seen.points) seen.input seen.choice
 
 -- a visit as the machine keeps it
 abbrev pub visit_as : GivenVisit → Visit

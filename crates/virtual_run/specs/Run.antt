@@ -72,10 +72,6 @@ ticks_in setting = ticks_of (selects setting) setting.choice.speedup
 abbrev pub selected_of : Setting → Guest → List ℕ → List ℕ
 selected_of setting g = filter (λ hart. selects setting (pc_of g hart))
 
--- the harts that have been made as that run ends
-abbrev pub harts_made : Experiment Guest → ℕ
-harts_made x = length (shortened x x.budget).guest.harts
-
 -- the state of the shortened machine that the code's fields stand for, with these moments at which harts are due
 abbrev pub state_of : Run → List (Option ℕ) → Shortened Guest
 state_of run dues = record {

@@ -1,7 +1,8 @@
 ghost use Rattle.std.specs.Prelude.{◌≡◌, ◌+◌, ◌≤◌, map, length, Some, None, IfOk, IsSome, MatchOption, All, option_map};
 ghost use Rattle.hart_schedule.specs.Keys.{key_of};
 ghost use Rattle.delay_credits.specs.Delays.{account_as};
-ghost use Rattle.virtual_run.specs.DelayedRun.{experiment_of, visit_as, net_due_of, account_in, outcome_of};
+ghost use Rattle.virtual_run.specs.Seen.{experiment_of};
+ghost use Rattle.virtual_run.specs.DelayedRun.{visit_as, net_due_of, account_in, outcome_of};
 
 use crate::accounts::{raise_each, settle};
 use crate::{Choice, Run, Setting};
@@ -32,10 +33,13 @@ pub struct Machine<'a> {
 }
 
 impl<'a> Model for Machine<'a> {
+    ghost use Rattle.machines.specs.Delayed.{Delayed};
     ghost use Rattle.machines.specs.Standing.{standing};
-    ghost use Rattle.virtual_run.specs.DelayedRun.{Seen, experiment_with, IsPaced};
+    ghost use Rattle.guest_calls.specs.Guest.{Guest};
+    ghost use Rattle.virtual_run.specs.Seen.{Seen, experiment_with};
+    ghost use Rattle.virtual_run.specs.DelayedRun.{IsPaced};
 
-    ghost Value = { Seen };
+    ghost Value = { Seen (Delayed Guest) };
 
     ghost view = { λ m. record {
       image = m.image.now;

@@ -1,5 +1,5 @@
 use Rattle.std.proofs.Common.{sym, subst}
-use Rattle.shortened_run.specs.Seen.{AreUndelayed}
+use Rattle.shortened_run.specs.ShortenedRun.{AreUndelayed}
 use Rattle.shortened_run.proofs.Law.{none_undelayed}
 use Rattle.shortened_run.proofs.Short.new.Goals as goal
 

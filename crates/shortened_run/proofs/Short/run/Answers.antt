@@ -5,8 +5,8 @@ use Rattle.machines.specs.Shortened.{Shortened}
 use Rattle.guest_calls.specs.Guest.{Guest, first_guest, pc_of}
 use Rattle.virtual_run.specs.declared.choice.Setting.{Setting}
 use Rattle.virtual_run.specs.Visits.{Visits}
+use Rattle.virtual_run.specs.Seen.{Seen, experiment_of, experiment_with}
 use Rattle.virtual_run.proofs.Law.{steady, below_budget, reached_next, none_is, ended_now}
-use Rattle.shortened_run.specs.Seen.{Seen, experiment_of, experiment_with}
 use Rattle.shortened_run.proofs.Law.{more_undelayed, recorded_of, last_of, shortened_of, seen, same_seen}
 use Rattle.shortened_run.proofs.Short.run.Goals as goal
 use Rattle.shortened_run.proofs.Short.run.Goals.{In-Some}
@@ -60,19 +60,19 @@ returns-clause-ended c =
 
 -- the setting and what else is run are those of the call
 image_is : (c : In-Some) → c.loop-self.self-inside.image.now ≡ c.args.self.now.image
-image_is c = c.loop-self.invariant.1 ∙ ap (λ (s : Seen). s.image) c.self.view_is
+image_is c = c.loop-self.invariant.1 ∙ ap (λ (s : Seen (Shortened Guest)). s.image) c.self.view_is
 
 index_is : (c : In-Some) → c.loop-self.self-inside.setting.index.now ≡ c.args.self.now.index
-index_is c = ap (λ (s : Setting). s.index.now) c.loop-self.invariant.3 ∙ ap (λ (s : Seen). s.index) c.self.view_is
+index_is c = ap (λ (s : Setting). s.index.now) c.loop-self.invariant.3 ∙ ap (λ (s : Seen (Shortened Guest)). s.index) c.self.view_is
 
 points_are : (c : In-Some) → c.loop-self.self-inside.setting.points.now ≡ c.args.self.now.points
-points_are c = ap (λ (s : Setting). s.points.now) c.loop-self.invariant.3 ∙ ap (λ (s : Seen). s.points) c.self.view_is
+points_are c = ap (λ (s : Setting). s.points.now) c.loop-self.invariant.3 ∙ ap (λ (s : Seen (Shortened Guest)). s.points) c.self.view_is
 
 input_is : (c : In-Some) → c.loop-self.self-inside.input.now ≡ c.args.self.now.input
-input_is c = c.loop-self.invariant.2 ∙ ap (λ (s : Seen). s.input) c.self.view_is
+input_is c = c.loop-self.invariant.2 ∙ ap (λ (s : Seen (Shortened Guest)). s.input) c.self.view_is
 
 choice_is : (c : In-Some) → c.loop-self.self-inside.setting.choice ≡ c.args.self.now.choice
-choice_is c = ap (λ (s : Setting). s.choice) c.loop-self.invariant.3 ∙ ap (λ (s : Seen). s.choice) c.self.view_is
+choice_is c = ap (λ (s : Setting). s.choice) c.loop-self.invariant.3 ∙ ap (λ (s : Seen (Shortened Guest)). s.choice) c.self.view_is
 
 seen_is : (c : In-Some) (state : Shortened Guest)
     → seen c.loop-self.self-inside.image.now c.loop-self.self-inside.setting.index.now c.loop-self.self-inside.setting.points.now c.loop-self.self-inside.input.now c.loop-self.self-inside.setting.choice state

@@ -1,5 +1,5 @@
 use Rattle.std.proofs.Common.{◌≡◌, ◌-◌}
-use Rattle.shortened_run.specs.Seen.{IsShort}
+use Rattle.shortened_run.specs.ShortenedRun.{IsShort}
 use Rattle.shortened_run.proofs.Short.run.Given as goal
 
 -- the state is one of the run, whose image, input and setting stay

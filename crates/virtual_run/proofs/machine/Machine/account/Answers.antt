@@ -1,5 +1,8 @@
 use Rattle.std.proofs.Common.{◌≡◌, ◌<◌, ◌≤◌, length, ap, ◌∙◌, arith}
-use Rattle.virtual_run.specs.DelayedRun.{Seen, account_in}
+use Rattle.machines.specs.Delayed.{Delayed}
+use Rattle.guest_calls.specs.Guest.{Guest}
+use Rattle.virtual_run.specs.Seen.{Seen}
+use Rattle.virtual_run.specs.DelayedRun.{account_in}
 use Rattle.virtual_run.proofs.CreditedRun.{harts_few, latest_now, account_some, account_none}
 use Rattle.virtual_run.proofs.machine.Machine.account.Goals as goal
 
@@ -21,10 +24,10 @@ pub returns-then-from-harts : goal.returns-then-from-harts
 returns-then-from-harts c =
     let m = c.self.inside in
     let made : c.args.hart.0 < length m.run.guest.harts = omega (arith, c.if-from-harts.true, c.harts.ensures, c.from.ensures) in
-    account_some m.image.now m.input.now m.setting m.run m.credits m.moment c.self.invariant c.args.hart.0 c.account.result made c.account.ensures ∙ ap (λ (v : Seen). account_in v.state c.args.hart.0) c.self.view_is
+    account_some m.image.now m.input.now m.setting m.run m.credits m.moment c.self.invariant c.args.hart.0 c.account.result made c.account.ensures ∙ ap (λ (v : Seen (Delayed Guest)). account_in v.state c.args.hart.0) c.self.view_is
 
 pub returns-else-from-harts : goal.returns-else-from-harts
 returns-else-from-harts c =
     let m = c.self.inside in
     let past : length m.run.guest.harts ≤ c.args.hart.0 = omega (arith, c.if-from-harts.false, c.harts.ensures, c.from.ensures) in
-    account_none m.image.now m.input.now m.setting m.run m.credits m.moment c.self.invariant c.args.hart.0 past ∙ ap (λ (v : Seen). account_in v.state c.args.hart.0) c.self.view_is
+    account_none m.image.now m.input.now m.setting m.run m.credits m.moment c.self.invariant c.args.hart.0 past ∙ ap (λ (v : Seen (Delayed Guest)). account_in v.state c.args.hart.0) c.self.view_is

@@ -1,18 +1,19 @@
 use Rattle.std.proofs.Common.{◌≤◌, ℕ, length, ap, subst, sym, ◌∙◌}
 use Rattle.guest_calls.specs.Guest.{Guest}
-use Rattle.virtual_run.specs.DelayedRun.{Seen}
+use Rattle.machines.specs.Delayed.{Delayed}
+use Rattle.virtual_run.specs.Seen.{Seen}
 use Rattle.virtual_run.proofs.CreditedRun.{guest_now, harts_now, harts_few}
 use Rattle.virtual_run.proofs.machine.Machine.harts.Goals as goal
 
 pub returns-clause-guest : goal.returns-clause-guest
 returns-clause-guest c =
     let m = c.self.inside in
-    c.harts.ensures ∙ sym (ap (λ (g : Guest). length g.harts) (guest_now m.image.now m.input.now m.setting m.run m.credits m.moment c.self.invariant)) ∙ ap (λ (v : Seen). length v.state.guest.harts) c.self.view_is
+    c.harts.ensures ∙ sym (ap (λ (g : Guest). length g.harts) (guest_now m.image.now m.input.now m.setting m.run m.credits m.moment c.self.invariant)) ∙ ap (λ (v : Seen (Delayed Guest)). length v.state.guest.harts) c.self.view_is
 
 pub returns-clause-accounts : goal.returns-clause-accounts
 returns-clause-accounts c =
     let m = c.self.inside in
-    c.harts.ensures ∙ sym (harts_now m.image.now m.input.now m.setting m.run m.credits m.moment c.self.invariant) ∙ ap (λ (v : Seen). length v.state.harts) c.self.view_is
+    c.harts.ensures ∙ sym (harts_now m.image.now m.input.now m.setting m.run m.credits m.moment c.self.invariant) ∙ ap (λ (v : Seen (Delayed Guest)). length v.state.harts) c.self.view_is
 
 pub returns-clause-few : goal.returns-clause-few
 returns-clause-few c =

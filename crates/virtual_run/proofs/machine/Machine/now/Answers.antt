@@ -1,9 +1,11 @@
 use Rattle.std.proofs.Common.{◌∙◌, ap}
-use Rattle.virtual_run.specs.DelayedRun.{Seen}
+use Rattle.machines.specs.Delayed.{Delayed}
+use Rattle.guest_calls.specs.Guest.{Guest}
+use Rattle.virtual_run.specs.Seen.{Seen}
 use Rattle.virtual_run.proofs.CreditedRun.{now_is}
 use Rattle.virtual_run.proofs.machine.Machine.now.Goals as goal
 
 pub returns : goal.returns
 returns c =
     let m = c.self.inside in
-    now_is m.image.now m.input.now m.setting m.run m.credits m.moment c.self.invariant ∙ ap (λ (seen : Seen). seen.state.now) c.self.view_is
+    now_is m.image.now m.input.now m.setting m.run m.credits m.moment c.self.invariant ∙ ap (λ (seen : Seen (Delayed Guest)). seen.state.now) c.self.view_is

@@ -1,10 +1,11 @@
 use Rattle.std.proofs.Common.{ap, sym, ◌∙◌}
 use Rattle.guest_calls.specs.Guest.{Guest}
-use Rattle.virtual_run.specs.DelayedRun.{Seen}
+use Rattle.machines.specs.Delayed.{Delayed}
+use Rattle.virtual_run.specs.Seen.{Seen}
 use Rattle.virtual_run.proofs.CreditedRun.{guest_now}
 use Rattle.virtual_run.proofs.machine.Machine.output.Goals as goal
 
 pub returns : goal.returns
 returns c =
     let m = c.self.inside in
-    c.output.ensures ∙ sym (ap (λ (g : Guest). g.output) (guest_now m.image.now m.input.now m.setting m.run m.credits m.moment c.self.invariant)) ∙ ap (λ (v : Seen). v.state.guest.output) c.self.view_is
+    c.output.ensures ∙ sym (ap (λ (g : Guest). g.output) (guest_now m.image.now m.input.now m.setting m.run m.credits m.moment c.self.invariant)) ∙ ap (λ (v : Seen (Delayed Guest)). v.state.guest.output) c.self.view_is

@@ -1,12 +1,14 @@
 use Rattle.std.proofs.Common.{ap, sym, ◌∙◌}
-use Rattle.virtual_run.specs.DelayedRun.{Seen}
+use Rattle.machines.specs.Delayed.{Delayed}
+use Rattle.guest_calls.specs.Guest.{Guest}
+use Rattle.virtual_run.specs.Seen.{Seen}
 use Rattle.virtual_run.proofs.CreditedRun.{retired_now, stands_seen, agrees_so_far}
 use Rattle.virtual_run.proofs.machine.Machine.retired.Goals as goal
 
 pub returns-clause-count : goal.returns-clause-count
 returns-clause-count c =
     let m = c.self.inside in
-    sym (retired_now m.image.now m.input.now m.setting m.run m.credits m.moment c.self.invariant) ∙ ap (λ (v : Seen). v.state.retired) c.self.view_is
+    sym (retired_now m.image.now m.input.now m.setting m.run m.credits m.moment c.self.invariant) ∙ ap (λ (v : Seen (Delayed Guest)). v.state.retired) c.self.view_is
 
 pub returns-clause-stands : goal.returns-clause-stands
 returns-clause-stands c =

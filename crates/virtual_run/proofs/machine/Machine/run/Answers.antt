@@ -1,5 +1,7 @@
 use Rattle.std.proofs.Common.{◌≡◌, Some, None, ap, sym, ◌∙◌}
-use Rattle.virtual_run.specs.DelayedRun.{Seen}
+use Rattle.machines.specs.Delayed.{Delayed}
+use Rattle.guest_calls.specs.Guest.{Guest}
+use Rattle.virtual_run.specs.Seen.{Seen}
 use Rattle.virtual_run.proofs.Law.{none_is}
 use Rattle.virtual_run.proofs.CreditedRun.{ending_now, going_first, going_next, going_smaller, record_now, last_now, agrees_last, delayed_now, law_now, shortened_now}
 use Rattle.virtual_run.proofs.machine.Machine.run.Goals as goal
@@ -8,7 +10,7 @@ pub loop-ending-init : goal.loop-ending-init
 loop-ending-init c =
     let m = c.self.inside in (
       going_first m.image.now m.input.now m.setting m.run m.credits m.moment c.self.invariant c.args.self.now c.self.view_is,
-      sym (ending_now m.image.now m.input.now m.setting m.run m.credits m.moment c.self.invariant) ∙ ap (λ (v : Seen). v.state.ending) c.self.view_is,
+      sym (ending_now m.image.now m.input.now m.setting m.run m.credits m.moment c.self.invariant) ∙ ap (λ (v : Seen (Delayed Guest)). v.state.ending) c.self.view_is,
     )
 
 pub loop-ending-preserved : goal.loop-ending-preserved

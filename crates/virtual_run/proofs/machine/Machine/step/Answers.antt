@@ -3,14 +3,16 @@ use Rattle.machines.specs.Guest.{Experiment}
 use Rattle.machines.specs.Shortened.{shortened}
 use Rattle.machines.specs.Standing.{standing}
 use Rattle.guest_calls.specs.Guest.{Guest, first_guest}
-use Rattle.virtual_run.specs.DelayedRun.{Seen, experiment_with, IsPaced}
+use Rattle.machines.specs.Delayed.{Delayed}
+use Rattle.virtual_run.specs.Seen.{Seen, experiment_with}
+use Rattle.virtual_run.specs.DelayedRun.{IsPaced}
 use Rattle.virtual_run.proofs.CreditedRun.{IsAdvance, none_of, not_over, not_ended, agrees_seen, agrees_after, next_seen, steps_seen, ending_now, retired_now, is_steady, raised_few, time_few, hart_below, is_later, hart_runs, hart_unpaused, can_begin, paced_next, steps_next}
 use Rattle.virtual_run.proofs.machine.Machine.step.Goals as goal
 
 pub returns-then-is_some-clause-ended : goal.returns-then-is_some-clause-ended
 returns-then-is_some-clause-ended c =
     let m = c.self.inside in
-    sym (ending_now m.image.now m.input.now m.setting m.run m.credits m.moment c.self.invariant) ∙ ap (λ (v : Seen). v.state.ending) c.self.view_is
+    sym (ending_now m.image.now m.input.now m.setting m.run m.credits m.moment c.self.invariant) ∙ ap (λ (v : Seen (Delayed Guest)). v.state.ending) c.self.view_is
 
 pub returns-then-is_some-clause-next : goal.returns-then-is_some-clause-next
 returns-then-is_some-clause-next c none =
