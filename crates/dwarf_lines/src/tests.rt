@@ -45,6 +45,14 @@ fn later_row(address: u64, file: Option<u32>, ends: bool) -> Row {
     }
 }
 
+/// A row of the second unit that is read.
+fn next_row(ends: bool) -> Row {
+    Row {
+        sequence: 1,
+        ..row(0, Some(0), 1, ends)
+    }
+}
+
 fn fault(kind: LineKind, place: u64) -> Option<LineFault> {
     Some(LineFault { kind, place })
 }
@@ -60,125 +68,145 @@ fn fault_of(alloc: Global, section: &[u8]) -> Result<Option<LineFault>, LineErro
 }
 
 #[test]
-fn tables_have_their_rows_and_files(rt: HostRuntime) -> Result<(), Fail> {
-    let four = read_lines(rt.alloc(), &FOUR_ROWS)?;
-    let four_rows = [
+fn four_rows_are_read(rt: HostRuntime) -> Result<(), Fail> {
+    let table = read_lines(rt.alloc(), &FOUR_ROWS)?;
+    let rows = [
         row(0x10000, Some(0), 1, false),
         row(0x10008, Some(0), 2, false),
         row(0x1004C, Some(0), 5, false),
         row(0x10054, Some(0), 5, true),
     ];
-    assert_eq!(rt; four.rows.as_slice(), four_rows.as_slice());
-    assert_eq!(rt; four.skipped, 0);
+    assert_eq!(rt; table.rows.as_slice(), rows.as_slice());
+    assert_eq!(rt; table.skipped, 0);
+    Ok(())
+}
 
-    let each = read_lines(rt.alloc(), &EACH_OPCODE)?;
-    let next = row(0, Some(0), 1, false);
-    let each_row = [
+#[test]
+fn each_opcode_is_read(rt: HostRuntime) -> Result<(), Fail> {
+    let table = read_lines(rt.alloc(), &EACH_OPCODE)?;
+    let rows = [
         row(0x1000, Some(0), 1, false),
         later_row(0x1008, Some(1), false),
         later_row(0x1065, Some(1), false),
         later_row(0x1065, Some(2), false),
         later_row(0x1065, None, false),
         later_row(0x1065, None, true),
-        Row {
-            sequence: 1,
-            ..next
-        },
-        Row {
-            sequence: 1,
-            ends: true,
-            ..next
-        },
+        next_row(false),
+        next_row(true),
     ];
-    assert_eq!(rt; each.rows.as_slice(), each_row.as_slice());
-    assert_eq!(rt; each.skipped, 1);
-    let texts = [("d", "a.s"), ("", "b.s"), ("d", "c")];
-    assert_eq!(rt; each.files.len(), texts.len());
-    for (file, (directory, name)) in each.files.as_slice().iter().zip(texts.iter()) {
+    assert_eq!(rt; table.rows.as_slice(), rows.as_slice());
+    assert_eq!(rt; table.skipped, 1);
+    Ok(())
+}
+
+/// The directory and the name of each file of `EACH_OPCODE`.
+const FILES: [(&str, &str); 3] = [("d", "a.s"), ("", "b.s"), ("d", "c")];
+
+#[test]
+fn files_are_read(rt: HostRuntime) -> Result<(), Fail> {
+    let table = read_lines(rt.alloc(), &EACH_OPCODE)?;
+    assert_eq!(rt; table.files.len(), FILES.len());
+    for (file, (directory, name)) in table.files.as_slice().iter().zip(FILES.iter()) {
         assert_eq!(rt; file.directory, directory.as_bytes());
         assert_eq!(rt; file.name, name.as_bytes());
     }
     Ok(())
 }
 
+/// The first and the last length, and the place of what is short, where the unit of four rows is cut to such a length.
+const CUTS: [(usize, usize, u64); 13] = [
+    (4, 5, 4),
+    (6, 36, 6),
+    (38, 38, 38),
+    (39, 47, 39),
+    (50, 51, 50),
+    (54, 54, 54),
+    (55, 56, 55),
+    (59, 59, 59),
+    (62, 62, 62),
+    (63, 65, 63),
+    (67, 67, 67),
+    (69, 69, 69),
+    (70, 70, 70),
+];
+
+/// The fault of the unit of four rows that is cut to that length.
+fn fault_of_cut(length: usize) -> Option<LineFault> {
+    for (first, last, place) in CUTS {
+        if first <= length && length <= last {
+            return fault(LineKind::Short, place);
+        }
+    }
+    if length == 37 || length == 48 {
+        return None;
+    }
+    fault(LineKind::Unended, length as u64)
+}
+
 #[test]
-fn damaged_sections_have_their_first_fault(rt: HostRuntime) -> Result<(), Fail> {
-    // The section of four rows, its unit cut to end after so many bytes.
-    let short_cuts = [
-        (4, 5, 4),
-        (6, 36, 6),
-        (38, 38, 38),
-        (39, 47, 39),
-        (50, 51, 50),
-        (54, 54, 54),
-        (55, 56, 55),
-        (59, 59, 59),
-        (62, 62, 62),
-        (63, 65, 63),
-        (67, 67, 67),
-        (69, 69, 69),
-        (70, 70, 70),
-    ];
-    for n in 4..71usize {
-        let mut section = Vec::from_slice(rt.alloc(), &FOUR_ROWS[..n])?;
-        section[0] = n as u8 - 4;
-        let mut expected = fault(LineKind::Unended, n as u64);
-        if n == 37 || n == 48 {
-            expected = None;
-        }
-        for &(first, last, place) in short_cuts.iter() {
-            if first <= n && n <= last {
-                expected = fault(LineKind::Short, place);
-            }
-        }
-        assert_eq!(rt;
-            fault_of(rt.alloc(), section.as_slice())?,
-            expected,
-            "cut to {n}"
-        );
+fn a_unit_that_is_cut_has_its_first_fault(rt: HostRuntime) -> Result<(), Fail> {
+    for length in 4..71usize {
+        let mut section = Vec::from_slice(rt.alloc(), &FOUR_ROWS[..length])?;
+        section[0] = length as u8 - 4;
+        let found = fault_of(rt.alloc(), section.as_slice())?;
+        assert_eq!(rt; found, fault_of_cut(length), "cut to {length}");
     }
+    Ok(())
+}
 
-    // The same section cut, and its unit as long as before.
+#[test]
+fn a_section_that_is_cut_is_short(rt: HostRuntime) -> Result<(), Fail> {
     assert_eq!(rt; fault_of(rt.alloc(), &[])?, None);
-    for n in 1..71usize {
-        let found = fault_of(rt.alloc(), &FOUR_ROWS[..n])?;
-        assert_eq!(rt; found, fault(LineKind::Short, 0), "only {n}");
+    for length in 1..71usize {
+        let found = fault_of(rt.alloc(), &FOUR_ROWS[..length])?;
+        assert_eq!(rt; found, fault(LineKind::Short, 0), "only {length}");
     }
+    let long_form = fault_of(rt.alloc(), &[0xF0, 0xFF, 0xFF, 0xFF])?;
+    assert_eq!(rt; long_form, fault(LineKind::LongForm, 0));
+    Ok(())
+}
 
-    // One byte set.
-    let changes = [
-        (0, 0x44, LineKind::Short, 0),
-        (3, 0xFF, LineKind::Short, 0),
-        (6, 0x3E, LineKind::Short, 6),
-        (11, 2, LineKind::ManyOps, 11),
-        (14, 0, LineKind::ZeroRange, 14),
-        (15, 0, LineKind::OpcodeBaseZero, 15),
-        (38, 8, LineKind::AddressLength, 37),
-        (59, 0x7A, LineKind::LineOut, 60),
-        (70, 4, LineKind::Unended, 71),
-    ];
-    for &(place, byte, kind, at) in changes.iter() {
+/// A byte of the unit of four rows that is set, and the fault that it makes.
+const SET_BYTES: [(usize, u8, LineKind, u64); 9] = [
+    (0, 0x44, LineKind::Short, 0),
+    (3, 0xFF, LineKind::Short, 0),
+    (6, 0x3E, LineKind::Short, 6),
+    (11, 2, LineKind::ManyOps, 11),
+    (14, 0, LineKind::ZeroRange, 14),
+    (15, 0, LineKind::OpcodeBaseZero, 15),
+    (38, 8, LineKind::AddressLength, 37),
+    (59, 0x7A, LineKind::LineOut, 60),
+    (70, 4, LineKind::Unended, 71),
+];
+
+#[test]
+fn a_byte_that_is_set_makes_a_fault(rt: HostRuntime) -> Result<(), Fail> {
+    for (place, byte, kind, at) in SET_BYTES {
         let mut section = Vec::from_slice(rt.alloc(), &FOUR_ROWS)?;
-        let index: usize = place;
-        if index < section.len() {
-            section[index] = byte;
+        if place < section.len() {
+            section[place] = byte;
         }
         let found = fault_of(rt.alloc(), section.as_slice())?;
         assert_eq!(rt; found, fault(kind, at), "byte {place}");
     }
+    Ok(())
+}
 
-    // The same header with another program.
-    let wide = [
-        2, 0xFF, 0xFF, 0xFF, 0xFF, 0xFF, 0xFF, 0xFF, 0xFF, 0xFF, 0x7F,
-    ];
-    let ends_below_zero = [3, 0x7E, 0, 1, 1];
-    let stays_open = [1];
-    let programs = [
-        (wide.as_slice(), LineKind::Wide, 38),
-        (ends_below_zero.as_slice(), LineKind::LineOut, 39),
-        (stays_open.as_slice(), LineKind::Unended, 38),
-    ];
-    for &(program, kind, at) in programs.iter() {
+/// Programs under the header of the unit of four rows, and their faults: an operand of more than 64 bits, a line below
+/// zero, and no end of the sequence.
+const PROGRAMS: [(&[u8], LineKind, u64); 3] = [
+    (
+        b"\x02\xFF\xFF\xFF\xFF\xFF\xFF\xFF\xFF\xFF\x7F",
+        LineKind::Wide,
+        38,
+    ),
+    (&[3, 0x7E, 0, 1, 1], LineKind::LineOut, 39),
+    (&[1], LineKind::Unended, 38),
+];
+
+#[test]
+fn programs_have_their_faults(rt: HostRuntime) -> Result<(), Fail> {
+    for (program, kind, at) in PROGRAMS {
         let mut section = Vec::from_slice(rt.alloc(), &FOUR_ROWS[..37])?;
         section.extend_from_slice(program)?;
         assert!(rt; 4 <= section.len() && section.len() <= 71);
@@ -186,10 +214,5 @@ fn damaged_sections_have_their_first_fault(rt: HostRuntime) -> Result<(), Fail> 
         let found = fault_of(rt.alloc(), section.as_slice())?;
         assert_eq!(rt; found, fault(kind, at), "program {at}");
     }
-
-    assert_eq!(rt;
-        fault_of(rt.alloc(), &[0xF0, 0xFF, 0xFF, 0xFF])?,
-        fault(LineKind::LongForm, 0)
-    );
     Ok(())
 }

@@ -1,5 +1,9 @@
+ghost use Rattle.std.specs.Prelude.{◌≤◌};
+
+use super::ElfKind::*;
 use super::*;
 use coz_types::{Area, Rights};
+use std::process::Abort;
 use std::test::Fail;
 
 /// Bytes and where they go.
@@ -72,95 +76,140 @@ fn fault(kind: ElfKind, place: u64) -> Option<LoadError> {
     Some(LoadError::Fault(ElfFault { kind, place }))
 }
 
+/// Changes of the good file, and the fault that they make.
+type Fault = (&'static [Change], ElfKind, u64);
+
+/// Faults of the header and of the sections.
+const HEADERS: [Fault; 20] = [
+    (&[(1, &[0])], NotElf, 0),
+    (&[(4, &[1])], NotClass64, 4),
+    (&[(5, &[2])], NotLittle, 5),
+    (&[(16, &[3])], NotExec, 16),
+    (&[(18, &[62])], NotRiscv, 18),
+    (&[(48, &[1])], Compressed, 48),
+    (&[(56, &[255, 255])], HeaderOut, 56),
+    (&[(54, &[55])], HeaderOut, 54),
+    (&[(56, &[80])], HeaderOut, 32),
+    (&[(32, &ONES)], HeaderOut, 32),
+    (&[(58, &[63])], HeaderOut, 58),
+    (&[(60, &[6])], HeaderOut, 40),
+    (&[(40, &[192]), (41, &[255; 7])], HeaderOut, 40),
+    (&[(62, &[5])], HeaderOut, 62),
+    (&[(97, &[32])], HeaderOut, 64),
+    (&[(72, &[252]), (73, &[255; 7])], HeaderOut, 64),
+    (&[(4442, &[1])], HeaderOut, 4408),
+    (&[(4440, &ONES)], HeaderOut, 4408),
+    (&[(4417, &[8])], PackedLines, 4408),
+    // The name counts, though a NOBITS section can't be found by it.
+    (&[(4412, &[8]), (4417, &[8])], PackedLines, 4408),
+];
+
+/// Faults of the program headers and of the entry.
+const SEGMENTS: [Fault; 12] = [
+    (&[(64, &[3])], Interp, 64),
+    (&[(104, &[11])], SizeOrder, 64),
+    (&[(82, &[0])], AddressOut, 64),
+    (&[(84, &[32])], AddressOut, 64),
+    (&[(80, &ONES)], AddressOut, 64),
+    (&[(68, &[7])], WritableCode, 64),
+    (
+        &[(56, &[2]), (120, &[1]), (136, &[16, 0, 1]), (160, &[1])],
+        SharedPage,
+        120,
+    ),
+    (
+        &[(56, &[2]), (120, &[1]), (138, &[2]), (163, &[4])],
+        TooMuch,
+        120,
+    ),
+    (&[(24, &[2])], EntryOut, 24),
+    (&[(24, &[12])], EntryOut, 24),
+    (&[(68, &[4])], EntryOut, 24),
+    // The last page that a program may have.
+    (&[(80, &[0, 240, 255, 255, 31])], EntryOut, 24),
+];
+
+/// Two faults: the earlier row counts, then the earlier entry.
+const TWICE: [Fault; 6] = [
+    (&[(48, &[1]), (68, &[7])], Compressed, 48),
+    (&[(4417, &[8]), (64, &[3])], PackedLines, 4408),
+    (&[(104, &[11]), (82, &[0])], SizeOrder, 64),
+    (&[(68, &[7]), (24, &[2])], WritableCode, 64),
+    (&[(56, &[2]), (104, &[11]), (120, &[3])], Interp, 120),
+    (
+        &[(56, &[2]), (104, &[11]), (120, &[1]), (152, &[1])],
+        SizeOrder,
+        64,
+    ),
+];
+
+/// Each of these changes makes its fault.
+fn check_faults(rt: &impl Abort, alloc: Global, rows: &[Fault]) -> Result<(), AllocError> {
+    for &(changes, kind, place) in rows {
+        let file = changed(alloc, changes)?;
+        assert_eq!(rt; fault_of(alloc, &file), fault(kind, place));
+    }
+    Ok(())
+}
+
 #[test]
 fn each_fault_has_its_place(rt: HostRuntime) -> Result<(), Fail> {
-    use ElfKind::*;
-    let rows: [(&[Change], ElfKind, u64); 38] = [
-        (&[(1, &[0])], NotElf, 0),
-        (&[(4, &[1])], NotClass64, 4),
-        (&[(5, &[2])], NotLittle, 5),
-        (&[(16, &[3])], NotExec, 16),
-        (&[(18, &[62])], NotRiscv, 18),
-        (&[(48, &[1])], Compressed, 48),
-        (&[(56, &[255, 255])], HeaderOut, 56),
-        (&[(54, &[55])], HeaderOut, 54),
-        (&[(56, &[80])], HeaderOut, 32),
-        (&[(32, &ONES)], HeaderOut, 32),
-        (&[(58, &[63])], HeaderOut, 58),
-        (&[(60, &[6])], HeaderOut, 40),
-        (&[(40, &[192]), (41, &[255; 7])], HeaderOut, 40),
-        (&[(62, &[5])], HeaderOut, 62),
-        (&[(97, &[32])], HeaderOut, 64),
-        (&[(72, &[252]), (73, &[255; 7])], HeaderOut, 64),
-        (&[(4442, &[1])], HeaderOut, 4408),
-        (&[(4440, &ONES)], HeaderOut, 4408),
-        (&[(4417, &[8])], PackedLines, 4408),
-        // The name counts, though a NOBITS section can't be found by it.
-        (&[(4412, &[8]), (4417, &[8])], PackedLines, 4408),
-        (&[(64, &[3])], Interp, 64),
-        (&[(104, &[11])], SizeOrder, 64),
-        (&[(82, &[0])], AddressOut, 64),
-        (&[(84, &[32])], AddressOut, 64),
-        (&[(80, &ONES)], AddressOut, 64),
-        (&[(68, &[7])], WritableCode, 64),
-        (
-            &[(56, &[2]), (120, &[1]), (136, &[16, 0, 1]), (160, &[1])],
-            SharedPage,
-            120,
-        ),
-        (
-            &[(56, &[2]), (120, &[1]), (138, &[2]), (163, &[4])],
-            TooMuch,
-            120,
-        ),
-        (&[(24, &[2])], EntryOut, 24),
-        (&[(24, &[12])], EntryOut, 24),
-        (&[(68, &[4])], EntryOut, 24),
-        // The last page that a program may have.
-        (&[(80, &[0, 240, 255, 255, 31])], EntryOut, 24),
-        // Two faults: the earlier row, then the earlier entry.
-        (&[(48, &[1]), (68, &[7])], Compressed, 48),
-        (&[(4417, &[8]), (64, &[3])], PackedLines, 4408),
-        (&[(104, &[11]), (82, &[0])], SizeOrder, 64),
-        (&[(68, &[7]), (24, &[2])], WritableCode, 64),
-        (&[(56, &[2]), (104, &[11]), (120, &[3])], Interp, 120),
-        (
-            &[(56, &[2]), (104, &[11]), (120, &[1]), (152, &[1])],
-            SizeOrder,
-            64,
-        ),
-    ];
-    for (changes, kind, place) in rows {
-        let file = changed(rt.alloc(), changes)?;
-        assert_eq!(rt; fault_of(rt.alloc(), &file), fault(kind, place));
+    check_faults(&rt, rt.alloc(), &HEADERS)?;
+    check_faults(&rt, rt.alloc(), &SEGMENTS)?;
+    check_faults(&rt, rt.alloc(), &TWICE)?;
+    Ok(())
+}
+
+/// The fault of the good file that is cut to that length.
+fn fault_of_cut(len: usize) -> Option<LoadError> {
+    match len {
+        0..64 => fault(NotElf, len as u64),
+        64..120 => fault(HeaderOut, 32),
+        _ => fault(HeaderOut, 40),
     }
+}
+
+#[test]
+fn a_file_that_is_cut_has_a_fault(rt: HostRuntime) -> Result<(), Fail> {
     let file = changed(rt.alloc(), &[])?;
     for len in 0..file.len() {
-        let (kind, place) = match len {
-            0..64 => (NotElf, len as u64),
-            64..120 => (HeaderOut, 32),
-            _ => (HeaderOut, 40),
-        };
-        assert_eq!(rt; fault_of(rt.alloc(), &file[..len]), fault(kind, place));
+        assert_eq!(rt; fault_of(rt.alloc(), &file[..len]), fault_of_cut(len));
     }
-    // As many program headers as there may be, each with a page of its own.
-    let mut many = vec![in rt.alloc(); 0u8; 64 + 56 * 65534]?;
+    Ok(())
+}
+
+/// A program header at that place, with one byte of memory in that page.
+fn put_header(file: &mut [u8], place: usize, page: u32)
+    requires { place ≤ 3670000 }
+{
+    put(file, place, &[1, 0, 0, 0, 5]);
+    put(file, place + 17, &page.to_le_bytes());
+    put(file, place + 40, &[1]);
+}
+
+/// As many program headers as there may be, each with a page of its own.
+fn put_headers(file: &mut [u8]) {
+    for index in 0..65534u32 {
+        put_header(file, 64 + 56 * index as usize, 0x100000 - 16 * index);
+    }
+}
+
+/// The good file's header, and those program headers.
+fn many_headers(alloc: Global) -> Result<Vec<u8>, AllocError> {
+    let mut file = vec![in alloc; 0u8; 64 + 56 * 65534]?;
     for (place, bytes) in GOOD {
         if place < 64 {
-            put(&mut many, place, bytes);
+            put(&mut file, place, bytes);
         }
     }
-    put(&mut many, 56, &[254, 255, 0, 0, 0, 0, 0]);
-    for index in 0..65534u32 {
-        let place = 64 + 56 * index as usize;
-        put(&mut many, place, &[1, 0, 0, 0, 5]);
-        put(
-            &mut many,
-            place + 17,
-            &(0x100000 - 16 * index).to_le_bytes(),
-        );
-        put(&mut many, place + 40, &[1]);
-    }
+    put(&mut file, 56, &[254, 255, 0, 0, 0, 0, 0]);
+    put_headers(&mut file);
+    Ok(file)
+}
+
+#[test]
+fn many_headers_have_their_fault(rt: HostRuntime) -> Result<(), Fail> {
+    let mut many = many_headers(rt.alloc())?;
     assert_eq!(rt;
         fault_of(rt.alloc(), &many),
         fault(TooMuch, 64 + 56 * 16384)
@@ -173,95 +222,108 @@ fn each_fault_has_its_place(rt: HostRuntime) -> Result<(), Fail> {
     Ok(())
 }
 
+const FIRST: Area = Area {
+    start: 0x10000,
+    size: 4096,
+    rights: Rights {
+        read: true,
+        write: false,
+        execute: true,
+    },
+    vaddr: 0x10000,
+    offset: 4096,
+    filled: 12,
+};
+
+const WRITABLE: Area = Area {
+    start: 0x20000,
+    size: 4096,
+    rights: Rights {
+        read: true,
+        write: true,
+        execute: false,
+    },
+    vaddr: 0x20000,
+    offset: 0,
+    filled: 0,
+};
+
+const WHOLE: Area = Area {
+    size: 8192,
+    offset: 0,
+    filled: 4536,
+    ..FIRST
+};
+
+const FAR: Area = Area {
+    offset: 4536,
+    ..WRITABLE
+};
+
+const LARGE: Area = Area {
+    size: 0x3FFF000,
+    ..WRITABLE
+};
+
+/// Changes of the good file, its areas, where its program headers are, and how many bytes of lines it has.
+type Loaded = (&'static [Change], &'static [Area], u64, usize);
+
+const LOADED: [Loaded; 8] = [
+    (&[], &[FIRST], 0, 66),
+    (&SECOND, &[FIRST, WRITABLE], 0, 66),
+    // The areas have 64 MiB together.
+    (
+        &[
+            (56, &[2]),
+            (120, &[1, 0, 0, 0, 2]),
+            (138, &[2]),
+            (161, &[240, 255, 3]),
+        ],
+        &[FIRST, LARGE],
+        0,
+        66,
+    ),
+    // The program headers are loaded.
+    (
+        &[(73, &[0]), (96, &[184, 17]), (104, &[184, 17])],
+        &[WHOLE],
+        0x10040,
+        66,
+    ),
+    // No bytes run past nothing, wherever they are.
+    (
+        &[
+            (56, &[2]),
+            (120, &[1, 0, 0, 0, 2]),
+            (128, &ONES),
+            (138, &[2]),
+            (160, &[1]),
+        ],
+        &[FIRST, FAR],
+        0,
+        66,
+    ),
+    (&[(40, &ONES), (60, &[0])], &[FIRST], 0, 0),
+    (&[(4368, &ONES)], &[FIRST], 0, 66),
+    // A name that runs past the names is none.
+    (&[(4408, &[34])], &[FIRST], 0, 0),
+];
+
 #[test]
 fn right_files_are_loaded(rt: HostRuntime) -> Result<(), Fail> {
-    let first = Area {
-        start: 0x10000,
-        size: 4096,
-        rights: Rights {
-            read: true,
-            write: false,
-            execute: true,
-        },
-        vaddr: 0x10000,
-        offset: 4096,
-        filled: 12,
-    };
-    let second = Area {
-        start: 0x20000,
-        size: 4096,
-        rights: Rights {
-            read: true,
-            write: true,
-            execute: false,
-        },
-        vaddr: 0x20000,
-        offset: 0,
-        filled: 0,
-    };
-    let whole = Area {
-        size: 8192,
-        offset: 0,
-        filled: 4536,
-        ..first
-    };
-    let far = Area {
-        offset: 4536,
-        ..second
-    };
-    let large = Area {
-        size: 0x3FFF000,
-        ..second
-    };
-    let rows: [(&[Change], &[Area], u64, usize); 8] = [
-        (&[], &[first], 0, 66),
-        (&SECOND, &[first, second], 0, 66),
-        // The areas have 64 MiB together.
-        (
-            &[
-                (56, &[2]),
-                (120, &[1, 0, 0, 0, 2]),
-                (138, &[2]),
-                (161, &[240, 255, 3]),
-            ],
-            &[first, large],
-            0,
-            66,
-        ),
-        // The program headers are loaded.
-        (
-            &[(73, &[0]), (96, &[184, 17]), (104, &[184, 17])],
-            &[whole],
-            0x10040,
-            66,
-        ),
-        // No bytes run past nothing, wherever they are.
-        (
-            &[
-                (56, &[2]),
-                (120, &[1, 0, 0, 0, 2]),
-                (128, &ONES),
-                (138, &[2]),
-                (160, &[1]),
-            ],
-            &[first, far],
-            0,
-            66,
-        ),
-        (&[(40, &ONES), (60, &[0])], &[first], 0, 0),
-        (&[(4368, &ONES)], &[first], 0, 66),
-        // A name that runs past the names is none.
-        (&[(4408, &[34])], &[first], 0, 0),
-    ];
-    for (changes, areas, headers, lines) in rows {
+    for (changes, areas, headers, lines) in LOADED {
         let file = changed(rt.alloc(), changes)?;
         let image = load(rt.alloc(), &file).ok().ok_or("a fault")?;
         assert_eq!(rt; image.areas(), areas);
-        assert_eq!(rt; image.entry(), 0x10000);
-        assert_eq!(rt; image.headers(), headers);
         let found = section(&image, b".debug_line").map_or(0, |bytes| bytes.len());
-        assert_eq!(rt; found, lines);
+        let parts = (image.entry(), image.headers(), found);
+        assert_eq!(rt; parts, (0x10000, headers, lines));
     }
+    Ok(())
+}
+
+#[test]
+fn sections_are_found_by_name(rt: HostRuntime) -> Result<(), Fail> {
     let file = changed(rt.alloc(), &[])?;
     let image = load(rt.alloc(), &file).ok().ok_or("a fault")?;
     assert_eq!(rt; section(&image, b".text"), file.get(4096..4108));

@@ -3,6 +3,7 @@ ghost use Rattle.guest_calls.specs.Guest.{is_running, IsMade};
 
 use super::*;
 use coz_types::{Area, Rights};
+use std::process::Abort;
 use std::test::Fail;
 
 const FILE: [u8; 4] = [0x73, 0, 0, 0];
@@ -83,103 +84,153 @@ impl<'a> Guest<'a> {
     }
 }
 
+/// The image of one instruction, an ecall.
+fn image(alloc: Global) -> Result<Image<'static>, AllocError> {
+    Ok(Image::new(&FILE, vec![in alloc; AREA]?, TEXT, 0, 1))
+}
+
+/// A call of the first hart with its arguments, and its a0 after.
+type Answer = (u64, [u64; 4], i64);
+
+/// Calls on files that answer without a byte.
+const STREAMS: [Answer; 4] = [
+    // ioctl and lseek
+    (29, [0, 0, 0, 0], -25),
+    (29, [3, 0, 0, 0], -9),
+    (62, [2, 0, 0, 0], -29),
+    (62, [3, 0, 0, 0], -9),
+];
+
+/// All of the input is read. The pairs that come first are the parts of a readv.
+const READS: [Answer; 13] = [
+    // read: its file, its rights, and no bytes
+    (63, [1, STACK, 1, 0], -9),
+    (63, [0, TEXT, 1, 0], -14),
+    (63, [0, TEXT, 0, 0], 0),
+    (63, [0, STACK, 48, 0], 48),
+    // readv: a part that may not be written leaves all as it is
+    (65, [1, STACK, 1, 0], -9),
+    (65, [0, STACK, 1025, 0], -22),
+    (65, [0, 0, 1, 0], -14),
+    (65, [0, u64::MAX, 1, 0], -14),
+    (65, [0, STACK, 2, 0], -14),
+    (65, [0, 0, 0, 0], 0),
+    (65, [0, STACK, 1, 0], 3),
+    (65, [0, STACK, 2, 0], 2),
+    (63, [0, TEXT, 100, 0], 0),
+];
+
+/// What was read is written.
+const WRITES: [Answer; 11] = [
+    // write and writev: the limit is 5
+    (64, [0, STACK, 1, 0], -9),
+    (64, [1, 0, 1, 0], -14),
+    (64, [1, STACK, u64::MAX, 0], -14),
+    (64, [1, STACK + 0x100, 1, 0], 1),
+    (66, [0, STACK, 1, 0], -9),
+    (66, [1, STACK, 1025, 0], -22),
+    (66, [1, 0, 1, 0], -14),
+    (66, [1, STACK, 3, 0], -14),
+    (66, [2, STACK, 1, 0], 3),
+    (66, [1, STACK, 2, 0], 4),
+    (64, [2, STACK, 100, 0], 100),
+];
+
+/// Calls of a hart about itself.
+const OWN: [Answer; 8] = [
+    // set_tid_address, sched_yield, getpid and gettid
+    (96, [STACK, 0, 0, 0], 1),
+    (124, [0, 0, 0, 0], 0),
+    (172, [0, 0, 0, 0], 1),
+    (178, [0, 0, 0, 0], 1),
+    // rt_sigprocmask
+    (135, [0, 0, STACK, 7], -22),
+    (135, [0, 0, 0, 8], 0),
+    (135, [0, 0, TEXT, 8], -14),
+    (135, [0, 0, STACK, 8], 0),
+];
+
+/// Calls that change what a guest may read and write.
+const AREAS: [Answer; 13] = [
+    // brk
+    (214, [0, 0, 0, 0], 0x20_0000_0000),
+    (214, [BRK + 5000, 0, 0, 0], 0x20_0000_1388),
+    (214, [BRK + 0x100_0001, 0, 0, 0], 0x20_0000_1388),
+    // mmap, munmap and mremap
+    (222, [0, 8192, 3, 0x22], 0x21_0000_0000),
+    (222, [0, 0, 3, 0x22], -22),
+    (222, [0, 1, 4, 0x22], -13),
+    (222, [0, u64::MAX, 3, 0x22], -12),
+    (215, [MAP + 1, 1, 0, 0], -22),
+    (215, [MAP, 1, 0, 0], 0),
+    (216, [0, 0, 0, 0], -12),
+    // mprotect and madvise
+    (226, [MAP + 0x1000, 4096, 1, 0], 0),
+    (226, [MAP, 8192, 1, 0], -12),
+    (233, [0, 0, 0, 0], -22),
+];
+
+/// The first hart makes these calls one after the other.
+fn check_answers(rt: &impl Abort, guest: &mut Guest, rows: &[Answer]) {
+    for &(number, arguments, a0) in rows {
+        let got = guest.ask(number, arguments);
+        assert_eq!(rt; got, Some((Fate::Goes, a0)), "{number} of {arguments:?}");
+    }
+}
+
 #[test]
-fn calls_answer_by_their_rows(rt: HostRuntime) -> Result<(), Fail> {
-    let image = Image::new(&FILE, vec![in rt.alloc(); AREA]?, TEXT, 0, 1);
+fn streams_are_read_and_written(rt: HostRuntime) -> Result<(), Fail> {
+    let image = image(rt.alloc())?;
     let mut guest = Guest::new(rt.alloc(), &image, &INPUT, 5, Layout::usual())?;
     assert_eq!(rt; guest.harts(), 1);
-    for (number, arguments, wanted) in [
-        // ioctl and lseek
-        (29, [0, 0, 0, 0], -25),
-        (29, [3, 0, 0, 0], -9),
-        (62, [2, 0, 0, 0], -29),
-        (62, [3, 0, 0, 0], -9),
-        // read: its file, its rights, and no bytes
-        (63, [1, STACK, 1, 0], -9),
-        (63, [0, TEXT, 1, 0], -14),
-        (63, [0, TEXT, 0, 0], 0),
-        (63, [0, STACK, 48, 0], 48),
-        // readv: a part that may not be written leaves all as it is
-        (65, [1, STACK, 1, 0], -9),
-        (65, [0, STACK, 1025, 0], -22),
-        (65, [0, 0, 1, 0], -14),
-        (65, [0, u64::MAX, 1, 0], -14),
-        (65, [0, STACK, 2, 0], -14),
-        (65, [0, 0, 0, 0], 0),
-        (65, [0, STACK, 1, 0], 3),
-        (65, [0, STACK, 2, 0], 2),
-        (63, [0, TEXT, 100, 0], 0),
-        // write and writev: the limit is 5
-        (64, [0, STACK, 1, 0], -9),
-        (64, [1, 0, 1, 0], -14),
-        (64, [1, STACK, u64::MAX, 0], -14),
-        (64, [1, STACK + 0x100, 1, 0], 1),
-        (66, [0, STACK, 1, 0], -9),
-        (66, [1, STACK, 1025, 0], -22),
-        (66, [1, 0, 1, 0], -14),
-        (66, [1, STACK, 3, 0], -14),
-        (66, [2, STACK, 1, 0], 3),
-        (66, [1, STACK, 2, 0], 4),
-        (64, [2, STACK, 100, 0], 100),
-        // set_tid_address, sched_yield, getpid and gettid
-        (96, [STACK, 0, 0, 0], 1),
-        (124, [0, 0, 0, 0], 0),
-        (172, [0, 0, 0, 0], 1),
-        (178, [0, 0, 0, 0], 1),
-        // rt_sigprocmask
-        (135, [0, 0, STACK, 7], -22),
-        (135, [0, 0, 0, 8], 0),
-        (135, [0, 0, TEXT, 8], -14),
-        (135, [0, 0, STACK, 8], 0),
-        // brk
-        (214, [0, 0, 0, 0], 0x20_0000_0000),
-        (214, [BRK + 5000, 0, 0, 0], 0x20_0000_1388),
-        (214, [BRK + 0x100_0001, 0, 0, 0], 0x20_0000_1388),
-        // mmap, munmap and mremap
-        (222, [0, 8192, 3, 0x22], 0x21_0000_0000),
-        (222, [0, 0, 3, 0x22], -22),
-        (222, [0, 1, 4, 0x22], -13),
-        (222, [0, u64::MAX, 3, 0x22], -12),
-        (215, [MAP + 1, 1, 0, 0], -22),
-        (215, [MAP, 1, 0, 0], 0),
-        (216, [0, 0, 0, 0], -12),
-        // mprotect and madvise
-        (226, [MAP + 0x1000, 4096, 1, 0], 0),
-        (226, [MAP, 8192, 1, 0], -12),
-        (233, [0, 0, 0, 0], -22),
-    ] {
-        let got = guest.ask(number, arguments);
-        assert_eq!(rt;
-            got,
-            Some((Fate::Goes, wanted)),
-            "{number} of {arguments:?}"
-        );
-    }
+    check_answers(&rt, &mut guest, &STREAMS);
+    check_answers(&rt, &mut guest, &READS);
+    check_answers(&rt, &mut guest, &WRITES);
     assert_eq!(rt; guest.output(), b"lloll".as_slice());
+    Ok(())
+}
 
-    // What is not supported leaves the guest as it is; the last hart's exit ends the run.
-    for (number, arguments, wanted) in [
-        (98, [STACK, 2, 0, 0], Ending::Unsupported(98)),
-        (98, [STACK, 0x1_0000_0000, 0, 0], Ending::Unsupported(98)),
-        (98, [STACK, 128, 0, STACK], Ending::Unsupported(98)),
-        (220, [0x10E00, 0, 0, 0], Ending::Unsupported(220)),
-        (220, [0x10D00, 0, 0, 0], Ending::Unsupported(220)),
-        (220, [0x10B00, 0, 0, 0], Ending::Unsupported(220)),
-        (220, [0x10700, 0, 0, 0], Ending::Unsupported(220)),
-        (220, [0x00F00, 0, 0, 0], Ending::Unsupported(220)),
-        (220, [0x11F00, 0, 0, 0], Ending::Unsupported(220)),
-        (220, [0x1_0001_0F00, 0, 0, 0], Ending::Unsupported(220)),
-        (222, [0, 1, 3, 0x20], Ending::Unsupported(222)),
-        (222, [0, 1, 3, 0x32], Ending::Unsupported(222)),
-        (1000, [0, 0, 0, 0], Ending::Unsupported(1000)),
-        (94, [0x107, 0, 0, 0], Ending::Exited(7)),
-        (93, [0x108, 0, 0, 0], Ending::Exited(8)),
-    ] {
+#[test]
+fn a_hart_asks_about_itself_and_its_memory(rt: HostRuntime) -> Result<(), Fail> {
+    let image = image(rt.alloc())?;
+    let mut guest = Guest::new(rt.alloc(), &image, &INPUT, 5, Layout::usual())?;
+    check_answers(&rt, &mut guest, &OWN);
+    check_answers(&rt, &mut guest, &AREAS);
+    Ok(())
+}
+
+/// A call of the first hart with its arguments, and how it ends the run.
+type End = (u64, [u64; 4], Ending);
+
+/// What is not supported leaves the guest as it is; the last hart's exit ends the run.
+const ENDS: [End; 15] = [
+    (98, [STACK, 2, 0, 0], Ending::Unsupported(98)),
+    (98, [STACK, 0x1_0000_0000, 0, 0], Ending::Unsupported(98)),
+    (98, [STACK, 128, 0, STACK], Ending::Unsupported(98)),
+    (220, [0x10E00, 0, 0, 0], Ending::Unsupported(220)),
+    (220, [0x10D00, 0, 0, 0], Ending::Unsupported(220)),
+    (220, [0x10B00, 0, 0, 0], Ending::Unsupported(220)),
+    (220, [0x10700, 0, 0, 0], Ending::Unsupported(220)),
+    (220, [0x00F00, 0, 0, 0], Ending::Unsupported(220)),
+    (220, [0x11F00, 0, 0, 0], Ending::Unsupported(220)),
+    (220, [0x1_0001_0F00, 0, 0, 0], Ending::Unsupported(220)),
+    (222, [0, 1, 3, 0x20], Ending::Unsupported(222)),
+    (222, [0, 1, 3, 0x32], Ending::Unsupported(222)),
+    (1000, [0, 0, 0, 0], Ending::Unsupported(1000)),
+    (94, [0x107, 0, 0, 0], Ending::Exited(7)),
+    (93, [0x108, 0, 0, 0], Ending::Exited(8)),
+];
+
+#[test]
+fn calls_end_the_run(rt: HostRuntime) -> Result<(), Fail> {
+    let image = image(rt.alloc())?;
+    let mut guest = Guest::new(rt.alloc(), &image, &INPUT, 5, Layout::usual())?;
+    for (number, arguments, ending) in ENDS {
         let got = guest.ask(number, arguments);
         let first = arguments[0].cast_signed();
         assert_eq!(rt;
             got,
-            Some((Fate::Ends(wanted), first)),
+            Some((Fate::Ends(ending), first)),
             "{number} of {arguments:?}"
         );
     }
@@ -192,72 +243,93 @@ type Asked = (u16, u64, [u64; 5], Fate, i64, &'static [HartId]);
 
 const NONE: &[HartId] = &[];
 
+/// Thread ids are stored where they may be, and the child's clear address is a4.
+const CLONES: [Asked; 4] = [
+    (
+        0,
+        220,
+        [0x17D0F11, STACK + 64, STACK, 7, STACK + 4],
+        Fate::Goes,
+        2,
+        &[HartId(1)],
+    ),
+    (1, 178, [0; 5], Fate::Goes, 2, NONE),
+    (
+        0,
+        220,
+        [0x1310F00, 0, TEXT, 0, TEXT],
+        Fate::Goes,
+        3,
+        &[HartId(2)],
+    ),
+    (0, 220, [0x10F00, 0, 0, 0, 0], Fate::Goes, 4, &[HartId(3)]),
+];
+
+/// A wait looks at the address and at a value of 32 bits.
+const WAITS: [Asked; 6] = [
+    (0, 98, [STACK + 2, 0, 2, 0, 0], Fate::Goes, -22, NONE),
+    (0, 98, [MAP, 0, 2, 0, 0], Fate::Goes, -14, NONE),
+    (0, 98, [STACK, 0, 4, 0, 0], Fate::Goes, -11, NONE),
+    (
+        3,
+        98,
+        [STACK, 128, 0x5_0000_0002, 0, 0],
+        Fate::Waits,
+        0,
+        NONE,
+    ),
+    (0, 98, [STACK, 0, 2, 0, 0], Fate::Waits, 0, NONE),
+    (2, 98, [STACK + 4, 0, 2, 0, 0], Fate::Waits, 0, NONE),
+];
+
+/// A wake starts at least one hart, the eldest first, of those that wait at that address.
+const WAKES: [Asked; 6] = [
+    (1, 98, [STACK + 2, 1, 1, 0, 0], Fate::Goes, -22, NONE),
+    (1, 98, [STACK + 8, 1, 9, 0, 0], Fate::Goes, 0, NONE),
+    (1, 98, [STACK, 129, 0, 0, 0], Fate::Goes, 1, &[HartId(3)]),
+    (3, 98, [STACK, 0, 2, 0, 0], Fate::Waits, 0, NONE),
+    (
+        1,
+        98,
+        [STACK, 1, 9, 0, 0],
+        Fate::Goes,
+        2,
+        &[HartId(0), HartId(3)],
+    ),
+    (1, 98, [STACK, 1, 0xFFFF_FFFF, 0, 0], Fate::Goes, 0, NONE),
+];
+
+/// An exit clears the address and wakes one hart.
+const EXITS: [Asked; 6] = [
+    (3, 98, [STACK + 4, 0, 2, 0, 0], Fate::Waits, 0, NONE),
+    (1, 93, [5, 0, 0, 0, 0], Fate::Leaves, 5, &[HartId(2)]),
+    (0, 98, [STACK + 4, 0, 2, 0, 0], Fate::Goes, -11, NONE),
+    (2, 93, [0; 5], Fate::Leaves, 0, NONE),
+    (0, 98, [STACK + 4, 1, 1, 0, 0], Fate::Goes, 1, &[HartId(3)]),
+    (3, 93, [0; 5], Fate::Leaves, 0, NONE),
+];
+
+/// These harts make these calls one after the other.
+fn check_asked(rt: &impl Abort, guest: &mut Guest, rows: &[Asked]) {
+    let mut started = HartList::new();
+    for &(hart, number, arguments, fate, a0, harts) in rows {
+        let got = guest.ask_as(HartId(hart), number, arguments, &mut started);
+        assert_eq!(rt;
+            (got, started.harts()),
+            (Some((fate, a0)), harts),
+            "{number} of {arguments:?}"
+        );
+    }
+}
+
 #[test]
 fn threads_wait_and_are_woken(rt: HostRuntime) -> Result<(), Fail> {
-    let image = Image::new(&FILE, vec![in rt.alloc(); AREA]?, TEXT, 0, 1);
+    let image = image(rt.alloc())?;
     let mut guest = Guest::new(rt.alloc(), &image, &INPUT, 5, Layout::usual())?;
-    let mut started = HartList::new();
-    let asked: [Asked; 22] = [
-        // thread ids are stored where they may be, and the child's clear address is a4
-        (
-            0,
-            220,
-            [0x17D0F11, STACK + 64, STACK, 7, STACK + 4],
-            Fate::Goes,
-            2,
-            &[HartId(1)],
-        ),
-        (1, 178, [0; 5], Fate::Goes, 2, NONE),
-        (
-            0,
-            220,
-            [0x1310F00, 0, TEXT, 0, TEXT],
-            Fate::Goes,
-            3,
-            &[HartId(2)],
-        ),
-        (0, 220, [0x10F00, 0, 0, 0, 0], Fate::Goes, 4, &[HartId(3)]),
-        // a wait: the address, the value of 32 bits
-        (0, 98, [STACK + 2, 0, 2, 0, 0], Fate::Goes, -22, NONE),
-        (0, 98, [MAP, 0, 2, 0, 0], Fate::Goes, -14, NONE),
-        (0, 98, [STACK, 0, 4, 0, 0], Fate::Goes, -11, NONE),
-        (
-            3,
-            98,
-            [STACK, 128, 0x5_0000_0002, 0, 0],
-            Fate::Waits,
-            0,
-            NONE,
-        ),
-        (0, 98, [STACK, 0, 2, 0, 0], Fate::Waits, 0, NONE),
-        (2, 98, [STACK + 4, 0, 2, 0, 0], Fate::Waits, 0, NONE),
-        // a wake: at least one, the eldest first, of that address
-        (1, 98, [STACK + 2, 1, 1, 0, 0], Fate::Goes, -22, NONE),
-        (1, 98, [STACK + 8, 1, 9, 0, 0], Fate::Goes, 0, NONE),
-        (1, 98, [STACK, 129, 0, 0, 0], Fate::Goes, 1, &[HartId(3)]),
-        (3, 98, [STACK, 0, 2, 0, 0], Fate::Waits, 0, NONE),
-        (
-            1,
-            98,
-            [STACK, 1, 9, 0, 0],
-            Fate::Goes,
-            2,
-            &[HartId(0), HartId(3)],
-        ),
-        (1, 98, [STACK, 1, 0xFFFF_FFFF, 0, 0], Fate::Goes, 0, NONE),
-        // an exit clears the address and wakes one hart
-        (3, 98, [STACK + 4, 0, 2, 0, 0], Fate::Waits, 0, NONE),
-        (1, 93, [5, 0, 0, 0, 0], Fate::Leaves, 5, &[HartId(2)]),
-        (0, 98, [STACK + 4, 0, 2, 0, 0], Fate::Goes, -11, NONE),
-        (2, 93, [0; 5], Fate::Leaves, 0, NONE),
-        (0, 98, [STACK + 4, 1, 1, 0, 0], Fate::Goes, 1, &[HartId(3)]),
-        (3, 93, [0; 5], Fate::Leaves, 0, NONE),
-    ];
-    for (hart, number, arguments, fate, a0, harts) in asked {
-        let got = guest.ask_as(HartId(hart), number, arguments, &mut started);
-        assert_eq!(rt; got, Some((fate, a0)), "{number} of {arguments:?}");
-        assert_eq!(rt; started.harts(), harts);
-    }
+    check_asked(&rt, &mut guest, &CLONES);
+    check_asked(&rt, &mut guest, &WAITS);
+    check_asked(&rt, &mut guest, &WAKES);
+    check_asked(&rt, &mut guest, &EXITS);
     for made in 4..256 {
         let got = guest.ask(220, [0x10F00, 0, 0, 0]);
         assert_eq!(rt; got, Some((Fate::Goes, made + 1)));

@@ -38,75 +38,71 @@ fn is_refused(alloc: Global, texts: &[&str]) -> Result<bool, AllocError> {
     Ok(read_words(words.as_slice()).is_none())
 }
 
+/// Words that ask for a run: its program, its input and its budget.
+type Taken = (
+    &'static [&'static str],
+    &'static str,
+    Option<&'static str>,
+    u64,
+);
+
+const USUAL: u64 = 100000000;
+
+const TAKEN: [Taken; 10] = [
+    (&["run", "one"], "one", None, USUAL),
+    (&["run", "--", "one"], "one", None, USUAL),
+    (&["run", "one", "--"], "one", None, USUAL),
+    (&["run", "--budget=3", "one"], "one", None, 3),
+    (
+        &["run", "one", "--budget", "3", "--input", "data"],
+        "one",
+        Some("data"),
+        3,
+    ),
+    (&["run", "one", "--input=-x"], "one", Some("-x"), USUAL),
+    (&["run", "one", "--input=a=b"], "one", Some("a=b"), USUAL),
+    (&["run", "--", "--"], "--", None, USUAL),
+    (&["run", "-", "--budget=00000000000000000003"], "-", None, 3),
+    (
+        &["run", "one", "--budget=1000000000000"],
+        "one",
+        None,
+        1000000000000,
+    ),
+];
+
 #[test]
-fn takes_and_refuses(rt: HostRuntime) -> Result<(), Fail> {
-    let alloc = rt.alloc();
-    let usual = 100000000;
-    assert!(rt; asks(alloc, &["run", "one"], "one", None, usual)?);
-    assert!(rt; asks(alloc, &["run", "--", "one"], "one", None, usual)?);
-    assert!(rt; asks(alloc, &["run", "one", "--"], "one", None, usual)?);
-    assert!(rt; asks(alloc, &["run", "--budget=3", "one"], "one", None, 3)?);
-    assert!(rt;
-        asks(
-            alloc,
-            &["run", "one", "--budget", "3", "--input", "data"],
-            "one",
-            Some("data"),
-            3
-        )?
-    );
-    assert!(rt;
-        asks(
-            alloc,
-            &["run", "one", "--input=-x"],
-            "one",
-            Some("-x"),
-            usual
-        )?
-    );
-    assert!(rt;
-        asks(
-            alloc,
-            &["run", "one", "--input=a=b"],
-            "one",
-            Some("a=b"),
-            usual
-        )?
-    );
-    assert!(rt; asks(alloc, &["run", "--", "--"], "--", None, usual)?);
-    assert!(rt;
-        asks(
-            alloc,
-            &["run", "-", "--budget=00000000000000000003"],
-            "-",
-            None,
-            3
-        )?
-    );
-    assert!(rt;
-        asks(
-            alloc,
-            &["run", "one", "--budget=1000000000000"],
-            "one",
-            None,
-            1000000000000
-        )?
-    );
-    assert!(rt; is_refused(alloc, &[])?);
-    assert!(rt; is_refused(alloc, &["run"])?);
-    assert!(rt; is_refused(alloc, &["run", "one", "two"])?);
-    assert!(rt; is_refused(alloc, &["run", "--input"])?);
-    assert!(rt; is_refused(alloc, &["run", "one", "--budget", "2", "--budget", "2"])?);
-    assert!(rt; is_refused(alloc, &["run", "one", "--input="])?);
-    assert!(rt; is_refused(alloc, &["run", "one", "--", "--budget"])?);
-    assert!(rt; is_refused(alloc, &["run", "one", "--budget", "0"])?);
-    assert!(rt; is_refused(alloc, &["run", "one", "--budget", "1000000000001"])?);
-    assert!(rt; is_refused(alloc, &["run", "one", "--budget", "x"])?);
-    assert!(rt; is_refused(alloc, &["run", "one", "--budget=000000000000000000003"])?);
-    assert!(rt; is_refused(alloc, &["run", "one", "--lines", "a:1"])?);
-    assert!(rt; is_refused(alloc, &["run", "-one"])?);
-    assert!(rt; is_refused(alloc, &["run", "o\0e"])?);
-    assert!(rt; is_refused(alloc, &["walk", "one"])?);
+fn takes_runs(rt: HostRuntime) -> Result<(), Fail> {
+    for (words, target, input, budget) in TAKEN {
+        let taken = asks(rt.alloc(), words, target, input, budget)?;
+        assert!(rt; taken, "{words:?}");
+    }
+    Ok(())
+}
+
+const REFUSED: [&[&str]; 15] = [
+    &[],
+    &["run"],
+    &["run", "one", "two"],
+    &["run", "--input"],
+    &["run", "one", "--budget", "2", "--budget", "2"],
+    &["run", "one", "--input="],
+    &["run", "one", "--", "--budget"],
+    &["run", "one", "--budget", "0"],
+    &["run", "one", "--budget", "1000000000001"],
+    &["run", "one", "--budget", "x"],
+    &["run", "one", "--budget=000000000000000000003"],
+    &["run", "one", "--lines", "a:1"],
+    &["run", "-one"],
+    &["run", "o\0e"],
+    &["walk", "one"],
+];
+
+#[test]
+fn refuses_words(rt: HostRuntime) -> Result<(), Fail> {
+    for words in REFUSED {
+        assert!(rt; is_refused(rt.alloc(), words)?, "{words:?}");
+    }
     Ok(())
 }
 

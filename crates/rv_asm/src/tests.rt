@@ -26,71 +26,72 @@ fn word_of(alloc: Global, source: &[u8]) -> Option<u32> {
     }
 }
 
-// The places were told by an implementation that was written apart from this one.
+/// Sources, and the kind, line and column of their first fault. The places were told by an implementation that was
+/// written apart from this one.
+const FAULTS: [(&[u8], AsmKind, u32, u32); 20] = [
+    (b"    addi a0, x0, 2048", AsmKind::Range, 1, 18),
+    (b"", AsmKind::Empty, 1, 1),
+    (b"addi a0 x0, 0", AsmKind::Operand, 1, 9),
+    (b"foo", AsmKind::Name, 1, 1),
+    (b"j nowhere", AsmKind::Missing, 1, 3),
+    (b".data\naddi x0, x0, 0", AsmKind::Section, 2, 1),
+    (b"nop ; x", AsmKind::Token, 1, 5),
+    (b"x: x: nop", AsmKind::Twice, 1, 4),
+    (b"nop\nnop # \x01", AsmKind::Byte, 2, 7),
+    // two on a line, and two on two lines
+    (b"x: x: foo", AsmKind::Twice, 1, 4),
+    (b"foo @", AsmKind::Token, 1, 5),
+    (b"@ \x7F", AsmKind::Byte, 1, 3),
+    (b"j nowhere\nfoo", AsmKind::Name, 2, 1),
+    (b".byte 300 x", AsmKind::Section, 1, 1),
+    (b".data\n.byte 300 x", AsmKind::Range, 2, 7),
+    (b"j a\nj b", AsmKind::Missing, 1, 3),
+    (b".data\n.zero 1048576\n.byte 1", AsmKind::Much, 3, 1),
+    (b"nop\nj t\n.data\n.zero 1044484\nt:", AsmKind::Far, 2, 3),
+    (b"beq x0, x0, t\n.data\n.byte 1\nt:", AsmKind::Far, 1, 13),
+    (b".data\n.dword t", AsmKind::Missing, 2, 8),
+];
+
 #[test]
-fn the_first_fault_is_told(rt: HostRuntime) -> Result<(), Fail> {
-    let rows: [(&[u8], AsmKind, u32, u32); 20] = [
-        (b"    addi a0, x0, 2048", AsmKind::Range, 1, 18),
-        (b"", AsmKind::Empty, 1, 1),
-        (b"addi a0 x0, 0", AsmKind::Operand, 1, 9),
-        (b"foo", AsmKind::Name, 1, 1),
-        (b"j nowhere", AsmKind::Missing, 1, 3),
-        (b".data\naddi x0, x0, 0", AsmKind::Section, 2, 1),
-        (b"nop ; x", AsmKind::Token, 1, 5),
-        (b"x: x: nop", AsmKind::Twice, 1, 4),
-        (b"nop\nnop # \x01", AsmKind::Byte, 2, 7),
-        // two on a line, and two on two lines
-        (b"x: x: foo", AsmKind::Twice, 1, 4),
-        (b"foo @", AsmKind::Token, 1, 5),
-        (b"@ \x7F", AsmKind::Byte, 1, 3),
-        (b"j nowhere\nfoo", AsmKind::Name, 2, 1),
-        (b".byte 300 x", AsmKind::Section, 1, 1),
-        (b".data\n.byte 300 x", AsmKind::Range, 2, 7),
-        (b"j a\nj b", AsmKind::Missing, 1, 3),
-        (b".data\n.zero 1048576\n.byte 1", AsmKind::Much, 3, 1),
-        (b"nop\nj t\n.data\n.zero 1044484\nt:", AsmKind::Far, 2, 3),
-        (b"beq x0, x0, t\n.data\n.byte 1\nt:", AsmKind::Far, 1, 13),
-        (b".data\n.dword t", AsmKind::Missing, 2, 8),
-    ];
-    for (source, kind, line, column) in rows {
+fn the_first_fault_is_told(rt: HostRuntime) {
+    for (source, kind, line, column) in FAULTS {
         assert_eq!(rt; fault_of(rt.alloc(), source), Some((kind, line, column)));
     }
+}
+
+#[test]
+fn lines_are_counted(rt: HostRuntime) -> Result<(), Fail> {
     let lines = vec![in rt.alloc(); b'\n'; 65_537]?;
-    assert_eq!(rt;
-        fault_of(rt.alloc(), &lines),
-        Some((AsmKind::Lines, 65_537, 1))
-    );
-    assert_eq!(rt;
-        fault_of(rt.alloc(), &lines[1..]),
-        Some((AsmKind::Empty, 1, 1))
-    );
+    let of_all = fault_of(rt.alloc(), &lines);
+    assert_eq!(rt; of_all, Some((AsmKind::Lines, 65_537, 1)));
+    let of_one_less = fault_of(rt.alloc(), &lines[1..]);
+    assert_eq!(rt; of_one_less, Some((AsmKind::Empty, 1, 1)));
     Ok(())
 }
 
-// The words are those of the GNU assembler, and a section of exactly its limit is taken.
+/// Statements, and the words that the GNU assembler makes of them. The last fills a section up to its limit.
+const WORDS: [(&[u8], u32); 16] = [
+    (b"add x23, x13, x21", 0x0156_8bb3),
+    (b"ld x4, 1406(x24)", 0x57ec_3203),
+    (b"sd x31, -1(x26)", 0xfffd_3fa3),
+    (b"t: beq x27, x3, t", 0x003d_8063),
+    (b"jalr x22, 0(x31)", 0x000f_8b67),
+    (b"lui x29, 1048575", 0xffff_feb7),
+    (b"auipc x4, 1", 0x0000_1217),
+    (b"lr.w x22, (x6)", 0x1003_2b2f),
+    (b"amoadd.w.aq x0, x8, (x29)", 0x048e_a02f),
+    (b"sc.d.aqrl x13, x6, (x18)", 0x1e69_36af),
+    (b"fence", 0x0ff0_000f),
+    (b"ecall", 0x0000_0073),
+    (b"li a0, -2048", 0x8000_0513),
+    (b"ret", 0x0000_8067),
+    (b"_start: nop # \" not a text", 0x0000_0013),
+    (b"nop\n.data\n.zero 1048576", 0x0000_0013),
+];
+
 #[test]
-fn statements_have_their_words(rt: HostRuntime) -> Result<(), Fail> {
-    let rows: [(&[u8], u32); 15] = [
-        (b"add x23, x13, x21", 0x0156_8bb3),
-        (b"ld x4, 1406(x24)", 0x57ec_3203),
-        (b"sd x31, -1(x26)", 0xfffd_3fa3),
-        (b"t: beq x27, x3, t", 0x003d_8063),
-        (b"jalr x22, 0(x31)", 0x000f_8b67),
-        (b"lui x29, 1048575", 0xffff_feb7),
-        (b"auipc x4, 1", 0x0000_1217),
-        (b"lr.w x22, (x6)", 0x1003_2b2f),
-        (b"amoadd.w.aq x0, x8, (x29)", 0x048e_a02f),
-        (b"sc.d.aqrl x13, x6, (x18)", 0x1e69_36af),
-        (b"fence", 0x0ff0_000f),
-        (b"ecall", 0x0000_0073),
-        (b"li a0, -2048", 0x8000_0513),
-        (b"ret", 0x0000_8067),
-        (b"_start: nop # \" not a text", 0x0000_0013),
-    ];
-    for (source, word) in rows {
+fn statements_have_their_words(rt: HostRuntime) {
+    for (source, word) in WORDS {
         assert_eq!(rt; word_of(rt.alloc(), source), Some(word));
     }
-    let full = b"nop\n.data\n.zero 1048576";
-    assert_eq!(rt; word_of(rt.alloc(), full), Some(0x0000_0013));
-    Ok(())
 }

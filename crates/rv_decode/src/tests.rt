@@ -295,88 +295,123 @@ fn check(rt: &impl Abort, word: u32, instr: Instr) {
 }
 
 #[test]
-fn words_of_the_assembler(rt: HostRuntime) {
+fn upper_immediates(rt: HostRuntime) {
     for (word, op, rd, value) in UPPER {
-        check(&rt, word, Instr::Upper { op, rd, value });
+        let instr = Instr::Upper { op, rd, value };
+        check(&rt, word, instr);
     }
+}
+
+#[test]
+fn jumps(rt: HostRuntime) {
     for (word, rd, offset) in JUMPS {
-        check(&rt, word, Instr::Jal { rd, offset });
+        let instr = Instr::Jal { rd, offset };
+        check(&rt, word, instr);
     }
+}
+
+#[test]
+fn register_jumps(rt: HostRuntime) {
     for (word, rd, rs1, offset) in REGISTER_JUMPS {
-        check(&rt, word, Instr::Jalr { rd, rs1, offset });
+        let instr = Instr::Jalr { rd, rs1, offset };
+        check(&rt, word, instr);
     }
+}
+
+#[test]
+fn branches(rt: HostRuntime) {
     for (word, op, rs1, rs2, offset) in BRANCHES {
-        check(
-            &rt,
-            word,
-            Instr::Branch {
-                op,
-                rs1,
-                rs2,
-                offset,
-            },
-        );
+        let instr = Instr::Branch {
+            op,
+            rs1,
+            rs2,
+            offset,
+        };
+        check(&rt, word, instr);
     }
+}
+
+#[test]
+fn loads(rt: HostRuntime) {
     for (word, op, rd, rs1, offset) in LOADS {
-        check(
-            &rt,
-            word,
-            Instr::Load {
-                op,
-                rd,
-                rs1,
-                offset,
-            },
-        );
+        let instr = Instr::Load {
+            op,
+            rd,
+            rs1,
+            offset,
+        };
+        check(&rt, word, instr);
     }
+}
+
+#[test]
+fn stores(rt: HostRuntime) {
     for (word, op, rs1, rs2, offset) in STORES {
-        check(
-            &rt,
-            word,
-            Instr::Store {
-                op,
-                rs1,
-                rs2,
-                offset,
-            },
-        );
+        let instr = Instr::Store {
+            op,
+            rs1,
+            rs2,
+            offset,
+        };
+        check(&rt, word, instr);
     }
+}
+
+#[test]
+fn operations_of_immediates(rt: HostRuntime) {
     for (word, op, rd, rs1, value) in IMMEDIATES {
-        check(&rt, word, Instr::Imm { op, rd, rs1, value });
+        let instr = Instr::Imm { op, rd, rs1, value };
+        check(&rt, word, instr);
     }
+}
+
+#[test]
+fn shifts(rt: HostRuntime) {
     for (word, op, rd, rs1, amount) in SHIFTS {
-        check(
-            &rt,
-            word,
-            Instr::Shift {
-                op,
-                rd,
-                rs1,
-                amount,
-            },
-        );
+        let instr = Instr::Shift {
+            op,
+            rd,
+            rs1,
+            amount,
+        };
+        check(&rt, word, instr);
     }
+}
+
+#[test]
+fn operations_of_registers(rt: HostRuntime) {
     for (word, op, rd, rs1, rs2) in REGISTERS {
-        check(&rt, word, Instr::Reg { op, rd, rs1, rs2 });
+        let instr = Instr::Reg { op, rd, rs1, rs2 };
+        check(&rt, word, instr);
     }
+}
+
+#[test]
+fn atomic_operations(rt: HostRuntime) {
     for (word, op, wide, aq, rl, rd, rs1, rs2) in ATOMICS {
-        check(
-            &rt,
-            word,
-            Instr::Atomic {
-                op,
-                wide,
-                aq,
-                rl,
-                rd,
-                rs1,
-                rs2,
-            },
-        );
+        let instr = Instr::Atomic {
+            op,
+            wide,
+            aq,
+            rl,
+            rd,
+            rs1,
+            rs2,
+        };
+        check(&rt, word, instr);
     }
+}
+
+#[test]
+fn fences(rt: HostRuntime) {
     for (word, rd, rs1, bits) in FENCES {
-        check(&rt, word, Instr::Fence { rd, rs1, bits });
+        let instr = Instr::Fence { rd, rs1, bits };
+        check(&rt, word, instr);
     }
+}
+
+#[test]
+fn calls_and_breaks(rt: HostRuntime) {
     check(&rt, 0x0000_0073, Instr::Ecall);
     check(&rt, 0x0010_0073, Instr::Ebreak);
 }

@@ -1,9 +1,9 @@
 use Rattle.std.proofs.Common.{refl, lit<, lit≤}
 use Rattle.coz_types.specs.Image.{one_area}
-use Rattle.guest_calls.proofs.tests.calls_answer_by_their_rows.Goals as goal
+use Rattle.guest_calls.proofs.tests.image.Goals as goal
 
-pub new-image-requires : goal.new-image-requires
-new-image-requires g c =
+pub new-requires : goal.new-requires
+new-requires c =
     rw c.in_ok-vec.ensures.items (one_area _ _ _ _ _
     (record {
       whole_start = refl;
