@@ -1,32 +1,31 @@
 -- What is known of the line of a fault.
-use Rattle.std.proofs.Common.{◌≡◌, ◌≢◌, ℕ, List, Option, Some, None, IfSome, refl, ap, arith, ◌⊎◌, inl, inr}
+use Rattle.std.proofs.Common.{◌≡◌, ◌≢◌, ◌≤◌, ℕ, List, Option, Some, None, IfSome, Err, refl, ap, arith, ◌⊎◌, inl, inr}
 use Rattle.std.specs.Prelude.{IfNone, IsSomeAnd}
 use Rattle.coz_files.specs.Faults.{Rose}
 use Rattle.coz_files.specs.Held.{Held}
-use Rattle.coz_cli.specs.declared.answer.Answer.TheVariants.{Refused}
-use Rattle.coz_cli.specs.declared.answer.Fault.{Fault}
-use Rattle.coz_cli.specs.declared.answer.Fault.TheVariants.{Usage, Program, Lines, Read, Write, NoLine, ManyPoints, Long, Memory, Source}
+use Rattle.coz_cli.specs.declared.fault.Fault.{Fault}
+use Rattle.coz_cli.specs.declared.fault.Fault.TheVariants.{Usage, Program, Lines, Read, Write, NoLine, ManyPoints, Long, Memory, Source}
 use Rattle.coz_cli.specs.Words.{request_of}
 use Rattle.coz_cli.specs.Verdict.{Verdict, verdict}
-use Rattle.coz_cli.specs.Answer.{IsMemory, IsRead, Suits, Settles, fault_status, fault_line}
+use Rattle.coz_cli.specs.Answer.{IsMemoryFault, IsReadFault, Suits, Settles, fault_status, fault_line}
 use Rattle.coz_cli.specs.Serve.{IsLine}
 
 -- what is known of a fault that is told
 pub record IsKnown (fault : Fault) (status : ℕ) (words : List (List ℕ)) (told : Option Held) (before now : ℕ) : Type 0 where
   pub status_is : status ≡ fault_status fault
-  pub suits : Suits (request_of words) (Refused fault)
-  pub settled : IfSome told (λ held. (IsMemory (Refused fault) → ⊥) → Settles (verdict words held) before now (Refused fault))
-  pub untold : IsRead (Refused fault) → IfNone told (Rose before now)
+  pub suits : Suits (request_of words) (Err fault)
+  pub settled : IfSome told (λ held. (IsMemoryFault fault → ⊥) → Settles (verdict words held) before now (Err fault))
+  pub untold : IsReadFault fault → IfNone told (Rose before now)
 
 module _ (status : ℕ) (words : List (List ℕ)) (told : Option Held) (before now : ℕ) where
   -- a fault that is neither of a read nor want of memory is the verdict's
-  of_verdict : (fault : Fault) (o : Option Held) → (IsRead (Refused fault) → ⊥) → (IsMemory (Refused fault) → ⊥)
-      → IfSome o (λ held. (IsMemory (Refused fault) → ⊥) → Settles (verdict words held) before now (Refused fault)) → IfSome o (λ held. fault_line fault ≡ (verdict words held).line)
+  of_verdict : (fault : Fault) (o : Option Held) → (IsReadFault fault → ⊥) → (IsMemoryFault fault → ⊥)
+      → IfSome o (λ held. (IsMemoryFault fault → ⊥) → Settles (verdict words held) before now (Err fault)) → IfSome o (λ held. fault_line fault ≡ (verdict words held).line)
   of_verdict fault None no_read no_memory settled = tt
   of_verdict fault (Some held) no_read no_memory settled =
       elim (settled no_memory) [ inl is ↦ ap (λ (v : Verdict). v.line) is | inr failed ↦ absurd (no_read failed.0) ]
 
-  plain : (fault : Fault) → IsKnown fault status words told before now → status ≢ 2 → status ≢ 5 → status ≢ 6 → status ≢ 10 → (IsRead (Refused fault) → ⊥) → (IsMemory (Refused fault) → ⊥)
+  plain : (fault : Fault) → IsKnown fault status words told before now → status ≢ 2 → status ≢ 5 → status ≢ 6 → status ≢ 10 → (IsReadFault fault → ⊥) → (IsMemoryFault fault → ⊥)
       → IsLine status words told before now (fault_line fault)
   plain fault k two five six ten no_read no_memory = record {
     usage = λ is. absurd (two is);
@@ -38,7 +37,7 @@ module _ (status : ℕ) (words : List (List ℕ)) (told : Option Held) (before n
   }
 
   -- a read that failed with a counted fault, or the path that has no file
-  absent_by : (path : _) (o : Option Held) → IfNone o (Rose before now) → IfSome o (λ held. (IsMemory (Refused (Read path)) → ⊥) → Settles (verdict words held) before now (Refused (Read path)))
+  absent_by : (path : _) (o : Option Held) → IfNone o (Rose before now) → IfSome o (λ held. (IsMemoryFault (Read path) → ⊥) → Settles (verdict words held) before now (Err (Read path)))
       → Rose before now ⊎ IsSomeAnd o (λ held. fault_line (Read path) ≡ (verdict words held).line)
   absent_by path None untold settled = inl untold
   absent_by path (Some held) untold settled =
@@ -76,3 +75,16 @@ module _ (status : ℕ) (words : List (List ℕ)) (told : Option Held) (before n
   told_line (ManyPoints count) k = plain (ManyPoints count) k (λ is. omega (arith, is, k.status_is)) (λ is. omega (arith, is, k.status_is)) (λ is. omega (arith, is, k.status_is)) (λ is. omega (arith, is, k.status_is)) (λ no. no) (λ no. no)
   told_line (Long path) k = plain (Long path) k (λ is. omega (arith, is, k.status_is)) (λ is. omega (arith, is, k.status_is)) (λ is. omega (arith, is, k.status_is)) (λ is. omega (arith, is, k.status_is)) (λ no. no) (λ no. no)
   told_line (Source fault) k = plain (Source fault) k (λ is. omega (arith, is, k.status_is)) (λ is. omega (arith, is, k.status_is)) (λ is. omega (arith, is, k.status_is)) (λ is. omega (arith, is, k.status_is)) (λ no. no) (λ no. no)
+
+-- no fault has the status of a run
+pub told_high : (fault : Fault) → 2 ≤ fault_status fault
+told_high Usage = omega arith
+told_high (Program fault) = omega arith
+told_high (Lines fault) = omega arith
+told_high (Read path) = omega arith
+told_high Write = omega arith
+told_high (NoLine piece) = omega arith
+told_high (ManyPoints count) = omega arith
+told_high (Long path) = omega arith
+told_high Memory = omega arith
+told_high (Source fault) = omega arith

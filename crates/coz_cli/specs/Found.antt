@@ -10,7 +10,8 @@ use Rattle.run_words.specs.Said.{Text}
 use Rattle.run_words.specs.Values.{pieces}
 use Rattle.coz_cli.specs.declared.selection.Unchosen.{Unchosen as CodeUnchosen}
 use Rattle.coz_cli.specs.declared.selection.Unchosen.TheVariants.{NoLine, Memory}
-use Rattle.coz_cli.specs.Selection.{no_line, selected_line, line_found, rising}
+use Rattle.coz_cli.specs.declared.selection.Chosen.{Chosen as CodeChosen}
+use Rattle.coz_cli.specs.Selection.{Chosen, no_line, line_named, line_found, rising}
 
 abbrev pub id_of : LineId → ℕ
 id_of line = line.0
@@ -18,10 +19,11 @@ id_of line = line.0
 abbrev pub ids : List LineId → List ℕ
 ids lines = map id_of lines
 
--- the selected line, as the definition has it
-abbrev pub IsSelected : List Line → Option (Bor Text) → Result (Option LineId) (Bor Text) → Type 0
-IsSelected lines text (Ok selected) = selected_line lines (option_copied text) ≡ Ok (option_map id_of selected)
-IsSelected lines text (Err piece) = selected_line lines (option_copied text) ≡ Err (no_line piece.now)
+-- of the line of a text, if one is given
+abbrev pub IsLineNamed : List Line → Option (Bor Text) → Result (Option LineId) CodeUnchosen → Type 0
+IsLineNamed lines text (Ok line) = line_named lines (option_copied text) ≡ Ok (option_map id_of line)
+IsLineNamed lines text (Err (NoLine piece)) = line_named lines (option_copied text) ≡ Err (no_line piece.now)
+IsLineNamed lines text (Err Memory) = ⊥
 
 abbrev pub pieces_of : Option (Bor Text) → List Text
 pieces_of None = []
@@ -35,3 +37,7 @@ AreProgressLines lines list (Ok found) =
     × All (λ (line : LineId). line.0 < length lines) found.items
 AreProgressLines lines list (Err (NoLine piece)) = find (λ text. is_none (line_found lines text)) (pieces_of list) ≡ Some piece.now
 AreProgressLines lines list (Err Memory) = Unit {0}
+
+-- the positions of the chosen lines
+abbrev pub positions_of : CodeChosen → Chosen
+positions_of c = record { selected = option_map id_of c.selected; points = c.points.lines }

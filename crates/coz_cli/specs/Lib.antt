@@ -10,5 +10,6 @@ pub mod Verdict
 pub mod Kind
 pub mod LinesText
 pub mod Answer
+pub mod Causes
 pub mod Serve
 pub mod Headline

@@ -20,9 +20,10 @@ pub data Unchosen : Type 0 where
 abbrev pub line_found : List Line → Text → Option ℕ
 line_found lines text = found (line_parts text).0 (line_parts text).1 lines
 
-abbrev pub selected_line : List Line → Option Text → Result (Option ℕ) Unchosen
-selected_line lines None = Ok None
-selected_line lines (Some text) = elim (line_found lines text) [ Some l ↦ Ok (Some l) | None ↦ Err (no_line text) ]
+-- the position of the line of a text, if one is given
+abbrev pub line_named : List Line → Option Text → Result (Option ℕ) Unchosen
+line_named lines None = Ok None
+line_named lines (Some text) = elim (line_found lines text) [ Some l ↦ Ok (Some l) | None ↦ Err (no_line text) ]
 
 -- rising numbers with one more, which is there once
 abbrev pub with_number : List ℕ → ℕ → List ℕ
@@ -63,4 +64,4 @@ with_line (Ok selected) points = with_points selected points
 
 -- the selected line is judged first, and then the points
 unfoldable pub chosen : List Line → Asked → Result Chosen Unchosen
-chosen lines asked = with_line (selected_line lines asked.line) (progress_lines lines asked.progress)
+chosen lines asked = with_line (line_named lines asked.line) (progress_lines lines asked.progress)

@@ -5,38 +5,23 @@ ghost use Rattle.coz_cli.specs.Verdict.{verdict};
 ghost use Rattle.coz_cli.specs.Answer.{IsMemory, IsRead, Suits, Settles};
 
 use crate::experiment::{Kind, judge_experiment};
+use crate::fault::Fault;
 use crate::lines::judge_lines;
 use crate::source::judge_source;
 use crate::words::request;
 use coz_files::Files;
-use dwarf_lines::LineFault;
-use elf_load::ElfFault;
 use run_words::Command;
-use rv_asm::AsmFault;
 use std::alloc::Global;
 
-/// Why nothing is printed.
-#[derive(Clone, Copy)]
-pub enum Fault<'a> {
-    Usage,
-    Program(ElfFault),
-    Lines(LineFault),
-    Read(&'a str),
-    Write,
-    /// A line that is named is none of the program's.
-    NoLine(&'a str),
-    ManyPoints(u64),
-    Long(&'a str),
-    Memory,
-    Source(AsmFault),
+/// A text that is to be written, and the status beside it.
+#[derive(Drop)]
+pub struct Printed {
+    pub status: u8,
+    pub text: Vec<u8>,
 }
 
 /// What is to be written.
-#[derive(Drop)]
-pub enum Answer<'a> {
-    Text { status: u8, text: Vec<u8> },
-    Refused(Fault<'a>),
-}
+pub type Answer<'a> = Result<Printed, Fault<'a>>;
 
 /// What the words come to, and the files that they name.
 pub fn judge<'a, F: Files>(alloc: Global, words: &'a [String], files: &mut F) -> Answer<'a>
@@ -48,7 +33,7 @@ pub fn judge<'a, F: Files>(alloc: Global, words: &'a [String], files: &mut F) ->
     ensures no_fault { (IsRead result → ⊥) → F.faults files.new ≡ F.faults files.old }
 {
     let Some(request) = request(words) else {
-        return Answer::Refused(Fault::Usage);
+        return Err(Fault::Usage);
     };
     match request.command {
         Command::Run => judge_experiment(alloc, request, Kind::Delayed, files),

@@ -1,35 +1,27 @@
-ghost use Rattle.std.specs.Prelude.{◌≡◌, ◌≤◌, length, [], None, IfSome, IfNone, Some, option_map};
+ghost use Rattle.std.specs.Prelude.{◌≡◌, ◌≤◌, length, IfSome, IfNone, Some, option_map};
 ghost use Rattle.coz_files.specs.Faults.{Rose};
-ghost use Rattle.elf_load.specs.Faults.{fault};
 ghost use Rattle.line_index.specs.Index.{position_at};
 ghost use Rattle.virtual_run.specs.Run.{IsChoice, experiment};
 ghost use Rattle.run_words.specs.Request.{IsFit};
 ghost use Rattle.run_words.specs.Seen.{seen};
-ghost use Rattle.coz_cli.specs.LineTable.{table_in};
 ghost use Rattle.coz_cli.specs.Selection.{chosen};
 ghost use Rattle.coz_cli.specs.Experiment.{choice_of, point_among};
 ghost use Rattle.coz_cli.specs.Found.{id_of};
 ghost use Rattle.coz_cli.specs.Kind.{print_of};
-ghost use Rattle.coz_cli.specs.Verdict.{asked_verdict, chosen_verdict, experiment_verdict, file_verdict, table_verdict};
+ghost use Rattle.coz_cli.specs.Verdict.{chosen_verdict, experiment_verdict, file_verdict};
 ghost use Rattle.coz_cli.specs.Answer.{answered, IsMemory, IsRead, Suits, Settles};
 
-use crate::answer::{Answer, Fault};
-use crate::line_table::line_section;
+use crate::answer::Answer;
+use crate::program::{MAX_PROGRAM, read_file, read_program};
 use crate::runs::{really_answer, run_answer};
-use crate::selection::{Unchosen, progress_lines, selected_line};
-use coz_files::{FileAnswer, Files};
+use crate::selection::choose;
+use coz_files::Files;
 use coz_types::{Image, LineId};
-use dwarf_lines::{LineError, read_lines};
-use elf_load::{LoadError, load};
 use guest_memory::Layout;
-use line_index::{LineIndex, build};
-use progress_points::{Points, PointsError};
+use line_index::LineIndex;
 use run_words::Request;
 use std::alloc::Global;
 use virtual_run::Choice;
-
-/// The most bytes of a program's file.
-pub const MAX_PROGRAM: u64 = 33554432;
 
 /// The most bytes of an input.
 const MAX_INPUT: u64 = 16777216;
@@ -62,23 +54,12 @@ pub fn judge_experiment<'a, F: Files>(
     ensures untold { IsRead result → IfNone (F.held files.old) (Rose (F.faults files.old) (F.faults files.new)) }
     ensures no_fault { (IsRead result → ⊥) → F.faults files.new ≡ F.faults files.old }
 {
-    let mut file = Vec::new(alloc);
-    match files.read_whole(request.target, MAX_PROGRAM, &mut file) {
-        FileAnswer::Whole => {}
-        FileAnswer::Longer => return Answer::Refused(Fault::Long(request.target)),
-        FileAnswer::Failed => return Answer::Refused(Fault::Read(request.target)),
-        FileAnswer::Memory => return Answer::Refused(Fault::Memory),
-    }
+    let file = read_file(alloc, files, request.target, MAX_PROGRAM)?;
     let Some(path) = request.input else {
         return file_answer(alloc, &file, &[], request, kind);
     };
-    let mut input = Vec::new(alloc);
-    match files.read_whole(path, MAX_INPUT, &mut input) {
-        FileAnswer::Whole => file_answer(alloc, &file, &input, request, kind),
-        FileAnswer::Longer => Answer::Refused(Fault::Long(path)),
-        FileAnswer::Failed => Answer::Refused(Fault::Read(path)),
-        FileAnswer::Memory => Answer::Refused(Fault::Memory),
-    }
+    let input = read_file(alloc, files, path, MAX_INPUT)?;
+    file_answer(alloc, &file, &input, request, kind)
 }
 
 /// What is written of a run of the program that a file is, if it is one.
@@ -95,43 +76,11 @@ fn file_answer<'a>(
     ensures no_read { IsRead result → ⊥ }
     ensures settled { (IsMemory result → ⊥) → answered result ≡ file_verdict (seen request.entry) (print_of kind) file.now input.now }
 {
-    match load(alloc, file) {
-        Ok(image) => image_answer(alloc, &image, input, request, kind),
-        Err(LoadError::Fault(fault)) => Answer::Refused(Fault::Program(fault)),
-        Err(LoadError::Memory) => Answer::Refused(Fault::Memory),
-    }
-}
-
-/// What is written of a run of this program, if it has a line table.
-#[tactic(auto, unfolding(crate::specs::LineTable::table_in))]
-fn image_answer<'a>(
-    alloc: Global,
-    image: &Image,
-    input: &[u8],
-    request: Request<'a>,
-    kind: Kind,
-) -> Answer<'a>
-    requires faultless { fault image.now.file ≡ None }
-    requires short { length image.now.file ≤ 33554432 }
-    requires fit { IsFit (seen request) }
-    requires some_budget { 1 ≤ request.budget }
-    ensures no_read { IsRead result → ⊥ }
-    ensures settled { (IsMemory result → ⊥) → answered result ≡
-        table_verdict (table_in image.now.file) (asked_verdict (seen request.entry) (print_of kind) input.now image.now) }
-{
-    let table = match read_lines(alloc, line_section(image)) {
-        Ok(table) => table,
-        Err(LineError::Fault(fault)) => return Answer::Refused(Fault::Lines(fault)),
-        Err(LineError::Memory) => return Answer::Refused(Fault::Memory),
-    };
-    match build(alloc, &table, image) {
-        Ok(index) => index_answer(alloc, image, &index, input, request, kind),
-        Err(_) => Answer::Refused(Fault::Memory),
-    }
+    let program = read_program(alloc, file)?;
+    index_answer(alloc, &program.image, &program.index, input, request, kind)
 }
 
 /// What is written of a run of a program with these lines, if it has those that are named.
-#[tactic(auto, unfolding(crate::specs::Selection::chosen))]
 fn index_answer<'a>(
     alloc: Global,
     image: &Image,
@@ -147,24 +96,11 @@ fn index_answer<'a>(
         chosen_verdict (chosen index.now.lines (seen request.entry)) (λ c.
         print_of kind (experiment image.now (position_at index.now) (point_among index.now.entries c.points) input.now (choice_of (seen request.entry) c.selected))) }
 {
-    let selected = match selected_line(index, request.line) {
-        Ok(selected) => selected,
-        Err(piece) => return Answer::Refused(Fault::NoLine(piece)),
-    };
-    let lines = match progress_lines(alloc, index, request.progress) {
-        Ok(lines) => lines,
-        Err(Unchosen::NoLine(piece)) => return Answer::Refused(Fault::NoLine(piece)),
-        Err(Unchosen::Memory) => return Answer::Refused(Fault::Memory),
-    };
-    let points = match Points::new(alloc, index, &lines) {
-        Ok(points) => points,
-        Err(PointsError::TooMany(count)) => return Answer::Refused(Fault::ManyPoints(count)),
-        Err(PointsError::Memory) => return Answer::Refused(Fault::Memory),
-    };
-    let choice = choice(request, selected);
+    let chosen = choose(alloc, index, request)?;
+    let choice = choice(request, chosen.selected);
     match kind {
-        Kind::Delayed => run_answer(alloc, image, index, &points, input, choice),
-        Kind::Shortened => really_answer(alloc, image, index, &points, input, choice),
+        Kind::Delayed => run_answer(alloc, image, index, &chosen.points, input, choice),
+        Kind::Shortened => really_answer(alloc, image, index, &chosen.points, input, choice),
     }
 }
 

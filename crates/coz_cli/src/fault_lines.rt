@@ -5,7 +5,7 @@ ghost use Rattle.coz_cli.specs.FaultLines.{elf_kind_name, line_kind_name, asm_ki
 ghost use Rattle.coz_cli.specs.Answer.{fault_status, fault_line};
 ghost use Rattle.coz_cli.specs.Serve.{IsPut};
 
-use crate::answer::Fault;
+use crate::fault::Fault;
 use crate::kinds::{asm_kind_name, elf_kind_name, line_kind_name};
 use coz_files::{PutAnswer, Sink, put_next};
 use dwarf_lines::{LineFault, LineKind};

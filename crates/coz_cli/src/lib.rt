@@ -3,11 +3,13 @@
 
 mod answer;
 mod experiment;
+mod fault;
 mod fault_lines;
 mod kinds;
 mod line_table;
 mod lines;
 mod lines_text;
+mod program;
 mod record;
 mod runs;
 mod selection;

@@ -14,7 +14,7 @@ ghost use Rattle.coz_cli.specs.Text.{run_text};
 ghost use Rattle.coz_cli.specs.Verdict.{ending_status, really_verdict, run_verdict};
 ghost use Rattle.coz_cli.specs.Answer.{answered, IsMemory, IsRead};
 
-use crate::answer::{Answer, Fault};
+use crate::answer::{Answer, Printed};
 use crate::record::{RunRecord, ShortRecord};
 use crate::short_text::really_text;
 use crate::text::run_text;
@@ -82,17 +82,13 @@ pub fn run_answer<'a>(
     ensures settled { (IsMemory result → ⊥) → answered result ≡
         run_verdict (delayed_record (experiment image.now (position_at index.now) (point_of points.now) input.now choice)) }
 {
-    let Ok(mut machine) = Machine::new(alloc, image, index, points, input, choice) else {
-        return Answer::Refused(Fault::Memory);
-    };
+    let mut machine = Machine::new(alloc, image, index, points, input, choice)?;
     let ending = machine.run();
-    let Ok(text) = machine_text(alloc, &machine) else {
-        return Answer::Refused(Fault::Memory);
-    };
-    Answer::Text {
+    let text = machine_text(alloc, &machine)?;
+    Ok(Printed {
         status: ending_status(ending),
         text,
-    }
+    })
 }
 
 /// What is written of a program's shortened run.
@@ -109,9 +105,7 @@ pub fn really_answer<'a>(
     ensures settled { (IsMemory result → ⊥) → answered result ≡
         really_verdict (shortened_record (experiment image.now (position_at index.now) (point_of points.now) input.now choice)) }
 {
-    let Ok(mut short) = Short::new(alloc, image, index, points, input, choice) else {
-        return Answer::Refused(Fault::Memory);
-    };
+    let mut short = Short::new(alloc, image, index, points, input, choice)?;
     let ending = short.run();
     let record = ShortRecord {
         ending,
@@ -121,11 +115,9 @@ pub fn really_answer<'a>(
         visits: short.visits(),
         output: short.output(),
     };
-    match really_text(alloc, record) {
-        Ok(text) => Answer::Text {
-            status: ending_status(ending),
-            text,
-        },
-        Err(_) => Answer::Refused(Fault::Memory),
-    }
+    let text = really_text(alloc, record)?;
+    Ok(Printed {
+        status: ending_status(ending),
+        text,
+    })
 }

@@ -1,14 +1,21 @@
 //! The lines and progress points that a request names.
-ghost use Rattle.std.specs.Prelude.{◌≡◌, ◌<◌, ◌≤◌, true, length, map, Option, Some, None, Ok, Err, option_map, OnOk, IfSome, MatchResult};
+ghost use Rattle.std.specs.Prelude.{◌≡◌, ◌<◌, ◌≤◌, true, length, map, Option, Some, None, Ok, Err, option_map, OnOk, IfOk, IfSome};
 ghost use Rattle.std.specs.List.Sorted.{IsStrictlyIncreasing, IsPartitionPoint};
+ghost use Rattle.progress_points.specs.Points.{IsPoints};
+ghost use Rattle.run_words.specs.Request.{IsFit};
+ghost use Rattle.run_words.specs.Seen.{seen};
 ghost use Rattle.run_words.specs.Values.{is_line, is_list};
 ghost use Rattle.coz_cli.specs.declared.selection.Unchosen.TheVariants.{Memory};
-ghost use Rattle.coz_cli.specs.Selection.{line_found, with_number};
-ghost use Rattle.coz_cli.specs.Found.{ids, id_of, IsSelected, AreProgressLines};
+ghost use Rattle.coz_cli.specs.Selection.{Chosen as Positions, chosen, line_found, with_number};
+ghost use Rattle.coz_cli.specs.Found.{ids, id_of, IsLineNamed, AreProgressLines, positions_of};
+ghost use Rattle.coz_cli.specs.Verdict.{Verdict, chosen_verdict};
+ghost use Rattle.coz_cli.specs.Answer.{follows, IsMemory, IsRead};
 
+use crate::fault::Fault;
 use coz_types::LineId;
 use line_index::LineIndex;
-use run_words::{first_piece, line_parts};
+use progress_points::Points;
+use run_words::{Request, first_piece, line_parts};
 use std::alloc::{AllocError, Global};
 
 /// Why lines that are named are not chosen.
@@ -36,20 +43,20 @@ fn line_found(index: &LineIndex, text: &str) -> Option<LineId>
     index.find(path, number)
 }
 
-/// The selected line, if one is named; the text that names none of the program's.
-pub fn selected_line<'a>(
+/// The line of a text, if one is given.
+pub fn line_named<'a>(
     index: &LineIndex,
     line: Option<&'a str>,
-) -> Result<Option<LineId>, &'a str>
+) -> Result<Option<LineId>, Unchosen<'a>>
     requires { IfSome line (λ text. is_line text.now ≡ true) }
-    ensures { IsSelected index.now.lines line.entry result }
+    ensures { IsLineNamed index.now.lines line.entry result }
 {
     let Some(text) = line else {
         return Ok(None);
     };
     match line_found(index, text) {
         Some(line) => Ok(Some(line)),
-        None => Err(text),
+        None => Err(Unchosen::NoLine(text)),
     }
 }
 
@@ -95,4 +102,30 @@ pub fn progress_lines<'a>(
         rest = after;
     }
     Ok(lines)
+}
+
+/// The selected line, if there is one, and the progress points.
+#[derive(Drop)]
+pub struct Chosen {
+    pub selected: Option<LineId>,
+    pub points: Points,
+}
+
+/// What a request names among the lines of a program.
+#[tactic(auto, unfolding(crate::specs::Selection::chosen))]
+pub fn choose<'a>(
+    alloc: Global,
+    index: &LineIndex,
+    request: Request<'a>,
+) -> Result<Chosen, Fault<'a>>
+    requires { IsFit (seen request) }
+    ensures no_read { IsRead result → ⊥ }
+    ensures settled { (IsMemory result → ⊥) → (next : Positions → Verdict) →
+        follows result (λ c. next (positions_of c)) ≡ chosen_verdict (chosen index.now.lines (seen request.entry)) next }
+    ensures points { IfOk result (λ c. IsPoints index.now c.points.lines c.points) }
+{
+    let selected = line_named(index, request.line)?;
+    let lines = progress_lines(alloc, index, request.progress)?;
+    let points = Points::new(alloc, index, &lines)?;
+    Ok(Chosen { selected, points })
 }

@@ -7,11 +7,12 @@ ghost use Rattle.rv_asm.specs.Assembled.{assembled};
 ghost use Rattle.coz_cli.specs.Verdict.{command_verdict, source_verdict};
 ghost use Rattle.coz_cli.specs.Answer.{answered, IsMemory, IsRead, Suits, Settles};
 
-use crate::answer::{Answer, Fault};
-use coz_files::{FileAnswer, Files};
+use crate::answer::{Answer, Printed};
+use crate::program::read_file;
+use coz_files::Files;
 use image_write::write_elf;
 use run_words::Request;
-use rv_asm::{AsmError, assemble};
+use rv_asm::assemble;
 use std::alloc::Global;
 
 /// The most bytes of a source.
@@ -27,13 +28,8 @@ pub fn judge_source<'a, F: Files>(alloc: Global, request: Request<'a>, files: &m
     ensures untold { IsRead result → IfNone (F.held files.old) (Rose (F.faults files.old) (F.faults files.new)) }
     ensures no_fault { (IsRead result → ⊥) → F.faults files.new ≡ F.faults files.old }
 {
-    let mut source = Vec::new(alloc);
-    match files.read_whole(request.target, MAX_SOURCE, &mut source) {
-        FileAnswer::Whole => source_answer(alloc, &source, request.target),
-        FileAnswer::Longer => Answer::Refused(Fault::Long(request.target)),
-        FileAnswer::Failed => Answer::Refused(Fault::Read(request.target)),
-        FileAnswer::Memory => Answer::Refused(Fault::Memory),
-    }
+    let source = read_file(alloc, files, request.target, MAX_SOURCE)?;
+    source_answer(alloc, &source, request.target)
 }
 
 /// The file of what a source stands for, with the source's name in it.
@@ -43,13 +39,7 @@ fn source_answer<'a>(alloc: Global, source: &[u8], name: &str) -> Answer<'a>
     ensures no_read { IsRead result → ⊥ }
     ensures settled { (IsMemory result → ⊥) → answered result ≡ source_verdict name.now (assembled source.now) }
 {
-    let assembled = match assemble(alloc, source) {
-        Ok(assembled) => assembled,
-        Err(AsmError::Fault(fault)) => return Answer::Refused(Fault::Source(fault)),
-        Err(AsmError::Memory) => return Answer::Refused(Fault::Memory),
-    };
-    match write_elf(alloc, &assembled, name.as_bytes()) {
-        Ok(text) => Answer::Text { status: 0, text },
-        Err(_) => Answer::Refused(Fault::Memory),
-    }
+    let assembled = assemble(alloc, source)?;
+    let text = write_elf(alloc, &assembled, name.as_bytes())?;
+    Ok(Printed { status: 0, text })
 }

@@ -1,6 +1,7 @@
 use crate::serve;
 use coz_files::{FreeGate, HeldFile, MemoryFiles, MemorySink};
 use std::alloc::{AllocError, Global};
+use std::process::Abort;
 use std::test::Fail;
 use std::thread::Threads;
 
@@ -129,6 +130,16 @@ fn comes_out<R: Threads + Sync + AllocGlobal>(rt: &R, case: &Case) -> Result<boo
     Ok(status == case.status && out.held() == case.out && err.held() == case.err)
 }
 
+fn all_come_out<R: Threads + Sync + AllocGlobal + Abort>(
+    rt: &R,
+    cases: &[Case],
+) -> Result<(), Fail> {
+    for case in cases {
+        assert!(rt; comes_out(rt, case)?, "{:?}", case.words);
+    }
+    Ok(())
+}
+
 const ONE: &[u8] =
     b"end exited:0\ntime 4200\ndelay 0\nnet 4200\nretired 3\nstarts 0\nhart 0 own 0 paused 0 credited 0\noutput 0\n\n";
 
@@ -151,7 +162,7 @@ const SPENT: &[u8] =
     b"end spent\ntime 200\ndelay 0\nnet 200\nretired 2\nstarts 0\nhart 0 own 0 paused 0 credited 0\noutput 0\n\n";
 
 #[test]
-fn each_status_is_met(rt: HostRuntime) -> Result<(), Fail> {
+fn runs_are_printed(rt: HostRuntime) -> Result<(), Fail> {
     let cases = [
         plain_case(&["run", "one"], 0, ONE, b""),
         plain_case(&["run", "other"], 1, OTHER, b""),
@@ -159,24 +170,6 @@ fn each_status_is_met(rt: HostRuntime) -> Result<(), Fail> {
         plain_case(&["run", "fetch"], 1, FETCH, b""),
         plain_case(&["run", "misaligned"], 1, MISALIGNED, b""),
         plain_case(&["run", "access"], 1, ACCESS, b""),
-        plain_case(&[], 2, b"", b"coz: usage\n"),
-        plain_case(&["run"], 2, b"", b"coz: usage\n"),
-        plain_case(&["run", ""], 2, b"", b"coz: usage\n"),
-        plain_case(&["run", "-one"], 2, b"", b"coz: usage\n"),
-        plain_case(&["run", "one", "other"], 2, b"", b"coz: usage\n"),
-        plain_case(&["walk", "one"], 2, b"", b"coz: usage\n"),
-        plain_case(
-            &["run", "headers"],
-            3,
-            b"",
-            b"coz: program: HeaderOut at 64\n",
-        ),
-        plain_case(
-            &["run", "compressed"],
-            3,
-            b"",
-            b"coz: program: Compressed at 48\n",
-        ),
         plain_case(&["run", "--", "one"], 0, ONE, b""),
         plain_case(
             &["run", "--budget=3", "one", "--input", "data"],
@@ -185,6 +178,28 @@ fn each_status_is_met(rt: HostRuntime) -> Result<(), Fail> {
             b"",
         ),
         plain_case(&["run", "one", "--budget", "2"], 1, SPENT, b""),
+    ];
+    all_come_out(&rt, &cases)
+}
+
+#[test]
+fn wrong_words_are_refused(rt: HostRuntime) -> Result<(), Fail> {
+    let cases = [
+        plain_case(&[], 2, b"", b"coz: usage\n"),
+        plain_case(&["run"], 2, b"", b"coz: usage\n"),
+        plain_case(&["run", ""], 2, b"", b"coz: usage\n"),
+        plain_case(&["run", "-one"], 2, b"", b"coz: usage\n"),
+        plain_case(&["run", "one", "other"], 2, b"", b"coz: usage\n"),
+        plain_case(&["walk", "one"], 2, b"", b"coz: usage\n"),
+        plain_case(&["run", "one", "--budget", "0"], 2, b"", b"coz: usage\n"),
+        plain_case(&["asm", "one.s", "--budget", "3"], 2, b"", b"coz: usage\n"),
+    ];
+    all_come_out(&rt, &cases)
+}
+
+#[test]
+fn files_that_are_absent_or_long_are_told(rt: HostRuntime) -> Result<(), Fail> {
+    let cases = [
         plain_case(
             &["run", "one", "--input", "absent"],
             5,
@@ -197,9 +212,29 @@ fn each_status_is_met(rt: HostRuntime) -> Result<(), Fail> {
             b"",
             b"coz: long: big\n",
         ),
-        plain_case(&["run", "one", "--budget", "0"], 2, b"", b"coz: usage\n"),
         plain_case(&["run", "absent"], 5, b"", b"coz: read: absent\n"),
         plain_case(&["run", "big"], 8, b"", b"coz: long: big\n"),
+        plain_case(&["asm", "absent"], 5, b"", b"coz: read: absent\n"),
+        plain_case(&["asm", "big"], 8, b"", b"coz: long: big\n"),
+    ];
+    all_come_out(&rt, &cases)
+}
+
+#[test]
+fn faults_of_programs_and_sources_are_told(rt: HostRuntime) -> Result<(), Fail> {
+    let cases = [
+        plain_case(
+            &["run", "headers"],
+            3,
+            b"",
+            b"coz: program: HeaderOut at 64\n",
+        ),
+        plain_case(
+            &["run", "compressed"],
+            3,
+            b"",
+            b"coz: program: Compressed at 48\n",
+        ),
         plain_case(
             &["asm", "range.s"],
             11,
@@ -212,18 +247,12 @@ fn each_status_is_met(rt: HostRuntime) -> Result<(), Fail> {
             b"",
             b"coz: source: Empty at line 1 column 1\n",
         ),
-        plain_case(&["asm", "one.s", "--budget", "3"], 2, b"", b"coz: usage\n"),
-        plain_case(&["asm", "absent"], 5, b"", b"coz: read: absent\n"),
-        plain_case(&["asm", "big"], 8, b"", b"coz: long: big\n"),
     ];
-    for case in &cases {
-        assert!(rt; comes_out(&rt, case)?, "{:?}", case.words);
-    }
-    Ok(())
+    all_come_out(&rt, &cases)
 }
 
 #[test]
-fn faults_of_the_outside_are_told(rt: HostRuntime) -> Result<(), Fail> {
+fn reads_that_fail_are_told(rt: HostRuntime) -> Result<(), Fail> {
     let cases = [
         Case {
             read_fails: &[0],
@@ -239,16 +268,23 @@ fn faults_of_the_outside_are_told(rt: HostRuntime) -> Result<(), Fail> {
             )
         },
         Case {
+            read_fails: &[0],
+            ..plain_case(&["asm", "one.s"], 5, b"", b"coz: read: one.s\n")
+        },
+    ];
+    all_come_out(&rt, &cases)
+}
+
+#[test]
+fn writes_that_fail_are_told(rt: HostRuntime) -> Result<(), Fail> {
+    let cases = [
+        Case {
             put_fails: &[0],
             ..plain_case(&["run", "one"], 6, b"", b"coz: write\n")
         },
         Case {
             room: 10,
             ..plain_case(&["run", "one"], 6, b"end exited", b"coz: write\n")
-        },
-        Case {
-            read_fails: &[0],
-            ..plain_case(&["asm", "one.s"], 5, b"", b"coz: read: one.s\n")
         },
         Case {
             put_fails: &[0],
@@ -263,6 +299,13 @@ fn faults_of_the_outside_are_told(rt: HostRuntime) -> Result<(), Fail> {
                 b"coz: write\n",
             )
         },
+    ];
+    all_come_out(&rt, &cases)
+}
+
+#[test]
+fn faults_of_the_error_sink_change_nothing(rt: HostRuntime) -> Result<(), Fail> {
+    let cases = [
         Case {
             tell_fails: &[0],
             ..plain_case(&["walk"], 2, b"", b"")
@@ -272,10 +315,7 @@ fn faults_of_the_outside_are_told(rt: HostRuntime) -> Result<(), Fail> {
             ..plain_case(&["walk"], 2, b"", b"coz: usage")
         },
     ];
-    for case in &cases {
-        assert!(rt; comes_out(&rt, case)?, "{:?}", case.words);
-    }
-    Ok(())
+    all_come_out(&rt, &cases)
 }
 
 /// What a call answered and left.

@@ -1,15 +1,17 @@
-use Rattle.std.proofs.Common.{◌∙◌, ◌≤◌, List, ℕ, length, subst}
-use Rattle.coz_cli.specs.Verdict.{asked_verdict}
-use Rattle.coz_cli.specs.Kind.{print_of}
+use Rattle.std.proofs.Common.{◌∙◌}
+use Rattle.dwarf_lines.specs.Registers.{view}
 use Rattle.run_words.specs.Seen.{seen}
-use Rattle.coz_cli.proofs.Loads.{loaded_file}
-use Rattle.coz_cli.proofs.Files.{program_verdict_at}
+use Rattle.coz_cli.specs.Kind.{print_of}
+use Rattle.coz_cli.specs.Verdict.{asked_verdict}
+use Rattle.coz_cli.proofs.Indexed.{indexed}
 use Rattle.coz_cli.proofs.experiment.file_answer.Goals as goal
 
-pub image_answer-requires-clause-short : goal.image_answer-requires-clause-short
-image_answer-requires-clause-short c = subst (λ (file : List ℕ). length file ≤ 33554432) (loaded_file c.args.file.now c.in-Ok.image c.in-Ok.ensures.answer) c.requires.short
-
-pub returns-in-Ok-clause-settled : goal.returns-in-Ok-clause-settled
-returns-in-Ok-clause-settled c =
-    λ no. c.image_answer.ensures.settled no
-    ∙ program_verdict_at c.args.file.now (asked_verdict (seen c.args.request) (print_of c.args.kind) c.args.input.now) c.in-Ok.image c.in-Ok.ensures.answer
+pub returns-clause-settled : goal.returns-clause-settled
+returns-clause-settled c = λ other.
+    let asked = seen c.args.request in
+    let print = print_of c.args.kind in
+    let input = c.args.input.now in
+    let program = c.in_ok-program.program in
+    c.index_answer.ensures.settled other
+    ∙ indexed asked print input program.image (view program.table) program.index c.in_ok-program.ensures.indexed
+    ∙ c.in_ok-program.ensures.settled (λ never. never) (asked_verdict asked print input)

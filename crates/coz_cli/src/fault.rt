@@ -1,0 +1,89 @@
+ghost use Rattle.std.specs.Prelude.{◌≡◌};
+ghost use Rattle.coz_cli.specs.declared.fault.Fault.TheVariants.{Memory};
+ghost use Rattle.coz_cli.specs.Causes.{assembling_fault, loading_fault, points_fault, reading_fault, selecting_fault};
+
+use crate::selection::Unchosen;
+use dwarf_lines::{LineError, LineFault};
+use elf_load::{ElfFault, LoadError};
+use progress_points::PointsError;
+use rv_asm::{AsmError, AsmFault};
+use std::alloc::AllocError;
+
+/// Why nothing is printed.
+#[derive(Clone, Copy)]
+pub enum Fault<'a> {
+    Usage,
+    Program(ElfFault),
+    Lines(LineFault),
+    Read(&'a str),
+    Write,
+    /// A line that is named is none of the program's.
+    NoLine(&'a str),
+    ManyPoints(u64),
+    Long(&'a str),
+    Memory,
+    Source(AsmFault),
+}
+
+impl<'a> From<AllocError> for Fault<'a> {
+    ghost from_gives = { λ _ fault. fault ≡ Memory };
+
+    fn from(_: AllocError) -> Fault<'a> {
+        Fault::Memory
+    }
+}
+
+impl<'a> From<LoadError> for Fault<'a> {
+    ghost from_gives = { λ error fault. fault ≡ loading_fault error };
+
+    fn from(error: LoadError) -> Fault<'a> {
+        match error {
+            LoadError::Fault(fault) => Fault::Program(fault),
+            LoadError::Memory => Fault::Memory,
+        }
+    }
+}
+
+impl<'a> From<LineError> for Fault<'a> {
+    ghost from_gives = { λ error fault. fault ≡ reading_fault error };
+
+    fn from(error: LineError) -> Fault<'a> {
+        match error {
+            LineError::Fault(fault) => Fault::Lines(fault),
+            LineError::Memory => Fault::Memory,
+        }
+    }
+}
+
+impl<'a> From<Unchosen<'a>> for Fault<'a> {
+    ghost from_gives = { λ error fault. fault ≡ selecting_fault error };
+
+    fn from(error: Unchosen<'a>) -> Fault<'a> {
+        match error {
+            Unchosen::NoLine(piece) => Fault::NoLine(piece),
+            Unchosen::Memory => Fault::Memory,
+        }
+    }
+}
+
+impl<'a> From<PointsError> for Fault<'a> {
+    ghost from_gives = { λ error fault. fault ≡ points_fault error };
+
+    fn from(error: PointsError) -> Fault<'a> {
+        match error {
+            PointsError::TooMany(count) => Fault::ManyPoints(count),
+            PointsError::Memory => Fault::Memory,
+        }
+    }
+}
+
+impl<'a> From<AsmError> for Fault<'a> {
+    ghost from_gives = { λ error fault. fault ≡ assembling_fault error };
+
+    fn from(error: AsmError) -> Fault<'a> {
+        match error {
+            AsmError::Fault(fault) => Fault::Source(fault),
+            AsmError::Memory => Fault::Memory,
+        }
+    }
+}

@@ -1,0 +1,71 @@
+//! The steps that commands share: a file is read, and a program with its lines.
+ghost use Rattle.std.specs.Prelude.{◌≡◌, ◌≤◌, ℕ, List, length, IfOk, IfErr, IfSome, IfNone};
+ghost use Rattle.coz_types.specs.Image.{ImageParts};
+ghost use Rattle.coz_files.specs.Faults.{Rose};
+ghost use Rattle.coz_files.specs.Held.{file_at};
+ghost use Rattle.dwarf_lines.specs.Registers.{Table, view};
+ghost use Rattle.line_index.specs.Index.{IsIndex};
+ghost use Rattle.coz_cli.specs.Verdict.{Verdict, program_verdict, read_verdict};
+ghost use Rattle.coz_cli.specs.Answer.{follows, IsMemory, IsOfPath, IsRead, SettlesThen};
+
+use crate::fault::Fault;
+use crate::line_table::line_section;
+use coz_files::{FileAnswer, Files};
+use coz_types::Image;
+use dwarf_lines::{LineTable, read_lines};
+use elf_load::load;
+use line_index::{LineIndex, build};
+use std::alloc::Global;
+
+/// The most bytes of a program's file.
+pub const MAX_PROGRAM: u64 = 33554432;
+
+/// The bytes of a path's file, where they are so many at most.
+pub fn read_file<'a, F: Files>(
+    alloc: Global,
+    files: &mut F,
+    path: &'a str,
+    most: u64,
+) -> Result<Vec<u8>, Fault<'a>>
+    ensures same { F.held files.new ≡ F.held files.old }
+    ensures short { IfOk result (λ file. length file.items ≤ most) }
+    ensures of_path { IfErr result (IsOfPath path.now) }
+    ensures settled { IfSome (F.held files.old) (λ held. (IsMemory result → ⊥) → (next : List ℕ → Verdict) →
+        SettlesThen (λ file. next file.items) (read_verdict most path.now (file_at held path.now) next) (F.faults files.old) (F.faults files.new) result) }
+    ensures untold { IsRead result → IfNone (F.held files.old) (Rose (F.faults files.old) (F.faults files.new)) }
+    ensures no_fault { (IsRead result → ⊥) → F.faults files.new ≡ F.faults files.old }
+{
+    let mut file = Vec::new(alloc);
+    match files.read_whole(path, most, &mut file) {
+        FileAnswer::Whole => Ok(file),
+        FileAnswer::Longer => Err(Fault::Long(path)),
+        FileAnswer::Failed => Err(Fault::Read(path)),
+        FileAnswer::Memory => Err(Fault::Memory),
+    }
+}
+
+/// A program, its line table and the index of its lines.
+#[derive(Drop)]
+pub struct Program<'f> {
+    pub image: Image<'f>,
+    pub table: LineTable<'f>,
+    pub index: LineIndex,
+}
+
+/// The program that a file is, if it is one and has a line table.
+pub fn read_program<'a, 'f>(alloc: Global, file: &'f [u8]) -> Result<Program<'f>, Fault<'a>>
+    requires { length file.now ≤ 33554432 }
+    ensures no_read { IsRead result → ⊥ }
+    ensures settled { (IsMemory result → ⊥) → (next : ImageParts → Table → Verdict) →
+        follows result (λ program. next program.image (view program.table)) ≡ program_verdict file.now next }
+    ensures indexed { IfOk result (λ program. IsIndex (view program.table) program.image.areas program.index) }
+{
+    let image = load(alloc, file)?;
+    let table = read_lines(alloc, line_section(&image))?;
+    let index = build(alloc, &table, &image)?;
+    Ok(Program {
+        image,
+        table,
+        index,
+    })
+}
