@@ -24,7 +24,8 @@ use Rattle.run_words.proofs.Fit.{fit_in}
 use Rattle.coz_cli.specs.Words.{request_of}
 use Rattle.coz_cli.specs.LineTable.{table_in}
 use Rattle.coz_cli.specs.Selection.{Chosen, Unchosen, no_line, many_points, chosen}
-use Rattle.coz_cli.specs.Experiment.{choice_of, entries_of, point_among, experiment_of}
+use Rattle.progress_points.specs.Points.{point_in}
+use Rattle.coz_cli.specs.Experiment.{choice_of, entries_of, experiment_of}
 use Rattle.coz_cli.specs.Verdict.{Verdict, refused, verdict, request_verdict, command_verdict, read_verdict, input_verdict, file_verdict, asked_verdict, chosen_verdict, experiment_verdict, loaded_verdict, table_verdict, run_verdict, really_verdict}
 use Rattle.coz_cli.specs.Headline.{IsAsked, PrintsRun, PrintsReally, PrintsShortened, IsInput}
 
@@ -35,7 +36,7 @@ module _ (image : ImageParts) (table : Table) (input : List ℕ) (asked : Asked)
   unfolding experiment_of
   law fit =
       let few : asked.speedup ≤ 100 = omega (arith, fit.speedup) in
-      lawful (has_selected (selected_line (choice_of asked choice.selected)) (position_in table image.areas)) (point_among (entries_of image table) choice.points) image input 4194304 usual asked.speedup asked.budget 1048576 few
+      lawful (has_selected (selected_line (choice_of asked choice.selected)) (position_in table image.areas)) (point_in (entries_of image table) choice.points) image input 4194304 usual asked.speedup asked.budget 1048576 few
 
   budget_is : (experiment_of image table input asked choice).budget ≡ asked.budget
   unfolding experiment_of

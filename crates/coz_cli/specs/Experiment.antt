@@ -1,9 +1,9 @@
 -- The experiment that a request asks for.
-use Rattle.std.specs.Prelude.{ℕ, List, [], map, get_or, ◌==◌, Option, option_map, position}
-use Rattle.std.specs.List.{list_any}
+use Rattle.std.specs.Prelude.{ℕ, List, map, Option, option_map}
 use Rattle.coz_types.specs.Image.{ImageParts}
 use Rattle.dwarf_lines.specs.Registers.{Table}
 use Rattle.line_index.specs.Listed.{lines_in, entries_in, position_in}
+use Rattle.progress_points.specs.Points.{point_in}
 use Rattle.machines.specs.Guest.{Experiment}
 use Rattle.guest_memory.specs.Regions.{usual}
 use Rattle.guest_calls.specs.Guest.{Guest}
@@ -27,12 +27,8 @@ choice_of asked selected = record {
 abbrev pub entries_of : ImageParts → Table → List (List ℕ)
 entries_of image table = map (entries_in table image.areas) (lines_in table image.areas)
 
--- the point of an address: the position of the first of these lines that has the address among its entries
-abbrev pub point_among : List (List ℕ) → List ℕ → ℕ → Option ℕ
-point_among entries lines a = position (λ line. list_any (λ (entry : ℕ). entry == a) (get_or entries line [])) lines
-
 -- the run of a program with its line table on an input: each address has the line that its table says,
 -- and the entry addresses of the chosen points' lines are those points
 unfoldable pub experiment_of : ImageParts → Table → List ℕ → Asked → Chosen → Experiment Guest
 experiment_of image table input asked chosen =
-    experiment image (position_in table image.areas) (point_among (entries_of image table) chosen.points) input (choice_of asked chosen.selected)
+    experiment image (position_in table image.areas) (point_in (entries_of image table) chosen.points) input (choice_of asked chosen.selected)

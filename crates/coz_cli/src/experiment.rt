@@ -1,11 +1,12 @@
 ghost use Rattle.std.specs.Prelude.{◌≡◌, ◌≤◌, length, IfSome, IfNone, Some, option_map};
 ghost use Rattle.coz_files.specs.Faults.{Rose};
 ghost use Rattle.line_index.specs.Index.{position_at};
+ghost use Rattle.progress_points.specs.Points.{point_in};
 ghost use Rattle.virtual_run.specs.Run.{IsChoice, experiment};
 ghost use Rattle.run_words.specs.Request.{IsFit};
 ghost use Rattle.run_words.specs.Seen.{seen};
 ghost use Rattle.coz_cli.specs.Selection.{chosen};
-ghost use Rattle.coz_cli.specs.Experiment.{choice_of, point_among};
+ghost use Rattle.coz_cli.specs.Experiment.{choice_of};
 ghost use Rattle.coz_cli.specs.Found.{id_of};
 ghost use Rattle.coz_cli.specs.Kind.{print_of};
 ghost use Rattle.coz_cli.specs.Verdict.{chosen_verdict, experiment_verdict, file_verdict};
@@ -94,7 +95,7 @@ fn index_answer<'a>(
     ensures no_read { IsRead result → ⊥ }
     ensures settled { (IsMemory result → ⊥) → answered result ≡
         chosen_verdict (chosen index.now.lines (seen request.entry)) (λ c.
-        print_of kind (experiment image.now (position_at index.now) (point_among index.now.entries c.points) input.now (choice_of (seen request.entry) c.selected))) }
+        print_of kind (experiment image.now (position_at index.now) (point_in index.now.entries c.points) input.now (choice_of (seen request.entry) c.selected))) }
 {
     let chosen = choose(alloc, index, request)?;
     let choice = choice(request, chosen.selected);

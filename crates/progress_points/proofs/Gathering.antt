@@ -7,7 +7,6 @@ use Rattle.std.proofs.lemmas.List.Folds.{find-append}
 use Rattle.std.proofs.lemmas.Iterator.Adapters.{position_from-zero}
 use Rattle.std.proofs.lemmas.Option.{get_or_from_slice_get}
 use Rattle.coz_types.specs.declared.LineId.{LineId}
-use Rattle.line_index.specs.Index.{Index}
 use Rattle.progress_points.specs.Points.{Mark, marks_at, is_at, first_point, has_entry, point_in, ids}
 
 -- the point, where a test says that an address has it
@@ -41,9 +40,9 @@ position_from_more test i (x ∷ xs) y =
     ap (cond (test x) (Some i)) (position_from_more test (i + 1) xs y ∙ ap (λ n. option_or (position_from test (i + 1) xs) (point_if (test y) n)) (omega arith))
     ∙ kept_or (test x) i (position_from test (i + 1) xs) (point_if (test y) (i + length (x ∷ xs)))
 
-position_more : (index : Index) (a : ℕ) (lines : List ℕ) (line : ℕ) → point_in index (lines ++ line ∷ []) a ≡ option_or (point_in index lines a) (point_if (has_entry index a line) (length lines))
-position_more index a lines line =
-    let test = has_entry index a in
+position_more : (by_line : List (List ℕ)) (a : ℕ) (lines : List ℕ) (line : ℕ) → point_in by_line (lines ++ line ∷ []) a ≡ option_or (point_in by_line lines a) (point_if (has_entry by_line a line) (length lines))
+position_more by_line a lines line =
+    let test = has_entry by_line a in
     position_from-zero test (lines ++ line ∷ []) ∙ position_from_more test 0 lines line ∙ ap (λ n. option_or (position_from test 0 lines) (point_if (test line) n)) (omega arith) ∙ ap (λ p. option_or p (point_if (test line) (length lines))) (sym (position_from-zero test lines))
 
 ids_more : (lines : List LineId) (k : ℕ) (line : LineId) → k < length lines → ids (take (k + 1) lines) ≡ ids (take k lines) ++ (get_or lines k line).0 ∷ []
@@ -53,14 +52,14 @@ many : (lines : List LineId) (k : ℕ) → k < length lines → length (ids (tak
 many lines k lt = let e = length-map (take k lines) (λ (l : LineId). l.0) in let f = length-take k lines in omega (arith, e, f)
 
 -- the marks of one more line
-pub gathered : (index : Index) (lines : List LineId) (k : ℕ) (line : LineId) (entries : List ℕ) (marks more : List Mark) → k < length lines
-    → slice_get index.entries (get_or lines k line).0 ≡ Some entries → more ≡ marks ++ marks_at k entries
-    → ((a : ℕ) → first_point a marks ≡ point_in index (ids (take k lines)) a) → (a : ℕ) → first_point a more ≡ point_in index (ids (take (k + 1) lines)) a
-gathered index lines k line entries marks more lt has grows so_far a =
+pub gathered : (by_line : List (List ℕ)) (lines : List LineId) (k : ℕ) (line : LineId) (entries : List ℕ) (marks more : List Mark) → k < length lines
+    → slice_get by_line (get_or lines k line).0 ≡ Some entries → more ≡ marks ++ marks_at k entries
+    → ((a : ℕ) → first_point a marks ≡ point_in by_line (ids (take k lines)) a) → (a : ℕ) → first_point a more ≡ point_in by_line (ids (take (k + 1) lines)) a
+gathered by_line lines k line entries marks more lt has grows so_far a =
     let id : ℕ = (get_or lines k line).0 in
-    let same : entries ≡ get_or index.entries id [] = sym (get_or_from_slice_get index.entries id entries [] has) in
-    let own : first_point a (marks_at k entries) ≡ point_if (has_entry index a id) (length (ids (take k lines)))
-    = found_here a k entries ∙ ap (λ (es : List ℕ). point_if (list_any (λ (entry : ℕ). entry == a) es) k) same ∙ ap (point_if (has_entry index a id)) (sym (many lines k lt)) in
-    ap (first_point a) grows ∙ first_of_both a marks (marks_at k entries) ∙ ap (λ p. option_or p (first_point a (marks_at k entries))) (so_far a) ∙ ap (option_or (point_in index (ids (take k lines)) a)) own
-    ∙ sym (position_more index a (ids (take k lines)) id)
-    ∙ ap (λ ls. point_in index ls a) (sym (ids_more lines k line lt))
+    let same : entries ≡ get_or by_line id [] = sym (get_or_from_slice_get by_line id entries [] has) in
+    let own : first_point a (marks_at k entries) ≡ point_if (has_entry by_line a id) (length (ids (take k lines)))
+    = found_here a k entries ∙ ap (λ (es : List ℕ). point_if (list_any (λ (entry : ℕ). entry == a) es) k) same ∙ ap (point_if (has_entry by_line a id)) (sym (many lines k lt)) in
+    ap (first_point a) grows ∙ first_of_both a marks (marks_at k entries) ∙ ap (λ p. option_or p (first_point a (marks_at k entries))) (so_far a) ∙ ap (option_or (point_in by_line (ids (take k lines)) a)) own
+    ∙ sym (position_more by_line a (ids (take k lines)) id)
+    ∙ ap (λ ls. point_in by_line ls a) (sym (ids_more lines k line lt))

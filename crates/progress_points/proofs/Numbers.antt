@@ -12,6 +12,6 @@ first_within false n m p e found = let no : ⊥ = cc in absurd no
 -- the point of an address is one of the points
 pub point_below : {index : Index} {lines : List ℕ} (points : Points) → IsPoints index lines points → (a p : ℕ) → point_of points a ≡ Some p → p < length points.lines
 point_below {index} {lines} points are a p found =
-    let n = position_or_len (has_entry index a) lines in
+    let n = position_or_len (has_entry index.entries a) lines in
     let below : p < length lines = first_within (ltb n (length lines)) n (length lines) p refl (sym (are.each a) ∙ found) in
     subst (λ ls. p < length ls) (sym are.lines) below

@@ -27,19 +27,19 @@ first_point a marks = option_map (λ (mark : Mark). mark.point) (find (is_at a) 
 abbrev pub point_of : Points → ℕ → Option ℕ
 point_of points a = first_point a points.marks
 
--- the address is an entry of the line
-abbrev pub has_entry : Index → ℕ → ℕ → Bool
-has_entry index a line = list_any (λ (entry : ℕ). entry == a) (get_or index.entries line [])
+-- the address is an entry of the line, of these entries by line
+abbrev pub has_entry : List (List ℕ) → ℕ → ℕ → Bool
+has_entry entries a line = list_any (λ (entry : ℕ). entry == a) (get_or entries line [])
 
 -- the position of the first of these lines that has the address among its entries
-abbrev pub point_in : Index → List ℕ → ℕ → Option ℕ
-point_in index lines a = position (has_entry index a) lines
+abbrev pub point_in : List (List ℕ) → List ℕ → ℕ → Option ℕ
+point_in entries lines a = position (has_entry entries a) lines
 
 -- these are the points of the lines
 pub record IsPoints (index : Index) (chosen : List ℕ) (points : Points) : Type 0 where
   pub few : length chosen ≤ 64
   pub lines : points.lines ≡ chosen
-  pub each : (a : ℕ) → point_of points a ≡ point_in index chosen a
+  pub each : (a : ℕ) → point_of points a ≡ point_in index.entries chosen a
 
 abbrev pub ids : List LineId → List ℕ
 ids lines = map (λ (line : LineId). line.0) lines

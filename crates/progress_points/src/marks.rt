@@ -38,7 +38,7 @@ fn marks_by_line(
 ) -> Result<Vec<Mark>, AllocError>
     requires below { All (λ (line : LineId). line.0 < length index.now.lines) lines.now }
     requires few { length lines.now ≤ 64 }
-    ensures { IfOk result (λ marks. (a : ℕ) → first_point a marks.items ≡ point_in index.now (ids lines.now) a) }
+    ensures { IfOk result (λ marks. (a : ℕ) → first_point a marks.items ≡ point_in index.now.entries (ids lines.now) a) }
 {
     let mut marks = Vec::new(alloc);
     for (point, line) in lines.iter().enumerate() {
@@ -52,7 +52,7 @@ pub fn marks_of(alloc: Global, index: &LineIndex, lines: &[LineId]) -> Result<Ve
     requires below { All (λ (line : LineId). line.0 < length index.now.lines) lines.now }
     requires few { length lines.now ≤ 64 }
     ensures in_order { IfOk result (λ marks. IsNonDecreasingBy (λ (mark : Mark). mark.address) marks.items) }
-    ensures points { IfOk result (λ marks. (a : ℕ) → first_point a marks.items ≡ point_in index.now (ids lines.now) a) }
+    ensures points { IfOk result (λ marks. (a : ℕ) → first_point a marks.items ≡ point_in index.now.entries (ids lines.now) a) }
 {
     let mut marks = marks_by_line(alloc, index, lines)?;
     marks.sort_by_key(|mark| mark.address)?;
