@@ -3,7 +3,9 @@ use Rattle.std.proofs.Common.{◌≡◌, ℕ, zero, suc, ◌≤◌, ◌<◌, ◌
 use Rattle.std.proofs.Math.Dec.{eqb-suc-zero}
 use Rattle.coz_types.specs.Image.{ImageParts}
 use Rattle.machines.specs.Places.{is_among}
-use Rattle.machines.specs.Guest.{IsLawful, started, own_ending}
+use Rattle.machines.specs.Guest.{IsLawful, started, own_ending, sleeps}
+use Rattle.machines.specs.Delayed.{fresh}
+use Rattle.machines.proofs.Wakeless.{rests}
 use Rattle.guest_memory.specs.declared.Layout.{Layout}
 use Rattle.guest_calls.specs.Guest.{Guest, is_running, first_guest}
 use Rattle.guest_calls.specs.Retire.{retire}
@@ -25,6 +27,10 @@ started_low g h v good runs none k among =
 -- the harts that a retirement makes or wakes didn't run before it
 pub others_idle : (g : Guest) (h v : ℕ) → IsOrderly g → is_running g h ≡ true → (k : ℕ) → is_among k (retire g h v).others ≡ true → is_running g k ≡ false
 others_idle g h v good runs = (retire_started g h v good runs).idle
+
+-- no hart ever sleeps
+pub never_sleeps : (g : Guest) (h v : ℕ) → IsOrderly g → is_running g h ≡ true → sleeps (retire g h v).fate ≡ false
+never_sleeps g h v good runs = (retire_started g h v good runs).awake
 
 first_orderly : (image : ImageParts) (input : List ℕ) (output_limit : ℕ) (layout : Layout) → IsOrderly (first_guest image input output_limit layout)
 unfolding first_guest
@@ -50,8 +56,14 @@ pub lawful : (has_selected : ℕ → Bool) (point_at : ℕ → Option ℕ) (imag
 lawful has_selected point_at image input output_limit layout speedup budget visit_limit in_range = record {
   first_good = first_orderly image input output_limit layout;
   first_running = first_runs image input output_limit layout;
+  first_awake = refl;
   stays_good = λ g h v good runs. (retire_started g h v good runs).orderly;
   apart = λ g h v good runs. (retire_started g h v good runs).apart;
-  running = λ g h v good runs. (retire_started g h v good runs).running;
+  running = λ g h v good runs none k. let started = retire_started g h v good runs in rw started.awake (started.running none k);
+  sleeps_later = λ g h v good runs. (rests (retire g h v).fate v fresh (retire_started g h v good runs).awake).2;
+  sleeps_one = λ g h v good runs. rw (retire_started g h v good runs).awake refl;
+  wakes_good = λ g h good asleep. good;
+  wakes = λ g h good asleep k. refl;
+  wakes_one = λ g h good asleep. absurd (let never : false ≡ true = asleep in cc);
   speedup_in_range = in_range;
 }

@@ -4,7 +4,7 @@ use Rattle.std.proofs.lemmas.List.{length-set}
 use Rattle.coz_types.specs.declared.ending.Ending.{Ending}
 use Rattle.machines.specs.declared.Fate.{Fate}
 use Rattle.machines.specs.declared.Fate.TheVariants.{Goes, Ends}
-use Rattle.machines.specs.Guest.{Retirement, goes_on, started, own_ending}
+use Rattle.machines.specs.Guest.{Retirement, goes_on, sleeps, started, own_ending}
 use Rattle.machines.specs.Places.{is_among, AllApart}
 use Rattle.rv_decode.specs.Fields.{twos}
 use Rattle.guest_areas.specs.Space.{Answered}
@@ -21,6 +21,8 @@ pub record IsStarted (g : Guest) (h : ℕ) (r : Retirement Guest) : Type 0 where
   pub orderly : IsOrderly r.guest
   pub apart : AllApart (started h r)
   pub running : IsNone (own_ending r.fate) → (k : ℕ) → is_running r.guest k ≡ (if is_among k (started h r) then true else if k == h then false else is_running g k)
+  -- no hart sleeps
+  pub awake : sleeps r.fate ≡ false
   -- those that it makes or wakes didn't run before
   pub idle : (k : ℕ) → is_among k r.others ≡ true → is_running g k ≡ false
 
@@ -107,6 +109,7 @@ goes_started g h others after beside runs = record {
   orderly = beside.orderly;
   apart = beside.apart;
   running = λ none k. beside.running k ∙ goes_bit (k == h) (is_among k others) (is_running g k) (λ is. ap (is_running g) (eqb-true k h is) ∙ runs);
+  awake = refl;
   idle = beside.idle;
 }
 
@@ -116,6 +119,7 @@ ends_started g h after e good = record {
   orderly = good;
   apart = tt;
   running = λ none k. absurd (let never : true ≡ false = none in cc);
+  awake = refl;
   idle = λ k among. absurd (let never : false ≡ true = among in cc);
 }
 
@@ -125,15 +129,16 @@ stops_bit true true before out = sym (out refl)
 stops_bit true false before out = refl
 stops_bit false other before out = refl
 
-pub stops_started : (g : Guest) (h : ℕ) (others : List ℕ) (after last : Guest) (fate : Fate) → goes_on fate ≡ false → RunsBeside g h others after → IsOrderly last
+pub stops_started : (g : Guest) (h : ℕ) (others : List ℕ) (after last : Guest) (fate : Fate) → goes_on fate ≡ false → sleeps fate ≡ false → RunsBeside g h others after → IsOrderly last
     → ((k : ℕ) → is_running last k ≡ (if k == h then false else is_running after k)) → IsStarted g h (retirement last fate others)
-stops_started g h others after last fate stays beside orderly stops = record {
+stops_started g h others after last fate stays awake beside orderly stops = record {
   orderly = orderly;
   apart = rw stays beside.apart.1;
   running = λ none k. rw stays
       (stops k
       ∙ ap (λ (b : Bool). if k == h then false else b) (beside.running k)
       ∙ stops_bit (k == h) (is_among k others) (is_running g k) (λ is. ap (λ (n : ℕ). is_among n others) (eqb-true k h is) ∙ beside.apart.0));
+  awake = awake;
   idle = beside.idle;
 }
 

@@ -3,10 +3,11 @@ use Rattle.std.proofs.Common.{◌≡◌, ℕ, ◌+◌, ◌-◌, ◌*◌, Bool, t
 use Rattle.std.proofs.lemmas.Bool.{cases_eq}
 use Rattle.std.proofs.Math.ListN.{get_or-map}
 use Rattle.machines.specs.Places.{change, change_each, change_from, with_places, is_among}
-use Rattle.machines.specs.Guest.{Experiment, cost, cut}
-use Rattle.machines.specs.Delayed.{Hart, Delayed, total, fresh, stop, run, credit, raise_hart, account_of, raise, begin, retirement, leave, give_credit}
+use Rattle.machines.specs.Guest.{Experiment, cost, cut, sleeps}
+use Rattle.machines.specs.Delayed.{Hart, Delayed, total, fresh, stop, rest, run, credit, raise_hart, account_of, raise, begin, retirement, leave, give_credit}
 use Rattle.machines.specs.Steps.{sit_hart, jump}
 use Rattle.machines.proofs.Maps.{change_same, change_other, change_all_at, with_places_at}
+use Rattle.machines.proofs.Wakeless.{rests}
 use Rattle.delay_credits.specs.Delays.{Delays, at}
 use Rattle.delay_credits.specs.Ticks.{without_work}
 use Rattle.delay_credits.proofs.TicksLemmas.{without_work-sit, without_work-run, without_work-stop, without_work-credit, without_work-raise}
@@ -77,12 +78,13 @@ among_filter test k (h ∷ hs) e = go (among_by (test h) k h (filter test hs) e)
 
 module _ {G : Type 0} (x : Experiment G) where
   -- a hart retires
-  pub holds_leave : (h : ℕ) (c : Delays) (d : Delayed G) → Holds c d → Holds (record c { harts = change fresh h stop c.harts }) (leave x h d)
+  pub holds_leave : (h : ℕ) (c : Delays) (d : Delayed G) → sleeps (retirement x h d).fate ≡ false → Holds c d → Holds (record c { harts = change fresh h stop c.harts }) (leave x h d)
   unfolding leave
-  holds_leave h c d holds = record {
+  holds_leave h c d awake holds = record {
     latest = holds.latest;
     raised = holds.raised;
-    harts = held_places (retirement x h d).others (change fresh h stop c.harts) (change fresh h stop d.harts) (held_change h stop stop c.harts d.harts without_work-stop holds.harts);
+    harts = held_places (retirement x h d).others (change fresh h stop c.harts) (change fresh h (rest (retirement x h d).fate (d.now - d.delay)) d.harts)
+        (held_change h (rest (retirement x h d).fate (d.now - d.delay)) stop c.harts d.harts (λ hart. ap without_work (rests (retirement x h d).fate (d.now - d.delay) hart awake).1 ∙ without_work-stop hart) holds.harts);
   }
 
   -- those that it made or woke are credited

@@ -8,7 +8,8 @@ use Rattle.machines.specs.Delayed.{Delayed, fresh, run, over_or, raise, begin, r
 use Rattle.machines.specs.Shortened.{shortened}
 use Rattle.machines.specs.Steps.{jump}
 use Rattle.machines.specs.Standing.{ticks_left, next, standing}
-use Rattle.machines.proofs.Standing.{Retires, retires_at, stays}
+use Rattle.machines.proofs.Standing.{Comes, comes_at, stays}
+use Rattle.machines.proofs.Wakeless.{NeverSleeps, come_is}
 
 -- each selected start raised at most so many ticks
 abbrev pub Bounded : {G : Type 0} → ℕ → Delayed G → Type 0
@@ -73,15 +74,15 @@ module _ {G : Type 0} (x : Experiment G) where
     unfolding delayed after unbegun
     first_bounded = begin_bounded (0 ∷ []) (unbegun x) (omega arith)
 
-module _ {G : Type 0} (x : Experiment G) (Good : G → Type 0) (law : IsLawful x Good) where
+module _ {G : Type 0} (x : Experiment G) (Good : G → Type 0) (law : IsLawful x Good) (never : NeverSleeps x Good) where
   -- what holds of a state holds of the next one, if it holds after each retirement that may come
   pub next_by : (P : Delayed G → Type 0) (n : ℕ) → P (standing x n)
-      → ((h : ℕ) → (standing x n).ending ≡ None → Retires x Good law (standing x n) (shortened x n) h → P (retire x h (jump (ticks_left (standing x n).harts) (standing x n))))
+      → ((h : ℕ) → (standing x n).ending ≡ None → Comes x Good law (standing x n) (shortened x n) h → P (retire x h (jump (ticks_left (standing x n).harts) (standing x n))))
       → P (standing x (suc n))
   next_by P n before step = go (some_or_none (standing x n).ending)
     where
       go : ((standing x n).ending ≡ None) ⊎ ((a : Ending) × ((standing x n).ending ≡ Some a)) → P (standing x (suc n))
-      go (inl none) = let r = retires_at x Good law n none in subst P (sym (standing_suc x n ∙ r.1.is)) (step r.0 none r.1)
+      go (inl none) = let r = comes_at x Good law n none in subst P (sym (standing_suc x n ∙ r.1.is ∙ come_is x Good law never r.0 (jump (ticks_left (standing x n).harts) (standing x n)))) (step r.0 none r.1)
       go (inr e) = subst P (sym (ap (standing x) (let one : suc n ≡ 1 + n = omega arith in one) ∙ stays x Good law n e.0 e.1 1)) before
 
   pub standing_bounded : (most : ℕ) → ((g : G) (h : ℕ) → cut x g h ≤ most) → (n : ℕ) → Bounded most (standing x n)

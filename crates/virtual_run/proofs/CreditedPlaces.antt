@@ -5,7 +5,7 @@ use Rattle.std.proofs.lemmas.List.{length-map}
 use Rattle.coz_types.specs.declared.ending.Ending.{Ending}
 use Rattle.machines.specs.Places.{change, change_each, change_from, is_among}
 use Rattle.machines.specs.Guest.{Experiment, IsLawful, goes_on, cost, cut, started}
-use Rattle.machines.specs.Delayed.{Hart, Delayed, total, fresh, stop, run, credit, raise_hart, account_of, over_or, raise, begin, retirement, leave, give_credit, ending, retire, unbegun, after, delayed}
+use Rattle.machines.specs.Delayed.{Hart, Delayed, total, fresh, rest, run, credit, raise_hart, account_of, over_or, raise, begin, retirement, leave, give_credit, ending, retire, unbegun, after, delayed}
 use Rattle.machines.specs.Shortened.{Shortened, shortened}
 use Rattle.machines.specs.Steps.{sit_hart, jump}
 use Rattle.machines.specs.Standing.{ticks_left, standing}
@@ -13,7 +13,8 @@ use Rattle.machines.proofs.Retire.{turn}
 use Rattle.machines.proofs.Short.{turn_runs}
 use Rattle.machines.proofs.Ends.{goes_on_at}
 use Rattle.machines.proofs.Stepping.{begin_frame}
-use Rattle.machines.proofs.Standing.{Retires, agrees}
+use Rattle.machines.proofs.Standing.{Comes, agrees}
+use Rattle.machines.proofs.Wakeless.{NeverSleeps}
 use Rattle.virtual_run.proofs.CreditedBounds.{standing_zero, next_by}
 
 -- how many places there are once each of these numbers has one
@@ -85,7 +86,7 @@ module _ {G : Type 0} (x : Experiment G) where
   unfolding leave
   leave_places h d below =
       let same : max (length d.harts) (suc h) ≡ length d.harts = omega arith in
-      each_places (retirement x h d).others (λ _ o. o) (change fresh h stop d.harts) ∙ ap (places (retirement x h d).others) (change_places h stop d.harts ∙ same)
+      each_places (retirement x h d).others (λ _ o. o) (change fresh h (rest (retirement x h d).fate (d.now - d.delay)) d.harts) ∙ ap (places (retirement x h d).others) (change_places h (rest (retirement x h d).fate (d.now - d.delay)) d.harts ∙ same)
 
   credit_places : (h : ℕ) (d : Delayed G) → length (give_credit x h d).harts ≡ places (retirement x h d).others (length (leave x h d).harts)
   unfolding give_credit
@@ -105,7 +106,7 @@ pub record IsCounted {G : Type 0} (x : Experiment G) (Good : G → Type 0) (coun
   pub made : (g : G) (h : ℕ) → Good g → x.guest.is_running g h ≡ true → h < count g
   pub grows : (g : G) (h v : ℕ) → Good g → x.guest.is_running g h ≡ true → count (x.guest.retire g h v).guest ≡ places (x.guest.retire g h v).others (count g)
 
-module _ {G : Type 0} (x : Experiment G) (Good : G → Type 0) (law : IsLawful x Good) (count : G → ℕ) (counted : IsCounted x Good count) where
+module _ {G : Type 0} (x : Experiment G) (Good : G → Type 0) (law : IsLawful x Good) (never : NeverSleeps x Good) (count : G → ℕ) (counted : IsCounted x Good count) where
   -- as many accounts as harts that were made
   abbrev pub HasEach : Delayed G → Type 0
   HasEach d = length d.harts ≡ count d.guest
@@ -161,9 +162,9 @@ module _ {G : Type 0} (x : Experiment G) (Good : G → Type 0) (law : IsLawful x
 
   pub standing_has : (n : ℕ) → HasEach (standing x n)
   standing_has zero = subst HasEach (sym (standing_zero x)) first_has
-  standing_has (suc n) = next_by x Good law HasEach n (standing_has n) (λ h none r. retire_has h (jump (ticks_left (standing x n).harts) (standing x n)) (retiring h none r (standing_has n)))
+  standing_has (suc n) = next_by x Good law never HasEach n (standing_has n) (λ h none r. retire_has h (jump (ticks_left (standing x n).harts) (standing x n)) (retiring h none r (standing_has n)))
     where
-      retiring : (h : ℕ) → (standing x n).ending ≡ None → Retires x Good law (standing x n) (shortened x n) h → HasEach (standing x n) → Retiring h (jump (ticks_left (standing x n).harts) (standing x n))
+      retiring : (h : ℕ) → (standing x n).ending ≡ None → Comes x Good law (standing x n) (shortened x n) h → HasEach (standing x n) → Retiring h (jump (ticks_left (standing x n).harts) (standing x n))
       retiring h none r has =
           let d : Delayed G = standing x n in
           let s : Shortened G = shortened x n in
@@ -171,7 +172,7 @@ module _ {G : Type 0} (x : Experiment G) (Good : G → Type 0) (law : IsLawful x
           let p = jump_places x (ticks_left d.harts) d in
           let same : d.guest ≡ s.guest = (agrees x Good law n).guest in
           let lives = (goes_on_at x Good law n (sym (agrees x Good law n).ending ∙ none)).lives in
-          let runs : x.guest.is_running j.guest h ≡ true = ap (λ (g : G). x.guest.is_running g h) (p.1 ∙ same) ∙ turn_runs x Good law s (turn x h j) lives r.turn in
+          let runs : x.guest.is_running j.guest h ≡ true = ap (λ (g : G). x.guest.is_running g h) (p.1 ∙ same) ∙ turn_runs x Good law s (turn x h j) lives r.turn (never.awake s.guest h) in
           let good : Good j.guest = subst Good (sym (p.1 ∙ same)) lives.good in
           record {
             each = p.0 ∙ has ∙ sym (ap count p.1);
@@ -183,7 +184,7 @@ over_guest : {G : Type 0} (o : Option Ending) (d next : Delayed G) (g : G) → d
 over_guest None d next g a b = b
 over_guest (Some e) d next g a b = a
 
-module _ {G : Type 0} (x : Experiment G) (Good : G → Type 0) (law : IsLawful x Good) where
+module _ {G : Type 0} (x : Experiment G) (Good : G → Type 0) (law : IsLawful x Good) (never : NeverSleeps x Good) where
   retire_guest : (h : ℕ) (d : Delayed G) → (retire x h d).guest ≡ (retirement x h d).guest
   unfolding retire
   retire_guest h d =
@@ -201,14 +202,14 @@ module _ {G : Type 0} (x : Experiment G) (Good : G → Type 0) (law : IsLawful x
   -- the guest is always Good, also once the run has ended
   pub standing_good : (n : ℕ) → Good (standing x n).guest
   standing_good zero = subst Good (sym (ap (λ (d : Delayed G). d.guest) (standing_zero x) ∙ first_guest)) law.first_good
-  standing_good (suc n) = next_by x Good law (λ d. Good d.guest) n (standing_good n) (λ h none r. still h none r)
+  standing_good (suc n) = next_by x Good law never (λ d. Good d.guest) n (standing_good n) (λ h none r. still h none r)
     where
-      still : (h : ℕ) → (standing x n).ending ≡ None → Retires x Good law (standing x n) (shortened x n) h → Good (retire x h (jump (ticks_left (standing x n).harts) (standing x n))).guest
+      still : (h : ℕ) → (standing x n).ending ≡ None → Comes x Good law (standing x n) (shortened x n) h → Good (retire x h (jump (ticks_left (standing x n).harts) (standing x n))).guest
       still h none r =
           let d : Delayed G = standing x n in
           let s : Shortened G = shortened x n in
           let j : Delayed G = jump (ticks_left d.harts) d in
           let same : j.guest ≡ s.guest = (jump_places x (ticks_left d.harts) d).1 ∙ (agrees x Good law n).guest in
           let lives = (goes_on_at x Good law n (sym (agrees x Good law n).ending ∙ none)).lives in
-          let runs : x.guest.is_running j.guest h ≡ true = ap (λ (g : G). x.guest.is_running g h) same ∙ turn_runs x Good law s (turn x h j) lives r.turn in
+          let runs : x.guest.is_running j.guest h ≡ true = ap (λ (g : G). x.guest.is_running g h) same ∙ turn_runs x Good law s (turn x h j) lives r.turn (never.awake s.guest h) in
           subst Good (sym (retire_guest h j ∙ made_by h j)) (law.stays_good j.guest h (j.now - j.delay) (subst Good (sym same) lives.good) runs)

@@ -44,7 +44,8 @@ use Rattle.virtual_run.specs.DelayedRun.{visit_as, net_due_of, account_in, outco
 use Rattle.virtual_run.proofs.Keys.{has_place, next_is}
 use Rattle.virtual_run.proofs.Many.{many_few}
 use Rattle.virtual_run.proofs.Begin.{cycles_few}
-use Rattle.virtual_run.proofs.Law.{lawful_run, steady, reached_next, IsTurn, started_idle, none_own}
+use Rattle.machines.proofs.Wakeless.{NeverSleeps, at_budget}
+use Rattle.virtual_run.proofs.Law.{lawful_run, never_run, steady, reached_next, IsTurn, started_idle, none_own}
 use Rattle.virtual_run.proofs.Credited.{among_filter, holds_begin}
 use Rattle.virtual_run.proofs.CreditedLists.{at_latest, change_length, raises_length, raises_latest, start_is}
 use Rattle.virtual_run.proofs.CreditedBegin.{others_among, begun_places}
@@ -57,6 +58,9 @@ use Rattle.virtual_run.proofs.Made.{retire_grows, first_count}
 -- the experiment, and that it counts the harts that were made
 pub lawful_with : (image : ImageParts) (input : List ℕ) (setting : Setting) → IsChoice setting.choice → IsLawful (experiment_with image input setting) IsOrderly
 lawful_with image input setting valid = lawful_run image (position_at setting.index.now) (point_of setting.points.now) input setting.choice valid.speedup
+
+pub never_with : (image : ImageParts) (input : List ℕ) (setting : Setting) → NeverSleeps (experiment_with image input setting) IsOrderly
+never_with image input setting = never_run image (position_at setting.index.now) (point_of setting.points.now) input setting.choice
 
 counted_with : (image : ImageParts) (input : List ℕ) (setting : Setting) → IsCounted (experiment_with image input setting) IsOrderly (λ g. length g.harts)
 counted_with image input setting = record {
@@ -103,6 +107,9 @@ module _ (image : ImageParts) (input : List ℕ) (setting : Setting) (run : Run)
   law : IsLawful x IsOrderly
   law = lawful_with image input setting p.valid
 
+  never : NeverSleeps x IsOrderly
+  never = never_with image input setting
+
   pub agree : Agrees d s
   agree = agrees x IsOrderly law run.retired
 
@@ -125,11 +132,11 @@ module _ (image : ImageParts) (input : List ℕ) (setting : Setting) (run : Run)
   now_is = p.moment
 
   pub harts_now : length d.harts ≡ length run.guest.harts
-  harts_now = standing_has x IsOrderly law (λ g. length g.harts) (counted_with image input setting) run.retired ∙ ap (λ (g : Guest). length g.harts) guest_now
+  harts_now = standing_has x IsOrderly law never (λ g. length g.harts) (counted_with image input setting) run.retired ∙ ap (λ (g : Guest). length g.harts) guest_now
 
   -- the delay is at most 3800 ticks a start
   delay_few : d.delay ≤ 3800 * d.starts
-  delay_few = standing_bounded x IsOrderly law 3800 (cut_few x 40 95 (λ g h. cycles_few (next_of g h)) p.valid.speedup) run.retired
+  delay_few = standing_bounded x IsOrderly law never 3800 (cut_few x 40 95 (λ g h. cycles_few (next_of g h)) p.valid.speedup) run.retired
 
   starts_few : run.starts ≤ 10 ^ 12 + 256
   starts_few =
@@ -158,7 +165,7 @@ module _ (image : ImageParts) (input : List ℕ) (setting : Setting) (run : Run)
     abbrev pub later_now : ℕ
     later_now = new.time + delay
 
-    next : IsNext x IsOrderly law run.retired t later_now credits
+    next : IsNext x IsOrderly law never run.retired t later_now credits
     next = record {
       goes = ending_now ∙ a.goes;
       turn = next_is run.schedule s.dues h new.time p.reached.reached.dues a.turn a.first;
@@ -177,13 +184,13 @@ module _ (image : ImageParts) (input : List ℕ) (setting : Setting) (run : Run)
     hart_below = subst (λ (n : ℕ). h < n) (p.reached.room ∙ sym p.room) (has_place run.schedule h new.time a.turn)
 
     pub is_later : credits.latest ≤ later_now
-    is_later = steps.later x IsOrderly law run.retired t later_now credits next
+    is_later = steps.later x IsOrderly law never run.retired t later_now credits next
 
     pub hart_runs : is_running (hart_at credits h) ≡ true
-    hart_runs = steps.running x IsOrderly law run.retired t later_now credits next
+    hart_runs = steps.running x IsOrderly law never run.retired t later_now credits next
 
     pub hart_unpaused : pause_of (hart_at (at later_now credits) h) ≡ 0
-    hart_unpaused = steps.unpaused x IsOrderly law run.retired t later_now credits next
+    hart_unpaused = steps.unpaused x IsOrderly law never run.retired t later_now credits next
 
     abbrev stopped : Delays
     stopped = with_stop h later_now credits
@@ -237,7 +244,7 @@ module _ (image : ImageParts) (input : List ℕ) (setting : Setting) (run : Run)
     raises_few none =
         let few : d.delay ≤ 3800 * d.starts = delay_few in
         let is : credits.raised ≡ d.delay = p.holds.raised in
-        let more : (standing x (suc run.retired)).starts ≡ d.starts + length (filter (x.guest.is_selected new.guest) (started_by h fate new.started)) = steps.starts_next x IsOrderly law run.retired t later_now credits next r retires_as (after_is ∙ none) in
+        let more : (standing x (suc run.retired)).starts ≡ d.starts + length (filter (x.guest.is_selected new.guest) (started_by h fate new.started)) = steps.starts_next x IsOrderly law never run.retired t later_now credits next r retires_as (after_is ∙ none) in
         let same : length new.selected ≡ length (filter (x.guest.is_selected new.guest) (started_by h fate new.started)) = ap length (a.selected none) in
         let starts : (standing x (suc run.retired)).starts ≡ new.starts = after_starts in
         let most : many new.schedule ≤ length new.schedule = many_few new.schedule in
@@ -257,10 +264,10 @@ module _ (image : ImageParts) (input : List ℕ) (setting : Setting) (run : Run)
         λ k among. (among_filter (x.guest.is_selected new.guest) k (started_by h fate new.started) (ap (is_among k) (sym (a.selected none)) ∙ among)).1 in
         record {
           below = subst (λ (n : ℕ). h < n) (p.room ∙ sym stopped_places) hart_below;
-          whole = steps.whole_stopped x IsOrderly law run.retired t later_now credits next;
+          whole = steps.whole_stopped x IsOrderly law never run.retired t later_now credits next;
           rest = λ k among. record {
             below = low k (others_among (goes_on fate) h k new.started among);
-            rests = steps.idle x IsOrderly law run.retired t later_now credits next k (still_idle k among);
+            rests = steps.idle x IsOrderly law never run.retired t later_now credits next k (still_idle k among);
           };
           started = low;
           selected = chosen;
@@ -277,11 +284,11 @@ module _ (image : ImageParts) (input : List ℕ) (setting : Setting) (run : Run)
     settled_holds : (o : Option Ending) → new.ending ≡ o
         → Holds (settled_by o (raise_ticks new.guest setting.choice.speedup) h fate new.started new.selected stopped) (standing x (suc run.retired))
         × (length (settled_by o (raise_ticks new.guest setting.choice.speedup) h fate new.started new.selected stopped).harts ≡ 256)
-    settled_holds (Some e) is = (steps.holds_ended x IsOrderly law run.retired t later_now credits next e (after_is ∙ is), stopped_places)
+    settled_holds (Some e) is = (steps.holds_ended x IsOrderly law never run.retired t later_now credits next e (after_is ∙ is), stopped_places)
     settled_holds None is =
         let ticks : ℕ → ℕ = raise_ticks new.guest setting.choice.speedup in (
           subst (λ (hs : List ℕ). Holds (with_begun ticks h fate new.started hs stopped) (standing x (suc run.retired))) (sym (a.selected is))
-              (steps.holds_goes x IsOrderly law run.retired t later_now credits next ticks r retires_as ticks_are (after_is ∙ is)),
+              (steps.holds_goes x IsOrderly law never run.retired t later_now credits next ticks r retires_as ticks_are (after_is ∙ is)),
           begun_places stopped new.guest h fate new.started new.selected (can_begin is) ticks ∙ stopped_places,
         )
 
@@ -293,7 +300,7 @@ module _ (image : ImageParts) (input : List ℕ) (setting : Setting) (run : Run)
         ∙ map-append visit_as run.visits.kept (visits_of point h later_now delay)
         ∙ ap₂ (λ (vs ws : List Visit). vs ++ ws) p.visits
         (visit_kept point h later_now delay ∙ ap₂ (λ (m : ℕ) (g : Guest). visit_at x h later_now m g) given (sym short_guest))
-        ∙ sym (steps.visits_next x IsOrderly law run.retired t later_now credits next)
+        ∙ sym (steps.visits_next x IsOrderly law never run.retired t later_now credits next)
 
     latest_is : (o : Option Ending) → (settled_by o (raise_ticks new.guest setting.choice.speedup) h fate new.started new.selected stopped).latest ≡ later_now
     latest_is (Some e) = refl
@@ -317,7 +324,7 @@ module _ (image : ImageParts) (input : List ℕ) (setting : Setting) (run : Run)
     pub steps_next : Steps x d (standing x new.retired)
     steps_next =
         let by = steps_is x IsOrderly law run.retired t (ending_now ∙ a.goes) next.turn in
-        subst (λ (n : ℕ). Steps x d (standing x n)) (sym next_count) by.steps
+        subst (λ (n : ℕ). Steps x d (standing x n)) (sym next_count) (by.retires (never.awake d.guest h)).1
 
 -- when a hart retires, of its load
 due_of : (now delay : ℕ) (a : Account) (o : Option Load) (due : Option ℕ) → LoadAgrees now delay a o due → due ≡ option_map (λ load. now + load.work + load.pause - delay) o
@@ -386,7 +393,7 @@ module _ (image : ImageParts) (input : List ℕ) (setting : Setting) (run : Run)
 
   pub harts_few : length run.guest.harts ≤ 256
   harts_few =
-      let good : IsOrderly seen.guest = standing_good (experiment_with image input setting) IsOrderly (lawful_with image input setting p.valid) run.retired in
+      let good : IsOrderly seen.guest = standing_good (experiment_with image input setting) IsOrderly (lawful_with image input setting p.valid) (never_with image input setting) run.retired in
       subst (λ (g : Guest). length g.harts ≤ 256) (guest_now image input setting run credits now p) good.few
 
   pub visits_in_time : All (λ (v : Visit). v.delay ≤ v.time) seen.visits
@@ -582,6 +589,9 @@ going_first image input setting run credits now p v view =
 lawful_of : (v : Seen (Delayed Guest)) → IsChoice v.choice → IsLawful (experiment_of v) IsOrderly
 lawful_of v valid = lawful_run v.image (position_at v.index) (point_of v.points) v.input v.choice valid.speedup
 
+never_of : (v : Seen (Delayed Guest)) → NeverSleeps (experiment_of v) IsOrderly
+never_of v = never_run v.image (position_at v.index) (point_of v.points) v.input v.choice
+
 budget_left : (n retired budget : ℕ) → retired ≡ n → (retired ≡ 0) ⊎ (retired < budget) → 1 ≤ budget → n < budget
 budget_left n retired budget count within some = omega arith
 
@@ -594,7 +604,7 @@ module _ (old now : Seen (Delayed Guest)) (g : IsGoing old now) where
       let agree : Agrees (standing x n) (shortened x n) = agrees x IsOrderly (lawful_of old g.valid) n in
       let goes : (shortened x n).ending ≡ None = sym agree.ending ∙ ap (λ (d : Delayed Guest). d.ending) (sym g.stands) ∙ none in
       let on = goes_on_at x IsOrderly (lawful_of old g.valid) n goes in
-      budget_left n (shortened x n).retired old.choice.budget on.count on.lives.within g.valid.some_budget
+      budget_left n (shortened x n).retired old.choice.budget (sym agree.retired ∙ ap (λ (d : Delayed Guest). d.retired) (sym g.stands)) on.lives.within g.valid.some_budget
 
   same_run : experiment_of now ≡ experiment_of old
   same_run = ap experiment_of g.rest
@@ -622,14 +632,17 @@ module _ (old now : Seen (Delayed Guest)) (g : IsGoing old now) where
   run_x = experiment_of old
 
   module _ (e : Ending) (over : now.state.ending ≡ Some e) where
+    within_enough : now.state.retired ≤ 2 * old.choice.budget
+    within_enough = let within : now.state.retired ≤ old.choice.budget = g.within in omega arith
+
     stands_over : (standing run_x now.state.retired).ending ≡ Some e
     stands_over = ap (λ (d : Delayed Guest). d.ending) (sym g.stands) ∙ over
 
     pub record_now : record_of run_x now.state e ≡ delayed_record run_x
-    record_now = ap (λ (d : Delayed Guest). record_of run_x d e) g.stands ∙ recorded_delayed run_x IsOrderly (lawful_of old g.valid) now.state.retired e g.within stands_over
+    record_now = ap (λ (d : Delayed Guest). record_of run_x d e) g.stands ∙ recorded_delayed run_x IsOrderly (lawful_of old g.valid) now.state.retired e within_enough stands_over
 
     pub last_now : now.state ≡ standing run_x old.choice.budget
-    last_now = g.stands ∙ last run_x IsOrderly (lawful_of old g.valid) now.state.retired e g.within stands_over
+    last_now = g.stands ∙ last run_x IsOrderly (lawful_of old g.valid) now.state.retired e within_enough stands_over ∙ sym (at_budget run_x IsOrderly (lawful_of old g.valid) (never_of old) g.valid.some_budget).0
 
     pub agrees_last : Agrees now.state (shortened run_x old.choice.budget)
     agrees_last = subst (λ (d : Delayed Guest). Agrees d (shortened run_x old.choice.budget)) (sym last_now) (agrees run_x IsOrderly (lawful_of old g.valid) old.choice.budget)

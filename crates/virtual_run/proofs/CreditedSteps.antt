@@ -1,9 +1,8 @@
 -- A step of the delayed machine, on the credits that hold its accounts and pauses.
-use Rattle.std.proofs.Common.{◌≡◌, ℕ, suc, ◌+◌, ◌-◌, ◌*◌, ◌≤◌, true, false, List, ◌++◌, length, get_or, filter, refl, sym, ap, ap₂, ◌∙◌, subst, arith, eqb-true, Option, Some, None, is_some, option_map, option_to_list, ◌⊎◌, inl, inr}
+use Rattle.std.proofs.Common.{◌≡◌, ℕ, suc, ◌+◌, ◌-◌, ◌*◌, ◌≤◌, ◌||◌, true, false, List, ◌++◌, length, get_or, filter, refl, sym, ap, ap₂, ◌∙◌, subst, arith, eqb-true, Option, Some, None, is_some, option_map, option_to_list, ◌⊎◌, inl, inr}
 use Rattle.std.proofs.lemmas.Bool.{cases_eq}
 use Rattle.coz_types.specs.declared.ending.Ending.{Ending}
-use Rattle.machines.specs.Places.{change}
-use Rattle.machines.specs.Guest.{Experiment, Retirement, IsLawful, started}
+use Rattle.machines.specs.Guest.{Experiment, Retirement, IsLawful, started, sleeps}
 use Rattle.machines.specs.Delayed.{Account, Load, Hart, Visit, Delayed, total, fresh, is_ready, is_running, stop, account_of, over_or, begin, retirement, leave, give_credit, ending, retire}
 use Rattle.machines.specs.Shortened.{Shortened, Turn, next_turn, shortened}
 use Rattle.machines.specs.Agreement.{Agrees}
@@ -13,7 +12,8 @@ use Rattle.machines.proofs.Maps.{change_same, change_other}
 use Rattle.machines.proofs.Turns.{first_is, turn_has}
 use Rattle.machines.proofs.Harts.{alike}
 use Rattle.machines.proofs.Retire.{Ready, ready_is, account_at}
-use Rattle.machines.proofs.Short.{Lives}
+use Rattle.machines.proofs.Short.{Lives, turn_runs}
+use Rattle.machines.proofs.Wakeless.{NeverSleeps}
 use Rattle.machines.proofs.Ends.{goes_on_at}
 use Rattle.machines.proofs.Stepping.{begin_frame}
 use Rattle.machines.proofs.Standing.{StepsBy, steps_is, agrees, jump_agrees, visit_of, retire_visits}
@@ -89,9 +89,6 @@ module _ {G : Type 0} (x : Experiment G) where
   unfolding leave
   leave_now h d = refl
 
-  leave_harts : (h k : ℕ) (c : Delays) (d : Delayed G) → Holds c d → hart_at (record c { harts = change fresh h stop c.harts }) k ≡ without_work (get_or (leave x h d).harts k fresh)
-  leave_harts h k c d holds = (holds_leave x h c d holds).harts k
-
   jump_parts : (n : ℕ) (d : Delayed G) → ((jump n d).now ≡ d.now + n) × ((jump n d).delay ≡ d.delay) × ((jump n d).guest ≡ d.guest) × ((jump n d).ending ≡ d.ending) × ((jump n d).visits ≡ d.visits) × ((jump n d).starts ≡ d.starts)
   unfolding jump
   jump_parts n d = (refl, refl, refl, refl, refl, refl)
@@ -99,7 +96,7 @@ module _ {G : Type 0} (x : Experiment G) where
   unfoldable pub visit_at : (h : ℕ) (now delay : ℕ) (g : G) → List Visit
   visit_at h now delay g = option_to_list (option_map (λ p. record { point = p; hart = h; time = now; delay = delay }) (x.guest.point g h))
 
-module _ {G : Type 0} (x : Experiment G) (Good : G → Type 0) (law : IsLawful x Good) where
+module _ {G : Type 0} (x : Experiment G) (Good : G → Type 0) (law : IsLawful x Good) (never : NeverSleeps x Good) where
   -- hart t.hart retires next, at the real time now, from the state after n retirements, which the credits hold
   pub record IsNext (n : ℕ) (t : Turn) (now : ℕ) (c : Delays) : Type 0 where
     pub goes : (standing x n).ending ≡ None
@@ -119,6 +116,9 @@ module _ {G : Type 0} (x : Experiment G) (Good : G → Type 0) (law : IsLawful x
 
     steps : StepsBy x Good law n t k
     steps = steps_is x Good law n t next.goes next.turn
+
+    is : standing x (suc n) ≡ retire x t.hart (jump k d)
+    is = (steps.retires (never.awake d.guest t.hart)).0
 
     both : Agrees (jump k d) s
     both = jump_agrees x k d s (agrees x Good law n) next.goes steps.ticks
@@ -145,8 +145,23 @@ module _ {G : Type 0} (x : Experiment G) (Good : G → Type 0) (law : IsLawful x
     pub unpaused : pause_of (hart_at (at now c) t.hart) ≡ 0
     unpaused = ap pause_of (held.harts t.hart) ∙ unpaused_ready (get_or (jump k d).harts t.hart fresh) this_ready
 
+    due_is : (jump k d).now - (jump k d).delay ≡ t.due
+    due_is =
+        let m : d.now + k ≡ t.due + d.delay = steps.moment in
+        let due : d.now + k - d.delay ≡ t.due = omega arith in
+        ap₂ (λ m n. m - n) (jump_parts x k d).0 (jump_parts x k d).1 ∙ due
+
+    retires : retirement x t.hart (jump k d) ≡ x.guest.retire s.guest t.hart t.due
+    retires = retirement_is x t.hart t.due (jump k d) s.guest both.guest due_is
+
+    lives : Lives x Good s
+    lives = (goes_on_at x Good law n (sym (agrees x Good law n).ending ∙ next.goes)).lives
+
+    awake : sleeps (retirement x t.hart (jump k d)).fate ≡ false
+    awake = ap (λ (r : Retirement G). sleeps r.fate) retires ∙ never.stays s.guest t.hart t.due lives.good (turn_runs x Good law s t lives next.turn (never.awake s.guest t.hart))
+
     stopped : Holds (with_stop t.hart now c) (leave x t.hart (jump k d))
-    stopped = holds_leave x t.hart (at now c) (jump k d) held
+    stopped = holds_leave x t.hart (at now c) (jump k d) awake held
 
     -- the hart runs
     pub running : is_running (hart_at c t.hart) ≡ true
@@ -173,11 +188,11 @@ module _ {G : Type 0} (x : Experiment G) (Good : G → Type 0) (law : IsLawful x
     idle_by i none (inl same) = subst (λ (j : ℕ). is_running (hart_at (with_stop t.hart now c) j) ≡ false) same (ap is_running (change_same fresh t.hart stop (at now c).harts))
     idle_by i none (inr other) =
         let that : Hart = get_or (jump k d).harts i fresh in
-        let lives : Lives x Good s = (goes_on_at x Good law n (sym (agrees x Good law n).ending ∙ next.goes)).lives in
         ap is_running (change_other fresh t.hart i stop (at now c).harts other ∙ held.harts i)
         ∙ runs_held that
         ∙ alike (jump k d).now (jump k d).delay that.account that.load (get_or s.dues i None) (both.harts i)
         ∙ sym (lives.running i)
+        ∙ ap (λ b. b || x.guest.is_running s.guest i) (never.awake s.guest i)
         ∙ none
 
     -- a hart that doesn't run doesn't run after it
@@ -191,17 +206,8 @@ module _ {G : Type 0} (x : Experiment G) (Good : G → Type 0) (law : IsLawful x
     pub holds_ended : (a : Ending) → (standing x (suc n)).ending ≡ Some a → Holds (with_stop t.hart now c) (standing x (suc n))
     holds_ended a e =
         let j : Delayed G = jump k d in
-        let is : standing x (suc n) ≡ record (leave x t.hart j) { ending = Some a } = steps.is ∙ retire_ended x t.hart j a jump_goes (ap (λ (o : Delayed G). o.ending) (sym steps.is) ∙ e) in
-        subst (Holds (with_stop t.hart now c)) (sym is) (record { latest = stopped.latest; raised = stopped.raised; harts = stopped.harts })
-
-    due_is : (jump k d).now - (jump k d).delay ≡ t.due
-    due_is =
-        let m : d.now + k ≡ t.due + d.delay = steps.moment in
-        let due : d.now + k - d.delay ≡ t.due = omega arith in
-        ap₂ (λ m n. m - n) (jump_parts x k d).0 (jump_parts x k d).1 ∙ due
-
-    retires : retirement x t.hart (jump k d) ≡ x.guest.retire s.guest t.hart t.due
-    retires = retirement_is x t.hart t.due (jump k d) s.guest both.guest due_is
+        let ends_as : standing x (suc n) ≡ record (leave x t.hart j) { ending = Some a } = is ∙ retire_ended x t.hart j a jump_goes (ap (λ (o : Delayed G). o.ending) (sym is) ∙ e) in
+        subst (Holds (with_stop t.hart now c)) (sym ends_as) (record { latest = stopped.latest; raised = stopped.raised; harts = stopped.harts })
 
     -- the credits after a retirement from which the run goes on
     abbrev pub begun : (ℕ → ℕ) → Retirement G → Delays
@@ -223,10 +229,10 @@ module _ {G : Type 0} (x : Experiment G) (Good : G → Type 0) (law : IsLawful x
 
     pub holds_goes : (ticks : ℕ → ℕ) (r : Retirement G) → r ≡ x.guest.retire s.guest t.hart t.due → ((h : ℕ) → ticks h ≡ x.speedup * x.guest.cycles r.guest h) → (standing x (suc n)).ending ≡ None
         → Holds (begun ticks r) (standing x (suc n))
-    holds_goes ticks r is are none =
+    holds_goes ticks r given are none =
         let j : Delayed G = jump k d in
-        let same : retirement x t.hart j ≡ r = retires ∙ sym is in
-        let begun_is : standing x (suc n) ≡ begin x (started t.hart (retirement x t.hart j)) (give_credit x t.hart j) = steps.is ∙ retire_goes x t.hart j (ap (λ (o : Delayed G). o.ending) (sym steps.is) ∙ none) in
+        let same : retirement x t.hart j ≡ r = retires ∙ sym given in
+        let begun_is : standing x (suc n) ≡ begin x (started t.hart (retirement x t.hart j)) (give_credit x t.hart j) = is ∙ retire_goes x t.hart j (ap (λ (o : Delayed G). o.ending) (sym is) ∙ none) in
         subst (Holds (begun ticks r)) (sym begun_is)
         (subst (λ (q : Retirement G). Holds (begun ticks q) (begin x (started t.hart (retirement x t.hart j)) (give_credit x t.hart j))) same
         (begins ticks (λ h. are h ∙ ap (λ (q : Retirement G). x.speedup * x.guest.cycles q.guest h) (sym same))))
@@ -237,7 +243,7 @@ module _ {G : Type 0} (x : Experiment G) (Good : G → Type 0) (law : IsLawful x
     visits_next =
         let j : Delayed G = jump k d in
         let p = jump_parts x k d in
-        ap (λ (o : Delayed G). o.visits) steps.is
+        ap (λ (o : Delayed G). o.visits) is
         ∙ retire_visits x t.hart j
         ∙ ap (λ (vs : List Visit). vs ++ visit_of x t.hart j) p.4
         ∙ ap (λ (vs : List Visit). d.visits ++ vs) (visit_is j.now j.delay j.guest (p.0 ∙ sym now_is) (sym raised_is) both.guest)
@@ -248,11 +254,11 @@ module _ {G : Type 0} (x : Experiment G) (Good : G → Type 0) (law : IsLawful x
     -- each selected hart that begins is a start
     pub starts_next : (r : Retirement G) → r ≡ x.guest.retire s.guest t.hart t.due → (standing x (suc n)).ending ≡ None
         → (standing x (suc n)).starts ≡ d.starts + length (filter (x.guest.is_selected r.guest) (started t.hart r))
-    starts_next r is none =
+    starts_next r given none =
         let j : Delayed G = jump k d in
         let q : Retirement G = retirement x t.hart j in
-        let same : q ≡ r = retires ∙ sym is in
-        let begun_is : standing x (suc n) ≡ begin x (started t.hart q) (give_credit x t.hart j) = steps.is ∙ retire_goes x t.hart j (ap (λ (o : Delayed G). o.ending) (sym steps.is) ∙ none) in
+        let same : q ≡ r = retires ∙ sym given in
+        let begun_is : standing x (suc n) ≡ begin x (started t.hart q) (give_credit x t.hart j) = is ∙ retire_goes x t.hart j (ap (λ (o : Delayed G). o.ending) (sym is) ∙ none) in
         ap (λ (o : Delayed G). o.starts) begun_is
         ∙ begin_starts x (started t.hart q) (give_credit x t.hart j)
         ∙ ap₂ (λ (m : ℕ) (g : G). m + length (filter (x.guest.is_selected g) (started t.hart q))) ((credit_starts x t.hart j).0 ∙ (jump_parts x k d).5) (credit_guest x t.hart j)

@@ -1,5 +1,5 @@
 -- A delayed run in a form that can be computed: the ticks before each retirement at once.
-use Rattle.std.proofs.Common.{◌≡◌, ℕ, zero, suc, ◌≤◌, Option, Some, None, option_map, refl, sym, ap, ◌∙◌}
+use Rattle.std.proofs.Common.{◌≡◌, ℕ, zero, suc, ◌*◌, ◌≤◌, arith, Option, Some, None, option_map, refl, sym, ap, ◌∙◌}
 use Rattle.coz_types.specs.declared.ending.Ending.{Ending}
 use Rattle.machines.specs.Guest.{Experiment, IsLawful}
 use Rattle.machines.specs.Delayed.{Delayed, move, after, delayed}
@@ -45,4 +45,4 @@ module _ {G : Type 0} (x : Experiment G) where
     where
       go : (ending : Option Ending) → (standing x n).ending ≡ ending → option_map (record_of x (standing x n)) ending ≡ Some r → delayed_record x ≡ r
       go None goes is = absurd cc
-      go (Some ending) ended is = let same : record_of x (standing x n) ending ≡ r = cc in sym (recorded_delayed x Good law n ending few ended) ∙ same
+      go (Some ending) ended is = let same : record_of x (standing x n) ending ≡ r = cc in let enough : n ≤ 2 * x.budget = omega arith in sym (recorded_delayed x Good law n ending enough ended) ∙ same

@@ -12,12 +12,13 @@ use Rattle.machines.specs.Places.{is_among}
 use Rattle.machines.specs.Shortened.{Shortened, shortened, move}
 use Rattle.machines.specs.Records.{IsShortened, shortened_record, net_record_of}
 use Rattle.machines.proofs.Ends.{goes_on_at, at_last, record_is, recorded}
+use Rattle.machines.proofs.Wakeless.{NeverSleeps, at_budget}
 use Rattle.guest_memory.specs.declared.Layout.{Layout}
 use Rattle.guest_memory.specs.Regions.{usual}
 use Rattle.guest_calls.specs.Guest.{Guest, IsMade, pc_of, is_running, first_guest}
 use Rattle.guest_calls.specs.Retire.{retire}
 use Rattle.guest_calls.specs.Orderly.{IsOrderly}
-use Rattle.guest_calls.proofs.Law.{lawful, running_low, others_idle}
+use Rattle.guest_calls.proofs.Law.{lawful, running_low, others_idle, never_sleeps}
 use Rattle.virtual_run.specs.declared.choice.Choice.{Choice}
 use Rattle.virtual_run.specs.declared.choice.Setting.{Setting}
 use Rattle.virtual_run.specs.declared.run.Run.{Run}
@@ -34,6 +35,10 @@ use Rattle.virtual_run.proofs.Moves.{outcome, run_of, once_more, first_key, firs
 pub lawful_run : (image : ImageParts) (position point : ℕ → Option ℕ) (input : List ℕ) (choice : Choice) → choice.speedup ≤ 95 → IsLawful (experiment image position point input choice) IsOrderly
 lawful_run image position point input choice small =
     lawful (has_selected (selected_line choice) position) point image input choice.output_limit choice.layout choice.speedup choice.budget choice.visit_limit (omega arith)
+
+-- no hart of it ever sleeps
+pub never_run : (image : ImageParts) (position point : ℕ → Option ℕ) (input : List ℕ) (choice : Choice) → NeverSleeps (experiment image position point input choice) IsOrderly
+never_run image position point input choice = record { awake = λ g h. refl; stays = never_sleeps }
 
 -- an image for laws that don't read it
 abbrev no_image : ImageParts
@@ -152,7 +157,7 @@ module _ (image : ImageParts) (position point : ℕ → Option ℕ) (input : Lis
   pub below_budget : run.ending ≡ None → run.retired < choice.budget
   below_budget none =
       let g = goes_on_at x IsOrderly is_lawful run.retired (ending_is ∙ none) in
-      retired_below g.lives.within g.count
+      retired_below g.lives.within (ap (λ (t : Shortened Guest). t.retired) r.reached.state)
 
   not_empty : (k : ℕ) → is_some (get_or s.dues k None) ≡ true → ¬ IsEmpty run.schedule
   not_empty k some empty = let no : false ≡ true = ap is_some (sym (empty k) ∙ r.reached.dues k) ∙ some in absurd cc
@@ -196,11 +201,13 @@ module _ (image : ImageParts) (position point : ℕ → Option ℕ) (input : Lis
   ended_now e ended = ending_is ∙ ended
 
   pub last_now : (e : Ending) → run.ending ≡ Some e → s ≡ shortened x choice.budget
-  last_now e ended = at_last x IsOrderly is_lawful run.retired e r.retired (ending_is ∙ ended)
+  last_now e ended =
+      let below : run.retired ≤ choice.budget = r.retired in
+      at_last x IsOrderly is_lawful run.retired e (omega arith) (ending_is ∙ ended) ∙ sym (at_budget x IsOrderly is_lawful (never_run image position point input choice) valid.some_budget).1
 
   -- the record of a run that has ended
   pub recorded_now : (e : Ending) → run.ending ≡ Some e → net_record_of x s e ≡ shortened_record x
-  recorded_now e ended = recorded x IsOrderly is_lawful run.retired e r.retired (ending_is ∙ ended)
+  recorded_now e ended = let below : run.retired ≤ choice.budget = r.retired in recorded x IsOrderly is_lawful run.retired e (omega arith) (ending_is ∙ ended)
 
 -- the record of a program's run is one that it ends with
 pub shortened_is : (image : ImageParts) (position point : ℕ → Option ℕ) (input : List ℕ) (choice : Choice) → IsChoice choice

@@ -6,12 +6,13 @@ use Rattle.coz_types.specs.declared.ending.Ending.{Ending}
 use Rattle.coz_types.specs.declared.record.Visit.{Visit}
 use Rattle.hart_schedule.specs.Keys.{Keys, key_of, with_key, without_key, IsLeast}
 use Rattle.machines.specs.declared.Fate.{Fate}
-use Rattle.machines.specs.Guest.{Experiment, Retirement, cost, cut, goes_on, started, ending_after}
+use Rattle.machines.specs.Guest.{Experiment, Retirement, cost, cut, goes_on, sleeps, started, ending_after}
 use Rattle.machines.specs.Places.{change, change_each, is_among, AllApart}
-use Rattle.machines.specs.Delayed.{is_any}
+use Rattle.machines.specs.Delayed.{is_any, fresh}
 use Rattle.machines.specs.Shortened as short
 use Rattle.machines.specs.Shortened.{Shortened, NetVisit, Turn, next_turn, move, move_by, retirement, leave, ending, begin, over_or, runs_any, unbegun, shortened}
 use Rattle.machines.proofs.Maps.{change_each_at}
+use Rattle.machines.proofs.Wakeless.{rests}
 use Rattle.cost_table.specs.Costs.{cycles_of}
 use Rattle.progress_points.specs.Points.{point_of}
 use Rattle.guest_calls.specs.Guest.{Guest, pc_of}
@@ -27,7 +28,7 @@ use Rattle.virtual_run.proofs.Begin.{ticks_less}
 
 -- a state of a run
 abbrev pub state : ℕ → Guest → List (Option ℕ) → List NetVisit → ℕ → ℕ → Option Ending → Shortened Guest
-state time g dues visits retired starts e = record { time = time; guest = g; dues = dues; visits = visits; retired = retired; starts = starts; ending = e }
+state time g dues visits retired starts e = record { time = time; guest = g; dues = dues; visits = visits; retired = retired; wakes = 0; starts = starts; ending = e }
 
 abbrev pub outcome : Guest → Fate → List ℕ → Retirement Guest
 outcome g fate others = record { guest = g; fate = fate; others = others }
@@ -40,21 +41,24 @@ taken h dues = change None h (λ _. None) dues
 abbrev net_visits : Option ℕ → ℕ → ℕ → List NetVisit
 net_visits point h due = option_to_list (option_map (λ p. record { point = p; hart = h; time = due }) point)
 
--- what a move comes to with a retirement, after which there are these visits
-abbrev pub moved_by : Experiment Guest → ℕ → Retirement Guest → ℕ → ℕ → List (Option ℕ) → List NetVisit → ℕ → ℕ → Shortened Guest
-moved_by x h r due starts dues visits retired count =
-    let left : Shortened Guest = state due r.guest (taken h dues) visits (retired + 1) starts None in
+-- what a move comes to with a retirement, after which the hart has this moment and there are these visits
+abbrev pub moved_by : Experiment Guest → ℕ → Retirement Guest → Option ℕ → ℕ → ℕ → List (Option ℕ) → List NetVisit → ℕ → ℕ → Shortened Guest
+moved_by x h r moment due starts dues visits retired count =
+    let left : Shortened Guest = state due r.guest (change None h (λ _. moment) dues) visits (retired + 1) starts None in
     over_or
-    (ending_after x r count (is_any (started h r) || runs_any (taken h dues)) (retired + 1))
+    (ending_after x r count (is_any (started h r) || runs_any (change None h (λ _. moment) dues)) (retired + 1))
     left
     (begin x (started h r) due left)
 
 -- a hart's turn
-turned : (x : Experiment Guest) (time : ℕ) (g : Guest) (dues : List (Option ℕ)) (visits : List NetVisit) (h due retired starts : ℕ) → next_turn dues ≡ Some (record { hart = h; due = due })
+turned : (x : Experiment Guest) (time : ℕ) (g : Guest) (dues : List (Option ℕ)) (visits : List NetVisit) (h due retired starts : ℕ) → next_turn dues ≡ Some (record { hart = h; due = due }) → x.guest.is_sleeping g h ≡ false
     → move x (state time g dues visits retired starts None)
-    ≡ moved_by x h (x.guest.retire g h due) due starts dues (visits ++ net_visits (x.guest.point g h) h due) retired (length (visits ++ net_visits (x.guest.point g h) h due))
-unfolding move move_by short.retire ending leave retirement
-turned x time g dues visits h due retired starts turn = ap (λ (t : Option Turn). move_by x None t (state time g dues visits retired starts None)) turn
+    ≡ moved_by x h (x.guest.retire g h due) (short.rest (x.guest.retire g h due).fate) due starts dues (visits ++ net_visits (x.guest.point g h) h due) retired (length (visits ++ net_visits (x.guest.point g h) h due))
+unfolding move move_by short.come short.retire ending leave retirement
+turned x time g dues visits h due retired starts turn awake =
+    let s : Shortened Guest = state time g dues visits retired starts None in
+    let t : Turn = record { hart = h; due = due } in
+    ap (λ (o : Option Turn). move_by x None o s) turn ∙ ap (λ b. if b then short.wake x t s else short.retire x t s) awake
 
 any_started : (b : Bool) (h : ℕ) (others : List ℕ) (keys dues : List (Option ℕ)) → runs_any keys ≡ runs_any dues
     → (is_any (if b then h ∷ others else others) || runs_any dues) ≡ (b || is_any others || runs_any keys)
@@ -90,6 +94,7 @@ pub record IsMove (setting : Setting) (run : Run) (left : Keys) (h due : ℕ) (a
   pub first : IsLeast run.schedule h
   pub taken : left ≡ without_key h run.schedule
   pub retires : outcome after fate others ≡ retire run.guest h due
+  pub awake : sleeps fate ≡ false
   pub visits : map net_of kept ≡ map net_of run.visits.kept ++ net_visits (point_of setting.points.now (pc_of run.guest h)) h due
   pub ends : e ≡ ending_of fate (nat_le setting.choice.output_limit (length after.output)) (nat_le setting.choice.visit_limit (length kept)) (runs_after fate others left) (run.retired + 1) setting.choice.budget
 
@@ -138,10 +143,11 @@ module _ (setting : Setting) (first : Guest) where
     moved =
         let same : runs_any left ≡ runs_any (taken h dues) = same_runs left (taken h dues) dues_left in
         ap (λ (o : Option Ending). move x (state run.time run.guest dues (map net_of run.visits.kept) run.retired run.starts o)) m.goes
-        ∙ turned x run.time run.guest dues (map net_of run.visits.kept) h due run.retired run.starts (next_is run.schedule dues h due are m.turn m.first)
-        ∙ ap (λ (r : Retirement Guest). moved_by x h r due run.starts dues net run.retired (length net)) (sym m.retires)
-        ∙ ap (λ (vs : List NetVisit). moved_by x h (outcome after fate others) due run.starts dues vs run.retired (length vs)) (sym m.visits)
-        ∙ ap (λ (n : ℕ). moved_by x h (outcome after fate others) due run.starts dues (map net_of visits) run.retired n) (length-map visits net_of)
+        ∙ turned x run.time run.guest dues (map net_of run.visits.kept) h due run.retired run.starts (next_is run.schedule dues h due are m.turn m.first) refl
+        ∙ ap (λ (r : Retirement Guest). moved_by x h r (short.rest r.fate) due run.starts dues net run.retired (length net)) (sym m.retires)
+        ∙ ap (λ (o : Option ℕ). moved_by x h (outcome after fate others) o due run.starts dues net run.retired (length net)) (rests fate 0 fresh m.awake).0
+        ∙ ap (λ (vs : List NetVisit). moved_by x h (outcome after fate others) None due run.starts dues vs run.retired (length vs)) (sym m.visits)
+        ∙ ap (λ (n : ℕ). moved_by x h (outcome after fate others) None due run.starts dues (map net_of visits) run.retired n) (length-map visits net_of)
         ∙ ap (λ (o : Option Ending). over_or o rest (begin x (started_by h fate others) due rest))
         (ends_as after fate others h left (taken h dues) (length visits) (run.retired + 1) same ∙ sym m.ends)
 

@@ -126,8 +126,8 @@ waits =
 -- what a proof unfolds to compute a run
 unfoldable runs_on_literals : ⊤
 unfolding bytes_of text_area data_area program program_with plain trial shortened_end delayed_end only_at second second_end
-    shortened_record short.shortened short.move short.move_by short.unbegun short.begin short.retire short.leave short.retirement short.ending
-    long.delayed long.after long.move long.move_by long.unbegun long.begin long.raise long.retire long.leave long.give_credit long.retirement long.ending long.tick jump
+    shortened_record short.shortened short.move short.move_by short.unbegun short.begin short.retire short.leave short.retirement short.ending short.wake short.come
+    long.delayed long.after long.move long.move_by long.unbegun long.begin long.raise long.retire long.leave long.give_credit long.retirement long.ending long.tick long.wake long.come jump
     cost cut ending_after first_guest with_numbers with_entry next_of retire step call_of execute clone futex wait wake exit exit_group sched_yield
 runs_on_literals = tt
 

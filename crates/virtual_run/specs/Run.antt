@@ -80,6 +80,7 @@ state_of run dues = record {
   dues = dues;
   visits = map net_of run.visits.kept;
   retired = run.retired;
+  wakes = 0;
   starts = run.starts;
   ending = run.ending;
 }

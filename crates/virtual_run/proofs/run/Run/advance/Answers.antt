@@ -1,11 +1,13 @@
-use Rattle.std.proofs.Common.{◌≡◌, ℕ, ◌+◌, ◌≤◌, List, ◌++◌, length, nat_le, Option, Some, None, arith, ap, subst, sym, ◌∙◌}
+use Rattle.std.proofs.Common.{◌≡◌, ℕ, ◌+◌, ◌≤◌, List, ◌++◌, length, nat_le, Option, Some, None, is_some, arith, ap, subst, sym, ◌∙◌}
 use Rattle.coz_types.specs.declared.ending.Ending.{Ending}
 use Rattle.hart_schedule.specs.Keys.{Keys, key_of, without_key, IsLeast}
 use Rattle.machines.specs.declared.Fate.{Fate}
+use Rattle.machines.specs.Guest.{Retirement, sleeps}
 use Rattle.machines.specs.Shortened.{move}
 use Rattle.progress_points.specs.Points.{point_of}
 use Rattle.guest_calls.specs.Guest.{Guest, pc_of}
 use Rattle.guest_calls.specs.Retire.{retire}
+use Rattle.guest_calls.proofs.Law.{never_sleeps}
 use Rattle.virtual_run.specs.declared.choice.Setting.{Setting}
 use Rattle.virtual_run.specs.declared.run.Run.{Run}
 use Rattle.virtual_run.specs.Visits.{Visits, visits_of}
@@ -38,6 +40,7 @@ module _ (setting : Setting) (run : Run) (left : Keys) (h due delay : ℕ) (afte
     first = l.first;
     taken = l.taken;
     retires = l.retires;
+    awake = ap (λ (r : Retirement Guest). sleeps r.fate) l.retires ∙ never_sleeps run.guest h due l.steady.orderly (l.steady.running h ∙ ap is_some l.turn);
     visits =
         net_kept run.visits.kept now.kept (point_of setting.points.now (pc_of run.guest h)) h due delay
         (ap (λ (vs : Visits). vs.kept) l.keeps ∙ ap (λ (a : ℕ). run.visits.kept ++ visits_of (point_of setting.points.now a) h (due + delay) delay) l.place);
