@@ -11,8 +11,8 @@ use Rattle.coz_types.specs.declared.record.Account.{Account as GivenAccount}
 use Rattle.delay_credits.specs.declared.seat.Seat.{Seat}
 use Rattle.delay_credits.specs.declared.seat.Pending.{Pending}
 use Rattle.delay_credits.specs.Delays.{Delays, hart_at, at, with_start, with_stop, with_raise, with_credit}
-use Rattle.delay_credits.specs.Seats.{standing, settled, IsSound, IsRaised}
-use Rattle.delay_credits.proofs.Standing.{standing-all, standing-set, standing-read, standing-start, standing-stop}
+use Rattle.delay_credits.specs.Seats.{standing, settled, IsSound, IsRaised, IsUnpaused}
+use Rattle.delay_credits.proofs.Standing.{standing-all, standing-set, standing-read, standing-start, standing-stop, standing-again, standing-kept}
 
 -- a seat to name a place past the end
 abbrev no_seat : Seat
@@ -153,3 +153,17 @@ raised-at v latest now raised h p ticks n seats old new view sound later place i
     subst (λ i. (k : ℕ) → k < length seats → (e : Seat) → IsRaised ticks now i k (get_or seats k e) (get_or new k e)) place
     (subst (λ (xs : List Seat). (k : ℕ) → k < length xs → (e : Seat) → IsRaised ticks now p k (get_or xs k e) (get_or new k e)) is each) in
     ap (seen now (raised + ticks)) all ∙ raised-all v latest now raised h ticks seats new no_seat view sound later (same ∙ ap length is) raises
+
+-- a hart that runs with no pause starts again
+pub unpaused-at : (v : Delays) (latest now raised h p : ℕ) (seats : List Seat) (s : Seat) → seen latest raised seats ≡ v → All (IsSound latest raised) seats → h < length v.harts → v.latest ≤ now
+    → p ≡ h → s ≡ get_or seats p s → IsUnpaused s → seen now raised seats ≡ with_start h now v
+unpaused-at v latest now raised h p seats s view sound below later place item unpaused =
+    subst (λ (w : Delays). h < length w.harts → w.latest ≤ now → seen now raised seats ≡ with_start h now w)
+    view
+    (λ below' later'. ap (λ (hs : List Hart). record { latest = now; raised = raised; harts = hs })
+    (standing-kept now h (run 0) seats s (below-seats latest raised h seats below') (subst (λ (x : Seat). standing now x ≡ run 0 (standing now x)) read (standing-again now s unpaused))
+    ∙ ap (change fresh h (run 0)) (sym (standing-all latest now raised seats sound later'))))
+    below later
+  where
+    read : s ≡ get_or seats h s
+    read = item ∙ ap (λ i. get_or seats i s) place

@@ -8,7 +8,7 @@ use Rattle.machines.specs.Steps.{sit_load, sit_hart}
 use Rattle.delay_credits.specs.declared.seat.Seat.{Seat}
 use Rattle.delay_credits.specs.declared.seat.Pending.{Pending}
 use Rattle.delay_credits.specs.Delays.{account_as}
-use Rattle.delay_credits.specs.Seats.{standing, since_of, settled, IsSound}
+use Rattle.delay_credits.specs.Seats.{standing, since_of, settled, IsSound, IsUnpaused}
 
 -- a hart as it is so many ticks later
 pub standing-later : (latest now : ℕ) (seat : Seat) → since_of seat ≤ latest → latest ≤ now → sit_hart (now - latest) (standing latest seat) ≡ standing now seat
@@ -65,3 +65,21 @@ standing-start now seat = go (settled now seat).account (settled-account now sea
 -- a hart that no longer runs
 pub standing-stop : (now : ℕ) (seat : Seat) → standing now (record { account = (settled now seat).account; pending = None }) ≡ stop (standing now seat)
 standing-stop now seat = ap (λ (a : Account). record { account = a; load = None }) (settled-account now seat)
+
+-- a hart that runs with no pause runs so from then on
+pub standing-again : (now : ℕ) (seat : Seat) → IsUnpaused seat → standing now seat ≡ run 0 (standing now seat)
+standing-again now seat unpaused = go seat.account seat.pending unpaused
+  where
+    go : (a : GivenAccount) (pending : Option Pending) → IsUnpaused (record { account = a; pending = pending }) → standing now (record { account = a; pending = pending }) ≡ run 0 (standing now (record { account = a; pending = pending }))
+    go a None given = absurd (given.0 refl)
+    go a (Some p) given =
+        let none : p.pause ≡ 0 = given.1 in
+        let work : 0 - (now - p.since - p.pause) ≡ 0 = omega arith in
+        let pause : p.pause - (now - p.since) ≡ 0 = omega arith in
+        ap₂ (λ (m n : ℕ). record { account = record { own = a.own; paused = a.paused + min (now - p.since) p.pause; credited = a.credited }; load = Some (record { work = m; pause = n }) }) work pause
+
+-- no seat is written where a change leaves the hart as it is
+pub standing-kept : (now h : ℕ) (f : Hart → Hart) (seats : List Seat) (d : Seat) → h < length seats → standing now (get_or seats h d) ≡ f (standing now (get_or seats h d)) → map (standing now) seats ≡ change fresh h f (map (standing now) seats)
+standing-kept now h f [] d below is = absurd (omega arith)
+standing-kept now zero f (x ∷ xs) d below is = ap (λ (y : Hart). y ∷ map (standing now) xs) is
+standing-kept now (suc h) f (x ∷ xs) d below is = ap (λ (ys : List Hart). standing now x ∷ ys) (standing-kept now h f xs d (omega arith) is)

@@ -39,6 +39,10 @@ settled now seat =
       }
     ]
 
+-- the hart runs, and had no pause before it when it was looked at
+abbrev pub IsUnpaused : Seat → Type 0
+IsUnpaused seat = (seat.pending ≡ None → ⊥) × (owed seat ≡ 0)
+
 -- the account of a seat and its pause are less than 2 ^ 64 together with so many ticks
 abbrev pub Fits : ℕ → Seat → Type 0
 Fits ticks seat = total (account_as seat.account) + owed seat + ticks < 2 ^ 64

@@ -9,7 +9,7 @@ ghost use Rattle.std.specs.Prelude.{◌≡◌, ◌+◌, ◌≤◌, ◌<◌, ◌^
 ghost use Rattle.machines.specs.Delayed.{fresh, is_running, total};
 ghost use Rattle.delay_credits.specs.Delays.{none_raised, hart_at, pause_of, account_as, at, with_start, with_stop, with_raise, with_credit};
 
-use crate::seat::{Pending, Seat, raise_each, settle};
+use crate::seat::{Pending, Seat, is_unpaused, raise_each, settle};
 use coz_types::{Account, HartId, Tick};
 use std::alloc::{AllocError, Global};
 use std::marker::Model;
@@ -62,14 +62,19 @@ impl Credits {
         })
     }
 
-    /// A hart runs from a moment on, with no pause.
+    /// A hart runs from a moment on, with no pause. One that runs with no pause owed is only looked at.
     pub fn start(&mut self, hart: HartId, now: Tick)
         requires below { hart.0 < length self.old.harts }
         requires later { self.old.latest ≤ now }
         ensures { self.new ≡ with_start hart.0 now self.old }
     {
         let place = usize::from(hart.0);
-        let account = settle(self.seats[place], now).account;
+        let seat = self.seats[place];
+        if is_unpaused(seat) {
+            self.latest = now;
+            return;
+        }
+        let account = settle(seat, now).account;
         self.seats[place] = Seat {
             account,
             pending: Some(Pending {

@@ -1,5 +1,5 @@
-ghost use Rattle.std.specs.Prelude.{◌≡◌, ◌≤◌, ◌<◌, ℕ, length, slice_index_or, All};
-ghost use Rattle.delay_credits.specs.Seats.{settled, since_of, AreIdleFrom, Fits, IsRaised};
+ghost use Rattle.std.specs.Prelude.{◌≡◌, ◌≤◌, ◌<◌, ℕ, length, slice_index_or, All, IsTrue};
+ghost use Rattle.delay_credits.specs.Seats.{settled, since_of, AreIdleFrom, Fits, IsRaised, IsUnpaused};
 
 use coz_types::{Account, Tick};
 
@@ -15,6 +15,16 @@ pub(crate) struct Pending {
 pub(crate) struct Seat {
     pub(crate) account: Account,
     pub(crate) pending: Option<Pending>,
+}
+
+/// The hart runs, and owed no pause when it was looked at last.
+pub(crate) fn is_unpaused(seat: Seat) -> bool
+    ensures { IsTrue result → IsUnpaused seat }
+{
+    match seat.pending {
+        Some(pending) => pending.pause == 0,
+        None => false,
+    }
 }
 
 /// The seat worked out up to a moment: of the ticks since it was looked at, the first go to its pause.

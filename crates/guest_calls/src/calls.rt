@@ -262,6 +262,7 @@ impl<'a> Guest<'a> {
     }
 
     /// Linux: readv(2).
+    #[inline(never)]
     #[tactic(auto, unfolding(crate::specs::Calls::readv))]
     fn readv(&mut self, hart: HartId) -> Fate
         requires { IsMade self.old hart.0 }
@@ -318,6 +319,7 @@ impl<'a> Guest<'a> {
     }
 
     /// Linux: writev(2).
+    #[inline(never)]
     #[tactic(auto, unfolding(crate::specs::Calls::writev))]
     fn writev(&mut self, hart: HartId) -> Fate
         requires { IsMade self.old hart.0 }

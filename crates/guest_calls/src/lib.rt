@@ -11,6 +11,7 @@ mod threads;
 
 ghost use Rattle.std.specs.Prelude.{◌≡◌, ◌≤◌, [], length, IfOk, IsTrue};
 ghost use Rattle.std.specs.Result.{result_ok};
+ghost use Rattle.cost_table.specs.Costs.{cycles_of};
 ghost use Rattle.guest_memory.specs.Regions.{IsLayout};
 ghost use Rattle.guest_calls.specs.Guest.{IsMade, is_running, pc_of, hart_at, first_guest};
 ghost use Rattle.guest_calls.specs.Calls.{retirement};
@@ -18,6 +19,7 @@ ghost use Rattle.guest_calls.specs.Retire.{word_at, next_of, stepped, step, trap
 
 use crate::hart::Hart;
 use crate::output::Output;
+use cost_table::word_cycles;
 use coz_types::{Address, Ending, HartId, Image, Tick, Trap, TrapCause};
 use guest_areas::Areas;
 use guest_futex::{HartList, Queue};
@@ -98,6 +100,18 @@ impl<'a> Guest<'a> {
         match self.word(hart) {
             Ok(word) => decode(word),
             Err(_) => None,
+        }
+    }
+
+    /// The cycles of that instruction, which are 1 for none.
+    pub fn next_cycles(&self, hart: HartId) -> u64
+        requires { IsMade self.now hart.0 }
+        ensures cycles { result ≡ cycles_of (next_of self.now hart.0) }
+        ensures few { result ≤ 40 }
+    {
+        match self.word(hart) {
+            Ok(word) => word_cycles(word),
+            Err(_) => 1,
         }
     }
 

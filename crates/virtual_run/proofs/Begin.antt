@@ -1,5 +1,5 @@
 -- The beginning of the harts that a retirement started.
-use Rattle.std.proofs.Common.{◌≡◌, ◌≢◌, ℕ, ◌+◌, ◌-◌, ◌*◌, ◌≤◌, ◌<◌, Bool, true, false, if◌then◌else◌, ◌==◌, List, [], ◌∷◌, ◌++◌, length, filter, refl, sym, ap, subst, ◌∙◌, arith, eq-eqb, ne_eqb, Option, Some, None, ◌⊎◌, inl, inr, lit≤, length-append, mul-le-mul, mul_comm, add-mul}
+use Rattle.std.proofs.Common.{◌≡◌, ◌≢◌, ℕ, ◌+◌, ◌-◌, ◌*◌, ◌≤◌, ◌<◌, Bool, true, false, if◌then◌else◌, ◌==◌, List, [], ◌∷◌, ◌++◌, length, filter, refl, sym, ap, subst, ◌∙◌, arith, eq-eqb, ne_eqb, Option, Some, None, ◌⊎◌, inl, inr, lit≤, length-append, mul-le-mul, mul_comm, add-mul, set-set, ◌||◌}
 use Rattle.std.proofs.lemmas.Bool.{cases_eq}
 use Rattle.std.proofs.lemmas.List.{length-set, append_assoc}
 use Rattle.rv_decode.specs.declared.Instr.{Instr}
@@ -15,6 +15,11 @@ use Rattle.virtual_run.specs.Begin.{ticks_of, many, IsIdle, AreIdle, AreBegun}
 use Rattle.virtual_run.specs.Run.{AreWithin}
 use Rattle.virtual_run.proofs.Many.{many_with, many_below}
 use Rattle.virtual_run.proofs.Keys.{with_key_at, without_key_at}
+use Rattle.machines.specs.Delayed.{is_any}
+use Rattle.machines.specs.Shortened.{runs_any}
+use Rattle.machines.specs.Guest.{goes_on}
+use Rattle.machines.specs.declared.Fate.{Fate}
+use Rattle.virtual_run.specs.Ending.{runs_after}
 
 -- the first of them
 pub first_idle : (g : Guest) (keys : Keys) (h : ℕ) (hs : List ℕ) → AreIdle g keys (h ∷ hs) → IsIdle g keys h
@@ -222,3 +227,16 @@ within_left keys left h moment is within k due has =
 
 pub within_later : (n m : ℕ) (keys : Keys) → n ≤ m → AreWithin n keys → AreWithin m keys
 within_later n m keys less within h due has = let soon : due ≤ n = within h due has in omega arith
+
+-- a hart that was left in the schedule, as it goes on, is taken out all the same
+pub left_again : (b : Bool) (h : ℕ) (keys now : Keys) → now ≡ (if b then keys else without_key h keys) → without_key h now ≡ without_key h keys
+left_again true h keys now is = ap (without_key h) is
+left_again false h keys now is = ap (without_key h) is ∙ set-set keys h None None
+
+runs_by : (b : Bool) (others : List ℕ) (h : ℕ) (keys now : Keys) → now ≡ (if b then keys else without_key h keys) → (b || is_any others || runs_any now) ≡ (b || is_any others || runs_any (without_key h keys))
+runs_by true others h keys now is = refl
+runs_by false others h keys now is = ap (λ (ks : Keys). false || is_any others || runs_any ks) is
+
+-- and so runs some hart after it
+pub left_runs : (fate : Fate) (others : List ℕ) (h : ℕ) (keys now : Keys) → now ≡ (if goes_on fate then keys else without_key h keys) → runs_after fate others now ≡ runs_after fate others (without_key h keys)
+left_runs fate others h keys now is = runs_by (goes_on fate) others h keys now is

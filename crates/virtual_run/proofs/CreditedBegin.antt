@@ -1,13 +1,14 @@
 -- The credits after a retirement from which the run goes on.
-use Rattle.std.proofs.Common.{◌≡◌, ℕ, ◌<◌, ◌==◌, eqb-true, Bool, true, false, if◌then◌else◌, List, [], ◌∷◌, length, refl, ap, ◌∙◌}
+use Rattle.std.proofs.Common.{◌≡◌, ℕ, zero, suc, ◌<◌, ◌==◌, eqb-true, Bool, true, false, if◌then◌else◌, List, [], ◌∷◌, length, refl, ap, ◌∙◌, Option}
 use Rattle.machines.specs.declared.Fate.{Fate}
 use Rattle.machines.specs.Guest.{goes_on}
-use Rattle.machines.specs.Places.{is_among}
-use Rattle.machines.specs.Delayed.{run, credit}
-use Rattle.delay_credits.specs.Delays.{Delays}
+use Rattle.coz_types.specs.declared.ending.Ending.{Ending}
+use Rattle.machines.specs.Places.{change, is_among}
+use Rattle.machines.specs.Delayed.{Hart, fresh, is_any, run, stop, credit}
+use Rattle.delay_credits.specs.Delays.{Delays, at, with_start, with_stop}
 use Rattle.guest_calls.specs.Guest.{Guest}
 use Rattle.virtual_run.specs.Begin.{started_by}
-use Rattle.virtual_run.specs.Credited.{with_credits, with_starts, with_begun, AllBelow, AllRun, CanBegin}
+use Rattle.virtual_run.specs.Credited.{with_credits, with_starts, with_begun, AllBelow, AllRun, CanBegin, IsAlone}
 use Rattle.virtual_run.proofs.CreditedLists.{among_first, among_rest, credits_length, raises_length, starts_run}
 
 -- the retiring hart, if it goes on, and then the others
@@ -65,3 +66,19 @@ module _ (c : Delays) (g : Guest) (hart : ℕ) (fate : Fate) (others raisers : L
       raises_length ticks raisers (with_starts (started_by hart fate others) (with_credits others c))
       ∙ credits_length (started_by hart fate others) (λ _. run 0) (with_credits others c).harts started_below
       ∙ same_places
+
+-- a hart that stops and starts at one moment has started
+stop-start : (h : ℕ) (harts : List Hart) → change fresh h (run 0) harts ≡ change fresh h (run 0) (change fresh h stop harts)
+stop-start zero [] = refl
+stop-start zero (hart ∷ harts) = refl
+stop-start (suc h) [] = ap (λ (hs : List Hart). fresh ∷ hs) (stop-start h [])
+stop-start (suc h) (hart ∷ harts) = ap (λ (hs : List Hart). hart ∷ hs) (stop-start h harts)
+
+pub goes-on-alone : (h now : ℕ) (ending : Option Ending) (fate : Fate) (others : List ℕ) (c : Delays) → IsAlone ending fate others
+    → with_start h now c ≡ with_starts (started_by h fate others) (with_credits others (with_stop h now c))
+goes-on-alone h now ending fate others c alone =
+    rw (alone.none, alone.goes) (ap (λ (hs : List Hart). record { latest = now; raised = c.raised; harts = hs }) (stop-start h (at now c).harts))
+
+pub none-any : (hs : List ℕ) → is_any hs ≡ false → hs ≡ []
+none-any [] e = refl
+none-any (h ∷ hs) e = absurd (let no : true ≡ false = e in cc)

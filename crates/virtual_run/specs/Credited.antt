@@ -3,6 +3,7 @@ use Rattle.std.specs.Prelude.{◌≡◌, ℕ, ◌+◌, ◌*◌, ◌^◌, ◌≤�
 use Rattle.coz_types.specs.declared.ending.Ending.{Ending}
 use Rattle.cost_table.specs.Costs.{cycles_of, raise_of}
 use Rattle.machines.specs.declared.Fate.{Fate}
+use Rattle.machines.specs.Guest.{goes_on}
 use Rattle.machines.specs.Places.{change_each, change_from, is_among}
 use Rattle.machines.specs.Delayed.{Delayed, Hart, fresh, is_running, total, run, credit, raise_hart}
 use Rattle.delay_credits.specs.Delays.{Delays, hart_at}
@@ -84,3 +85,9 @@ pub record CanBegin (c : Delays) (g : Guest) (hart : ℕ) (fate : Fate) (others 
   pub selected : (k : ℕ) → is_among k raisers ≡ true → is_among k (started_by hart fate others) ≡ true
   pub made : AllMade g raisers
   pub few : c.raised + 3800 * length raisers ≤ 10 ^ 17
+
+-- the run goes on, and so does the hart that retired, with no other made or woken
+pub record IsAlone (ending : Option Ending) (fate : Fate) (others : List ℕ) : Type 0 where
+  pub goes-on : ending ≡ None
+  pub goes : goes_on fate ≡ true
+  pub none : others ≡ []

@@ -5,10 +5,11 @@ ghost use Rattle.machines.specs.Delayed.{is_running, total};
 ghost use Rattle.machines.specs.Guest.{goes_on};
 ghost use Rattle.delay_credits.specs.Delays.{hart_at, pause_of, at, with_stop};
 ghost use Rattle.guest_calls.specs.Guest.{IsMade};
-ghost use Rattle.virtual_run.specs.Credited.{raise_ticks, with_credits, with_starts, with_raises, with_begun, settled_by, AllRest, AllBelow, AllRun, AllMade, CanBegin};
+ghost use Rattle.virtual_run.specs.Credited.{raise_ticks, with_credits, with_starts, with_raises, with_begun, settled_by, AllRest, AllBelow, AllRun, AllMade, CanBegin, IsAlone};
 
+use crate::run::has_any;
 use crate::{Retired, Run};
-use cost_table::{cycles, raise};
+use cost_table::raise;
 use coz_types::{HartId, Tick};
 use delay_credits::Credits;
 use guest_calls::{Fate, Guest};
@@ -54,7 +55,7 @@ fn raised_by(guest: &Guest, hart: HartId, speedup: u8) -> Tick
     ensures ticks { result ≡ raise_ticks guest.now speedup hart.0 }
     ensures few { result ≤ 3800 }
 {
-    raise(cycles(guest.next(hart)), speedup)
+    raise(guest.next_cycles(hart), speedup)
 }
 
 /// These harts raise the delay in turn at the latest moment, each by its next instruction.
@@ -85,6 +86,33 @@ fn begin_started(credits: &mut Credits, run: &Run, retired: Retired, speedup: u8
     raise_each(credits, &run.guest, run.selected.harts(), speedup, now);
 }
 
+/// Whether a retirement leaves the hart that retired to go on, and starts no other.
+fn is_alone(run: &Run, fate: Fate) -> bool
+    ensures { IsTrue result → IsAlone run.now.ending fate run.now.started }
+{
+    match fate {
+        Fate::Goes => run.ending.is_none() && run.started.harts().is_empty(),
+        _ => false,
+    }
+}
+
+/// The hart that retired goes on, and nothing else begins: it still runs, and raises the delay if it is selected.
+fn go_on(credits: &mut Credits, run: &Run, retired: Retired, speedup: u8, now: Tick)
+    requires alone { IsAlone run.now.ending retired.fate run.now.started }
+    requires below { retired.hart.0 < length credits.old.harts }
+    requires later { credits.old.latest ≤ now }
+    requires can { CanBegin (with_stop retired.hart.0 now credits.old) run.now.guest retired.hart.0 retired.fate run.now.started run.now.selected }
+    requires speedup { speedup ≤ 95 }
+    ensures { credits.new ≡ with_begun (raise_ticks run.now.guest speedup) retired.hart.0 retired.fate run.now.started run.now.selected
+        (with_stop retired.hart.0 now credits.old) }
+{
+    credits.start(retired.hart, now);
+    if has_any(&run.selected) {
+        let raisers = run.selected.harts();
+        raise_each(credits, &run.guest, raisers, speedup, now);
+    }
+}
+
 /// What a retirement at a moment and the starts after it make of the accounts and pauses: the hart stops, and where the run
 /// goes on what it started begins.
 pub fn settle(credits: &mut Credits, run: &Run, retired: Retired, speedup: u8, now: Tick)
@@ -98,6 +126,10 @@ pub fn settle(credits: &mut Credits, run: &Run, retired: Retired, speedup: u8, n
     ensures { credits.new ≡ settled_by run.now.ending (raise_ticks run.now.guest speedup) retired.hart.0 retired.fate run.now.started run.now.selected
         (with_stop retired.hart.0 now credits.old) }
 {
+    if is_alone(run, retired.fate) {
+        go_on(credits, run, retired, speedup, now);
+        return;
+    }
     credits.stop(retired.hart, now);
     if run.ending.is_none() {
         begin_started(credits, run, retired, speedup, now);

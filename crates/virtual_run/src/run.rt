@@ -1,6 +1,7 @@
-ghost use Rattle.std.specs.Prelude.{◌≡◌, ℕ, ◌+◌, ◌^◌, ◌≤◌, ◌<◌, ◌++◌, [], List, Option, Some, None, length, nat_le, IsSome, IfOk};
+ghost use Rattle.std.specs.Prelude.{◌≡◌, ℕ, ◌+◌, ◌^◌, ◌≤◌, ◌<◌, ◌++◌, [], List, Option, Some, None, length, nat_le, IsSome, IfOk, if◌then◌else◌};
 ghost use Rattle.hart_schedule.specs.Keys.{key_of, without_key, IsEmpty, IsLeast};
 ghost use Rattle.machines.specs.Delayed.{is_any};
+ghost use Rattle.machines.specs.Guest.{goes_on};
 ghost use Rattle.machines.specs.Shortened.{move, runs_any};
 ghost use Rattle.progress_points.specs.Points.{point_of};
 ghost use Rattle.guest_calls.specs.Guest.{pc_of};
@@ -57,20 +58,31 @@ struct Turn {
     due: Tick,
 }
 
-/// Takes the hart that is due first out of the schedule.
-fn take_first(schedule: &mut Schedule) -> Turn
-    requires { ¬ IsEmpty schedule.old }
-    ensures due { key_of schedule.old result.hart.0 ≡ Some result.due }
-    ensures first { IsLeast schedule.old result.hart.0 }
-    ensures rest { schedule.new ≡ without_key result.hart.0 schedule.old }
+/// The hart that is due first. It stays in the schedule.
+fn first_turn(schedule: &Schedule) -> Turn
+    requires { ¬ IsEmpty schedule.now }
+    ensures due { key_of schedule.now result.hart.0 ≡ Some result.due }
+    ensures first { IsLeast schedule.now result.hart.0 }
 {
     let Some(hart) = schedule.least() else {
         unreachable!()
     };
-    let Some(due) = schedule.take(hart) else {
+    let Some(due) = schedule.key(hart) else {
         unreachable!()
     };
     Turn { hart, due }
+}
+
+/// The hart that retired is taken out, unless it goes on.
+fn leave(schedule: &mut Schedule, hart: HartId, fate: Fate)
+    ensures { schedule.new ≡ (if goes_on fate then schedule.old else without_key hart.0 schedule.old) }
+{
+    match fate {
+        Fate::Goes => {}
+        _ => {
+            schedule.take(hart);
+        }
+    }
 }
 
 /// Keeps the visit of the point at an address, if there is one.
@@ -96,7 +108,7 @@ fn keep_visit(
 }
 
 /// Some hart is in the list.
-fn has_any(started: &HartList) -> bool
+pub fn has_any(started: &HartList) -> bool
     ensures { result ≡ is_any started.now }
 {
     !started.harts().is_empty()
@@ -191,7 +203,7 @@ impl<'a> Run<'a> {
         ensures few { self.new.starts ≤ self.new.retired + many self.new.schedule }
         ensures within { (moment : ℕ) → AreWithin moment self.old.schedule → AreWithin (moment + 4000) self.new.schedule }
     {
-        let turn = take_first(&mut self.schedule);
+        let turn = first_turn(&self.schedule);
         let address = self.guest.pc(turn.hart);
         keep_visit(
             setting,
@@ -206,9 +218,12 @@ impl<'a> Run<'a> {
         let fate = self.guest.retire(turn.hart, turn.due, &mut self.started);
         self.time = turn.due;
         self.retired += 1;
+        leave(&mut self.schedule, turn.hart, fate);
         self.ending = self.ending_after(&setting.choice, fate);
         if self.ending.is_none() {
             self.begin_started(setting, turn.hart, fate);
+        } else {
+            self.schedule.take(turn.hart);
         }
         Retired {
             hart: turn.hart,
@@ -249,17 +264,17 @@ impl<'a> Run<'a> {
 
     /// The harts that a retirement of this fate started begin at its moment.
     fn begin_started(&mut self, setting: &Setting, hart: HartId, fate: Fate)
-        requires idle { AreIdle self.old.guest self.old.schedule (started_by hart.0 fate self.old.started) }
+        requires idle { AreIdle self.old.guest (without_key hart.0 self.old.schedule) (started_by hart.0 fate self.old.started) }
         requires moment { self.old.time ≤ 2 ^ 60 }
         requires speedup { setting.now.choice.speedup ≤ 95 }
         requires room { length self.old.schedule ≡ 256 }
         requires selected { self.old.selected ≡ [] }
         requires few { self.old.starts ≤ 2 ^ 62 }
-        ensures begun { AreBegun (ticks_in setting.now self.old.guest) self.old.time (started_by hart.0 fate self.old.started) self.old.schedule self.new.schedule }
+        ensures begun { AreBegun (ticks_in setting.now self.old.guest) self.old.time (started_by hart.0 fate self.old.started) (without_key hart.0 self.old.schedule) self.new.schedule }
         ensures selected { self.new.selected ≡ selected_of setting.now self.old.guest (started_by hart.0 fate self.old.started) }
         ensures room { length self.new.schedule ≡ 256 }
         ensures starts { self.new.starts ≡ self.old.starts + length self.new.selected }
-        ensures few { length self.new.selected + many self.old.schedule ≤ many self.new.schedule }
+        ensures few { length self.new.selected + many (without_key hart.0 self.old.schedule) ≤ many self.new.schedule }
         ensures rest { self.new ≡ record self.old { schedule = self.new.schedule; selected = self.new.selected; starts = self.new.starts } }
     {
         begin_again(

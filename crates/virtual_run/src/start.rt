@@ -1,14 +1,14 @@
 //! How harts begin their next instructions.
 
 ghost use Rattle.std.specs.Prelude.{◌≡◌, ◌+◌, ◌^◌, ◌≤◌, ◌<◌, ◌++◌, [], ◌∷◌, length, map, if◌then◌else◌, IsTrue};
-ghost use Rattle.hart_schedule.specs.Keys.{with_key};
+ghost use Rattle.hart_schedule.specs.Keys.{with_key, without_key};
 ghost use Rattle.machines.specs.Guest.{goes_on};
 ghost use Rattle.guest_calls.specs.Guest.{IsMade, pc_of};
 ghost use Rattle.virtual_run.specs.Begin.{many, IsIdle, AreIdle, AreBegun};
 ghost use Rattle.virtual_run.specs.Run.{selects, selected_of, ticks_in};
 
 use crate::Setting;
-use cost_table::{cycles, reduced};
+use cost_table::reduced;
 use coz_types::{HartId, Tick};
 use guest_calls::{Fate, Guest};
 use guest_futex::HartList;
@@ -29,7 +29,7 @@ fn cost_of(setting: &Setting, guest: &Guest, hart: HartId) -> Cost
     ensures selected { result.selected ≡ selects setting.now (pc_of guest.now hart.0) }
     ensures few { result.ticks ≤ 4000 }
 {
-    let cycles = cycles(guest.next(hart));
+    let cycles = guest.next_cycles(hart);
     if setting.has_selected(guest.pc(hart)) {
         Cost {
             ticks: reduced(cycles, setting.choice.speedup),
@@ -74,7 +74,28 @@ pub fn begin(
     schedule.put(hart, moment + cost.ticks);
 }
 
-/// The next instruction of the hart that retired begins at that moment, if the hart goes on.
+/// The next instruction of the hart that retired begins at a moment: the hart gets another place in the schedule.
+fn begin_next(
+    setting: &Setting,
+    guest: &Guest,
+    schedule: &mut Schedule,
+    selected: &mut HartList,
+    hart: HartId,
+    moment: Tick,
+)
+    requires idle { IsIdle guest.now (without_key hart.0 schedule.old) hart.0 }
+    requires moment { moment ≤ 2 ^ 60 }
+    requires speedup { setting.now.choice.speedup ≤ 95 }
+    requires few { length selected.old < 256 }
+    ensures due { schedule.new ≡ with_key hart.0 (moment + ticks_in setting.now guest.now hart.0) (without_key hart.0 schedule.old) }
+    ensures selected { selected.new ≡ selected.old ++ selected_of setting.now guest.now (hart.0 ∷ []) }
+{
+    let cost = cost_of(setting, guest, hart);
+    add_if(cost.selected, selected, hart);
+    schedule.rekey(hart, moment + cost.ticks);
+}
+
+/// The next instruction of the hart that retired begins at that moment, if the hart goes on; else it leaves the schedule.
 pub fn begin_again(
     setting: &Setting,
     guest: &Guest,
@@ -84,15 +105,18 @@ pub fn begin_again(
     fate: Fate,
     moment: Tick,
 )
-    requires idle { IsTrue (goes_on fate) → IsIdle guest.now schedule.old hart.0 }
+    requires idle { IsTrue (goes_on fate) → IsIdle guest.now (without_key hart.0 schedule.old) hart.0 }
     requires moment { moment ≤ 2 ^ 60 }
     requires speedup { setting.now.choice.speedup ≤ 95 }
     requires selected { selected.old ≡ [] }
-    ensures due { schedule.new ≡ (if goes_on fate then with_key hart.0 (moment + ticks_in setting.now guest.now hart.0) schedule.old else schedule.old) }
+    ensures due { schedule.new ≡ (if goes_on fate then with_key hart.0 (moment + ticks_in setting.now guest.now hart.0) (without_key hart.0 schedule.old) else without_key hart.0 schedule.old) }
     ensures selected { selected.new ≡ (if goes_on fate then selected_of setting.now guest.now (hart.0 ∷ []) else []) }
 {
-    if let Fate::Goes = fate {
-        begin(setting, guest, schedule, selected, hart, moment);
+    match fate {
+        Fate::Goes => begin_next(setting, guest, schedule, selected, hart, moment),
+        _ => {
+            schedule.take(hart);
+        }
     }
 }
 

@@ -1,8 +1,8 @@
-use Rattle.std.proofs.Common.{◌≡◌, ℕ, ◌+◌, ◌≤◌, List, ◌++◌, length, nat_le, Option, Some, None, is_some, arith, ap, subst, sym, ◌∙◌}
+use Rattle.std.proofs.Common.{◌≡◌, ℕ, ◌+◌, ◌≤◌, List, ◌++◌, length, nat_le, Option, Some, None, Bool, refl, is_some, arith, ap, subst, sym, ◌∙◌}
 use Rattle.coz_types.specs.declared.ending.Ending.{Ending}
 use Rattle.hart_schedule.specs.Keys.{Keys, key_of, without_key, IsLeast}
 use Rattle.machines.specs.declared.Fate.{Fate}
-use Rattle.machines.specs.Guest.{Retirement, sleeps}
+use Rattle.machines.specs.Guest.{Retirement, goes_on, sleeps}
 use Rattle.machines.specs.Shortened.{move}
 use Rattle.progress_points.specs.Points.{point_of}
 use Rattle.guest_calls.specs.Guest.{Guest, pc_of}
@@ -11,13 +11,13 @@ use Rattle.guest_calls.proofs.Law.{never_sleeps}
 use Rattle.virtual_run.specs.declared.choice.Setting.{Setting}
 use Rattle.virtual_run.specs.declared.run.Run.{Run}
 use Rattle.virtual_run.specs.Visits.{Visits, visits_of}
-use Rattle.virtual_run.specs.Begin.{started_by, many, AreIdle}
+use Rattle.virtual_run.specs.Begin.{started_by, many, AreIdle, AreBegun}
 use Rattle.virtual_run.specs.Ending.{ending_of, runs_after}
-use Rattle.virtual_run.specs.Run.{experiment_in, selects, ticks_in, state_of, IsStateOf, IsSteady}
+use Rattle.virtual_run.specs.Run.{experiment_in, selects, ticks_in, state_of, IsStateOf, IsSteady, AreWithin}
 use Rattle.virtual_run.proofs.Many.{many_few, many_without}
-use Rattle.virtual_run.proofs.Begin.{ticks_few, within_begun, within_left, within_later}
+use Rattle.virtual_run.proofs.Begin.{ticks_few, within_begun, within_left, within_later, left_again, left_runs}
 use Rattle.virtual_run.proofs.Law.{IsTurn, started_idle, none_own, none_is, some_is}
-use Rattle.virtual_run.proofs.Moves.{IsMove, outcome, net_kept, ended, goes}
+use Rattle.virtual_run.proofs.Moves.{IsMove, run_of, outcome, net_kept, ended, goes}
 use Rattle.virtual_run.proofs.run.Run.advance.Goals as goal
 use Rattle.virtual_run.proofs.run.Run.advance.Goals.{then-is_none, else-is_none}
 
@@ -60,19 +60,20 @@ module _ (setting : Setting) (run : Run) (left : Keys) (h due delay : ℕ) (afte
 
 pub begin_started-requires-clause-idle : goal.begin_started-requires-clause-idle
 begin_started-requires-clause-idle c =
-    idle_then c.args.setting.now c.args.self.now c.take_first-turn.new.schedule c.take_first-turn.result.hart.0 c.take_first-turn.result.due c.args.delay c.retire-fate.new.self c.retire-fate.result c.retire-fate.new.started
+    subst (λ (keys : Keys). AreIdle c.retire-fate.new.self keys (started_by c.first_turn-turn.result.hart.0 c.retire-fate.result c.retire-fate.new.started)) (sym (left_again (goes_on c.retire-fate.result) c.first_turn-turn.result.hart.0 c.args.self.now.schedule c.leave.new.schedule c.leave.ensures))
+    (idle_then c.args.setting.now c.args.self.now (without_key c.first_turn-turn.result.hart.0 c.args.self.now.schedule) c.first_turn-turn.result.hart.0 c.first_turn-turn.result.due c.args.delay c.retire-fate.new.self c.retire-fate.result c.retire-fate.new.started
     c.keep_visit.new.visits c.pc-address.result c.ending_after-self.result
     (record {
       steady = c.requires.steady;
-      turn = c.take_first-turn.ensures.due;
-      first = c.take_first-turn.ensures.first;
-      taken = c.take_first-turn.ensures.rest;
+      turn = c.first_turn-turn.ensures.due;
+      first = c.first_turn-turn.ensures.first;
+      taken = refl;
       place = c.pc-address.ensures;
       retires = c.retire-fate.ensures;
       keeps = c.keep_visit.ensures;
-      ends = c.ending_after-self.ensures;
+      ends = c.ending_after-self.ensures ∙ ap (λ (b : Bool). ending_of c.retire-fate.result (nat_le c.args.setting.now.choice.output_limit (length c.retire-fate.new.self.output)) (nat_le c.args.setting.now.choice.visit_limit (length c.keep_visit.new.visits.kept)) b (c.args.self.now.retired + 1) c.args.setting.now.choice.budget) (left_runs c.retire-fate.result c.retire-fate.new.started c.first_turn-turn.result.hart.0 c.args.self.now.schedule c.leave.new.schedule c.leave.ensures);
     })
-    (none_is c.ending_after-self.result c.is_none.result c.is_none.ensures c.if-is_none.true)
+    (none_is c.ending_after-self.result c.is_none.result c.is_none.ensures c.if-is_none.true))
 
 pub begin_started-requires-clause-few : goal.begin_started-requires-clause-few
 begin_started-requires-clause-few c =
@@ -85,26 +86,26 @@ begin_started-requires-clause-few c =
 abbrev After : Type 0
 After = goal.After-result-1
 
-left_is : (c : After) → IsLeft c.args.setting.now c.args.self.now c.take_first-turn.new.schedule c.take_first-turn.result.hart.0 c.take_first-turn.result.due c.args.delay c.retire-fate.new.self c.retire-fate.result c.retire-fate.new.started
+left_is : (c : After) → IsLeft c.args.setting.now c.args.self.now (without_key c.first_turn-turn.result.hart.0 c.args.self.now.schedule) c.first_turn-turn.result.hart.0 c.first_turn-turn.result.due c.args.delay c.retire-fate.new.self c.retire-fate.result c.retire-fate.new.started
     c.keep_visit.new.visits c.pc-address.result c.ending_after-self.result
 left_is c = record {
   steady = c.requires.steady;
-  turn = c.take_first-turn.ensures.due;
-  first = c.take_first-turn.ensures.first;
-  taken = c.take_first-turn.ensures.rest;
+  turn = c.first_turn-turn.ensures.due;
+  first = c.first_turn-turn.ensures.first;
+  taken = refl;
   place = c.pc-address.ensures;
   retires = c.retire-fate.ensures;
   keeps = c.keep_visit.ensures;
-  ends = c.ending_after-self.ensures;
+  ends = c.ending_after-self.ensures ∙ ap (λ (b : Bool). ending_of c.retire-fate.result (nat_le c.args.setting.now.choice.output_limit (length c.retire-fate.new.self.output)) (nat_le c.args.setting.now.choice.visit_limit (length c.keep_visit.new.visits.kept)) b (c.args.self.now.retired + 1) c.args.setting.now.choice.budget) (left_runs c.retire-fate.result c.retire-fate.new.started c.first_turn-turn.result.hart.0 c.args.self.now.schedule c.leave.new.schedule c.leave.ensures);
 }
 
 pub returns-clause-moved : goal.returns-clause-moved
 returns-clause-moved c first dues are =
     let setting : Setting = c.args.setting.now in
     let s : Run = c.args.self.now in
-    let left : Keys = c.take_first-turn.new.schedule in
-    let h : ℕ = c.take_first-turn.result.hart.0 in
-    let due : ℕ = c.take_first-turn.result.due in
+    let left : Keys = (without_key c.first_turn-turn.result.hart.0 c.args.self.now.schedule) in
+    let h : ℕ = c.first_turn-turn.result.hart.0 in
+    let due : ℕ = c.first_turn-turn.result.due in
     let after : Guest = c.retire-fate.new.self in
     let fate : Fate = c.retire-fate.result in
     let others : List ℕ = c.retire-fate.new.started in
@@ -112,6 +113,7 @@ returns-clause-moved c first dues are =
     let e : Option Ending = c.ending_after-self.result in
     let l = left_is c in
     let m = move_is setting s left h due c.args.delay after fate others now c.pc-address.result e l in
+    let again = left_again (goes_on c.retire-fate.result) c.first_turn-turn.result.hart.0 c.args.self.now.schedule c.leave.new.schedule c.leave.ensures in
     let IsNext : Run → Type 0 = λ run. IsStateOf run (move (experiment_in setting first) (state_of s dues)) in
     elim c.if-is_none.branch [
       | then-is_none w ↦
@@ -120,33 +122,38 @@ returns-clause-moved c first dues are =
           let b = w.begin_started in
           subst IsNext (sym w.self-is)
           (subst IsNext (sym b.ensures.rest)
-          (goes setting first s left h due after fate others now.kept e m dues are b.new.self.schedule b.new.self.selected now.limit b.new.self.starts none c.requires.speedup idle.apart b.ensures.begun
+          (goes setting first s left h due after fate others now.kept e m dues are b.new.self.schedule b.new.self.selected now.limit b.new.self.starts none c.requires.speedup idle.apart (subst (λ (keys : Keys). AreBegun (ticks_in setting after) due (started_by h fate others) keys b.new.self.schedule) again b.ensures.begun)
           (b.ensures.starts ∙ ap (λ (hs : List ℕ). s.starts + length hs) b.ensures.selected)))
       | else-is_none w ↦
           let some = some_is e c.is_none.result c.is_none.ensures w.if-is_none.false in
-          subst IsNext (sym w.self-is) (ended setting first s left h due after fate others now.kept e m dues are some.0 c.clear-2.new.self now.limit some.1)
+          subst IsNext (sym w.self-is)
+          (subst (λ (keys : Keys). IsNext (run_of due after keys others c.clear-2.new.self now (s.retired + 1) s.starts e)) (sym (w.take.ensures.rest ∙ again))
+          (ended setting first s left h due after fate others now.kept e m dues are some.0 c.clear-2.new.self now.limit some.1))
     ]
 
 pub returns-clause-few : goal.returns-clause-few
 returns-clause-few c =
     let IsFew : Run → Type 0 = λ run. run.starts ≤ run.retired + many run.schedule in
-    let less : many c.args.self.now.schedule ≡ many c.take_first-turn.new.schedule + 1 = many_left _ _ _ _ _ _ _ _ _ _ _ _ (left_is c) in
+    let less : many c.args.self.now.schedule ≡ many (without_key c.first_turn-turn.result.hart.0 c.args.self.now.schedule) + 1 = many_left _ _ _ _ _ _ _ _ _ _ _ _ (left_is c) in
     let before = c.requires.steady.few in
+    let again = ap many (left_again (goes_on c.retire-fate.result) c.first_turn-turn.result.hart.0 c.args.self.now.schedule c.leave.new.schedule c.leave.ensures) in
     elim c.if-is_none.branch [
       | then-is_none w ↦
           let b = w.begin_started in
           let starts = b.ensures.starts in
           let few = b.ensures.few in
-          subst IsFew (sym w.self-is) (subst IsFew (sym b.ensures.rest) (omega (arith, less, before, starts, few)))
-      | else-is_none w ↦ subst IsFew (sym w.self-is) (omega (arith, less, before))
+          subst IsFew (sym w.self-is) (subst IsFew (sym b.ensures.rest) (omega (arith, less, before, starts, few, again)))
+      | else-is_none w ↦
+          let rest = ap many w.take.ensures.rest in
+          subst IsFew (sym w.self-is) (omega (arith, less, before, again, rest))
     ]
 
 pub returns-clause-within : goal.returns-clause-within
 returns-clause-within c moment within =
-    let h : ℕ = c.take_first-turn.result.hart.0 in
-    let due : ℕ = c.take_first-turn.result.due in
-    let left : Keys = c.take_first-turn.new.schedule in
-    let soon = within_left c.args.self.now.schedule left h moment c.take_first-turn.ensures.rest within in
+    let h : ℕ = c.first_turn-turn.result.hart.0 in
+    let due : ℕ = c.first_turn-turn.result.due in
+    let left : Keys = (without_key c.first_turn-turn.result.hart.0 c.args.self.now.schedule) in
+    let soon = within_left c.args.self.now.schedule left h moment refl within in
     let ends : Run → Type 0 = λ run. (hart due : ℕ) → key_of run.schedule hart ≡ Some due → due ≤ moment + 4000 in
     elim c.if-is_none.branch [
       | then-is_none w ↦
@@ -154,6 +161,6 @@ returns-clause-within c moment within =
           let ticks = ticks_in c.args.setting.now c.retire-fate.new.self in
           let few : (hart : ℕ) → ticks hart ≤ 4000 = ticks_few (selects c.args.setting.now) c.args.setting.now.choice.speedup c.retire-fate.new.self in
           subst ends (sym w.self-is)
-          (within_begun ticks due (started_by h c.retire-fate.result c.retire-fate.new.started) left b.new.self.schedule moment few b.ensures.begun (within h due c.take_first-turn.ensures.due) soon)
-      | else-is_none w ↦ subst ends (sym w.self-is) (within_later moment (moment + 4000) left (omega arith) soon)
+          (within_begun ticks due (started_by h c.retire-fate.result c.retire-fate.new.started) left b.new.self.schedule moment few (subst (λ (keys : Keys). AreBegun ticks due (started_by h c.retire-fate.result c.retire-fate.new.started) keys b.new.self.schedule) (left_again (goes_on c.retire-fate.result) c.first_turn-turn.result.hart.0 c.args.self.now.schedule c.leave.new.schedule c.leave.ensures) b.ensures.begun) (within h due c.first_turn-turn.ensures.due) soon)
+      | else-is_none w ↦ subst ends (sym w.self-is) (subst (AreWithin (moment + 4000)) (sym (w.take.ensures.rest ∙ left_again (goes_on c.retire-fate.result) c.first_turn-turn.result.hart.0 c.args.self.now.schedule c.leave.new.schedule c.leave.ensures)) (within_later moment (moment + 4000) left (omega arith) soon))
     ]
