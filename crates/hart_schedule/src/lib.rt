@@ -1,57 +1,59 @@
 //! The schedule: which hart is due first.
 #![tactic(auto)]
 
-mod scan;
+mod heap;
 #[cfg(test)]
 mod tests;
-mod tournament;
 
 ghost use Rattle.std.specs.Prelude.{◌≡◌, ◌<◌, ◌≤◌, length, replicate, IfOk, MatchOption};
 ghost use Rattle.hart_schedule.specs.Keys.{key_of, with_key, without_key, IsEmpty, IsLeast};
 
-use crate::scan::{earlier, least_place};
-use crate::tournament::{Contender, PLACES, replay};
+use crate::heap::{Contender, refill, rise};
 use coz_types::{HartId, Tick};
 use std::alloc::{AllocError, Global};
 use std::marker::Model;
 
-/// So many first harts are looked at one by one, as most programs have no more.
-const FIRST: usize = 8;
-
 /// Harts of a number given at making, each with a key or not in it.
 ///
 /// Contracts see the list of the keys by the numbers of the harts. Beside its making no call takes memory.
-/// `key` reads one place, and `least` the first eight keys and one place of a tournament. `put` and `take` change one key and,
-/// of a later hart, a leaf of the tournament with the eight places above it.
+/// `key` and `least` read one place. `put` and `take` move entries on one way between a place and the root or a leaf.
 #[derive(Drop)]
 pub struct Schedule {
     keys: Vec<Option<Tick>>,
-    // The tournament of the later harts: place 1 has the winner, and place 256 + h the contender h.
-    winners: Vec<Option<Contender>>,
+    // The heap: place 1 is the root, 2 k and 2 k + 1 are below k, and place 0 is not used.
+    entries: Vec<Contender>,
+    // The place of each hart that has a key.
+    places: Vec<u16>,
+    count: usize,
 }
 
 impl Model for Schedule {
-    ghost use Rattle.std.specs.Prelude.{◌≤◌, List, ℕ, length, Option};
-    ghost use Rattle.hart_schedule.specs.Tournament.{IsTournament};
-    ghost use Rattle.hart_schedule.specs.Late.{late};
+    ghost use Rattle.hart_schedule.specs.Heap.{IsSchedule};
+    ghost use Rattle.std.specs.Prelude.{List, ℕ, Option};
 
     ghost Value = { List (Option ℕ) };
 
     ghost view = { λ s. s.keys.items };
 
-    ghost invariant = { λ s. (length s.keys.items ≤ 256) × IsTournament (late s.keys.items) s.winners.items };
+    ghost invariant = { λ s. IsSchedule s.keys.items s.entries.items s.places.items s.count };
 }
 
 impl Schedule {
-    /// An empty schedule of 1 to 256 harts. Fails exactly where there is no memory for their keys and the tournament.
+    /// An empty schedule of 1 to 256 harts. Fails exactly where there is no memory for their keys and the heap.
     pub fn new(alloc: Global, harts: u32) -> Result<Schedule, AllocError>
         requires some { 1 ≤ harts }
         requires few { harts ≤ 256 }
         ensures { IfOk result (λ schedule. schedule ≡ replicate harts None) }
     {
+        let nobody = Contender {
+            key: 0,
+            hart: HartId(0),
+        };
         Ok(Schedule {
             keys: vec![in alloc; None; harts as usize]?,
-            winners: vec![in alloc; None; PLACES]?,
+            entries: vec![in alloc; nobody; harts as usize + 1]?,
+            places: vec![in alloc; 0; harts as usize]?,
+            count: 0,
         })
     }
 
@@ -61,19 +63,25 @@ impl Schedule {
         requires absent { key_of self.old hart.0 ≡ None }
         ensures { self.new ≡ with_key hart.0 key self.old }
     {
-        let place = usize::from(hart.0);
-        self.keys[place] = Some(key);
-        if place >= FIRST {
-            replay(&mut self.winners, hart, Some(Contender { key, hart }));
-        }
+        self.keys[usize::from(hart.0)] = Some(key);
+        self.count += 1;
+        rise(
+            &mut self.entries,
+            &mut self.places,
+            self.count,
+            Contender { key, hart },
+        );
     }
 
     /// The hart with the least key, among equal keys the least-numbered one; None exactly where the schedule is empty.
     pub fn least(&self) -> Option<HartId>
         ensures { MatchOption result (IsEmpty self.now) (λ hart. IsLeast self.now hart.0) }
     {
-        let first = least_place(&self.keys, self.keys.len().min(FIRST));
-        earlier(first, self.winners[1])
+        if self.count == 0 {
+            None
+        } else {
+            Some(self.entries[1].hart)
+        }
     }
 
     /// Takes a hart out, and gives its key; None exactly where it isn't in the schedule.
@@ -83,13 +91,37 @@ impl Schedule {
     {
         let key = self.key(hart);
         if key.is_some() {
-            let place = usize::from(hart.0);
-            self.keys[place] = None;
-            if place >= FIRST {
-                replay(&mut self.winners, hart, None);
+            let index = usize::from(hart.0);
+            self.keys[index] = None;
+            let place = usize::from(self.places[index]);
+            let last = self.entries[self.count];
+            self.count -= 1;
+            if place <= self.count {
+                refill(&mut self.entries, &mut self.places, self.count, place, last);
             }
         }
         key
+    }
+
+    /// Gives a hart a key in place of the one that it has, if it has one: what `take` and then `put` would leave, by one walk.
+    pub fn rekey(&mut self, hart: HartId, key: Tick)
+        requires below { hart.0 < length self.old }
+        ensures { self.new ≡ with_key hart.0 key (without_key hart.0 self.old) }
+    {
+        let index = usize::from(hart.0);
+        if self.keys[index].is_none() {
+            self.put(hart, key);
+        } else {
+            self.keys[index] = Some(key);
+            let place = usize::from(self.places[index]);
+            refill(
+                &mut self.entries,
+                &mut self.places,
+                self.count,
+                place,
+                Contender { key, hart },
+            );
+        }
     }
 
     /// A hart's key; None exactly where it isn't in the schedule.
@@ -110,6 +142,8 @@ impl Schedule {
         ensures { self.new ≡ other.now }
     {
         self.keys.copy_from_slice(&other.keys);
-        self.winners.copy_from_slice(&other.winners);
+        self.entries.copy_from_slice(&other.entries);
+        self.places.copy_from_slice(&other.places);
+        self.count = other.count;
     }
 }

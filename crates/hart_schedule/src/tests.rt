@@ -15,6 +15,7 @@ fn the_least_is_by_key_and_then_by_number(rt: HostRuntime) -> Result<(), Fail> {
     assert_eq!(rt; schedule.key(HartId(7)), Some(100));
     assert_eq!(rt; schedule.key(HartId(0)), None);
     assert_eq!(rt; schedule.key(HartId(8)), None);
+    assert_eq!(rt; schedule.take(HartId(8)), None);
     for hart in [2u16, 4, 7] {
         let least = schedule.least();
         assert_eq!(rt; least, Some(HartId(hart)));
@@ -23,6 +24,22 @@ fn the_least_is_by_key_and_then_by_number(rt: HostRuntime) -> Result<(), Fail> {
     }
     assert_eq!(rt; schedule.least(), None);
     assert_eq!(rt; first.take(HartId(2)), Some(90));
+    first.rekey(HartId(7), 80);
+    assert_eq!(rt; first.least(), Some(HartId(7)));
+    Ok(())
+}
+
+#[test]
+fn harts_of_one_key_are_taken_by_number(rt: HostRuntime) -> Result<(), Fail> {
+    let mut schedule = Schedule::new(rt.alloc(), 256)?;
+    for hart in 0u16..256 {
+        schedule.rekey(HartId(255 - hart), 7);
+    }
+    for hart in 0u16..256 {
+        assert_eq!(rt; schedule.least(), Some(HartId(hart)));
+        assert_eq!(rt; schedule.take(HartId(hart)), Some(7));
+    }
+    assert_eq!(rt; schedule.least(), None);
     Ok(())
 }
 
@@ -38,5 +55,28 @@ fn falling_keys_are_taken_from_the_last_hart(rt: HostRuntime) -> Result<(), Fail
         assert_eq!(rt; schedule.take(hart), Some(Tick::from(745 + taken)));
     }
     assert_eq!(rt; schedule.least(), None);
+    Ok(())
+}
+
+// Of the heap 1, 10 2, 11 12 3 4 the last takes the place of 10 and sinks, or of 11 and rises.
+#[test]
+fn what_takes_the_place_of_a_taken_hart_rises_or_sinks(rt: HostRuntime) -> Result<(), Fail> {
+    for taken in [1u16, 3] {
+        let mut schedule = Schedule::new(rt.alloc(), 8)?;
+        schedule.put(HartId(0), 1);
+        schedule.put(HartId(1), 10);
+        schedule.put(HartId(2), 2);
+        schedule.put(HartId(3), 11);
+        schedule.put(HartId(4), 12);
+        schedule.put(HartId(5), 3);
+        schedule.put(HartId(6), 4);
+        assert_eq!(rt; schedule.take(HartId(taken)).is_some(), true);
+        for hart in [0u16, 2, 5, 6] {
+            assert_eq!(rt; schedule.least(), Some(HartId(hart)));
+            assert_eq!(rt; schedule.take(HartId(hart)).is_some(), true);
+        }
+        let next = schedule.least();
+        assert_eq!(rt; next, Some(HartId(4 - taken)));
+    }
     Ok(())
 }
