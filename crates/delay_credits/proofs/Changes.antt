@@ -5,7 +5,7 @@ use Rattle.std.proofs.lemmas.List.{length-map}
 use Rattle.std.proofs.Math.Seq.{take-append_seam}
 use Rattle.machines.specs.Places.{change, change_from}
 use Rattle.machines.specs.Delayed.{Hart, fresh, run, stop, credit, raise_hart, total, is_running}
-use Rattle.machines.specs.Steps.{sit_hart}
+use Rattle.delay_credits.specs.Ticks.{ticked}
 use Rattle.machines.proofs.Maps.{change_from_is}
 use Rattle.coz_types.specs.declared.record.Account.{Account as GivenAccount}
 use Rattle.delay_credits.specs.declared.seat.Seat.{Seat}
@@ -27,7 +27,7 @@ below-seats latest raised h seats below = rw length-map at below
 
 -- one hart is changed by f at a moment
 changed : (latest now raised h : ℕ) (f : Hart → Hart) (seats : List Seat) (seat d : Seat) → All (IsSound latest raised) seats → h < length seats → latest ≤ now
-    → standing now seat ≡ f (standing now (get_or seats h d)) → map (standing now) (set seats h seat) ≡ change fresh h f (map (sit_hart (now - latest)) (map (standing latest) seats))
+    → standing now seat ≡ f (standing now (get_or seats h d)) → map (standing now) (set seats h seat) ≡ change fresh h f (map (ticked (now - latest)) (map (standing latest) seats))
 changed latest now raised h f seats seat d sound below later is =
     standing-set now h f seats seat d below is ∙ ap (change fresh h f) (sym (standing-all latest now raised seats sound later))
 

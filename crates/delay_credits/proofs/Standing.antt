@@ -8,6 +8,8 @@ use Rattle.machines.specs.Steps.{sit_load, sit_hart}
 use Rattle.delay_credits.specs.declared.seat.Seat.{Seat}
 use Rattle.delay_credits.specs.declared.seat.Pending.{Pending}
 use Rattle.delay_credits.specs.Delays.{account_as}
+use Rattle.delay_credits.specs.Ticks.{ticked}
+use Rattle.delay_credits.proofs.TicksLemmas.{ticked_is}
 use Rattle.delay_credits.specs.Seats.{standing, since_of, settled, IsSound, IsUnpaused}
 
 -- a hart as it is so many ticks later
@@ -23,11 +25,11 @@ standing-later latest now seat past later = go seat.account seat.pending past
         cc
 
 -- all harts as they are later
-pub standing-all : (latest now raised : ℕ) (seats : List Seat) → All (IsSound latest raised) seats → latest ≤ now → map (sit_hart (now - latest)) (map (standing latest) seats) ≡ map (standing now) seats
+pub standing-all : (latest now raised : ℕ) (seats : List Seat) → All (IsSound latest raised) seats → latest ≤ now → map (ticked (now - latest)) (map (standing latest) seats) ≡ map (standing now) seats
 standing-all latest now raised [] sound later = refl
 standing-all latest now raised (seat ∷ seats) sound later =
     ap₂ (λ (x : Hart) (xs : List Hart). x ∷ xs)
-    (standing-later latest now seat (sound 0 seat (omega arith)).past later)
+    (ticked_is (now - latest) (standing latest seat) ∙ standing-later latest now seat (sound 0 seat (omega arith)).past later)
     (standing-all latest now raised seats (λ k d (below : k < length seats). sound (suc k) d (omega arith)) later)
 
 -- the seat of one hart is written

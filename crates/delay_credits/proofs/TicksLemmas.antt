@@ -1,5 +1,5 @@
 -- What the delayed machine does to a hart, seen without the hart's work.
-use Rattle.std.proofs.Common.{ℕ, zero, suc, ◌≡◌, ◌≢◌, ◌+◌, ◌-◌, min, Bool, true, false, refl, ap, ◌∙◌, sym, arith, Option, Some, None, if◌then◌else◌, ◌==◌}
+use Rattle.std.proofs.Common.{ℕ, zero, suc, ◌≡◌, ◌≢◌, ◌+◌, ◌-◌, min, Bool, true, false, refl, ap, ap₂, ◌∙◌, sym, arith, List, [], ◌∷◌, map, Option, Some, None, if◌then◌else◌, ◌==◌}
 use Rattle.std.proofs.lemmas.Bool.{eqb-true, eqb-false}
 use Rattle.machines.specs.Delayed.{Account, Load, Hart, tick_hart, run, stop, credit, raise_hart}
 use Rattle.machines.specs.Steps.{sit_load, sit_hart}
@@ -53,6 +53,52 @@ sit_one_more k hart = go hart.account hart.load
         let work : 0 - (k - l.pause) - (1 - (l.pause - k)) ≡ 0 - (suc k - l.pause) = omega arith in
         let pause : l.pause - k - 1 ≡ l.pause - suc k = omega arith in
         cc
+
+-- a tick more than so many at once
+one_more_by : (k : ℕ) (a : Account) (l : Load) (b : Bool) → (l.pause - k == 0) ≡ b
+    → (if b
+    then record { account = record a { paused = a.paused + min k l.pause }; load = Some (record { work = l.work - (k - l.pause) - 1; pause = l.pause - k }) }
+    else record { account = record a { paused = a.paused + min k l.pause + 1 }; load = Some (record { work = l.work - (k - l.pause); pause = l.pause - k - 1 }) })
+    ≡ sit_load (suc k) a l
+one_more_by k a l true e =
+    let z : l.pause - k ≡ 0 = eqb-true _ _ e in
+    let paused : a.paused + min k l.pause ≡ a.paused + min (suc k) l.pause = omega arith in
+    let work : l.work - (k - l.pause) - 1 ≡ l.work - (suc k - l.pause) = omega arith in
+    let pause : l.pause - k ≡ l.pause - suc k = omega arith in
+    same_parts a (a.paused + min k l.pause) (a.paused + min (suc k) l.pause) (l.work - (k - l.pause) - 1) (l.work - (suc k - l.pause)) (l.pause - k) (l.pause - suc k) paused work pause
+one_more_by k a l false e =
+    let z : l.pause - k ≢ 0 = eqb-false _ _ e in
+    let paused : a.paused + min k l.pause + 1 ≡ a.paused + min (suc k) l.pause = omega arith in
+    let work : l.work - (k - l.pause) ≡ l.work - (suc k - l.pause) = omega arith in
+    let pause : l.pause - k - 1 ≡ l.pause - suc k = omega arith in
+    same_parts a (a.paused + min k l.pause + 1) (a.paused + min (suc k) l.pause) (l.work - (k - l.pause)) (l.work - (suc k - l.pause)) (l.pause - k - 1) (l.pause - suc k) paused work pause
+
+one_more : (k : ℕ) (hart : Hart) → tick_hart (sit_hart k hart) ≡ sit_hart (suc k) hart
+one_more k hart = go hart.account hart.load
+  where
+    go : (a : Account) (load : Option Load) → tick_hart (sit_hart k (record { account = a; load = load })) ≡ sit_hart (suc k) (record { account = a; load = load })
+    go a None = refl
+    go a (Some l) = one_more_by k a l (l.pause - k == 0) refl
+
+no_tick : (hart : Hart) → hart ≡ sit_hart 0 hart
+no_tick hart = go hart.account hart.load
+  where
+    go : (a : Account) (load : Option Load) → record { account = a; load = load } ≡ sit_hart 0 (record { account = a; load = load })
+    go a None = refl
+    go a (Some l) =
+        let paused : a.paused ≡ a.paused + min 0 l.pause = omega arith in
+        let work : l.work ≡ l.work - (0 - l.pause) = omega arith in
+        let pause : l.pause ≡ l.pause - 0 = omega arith in
+        same_parts a a.paused (a.paused + min 0 l.pause) l.work (l.work - (0 - l.pause)) l.pause (l.pause - 0) paused work pause
+
+-- so many single ticks are as many at once
+pub ticked_is : (k : ℕ) (hart : Hart) → ticked k hart ≡ sit_hart k hart
+ticked_is zero hart = no_tick hart
+ticked_is (suc k) hart = ap tick_hart (ticked_is k hart) ∙ one_more k hart
+
+pub all_ticked : (k : ℕ) (harts : List Hart) → map (ticked k) harts ≡ map (sit_hart k) harts
+all_ticked k [] = refl
+all_ticked k (hart ∷ harts) = ap₂ (λ (x : Hart) (xs : List Hart). x ∷ xs) (ticked_is k hart) (all_ticked k harts)
 
 sit_none : (hart : Hart) → sit_hart 0 (without_work hart) ≡ without_work hart
 sit_none hart = go hart.account hart.load

@@ -3,7 +3,7 @@ use Rattle.std.specs.Prelude.{ℕ, ◌+◌, ◌-◌, List, map, replicate, slice
 use Rattle.coz_types.specs.declared.record.Account.{Account as GivenAccount}
 use Rattle.machines.specs.Places.{change, change_from}
 use Rattle.machines.specs.Delayed.{Account, Hart, fresh, run, stop, credit, raise_hart, total}
-use Rattle.machines.specs.Steps.{sit_hart}
+use Rattle.delay_credits.specs.Ticks.{ticked}
 
 pub record Delays : Type 0 where
   -- the latest moment that was given
@@ -24,9 +24,9 @@ pause_of hart = elim (hart.load) [ None ↦ 0 | Some l ↦ l.pause ]
 abbrev pub account_as : GivenAccount → Account
 account_as a = record { own = a.own; paused = a.paused; credited = a.credited }
 
--- as it is at a later moment
+-- as it is at a later moment, after a tick of every hart for each tick that passed
 abbrev pub at : ℕ → Delays → Delays
-at now d = record { latest = now; raised = d.raised; harts = map (sit_hart (now - d.latest)) d.harts }
+at now d = record { latest = now; raised = d.raised; harts = map (ticked (now - d.latest)) d.harts }
 
 -- a hart runs from now on, with no pause
 abbrev pub with_start : ℕ → ℕ → Delays → Delays
