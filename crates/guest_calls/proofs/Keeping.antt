@@ -5,7 +5,7 @@ use Rattle.std.specs.Prelude.{All}
 use Rattle.guest_memory.specs.Memory.{MemoryMap}
 use Rattle.guest_areas.specs.Space.{RegionMap}
 use Rattle.guest_futex.specs.Waiters.{Waiter, with_waiter, woken, left}
-use Rattle.guest_futex.specs.Apart.{AreOthers, AreApart}
+use Rattle.guest_futex.specs.Apart.{AreOthers}
 use Rattle.guest_futex.proofs.WaitersLemmas.{apart-with_waiter, apart-left, length-apart, length-woken}
 use Rattle.guest_calls.specs.declared.hart.Hart.{Hart}
 use Rattle.guest_calls.specs.declared.hart.HartStatus.{HartStatus}

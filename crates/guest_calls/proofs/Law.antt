@@ -1,7 +1,10 @@
 -- The guest keeps the rules of a guest of the machines.
 use Rattle.std.proofs.Common.{◌≡◌, ℕ, zero, suc, ◌≤◌, ◌<◌, ◌==◌, Bool, true, false, List, Option, IsNone, refl, sym, ◌∙◌, arith}
 use Rattle.std.proofs.Math.Dec.{eqb-suc-zero}
+use Rattle.coz_types.specs.declared.ending.Ending.TheVariants.{Trapped}
+use Rattle.coz_types.specs.declared.ending.Trap.{Trap}
 use Rattle.coz_types.specs.Image.{ImageParts}
+use Rattle.machines.specs.declared.Fate.TheVariants.{Ends}
 use Rattle.machines.specs.Places.{is_among}
 use Rattle.machines.specs.Guest.{IsLawful, started, own_ending, sleeps}
 use Rattle.machines.specs.Delayed.{fresh}
@@ -31,6 +34,10 @@ others_idle g h v good runs = (retire_started g h v good runs).idle
 -- no hart ever sleeps
 pub never_sleeps : (g : Guest) (h v : ℕ) → IsOrderly g → is_running g h ≡ true → sleeps (retire g h v).fate ≡ false
 never_sleeps g h v good runs = (retire_started g h v good runs).awake
+
+-- a trap is that of the hart that retires
+pub own_trap : (g : Guest) (h v : ℕ) → IsOrderly g → is_running g h ≡ true → (t : Trap) → (retire g h v).fate ≡ Ends (Trapped t) → t.hart.0 ≡ h
+own_trap g h v good runs = (retire_started g h v good runs).trap
 
 first_orderly : (image : ImageParts) (input : List ℕ) (output_limit : ℕ) (layout : Layout) → IsOrderly (first_guest image input output_limit layout)
 unfolding first_guest

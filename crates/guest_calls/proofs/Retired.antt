@@ -1,5 +1,9 @@
 -- The retirement of a hart of an orderly guest, by what it does.
-use Rattle.std.proofs.Common.{◌≡◌, ℕ, ◌==◌, Bool, true, false, not, List, [], ◌∷◌, length, Option, Some, None, pos, refl, sym, subst, replicate}
+use Rattle.std.proofs.Common.{◌≡◌, ℕ, ◌==◌, Bool, true, false, not, List, [], ◌∷◌, length, Option, Some, None, pos, refl, sym, ap, subst, replicate}
+use Rattle.coz_types.specs.declared.ending.Ending.{Ending}
+use Rattle.coz_types.specs.declared.ending.Ending.TheVariants.{Exited, Trapped}
+use Rattle.coz_types.specs.declared.ending.Trap.{Trap}
+use Rattle.coz_types.specs.declared.ending.TrapCause.{TrapCause}
 use Rattle.coz_types.specs.declared.ending.TrapCause.TheVariants.{Fetch, Illegal}
 use Rattle.coz_types.specs.Maps.{Map, value_at}
 use Rattle.machines.specs.Guest.{Retirement}
@@ -12,7 +16,7 @@ use Rattle.rv_execute.specs.declared.hart.Step.{Step}
 use Rattle.rv_execute.specs.declared.hart.Step.TheVariants.{Next, Call, Fault}
 use Rattle.rv_execute.specs.Execution.{Setting, execute}
 use Rattle.guest_calls.specs.declared.pieces.Piece.{Piece}
-use Rattle.guest_calls.specs.Guest.{Guest, hart_at, with_hart, with_state, with_setting, with_stored, with_written, is_running, memory_of, setting_of, thread_id}
+use Rattle.guest_calls.specs.Guest.{Guest, hart_at, pc_of, with_hart, with_state, with_setting, with_stored, with_written, is_running, memory_of, setting_of, thread_id}
 use Rattle.guest_calls.specs.Calls
 use Rattle.guest_calls.specs.Calls.{of_space, unsupported, a0, a1, a2, a3, with_filled, with_read, filled, total, is_each_writable, is_each_readable, bytes_of, pieces_at, are_few, is_named, read_length, is_stream, is_input, is_output, is_mapping, calls, call_of}
 use Rattle.guest_calls.specs.Retire.{word_at, Stepped, stepped, stepped_by, step, follows, retire}
@@ -80,7 +84,7 @@ writev_started g h good runs =
 
 exit_group_started : (g : Guest) (h : ℕ) → IsOrderly g → is_running g h ≡ true → IsStarted g h (Calls.exit_group g h)
 unfolding Calls.exit_group
-exit_group_started g h good runs = ends_started g h g _ good
+exit_group_started g h good runs = ends_started g h g _ (λ t is. absurd (let no : ◌≡◌ {A = Ending} (Exited _) (Trapped t) = is in cc)) good
 
 set_tid_address_started : (g : Guest) (h : ℕ) → IsOrderly g → is_running g h ≡ true → IsStarted g h (Calls.set_tid_address g h)
 unfolding Calls.set_tid_address
@@ -187,11 +191,14 @@ step_kept : (g : Guest) (h : ℕ) → IsAsBefore g (step g h).guest
 unfolding step
 step_kept g h = fetched_kept g h (word_at g h)
 
+own_trap : (cause : TrapCause) (h pc : ℕ) (t : Trap) → ◌≡◌ {A = Ending} (Trapped (record { cause = cause; hart = record { 0 = h }; pc = pc })) (Trapped t) → t.hart.0 ≡ h
+own_trap cause h pc t is = let same : ◌≡◌ {A = Trap} (record { cause = cause; hart = record { 0 = h }; pc = pc }) t = cc in ap (λ (u : Trap). u.hart.0) (sym same)
+
 -- what follows a step, which leaves the guest as it is at a call
 follows_started : (g after : Guest) (h v : ℕ) (s : Step) → IsAsBefore g after → (s ≡ Call → after ≡ g) → IsOrderly g → is_running g h ≡ true → IsStarted g h (follows h v (stepped after s))
 follows_started g after h v Next kept same good runs = goes_started g h [] after (none_beside g h after kept good) runs
 follows_started g after h v Call kept same good runs = subst (λ (x : Guest). IsStarted g h (call_of x h v)) (sym (same refl)) (call_started g h v good runs)
-follows_started g after h v (Fault cause) kept same good runs = ends_started g h after _ (still_orderly g after kept good)
+follows_started g after h v (Fault cause) kept same good runs = ends_started g h after _ (λ t is. own_trap cause h (pc_of after h) t is) (still_orderly g after kept good)
 
 pub retire_started : (g : Guest) (h v : ℕ) → IsOrderly g → is_running g h ≡ true → IsStarted g h (retire g h v)
 unfolding retire

@@ -1,7 +1,7 @@
 -- What the functions of the calls share.
 use borrow.Rule.Slice.PartMut.{put_mid, post_of}
 use Rattle.std.specs.Vec.{with_items}
-use Rattle.std.proofs.Common.{ℕ, zero, suc, ◌-◌, min, Vec, append_assoc, ⊎_elim, ◌≡◌, ◌≢◌, ◌+◌, ◌<◌, ◌≤◌, ◌^◌, ◌++◌, List, [], ◌∷◌, length, take, drop, set, Bool, true, false, not, ◌&&◌, cond, if◌then◌else◌, Option, Some, None, Result, Ok, Err, MatchResult, IsTrue, refl, sym, ap, ◌∙◌, arith, pos, ℤ, replicate, eqb, get_or}
+use Rattle.std.proofs.Common.{ℕ, zero, suc, ◌-◌, min, Vec, append_assoc, ⊎_elim, ◌≡◌, ◌≢◌, ◌+◌, ◌<◌, ◌≤◌, ◌^◌, ◌++◌, List, [], ◌∷◌, length, take, drop, set, Bool, true, false, if◌then◌else◌, Option, Some, None, refl, sym, ap, ◌∙◌, arith, pos, ℤ, replicate, get_or}
 use Rattle.std.proofs.lemmas.Bool.{ne_eqb}
 use Rattle.std.proofs.lemmas.Bool.{cases_lt, false≢true}
 use Rattle.std.proofs.lemmas.List.{get_or_past, length-append, length-take, length-drop, take_all, take-append-le, with_items_is}
@@ -12,7 +12,7 @@ use Rattle.coz_types.specs.Image.{ImageParts}
 use Rattle.machines.specs.declared.Fate.{Fate}
 use Rattle.machines.specs.Guest.{Retirement}
 use Rattle.guest_memory.specs.declared.Layout.{Layout}
-use Rattle.guest_memory.specs.Memory.{MemoryMap, with_bytes, is_readable, is_writable, byte_at, bytes_at, first_memory}
+use Rattle.guest_memory.specs.Memory.{MemoryMap, with_bytes, is_readable, byte_at, bytes_at, first_memory}
 use Rattle.guest_memory.proofs.Runs.{allowed_from, allowed_each, length-bytes_at, same_regions-with_bytes, same_regions-first}
 use Rattle.guest_areas.specs.Space.{RegionMap, Space, Answered, SharesRegions, space}
 use Rattle.guest_areas.specs.Entry.{stack_pointer, first_space}
@@ -20,7 +20,7 @@ use Rattle.guest_futex.specs.Waiters.{Waiter}
 use Rattle.rv_execute.specs.Reservations.{Reservations}
 use Rattle.guest_calls.specs.declared.hart.Hart.{Hart}
 use Rattle.guest_calls.specs.Output.{Written, with_bytes_written}
-use Rattle.guest_calls.specs.Guest.{Guest, IsMade, no_hart, hart_at, is_running, is_running_status, memory_of, with_stored, hart_from, first_hart, first_guest}
+use Rattle.guest_calls.specs.Guest.{Guest, IsMade, no_hart, is_running, is_running_status, hart_from, first_hart, first_guest}
 use Rattle.guest_calls.specs.Kept.{guest_of}
 use Rattle.guest_calls.specs.Calls.{retirement, number, replied, answered, of_space, leave, exit, is_cleared, woken_at_exit, cleared, unsupported, calls, call_of}
 

@@ -2,6 +2,8 @@
 use Rattle.std.proofs.Common.{◌≡◌, ◌<◌, ◌≤◌, ℕ, ◌==◌, Bool, true, false, cond, if◌then◌else◌, List, [], ◌∷◌, length, IsNone, ℤ, refl, sym, ap, ◌∙◌, arith, eqb-true}
 use Rattle.std.proofs.lemmas.List.{length-set}
 use Rattle.coz_types.specs.declared.ending.Ending.{Ending}
+use Rattle.coz_types.specs.declared.ending.Ending.TheVariants.{Trapped, Unsupported}
+use Rattle.coz_types.specs.declared.ending.Trap.{Trap}
 use Rattle.machines.specs.declared.Fate.{Fate}
 use Rattle.machines.specs.declared.Fate.TheVariants.{Goes, Ends}
 use Rattle.machines.specs.Guest.{Retirement, goes_on, sleeps, started, own_ending}
@@ -23,6 +25,8 @@ pub record IsStarted (g : Guest) (h : ℕ) (r : Retirement Guest) : Type 0 where
   pub running : IsNone (own_ending r.fate) → (k : ℕ) → is_running r.guest k ≡ (if is_among k (started h r) then true else if k == h then false else is_running g k)
   -- no hart sleeps
   pub awake : sleeps r.fate ≡ false
+  -- a trap is its own
+  pub trap : (t : Trap) → r.fate ≡ Ends (Trapped t) → t.hart.0 ≡ h
   -- those that it makes or wakes didn't run before
   pub idle : (k : ℕ) → is_among k r.others ≡ true → is_running g k ≡ false
 
@@ -110,16 +114,21 @@ goes_started g h others after beside runs = record {
   apart = beside.apart;
   running = λ none k. beside.running k ∙ goes_bit (k == h) (is_among k others) (is_running g k) (λ is. ap (is_running g) (eqb-true k h is) ∙ runs);
   awake = refl;
+  trap = λ t is. absurd (let no : ◌≡◌ {A = Fate} Goes (Ends (Trapped t)) = is in cc);
   idle = beside.idle;
 }
 
+same_ending : (e f : Ending) → Ends e ≡ Ends f → e ≡ f
+same_ending e f is = cc
+
 -- the run ends
-pub ends_started : (g : Guest) (h : ℕ) (after : Guest) (e : Ending) → IsOrderly after → IsStarted g h (retirement after (Ends e) [])
-ends_started g h after e good = record {
+pub ends_started : (g : Guest) (h : ℕ) (after : Guest) (e : Ending) → ((t : Trap) → e ≡ Trapped t → t.hart.0 ≡ h) → IsOrderly after → IsStarted g h (retirement after (Ends e) [])
+ends_started g h after e own good = record {
   orderly = good;
   apart = tt;
   running = λ none k. absurd (let never : true ≡ false = none in cc);
   awake = refl;
+  trap = λ t is. own t (same_ending e (Trapped t) is);
   idle = λ k among. absurd (let never : false ≡ true = among in cc);
 }
 
@@ -129,9 +138,9 @@ stops_bit true true before out = sym (out refl)
 stops_bit true false before out = refl
 stops_bit false other before out = refl
 
-pub stops_started : (g : Guest) (h : ℕ) (others : List ℕ) (after last : Guest) (fate : Fate) → goes_on fate ≡ false → sleeps fate ≡ false → RunsBeside g h others after → IsOrderly last
+pub stops_started : (g : Guest) (h : ℕ) (others : List ℕ) (after last : Guest) (fate : Fate) → goes_on fate ≡ false → sleeps fate ≡ false → ((t : Trap) → fate ≡ Ends (Trapped t) → t.hart.0 ≡ h) → RunsBeside g h others after → IsOrderly last
     → ((k : ℕ) → is_running last k ≡ (if k == h then false else is_running after k)) → IsStarted g h (retirement last fate others)
-stops_started g h others after last fate stays awake beside orderly stops = record {
+stops_started g h others after last fate stays awake own beside orderly stops = record {
   orderly = orderly;
   apart = rw stays beside.apart.1;
   running = λ none k. rw stays
@@ -139,6 +148,7 @@ stops_started g h others after last fate stays awake beside orderly stops = reco
       ∙ ap (λ (b : Bool). if k == h then false else b) (beside.running k)
       ∙ stops_bit (k == h) (is_among k others) (is_running g k) (λ is. ap (λ (n : ℕ). is_among n others) (eqb-true k h is) ∙ beside.apart.0));
   awake = awake;
+  trap = own;
   idle = beside.idle;
 }
 
@@ -164,4 +174,4 @@ pub of_space_started : (g : Guest) (h : ℕ) (a : Answered) → IsOrderly g → 
 of_space_started g h a good runs = answer_started a.answer h g (record g { space = a.space }) refl refl good runs
 
 pub unsupported_started : (g : Guest) (h : ℕ) → IsOrderly g → IsStarted g h (unsupported g h)
-unsupported_started g h good = ends_started g h g _ good
+unsupported_started g h good = ends_started g h g _ (λ t is. absurd (let no : ◌≡◌ {A = Ending} (Unsupported _) (Trapped t) = is in cc)) good

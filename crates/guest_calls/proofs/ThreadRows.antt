@@ -3,6 +3,9 @@ use Rattle.std.proofs.Common.{◌≡◌, ◌<◌, ℕ, ◌%◌, ◌^◌, ◌==�
 use Rattle.std.specs.Int.{w32, to_le_bytes}
 use Rattle.std.proofs.lemmas.List.{length-set}
 use Rattle.coz_types.specs.declared.ending.Ending.{Ending}
+use Rattle.coz_types.specs.declared.ending.Ending.TheVariants.{Exited, Trapped}
+use Rattle.coz_types.specs.declared.ending.Trap.{Trap}
+use Rattle.machines.specs.declared.Fate.{Fate}
 use Rattle.machines.specs.declared.Fate.TheVariants.{Waits, Leaves, Ends}
 use Rattle.machines.specs.Guest.{Retirement, goes_on, sleeps}
 use Rattle.rv_decode.specs.Fields.{twos}
@@ -53,10 +56,14 @@ never_sleeps : (over : Bool) (e : Ending) → sleeps (if over then Ends e else L
 never_sleeps true e = refl
 never_sleeps false e = refl
 
+never_traps : (over : Bool) (code : ℕ) (t : Trap) → (if over then Ends (Exited code) else Leaves) ≡ Ends (Trapped t) → ⊥
+never_traps true code t is = cc
+never_traps false code t is = cc
+
 leave_started : (g : Guest) (h : ℕ) (others : List ℕ) (after : Guest) → RunsBeside g h others after → is_running g h ≡ true → IsStarted g h (leave h others after)
 leave_started g h others after beside runs =
     let still : is_running after h ≡ true = runs_still g h others after beside runs in
-    stops_started g h others after (left_by h after) _ (never_goes (is_over (left_by h after)) _) (never_sleeps (is_over (left_by h after)) _) beside (set_orderly after h _ beside.orderly still)
+    stops_started g h others after (left_by h after) _ (never_goes (is_over (left_by h after)) _) (never_sleeps (is_over (left_by h after)) _) (λ t is. absurd (never_traps (is_over (left_by h after)) _ t is)) beside (set_orderly after h _ beside.orderly still)
     (λ k. runs_set after.harts h k _ (made_running after.harts h still))
 
 cleared_beside : (g : Guest) (h : ℕ) → IsOrderly g → is_running g h ≡ true → RunsBeside g h (woken_at_exit g h) (cleared g h)
@@ -84,7 +91,7 @@ waiting_orderly g h address good runs =
 
 waits_started : (g : Guest) (h address : ℕ) → IsOrderly g → is_running g h ≡ true → IsStarted g h (retirement (waiting_for g h address) Waits [])
 waits_started g h address good runs =
-    stops_started g h [] g (waiting_for g h address) Waits refl refl (none_beside g h g (unchanged g) good) (waiting_orderly g h address good runs)
+    stops_started g h [] g (waiting_for g h address) Waits refl refl (λ t is. absurd (let no : ◌≡◌ {A = Fate} Waits (Ends (Trapped t)) = is in cc)) (none_beside g h g (unchanged g) good) (waiting_orderly g h address good runs)
     (λ k. runs_set g.harts h k _ (made_running g.harts h runs))
 
 wait_started : (g : Guest) (h : ℕ) → IsOrderly g → is_running g h ≡ true → IsStarted g h (Calls.wait g h)

@@ -1,5 +1,5 @@
 -- What holds of a guest between retirements.
-use Rattle.std.specs.Prelude.{◌≡◌, ℕ, ◌≤◌, List, [], ◌∷◌, length, get_or}
+use Rattle.std.specs.Prelude.{◌≡◌, ◌≤◌, List, [], ◌∷◌, length, get_or}
 use Rattle.guest_futex.specs.Waiters.{Waiter}
 use Rattle.guest_futex.specs.Apart.{AreApart}
 use Rattle.guest_calls.specs.declared.hart.Hart.{Hart}

@@ -132,7 +132,8 @@ impl<'a> Guest<'a> {
 
     /// The bytes that were written so far.
     pub fn output(&self) -> &[u8]
-        ensures { result.now ≡ self.now.output }
+        ensures bytes { result.now ≡ self.now.output }
+        ensures few { length result.now ≤ 67108864 }
     {
         self.output.bytes()
     }

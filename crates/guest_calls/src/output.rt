@@ -1,4 +1,4 @@
-ghost use Rattle.std.specs.Prelude.{◌≡◌, ◌%◌, ◌^◌, [], IfOk, IsTrue};
+ghost use Rattle.std.specs.Prelude.{◌≡◌, ◌≤◌, ◌%◌, ◌^◌, [], length, IfOk, IsTrue};
 ghost use Rattle.guest_memory.specs.Memory.{is_readable, bytes_at};
 ghost use Rattle.guest_calls.specs.Output.{with_bytes_written};
 ghost use Rattle.guest_calls.specs.Calls.{is_each_readable, bytes_of, total};
@@ -24,19 +24,23 @@ impl Model for Output {
 
     ghost view = { λ o. record { bytes = take o.written o.places.items; limit = length o.places.items } };
 
-    ghost invariant = { λ o. o.written ≤ length o.places.items };
+    ghost invariant = { λ o. (o.written ≤ length o.places.items) × (length o.places.items ≤ 67108864) };
 }
 
 impl Output {
+    /// Nothing is written yet, and there is room for so many bytes.
     pub fn new(alloc: Global, limit: usize) -> Result<Output, AllocError>
+        requires { limit ≤ 67108864 }
         ensures { IfOk result (λ output. output ≡ record { bytes = []; limit = limit }) }
     {
         let places = vec![in alloc; 0u8; limit]?;
         Ok(Output { places, written: 0 })
     }
 
+    /// The bytes that were written.
     pub fn bytes(&self) -> &[u8]
-        ensures { result.now ≡ self.now.bytes }
+        ensures bytes { result.now ≡ self.now.bytes }
+        ensures few { length result.now ≤ 67108864 }
     {
         &self.places[..self.written]
     }

@@ -14,6 +14,6 @@ pub returns : goal.returns
 returns c =
     let size : c.len.result ≡ length c.self.inside.places.items = c.len.ensures ∙ c.self.inside.places.ok.0 in
     appended c.self.inside.places c.deref_mut.result.now c.read_at.new.into c.self.inside.written c.min.result c.args.count c.args.memory.now c.args.address c.args.self.now
-    c.deref_mut.ensures.value c.self.invariant
+    c.deref_mut.ensures.value c.self.invariant.0
     (c.min.ensures ∙ ap (λ (n : ℕ). min c.args.count (n - c.self.inside.written)) size)
     c.in-Ok.ensures.1 c.self.view_is
