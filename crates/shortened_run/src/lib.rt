@@ -1,7 +1,7 @@
 //! The shortened run of a program: its selected line really costs less.
 #![tactic(auto)]
 
-ghost use Rattle.std.specs.Prelude.{◌≡◌, Some, IfOk, map};
+ghost use Rattle.std.specs.Prelude.{◌≡◌, ◌≤◌, ◌<◌, Some, IfOk, All, length, map};
 ghost use Rattle.virtual_run.specs.Visits.{net_of};
 ghost use Rattle.virtual_run.specs.Seen.{experiment_of};
 ghost use Rattle.shortened_run.specs.ShortenedRun.{AreUndelayed};
@@ -91,10 +91,10 @@ impl<'a> Short<'a> {
         ensures last { self.new.state ≡ shortened (experiment_of self.old) self.old.choice.budget }
         ensures rest { self.new ≡ record self.old { state = self.new.state } }
     {
-        while self.run.ending.is_none() {
+        while self.run.ending().is_none() {
             self.run.advance(&self.setting, 0);
         }
-        match self.run.ending {
+        match self.run.ending() {
             Some(ending) => ending,
             None => unreachable!(),
         }
@@ -104,37 +104,47 @@ impl<'a> Short<'a> {
     pub fn net(&self) -> Tick
         ensures { result ≡ self.now.state.time }
     {
-        self.run.time
+        self.run.time()
     }
 
     /// How many instructions were retired.
     pub fn retired(&self) -> u64
         ensures { result ≡ self.now.state.retired }
     {
-        self.run.retired
+        self.run.retired()
     }
 
     /// How many instructions of the selected line were begun.
     pub fn starts(&self) -> u64
         ensures { result ≡ self.now.state.starts }
     {
-        self.run.starts
+        self.run.starts()
     }
 
-    /// The visits of progress points, in order, each with a delay of 0.
+    /// The visits of progress points, at most 1,048,576, in order, each with a delay of 0.
     pub fn visits(&self) -> &[Visit]
         ensures visits { map net_of result.now ≡ self.now.state.visits }
+        ensures few { length result.now ≤ 1048576 }
+        ensures harts { All (λ visit. visit.hart.0 < 256) result.now }
         ensures undelayed { AreUndelayed result.now }
     {
-        self.run.visits.all()
+        self.run.visits()
     }
 
-    /// What was written.
+    /// What was written, at most 67,108,864 bytes.
     pub fn output(&self) -> &[u8]
-        ensures { result.now ≡ self.now.state.guest.output }
+        ensures bytes { result.now ≡ self.now.state.guest.output }
+        ensures few { length result.now ≤ 67108864 }
     {
-        self.run.guest.output()
+        self.run.output()
     }
+}
+
+fn is_sent<T: Send>() {}
+
+// A worker runs its own.
+fn short_is_sent() {
+    is_sent::<Short<'static>>()
 }
 
 #[cfg(test)]

@@ -10,7 +10,7 @@ use Rattle.machines.proofs.Maps.{change_same, change_other, change_all_at, with_
 use Rattle.machines.proofs.Wakeless.{rests}
 use Rattle.delay_credits.specs.Delays.{Delays, at}
 use Rattle.delay_credits.specs.Ticks.{without_work}
-use Rattle.delay_credits.proofs.TicksLemmas.{without_work-sit, without_work-run, without_work-stop, without_work-credit, without_work-raise}
+use Rattle.delay_credits.proofs.TicksLemmas.{without_work-sit, without_work-run, without_work-stop, without_work-credit, without_work-raise, all_ticked}
 use Rattle.virtual_run.specs.Credited.{AreHeld, Holds, with_credits, with_starts, with_one_raise, with_raises}
 
 -- maps of harts, and the same harts without their work
@@ -52,7 +52,7 @@ holds_jump n now c d later h =
     record {
       latest = later;
       raised = h.raised;
-      harts = subst (λ m. AreHeld (map (sit_hart m) c.harts) (map (sit_hart n) d.harts)) ticks (held_sit n c.harts d.harts h.harts);
+      harts = subst (λ (held : List Hart). AreHeld held (map (sit_hart n) d.harts)) (ap (λ m. map (sit_hart m) c.harts) ticks ∙ sym (all_ticked (now - c.latest) c.harts)) (held_sit n c.harts d.harts h.harts);
     }
 
 pub among_more : (b c : Bool) → c ≡ true → (if b then true else c) ≡ true

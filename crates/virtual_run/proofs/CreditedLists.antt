@@ -6,7 +6,7 @@ use Rattle.std.proofs.Math.Seq.{drop-cons}
 use Rattle.coz_types.specs.declared.HartId.{HartId}
 use Rattle.machines.specs.Places.{change, change_each, change_from, is_among}
 use Rattle.machines.specs.Delayed.{Account, Load, Hart, total, fresh, is_running, run, credit, raise_hart}
-use Rattle.machines.specs.Steps.{sit_hart}
+use Rattle.delay_credits.specs.Ticks.{ticked}
 use Rattle.machines.proofs.Maps.{change_same, change_other, change_all_at}
 use Rattle.delay_credits.specs.Delays.{Delays, hart_at, at, with_start, with_raise, with_credit}
 use Rattle.virtual_run.specs.Credited.{with_credits, with_starts, with_one_raise, with_raises, Runs, Rests, AllRun, AllRest, AllBelow}
@@ -49,27 +49,15 @@ still : (h k : ℕ) (f : Hart → Hart) (harts : List Hart) → ((hart : Hart) �
 still h k f harts same = still_by h k f harts same (cases_eq h k)
 
 -- no ticks at once
-sit_zero : (hart : Hart) → sit_hart 0 hart ≡ hart
-sit_zero hart = go hart.account hart.load
-  where
-    go : (a : Account) (l : Option Load) → sit_hart 0 (record { account = a; load = l }) ≡ record { account = a; load = l }
-    go a None = refl
-    go a (Some l) =
-        let p : a.paused + min 0 l.pause ≡ a.paused = omega arith in
-        let w : l.work - (0 - l.pause) ≡ l.work = omega arith in
-        let q : l.pause - 0 ≡ l.pause = omega arith in
-        let both : record { work = l.work - (0 - l.pause); pause = l.pause - 0 } ≡ l = ap₂ (λ (m n : ℕ). record { work = m; pause = n }) w q in
-        ap₂ (λ n (m : Load). record { account = record a { paused = n }; load = Some m }) p both
-
-all_zero : (harts : List Hart) → map (sit_hart 0) harts ≡ harts
-all_zero [] = refl
-all_zero (hart ∷ harts) = ap₂ (λ a b. a ∷ b) (sit_zero hart) (all_zero harts)
+none_ticked : (harts : List Hart) → map (ticked 0) harts ≡ harts
+none_ticked [] = refl
+none_ticked (hart ∷ harts) = ap (λ (rest : List Hart). hart ∷ rest) (none_ticked harts)
 
 -- at the latest moment nothing changes
 pub at_latest : (c : Delays) (now : ℕ) → c.latest ≡ now → at now c ≡ c
 at_latest c now is =
     let none : now - c.latest ≡ 0 = omega arith in
-    ap₂ (λ m (hs : List Hart). record { latest = m; raised = c.raised; harts = hs }) (sym is) (ap (λ n. map (sit_hart n) c.harts) none ∙ all_zero c.harts)
+    ap₂ (λ m (hs : List Hart). record { latest = m; raised = c.raised; harts = hs }) (sym is) (ap (λ n. map (ticked n) c.harts) none ∙ none_ticked c.harts)
 
 -- crediting
 pub record IsCrediting (waker : ℕ) (goal : Delays) (hs : List ℕ) (c : Delays) : Type 0 where

@@ -1,9 +1,11 @@
 -- The delayed run of a program, step by step in code.
-use Rattle.std.proofs.Common.{◌≡◌, ℕ, zero, suc, ◌+◌, ◌-◌, ◌*◌, ◌^◌, ◌≤◌, ◌<◌, Bool, true, false, if◌then◌else◌, ◌==◌, List, [], ◌∷◌, ◌++◌, map, length, get_or, slice_get, filter, nat_le, refl, sym, ap, ap₂, ◌∙◌, subst, arith, Option, Some, None, is_some, option_map, option_to_list, IsSome, eqb-true, replicate, lit<, add-one, mul_comm, ◌⊎◌}
+use Rattle.std.proofs.Common.{◌≡◌, ℕ, zero, suc, ◌+◌, ◌-◌, ◌*◌, ◌^◌, ◌≤◌, ◌<◌, Bool, true, false, not, if◌then◌else◌, ◌==◌, List, [], ◌∷◌, ◌++◌, map, length, get_or, slice_get, filter, nat_le, refl, sym, ap, ap₂, ◌∙◌, subst, arith, Option, Some, None, is_some, option_map, option_to_list, IsSome, eqb-true, replicate, lit<, add-one, mul_comm, ◌⊎◌}
 use Rattle.std.proofs.lemmas.List.{length-map, length-replicate, length-set, map-append}
 use Rattle.std.specs.List.{All}
 use Rattle.std.proofs.lemmas.List.Elements.{All-nil, All-cons, All-head, All-tail}
 use Rattle.coz_types.specs.declared.ending.Ending.{Ending}
+use Rattle.coz_types.specs.declared.ending.Ending.TheVariants.{Exited, Trapped, Unsupported, OutputFull, VisitsFull, Stalled, Spent}
+use Rattle.coz_types.specs.declared.ending.Trap.{Trap}
 use Rattle.coz_types.specs.declared.record.Account.{Account as GivenAccount}
 use Rattle.coz_types.specs.declared.record.Outcome.{Outcome}
 use Rattle.coz_types.specs.declared.record.Visit.{Visit as GivenVisit}
@@ -13,41 +15,44 @@ use Rattle.hart_schedule.specs.Keys.{key_of, without_key, IsLeast}
 use Rattle.line_index.specs.Index.{position_at}
 use Rattle.progress_points.specs.Points.{point_of}
 use Rattle.machines.specs.declared.Fate.{Fate}
+use Rattle.machines.specs.declared.Fate.TheVariants.{Goes, Waits, Leaves, Sleeps, Ends}
 use Rattle.machines.specs.Places.{is_among}
-use Rattle.machines.specs.Guest.{Experiment, Retirement, IsLawful, goes_on, own_ending, started}
+use Rattle.machines.specs.Guest.{Experiment, Retirement, IsLawful, goes_on, own_ending, when, first_ending, started}
 use Rattle.machines.specs.Delayed.{Account, Load, Hart, Delayed, Visit, fresh, is_running, stop, run as run_from, begin, unbegun, after, delayed}
 use Rattle.machines.specs.Shortened.{Shortened, Turn, shortened, move}
 use Rattle.machines.specs.Shortened as short
 use Rattle.machines.specs.Agreement.{LoadAgrees, Agrees}
-use Rattle.machines.specs.Steps.{Steps, sit_hart}
+use Rattle.machines.specs.Steps.{Steps}
 use Rattle.machines.specs.Standing.{standing, delayed_record}
 use Rattle.machines.specs.Records.{net, record_of, IsDelayed, IsShortened, shortened_record}
+use Rattle.machines.proofs.Runs.{both}
+use Rattle.machines.proofs.Headline.{unique}
 use Rattle.machines.proofs.Ends.{goes_on_at, record_is}
 use Rattle.machines.proofs.Stepping.{begin_frame}
 use Rattle.machines.proofs.Standing.{agrees, in_time, end_in_time, steps_is, last, recorded_delayed, delayed_is, net_is}
 use Rattle.delay_credits.specs.Delays.{Delays, account_as, hart_at, pause_of, at, with_start, with_stop, none_raised}
-use Rattle.delay_credits.specs.Ticks.{without_work}
+use Rattle.delay_credits.specs.Ticks.{without_work, ticked}
 use Rattle.guest_calls.specs.Calls.{retirement}
 use Rattle.guest_calls.specs.Guest.{Guest, IsMade, pc_of, is_running as runs_in}
 use Rattle.guest_calls.specs.Orderly.{IsOrderly}
 use Rattle.guest_calls.specs.Retire.{next_of, retire}
-use Rattle.guest_calls.proofs.Law.{running_low, others_idle}
+use Rattle.guest_calls.proofs.Law.{running_low, others_idle, own_trap}
 use Rattle.virtual_run.specs.declared.choice.Setting.{Setting}
 use Rattle.virtual_run.specs.declared.run.Run.{Run}
 use Rattle.virtual_run.specs.Begin.{started_by, many, AreIdle}
 use Rattle.virtual_run.specs.Ending.{ending_of, runs_after}
 use Rattle.virtual_run.specs.Visits.{Visits, visits_of}
 use Rattle.virtual_run.specs.Run.{selected_of, state_of, AreWithin, IsChoice, IsReached, IsStateOf, IsSteady, IsFirst}
-use Rattle.virtual_run.specs.Credited.{raise_ticks, with_credits, with_starts, with_raises, with_begun, settled_by, Holds, CanBegin}
+use Rattle.virtual_run.specs.Credited.{raise_ticks, with_credits, with_starts, with_raises, with_begun, settled_by, Runs, AllRun, AllBelow, Holds, CanBegin}
 use Rattle.virtual_run.specs.Seen.{Seen, experiment_with, experiment_of}
-use Rattle.virtual_run.specs.DelayedRun.{visit_as, net_due_of, account_in, outcome_of, IsPaced}
+use Rattle.virtual_run.specs.DelayedRun.{visit_as, net_due_of, account_in, outcome_of, IsOfAHart, IsSmall, AgreesThroughout, EndsOnce, IsPaced}
 use Rattle.virtual_run.proofs.Keys.{has_place, next_is}
 use Rattle.virtual_run.proofs.Many.{many_few}
 use Rattle.virtual_run.proofs.Begin.{cycles_few}
 use Rattle.machines.proofs.Wakeless.{NeverSleeps, at_budget}
 use Rattle.virtual_run.proofs.Law.{lawful_run, never_run, steady, reached_next, IsTurn, started_idle, none_own}
 use Rattle.virtual_run.proofs.Credited.{among_filter, holds_begin}
-use Rattle.virtual_run.proofs.CreditedLists.{at_latest, change_length, raises_length, raises_latest, start_is}
+use Rattle.virtual_run.proofs.CreditedLists.{at_latest, change_length, raises_length, raises_latest, start_is, starts_run}
 use Rattle.virtual_run.proofs.CreditedBegin.{others_among, begun_places}
 use Rattle.virtual_run.proofs.CreditedBounds.{standing_bounded, cut_few}
 use Rattle.virtual_run.proofs.CreditedPlaces.{IsCounted, standing_has, standing_good}
@@ -93,6 +98,32 @@ pub record IsAdvance (setting : Setting) (run new : Run) (h : ℕ) (fate : Fate)
   pub retired : new.retired ≡ run.retired + 1
   pub few : new.starts ≤ new.retired + many new.schedule
   pub within : (moment : ℕ) → AreWithin moment run.schedule → AreWithin (moment + 4000) new.schedule
+
+-- an ending is of a hart if it is where it is a trap
+of_a_hart : (e : Ending) → ((trap : Trap) → e ≡ Trapped trap → trap.hart.0 < 256) → IsOfAHart e
+of_a_hart (Exited code) low = tt
+of_a_hart (Trapped trap) low = low trap refl
+of_a_hart (Unsupported number) low = tt
+of_a_hart OutputFull low = tt
+of_a_hart VisitsFull low = tt
+of_a_hart Stalled low = tt
+of_a_hart Spent low = tt
+
+-- no other ending than the guest's own is a trap
+no_trap : (output_full visits_full idle spent : Bool) (trap : Trap)
+    → first_ending (when output_full OutputFull ∷ when visits_full VisitsFull ∷ when idle Stalled ∷ when spent Spent ∷ []) ≡ Some (Trapped trap) → ⊥
+no_trap true visits_full idle spent trap is = cc
+no_trap false true idle spent trap is = cc
+no_trap false false true spent trap is = cc
+no_trap false false false true trap is = cc
+no_trap false false false false trap is = cc
+
+trap_fate : (fate : Fate) (output_full visits_full some_hart_runs : Bool) (retired budget : ℕ) (trap : Trap) → ending_of fate output_full visits_full some_hart_runs retired budget ≡ Some (Trapped trap) → fate ≡ Ends (Trapped trap)
+trap_fate Goes o v r n b trap is = absurd (no_trap o v (not r) (nat_le b n) trap is)
+trap_fate Waits o v r n b trap is = absurd (no_trap o v (not r) (nat_le b n) trap is)
+trap_fate Leaves o v r n b trap is = absurd (no_trap o v (not r) (nat_le b n) trap is)
+trap_fate (Sleeps moment) o v r n b trap is = absurd (no_trap o v (not r) (nat_le b n) trap is)
+trap_fate (Ends e) o v r n b trap is = let same : e ≡ Trapped trap = cc in ap Ends same
 
 module _ (image : ImageParts) (input : List ℕ) (setting : Setting) (run : Run) (credits : Delays) (now : ℕ) (p : IsPaced image input setting run credits now) where
   abbrev x : Experiment Guest
@@ -197,7 +228,7 @@ module _ (image : ImageParts) (input : List ℕ) (setting : Setting) (run : Run)
 
     stopped_places : length stopped.harts ≡ 256
     stopped_places =
-        let same : length (at later_now credits).harts ≡ length credits.harts = length-map credits.harts (sit_hart (later_now - credits.latest)) in
+        let same : length (at later_now credits).harts ≡ length credits.harts = length-map credits.harts (ticked (later_now - credits.latest)) in
         change_length h stop (at later_now credits).harts (subst (λ (n : ℕ). h < n) (sym same) hart_below) ∙ same ∙ p.room
 
     turned : IsTurn run.guest run.schedule h new.time
@@ -307,6 +338,18 @@ module _ (image : ImageParts) (input : List ℕ) (setting : Setting) (run : Run)
     latest_is None = raises_latest (raise_ticks new.guest setting.choice.speedup) new.selected (with_starts (started_by h fate new.started) (with_credits new.started stopped))
 
     -- the fields stand for the state after the retirement
+    soon_new : later_now ≤ 10 ^ 17
+    soon_new = let few : credits.raised ≤ 10 ^ 16 = raised_few in let time = time_few in omega (arith, few, time, given)
+
+    -- a trap is that of the hart that retired
+    trap_new : (e : Ending) → new.ending ≡ Some e → IsOfAHart e
+    trap_new e is =
+        of_a_hart e (λ trap trapped.
+        let fate_is : fate ≡ Ends (Trapped trap) = trap_fate fate _ _ _ new.retired setting.choice.budget trap (sym a.ending ∙ is ∙ ap Some trapped) in
+        let own : trap.hart.0 ≡ h = own_trap run.guest h new.time turned.orderly hart_ran trap (ap (λ (r : Retirement Guest). r.fate) (sym a.retires) ∙ fate_is) in
+        let below = subst (λ (n : ℕ). h < n) p.room hart_below in
+        omega (arith, own, below))
+
     pub paced_next : (after : Delays) → after ≡ settled_by new.ending (raise_ticks new.guest setting.choice.speedup) h fate new.started new.selected stopped → IsPaced image input setting new after later_now
     paced_next after is =
         let both = settled_holds new.ending refl in
@@ -318,6 +361,8 @@ module _ (image : ImageParts) (input : List ℕ) (setting : Setting) (run : Run)
           room = ap (λ (c : Delays). length c.harts) is ∙ both.1;
           visits = kept_next ∙ ap (λ (n : ℕ). (standing x n).visits) (sym next_count);
           moment = sym (latest_is new.ending) ∙ ap (λ (c : Delays). c.latest) (sym is) ∙ holds.latest;
+          soon = soon_new;
+          trap = trap_new;
         }
 
     -- the moves up to the retirement
@@ -407,6 +452,21 @@ module _ (image : ImageParts) (input : List ℕ) (setting : Setting) (run : Run)
       rw (ending_now image input setting run credits now p, is)
       (ap Some (same_outcome e now seen.now credits.raised seen.delay run.retired seen.retired run.starts seen.starts
       p.moment p.holds.raised (sym (retired_now image input setting run credits now p)) (sym (starts_now image input setting run credits now p))))
+
+  -- the numbers of an outcome
+  pub outcome_small : (e : Ending) (delay : ℕ) → run.ending ≡ Some e → IsSmall (record { ending = e; time = now; delay = delay; retired = run.retired; starts = run.starts })
+  outcome_small e delay is =
+      let below : run.retired ≤ setting.choice.budget = p.reached.retired in
+      let budget : setting.choice.budget ≤ 10 ^ 12 = p.valid.few in
+      let most : many run.schedule ≤ length run.schedule = many_few run.schedule in
+      let room : length run.schedule ≡ 256 = p.reached.room in
+      let kept : run.starts ≤ run.retired + many run.schedule = p.reached.few in
+      record {
+        ending = p.trap e is;
+        time = p.soon;
+        retired = omega (arith, below, budget);
+        starts = omega (arith, below, budget, most, room, kept);
+      }
 
   pub outcome_none : run.ending ≡ None → ◌≡◌ {A = Option Outcome} None (outcome_of seen)
   outcome_none is = rw (ending_now image input setting run credits now p, is) refl
@@ -514,6 +574,14 @@ module _ (image : ImageParts) (input : List ℕ) (setting : Setting) (run : Run)
       let one : length run.guest.harts ≡ 1 = ap (λ (g : Guest). length g.harts) guest_first ∙ first_count image input setting.choice.output_limit setting.choice.layout in
       omega arith
 
+  -- those that raise the delay at first run: hart 0 was started, and no other can be selected
+  pub first_runs_here : (made started : Delays) (hs : List ℕ) → made ≡ none_raised 256 → started ≡ with_start 0 0 made → hs ≡ run.selected → AllRun started hs
+  first_runs_here made started hs is_made is_started is k among =
+      let starts : started ≡ with_starts (0 ∷ []) (none_raised 256) = is_started ∙ ap (with_start 0 0) is_made ∙ start_is 0 0 (none_raised 256) refl in
+      let chosen : is_among k (filter (begun_x.guest.is_selected run.guest) (0 ∷ [])) ≡ true = ap (is_among k) (sym (is ∙ f.selected)) ∙ among in
+      let below : AllBelow (none_raised 256) (0 ∷ []) = λ j low. let first : j ≡ 0 = only_first j low in let size = length-replicate {A = Hart} 256 fresh in omega (arith, first, size) in
+      subst (λ (c : Delays). Runs c k) (sym starts) (starts_run (0 ∷ []) (none_raised 256) below k (among_filter (begun_x.guest.is_selected run.guest) k (0 ∷ []) chosen).1)
+
   first_raised : Delays
   first_raised = with_raises (raise_ticks run.guest setting.choice.speedup) (filter (begun_x.guest.is_selected run.guest) (0 ∷ [])) (with_starts (0 ∷ []) (none_raised 256))
 
@@ -566,6 +634,8 @@ module _ (image : ImageParts) (input : List ℕ) (setting : Setting) (run : Run)
             ∙ change_length 0 (run_from 0) (replicate 256 fresh) (rw length-replicate (lit< tt)) ∙ length-replicate {A = Hart} 256 fresh;
         visits = ap (map visit_as) f.kept ∙ sym (ap (λ (n : ℕ). (standing begun_x n).visits) f.retired ∙ first_visits);
         moment = sym (raises_latest ticks (filter (begun_x.guest.is_selected run.guest) (0 ∷ [])) (with_starts (0 ∷ []) (none_raised 256))) ∙ ap (λ (c : Delays). c.latest) (sym (is ∙ first_raised_is)) ∙ holds.latest;
+        soon = omega arith;
+        trap = λ e ended. absurd (let no : ◌≡◌ {A = Option Ending} None (Some e) = sym f.ending ∙ ended in cc);
       }
 
 -- a run between two steps: only its state changes, and it stands after as many retirements as it counts
@@ -649,6 +719,12 @@ module _ (old now : Seen (Delayed Guest)) (g : IsGoing old now) where
 
   pub delayed_now : IsDelayed run_x (delayed_record run_x)
   delayed_now = delayed_is run_x IsOrderly (lawful_of old g.valid) g.valid.some_budget
+
+  pub moves_now : AgreesThroughout run_x
+  moves_now moves = (both run_x IsOrderly (lawful_of old g.valid) moves).agrees
+
+  pub once_now : EndsOnce run_x
+  once_now = (delayed_record run_x, delayed_now, λ other is. unique run_x IsOrderly (lawful_of old g.valid) other (delayed_record run_x) is delayed_now)
 
   pub law_now : net (delayed_record run_x) ≡ shortened_record run_x
   law_now = net_is run_x IsOrderly (lawful_of old g.valid) g.valid.some_budget

@@ -1,9 +1,15 @@
 -- The delayed run of a program.
-use Rattle.std.specs.Prelude.{◌≡◌, ℕ, ◌+◌, ◌-◌, List, map, length, slice_index_or, slice_get, Option, Some, None, option_map}
+use Rattle.std.specs.Prelude.{◌≡◌, ℕ, ◌+◌, ◌-◌, ◌^◌, ◌≤◌, ◌<◌, List, map, length, slice_index_or, slice_get, Option, Some, None, option_map}
+use Rattle.coz_types.specs.declared.ending.Ending.{Ending}
+use Rattle.coz_types.specs.declared.ending.Ending.TheVariants.{Exited, Trapped, Unsupported, OutputFull, VisitsFull, Stalled, Spent}
 use Rattle.coz_types.specs.declared.record.Outcome.{Outcome}
 use Rattle.coz_types.specs.declared.record.Visit.{Visit as GivenVisit}
 use Rattle.coz_types.specs.Image.{ImageParts}
-use Rattle.machines.specs.Delayed.{Account, Visit, Delayed, fresh}
+use Rattle.machines.specs.Guest.{Experiment}
+use Rattle.machines.specs.Delayed.{Account, Visit, Delayed, fresh, events, delayed}
+use Rattle.machines.specs.Shortened.{shortened}
+use Rattle.machines.specs.Agreement.{Agrees}
+use Rattle.machines.specs.Records.{Record, IsDelayed}
 use Rattle.machines.specs.Standing.{standing}
 use Rattle.delay_credits.specs.Delays.{Delays}
 use Rattle.guest_calls.specs.Guest.{Guest}
@@ -33,6 +39,31 @@ account_in d hart = option_map (λ h. h.account) (slice_get d.harts hart)
 abbrev pub outcome_of : Delayed Guest → Option Outcome
 outcome_of d = option_map (λ ending. record { ending = ending; time = d.now; delay = d.delay; retired = d.retired; starts = d.starts }) d.ending
 
+-- a trap is that of one of 256 harts
+abbrev pub IsOfAHart : Ending → Type 0
+IsOfAHart (Exited code) = Unit {0}
+IsOfAHart (Trapped trap) = trap.hart.0 < 256
+IsOfAHart (Unsupported number) = Unit {0}
+IsOfAHart OutputFull = Unit {0}
+IsOfAHart VisitsFull = Unit {0}
+IsOfAHart Stalled = Unit {0}
+IsOfAHart Spent = Unit {0}
+
+-- the numbers of an outcome are small
+pub record IsSmall (o : Outcome) : Type 0 where
+  pub ending : IsOfAHart o.ending
+  pub time : o.time ≤ 10 ^ 17
+  pub retired : o.retired ≤ 10 ^ 17
+  pub starts : o.starts ≤ 10 ^ 17
+
+-- before each move of the delayed run it agrees with the shortened one after as many retirements and wakes
+abbrev pub AgreesThroughout : Experiment Guest → Type 0
+AgreesThroughout x = (moves : ℕ) → Agrees (delayed x moves) (shortened x (events (delayed x moves)))
+
+-- the delayed run ends, and with one record alone
+abbrev pub EndsOnce : Experiment Guest → Type 0
+EndsOnce x = (r : Record) × IsDelayed x r × ((other : Record) → IsDelayed x other → other ≡ r)
+
 -- the choice is within the limits, and the fields stand for the state after as many retirements as the engine counts
 pub record IsPaced (image : ImageParts) (input : List ℕ) (setting : Setting) (run : Run) (credits : Delays) (now : ℕ) : Type 0 where
   pub valid : IsChoice setting.choice
@@ -41,3 +72,5 @@ pub record IsPaced (image : ImageParts) (input : List ℕ) (setting : Setting) (
   pub room : length credits.harts ≡ 256
   pub visits : map visit_as run.visits.kept ≡ (standing (experiment_with image input setting) run.retired).visits
   pub moment : now ≡ (standing (experiment_with image input setting) run.retired).now
+  pub soon : now ≤ 10 ^ 17
+  pub trap : (ending : Ending) → run.ending ≡ Some ending → IsOfAHart ending

@@ -1,8 +1,8 @@
-ghost use Rattle.std.specs.Prelude.{◌≡◌, ◌+◌, ◌≤◌, map, length, Some, None, IfOk, IsSome, MatchOption, All, option_map};
+ghost use Rattle.std.specs.Prelude.{◌≡◌, ◌+◌, ◌≤◌, ◌<◌, map, length, Some, None, IfOk, IfSome, IsSome, MatchOption, All, option_map};
 ghost use Rattle.hart_schedule.specs.Keys.{key_of};
 ghost use Rattle.delay_credits.specs.Delays.{account_as};
 ghost use Rattle.virtual_run.specs.Seen.{experiment_of};
-ghost use Rattle.virtual_run.specs.DelayedRun.{visit_as, net_due_of, account_in, outcome_of};
+ghost use Rattle.virtual_run.specs.DelayedRun.{visit_as, net_due_of, account_in, outcome_of, IsSmall, AgreesThroughout, EndsOnce};
 
 use crate::accounts::{raise_each, settle};
 use crate::{Choice, Run, Setting};
@@ -140,6 +140,8 @@ impl<'a> Machine<'a> {
         ensures delayed { let x = experiment_of self.old in IsDelayed x (delayed_record x) }
         ensures law { let x = experiment_of self.old in net (delayed_record x) ≡ shortened_record x }
         ensures shortened { let x = experiment_of self.old in IsShortened x (shortened_record x) }
+        ensures moves { AgreesThroughout (experiment_of self.old) }
+        ensures one { EndsOnce (experiment_of self.old) }
         ensures last { self.new.state ≡ standing (experiment_of self.old) self.old.choice.budget }
         ensures rest { self.new ≡ record self.old { state = self.new.state } }
         ensures agrees { Agrees self.new.state (shortened (experiment_of self.old) self.old.choice.budget) }
@@ -216,24 +218,28 @@ impl<'a> Machine<'a> {
         self.run.starts
     }
 
-    /// The visits of progress points, in order. None was before its delay was raised.
+    /// The visits of progress points, in order, at most 1,048,576. None was before its delay was raised.
     pub fn visits(&self) -> &[Visit]
         ensures visits { map visit_as result.now ≡ self.now.state.visits }
+        ensures few { length result.now ≤ 1048576 }
+        ensures harts { All (λ visit. visit.hart.0 < 256) result.now }
         ensures in_time { All (λ visit. visit.delay ≤ visit.time) result.now }
     {
         self.run.visits.all()
     }
 
-    /// What was written.
+    /// What was written, at most 67,108,864 bytes.
     pub fn output(&self) -> &[u8]
-        ensures { result.now ≡ self.now.state.guest.output }
+        ensures bytes { result.now ≡ self.now.state.guest.output }
+        ensures few { length result.now ≤ 67108864 }
     {
         self.run.guest.output()
     }
 
-    /// How the run came out; None before it has ended.
+    /// How the run came out; None before it has ended. Its time and its counts are at most 10^17, and a trap is of a hart below 256.
     pub fn outcome(&self) -> Option<Outcome>
         ensures outcome { result ≡ outcome_of self.now.state }
+        ensures small { IfSome result IsSmall }
         ensures in_time { MatchOption result (self.now.state.ending ≡ None) (λ outcome. outcome.delay ≤ outcome.time) }
     {
         let ending = self.run.ending?;
@@ -245,4 +251,11 @@ impl<'a> Machine<'a> {
             starts: self.run.starts,
         })
     }
+}
+
+fn is_sent<T: Send>() {}
+
+// A worker runs its own.
+fn machine_is_sent() {
+    is_sent::<Machine<'static>>()
 }

@@ -1,4 +1,4 @@
-ghost use Rattle.std.specs.Prelude.{◌≡◌, ℕ, ◌+◌, ◌^◌, ◌≤◌, ◌<◌, ◌++◌, [], List, Option, Some, None, length, nat_le, IsSome, IfOk, if◌then◌else◌};
+ghost use Rattle.std.specs.Prelude.{◌≡◌, ℕ, ◌+◌, ◌^◌, ◌≤◌, ◌<◌, ◌++◌, [], List, Option, Some, None, length, nat_le, IsSome, IfOk, All, if◌then◌else◌};
 ghost use Rattle.hart_schedule.specs.Keys.{key_of, without_key, IsEmpty, IsLeast};
 ghost use Rattle.machines.specs.Delayed.{is_any};
 ghost use Rattle.machines.specs.Guest.{goes_on};
@@ -25,23 +25,23 @@ const HARTS: u32 = 256;
 /// The hart that a program begins with.
 const FIRST: HartId = HartId(0);
 
-/// A run in which a selected line really costs less.
+/// The engine of both machines: a run in which a selected line really costs less. Its moves alone change it.
 #[derive(Drop)]
 pub struct Run<'a> {
-    pub guest: Guest<'a>,
+    pub(crate) guest: Guest<'a>,
     /// When each running hart retires, in net ticks.
-    pub schedule: Schedule,
+    pub(crate) schedule: Schedule,
     /// The harts that the last retirement made or woke, in order.
-    pub started: HartList,
+    pub(crate) started: HartList,
     /// Of the harts that began last, in order, those whose next instruction has the selected line.
-    pub selected: HartList,
-    pub visits: Visits,
+    pub(crate) selected: HartList,
+    pub(crate) visits: Visits,
     /// When the last retirement was, in net ticks.
-    pub time: Tick,
-    pub retired: u64,
+    pub(crate) time: Tick,
+    pub(crate) retired: u64,
     /// How many selected instructions were begun.
-    pub starts: u64,
-    pub ending: Option<Ending>,
+    pub(crate) starts: u64,
+    pub(crate) ending: Option<Ending>,
 }
 
 /// A hart that has retired an instruction, and what became of it.
@@ -94,7 +94,8 @@ fn keep_visit(
     time: Tick,
     delay: Tick,
 )
-    requires { length visits.old.kept < visits.old.limit }
+    requires room { length visits.old.kept < visits.old.limit }
+    requires hart { hart.0 < 256 }
     ensures { visits.new ≡ record visits.old { kept = visits.old.kept ++ visits_of (point_of setting.now.points.now address) hart.0 time delay } }
 {
     if let Some(point) = setting.points.point_at(address) {
@@ -229,6 +230,51 @@ impl<'a> Run<'a> {
             hart: turn.hart,
             fate,
         }
+    }
+
+    /// How the run has ended, if it has.
+    pub fn ending(&self) -> Option<Ending>
+        ensures { result ≡ self.now.ending }
+    {
+        self.ending
+    }
+
+    /// When the last retirement was, in net ticks.
+    pub fn time(&self) -> Tick
+        ensures { result ≡ self.now.time }
+    {
+        self.time
+    }
+
+    /// How many instructions were retired.
+    pub fn retired(&self) -> u64
+        ensures { result ≡ self.now.retired }
+    {
+        self.retired
+    }
+
+    /// How many selected instructions were begun.
+    pub fn starts(&self) -> u64
+        ensures { result ≡ self.now.starts }
+    {
+        self.starts
+    }
+
+    /// The visits so far, at most 1,048,576, in order.
+    pub fn visits(&self) -> &[Visit]
+        ensures kept { result.now ≡ self.now.visits.kept }
+        ensures few { length result.now ≤ 1048576 }
+        ensures harts { All (λ visit. visit.hart.0 < 256) result.now }
+    {
+        self.visits.all()
+    }
+
+    /// What was written so far, at most 67,108,864 bytes.
+    pub fn output(&self) -> &[u8]
+        ensures bytes { result.now ≡ self.now.guest.output }
+        ensures few { length result.now ≤ 67108864 }
+    {
+        self.guest.output()
     }
 
     /// How the run ends with a retirement of this fate, if it does.

@@ -1,4 +1,4 @@
-ghost use Rattle.std.specs.Prelude.{◌≡◌, ◌≤◌, ◌<◌, ◌++◌, [], ◌∷◌, length, IfOk};
+ghost use Rattle.std.specs.Prelude.{◌≡◌, ◌≤◌, ◌<◌, ◌++◌, [], ◌∷◌, length, IfOk, All};
 
 use coz_types::Visit;
 use std::alloc::{AllocError, Global};
@@ -12,7 +12,7 @@ pub struct Visits {
 }
 
 impl Model for Visits {
-    ghost use Rattle.std.specs.Prelude.{◌≤◌, length};
+    ghost use Rattle.std.specs.Prelude.{◌≤◌, ◌<◌, length, All};
     ghost use Rattle.std.specs.Vec.{vec_capacity};
     ghost use Rattle.virtual_run.specs.Visits.{Visits};
 
@@ -20,7 +20,8 @@ impl Model for Visits {
 
     ghost view = { λ v. record { kept = v.kept.items; limit = v.limit } };
 
-    ghost invariant = { λ v. (v.limit ≤ vec_capacity v.kept) × (v.limit ≤ 1048576) };
+    ghost invariant = { λ v. (v.limit ≤ vec_capacity v.kept) × (v.limit ≤ 1048576) × (length v.kept.items ≤ v.limit)
+        × All (λ visit. visit.hart.0 < 256) v.kept.items };
 }
 
 impl Visits {
@@ -35,7 +36,8 @@ impl Visits {
 
     /// Appends a visit.
     pub fn push(&mut self, visit: Visit)
-        requires { length self.old.kept < self.old.limit }
+        requires room { length self.old.kept < self.old.limit }
+        requires hart { visit.hart.0 < 256 }
         ensures { self.new ≡ record self.old { kept = self.old.kept ++ visit ∷ [] } }
     {
         let Ok(()) = self.kept.push(visit) else {
@@ -45,7 +47,9 @@ impl Visits {
 
     /// The visits, the first of them first.
     pub fn all(&self) -> &[Visit]
-        ensures { result.now ≡ self.now.kept }
+        ensures kept { result.now ≡ self.now.kept }
+        ensures few { length result.now ≤ 1048576 }
+        ensures harts { All (λ visit. visit.hart.0 < 256) result.now }
     {
         &self.kept
     }

@@ -16,7 +16,7 @@ advance-requires-clause-steady c =
     let now = c.loop-self.self-inside in
     let short = c.loop-self.invariant.0 in
     steady now.image.now (position_at now.setting.index.now) (point_of now.setting.points.now) now.input.now now.setting.choice short.valid now.run short.reached
-    (none_is now.run.ending c.is_none.result c.is_none.ensures c.loop-self-test.true)
+    (sym c.ending.ensures ∙ none_is c.ending.result c.is_none.result c.is_none.ensures c.loop-self-test.true)
 
 pub advance-requires-clause-speedup : goal.advance-requires-clause-speedup
 advance-requires-clause-speedup c = c.loop-self.invariant.0.valid.speedup
@@ -29,7 +29,7 @@ loop-self-preserved c =
     let new = c.advance.new.self in
     let did = c.advance.ensures in
     let first : Guest = first_guest now.image.now now.input.now now.setting.choice.output_limit now.setting.choice.layout in
-    let none = none_is now.run.ending c.is_none.result c.is_none.ensures c.loop-self-test.true in (
+    let none = sym c.ending.ensures ∙ none_is c.ending.result c.is_none.result c.is_none.ensures c.loop-self-test.true in (
       record {
         valid = short.valid;
         reached =
@@ -49,14 +49,14 @@ loop-self-smaller c =
     let now = c.loop-self.self-inside in
     let short = c.loop-self.invariant.0 in
     let below : now.run.retired < now.setting.choice.budget = below_budget now.image.now (position_at now.setting.index.now) (point_of now.setting.points.now) now.input.now now.setting.choice short.valid now.run short.reached
-    (none_is now.run.ending c.is_none.result c.is_none.ensures c.loop-self-test.true) in
+    (sym c.ending.ensures ∙ none_is c.ending.result c.is_none.result c.is_none.ensures c.loop-self-test.true) in
     omega (arith, below, c.advance.ensures.retired)
 
 pub returns-clause-ended : goal.returns-clause-ended
 returns-clause-ended c =
     let now = c.loop-self.self-inside in
     let short = c.loop-self.invariant.0 in
-    ended_now now.image.now (position_at now.setting.index.now) (point_of now.setting.points.now) now.input.now now.setting.choice short.valid now.run short.reached c.in-Some.ending c.in-Some.is
+    ended_now now.image.now (position_at now.setting.index.now) (point_of now.setting.points.now) now.input.now now.setting.choice short.valid now.run short.reached c.in-Some.ending (sym c.ending-2.ensures ∙ c.in-Some.is)
 
 -- the setting and what else is run are those of the call
 image_is : (c : In-Some) → c.loop-self.self-inside.image.now ≡ c.args.self.now.image
@@ -88,7 +88,7 @@ as_before c = ap experiment_of (sym (seen_is c c.args.self.now.state))
 pub returns-clause-record : goal.returns-clause-record
 returns-clause-record c =
     let now = c.loop-self.self-inside in
-    recorded_of now.image.now now.input.now now.setting now.run c.loop-self.invariant.0 (experiment_of c.args.self.now) (as_before c) c.in-Some.ending c.in-Some.is
+    recorded_of now.image.now now.input.now now.setting now.run c.loop-self.invariant.0 (experiment_of c.args.self.now) (as_before c) c.in-Some.ending (sym c.ending-2.ensures ∙ c.in-Some.is)
 
 pub returns-clause-shortened : goal.returns-clause-shortened
 returns-clause-shortened c =
@@ -98,7 +98,7 @@ returns-clause-shortened c =
 pub returns-clause-last : goal.returns-clause-last
 returns-clause-last c =
     let now = c.loop-self.self-inside in
-    last_of now.image.now now.input.now now.setting now.run c.loop-self.invariant.0 (experiment_of c.args.self.now) (as_before c) c.in-Some.ending c.in-Some.is
+    last_of now.image.now now.input.now now.setting now.run c.loop-self.invariant.0 (experiment_of c.args.self.now) (as_before c) c.in-Some.ending (sym c.ending-2.ensures ∙ c.in-Some.is)
 
 pub returns-clause-rest : goal.returns-clause-rest
 returns-clause-rest c = seen_is c _

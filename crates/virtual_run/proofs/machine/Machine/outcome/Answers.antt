@@ -3,7 +3,7 @@ use Rattle.machines.specs.Delayed.{Delayed}
 use Rattle.guest_calls.specs.Guest.{Guest}
 use Rattle.virtual_run.specs.Seen.{Seen}
 use Rattle.virtual_run.specs.DelayedRun.{outcome_of}
-use Rattle.virtual_run.proofs.CreditedRun.{outcome_some, outcome_none, none_seen, delay_in_time}
+use Rattle.virtual_run.proofs.CreditedRun.{outcome_some, outcome_none, outcome_small, none_seen, delay_in_time}
 use Rattle.virtual_run.proofs.machine.Machine.outcome.Goals as goal
 
 pub returns-in_err-ending-clause-outcome : goal.returns-in_err-ending-clause-outcome
@@ -27,3 +27,11 @@ pub returns-clause-in_time : goal.returns-clause-in_time
 returns-clause-in_time c =
     let m = c.self.inside in
     subst (λ (n : ℕ). n ≤ m.moment) (sym c.raised.ensures) (delay_in_time m.image.now m.input.now m.setting m.run m.credits m.moment c.self.invariant c.in_ok-ending.ending c.in_ok-ending.was)
+
+pub returns-in_err-ending-clause-small : goal.returns-in_err-ending-clause-small
+returns-in_err-ending-clause-small c = rw c.from_residual.ensures tt
+
+pub returns-clause-small : goal.returns-clause-small
+returns-clause-small c =
+    let m = c.self.inside in
+    outcome_small m.image.now m.input.now m.setting m.run m.credits m.moment c.self.invariant c.in_ok-ending.ending c.raised.result c.in_ok-ending.was

@@ -5,7 +5,7 @@ use Rattle.virtual_run.specs.Seen.{Seen}
 use Rattle.virtual_run.proofs.CreditedRun.{guest_now}
 use Rattle.virtual_run.proofs.machine.Machine.output.Goals as goal
 
-pub returns : goal.returns
-returns c =
+pub returns-clause-bytes : goal.returns-clause-bytes
+returns-clause-bytes c =
     let m = c.self.inside in
-    c.output.ensures ∙ sym (ap (λ (g : Guest). g.output) (guest_now m.image.now m.input.now m.setting m.run m.credits m.moment c.self.invariant)) ∙ ap (λ (v : Seen (Delayed Guest)). v.state.guest.output) c.self.view_is
+    c.output.ensures.bytes ∙ sym (ap (λ (g : Guest). g.output) (guest_now m.image.now m.input.now m.setting m.run m.credits m.moment c.self.invariant)) ∙ ap (λ (v : Seen (Delayed Guest)). v.state.guest.output) c.self.view_is

@@ -3,7 +3,7 @@ use Rattle.machines.specs.Delayed.{Delayed}
 use Rattle.guest_calls.specs.Guest.{Guest}
 use Rattle.virtual_run.specs.Seen.{Seen}
 use Rattle.virtual_run.proofs.Law.{none_is}
-use Rattle.virtual_run.proofs.CreditedRun.{ending_now, going_first, going_next, going_smaller, record_now, last_now, agrees_last, delayed_now, law_now, shortened_now}
+use Rattle.virtual_run.proofs.CreditedRun.{ending_now, going_first, going_next, going_smaller, record_now, last_now, agrees_last, delayed_now, law_now, moves_now, once_now, shortened_now}
 use Rattle.virtual_run.proofs.machine.Machine.run.Goals as goal
 
 pub loop-ending-init : goal.loop-ending-init
@@ -42,6 +42,12 @@ returns-clause-delayed c =
 pub returns-clause-law : goal.returns-clause-law
 returns-clause-law c =
     law_now c.args.self.now c.loop-ending.self c.loop-ending.invariant.0
+
+pub returns-clause-moves : goal.returns-clause-moves
+returns-clause-moves c = moves_now c.args.self.now c.loop-ending.self c.loop-ending.invariant.0
+
+pub returns-clause-one : goal.returns-clause-one
+returns-clause-one c = once_now c.args.self.now c.loop-ending.self c.loop-ending.invariant.0
 
 pub returns-clause-shortened : goal.returns-clause-shortened
 returns-clause-shortened c =

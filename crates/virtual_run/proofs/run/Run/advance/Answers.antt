@@ -1,4 +1,4 @@
-use Rattle.std.proofs.Common.{◌≡◌, ℕ, ◌+◌, ◌≤◌, List, ◌++◌, length, nat_le, Option, Some, None, Bool, refl, is_some, arith, ap, subst, sym, ◌∙◌}
+use Rattle.std.proofs.Common.{◌≡◌, ℕ, ◌+◌, ◌≤◌, ◌<◌, List, ◌++◌, length, nat_le, Option, Some, None, Bool, refl, is_some, arith, ap, subst, sym, ◌∙◌}
 use Rattle.coz_types.specs.declared.ending.Ending.{Ending}
 use Rattle.hart_schedule.specs.Keys.{Keys, key_of, without_key, IsLeast}
 use Rattle.machines.specs.declared.Fate.{Fate}
@@ -14,6 +14,7 @@ use Rattle.virtual_run.specs.Visits.{Visits, visits_of}
 use Rattle.virtual_run.specs.Begin.{started_by, many, AreIdle, AreBegun}
 use Rattle.virtual_run.specs.Ending.{ending_of, runs_after}
 use Rattle.virtual_run.specs.Run.{experiment_in, selects, ticks_in, state_of, IsStateOf, IsSteady, AreWithin}
+use Rattle.virtual_run.proofs.Keys.{has_place}
 use Rattle.virtual_run.proofs.Many.{many_few, many_without}
 use Rattle.virtual_run.proofs.Begin.{ticks_few, within_begun, within_left, within_later, left_again, left_runs}
 use Rattle.virtual_run.proofs.Law.{IsTurn, started_idle, none_own, none_is, some_is}
@@ -57,6 +58,9 @@ module _ (setting : Setting) (run : Run) (left : Keys) (h due delay : ℕ) (afte
   -- one hart less is due
   many_left : many run.schedule ≡ many left + 1
   many_left = many_without run.schedule h due l.turn ∙ ap (λ (keys : Keys). many keys + 1) (sym l.taken)
+
+pub keep_visit-requires-clause-hart : goal.keep_visit-requires-clause-hart
+keep_visit-requires-clause-hart c = subst (λ (n : ℕ). c.first_turn-turn.result.hart.0 < n) c.requires.steady.room (has_place c.args.self.now.schedule c.first_turn-turn.result.hart.0 c.first_turn-turn.result.due c.first_turn-turn.ensures.due)
 
 pub begin_started-requires-clause-idle : goal.begin_started-requires-clause-idle
 begin_started-requires-clause-idle c =
