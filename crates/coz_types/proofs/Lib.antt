@@ -1,0 +1,2 @@
+pub mod WrittenPaths
+pub mod Labels

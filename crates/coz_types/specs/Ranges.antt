@@ -1,0 +1,49 @@
+-- The ranges of what a profile says of one run.
+use Rattle.std.specs.Prelude.{◌≡◌, ◌≤◌, ℕ, Bool, ◌&&◌, nat_lt, nat_le, true, List, length}
+use Rattle.std.specs.List.{list_all}
+use Rattle.coz_types.specs.Labels.{is_label}
+use Rattle.coz_types.specs.declared.ending.Ending.{Ending}
+use Rattle.coz_types.specs.declared.ending.Ending.TheVariants.{Exited, Trapped, Unsupported, OutputFull, VisitsFull, Stalled, Spent}
+use Rattle.coz_types.specs.declared.record.Summary.{Summary}
+
+-- 10^17: times, and numbers of instructions, of starts and of bytes, are at most that
+abbrev pub most : ℕ
+most = 100000000000000000
+
+-- 10^9: counts of visits are at most that
+abbrev pub most_visits : ℕ
+most_visits = 1000000000
+
+-- 2^64 - 1
+abbrev pub last_word : ℕ
+last_word = 18446744073709551615
+
+-- a code of one byte, one of 256 harts, and words of 64 bits
+abbrev pub is_ending : Ending → Bool
+is_ending (Exited code) = nat_le code 255
+is_ending (Trapped trap) = nat_le trap.hart.0 255 && nat_le trap.pc last_word
+is_ending (Unsupported number) = nat_le number last_word
+is_ending OutputFull = true
+is_ending VisitsFull = true
+is_ending Stalled = true
+is_ending Spent = true
+
+-- 32 bytes
+pub record IsDigest (bytes : List ℕ) : Type 0 where
+  pub size : length bytes ≡ 32
+  pub bytes_fit : list_all (λ b. nat_lt b 256) bytes ≡ true
+
+-- a summary of a run with so many progress points
+pub record IsSummary (points : ℕ) (s : Summary) : Type 0 where
+  pub selected : is_label s.selected ≡ true
+  pub speedup : s.speedup ≤ 95
+  pub ending : is_ending s.outcome.ending ≡ true
+  pub time : s.outcome.time ≤ most
+  pub delay : s.outcome.delay ≤ s.outcome.time
+  pub retired : s.outcome.retired ≤ most
+  pub starts : s.outcome.starts ≤ most
+  pub size : s.length ≤ most
+  pub output : IsDigest s.output.bytes
+  pub visits : IsDigest s.visits.bytes
+  pub counts : length s.counts ≡ points
+  pub deltas : list_all (λ n. nat_le n most_visits) s.counts ≡ true
