@@ -1,5 +1,5 @@
 -- Sorted lists without repeats.
-use Rattle.std.proofs.Common.{◌≡◌, ℕ, ◌&&◌, Bool, true, false, List, [], Ordering, length, map, get_or, Contains, Any, All, ◌↔◌, ◌<◌, ◌==◌, nat_eq, refl, sym, ap, ◌∙◌, subst}
+use Rattle.std.proofs.Common.{◌≡◌, ℕ, ◌+◌, ◌&&◌, Bool, true, false, List, [], ◌∷◌, ◌++◌, take, Ordering, length, map, get_or, Contains, Any, All, ◌↔◌, ◌<◌, ◌==◌, nat_eq, refl, sym, ap, ap₂, ◌∙◌, subst}
 use Rattle.std.specs.Global.{Vec}
 use Rattle.std.specs.declared.cmp.Ordering.TheVariants.{Less, Equal, Greater}
 use Rattle.std.specs.Ordering.{nat_cmp, eq_by_cmp, is_eq}
@@ -13,9 +13,10 @@ use Rattle.std.proofs.lemmas.List.Kept.{IsStrictlySortedBy-dedup, Any-dedup, Con
 use Rattle.std.proofs.lemmas.List.Sorted.{Contains-permutation, IsPermutation-sym}
 use Rattle.std.specs.FinMap.{slice_cmp-IsAntisymmetric, nat_cmp-IsAntisymmetric}
 use Rattle.std.proofs.lemmas.Bool.{eqb-true}
-use Rattle.std.proofs.lemmas.List.{length-map, get_or-map}
+use Rattle.std.proofs.lemmas.List.{length-map, get_or-map, map-append, take_more}
 use Rattle.std.proofs.lemmas.List.Elements.{All-from_get_or, Contains-get_or}
-use Rattle.dwarf_lines.specs.Registers.{File}
+use Rattle.dwarf_lines.specs.declared.FileName.{FileName}
+use Rattle.dwarf_lines.specs.Registers.{File, file_view, files_view}
 use Rattle.line_index.specs.Lines.{path}
 use Rattle.line_index.proofs.Pieces.{Among, to_among, from_among, among_map, among_mapped}
 use Rattle.line_index.specs.declared.lines.Key.{Key}
@@ -94,3 +95,13 @@ paths_kept files xs ys e h =
     let one : Contains (map path files) (get_or (map path files) i []) = Contains-get_or (map path files) i [] within in
     let of_file : Contains (map path files) (path (get_or files i none)) = subst (Contains (map path files)) (get_or-map path files i none [] lt) one in
     text_kept xs ys h (path (get_or files i none)) (subst (λ ts. Contains ts (path (get_or files i none))) (sym e) of_file))
+
+-- one more path
+pub paths_more : (paths : List (Vec ℕ)) (written : Vec ℕ) (files : List FileName) (i : ℕ) (d : FileName) → i < length files → texts paths ≡ map path (files_view (take i files)) → written.items ≡ path (file_view (get_or files i d))
+    → texts (paths ++ written ∷ []) ≡ map path (files_view (take (i + 1) files))
+paths_more paths written files i d lt so_far is =
+    map-append (λ (text : Vec ℕ). text.items) paths (written ∷ [])
+    ∙ ap₂ (λ (ts : List (List ℕ)) (t : List ℕ). ts ++ t ∷ []) so_far is
+    ∙ sym (map-append path (files_view (take i files)) (file_view (get_or files i d) ∷ []))
+    ∙ ap (map path) (sym (map-append file_view (take i files) (get_or files i d ∷ [])))
+    ∙ ap (λ (fs : List FileName). map path (files_view fs)) (sym (take_more files i d lt))

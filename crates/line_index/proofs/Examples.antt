@@ -86,10 +86,19 @@ paths : map path (record { directory = 100 ∷ []; name = 47 ∷ 97 ∷ [] } ∷
 paths = refl
 
 -- a blank, a comma, a per cent sign and bytes above 126 are escaped
-escapes : label (record { path = 97 ∷ 32 ∷ 44 ∷ 37 ∷ 127 ∷ 255 ∷ 126 ∷ 33 ∷ []; number = 120 })
-    ≡ 97 ∷ 37 ∷ 50 ∷ 48 ∷ 37 ∷ 50 ∷ 67 ∷ 37 ∷ 50 ∷ 53 ∷ 37 ∷ 55 ∷ 70 ∷ 37 ∷ 70 ∷ 70 ∷ 126 ∷ 33 ∷ 58 ∷ 49 ∷ 50 ∷ 48 ∷ []
-unfolding digits
+escapes : path (record { directory = 97 ∷ 32 ∷ 44 ∷ []; name = 37 ∷ 127 ∷ 255 ∷ 126 ∷ 33 ∷ [] })
+    ≡ 97 ∷ 37 ∷ 50 ∷ 48 ∷ 37 ∷ 50 ∷ 67 ∷ 47 ∷ 37 ∷ 50 ∷ 53 ∷ 37 ∷ 55 ∷ 70 ∷ 37 ∷ 70 ∷ 70 ∷ 126 ∷ 33 ∷ []
 escapes = refl
+
+label_of_line : label (record { path = 97 ∷ 37 ∷ 50 ∷ 48 ∷ []; number = 120 }) ≡ 97 ∷ 37 ∷ 50 ∷ 48 ∷ 58 ∷ 49 ∷ 50 ∷ 48 ∷ []
+unfolding digits
+label_of_line = refl
+
+-- `a b.s` stands before `a!b.s`, and as they are written behind it
+in_written_order : lines_in (table (record { directory = []; name = 97 ∷ 33 ∷ 98 ∷ [] } ∷ record { directory = []; name = 97 ∷ 32 ∷ 98 ∷ [] } ∷ []) (row 0 0x10000 (Some 1) 1 ∷ row 0 0x10004 (Some 0) 1 ∷ last 0 0x10008 ∷ [])) (code ∷ [])
+    ≡ record { path = 97 ∷ 33 ∷ 98 ∷ []; number = 1 } ∷ record { path = 97 ∷ 37 ∷ 50 ∷ 48 ∷ 98 ∷ []; number = 1 } ∷ []
+unfolding lines_in line_of
+in_written_order = refl
 
 -- of the lines b/a:1, c/a:1, c/a:2 and ca:1
 abbrev some_lines : List Line

@@ -16,3 +16,7 @@ pub mod Ordered
 pub mod Bounds
 pub mod Listed
 pub mod Few
+pub mod Labelled
+pub mod WrittenFiles
+pub mod Kept
+pub mod Righted

@@ -17,7 +17,7 @@ use Rattle.coz_types.specs.declared.image.Area.{Area}
 use Rattle.dwarf_lines.specs.Registers.{Table}
 use Rattle.line_index.specs.Lines.{Line, line_of, line_cmp, is_line, Begins}
 use Rattle.line_index.specs.Index.{Index, AreEntries, IsIndex, position_at}
-use Rattle.line_index.specs.Listed.{in_order, bounds, lines_in, is_same, begins, entries_in, position_in}
+use Rattle.line_index.specs.Listed.{in_order, bounds, lines_in, is_same, begins, entries_in, position_in, IsListed}
 use Rattle.line_index.proofs.Pieces.{Among, to_among, from_among, in_front, in_rest}
 use Rattle.line_index.proofs.Beginnings.{both_parts, parts_both}
 use Rattle.line_index.proofs.Order.{one_place}
@@ -225,3 +225,6 @@ positions_are {table = table} {areas = areas} {index = index} i a =
 -- the same as functions
 pub position_is : {table : Table} {areas : List Area} {index : Index} → IsIndex table areas index → position_at index ≡ position_in table areas
 position_is i = fun_ext (λ a. positions_are i a)
+
+pub is_listed : {table : Table} {areas : List Area} {index : Index} → IsIndex table areas index → IsListed table areas index
+is_listed i = record { lines = lines_are i; entries = entries_are i; positions = positions_are i }

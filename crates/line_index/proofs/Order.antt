@@ -45,7 +45,7 @@ search_finds {R = R} o xs x (Err i) up found k lt e =
 
 -- ---- lines by their keys
 
-all_map : {X Y : Type 0} (P : Y → Type 0) (f : X → Y) (xs : List X) → AllByRecursion (λ x. P (f x)) xs → AllByRecursion P (map f xs)
+pub all_map : {X Y : Type 0} (P : Y → Type 0) (f : X → Y) (xs : List X) → AllByRecursion (λ x. P (f x)) xs → AllByRecursion P (map f xs)
 all_map P f [] h = tt
 all_map P f (x ∷ xs) h = (h.0, all_map P f xs h.1)
 

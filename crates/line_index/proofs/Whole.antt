@@ -176,7 +176,7 @@ key_within : (paths : List (List ℕ)) (positions : List (Option ℕ)) (files : 
 key_within paths positions files None key e is = let no : ⊥ = cc in absurd no
 key_within paths positions files (Some row) key e is = row_within paths positions files row.line (row.line == 0) row.file key e is
 
-all_among : {X : Type 0} (P : X → Type 0) (xs : List X) → ((x : X) → Among x xs → P x) → AllByRecursion P xs
+pub all_among : {X : Type 0} (P : X → Type 0) (xs : List X) → ((x : X) → Among x xs → P x) → AllByRecursion P xs
 all_among P [] h = tt
 all_among P (x ∷ xs) h = (h x (inl refl), all_among P xs (λ y m. h y (inr m)))
 
@@ -259,7 +259,7 @@ are_entries table areas lines changes k l tells up rise at = record {
   );
 }
 
-has_path : (table : Table) (areas : List Area) (paths : List (List ℕ)) (positions : List (Option ℕ)) (keys : List Key) (changes lines : List Change) (key : Key) → Built table.files table.rows areas paths positions keys changes lines
+pub has_path : (table : Table) (areas : List Area) (paths : List (List ℕ)) (positions : List (Option ℕ)) (keys : List Key) (changes lines : List Change) (key : Key) → Built table.files table.rows areas paths positions keys changes lines
     → Among key keys → HasPath paths key
 has_path table areas paths positions keys changes lines key built h =
     let found = found_key table areas paths positions keys changes lines key built h in

@@ -1,5 +1,5 @@
 -- Lines by the position of their path, and the positions of lines.
-use Rattle.std.specs.Prelude.{◌≡◌, ℕ, ◌<◌, Bool, false, not, ◌&&◌, length, List, [], ◌∷◌, ◌++◌, map, slice_get, slice_set, get_or, Option, Some, None, option_map, option_and_then, ◌==◌, if◌then◌else◌, IfSome}
+use Rattle.std.specs.Prelude.{◌≡◌, ℕ, ◌<◌, ◌^◌, Bool, false, not, ◌&&◌, length, List, [], ◌∷◌, ◌++◌, map, slice_get, slice_set, get_or, Option, Some, None, option_map, option_and_then, ◌==◌, if◌then◌else◌, IfSome}
 use Rattle.std.specs.List.{filter_map}
 use Rattle.std.specs.declared.cmp.Ordering.{Ordering}
 use Rattle.std.specs.Ordering.{nat_cmp, ordering_then}
@@ -25,6 +25,10 @@ path_place paths position = option_map (slice_get (texts paths)) position
 
 abbrev pub key_cmp : Key → Key → Ordering
 key_cmp k m = ordering_then (nat_cmp k.path m.path) (nat_cmp k.number m.number)
+
+-- its number is one of a label
+abbrev pub IsNumbered : Key → Type 0
+IsNumbered key = (0 < key.number) × (key.number < 2 ^ 32)
 
 abbrev pub with_path : ℕ → ℕ → Key
 with_path number path = record { path = path; number = number }

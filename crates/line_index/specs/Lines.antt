@@ -1,10 +1,11 @@
 -- The line of an address, and how lines are written, ordered and found.
-use Rattle.std.specs.Prelude.{◌≡◌, ℕ, suc, ◌+◌, ◌-◌, ◌/◌, ◌%◌, ◌≢◌, Bool, false, ◌&&◌, ◌||◌, List, [], ◌∷◌, ◌++◌, length, drop, slice_get, Option, Some, None, option_map, option_and_then, find, position, decimal, nat_lt, nat_le, ◌==◌, if◌then◌else◌, bytes_eq}
-use Rattle.std.specs.List.{list_any, flat_map}
+use Rattle.std.specs.Prelude.{◌≡◌, ℕ, suc, ◌+◌, ◌-◌, ◌<◌, ◌^◌, ◌≢◌, Bool, false, ◌&&◌, ◌||◌, List, [], ◌∷◌, ◌++◌, length, drop, slice_get, Option, Some, None, option_map, option_and_then, find, position, true, nat_lt, nat_le, ◌==◌, if◌then◌else◌, bytes_eq}
+use Rattle.std.specs.List.{list_any}
 use Rattle.std.specs.declared.cmp.Ordering.{Ordering}
 use Rattle.std.specs.Ordering.{nat_cmp, ordering_then}
 use Rattle.std.specs.Cmp.Lexicographic.{slice_cmp}
 use Rattle.coz_types.specs.declared.image.Area.{Area}
+use Rattle.coz_types.specs.Labels.{is_empty, written, is_written, label_of}
 use Rattle.dwarf_lines.specs.declared.Row.{Row}
 use Rattle.dwarf_lines.specs.Registers.{File, Table}
 use Rattle.line_index.specs.Changes.{or_else}
@@ -14,17 +15,18 @@ pub record Line : Type 0 where
   pub path : List ℕ
   pub number : ℕ
 
-abbrev pub is_empty : List ℕ → Bool
-is_empty text = length text == 0
-
 -- it begins with a slash
 abbrev pub is_rooted : List ℕ → Bool
 is_rooted [] = false
 is_rooted (b ∷ bs) = b == 47
 
+-- its name, behind its directory and a slash where it has one and doesn't begin at the root itself
+abbrev pub joined : File → List ℕ
+joined file = if is_empty file.directory || is_rooted file.name then file.name else file.directory ++ 47 ∷ file.name
+
 -- the written path of a file
 abbrev pub path : File → List ℕ
-path file = if is_empty file.directory || is_rooted file.name then file.name else file.directory ++ 47 ∷ file.name
+path file = written (joined file)
 
 -- a file whose written path is empty counts as no entry
 abbrev pub entry_path : File → Option (List ℕ)
@@ -66,18 +68,16 @@ Begins table areas line a = (line_of table areas a ≡ Some line) × ((b : ℕ) 
 
 -- ---- labels
 
-abbrev pub hex_digit : ℕ → ℕ
-hex_digit n = if nat_lt n 10 then 48 + n else 55 + n
-
-abbrev pub is_escaped : ℕ → Bool
-is_escaped b = nat_lt b 0x21 || (nat_lt 0x7E b || (b == 37 || b == 44))
-
-abbrev pub escaped : ℕ → List ℕ
-escaped b = if is_escaped b then 37 ∷ hex_digit (b / 16) ∷ hex_digit (b % 16) ∷ [] else b ∷ []
-
--- the escaped path, a colon and the number
+-- the written path, a colon and the number
 abbrev pub label : Line → List ℕ
-label line = flat_map escaped line.path ++ 58 ∷ decimal line.number
+label line = label_of line.path line.number
+
+-- its label is a right one
+pub record IsRight (line : Line) : Type 0 where
+  pub named : is_empty line.path ≡ false
+  pub written : is_written line.path ≡ true
+  pub positive : 0 < line.number
+  pub small : line.number < 2 ^ 32
 
 -- ---- order and search
 

@@ -1,5 +1,5 @@
 -- The lines of a table, where each begins and which one an address has, as functions.
-use Rattle.std.specs.Prelude.{ℕ, zero, suc, Bool, false, not, ◌&&◌, List, [], ◌∷◌, ◌++◌, map, filter, Option, Some, None, option_and_then, position}
+use Rattle.std.specs.Prelude.{◌≡◌, ℕ, zero, suc, Bool, false, not, ◌&&◌, List, [], ◌∷◌, ◌++◌, map, filter, Option, Some, None, option_and_then, position}
 use Rattle.std.specs.List.{filter_map}
 use Rattle.std.specs.declared.cmp.Ordering.{Ordering}
 use Rattle.std.specs.Ordering.{nat_cmp}
@@ -8,6 +8,7 @@ use Rattle.coz_types.specs.declared.image.Area.{Area}
 use Rattle.dwarf_lines.specs.declared.Row.{Row}
 use Rattle.dwarf_lines.specs.Registers.{Table}
 use Rattle.line_index.specs.Lines.{Line, line_of, line_cmp, is_line}
+use Rattle.line_index.specs.Index.{Index, position_at}
 
 -- a list in order with one more element, unless it is there
 abbrev pub placed : {K : Type 0} → (K → K → Ordering) → K → List K → List K
@@ -43,3 +44,9 @@ entries_in table areas line = filter (begins table areas line) (in_order nat_cmp
 -- the position of the line of an address, if it has one
 unfoldable pub position_in : Table → List Area → ℕ → Option ℕ
 position_in table areas a = option_and_then (λ line. position (is_line line.path line.number) (lines_in table areas)) (line_of table areas a)
+
+-- the index holds what these give
+pub record IsListed (table : Table) (areas : List Area) (index : Index) : Type 0 where
+  pub lines : index.lines ≡ lines_in table areas
+  pub entries : index.entries ≡ map (entries_in table areas) (lines_in table areas)
+  pub positions : (a : ℕ) → position_at index a ≡ position_in table areas a

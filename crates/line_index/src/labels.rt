@@ -1,7 +1,8 @@
-//! How lines are written.
+//! The labels of lines.
 
-ghost use Rattle.std.specs.Prelude.{◌≡◌, ◌++◌, ◌<◌, OnOk, IfOk, map, ℕ, List};
-ghost use Rattle.line_index.specs.Lines.{hex_digit, is_escaped, escaped, label};
+ghost use Rattle.std.specs.Prelude.{◌≡◌, IfOk, map};
+ghost use Rattle.coz_types.specs.Labels.{label_of};
+ghost use Rattle.line_index.specs.Lines.{label};
 ghost use Rattle.line_index.specs.Keys.{texts};
 ghost use Rattle.line_index.specs.Index.{line_at};
 ghost use Rattle.line_index.specs.declared.lines.Key.{Key};
@@ -11,46 +12,11 @@ use coz_types::Label;
 use itoa::Buffer;
 use std::alloc::{AllocError, Global};
 
-/// A hexadecimal digit in upper case.
-fn hex_digit(digit: u8) -> u8
-    requires { digit < 16 }
-    ensures { result ≡ hex_digit digit }
-{
-    if digit < 10 {
-        b'0' + digit
-    } else {
-        b'A' + (digit - 10)
-    }
-}
-
-/// A byte that can't stand for itself in a list of labels.
-fn is_escaped(byte: u8) -> bool
-    ensures { result ≡ is_escaped byte }
-{
-    byte < 0x21 || 0x7E < byte || byte == b'%' || byte == b','
-}
-
-fn push_escaped(text: &mut Vec<u8>, byte: u8) -> Result<(), AllocError>
-    ensures { OnOk result (text.new.items ≡ text.old.items ++ escaped byte) }
-{
-    if is_escaped(byte) {
-        text.push(b'%')?;
-        text.push(hex_digit(byte / 16))?;
-        text.push(hex_digit(byte % 16))?;
-    } else {
-        text.push(byte)?;
-    }
-    Ok(())
-}
-
-/// The escaped path, a colon and the number.
+/// A written path, a colon and a number.
 fn label(alloc: Global, path: &[u8], number: u32) -> Result<Label, AllocError>
-    ensures { IfOk result (λ written. written ≡ label (record { path = path.now; number = number })) }
+    ensures { IfOk result (λ text. text ≡ label_of path.now number) }
 {
-    let mut text = Vec::new(alloc);
-    for byte in path {
-        push_escaped(&mut text, *byte)?;
-    }
+    let mut text = Vec::from_slice(alloc, path)?;
     text.push(b':')?;
     let mut digits = Buffer::new();
     text.extend_from_slice(digits.format(number).as_bytes())?;

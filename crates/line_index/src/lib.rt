@@ -1,4 +1,5 @@
-//! The lines of a program, by address and by name.
+//! The lines of a program, by address and by name. A line is a written path and a number: its path
+//! is escaped as in labels, and so it is ordered and looked for.
 #![tactic(auto)]
 
 mod changes;
@@ -8,11 +9,14 @@ mod labels;
 mod lines;
 mod paths;
 mod spans;
+mod written;
 
-ghost use Rattle.std.specs.Prelude.{◌≡◌, ◌≤◌, ◌<◌, length, IfOk, Some, option_map, map, slice_get};
+ghost use Rattle.std.specs.Prelude.{◌≡◌, ◌≤◌, ◌<◌, ℕ, true, length, IfOk, Some, option_map, map, slice_get};
+ghost use Rattle.coz_types.specs.Labels.{Text, is_label, label_before};
 ghost use Rattle.dwarf_lines.specs.Registers.{view};
 ghost use Rattle.line_index.specs.Lines.{label, found};
 ghost use Rattle.line_index.specs.Index.{Index, IsIndex, position_at};
+ghost use Rattle.line_index.specs.Listed.{IsListed};
 
 use crate::changes::Change;
 use crate::entries::entries;
@@ -70,15 +74,17 @@ impl LineIndex {
         &self.entries[line.0 as usize]
     }
 
-    /// How the line is written: its escaped path, a colon and its number.
+    /// How the line is written: its path, a colon and its number. Labels rise with the lines.
     pub fn label(&self, line: LineId) -> &Label
         requires { line.0 < length self.now.lines }
-        ensures { slice_get (map label self.now.lines) line.0 ≡ Some result.now }
+        ensures label { slice_get (map label self.now.lines) line.0 ≡ Some result.now }
+        ensures right { is_label result.now ≡ true }
+        ensures rises { (earlier : ℕ) (other : Text) → earlier < line.0 → slice_get (map label self.now.lines) earlier ≡ Some other → label_before other result.now ≡ true }
     {
         &self.labels[line.0 as usize]
     }
 
-    /// The line of this path and number, else the first whose path ends with a slash and the text.
+    /// The line of this written path and number, else the first whose path ends with a slash and the text.
     pub fn find(&self, path: &[u8], number: u32) -> Option<LineId>
         ensures { result ≡ option_map (λ k. record { 0 = k }) (found path.now number self.now.lines) }
     {
@@ -90,7 +96,8 @@ impl LineIndex {
 pub fn build(alloc: Global, table: &LineTable, image: &Image) -> Result<LineIndex, AllocError>
     requires few_rows { length table.now.rows ≤ 33554432 }
     requires few_files { length table.now.files ≤ 33554432 }
-    ensures { IfOk result (λ index. IsIndex (view table.now) image.now.areas index) }
+    ensures index { IfOk result (λ index. IsIndex (view table.now) image.now.areas index) }
+    ensures listed { IfOk result (λ index. IsListed (view table.now) image.now.areas index) }
 {
     let rows = table.rows.as_slice();
     let files = table.files.as_slice();

@@ -1,13 +1,13 @@
 //! The lines that a program has, in order, and from which address on it has which.
 
-ghost use Rattle.std.specs.Prelude.{◌≡◌, ◌+◌, ◌≤◌, ◌<◌, ◌^◌, ◌↔◌, ℕ, [], ◌∷◌, ◌++◌, length, map, option_map, slice_get, Some, IfOk, OnOk, All, Contains};
+ghost use Rattle.std.specs.Prelude.{◌≡◌, ◌+◌, ◌≤◌, ◌<◌, ◌^◌, ◌↔◌, ℕ, [], ◌∷◌, ◌++◌, length, map, option_map, slice_get, Some, IfOk, IfSome, OnOk, All, Contains};
 ghost use Rattle.std.specs.List.{cons_option};
 ghost use Rattle.std.specs.Option.{ForSome};
 ghost use Rattle.std.specs.List.Sorted.{IsStrictlySortedBy};
 ghost use Rattle.line_index.specs.declared.changes.Change.{Change};
 ghost use Rattle.line_index.specs.declared.lines.Key.{Key};
 ghost use Rattle.line_index.specs.Changes.{IsRising};
-ghost use Rattle.line_index.specs.Keys.{key_cmp, row_key, key_at, change_keys, key_change, line_change};
+ghost use Rattle.line_index.specs.Keys.{IsNumbered, key_cmp, row_key, key_at, change_keys, key_change, line_change};
 
 use crate::changes::Change;
 use dwarf_lines::Row;
@@ -22,7 +22,8 @@ pub struct Key {
 
 /// The line of a row, where these are the positions of the files' paths.
 fn row_key(positions: &[Option<u32>], row: &Row) -> Option<Key>
-    ensures { result ≡ row_key positions.now row.now }
+    ensures key { result ≡ row_key positions.now row.now }
+    ensures numbered { IfSome result IsNumbered }
 {
     if row.line == 0 {
         return None;
@@ -38,7 +39,8 @@ fn row_key(positions: &[Option<u32>], row: &Row) -> Option<Key>
 
 /// The line of the row at a position.
 fn key_at(rows: &[Row], positions: &[Option<u32>], place: Option<u32>) -> Option<Key>
-    ensures { result ≡ key_at rows.now positions.now place }
+    ensures key { result ≡ key_at rows.now positions.now place }
+    ensures numbered { IfSome result IsNumbered }
 {
     let place = place?;
     let row = rows.get(place as usize)?;
@@ -66,6 +68,7 @@ fn change_keys(
     changes: &[Change],
 ) -> Result<Vec<Key>, AllocError>
     ensures keys { IfOk result (λ keys. keys.items ≡ change_keys rows.now positions.now changes.now) }
+    ensures numbered { IfOk result (λ keys. All IsNumbered keys.items) }
     ensures few { IfOk result (λ keys. length keys.items ≤ length changes.now) }
 {
     let mut keys = Vec::new(alloc);
@@ -84,6 +87,7 @@ pub fn sorted_keys(
 ) -> Result<Vec<Key>, AllocError>
     ensures in_order { IfOk result (λ keys. IsStrictlySortedBy key_cmp keys.items) }
     ensures each { IfOk result (λ keys. (key : Key) → Contains keys.items key ↔ Contains (change_keys rows.now positions.now changes.now) key) }
+    ensures numbered { IfOk result (λ keys. All IsNumbered keys.items) }
     ensures few { IfOk result (λ keys. length keys.items ≤ length changes.now) }
 {
     let mut keys = change_keys(alloc, rows, positions, changes)?;

@@ -1,11 +1,14 @@
 //! The written paths of files.
 
-ghost use Rattle.std.specs.Prelude.{◌≡◌, ◌+◌, ◌≤◌, ◌<◌, ◌^◌, ℕ, length, map, option_map, Some, IfOk, All, Contains};
+ghost use Rattle.std.specs.Prelude.{◌≡◌, ◌+◌, ◌≤◌, ◌<◌, ◌^◌, ℕ, true, length, map, option_map, Some, IfOk, All, Contains};
+ghost use Rattle.std.specs.Global.{Vec};
 ghost use Rattle.std.specs.List.Sorted.{IsStrictlySortedBy};
+ghost use Rattle.coz_types.specs.Labels.{is_written};
 ghost use Rattle.dwarf_lines.specs.Registers.{File, file_view, files_view};
 ghost use Rattle.line_index.specs.Lines.{path, is_rooted, entry_path};
 ghost use Rattle.line_index.specs.Keys.{texts, path_cmp, path_place};
 
+use crate::written::write_escaped;
 use dwarf_lines::FileName;
 use std::alloc::{AllocError, Global};
 
@@ -20,21 +23,23 @@ fn is_rooted(name: &[u8]) -> bool
 }
 
 /// The name of a file, and in front of it its directory and a slash, where it has one and doesn't
-/// begin at the root itself.
+/// begin at the root itself; as it is written in labels.
 fn written_path(alloc: Global, file: &FileName) -> Result<Vec<u8>, AllocError>
-    ensures { IfOk result (λ written. written.items ≡ path (file_view file.now)) }
+    ensures path { IfOk result (λ text. text.items ≡ path (file_view file.now)) }
+    ensures right { IfOk result (λ text. is_written text.items ≡ true) }
 {
-    let mut written = Vec::new(alloc);
+    let mut text = Vec::new(alloc);
     if !file.directory.is_empty() && !is_rooted(file.name) {
-        written.extend_from_slice(file.directory)?;
-        written.push(b'/')?;
+        write_escaped(&mut text, file.directory)?;
+        text.push(b'/')?;
     }
-    written.extend_from_slice(file.name)?;
-    Ok(written)
+    write_escaped(&mut text, file.name)?;
+    Ok(text)
 }
 
 fn written_paths(alloc: Global, files: &[FileName]) -> Result<Vec<Vec<u8>>, AllocError>
-    ensures { IfOk result (λ paths. texts paths.items ≡ map path (files_view files.now)) }
+    ensures paths { IfOk result (λ paths. texts paths.items ≡ map path (files_view files.now)) }
+    ensures right { IfOk result (λ paths. All (λ (path : Vec ℕ). is_written path.items ≡ true) paths.items) }
 {
     let mut paths = Vec::with_capacity(alloc, files.len())?;
     for file in files {
@@ -47,6 +52,7 @@ fn written_paths(alloc: Global, files: &[FileName]) -> Result<Vec<Vec<u8>>, Allo
 pub fn sorted_paths(alloc: Global, files: &[FileName]) -> Result<Vec<Vec<u8>>, AllocError>
     ensures in_order { IfOk result (λ paths. IsStrictlySortedBy path_cmp paths.items) }
     ensures each { IfOk result (λ paths. All (λ (file : File). Contains (texts paths.items) (path file)) (files_view files.now)) }
+    ensures right { IfOk result (λ paths. All (λ (path : Vec ℕ). is_written path.items ≡ true) paths.items) }
     ensures few { IfOk result (λ paths. length paths.items ≤ length files.now) }
 {
     let mut paths = written_paths(alloc, files)?;

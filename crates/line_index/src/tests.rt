@@ -130,7 +130,7 @@ fn two_entries_with_one_path_are_one_file(rt: HostRuntime) -> Result<(), Fail> {
         (0x11000, None),
     ];
     assert!(rt; are_lines(&index, &lines));
-    assert_eq!(rt; index.find(b"a, b%.s", 7), Some(LineId(1)));
+    assert_eq!(rt; index.find(b"a%2C%20b%25.s", 7), Some(LineId(1)));
     assert_eq!(rt; index.count(), 2);
     assert_eq!(rt;
         index.label(LineId(1)).bytes(),
@@ -198,20 +198,27 @@ fn a_whole_path_is_found_before_an_ending(rt: HostRuntime) -> Result<(), Fail> {
 
 #[test]
 fn labels_are_escaped_and_in_order(rt: HostRuntime) -> Result<(), Fail> {
-    let files = [file(b" %,\x7F~!\xFF"), file(b"b")];
+    let files = [file(b" %,\x7F~!\xFF"), file(b"a b.s"), file(b"a!b.s")];
     let rows = [
         row(0, 0x10000, 1, 1),
         row(0, 0x10004, 0, 10),
         row(0, 0x10008, 0, 9),
-        row(0, 0x1000C, 0, 1),
+        row(0, 0x1000C, 2, 1),
+        row(0, 0x10010, 0, 1),
     ];
     let index = index_of(rt.alloc(), &files, &rows)?;
     let labels = [
         b"%20%25%2C%7F~!%FF:9".as_slice(),
         b"%20%25%2C%7F~!%FF:10",
-        b"b:1",
+        b"a!b.s:1",
+        b"a%20b.s:1",
     ];
-    assert_eq!(rt; index.count(), 3);
+    let names = [
+        (b"a%20b.s".as_slice(), 1, Some(LineId(3))),
+        (b"a b.s".as_slice(), 1, None),
+    ];
+    assert!(rt; are_found(&index, &names));
+    assert_eq!(rt; index.count(), 4);
     for (place, label) in labels.iter().enumerate() {
         assert_eq!(rt; index.label(LineId(place as u32)).bytes(), *label);
     }

@@ -1,4 +1,4 @@
-use Rattle.std.proofs.Common.{◌≡◌, ◌≤◌, ℕ, List, length, All, Contains, sym, ap, ◌∙◌, subst, arith}
+use Rattle.std.proofs.Common.{◌≡◌, ◌≤◌, ℕ, List, map, length, All, Contains, sym, ap, ◌∙◌, subst, arith}
 use Rattle.std.specs.Global.{Vec}
 use Rattle.coz_types.specs.declared.image.Area.{Area}
 use Rattle.dwarf_lines.specs.Registers.{File, files_view, view}
@@ -8,7 +8,10 @@ use Rattle.line_index.specs.Lines.{path}
 use Rattle.line_index.specs.Keys.{texts, change_keys, IsBelow}
 use Rattle.line_index.proofs.Areas.{few_areas}
 use Rattle.line_index.proofs.Found.{all_below}
-use Rattle.line_index.proofs.Whole.{is_index}
+use Rattle.line_index.specs.Index.{IsIndex, line_at}
+use Rattle.line_index.proofs.Whole.{Built, is_index}
+use Rattle.line_index.proofs.Righted.{have_paths, right_lines}
+use Rattle.line_index.proofs.Listed.{is_listed}
 use Rattle.line_index.proofs.Building.{is_built, are_starts_of, labels_are, entries_many, rise_of}
 use Rattle.line_index.proofs.build.Goals as goal
 
@@ -42,6 +45,11 @@ entries-requires c =
     let below = all_below c.as_slice-rows.result.now c.deref-4.result.now c.deref-5.result.now c.deref-6.result.now c.in_ok-changes.changes.items c.in_ok-changes.ensures in
     subst (λ n. All (IsBelow n) c.deref-7.result.now) count (subst (λ (changes : List Change). All (IsBelow (length c.deref-5.result.now)) changes) (sym c.deref-7.ensures.value) below)
 
+built : (c : goal.In_ok-labels) → Built (view c.args.table.now).files (view c.args.table.now).rows c.args.image.now.areas (texts c.in_ok-paths.paths.items) c.in_ok-positions.positions.items c.in_ok-lines.lines.items c.in_ok-covering.covering.items c.in_ok-changes.changes.items
+built c = is_built (view c.args.table.now) c.args.image.now.areas c.areas.result.now c.as_slice-rows.result.now (files_view c.as_slice-files.result.now) c.in_ok-paths.paths.items c.deref.result.now c.in_ok-positions.positions.items c.deref-2.result.now c.deref-4.result.now c.in_ok-lines.lines.items c.deref-5.result.now c.in_ok-covering.covering.items c.deref-3.result.now c.deref-6.result.now c.in_ok-changes.changes.items
+    c.areas.ensures.areas c.as_slice-rows.ensures (ap files_view c.as_slice-files.ensures) c.deref.ensures.value c.deref-2.ensures.value c.deref-4.ensures.value c.deref-5.ensures.value c.deref-3.ensures.value c.deref-6.ensures.value
+    c.in_ok-paths.ensures.in_order c.in_ok-positions.ensures c.in_ok-covering.ensures.values c.in_ok-covering.ensures.rises c.in_ok-lines.ensures.in_order c.in_ok-lines.ensures.each c.in_ok-changes.ensures
+
 pub invariant_of-result : goal.invariant_of-result
 invariant_of-result c =
     let covering : length c.deref-3.result.now ≡ length c.in_ok-covering.covering.items = ap length c.deref-3.ensures.value in
@@ -49,15 +57,22 @@ invariant_of-result c =
     let rows : length c.as_slice-rows.result.now ≡ length c.args.table.now.rows = ap length c.as_slice-rows.ensures in
     record {
       few = omega (arith, c.in_ok-lines.ensures.few, c.in_ok-covering.ensures.few, c.requires.few_rows);
+      paths_rise = c.in_ok-paths.ensures.in_order;
+      keys_rise = c.in_ok-lines.ensures.in_order;
+      paths = have_paths (view c.args.table.now) c.args.image.now.areas c.in_ok-paths.paths.items c.in_ok-positions.positions.items c.in_ok-lines.lines.items c.in_ok-covering.covering.items c.in_ok-changes.changes.items (built c);
+      right = right_lines (view c.args.table.now) c.args.image.now.areas c.in_ok-paths.paths.items c.in_ok-positions.positions.items c.in_ok-lines.lines.items c.in_ok-covering.covering.items c.in_ok-changes.changes.items (built c) c.in_ok-paths.ensures.right c.in_ok-lines.ensures.numbered;
       labels = labels_are c.in_ok-labels.labels.items c.deref-8.result.now c.in_ok-paths.paths.items c.deref-9.result.now c.in_ok-lines.lines.items c.deref-8.ensures.value c.deref-9.ensures.value c.in_ok-labels.ensures;
       as_many = entries_many c.in_ok-entries.entries.items c.deref-7.result.now c.len.result (length c.in_ok-lines.lines.items) (c.len.ensures ∙ c.in_ok-lines.lines.ok.0) c.in_ok-entries.ensures;
       rising = rise_of c.as_slice-rows.result.now c.deref-4.result.now c.deref-5.result.now c.deref-6.result.now c.in_ok-covering.covering.items c.in_ok-changes.changes.items c.deref-6.ensures.value c.in_ok-covering.ensures.rises c.in_ok-changes.ensures;
     }
 
-pub returns : goal.returns
-returns c =
-    let built = is_built (view c.args.table.now) c.args.image.now.areas c.areas.result.now c.as_slice-rows.result.now (files_view c.as_slice-files.result.now) c.in_ok-paths.paths.items c.deref.result.now c.in_ok-positions.positions.items c.deref-2.result.now c.deref-4.result.now c.in_ok-lines.lines.items c.deref-5.result.now c.in_ok-covering.covering.items c.deref-3.result.now c.deref-6.result.now c.in_ok-changes.changes.items
-    c.areas.ensures.areas c.as_slice-rows.ensures (ap files_view c.as_slice-files.ensures) c.deref.ensures.value c.deref-2.ensures.value c.deref-4.ensures.value c.deref-5.ensures.value c.deref-3.ensures.value c.deref-6.ensures.value
-    c.in_ok-paths.ensures.in_order c.in_ok-positions.ensures c.in_ok-covering.ensures.values c.in_ok-covering.ensures.rises c.in_ok-lines.ensures.in_order c.in_ok-lines.ensures.each c.in_ok-changes.ensures in
-    is_index (view c.args.table.now) c.args.image.now.areas (texts c.in_ok-paths.paths.items) c.in_ok-positions.positions.items c.in_ok-lines.lines.items c.in_ok-covering.covering.items c.in_ok-changes.changes.items (texts c.in_ok-entries.entries.items) built
+the_index : (c : goal.In_ok-labels) → IsIndex (view c.args.table.now) c.args.image.now.areas (record { lines = map (line_at (texts c.in_ok-paths.paths.items)) c.in_ok-lines.lines.items; entries = texts c.in_ok-entries.entries.items; changes = c.in_ok-changes.changes.items })
+the_index c =
+    is_index (view c.args.table.now) c.args.image.now.areas (texts c.in_ok-paths.paths.items) c.in_ok-positions.positions.items c.in_ok-lines.lines.items c.in_ok-covering.covering.items c.in_ok-changes.changes.items (texts c.in_ok-entries.entries.items) (built c)
     (are_starts_of c.len.result (length c.in_ok-lines.lines.items) c.deref-7.result.now c.in_ok-changes.changes.items (texts c.in_ok-entries.entries.items) (c.len.ensures ∙ c.in_ok-lines.lines.ok.0) c.deref-7.ensures.value c.in_ok-entries.ensures)
+
+pub returns-clause-index : goal.returns-clause-index
+returns-clause-index c = the_index c.before.before
+
+pub returns-clause-listed : goal.returns-clause-listed
+returns-clause-listed c = is_listed (the_index c.before.before)

@@ -1,0 +1,49 @@
+//! Paths as they are written in labels.
+
+ghost use Rattle.std.specs.Prelude.{◌≡◌, ◌++◌, ◌<◌, ℕ, OnOk, All};
+ghost use Rattle.coz_types.specs.Labels.{hex_digit, is_escaped, escaped, written};
+
+use std::alloc::AllocError;
+
+/// A hexadecimal digit in upper case.
+fn hex_digit(digit: u8) -> u8
+    requires { digit < 16 }
+    ensures { result ≡ hex_digit digit }
+{
+    if digit < 10 {
+        b'0' + digit
+    } else {
+        b'A' + (digit - 10)
+    }
+}
+
+/// A byte that can't stand for itself in a list of labels.
+fn is_escaped(byte: u8) -> bool
+    ensures { result ≡ is_escaped byte }
+{
+    byte < 0x21 || 0x7E < byte || byte == b'%' || byte == b','
+}
+
+fn push_escaped(text: &mut Vec<u8>, byte: u8) -> Result<(), AllocError>
+    ensures { OnOk result (text.new.items ≡ text.old.items ++ escaped byte) }
+{
+    if is_escaped(byte) {
+        text.push(b'%')?;
+        text.push(hex_digit(byte / 16))?;
+        text.push(hex_digit(byte % 16))?;
+    } else {
+        text.push(byte)?;
+    }
+    Ok(())
+}
+
+/// The bytes of a part of a path, as they are written.
+pub fn write_escaped(text: &mut Vec<u8>, bytes: &[u8]) -> Result<(), AllocError>
+    ensures text { OnOk result (text.new.items ≡ text.old.items ++ written bytes.now) }
+    ensures bytes { All (λ (byte : ℕ). byte < 256) bytes.now }
+{
+    for byte in bytes {
+        push_escaped(text, *byte)?;
+    }
+    Ok(())
+}
