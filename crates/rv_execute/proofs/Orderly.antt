@@ -1,5 +1,5 @@
 -- Every instruction is orderly.
-use Rattle.std.proofs.Common.{ℕ, ◌≡◌, Bool, true, false, if◌then◌else◌, ◌*◌, ◌/◌, ◌%◌, ◌==◌, eqb, Option, Some, None, refl, ⊎_elim, get_or-set_other, slice_index, sym}
+use Rattle.std.proofs.Common.{ℕ, ◌≡◌, Bool, true, false, if◌then◌else◌, ◌*◌, ◌/◌, ◌%◌, ◌==◌, eqb, Option, Some, None, refl, ⊎_elim, get_or-set_other, slice_index, sym, subst, ap, ◌∙◌}
 use Rattle.std.proofs.lemmas.Bool.{eqb-false, cases_Bool}
 use Rattle.coz_types.specs.declared.ending.TrapCause.{TrapCause}
 use Rattle.coz_types.specs.declared.ending.TrapCause.TheVariants.{Misaligned, Access, Break}
@@ -13,7 +13,13 @@ use Rattle.rv_alu.specs.Operations.{register_result, immediate_result, shift_res
 use Rattle.guest_memory.specs.Memory.{load, store}
 use Rattle.rv_execute.specs.Reservations.{is_reserved}
 use Rattle.rv_execute.specs.Execution.{Setting, Executed, with_register, pc_after, address_at, load_size, loaded, store_size, atomic_size, atomic_loaded, value, execute}
-use Rattle.rv_execute.specs.Laws.{IsOrderly, after_trap}
+use Rattle.rv_execute.specs.Laws.{after_trap}
+
+-- register 0 stays as it was, a call comes of ecall alone, and a trap leaves what `after_trap` says
+pub record IsOrderly (h : ℕ) (i : Instr) (s : Setting) (e : Executed) : Type 0 where
+  pub zero : slice_index e.setting.hart.registers 0 ≡ slice_index s.hart.registers 0
+  pub call : e.step ≡ Call → (i ≡ Ecall) × (e.setting ≡ s)
+  pub trap : (cause : TrapCause) → e.step ≡ Fault cause → e.setting ≡ after_trap h i s
 
 -- what holds of both outcomes holds of the one that is picked
 on_option : {X : Type 0} (P : Executed → Type 0) (o : Option X) (e : Executed) (f : X → Executed) → P e → ((x : X) → P (f x)) → P (elim o as (λ _. Executed) [ None ↦ e | Some x ↦ f x ])
@@ -94,3 +100,14 @@ orderly h (Atomic op wide aq rl rd rs1 rs2) s = atomic_orderly h op wide aq rl r
 orderly h (Fence rd rs1 bits) s = next_orderly h (Fence rd rs1 bits) s _ refl
 orderly h Ecall s = record { zero = refl; call = λ is. (refl, refl); trap = λ (cause : TrapCause) (is : Call ≡ Fault cause). let no : ⊥ = cc in absurd no }
 orderly h Ebreak s = fault_orderly h Ebreak s Break refl
+
+-- what the definition gives is orderly
+pub orderly_as : {h : ℕ} {i : Instr} {s : Setting} (e : Executed) → e ≡ execute h i s → IsOrderly h i s e
+orderly_as {h} {i} {s} e is = subst (IsOrderly h i s) (sym is) (orderly h i s)
+
+call_at_ecall : (h : ℕ) (i : Instr) (s : Setting) → i ≡ Ecall → (execute h i s).step ≡ Call
+unfolding execute
+call_at_ecall h i s is = rw is refl
+
+pub call_at_ecall_as : (h : ℕ) (i : Instr) (s : Setting) (e : Executed) → e ≡ execute h i s → i ≡ Ecall → e.step ≡ Call
+call_at_ecall_as h i s e is here = ap (λ (x : Executed). x.step) is ∙ call_at_ecall h i s here

@@ -1,7 +1,7 @@
 //! The effect of one instruction on a hart, the memory and the reservations (RISC-V unprivileged manual, chapters RV32I,
 //! RV64I, M and A).
 //!
-//! `specs/Execution.antt` says it instruction by instruction, and `specs/Laws.antt` what holds of all of them.
+//! `specs/Execution.antt` says it instruction by instruction, and `specs/Laws.antt` what a trap leaves.
 #![tactic(auto)]
 
 mod atomic;
@@ -12,9 +12,10 @@ mod reservations;
 #[cfg(test)]
 mod tests;
 
-ghost use Rattle.std.specs.Prelude.{◌≡◌, ◌<◌};
+ghost use Rattle.std.specs.Prelude.{◌≡◌, ◌<◌, ◌↔◌, slice_index};
 ghost use Rattle.rv_decode.specs.Instructions.{InRange};
 ghost use Rattle.rv_execute.specs.Execution.{setting, executed, execute};
+ghost use Rattle.rv_execute.specs.Laws.{after_trap};
 
 use crate::atomic::{Target, atomic};
 use coz_types::{HartId, TrapCause};
@@ -28,8 +29,31 @@ use rv_decode::Instr;
 /// `Call` comes exactly at `ecall`, with all unchanged: the caller serves the call, and moves the pc on. A `Fault` leaves
 /// all unchanged, but that an `sc` has ended its own reservation. `Misaligned` is judged before `Access`. Register 0
 /// reads as 0, and is never written.
-#[tactic(auto, unfolding(crate::specs::Execution::execute))]
 pub fn execute(
+    hart: &mut HartState,
+    number: HartId,
+    memory: &mut Memory,
+    reservations: &mut Reservations,
+    instr: Instr,
+) -> Step
+    requires number { number.0 < 256 }
+    requires fields { InRange instr }
+    ensures effect { executed hart.new memory.new reservations.new result
+        ≡ execute number.0 instr (setting hart.old memory.old reservations.old) }
+    ensures call { (result ≡ Step.Call) ↔ (instr ≡ Instr.Ecall) }
+    ensures called { result ≡ Step.Call →
+        setting hart.new memory.new reservations.new ≡ setting hart.old memory.old reservations.old }
+    ensures fault { (cause : TrapCause) → result ≡ Step.Fault cause →
+        setting hart.new memory.new reservations.new
+        ≡ after_trap number.0 instr (setting hart.old memory.old reservations.old) }
+    ensures zero { slice_index hart.new.registers 0 ≡ slice_index hart.old.registers 0 }
+{
+    effect(hart, number, memory, reservations, instr)
+}
+
+#[inline]
+#[tactic(auto, unfolding(crate::specs::Execution::execute))]
+fn effect(
     hart: &mut HartState,
     number: HartId,
     memory: &mut Memory,

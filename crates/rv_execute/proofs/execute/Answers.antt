@@ -1,31 +1,14 @@
-use Rattle.std.proofs.Common.{rules}
-use Rattle.rv_execute.specs.Execution.{execute}
+use Rattle.rv_execute.proofs.Orderly.{orderly_as, call_at_ecall_as}
 use Rattle.rv_execute.proofs.execute.Goals as goal
 
-pub returns-in-Upper : goal.returns-in-Upper
-unfolding execute
-returns-in-Upper c = rw c.in-Upper.is (c.upper.ensures _ _)
+pub returns-clause-call : goal.returns-clause-call
+returns-clause-call c = (λ is. ((orderly_as _ c.effect.ensures).call is).0, call_at_ecall_as _ _ _ _ c.effect.ensures)
 
-pub returns-in-Shift : goal.returns-in-Shift
-unfolding execute
-returns-in-Shift c = rw c.in-Shift.is (c.shift.ensures _ _)
+pub returns-clause-called : goal.returns-clause-called
+returns-clause-called c = λ is. ((orderly_as _ c.effect.ensures).call is).1
 
-pub returns-in-Reg : goal.returns-in-Reg
-unfolding execute
-returns-in-Reg c = rw c.in-Reg.is (c.register.ensures _ _)
+pub returns-clause-fault : goal.returns-clause-fault
+returns-clause-fault c = (orderly_as _ c.effect.ensures).trap
 
-pub returns-in-Fence : goal.returns-in-Fence
-unfolding execute
-returns-in-Fence c = rw c.in-Fence.is (c.proceed.ensures _ _)
-
-pub returns-in-Branch : goal.returns-in-Branch
-unfolding execute
-returns-in-Branch c =
-    let e = c.branch-hart.ensures c.args.memory.now c.args.reservations.now in
-    rw c.in-Branch.is (search (rules, e))
-
-pub returns-in-Imm : goal.returns-in-Imm
-unfolding execute
-returns-in-Imm c =
-    let e = c.immediate.ensures c.args.memory.now c.args.reservations.now in
-    rw c.in-Imm.is (search (rules, e))
+pub returns-clause-zero : goal.returns-clause-zero
+returns-clause-zero c = (orderly_as _ c.effect.ensures).zero
