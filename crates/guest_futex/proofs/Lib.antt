@@ -1,3 +1,4 @@
 pub mod WaitersLemmas
+pub mod Left
 pub mod Pass
 mod Order

@@ -1,10 +1,12 @@
 -- One pass over the places of a queue: what is taken and kept so far, with what the rest will give.
 use Rattle.std.proofs.Common.{ℕ, zero, suc, ◌≡◌, ◌≢◌, ◌≤◌, ◌<◌, ◌+◌, ◌-◌, ◌⊎◌, List, [], ◌∷◌, ◌++◌, length, take, drop, set, get_or, arith, ⊎_elim, refl, sym, ◌∙◌, ap, append_assoc, length-append, add-one, drop-cons, length-set}
 use Rattle.std.proofs.lemmas.Bool.{eq-eqb, ne_eqb}
-use Rattle.std.proofs.lemmas.List.{drop-set-lt, take_more_set, map-append}
+use Rattle.std.proofs.lemmas.List.{drop-set-lt, take_more_set, map-append, append-nil}
 use Rattle.guest_futex.specs.declared.queue.Place.{Place}
 use Rattle.guest_futex.specs.Waiters.{Waiter, woken, left}
+use Rattle.guest_futex.specs.Apart.{AreApart}
 use Rattle.guest_futex.specs.Held.{waiter_of, waiters_of}
+use Rattle.guest_futex.proofs.Left.{left_by, woken-here, woken-elsewhere, left-here, left-elsewhere, left_by-left}
 
 -- after i places, of which some are kept, with so many still wanted
 pub record Passed (address : ℕ) (old : List Place) (count : ℕ) (before : List ℕ) (i kept wanted : ℕ) (places : List Place) (into : List ℕ) : Type 0 where
@@ -12,32 +14,7 @@ pub record Passed (address : ℕ) (old : List Place) (count : ℕ) (before : Lis
   pub same : length places ≡ length old
   pub rest : drop i places ≡ drop i old
   pub taken : into ++ woken address (waiters_of (drop i old)) wanted ≡ before ++ woken address (waiters_of old) count
-  pub still : waiters_of (take kept places) ++ left address (waiters_of (drop i old)) wanted ≡ left address (waiters_of old) count
-
-woken-here : (address : ℕ) (w : Waiter) (ws : List Waiter) (n m : ℕ) → n ≡ suc m → w.address ≡ address → woken address (w ∷ ws) n ≡ w.hart ∷ woken address ws m
-woken-here address w ws n m is here = rw (is, eq-eqb w.address address here) refl
-
-left-here : (address : ℕ) (w : Waiter) (ws : List Waiter) (n m : ℕ) → n ≡ suc m → w.address ≡ address → left address (w ∷ ws) n ≡ left address ws m
-left-here address w ws n m is here = rw (is, eq-eqb w.address address here) refl
-
-woken-zero : (address : ℕ) (ws : List Waiter) → woken address ws 0 ≡ []
-woken-zero address [] = refl
-woken-zero address (w ∷ ws) = refl
-
-left-zero : (address : ℕ) (ws : List Waiter) → left address ws 0 ≡ ws
-left-zero address [] = refl
-left-zero address (w ∷ ws) = refl
-
-away : (n : ℕ) (A : Type 0) → (suc n ≡ 0) ⊎ A → A
-away n A = ⊎_elim (λ (none : suc n ≡ 0). absurd (omega arith)) (λ (a : A). a)
-
-woken-elsewhere : (address : ℕ) (w : Waiter) (ws : List Waiter) (n : ℕ) → (n ≡ 0) ⊎ (w.address ≢ address) → woken address (w ∷ ws) n ≡ woken address ws n
-woken-elsewhere address w ws zero h = sym (woken-zero address ws)
-woken-elsewhere address w ws (suc n) h = rw (ne_eqb w.address address (away n (w.address ≢ address) h)) refl
-
-left-elsewhere : (address : ℕ) (w : Waiter) (ws : List Waiter) (n : ℕ) → (n ≡ 0) ⊎ (w.address ≢ address) → left address (w ∷ ws) n ≡ w ∷ left address ws n
-left-elsewhere address w ws zero h = ap (λ xs. w ∷ xs) (sym (left-zero address ws))
-left-elsewhere address w ws (suc n) h = rw (ne_eqb w.address address (away n (w.address ≢ address) h)) refl
+  pub still : waiters_of (take kept places) ++ left_by address (waiters_of (drop i old)) wanted ≡ left_by address (waiters_of old) count
 
 -- the place at i is the old one, and the rest too
 at_rest : (old places : List Place) (i : ℕ) (d : Place) → length places ≡ length old → i < length old → drop i places ≡ drop i old → (drop i old ≡ get_or places i d ∷ drop (i + 1) old) × (drop (i + 1) places ≡ drop (i + 1) old)
@@ -55,8 +32,8 @@ passed-taken {address} {count} {i} {kept} {wanted} {old} {places} {before} {into
     let more : List Waiter = waiters_of (drop (i + 1) old) in
     let takes : woken address (waiters_of (drop i old)) wanted ≡ w.hart.0 ∷ woken address more (wanted - 1) =
     ap (λ xs. woken address (waiters_of xs) wanted) parts.0 ∙ woken-here address (waiter_of w) more wanted (wanted - 1) one here in
-    let leaves : left address (waiters_of (drop i old)) wanted ≡ left address more (wanted - 1) =
-    ap (λ xs. left address (waiters_of xs) wanted) parts.0 ∙ left-here address (waiter_of w) more wanted (wanted - 1) one here in
+    let leaves : left_by address (waiters_of (drop i old)) wanted ≡ left_by address more (wanted - 1) =
+    ap (λ xs. left_by address (waiters_of xs) wanted) parts.0 ∙ left-here address (waiter_of w) more wanted (wanted - 1) one here in
     record {
       within = let within = p.within in omega arith;
       same = p.same;
@@ -73,8 +50,8 @@ passed-kept {address} {count} {i} {kept} {wanted} {old} {places} {before} {into}
     let more : List Waiter = waiters_of (drop (i + 1) old) in
     let takes : woken address (waiters_of (drop i old)) wanted ≡ woken address more wanted =
     ap (λ xs. woken address (waiters_of xs) wanted) parts.0 ∙ woken-elsewhere address (waiter_of w) more wanted elsewhere in
-    let leaves : left address (waiters_of (drop i old)) wanted ≡ waiter_of w ∷ left address more wanted =
-    ap (λ xs. left address (waiters_of xs) wanted) parts.0 ∙ left-elsewhere address (waiter_of w) more wanted elsewhere in
+    let leaves : left_by address (waiters_of (drop i old)) wanted ≡ waiter_of w ∷ left_by address more wanted =
+    ap (λ xs. left_by address (waiters_of xs) wanted) parts.0 ∙ left-elsewhere address (waiter_of w) more wanted elsewhere in
     let within : kept ≤ i = p.within in
     let same : length places ≡ length old = p.same in
     let longer : waiters_of (take (kept + 1) (set places kept w)) ≡ waiters_of (take kept places) ++ waiter_of w ∷ [] =
@@ -84,7 +61,7 @@ passed-kept {address} {count} {i} {kept} {wanted} {old} {places} {before} {into}
       same = length-set places kept w ∙ p.same;
       rest = drop-set-lt (i + 1) places kept w (omega arith) ∙ parts.1;
       taken = ap (λ xs. into ++ xs) (sym takes) ∙ p.taken;
-      still = ap (λ xs. xs ++ left address more wanted) longer ∙ append_assoc (waiters_of (take kept places)) (waiter_of w ∷ []) (left address more wanted) ∙ ap (λ xs. waiters_of (take kept places) ++ xs) (sym leaves) ∙ p.still;
+      still = ap (λ xs. xs ++ left_by address more wanted) longer ∙ append_assoc (waiters_of (take kept places)) (waiter_of w ∷ []) (left_by address more wanted) ∙ ap (λ xs. waiters_of (take kept places) ++ xs) (sym leaves) ∙ p.still;
     }
 
 -- before the first place
@@ -97,3 +74,16 @@ passed-room {address} {count} {i} {kept} {wanted} {old} {places} {before} {into}
     let next = passed-taken d p below some here in
     let all : length ((into ++ (get_or places i d).hart.0 ∷ []) ++ woken address (waiters_of (drop (i + 1) old)) (wanted - 1)) ≡ length (before ++ woken address (waiters_of old) count) = ap length next.taken in
     omega (arith, simp length-append at all)
+
+drop-past : {A : Type 0} (xs : List A) (k : ℕ) → length xs ≤ k → drop k xs ≡ []
+drop-past [] zero past = refl
+drop-past [] (suc k) past = refl
+drop-past (x ∷ xs) zero past = absurd (omega arith)
+drop-past (x ∷ xs) (suc k) past = drop-past xs k (omega arith)
+
+-- after the last place those that are kept are the waiters that are left
+pub passed-left : {address count i kept wanted : ℕ} {old places : List Place} {before into : List ℕ} → Passed address old count before i kept wanted places into → AreApart (waiters_of old) → length old ≤ i → waiters_of (take kept places) ≡ left address (waiters_of old) count
+passed-left {address} {count} {i} {kept} {wanted} {old} {places} p apart past =
+    let none : waiters_of (take kept places) ++ left_by address (waiters_of (drop i old)) wanted ≡ waiters_of (take kept places) =
+    ap (λ (xs : List Place). waiters_of (take kept places) ++ left_by address (waiters_of xs) wanted) (drop-past old i past) ∙ append-nil (waiters_of (take kept places)) in
+    sym none ∙ p.still ∙ left_by-left address (waiters_of old) count apart

@@ -1,5 +1,5 @@
 -- Waiters of a queue stay apart, and are at most 256.
-use Rattle.std.proofs.Common.{ℕ, zero, suc, ◌≡◌, ◌≢◌, ◌≤◌, ◌<◌, true, false, eqb, List, [], ◌∷◌, ◌++◌, length, map, arith, ⊎_elim, sym}
+use Rattle.std.proofs.Common.{ℕ, zero, suc, ◌≡◌, ◌≢◌, ◌≤◌, ◌<◌, Bool, true, false, eqb, List, [], ◌∷◌, ◌++◌, length, map, filter, arith, ⊎_elim, sym}
 use Rattle.std.specs.Prelude.{All}
 use Rattle.std.specs.List.{list_any, AllByRecursion, IsDistinct}
 use Rattle.std.proofs.lemmas.Bool.{eqb-true, ne_eqb, cases_Bool}
@@ -27,25 +27,25 @@ apart-append (x ∷ xs) w apart low others =
 pub apart-with_waiter : (address hart : ℕ) (ws : List Waiter) → hart < 256 → AreOthers hart ws → AreApart ws → AreApart (with_waiter address hart ws)
 apart-with_waiter address hart ws low others apart = apart-append ws (record { address = address; hart = hart }) apart low others
 
-pub others-left : (hart address : ℕ) (ws : List Waiter) (count : ℕ) → AreOthers hart ws → AreOthers hart (left address ws count)
-others-left hart address [] count others = tt
-others-left hart address (w ∷ ws) zero others = others
-others-left hart address (w ∷ ws) (suc count) others =
+pub others-filter : (hart : ℕ) (keeps : Waiter → Bool) (ws : List Waiter) → AreOthers hart ws → AreOthers hart (filter keeps ws)
+others-filter hart keeps [] others = tt
+others-filter hart keeps (w ∷ ws) others =
     ⊎_elim
-    (λ (here : eqb w.address address ≡ true). rw here (others-left hart address ws count others.1))
-    (λ (elsewhere : eqb w.address address ≡ false). rw elsewhere (others.0, others-left hart address ws (suc count) others.1))
-    (cases_Bool (eqb w.address address))
+    (λ (yes : keeps w ≡ true). rw yes (others.0, others-filter hart keeps ws others.1))
+    (λ (no : keeps w ≡ false). rw no (others-filter hart keeps ws others.1))
+    (cases_Bool (keeps w))
+
+apart-filter : (keeps : Waiter → Bool) (ws : List Waiter) → AreApart ws → AreApart (filter keeps ws)
+apart-filter keeps [] apart = tt
+apart-filter keeps (w ∷ ws) apart =
+    ⊎_elim
+    (λ (yes : keeps w ≡ true). rw yes (apart.0, others-filter w.hart keeps ws apart.1, apart-filter keeps ws apart.2))
+    (λ (no : keeps w ≡ false). rw no (apart-filter keeps ws apart.2))
+    (cases_Bool (keeps w))
 
 -- those that are left are apart
 pub apart-left : (address : ℕ) (ws : List Waiter) (count : ℕ) → AreApart ws → AreApart (left address ws count)
-apart-left address [] count apart = tt
-apart-left address (w ∷ ws) zero apart = apart
-apart-left address (w ∷ ws) (suc count) apart =
-    ⊎_elim
-    (λ (here : eqb w.address address ≡ true). rw here (apart-left address ws count apart.2))
-    (λ (elsewhere : eqb w.address address ≡ false). rw elsewhere
-    (apart.0, others-left w.hart address ws (suc count) apart.1, apart-left address ws (suc count) apart.2))
-    (cases_Bool (eqb w.address address))
+apart-left address ws count apart = apart-filter _ ws apart
 
 distinct_from_others : (hart : ℕ) (ws : List Waiter) → AreOthers hart ws → AllByRecursion (λ q. eqb hart q ≡ false) (map (λ w. w.hart) ws)
 distinct_from_others hart [] others = tt
@@ -79,20 +79,11 @@ length-others hart ws low others apart =
 
 -- at most all are woken
 pub length-woken : (address : ℕ) (ws : List Waiter) (count : ℕ) → length (woken address ws count) ≤ length ws
-length-woken address [] count = omega arith
+length-woken address [] zero = omega arith
+length-woken address [] (suc count) = omega arith
 length-woken address (w ∷ ws) zero = omega arith
 length-woken address (w ∷ ws) (suc count) =
     ⊎_elim
     (λ (here : eqb w.address address ≡ true). rw here (omega (arith, length-woken address ws count)))
     (λ (elsewhere : eqb w.address address ≡ false). rw elsewhere (omega (arith, length-woken address ws (suc count))))
-    (cases_Bool (eqb w.address address))
-
--- at most so many are woken
-pub length-woken-count : (address : ℕ) (ws : List Waiter) (count : ℕ) → length (woken address ws count) ≤ count
-length-woken-count address [] count = omega arith
-length-woken-count address (w ∷ ws) zero = omega arith
-length-woken-count address (w ∷ ws) (suc count) =
-    ⊎_elim
-    (λ (here : eqb w.address address ≡ true). rw here (omega (arith, length-woken-count address ws count)))
-    (λ (elsewhere : eqb w.address address ≡ false). rw elsewhere (omega (arith, length-woken-count address ws (suc count))))
     (cases_Bool (eqb w.address address))

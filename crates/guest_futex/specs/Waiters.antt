@@ -1,5 +1,6 @@
 -- The harts that wait for an address (Linux, futex(2), FUTEX_WAIT and FUTEX_WAKE), the eldest first.
-use Rattle.std.specs.Prelude.{ℕ, zero, suc, if◌then◌else◌, ◌==◌, List, [], ◌∷◌, ◌++◌}
+use Rattle.std.specs.Prelude.{ℕ, ◌==◌, not, List, [], ◌∷◌, ◌++◌, take, map, filter}
+use Rattle.std.specs.List.{list_any}
 
 pub record Waiter : Type 0 where
   pub address : ℕ
@@ -10,12 +11,12 @@ with_waiter address hart ws = ws ++ record { address = address; hart = hart } �
 
 -- the eldest harts that wait for an address, at most so many
 abbrev pub woken : ℕ → List Waiter → ℕ → List ℕ
-woken address [] count = []
-woken address (w ∷ ws) zero = []
-woken address (w ∷ ws) (suc count) = if w.address == address then w.hart ∷ woken address ws count else woken address ws (suc count)
+woken address ws count = take count (map (λ w. w.hart) (filter (λ w. w.address == address) ws))
 
--- the waiters that are left after them
+-- the waiters but for these harts
+abbrev pub without_harts : List ℕ → List Waiter → List Waiter
+without_harts harts ws = filter (λ w. not (list_any (λ hart. hart == w.hart) harts)) ws
+
+-- the waiters that are left: all that aren't woken
 abbrev pub left : ℕ → List Waiter → ℕ → List Waiter
-left address [] count = []
-left address (w ∷ ws) zero = w ∷ ws
-left address (w ∷ ws) (suc count) = if w.address == address then left address ws count else w ∷ left address ws (suc count)
+left address ws count = without_harts (woken address ws count) ws

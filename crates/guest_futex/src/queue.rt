@@ -1,5 +1,6 @@
 ghost use Rattle.std.specs.Prelude.{◌≡◌, ◌≢◌, ◌+◌, ◌<◌, ◌≤◌, [], ◌++◌, length, take, All, IfOk};
 ghost use Rattle.guest_futex.specs.Waiters.{with_waiter, woken, left};
+ghost use Rattle.guest_futex.specs.Apart.{AreApart};
 ghost use Rattle.guest_futex.specs.Held.{waiters_of};
 
 use crate::HartList;
@@ -42,7 +43,8 @@ impl Model for Queue {
 /// Appends the harts of the eldest waiters for an address to a list, at most `count`, and moves those that are left to
 /// the front. Returns how many are left.
 fn take_eldest(places: &mut [Place], address: Address, count: u32, into: &mut HartList) -> usize
-    requires { length into.old + length (woken address (waiters_of places.old) count) ≤ 256 }
+    requires apart { AreApart (waiters_of places.old) }
+    requires room { length into.old + length (woken address (waiters_of places.old) count) ≤ 256 }
     ensures woken { into.new ≡ into.old ++ woken address (waiters_of places.old) count }
     ensures left { waiters_of (take result places.new) ≡ left address (waiters_of places.old) count }
 {
@@ -62,7 +64,7 @@ fn take_eldest(places: &mut [Place], address: Address, count: u32, into: &mut Ha
 }
 
 impl Queue {
-    /// No waiters. Fails exactly where there is no memory for 256 of them.
+    /// No waiters, with room for 256 of them. An error is want of memory, and no clause says when that comes.
     pub fn new(alloc: Global) -> Result<Queue, AllocError>
         ensures { IfOk result (λ queue. queue ≡ []) }
     {

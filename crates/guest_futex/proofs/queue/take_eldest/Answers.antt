@@ -1,10 +1,10 @@
 use Rattle.std.proofs.Common.{inl, inr, arith}
-use Rattle.guest_futex.proofs.Pass.{passed-taken, passed-kept, passed-room}
+use Rattle.guest_futex.proofs.Pass.{passed-taken, passed-kept, passed-room, passed-left}
 use Rattle.guest_futex.proofs.queue.take_eldest.Goals as goal
 use Rattle.guest_futex.proofs.queue.take_eldest.Goals.{then-wanted-gt0+then-place-address, else-wanted-gt0, else-wanted-gt0-via-then-wanted-gt0+else-place-address, else-wanted-gt0-via-else-wanted-gt0}
 
 pub push-requires : goal.push-requires
-push-requires c = passed-room _ c.loop-i.invariant c.requires c.loop-i-test.true c.if-wanted-gt0.true c.if-place-address.true
+push-requires c = passed-room _ c.loop-i.invariant c.requires.room c.loop-i-test.true c.if-wanted-gt0.true c.if-place-address.true
 
 pub loop-i-preserved : goal.loop-i-preserved
 loop-i-preserved c = elim c.if-wanted-gt0.branch [
@@ -19,3 +19,6 @@ loop-i-preserved c = elim c.if-wanted-gt0.branch [
         | else-wanted-gt0-via-else-wanted-gt0 w' ↦ inl (omega arith)
       ]))
 ]
+
+pub returns-clause-left : goal.returns-clause-left
+returns-clause-left c = passed-left c.loop-i.invariant c.requires.apart c.loop-i-test.false
