@@ -4,6 +4,7 @@ ghost use Rattle.std.specs.Prelude.{◌≡◌, ◌<◌, ◌≤◌, ◌+◌, ◌^
 ghost use Rattle.rv_decode.specs.Fields.{twos, is_signed};
 ghost use Rattle.image_write.specs.Unit.{half, word, double, groups, fewest, uleb, sleb};
 
+use byteorder::{ByteOrder, LittleEndian};
 use std::alloc::AllocError;
 
 /// A number of two bytes.
@@ -11,7 +12,9 @@ use std::alloc::AllocError;
 pub fn push_half(out: &mut Vec<u8>, n: u16) -> Result<(), AllocError>
     ensures { IfOk result (λ _. out.new.items ≡ out.old.items ++ half n) }
 {
-    out.extend_from_slice(&n.to_le_bytes())
+    let mut bytes = [0; 2];
+    LittleEndian::write_u16(&mut bytes, n);
+    out.extend_from_slice(&bytes)
 }
 
 /// A number of four bytes.
@@ -19,7 +22,9 @@ pub fn push_half(out: &mut Vec<u8>, n: u16) -> Result<(), AllocError>
 pub fn push_word(out: &mut Vec<u8>, n: u32) -> Result<(), AllocError>
     ensures { IfOk result (λ _. out.new.items ≡ out.old.items ++ word n) }
 {
-    out.extend_from_slice(&n.to_le_bytes())
+    let mut bytes = [0; 4];
+    LittleEndian::write_u32(&mut bytes, n);
+    out.extend_from_slice(&bytes)
 }
 
 /// A number of eight bytes.
@@ -27,7 +32,9 @@ pub fn push_word(out: &mut Vec<u8>, n: u32) -> Result<(), AllocError>
 pub fn push_double(out: &mut Vec<u8>, n: u64) -> Result<(), AllocError>
     ensures { IfOk result (λ _. out.new.items ≡ out.old.items ++ double n) }
 {
-    out.extend_from_slice(&n.to_le_bytes())
+    let mut bytes = [0; 8];
+    LittleEndian::write_u64(&mut bytes, n);
+    out.extend_from_slice(&bytes)
 }
 
 /// So many zeros.
