@@ -1,6 +1,7 @@
 -- So many bytes from an address on.
 use Rattle.std.proofs.Common.{ℕ, zero, suc, ◌≡◌, ◌+◌, ◌-◌, ◌*◌, ◌/◌, ◌%◌, ◌^◌, ◌≤◌, ◌<◌, Bool, true, false, List, [], ◌∷◌, length, drop, get_or, arith, refl, sym, ap, ◌∙◌, ⊎_elim, Some, None}
-use Rattle.std.proofs.Math.Nat.{pow-le-pow_right}
+use Rattle.std.specs.Int.{byte_at as byte_of, bytes_low_first}
+use Rattle.std.proofs.Math.Nat.{pow-le-pow_right, pow-succ', div-div-eq-div-mul}
 use Rattle.std.proofs.lemmas.Bool.{cases_Bool, cond-true, cond-false, both_ways, true_from_ne_false}
 use Rattle.std.proofs.lemmas.List.{ext_get_or, drop_more}
 use Rattle.coz_types.specs.declared.image.Rights.{Rights}
@@ -97,11 +98,29 @@ number_fits v b i h small byte =
     let q : v < 256 ^ 7 = omega arith in
     fits v b q byte
 
+-- the bytes of a number above its lowest
+byte_above : (i v : ℕ) → byte_of (suc i) v ≡ byte_of i (v / 256)
+byte_above zero v = refl
+byte_above (suc i) v =
+    ap (λ (k : ℕ). v / k % 256) (pow-succ' 256 (suc i))
+    ∙ ap (λ (k : ℕ). k % 256) (sym (div-div-eq-div-mul v 256 (256 ^ suc i)))
+
+bytes_above : (i n v : ℕ) → bytes_low_first (suc i) n v ≡ bytes_low_first i n (v / 256)
+bytes_above i zero v = refl
+bytes_above i (suc n) v =
+    ap (λ (b : ℕ). b ∷ bytes_low_first (suc (suc i)) n v) (byte_above i v)
+    ∙ ap (λ (bs : List ℕ). byte_of i (v / 256) ∷ bs) (bytes_above (suc i) n v)
+
+-- a number's lowest byte is written first
+pub number-more : (a n v : ℕ) (m : MemoryMap) → with_number a (suc n) v m ≡ with_number (a + 1) n (v / 256) (with_byte a (v % 256) m)
+number-more a n v m = ap (λ (bs : List ℕ). with_bytes (a + 1) bs (with_byte a (v % 256) m)) (bytes_above 0 n v)
+
 -- one byte more of a number that is written
 pub written_more : (m after : MemoryMap) (a n i v : ℕ) → i < n → after ≡ with_byte (a + i) (v % 256) m → with_number (a + (i + 1)) (n - (i + 1)) (v / 256) after ≡ with_number (a + i) (n - i) v m
 written_more m after a n i v h e =
     ap (λ (x : MemoryMap). with_number (a + (i + 1)) (n - (i + 1)) (v / 256) x) e
     ∙ ap (λ (q : ℕ). with_number q (n - (i + 1)) (v / 256) (with_byte (a + i) (v % 256) m)) (let f : a + (i + 1) ≡ a + i + 1 = omega arith in f)
+    ∙ sym (number-more (a + i) (n - (i + 1)) v m)
     ∙ ap (λ (k : ℕ). with_number (a + i) k v m) (let f : suc (n - (i + 1)) ≡ n - i = omega arith in f)
 
 pub length-bytes_at : (m : MemoryMap) (a n : ℕ) → length (bytes_at m a n) ≡ n

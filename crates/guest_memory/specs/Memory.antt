@@ -1,5 +1,6 @@
 -- Memory: a byte at each address, and the rights of each page.
 use Rattle.std.specs.Prelude.{◌≡◌, ◌⊎◌, ℕ, zero, suc, ◌+◌, ◌*◌, ◌/◌, ◌%◌, Bool, true, false, not, ◌&&◌, ◌||◌, if◌then◌else◌, nat_le, nat_lt, ◌==◌, List, [], ◌∷◌, take, drop, fold, Option, Some, None, IsTrue}
+use Rattle.std.specs.Int.{bytes_low_first}
 use Rattle.coz_types.specs.declared.image.Rights.{Rights}
 use Rattle.coz_types.specs.declared.image.Area.{Area}
 use Rattle.guest_memory.specs.declared.Layout.{Layout}
@@ -60,10 +61,6 @@ abbrev pub number_at : MemoryMap → ℕ → ℕ → ℕ
 number_at m a zero = 0
 number_at m a (suc n) = byte_at m a + 256 * number_at m (a + 1) n
 
-abbrev pub with_number : ℕ → ℕ → ℕ → MemoryMap → MemoryMap
-with_number a zero value m = m
-with_number a (suc n) value m = with_number (a + 1) n (value / 256) (with_byte a (value % 256) m)
-
 abbrev pub bytes_at : MemoryMap → ℕ → ℕ → List ℕ
 bytes_at m a zero = []
 bytes_at m a (suc n) = byte_at m a ∷ bytes_at m (a + 1) n
@@ -71,6 +68,10 @@ bytes_at m a (suc n) = byte_at m a ∷ bytes_at m (a + 1) n
 abbrev pub with_bytes : ℕ → List ℕ → MemoryMap → MemoryMap
 with_bytes a [] m = m
 with_bytes a (b ∷ bs) m = with_bytes (a + 1) bs (with_byte a b m)
+
+-- so many of a number's bytes from an address on, the lowest first
+abbrev pub with_number : ℕ → ℕ → ℕ → MemoryMap → MemoryMap
+with_number a n value m = with_bytes a (bytes_low_first 0 n value) m
 
 -- a page that the memory keeps: it is known, or may be written
 abbrev pub IsHeld : MemoryMap → ℕ → Type 0
