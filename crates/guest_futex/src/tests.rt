@@ -29,12 +29,12 @@ fn the_eldest_waiters_are_woken(rt: HostRuntime) -> Result<(), Fail> {
     other.wake(0x20000, 1, &mut woken);
     assert_eq!(rt; woken.harts().len(), 3);
     woken.clear();
-    other.wake(THERE, u32::MAX, &mut woken);
+    queue.wake(THERE, u32::MAX, &mut woken);
     assert_eq!(rt; woken.harts(), [HartId(255)].as_slice());
+    woken.clear();
     queue.wake(HERE, 0, &mut woken);
     queue.wake(HERE, 1, &mut woken);
-    assert_eq!(rt; woken.harts(), [HartId(255), HartId(3)].as_slice());
     woken.push(HartId(8));
-    assert_eq!(rt; woken.harts().len(), 3);
+    assert_eq!(rt; woken.harts(), [HartId(3), HartId(8)].as_slice());
     Ok(())
 }
