@@ -15,7 +15,7 @@ use Rattle.guest_areas.specs.Marks.{marked}
 use Rattle.guest_areas.specs.Space.{Space, space, Answered, refused, has, rights_of, is_page_start, is_in_run, free_run, run, with_break, map, is_in_map, unmap}
 use Rattle.guest_areas.specs.Kept.{regions_of, IsKept}
 use Rattle.guest_areas.proofs.MarkLemmas.{marked-taken, marked-left}
-use Rattle.guest_areas.proofs.FreeRuns.{found_is}
+use Rattle.guest_areas.proofs.FreeRuns.{found_is, search_is}
 use Rattle.guest_areas.proofs.Calls.{with_break-up, with_break-down, map-at, unmap-refused, unmap-done}
 
 abbrev answered : ℕ → List Area → Layout → ℕ → List ℕ → MemoryMap → Answered
@@ -56,7 +56,9 @@ pub map_done : (areas : List Area) (layout : Layout) (break : ℕ) (flags filled
     → now ≡ zeroed (page_of (141733920768 + place * 4096)) count (given (page_of (141733920768 + place * 4096)) count (rights_of protection) m)
     → record { answer = pos (141733920768 + place * 4096); space = space (regions_of areas layout break (put_mid place k flags filled)) now } ≡ map len protection (space (regions_of areas layout break flags) m)
 map_done areas layout break flags filled m now len protection count place k kept some safe is found size full e =
-    let at = found_is (regions_of areas layout break flags) count (page_of layout.map) 34603008 (34603008 + place) found in
+    let some_pages : 0 < count = omega arith in
+    let at = found_is (regions_of areas layout break flags) count (page_of layout.map) 34603008 (34603008 + place)
+    (search_is (regions_of areas layout break flags) count (page_of layout.map) 34603008 some_pages ∙ found) in
     let within : place + k ≤ length flags = omega (arith, at.within, kept.each_page) in
     let more : 0 < k = omega arith in
     let free : list_any (is_in_run (34603008 + place) k) (marked 34603008 flags) ≡ false =

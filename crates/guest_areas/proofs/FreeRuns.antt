@@ -1,10 +1,19 @@
 -- The search for the lowest free run.
-use Rattle.std.proofs.Common.{ℕ, zero, suc, ◌≡◌, ◌+◌, ◌-◌, ◌≤◌, ◌<◌, Bool, true, false, not, leb, ltb, List, length, get_or, arith, refl, sym, ap, ◌∙◌, ◌⊎◌, ⊎_elim, inl, inr, Option, Some, None}
+use Rattle.std.proofs.Common.{ℕ, zero, suc, ◌≡◌, ◌+◌, ◌-◌, ◌≤◌, ◌<◌, Bool, true, false, not, cond, nat_le, leb, ltb, List, length, get_or, find, arith, refl, sym, ap, ◌∙◌, ◌⊎◌, ⊎_elim, inl, inr, Option, Some, None}
 use Rattle.std.specs.List.{list_any}
 use Rattle.std.proofs.lemmas.Bool.{cases_Bool, and_parts, leb-true, ltb-true, le-leb, cases_lt, false_from_ne_true}
 use Rattle.guest_areas.specs.Marks.{marked}
-use Rattle.guest_areas.specs.Space.{RegionMap, is_in_run, is_free_run, free_run_from}
+use Rattle.guest_areas.specs.Space.{RegionMap, is_in_run, is_free_run, run}
 use Rattle.guest_areas.proofs.MarkLemmas.{list_any-marked_at, list_any-marked_none, in_run}
+
+-- the search from a page on, where so many are left of the region
+abbrev pub free_run_from : RegionMap → ℕ → ℕ → ℕ → Option ℕ
+free_run_from r count zero page = None
+free_run_from r count (suc left) page =
+    elim (nat_le count (suc left)) [
+      | true ↦ elim (is_free_run r page count) [ true ↦ Some page | false ↦ free_run_from r count left (page + 1) ]
+      | false ↦ None
+    ]
 
 -- what one step of the search answers
 abbrev chosen : Bool → Bool → ℕ → Option ℕ → Option ℕ
@@ -33,6 +42,26 @@ passed_step r count left page enough taken =
 
 cases_le : (a b : ℕ) → (a ≤ b) ⊎ (b < a)
 cases_le a b = ⊎_elim (λ (l : b < a). inr l) (λ (l : a ≤ b). inl l) (cases_lt b a)
+
+chosen_first : (free : Bool) (page : ℕ) (rest : Option ℕ) → chosen true free page rest ≡ cond free (Some page) rest
+chosen_first true page rest = refl
+chosen_first false page rest = refl
+
+-- the search finds the least page
+pub search_is : (r : RegionMap) (count left page : ℕ) → 0 < count → free_run_from r count left page ≡ find (λ p. is_free_run r p count) (run page (left + 1 - count))
+search_is r count zero page some =
+    ap (λ (n : ℕ). find (λ p. is_free_run r p count) (run page n)) (let e : 0 ≡ 0 + 1 - count = omega arith in e)
+search_is r count (suc left) page some =
+    ⊎_elim
+    (λ (l : count ≤ suc left).
+    ap (λ (b : Bool). from_step r count left page b (is_free_run r page count)) (le-leb count (suc left) l)
+    ∙ ap (chosen true (is_free_run r page count) page) (search_is r count left (page + 1) some)
+    ∙ chosen_first (is_free_run r page count) page (find (λ p. is_free_run r p count) (run (page + 1) (left + 1 - count)))
+    ∙ ap (λ (n : ℕ). find (λ p. is_free_run r p count) (run page n)) (let e : suc (left + 1 - count) ≡ suc left + 1 - count = omega arith in e))
+    (λ (l : suc left < count).
+    none_short r count (suc left) page l
+    ∙ ap (λ (n : ℕ). find (λ p. is_free_run r p count) (run page n)) (let e : 0 ≡ suc left + 1 - count = omega arith in e))
+    (cases_le count (suc left))
 
 pub found : (r : RegionMap) (count left page : ℕ) → 0 < count → count ≤ left → is_free_run r page count ≡ true → free_run_from r count left page ≡ Some page
 found r count zero page some h free = absurd (omega arith)

@@ -2,12 +2,13 @@
 use Rattle.std.proofs.Common.{ℕ, zero, suc, ◌≡◌, ◌+◌, ◌*◌, ◌/◌, ◌%◌, ◌≤◌, ◌<◌, Bool, true, false, eqb, length, drop, get_or, List, [], ◌∷◌, arith, refl, sym, ap, ◌∙◌, ⊎_elim, ◌⊎◌}
 use Rattle.std.proofs.lemmas.List.{drop_more}
 use Rattle.std.proofs.lemmas.Bool.{cases_Bool, cases_order, le-ltb, ne_eqb}
+use Rattle.std.specs.Int.{bytes_low_first}
 use Rattle.coz_types.specs.declared.image.Rights.{Rights}
 use Rattle.coz_types.specs.Image.{ImageParts}
 use Rattle.coz_types.specs.Maps.{Map, value_or, with_value, without}
 use Rattle.guest_memory.specs.declared.Layout.{Layout}
 use Rattle.guest_memory.specs.Entries.{put}
-use Rattle.guest_memory.specs.Memory.{MemoryMap, no_rights, read_and_write, is_any_right, rights_at, is_allowed, with_byte, with_number, with_rights, given, with_area, empty_memory, first_memory}
+use Rattle.guest_memory.specs.Memory.{MemoryMap, no_rights, read_and_write, is_any_right, rights_at, is_allowed, with_byte, with_bytes, with_number, with_rights, given, with_area, empty_memory, first_memory}
 use Rattle.guest_memory.specs.Regions.{page_of, stack_base, IsLayout}
 use Rattle.guest_areas.specs.Entry.{with_numbers}
 use Rattle.std.specs.Prelude.{fold}
@@ -116,9 +117,12 @@ stack_rights image layout valid =
     let s = valid.stack in
     rights-given (page_of (stack_base layout)) (page_of layout.stack) read_and_write (fold (with_area image) (empty_memory image.areas layout) image.areas) 0x3FFFFFF refl (omega arith) (omega arith)
 
+rights-with_bytes : (m : MemoryMap) (a : ℕ) (bs : List ℕ) → (with_bytes a bs m).rights ≡ m.rights
+rights-with_bytes m a [] = refl
+rights-with_bytes m a (b ∷ bs) = rights-with_bytes (with_byte a b m) (a + 1) bs
+
 pub rights-with_number : (m : MemoryMap) (a n v : ℕ) → (with_number a n v m).rights ≡ m.rights
-rights-with_number m a zero v = refl
-rights-with_number m a (suc n) v = rights-with_number (with_byte a (v % 256) m) (a + 1) n (v / 256)
+rights-with_number m a n v = rights-with_bytes m a (bytes_low_first 0 n v)
 
 -- bytes in one page have the right of its first one, also where only bytes have changed since
 pub page_allowed : (right : Rights → Bool) (m now : MemoryMap) (a j n : ℕ) → right (rights_at m a) ≡ true → now.rights ≡ m.rights → a % 4096 + j + n ≤ 4096 → is_allowed right now (a + j) n ≡ true

@@ -1,6 +1,7 @@
 -- No call changes the load areas or the layout.
 use Rattle.std.proofs.Common.{ℕ, zero, suc, ◌≡◌, ◌+◌, ◌-◌, ◌/◌, ◌%◌, [], ◌∷◌, Bool, true, false, not, ◌&&◌, ◌||◌, cond, leb, ltb, eqb, List, refl, sym, ◌∙◌, Option, Some, None}
 use Rattle.std.specs.Prelude.{pos}
+use Rattle.std.specs.Int.{bytes_low_first}
 use Rattle.coz_types.specs.declared.image.Rights.{Rights}
 use Rattle.guest_memory.specs.Memory.{MemoryMap, no_rights, read_and_write, given, zeroed, with_byte, with_number, with_bytes, first_memory}
 use Rattle.guest_memory.specs.Regions.{page_of, pages_for, brk_base, brk_end, stack_top}
@@ -74,16 +75,12 @@ protect-shares address length protection s h =
     (either SharesAfter (not (is_each (is_known s.regions) (page_of address) (pages_for length))) (refused no_memory s)
     (record { answer = pos 0; space = space s.regions (given (page_of address) (pages_for length) (rights_of protection) s.memory) }) h new)))
 
-same_regions-with_number : (m : MemoryMap) (a n v : ℕ) → ((with_number a n v m).areas ≡ m.areas) × ((with_number a n v m).layout ≡ m.layout)
-same_regions-with_number m a zero v = (refl, refl)
-same_regions-with_number m a (suc n) v = same_regions-with_number (with_byte a (v % 256) m) (a + 1) n (v / 256)
-
 same_regions-with_numbers : (m : MemoryMap) (a : ℕ) (ns : List ℕ) → ((with_numbers a ns m).areas ≡ m.areas) × ((with_numbers a ns m).layout ≡ m.layout)
 unfolding with_numbers
 same_regions-with_numbers m a [] = (refl, refl)
 same_regions-with_numbers m a (n ∷ ns) =
     let rest = same_regions-with_numbers (with_number a 8 n m) (a + 8) ns in
-    let here = same_regions-with_number m a 8 n in
+    let here = same_regions-with_bytes m a (bytes_low_first 0 8 n) in
     (rest.0 ∙ here.0, rest.1 ∙ here.1)
 
 -- the first space

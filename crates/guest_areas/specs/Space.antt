@@ -1,5 +1,5 @@
 -- The address space of a guest, and the calls that change it (Linux: brk(2), mmap(2), munmap(2), mprotect(2)).
-use Rattle.std.specs.Prelude.{◌≡◌, ℕ, zero, suc, ◌+◌, ◌-◌, ◌*◌, ◌/◌, ◌%◌, Bool, true, false, not, ◌&&◌, ◌||◌, if◌then◌else◌, nat_le, nat_lt, ◌==◌, List, [], ◌∷◌, ◌++◌, filter, Option, Some, None, ℤ, pos}
+use Rattle.std.specs.Prelude.{◌≡◌, ℕ, zero, suc, ◌+◌, ◌-◌, ◌*◌, ◌/◌, ◌%◌, Bool, true, false, not, ◌&&◌, ◌||◌, if◌then◌else◌, nat_le, nat_lt, ◌==◌, List, [], ◌∷◌, ◌++◌, filter, find, Option, Some, None, ℤ, pos}
 use Rattle.std.specs.List.{list_any}
 use Rattle.coz_types.specs.declared.image.Area.{Area}
 use Rattle.coz_types.specs.declared.image.Rights.{Rights}
@@ -66,17 +66,13 @@ is_each test first (suc count) = elim (test first) [ true ↦ is_each test (firs
 abbrev pub is_free_run : RegionMap → ℕ → ℕ → Bool
 is_free_run r first count = not (list_any (is_in_run first count) r.mapped)
 
--- the lowest free run of so many pages, where so many are left of the region from a page on
-abbrev pub free_run_from : RegionMap → ℕ → ℕ → ℕ → Option ℕ
-free_run_from r count zero page = None
-free_run_from r count (suc left) page =
-    elim (nat_le count (suc left)) [
-      | true ↦ elim (is_free_run r page count) [ true ↦ Some page | false ↦ free_run_from r count left (page + 1) ]
-      | false ↦ None
-    ]
+-- the pages from which so many lie in the map region, rising
+abbrev pub starts : RegionMap → ℕ → List ℕ
+starts r count = run (page_of map_base) (page_of r.layout.map + 1 - count)
 
+-- the least page from which so many pages of the map region are free
 abbrev pub free_run : RegionMap → ℕ → Option ℕ
-free_run r count = free_run_from r count (page_of r.layout.map) (page_of map_base)
+free_run r count = find (λ page. is_free_run r page count) (starts r count)
 
 abbrev pub is_in_area : ℕ → Area → Bool
 is_in_area page area = is_in_run (page_of area.start) (page_of area.size) page

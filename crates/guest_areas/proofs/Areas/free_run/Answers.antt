@@ -1,8 +1,8 @@
 use Rattle.std.proofs.Common.{ℕ, ◌≡◌, ◌+◌, ◌-◌, ◌/◌, ◌≤◌, ◌<◌, Bool, false, List, length, get_or, arith, sym, ap, ◌∙◌, Some, ⊎_elim}
 use Rattle.std.proofs.lemmas.Bool.{cases_lt}
 use Rattle.guest_areas.specs.Marks.{marked}
-use Rattle.guest_areas.specs.Space.{RegionMap, free_run_from, free_run}
-use Rattle.guest_areas.proofs.FreeRuns.{none_short, search_taken, search_found}
+use Rattle.guest_areas.specs.Space.{RegionMap, free_run}
+use Rattle.guest_areas.proofs.FreeRuns.{free_run_from, none_short, search_is, search_taken, search_found}
 use Rattle.guest_areas.proofs.Areas.free_run.Goals as goal
 use Rattle.guest_areas.proofs.Areas.free_run.Goals.{then-is_mapped, else-is_mapped}
 
@@ -50,8 +50,8 @@ loop-place-preserved c =
     ]
 
 -- the search over all of the region
-whole : (r : RegionMap) (count n : ℕ) → n ≡ r.layout.map / 4096 → free_run_from r count n 34603008 ≡ free_run r count
-whole r count n e = ap (λ (x : ℕ). free_run_from r count x 34603008) e
+whole : (r : RegionMap) (count n : ℕ) → 0 < count → n ≡ r.layout.map / 4096 → free_run_from r count n 34603008 ≡ free_run r count
+whole r count n some e = ap (λ (x : ℕ). free_run_from r count x 34603008) e ∙ search_is r count (r.layout.map / 4096) 34603008 some
 
 pub returns-then-free-count-clause-page : goal.returns-then-free-count-clause-page
 returns-then-free-count-clause-page c =
@@ -67,7 +67,7 @@ returns-then-free-count-clause-page c =
       | else-is_mapped w ↦
           ap (λ (x : ℕ). Some (34603008 + x)) (let e : c.loop-place.place + 1 - c.args.count ≡ c.loop-place.place - c.loop-place.free = omega arith in e)
           ∙ sym (search_found c.args.self.now 34603008 c.args.count c.loop-place.place c.loop-place.free c.deref-is_mapped-items.result.now mapped (omega arith) back c.loop-place-test.true c.loop-place.invariant.open_ w.if-is_mapped.false)
-          ∙ c.loop-place.invariant.search_ ∙ whole c.args.self.now c.args.count (length c.deref-is_mapped-items.result.now) size
+          ∙ c.loop-place.invariant.search_ ∙ whole c.args.self.now c.args.count (length c.deref-is_mapped-items.result.now) c.requires size
     ]
 
 pub returns-clause-page : goal.returns-clause-page
@@ -79,7 +79,7 @@ returns-clause-page c =
     let end : length c.deref-is_mapped-items.result.now ≤ c.loop-place.place = c.loop-place-test.false in
     let top = c.loop-place.auto.place-end in
     sym (none_short c.args.self.now c.args.count (length c.deref-is_mapped-items.result.now - (c.loop-place.place - c.loop-place.free)) (34603008 + (c.loop-place.place - c.loop-place.free)) (omega arith))
-    ∙ c.loop-place.invariant.search_ ∙ whole c.args.self.now c.args.count (length c.deref-is_mapped-items.result.now) size
+    ∙ c.loop-place.invariant.search_ ∙ whole c.args.self.now c.args.count (length c.deref-is_mapped-items.result.now) c.requires size
 
 pub returns-then-free-count-clause-within : goal.returns-then-free-count-clause-within
 returns-then-free-count-clause-within c =

@@ -1,5 +1,5 @@
 use Rattle.std.proofs.Common.{ℕ, ◌≡◌, ◌+◌, ◌-◌, ◌≤◌, ◌<◌, false, length, get_or}
-use Rattle.guest_areas.specs.Space.{free_run_from}
+use Rattle.guest_areas.proofs.FreeRuns.{free_run_from}
 use Rattle.guest_areas.proofs.Areas.free_run.Given as goal
 
 abbrev pub invariant-loop-place : goal.invariant-loop-place
