@@ -68,7 +68,7 @@ module _ (hs : List Hart) (cap : ℕ) (ws : List Waiter) (r : RegionMap) (m : Me
   kept-woken a n kept = record {
     few = let same = length-run_each (woken a ws n) hs in let few : length hs ≤ 256 = kept.few in omega (arith, same);
     room = kept.room;
-    waiting = waiting-woken hs a ws n kept.apart kept.waiting;
+    waiting = waiting-woken hs a ws n kept.waiting;
     apart = apart-left a ws n kept.apart;
     shared = kept.shared;
   }

@@ -74,7 +74,8 @@ next_idle harts k among = ap (runs_at harts) (eqb-true k (length harts) (only_on
 
 -- those that are woken
 pub not_woken : (h address : ℕ) (ws : List Waiter) (count : ℕ) → AreOthers h ws → is_among h (woken address ws count) ≡ false
-not_woken h address [] count others = refl
+not_woken h address [] zero others = refl
+not_woken h address [] (suc count) others = refl
 not_woken h address (w ∷ ws) zero others = refl
 not_woken h address (w ∷ ws) (suc count) others =
     ⊎_elim
@@ -96,7 +97,8 @@ idle_step harts k h among waits rest e =
     (cases_eq k h)
 
 pub woken_idle : (harts : List Hart) (k address : ℕ) (ws : List Waiter) (count : ℕ) → AreWaiting harts ws → is_among k (woken address ws count) ≡ true → runs_at harts k ≡ false
-woken_idle harts k address [] count waiting among = absurd (let never : false ≡ true = among in cc)
+woken_idle harts k address [] zero waiting among = absurd (let never : false ≡ true = among in cc)
+woken_idle harts k address [] (suc count) waiting among = absurd (let never : false ≡ true = among in cc)
 woken_idle harts k address (w ∷ ws) zero waiting among = absurd (let never : false ≡ true = among in cc)
 woken_idle harts k address (w ∷ ws) (suc count) waiting among =
     ⊎_elim
@@ -105,7 +107,8 @@ woken_idle harts k address (w ∷ ws) (suc count) waiting among =
     (cases_Bool (eqb w.address address))
 
 pub apart_woken : (address : ℕ) (ws : List Waiter) (count : ℕ) → AreApart ws → AllApart (woken address ws count)
-apart_woken address [] count apart = tt
+apart_woken address [] zero apart = tt
+apart_woken address [] (suc count) apart = tt
 apart_woken address (w ∷ ws) zero apart = tt
 apart_woken address (w ∷ ws) (suc count) apart =
     ⊎_elim

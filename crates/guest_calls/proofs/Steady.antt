@@ -1,5 +1,6 @@
 -- Of all instructions only `ecall` is a call, and none changes the load areas or the layout.
 use Rattle.std.proofs.Common.{ℕ, zero, suc, ◌≡◌, ◌+◌, ◌/◌, ◌%◌, ◌==◌, Bool, cond, Option, Some, None, refl, ap, ◌∙◌, ◌⊎◌, inl, inr, true, false}
+use Rattle.std.specs.Int.{bytes_low_first}
 use Rattle.coz_types.specs.declared.ending.TrapCause.{TrapCause}
 use Rattle.coz_types.specs.declared.ending.TrapCause.TheVariants.{Access, Misaligned, Break}
 use Rattle.rv_decode.specs.declared.Instr.{Instr}
@@ -7,7 +8,8 @@ use Rattle.rv_decode.specs.declared.Instr.TheVariants.{Upper, Jal, Jalr, Branch,
 use Rattle.rv_decode.specs.declared.AtomicOp.{AtomicOp}
 use Rattle.rv_decode.specs.declared.AtomicOp.TheVariants.{Amoadd, Amoswap, Lr, Sc, Amoxor, Amoor, Amoand, Amomin, Amomax, Amominu, Amomaxu}
 use Rattle.rv_alu.specs.Operations.{stored_result, is_taken}
-use Rattle.guest_memory.specs.Memory.{MemoryMap, is_writable, load, store, with_number, with_byte}
+use Rattle.guest_memory.specs.Memory.{MemoryMap, is_writable, load, store, with_number}
+use Rattle.guest_memory.proofs.Runs.{same_regions-with_bytes}
 use Rattle.rv_execute.specs.declared.hart.Step.TheVariants.{Next, Call, Fault}
 use Rattle.rv_execute.specs.Reservations.{is_reserved, with_reservation, without_own}
 use Rattle.rv_execute.specs.Execution.{Setting, register, address_at, Executed, execute, next, put, jump, branch, fault, with_pc, with_register, pc_after, loaded, with_store, reserve, store_reserved, exchange, aligned, atomic, atomic_size, atomic_loaded}
@@ -43,17 +45,13 @@ loaded-steady : (rd : ℕ) (f : ℕ → ℕ) (o : Option ℕ) (s : Setting) → 
 loaded-steady rd f None s = fault-steady Access s
 loaded-steady rd f (Some n) s = put-steady rd (f n) s
 
-same_regions-with_number : (m : MemoryMap) (a n v : ℕ) → ((with_number a n v m).areas ≡ m.areas) × ((with_number a n v m).layout ≡ m.layout)
-same_regions-with_number m a zero v = (refl, refl)
-same_regions-with_number m a (suc n) v = same_regions-with_number (with_byte a (v % 256) m) (a + 1) n (v / 256)
-
 -- a memory after a store, if there is one, keeps the regions
 abbrev Keeps : MemoryMap → Option MemoryMap → Type 0
 Keeps m None = Unit {0}
 Keeps m (Some after) = (after.areas ≡ m.areas) × (after.layout ≡ m.layout)
 
 store-keeps : (m : MemoryMap) (a size v : ℕ) → Keeps m (store a size v m)
-store-keeps m a size v = either (Keeps m) (is_writable m a size) (Some (with_number a size v m)) None (same_regions-with_number m a size v) tt
+store-keeps m a size v = either (Keeps m) (is_writable m a size) (Some (with_number a size v m)) None (same_regions-with_bytes m a (bytes_low_first 0 size v)) tt
 
 stored-steady : (a size : ℕ) (o : Option MemoryMap) (s : Setting) → Keeps s.memory o → Steady s.memory (elim o [ None ↦ fault s Access | Some memory ↦ next (with_store a size memory s) ])
 stored-steady a size None s k = fault-steady Access s

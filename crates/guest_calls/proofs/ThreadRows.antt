@@ -29,7 +29,7 @@ woken_beside : (g : Guest) (h address count : ℕ) → IsOrderly g → is_runnin
 woken_beside g h address count good runs = record {
   orderly = record {
     few = rw (length-run_each (woken address g.waiters count) g.harts) good.few;
-    waiting = waiting-woken g.harts address g.waiters count good.apart good.waiting;
+    waiting = waiting-woken g.harts address g.waiters count good.waiting;
     apart = apart-left address g.waiters count good.apart;
   };
   apart = (not_woken h address g.waiters count (others-running g.harts h g.waiters (runs_here g.harts h runs) good.waiting), apart_woken address g.waiters count good.apart);

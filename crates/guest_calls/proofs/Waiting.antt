@@ -1,9 +1,10 @@
 -- The harts that wait, as harts change.
-use Rattle.std.proofs.Common.{ℕ, zero, suc, ◌≡◌, ◌≢◌, ◌<◌, true, false, eqb, List, [], ◌∷◌, ◌++◌, length, get_or, set, refl, sym, ap, ◌∙◌, ⊎_elim, arith}
-use Rattle.std.proofs.lemmas.Bool.{cases_Bool}
+use Rattle.std.proofs.Common.{ℕ, zero, suc, ◌≡◌, ◌≢◌, ◌<◌, Bool, true, false, not, ◌||◌, ◌==◌, eqb, filter, List, [], ◌∷◌, ◌++◌, length, get_or, set, refl, sym, ap, ◌∙◌, ⊎_elim, arith}
+use Rattle.std.specs.List.{list_any}
+use Rattle.std.proofs.lemmas.Bool.{cases_Bool, eq-eqb}
 use Rattle.std.proofs.lemmas.List.{length-set}
 use Rattle.guest_futex.specs.Waiters.{Waiter, with_waiter, woken, left}
-use Rattle.guest_futex.specs.Apart.{AreOthers, AreApart}
+use Rattle.guest_futex.specs.Apart.{AreOthers}
 use Rattle.guest_calls.specs.declared.hart.Hart.{Hart}
 use Rattle.guest_calls.specs.declared.hart.HartStatus.{HartStatus}
 use Rattle.guest_calls.specs.declared.hart.HartStatus.TheVariants.{Running, Waiting, Gone}
@@ -82,53 +83,52 @@ unfolding AllOthers
 waiting-run_each [] hs ws others waiting = waiting
 waiting-run_each (h ∷ more) hs ws others waiting = waiting-run_each more (run h hs) ws others.1 (waiting-elsewhere hs h (record (get_or hs h no_hart) { status = Running }) ws others.0 waiting)
 
-others-left : (h address : ℕ) (ws : List Waiter) (count : ℕ) → AreOthers h ws → AreOthers h (left address ws count)
-others-left h address [] count others = tt
-others-left h address (w ∷ ws) zero others = others
-others-left h address (w ∷ ws) (suc count) others =
-    ⊎_elim
-    (λ (here : eqb w.address address ≡ true). rw here (others-left h address ws count others.1))
-    (λ (elsewhere : eqb w.address address ≡ false). rw elsewhere (others.0, others-left h address ws (suc count) others.1))
-    (cases_Bool (eqb w.address address))
+either_false : (a b : Bool) → (a || b) ≡ false → (a ≡ false) × (b ≡ false)
+either_false true b h = absurd (let never : true ≡ false = h in cc)
+either_false false b h = (refl, h)
 
-all_others-more : (w : Waiter) (address : ℕ) (ws : List Waiter) (count : ℕ) (rest : List Waiter) → AreOthers w.hart ws → AllOthers (woken address ws count) rest → AllOthers (woken address ws count) (w ∷ rest)
-unfolding AllOthers
-all_others-more w address [] count rest others all = tt
-all_others-more w address (x ∷ xs) zero rest others all = tt
-all_others-more w address (x ∷ xs) (suc count) rest others all =
+not_true : (b : Bool) → not b ≡ true → b ≡ false
+not_true true h = absurd (let never : false ≡ true = h in cc)
+not_true false h = refl
+
+-- a hart that none of those that are kept is
+others-filter : (h : ℕ) (keeps : Waiter → Bool) (ws : List Waiter) → ((w : Waiter) → keeps w ≡ true → w.hart ≢ h) → AreOthers h (filter keeps ws)
+others-filter h keeps [] apart = tt
+others-filter h keeps (w ∷ ws) apart =
     ⊎_elim
-    (λ (here : eqb x.address address ≡ true).
-    let parts : AreOthers x.hart rest × AllOthers (woken address xs count) rest = rw here at all in
-    rw here (((λ (is : w.hart ≡ x.hart). others.0 (sym is)), parts.0), all_others-more w address xs count rest others.1 parts.1))
-    (λ (elsewhere : eqb x.address address ≡ false).
-    let same : AllOthers (woken address xs (suc count)) rest = rw elsewhere at all in
-    rw elsewhere (all_others-more w address xs (suc count) rest others.1 same))
-    (cases_Bool (eqb x.address address))
+    (λ (yes : keeps w ≡ true). rw yes (apart w yes, others-filter h keeps ws apart))
+    (λ (no : keeps w ≡ false). rw no (others-filter h keeps ws apart))
+    (cases_Bool (keeps w))
+
+-- none of these harts is, where none of them is a kept one's
+all_others-filter : (hs : List ℕ) (keeps : Waiter → Bool) (ws : List Waiter) → ((w : Waiter) → keeps w ≡ true → list_any (λ hart. hart == w.hart) hs ≡ false) → AllOthers hs (filter keeps ws)
+unfolding AllOthers
+all_others-filter [] keeps ws apart = tt
+all_others-filter (h ∷ hs) keeps ws apart = (
+  others-filter h keeps ws (λ w kept is.
+  let here : list_any (λ hart. hart == w.hart) (h ∷ hs) ≡ true = rw (eq-eqb h w.hart (sym is)) refl in
+  let never : true ≡ false = sym here ∙ apart w kept in
+  cc),
+  all_others-filter hs keeps ws (λ w kept. (either_false (h == w.hart) (list_any (λ hart. hart == w.hart) hs) (apart w kept)).1),
+)
 
 -- none of the woken is left
-woken-not_left : (address : ℕ) (ws : List Waiter) (count : ℕ) → AreApart ws → AllOthers (woken address ws count) (left address ws count)
-unfolding AllOthers
-woken-not_left address [] count apart = tt
-woken-not_left address (w ∷ ws) zero apart = tt
-woken-not_left address (w ∷ ws) (suc count) apart =
-    ⊎_elim
-    (λ (here : eqb w.address address ≡ true). rw here (others-left w.hart address ws count apart.1, woken-not_left address ws count apart.2))
-    (λ (elsewhere : eqb w.address address ≡ false). rw elsewhere (all_others-more w address ws (suc count) (left address ws (suc count)) apart.1 (woken-not_left address ws (suc count) apart.2)))
-    (cases_Bool (eqb w.address address))
+woken-not_left : (address : ℕ) (ws : List Waiter) (count : ℕ) → AllOthers (woken address ws count) (left address ws count)
+woken-not_left address ws count =
+    all_others-filter (woken address ws count) _ ws (λ w kept. not_true (list_any (λ hart. hart == w.hart) (woken address ws count)) kept)
 
-pub waiting-left : (hs : List Hart) (address : ℕ) (ws : List Waiter) (count : ℕ) → AreWaiting hs ws → AreWaiting hs (left address ws count)
-waiting-left hs address [] count waiting = tt
-waiting-left hs address (w ∷ ws) zero waiting = waiting
-waiting-left hs address (w ∷ ws) (suc count) waiting =
+waiting-filter : (hs : List Hart) (keeps : Waiter → Bool) (ws : List Waiter) → AreWaiting hs ws → AreWaiting hs (filter keeps ws)
+waiting-filter hs keeps [] waiting = tt
+waiting-filter hs keeps (w ∷ ws) waiting =
     ⊎_elim
-    (λ (here : eqb w.address address ≡ true). rw here (waiting-left hs address ws count waiting.1))
-    (λ (elsewhere : eqb w.address address ≡ false). rw elsewhere (waiting.0, waiting-left hs address ws (suc count) waiting.1))
-    (cases_Bool (eqb w.address address))
+    (λ (yes : keeps w ≡ true). rw yes (waiting.0, waiting-filter hs keeps ws waiting.1))
+    (λ (no : keeps w ≡ false). rw no (waiting-filter hs keeps ws waiting.1))
+    (cases_Bool (keeps w))
 
 -- the woken run, and the others wait on
-pub waiting-woken : (hs : List Hart) (address : ℕ) (ws : List Waiter) (count : ℕ) → AreApart ws → AreWaiting hs ws → AreWaiting (with_running_each (woken address ws count) hs) (left address ws count)
-waiting-woken hs address ws count apart waiting =
-    waiting-run_each (woken address ws count) hs (left address ws count) (woken-not_left address ws count apart) (waiting-left hs address ws count waiting)
+pub waiting-woken : (hs : List Hart) (address : ℕ) (ws : List Waiter) (count : ℕ) → AreWaiting hs ws → AreWaiting (with_running_each (woken address ws count) hs) (left address ws count)
+waiting-woken hs address ws count waiting =
+    waiting-run_each (woken address ws count) hs (left address ws count) (woken-not_left address ws count) (waiting-filter hs _ ws waiting)
 
 -- a hart that waits was made
 made-waiting : (hs : List Hart) (h : ℕ) → status_at hs h ≡ Waiting → h < length hs
@@ -142,7 +142,8 @@ AllBelow n (h ∷ hs) = (h < n) × AllBelow n hs
 
 below-woken : (hs : List Hart) (address : ℕ) (ws : List Waiter) (count : ℕ) → AreWaiting hs ws → AllBelow (length hs) (woken address ws count)
 unfolding AllBelow
-below-woken hs address [] count waiting = tt
+below-woken hs address [] zero waiting = tt
+below-woken hs address [] (suc count) waiting = tt
 below-woken hs address (w ∷ ws) zero waiting = tt
 below-woken hs address (w ∷ ws) (suc count) waiting =
     ⊎_elim

@@ -16,7 +16,7 @@ returns c =
     let found : Some c.in-Some.instr ≡ instruction_of c.in-Ok.word = sym c.in-Some.is ∙ c.decode.ensures.table in
     step-in_place c.self.inside.harts.items c.self.inside.areas c.self.inside.memory c.execute.new.memory c.self.inside.reservations c.execute.new.reservations c.self.inside.queue c.self.inside.input.now c.self.inside.output c.args.self.now
     c.args.hart.0 c.in-Ok.word c.in-Some.instr c.index_mut.result.now c.execute.new.hart c.execute.result
-    c.self.view_is at c.in-Ok.ensures found c.execute.ensures
+    c.self.view_is at c.in-Ok.ensures found c.execute.ensures.effect
 
 pub returns-in_default : goal.returns-in_default
 returns-in_default c = step-unfetched _ _ c.in_default.ensures
@@ -39,5 +39,5 @@ invariant_of-self c =
       apart = kept.apart;
       shared =
           shares-executed c.self.inside.areas c.args.hart.0 c.in-Some.instr (setting c.index_mut.result.now.state c.self.inside.memory c.self.inside.reservations) c.execute.new.hart c.execute.new.memory c.execute.new.reservations c.execute.result
-          c.execute.ensures c.self.invariant.shared;
+          c.execute.ensures.effect c.self.invariant.shared;
     }
