@@ -284,6 +284,3 @@ impl Areas {
         is_in_run(area.start / PAGE, area.size / PAGE, page)
     }
 }
-
-#[cfg(test)]
-mod tests;

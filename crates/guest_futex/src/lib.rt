@@ -3,8 +3,6 @@
 
 mod hart_list;
 mod queue;
-#[cfg(test)]
-mod tests;
 
 pub use hart_list::HartList;
 pub use queue::Queue;

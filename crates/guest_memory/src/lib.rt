@@ -569,6 +569,3 @@ impl Memory {
         }
     }
 }
-
-#[cfg(test)]
-mod tests;

@@ -4,9 +4,6 @@
 //! "Conditional Branches"), RV64I, M and A. A register holds 64 bits, and no operation traps.
 #![tactic(auto)]
 
-#[cfg(test)]
-mod tests;
-
 ghost use Rattle.std.specs.Prelude.{◌≡◌, ◌^◌, ◌<◌, IsTrue};
 ghost use Rattle.rv_decode.specs.Instructions.{amount_bits};
 ghost use Rattle.rv_alu.specs.Operations.{low_half, extended, quotient, unsigned_quotient, remainder, unsigned_remainder, register_result, immediate_result, shift_result, is_taken, is_amo, atomic_result, stored_result};

@@ -15,8 +15,6 @@ ghost use Rattle.rv_decode.specs.Instructions.{InRange, instruction_of, code_fie
 mod decoder;
 mod fields;
 mod operations;
-#[cfg(test)]
-mod tests;
 
 pub use decoder::decode;
 

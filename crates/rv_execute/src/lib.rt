@@ -9,8 +9,6 @@ mod hart;
 mod integer;
 mod memory_access;
 mod reservations;
-#[cfg(test)]
-mod tests;
 
 ghost use Rattle.std.specs.Prelude.{◌≡◌, ◌<◌, ◌↔◌, slice_index};
 ghost use Rattle.rv_decode.specs.Instructions.{InRange};

@@ -1,8 +1,8 @@
 ghost use Rattle.std.specs.Prelude.{◌≡◌, ◌≢◌, ◌+◌, ◌<◌, ◌≤◌, length, All};
 ghost use Rattle.guest_futex.specs.Waiters.{with_waiter, woken, left};
 
-use super::*;
 use coz_types::HartId;
+use guest_futex::{HartList, Queue};
 use std::alloc::AllocError;
 use std::test::Fail;
 

@@ -2,7 +2,8 @@ ghost use Rattle.std.specs.Prelude.{◌≡◌, ◌^◌};
 ghost use Rattle.rv_decode.specs.Instructions.{amount_bits};
 ghost use Rattle.rv_alu.specs.Operations.{is_amo};
 
-use super::*;
+use rv_alu::{atomic, immediate, register, shift, taken};
+use rv_decode::{AtomicOp, BranchOp, ImmOp, RegOp, ShiftOp};
 
 const MIN: u64 = 0x8000_0000_0000_0000;
 

@@ -1,14 +1,14 @@
 //! Words that GNU as writes for riscv64, and words that no instruction of RV64IMA has.
 
-use super::AtomicOp::*;
-use super::BranchOp::*;
-use super::ImmOp::*;
-use super::LoadOp::*;
-use super::RegOp::*;
-use super::ShiftOp::*;
-use super::StoreOp::*;
-use super::UpperOp::*;
-use super::{
+use rv_decode::AtomicOp::*;
+use rv_decode::BranchOp::*;
+use rv_decode::ImmOp::*;
+use rv_decode::LoadOp::*;
+use rv_decode::RegOp::*;
+use rv_decode::ShiftOp::*;
+use rv_decode::StoreOp::*;
+use rv_decode::UpperOp::*;
+use rv_decode::{
     AtomicOp, BranchOp, ImmOp, Instr, LoadOp, RegOp, ShiftOp, StoreOp, UpperOp, decode, encode,
 };
 use std::process::Abort;

@@ -1,7 +1,9 @@
 ghost use Rattle.std.specs.Prelude.{◌≡◌, IfOk};
 ghost use Rattle.guest_memory.specs.Regions.{usual};
 
-use super::*;
+use coz_types::{Address, Area, Image, Rights};
+use guest_memory::{Access, Layout, Memory};
+use std::alloc::{AllocError, Global};
 use std::test::Fail;
 
 // These lie on both sides of the border of the area's two pages.
@@ -10,6 +12,12 @@ const FILE: [u8; 5] = [0x13, 0x01, 0x50, 0x00, 0x73];
 const BORDER: Address = 0x10FFE;
 
 const STACK: Address = 0x3F_FFF0_0000;
+
+const STACK_TOP: Address = 0x40_0000_0000;
+
+const BRK_BASE: Address = 0x20_0000_0000;
+
+const MIB: u64 = 1024 * 1024;
 
 fn program(alloc: Global) -> Result<Memory, AllocError>
     ensures { IfOk result (λ memory. memory.layout ≡ usual) }

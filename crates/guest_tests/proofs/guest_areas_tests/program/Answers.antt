@@ -1,6 +1,6 @@
 use Rattle.std.proofs.Common.{refl, lit<, lit≤}
 use Rattle.coz_types.specs.Image.{one_area}
-use Rattle.guest_areas.proofs.tests.program.Goals as goal
+use Rattle.guest_tests.proofs.guest_areas_tests.program.Goals as goal
 
 pub new-image-requires : goal.new-image-requires
 new-image-requires c =

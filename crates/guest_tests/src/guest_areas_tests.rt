@@ -1,8 +1,10 @@
 ghost use Rattle.std.specs.Prelude.{IfOk};
 ghost use Rattle.guest_areas.specs.Space.{SharesRegions};
 
-use super::*;
-use guest_memory::Access;
+use coz_types::{Address, Area, Image, Rights};
+use guest_areas::Areas;
+use guest_memory::{Access, Layout, Memory};
+use std::alloc::{AllocError, Global};
 use std::test::Fail;
 
 const FILE: [u8; 4] = [0x73, 0, 0, 0];
@@ -10,6 +12,10 @@ const FILE: [u8; 4] = [0x73, 0, 0, 0];
 const TEXT: Address = 0x10000;
 
 const MIB: u64 = 1024 * 1024;
+
+const BRK_BASE: Address = 0x20_0000_0000;
+
+const MAP_BASE: Address = 0x21_0000_0000;
 
 const MAPPED: i64 = 0x21_0000_0000;
 

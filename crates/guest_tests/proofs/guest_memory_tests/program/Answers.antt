@@ -4,7 +4,7 @@ use Rattle.guest_memory.specs.Memory.{MemoryMap, first_memory}
 use Rattle.guest_memory.specs.Regions.{usual}
 use Rattle.std.proofs.lemmas.Result.{IfOk-weaker}
 use Rattle.guest_memory.proofs.Runs.{same_regions-first}
-use Rattle.guest_memory.proofs.tests.program.Goals as goal
+use Rattle.guest_tests.proofs.guest_memory_tests.program.Goals as goal
 
 pub new-image-requires : goal.new-image-requires
 new-image-requires c =

@@ -2,10 +2,10 @@ ghost use Rattle.std.specs.Prelude.{◌≡◌, IsTrue};
 ghost use Rattle.rv_decode.specs.Fields.{is_signed};
 ghost use Rattle.rv_decode.specs.Instructions.{InRange};
 
-use super::*;
-use coz_types::{Address, Area, Image, Rights};
-use guest_memory::Layout;
-use rv_decode::{AtomicOp, BranchOp, ImmOp, LoadOp, RegOp, ShiftOp, StoreOp, UpperOp};
+use coz_types::{Address, Area, HartId, Image, Rights, TrapCause};
+use guest_memory::{Layout, Memory};
+use rv_decode::{AtomicOp, BranchOp, ImmOp, Instr, LoadOp, RegOp, ShiftOp, StoreOp, UpperOp};
+use rv_execute::{HartState, Reservations, Step, execute};
 use std::alloc::{AllocError, Global};
 use std::test::Fail;
 
