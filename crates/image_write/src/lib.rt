@@ -91,6 +91,3 @@ pub fn write_elf(alloc: Global, assembled: &Assembled, name: &[u8]) -> Result<Ve
     let unit = unit(alloc, assembled.lines.as_slice(), name)?;
     file_with(alloc, assembled, unit.as_slice())
 }
-
-#[cfg(test)]
-mod tests;

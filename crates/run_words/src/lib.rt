@@ -11,6 +11,3 @@ mod request;
 pub use command::Command;
 pub use line::{first_piece, is_line, is_list, line_parts};
 pub use request::{Request, read_words};
-
-#[cfg(test)]
-mod tests;

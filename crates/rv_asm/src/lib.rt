@@ -102,6 +102,3 @@ pub fn assemble(alloc: Global, source: &[u8]) -> Result<Assembled, AsmError>
         entry: entry(&state),
     })
 }
-
-#[cfg(test)]
-mod tests;

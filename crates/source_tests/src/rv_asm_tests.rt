@@ -1,4 +1,5 @@
-use super::*;
+use rv_asm::{AsmError, AsmKind, assemble};
+use std::alloc::Global;
 use std::test::Fail;
 
 /// The kind, line and column of a source's fault.

@@ -1,4 +1,4 @@
-use crate::{Command, first_piece, is_line, is_list, line_parts, read_words};
+use run_words::{Command, first_piece, is_line, is_list, line_parts, read_words};
 use std::alloc::{AllocError, Global};
 use std::test::Fail;
 

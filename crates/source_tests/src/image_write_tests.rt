@@ -1,6 +1,6 @@
-use super::*;
 use coz_lists::Items;
-use rv_asm::assemble;
+use image_write::write_elf;
+use rv_asm::{Assembled, assemble};
 use std::test::Fail;
 
 // A caller of both has nothing to test in between.

@@ -1,0 +1,9 @@
+//! Tests of the libraries that read words and sources and write programs, and nothing else.
+#![tactic(auto)]
+
+#[cfg(test)]
+mod image_write_tests;
+#[cfg(test)]
+mod run_words_tests;
+#[cfg(test)]
+mod rv_asm_tests;
