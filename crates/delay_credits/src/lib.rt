@@ -2,8 +2,6 @@
 #![tactic(auto)]
 
 mod seat;
-#[cfg(test)]
-mod tests;
 
 ghost use Rattle.std.specs.Prelude.{◌≡◌, ◌+◌, ◌≤◌, ◌<◌, ◌^◌, false, length, replicate, IfOk, IsTrue};
 ghost use Rattle.machines.specs.Delayed.{fresh, is_running, total};

@@ -146,6 +146,3 @@ fn is_sent<T: Send>() {}
 fn short_is_sent() {
     is_sent::<Short<'static>>()
 }
-
-#[cfg(test)]
-mod tests;

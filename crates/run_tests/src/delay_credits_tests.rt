@@ -1,4 +1,5 @@
-use super::*;
+use coz_types::HartId;
+use delay_credits::Credits;
 use std::test::Fail;
 
 #[test]

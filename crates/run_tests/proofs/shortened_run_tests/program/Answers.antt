@@ -1,6 +1,6 @@
 use Rattle.std.proofs.Common.{refl, lit<, lit≤}
 use Rattle.coz_types.specs.Image.{one_area}
-use Rattle.shortened_run.proofs.tests.program.Goals as goal
+use Rattle.run_tests.proofs.shortened_run_tests.program.Goals as goal
 
 pub new-requires : goal.new-requires
 new-requires c =

@@ -1,11 +1,15 @@
 ghost use Rattle.std.specs.Prelude.{◌≤◌, ◌<◌, length};
 
-use super::*;
 use coz_lists::Items;
-use coz_types::{Account, Area, HartId, LineId, Outcome, PointId, Rights};
+use coz_types::{
+    Account, Area, Ending, HartId, Image, LineId, Outcome, PointId, Rights, Tick, Visit,
+};
 use dwarf_lines::{FileName, LineTable, Row};
 use guest_memory::Layout;
-use progress_points::PointsError;
+use line_index::LineIndex;
+use progress_points::{Points, PointsError};
+use shortened_run::{Choice, Short};
+use std::alloc::{AllocError, Global};
 use std::test::Fail;
 use virtual_run::Machine;
 

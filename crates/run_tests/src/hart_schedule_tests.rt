@@ -1,6 +1,7 @@
 ghost use Rattle.std.specs.Prelude.{◌≡◌};
 
-use super::*;
+use coz_types::{HartId, Tick};
+use hart_schedule::Schedule;
 use std::test::Fail;
 
 #[test]

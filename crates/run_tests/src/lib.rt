@@ -1,0 +1,9 @@
+//! Tests of the libraries that run a guest, and nothing else.
+#![tactic(auto)]
+
+#[cfg(test)]
+mod delay_credits_tests;
+#[cfg(test)]
+mod hart_schedule_tests;
+#[cfg(test)]
+mod shortened_run_tests;
