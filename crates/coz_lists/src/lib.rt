@@ -53,6 +53,3 @@ fn is_shared<T: Send + Sync>() {}
 fn items_are_shared() {
     is_shared::<Items<u64>>()
 }
-
-#[cfg(test)]
-mod tests;

@@ -170,6 +170,3 @@ pub fn read_lines<'a>(alloc: Global, section: &'a [u8]) -> Result<LineTable<'a>,
     }
     Ok(draft.into_table())
 }
-
-#[cfg(test)]
-mod tests;

@@ -122,6 +122,3 @@ pub fn section<'a>(image: &Image<'a>, name: &[u8]) -> Option<&'a [u8]>
 {
     section_of(image.file(), name)
 }
-
-#[cfg(test)]
-mod tests;

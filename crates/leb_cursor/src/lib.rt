@@ -240,6 +240,3 @@ fn signed_value_of(bytes: &[u8]) -> Option<i64>
     }
     Some(value)
 }
-
-#[cfg(test)]
-mod tests;

@@ -123,6 +123,3 @@ fn is_shared<T: Send + Sync>() {}
 fn index_is_shared() {
     is_shared::<LineIndex>()
 }
-
-#[cfg(test)]
-mod tests;

@@ -107,6 +107,3 @@ fn is_shared<T: Send + Sync>() {}
 fn points_are_shared() {
     is_shared::<Points>()
 }
-
-#[cfg(test)]
-mod tests;

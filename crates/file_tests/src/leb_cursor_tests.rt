@@ -1,4 +1,4 @@
-use super::*;
+use leb_cursor::{Cursor, LebFault, Short};
 
 const SHORT: LebFault = LebFault::Short(Short { place: 0 });
 

@@ -1,7 +1,9 @@
-use super::*;
 use coz_lists::Items;
-use coz_types::{Area, Image, Rights};
+use coz_types::{Address, Area, Image, LineId, PointId, Rights};
 use dwarf_lines::{FileName, LineTable, Row};
+use line_index::LineIndex;
+use progress_points::{Points, PointsError};
+use std::alloc::{AllocError, Global};
 use std::test::Fail;
 
 const CODE: Area = Area {

@@ -1,6 +1,7 @@
 ghost use Rattle.std.specs.Prelude.{◌≤◌, length};
 
-use super::*;
+use dwarf_lines::{LineError, LineFault, LineKind, Row, read_lines};
+use std::alloc::Global;
 use std::test::Fail;
 
 /// A unit of version 4 with four rows. Its program begins at 37.

@@ -1,9 +1,9 @@
 use Rattle.std.proofs.Common.{refl, lit<, lit≤}
 use Rattle.coz_types.specs.Image.{one_area}
-use Rattle.line_index.proofs.tests.index_of.Goals as goal
+use Rattle.file_tests.proofs.coz_types_tests.an_image_of_one_area_is_made.Goals as goal
 
 pub new-image-requires : goal.new-image-requires
-new-image-requires c =
+new-image-requires g c =
     rw c.in_ok-vec.ensures.items (one_area _ _ _ _ _
     (record {
       whole_start = refl;

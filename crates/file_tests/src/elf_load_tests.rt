@@ -1,8 +1,9 @@
 ghost use Rattle.std.specs.Prelude.{◌≤◌};
 
-use super::ElfKind::*;
-use super::*;
 use coz_types::{Area, Rights};
+use elf_load::ElfKind::*;
+use elf_load::{ElfFault, ElfKind, LoadError, load, section};
+use std::alloc::{AllocError, Global};
 use std::process::Abort;
 use std::test::Fail;
 

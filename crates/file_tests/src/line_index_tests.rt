@@ -1,9 +1,10 @@
 ghost use Rattle.std.specs.Prelude.{◌≤◌, length};
 
-use super::*;
 use coz_lists::Items;
-use coz_types::{Area, Rights};
-use dwarf_lines::{FileName, Row};
+use coz_types::{Address, Area, Image, LineId, Rights};
+use dwarf_lines::{FileName, LineTable, Row};
+use line_index::{LineIndex, build};
+use std::alloc::{AllocError, Global};
 use std::test::Fail;
 
 const CODE: Area = Area {

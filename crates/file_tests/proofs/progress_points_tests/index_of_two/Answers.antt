@@ -1,6 +1,6 @@
 use Rattle.std.proofs.Common.{refl, lit<, lit≤}
 use Rattle.coz_types.specs.Image.{one_area}
-use Rattle.progress_points.proofs.tests.index_of_two.Goals as goal
+use Rattle.file_tests.proofs.progress_points_tests.index_of_two.Goals as goal
 
 pub new-image-requires : goal.new-image-requires
 new-image-requires c =

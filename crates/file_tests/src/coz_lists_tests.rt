@@ -1,4 +1,4 @@
-use super::*;
+use coz_lists::Items;
 use std::test::Fail;
 
 #[test]

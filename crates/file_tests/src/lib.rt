@@ -1,0 +1,17 @@
+//! Tests of the libraries that read programs and their lines, and nothing else.
+#![tactic(auto)]
+
+#[cfg(test)]
+mod coz_lists_tests;
+#[cfg(test)]
+mod coz_types_tests;
+#[cfg(test)]
+mod dwarf_lines_tests;
+#[cfg(test)]
+mod elf_load_tests;
+#[cfg(test)]
+mod leb_cursor_tests;
+#[cfg(test)]
+mod line_index_tests;
+#[cfg(test)]
+mod progress_points_tests;
