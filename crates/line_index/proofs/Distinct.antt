@@ -58,7 +58,7 @@ both_true : (s t : Bool) → (s && t) ≡ true → (s ≡ true) × (t ≡ true)
 both_true true t e = (refl, e)
 both_true false t e = let no : ⊥ = cc in absurd no
 
-key_same : (k m : Key) → eq_by_cmp key_cmp k m ≡ true → k ≡ m
+pub key_same : (k m : Key) → eq_by_cmp key_cmp k m ≡ true → k ≡ m
 key_same k m e =
     let both = both_true (k.path == m.path) (k.number == m.number) (key_ties k m ∙ e) in
     let path = eqb-true k.path m.path both.0 in

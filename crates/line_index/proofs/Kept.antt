@@ -10,15 +10,15 @@ use Rattle.std.proofs.lemmas.List.Elements.{recursion_from_All}
 use Rattle.coz_types.specs.Labels.{Text}
 use Rattle.line_index.specs.declared.LineIndex.TheInside.{Inside}
 use Rattle.line_index.specs.Lines.{Line, label, line_cmp}
-use Rattle.line_index.specs.Keys.{texts}
+use Rattle.line_index.specs.Keys.{HasPath, texts}
 use Rattle.line_index.specs.View.{IsWhole, index_view}
-use Rattle.line_index.proofs.Order.{HasPath, sorted_map, lines_in_order}
+use Rattle.line_index.proofs.Order.{sorted_map, lines_in_order}
 
 pub lines_kept : (inside : Inside) → IsWhole inside → IsStrictlySortedBy line_cmp (index_view inside).lines
 lines_kept inside whole =
     lines_in_order (texts inside.paths.items) inside.lines.items
     (sorted_map (λ (path : Vec ℕ). path.items) (slice_cmp nat_cmp) inside.paths.items whole.paths_rise)
-    (recursion_from_All (HasPath (texts inside.paths.items)) inside.lines.items whole.paths)
+    (recursion_from_All (HasPath (texts inside.paths.items)) inside.lines.items whole.have_paths)
     whole.keys_rise
 
 -- the label that is read is the line's

@@ -1,15 +1,63 @@
--- The first line that passes a test, by the keys of lines.
-use Rattle.std.proofs.Common.{◌≡◌, ℕ, ◌+◌, ◌<◌, ◌≤◌, Bool, true, false, not, List, [], ◌∷◌, length, map, drop, drop_of_length-le, get_or, Option, Some, None, cond, nat_lt, refl, sym, ap, ap₂, ◌∙◌}
-use Rattle.std.specs.Option.{option_or}
-use Rattle.std.specs.List.{position, position_from, position_or_len, prefix_len}
+-- Lines by name: what a search among keys and one among paths tell of the first line that passes.
+use Rattle.std.proofs.Common.{◌≡◌, ℕ, zero, suc, ◌+◌, ◌<◌, ◌≤◌, ⊎_elim, Bool, true, false, not, ◌&&◌, List, [], ◌∷◌, length, map, get_or, Option, Some, None, is_some, Result, Err, Ordering, All, Contains, cond, nat_lt, ◌==◌, bytes_eq, refl, sym, ap, ap₂, ◌∙◌, subst, arith}
+use Rattle.std.specs.declared.cmp.Ordering.TheVariants.{Less, Equal, Greater}
+use Rattle.std.specs.Ordering.{nat_cmp, ordering_then, is_eq}
+use Rattle.std.specs.Cmp.Lexicographic.{slice_cmp, nat_list_cmp_total}
+use Rattle.std.specs.List.{AllByRecursion, position, position_from, position_or_len, prefix_len}
+use Rattle.std.specs.List.Sorted.{IsStrictlySortedBy, IsBinarySearchResult}
+use Rattle.std.specs.Global.{Vec}
+use Rattle.std.specs.FinMap.{slice_cmp-IsAntisymmetric, nat_cmp-IsAntisymmetric}
+use Rattle.std.proofs.lemmas.Bool.{eqb-true, eq-eqb, lt-ltb, cases_lt, and_from, and_parts, false_from_ne_true}
+use Rattle.std.proofs.lemmas.Bool.Decides.{nat_tests}
+use Rattle.std.proofs.lemmas.Cmp.{ranked}
 use Rattle.std.proofs.lemmas.Iterator.Adapters.{position_from-zero}
-use Rattle.std.proofs.lemmas.List.{length-map, drop_more}
-use Rattle.line_index.specs.declared.find.Fit.TheVariants.{Whole, Ending, Other}
-use Rattle.line_index.specs.Keys.{line_fit}
+use Rattle.std.proofs.lemmas.List.{length-map, get_or-map}
+use Rattle.std.proofs.lemmas.List.Elements.{All-from_recursion, All-get_or, recursion_from_All}
+use Rattle.std.proofs.lemmas.List.Quantifiers.{position-Some}
+use Rattle.std.proofs.lemmas.List.Sums.{position_or_len_is}
+use Rattle.std.proofs.lemmas.Map.Keys.{Less-from_sorted}
+use Rattle.std.proofs.lemmas.Slice.Eq.{bytes_eq-Decides}
 use Rattle.line_index.specs.declared.lines.Key.{Key}
-use Rattle.line_index.specs.Changes.{or_else}
-use Rattle.line_index.specs.Lines.{is_line, is_line_below, found}
+use Rattle.line_index.specs.Lines.{ends_with, is_line, is_line_below}
+use Rattle.line_index.specs.Keys.{HasPath, is_key, key_cmp, path_cmp, texts, with_path}
 use Rattle.line_index.specs.Index.{line_at}
+use Rattle.line_index.proofs.Order.{self_equal}
+use Rattle.line_index.proofs.Distinct.{key_total, key_same}
+use Rattle.line_index.proofs.Found.{path_not_missed}
+use Rattle.line_index.proofs.Pieces.{to_among, among_mapped}
+
+-- ---- first places
+
+pub position_is : {X : Type 0} (p : X → Bool) (xs : List X) (i : ℕ) (d : X) → i < length xs → p (get_or xs i d) ≡ true → ((k : ℕ) → k < i → p (get_or xs k d) ≡ false) → position p xs ≡ Some i
+position_is p xs i d lt at before =
+    ap (λ n. cond (nat_lt n (length xs)) (Some n) None) (position_or_len_is p xs i d (omega arith) before (λ _. at))
+    ∙ ap (λ t. cond t (Some i) None) (lt-ltb i (length xs) lt)
+
+not_below_itself : (n : ℕ) → nat_lt n n ≡ false
+not_below_itself n = grind (arith, nat_tests)
+
+pub position_none : {X : Type 0} (p : X → Bool) (xs : List X) (d : X) → ((k : ℕ) → k < length xs → p (get_or xs k d) ≡ false) → position p xs ≡ None
+position_none p xs d none =
+    ap (λ n. cond (nat_lt n (length xs)) (Some n) None) (position_or_len_is p xs (length xs) d (omega arith) none (λ lt. absurd (omega arith)))
+    ∙ ap (λ t. cond t (Some (length xs)) None) (not_below_itself (length xs))
+
+none_by : {X : Type 0} (p : X → Bool) (i : ℕ) (x : X) (xs : List X) (t : Bool) → p x ≡ t → (position_from p (i + 1) xs ≡ None → AllByRecursion (λ x. p x ≡ false) xs) → cond t (Some i) (position_from p (i + 1) xs) ≡ None → (p x ≡ false) × AllByRecursion (λ x. p x ≡ false) xs
+none_by p i x xs true e more none = let no : ⊥ = cc in absurd no
+none_by p i x xs false e more none = (e, more none)
+
+none_from : {X : Type 0} (p : X → Bool) (i : ℕ) (xs : List X) → position_from p i xs ≡ None → AllByRecursion (λ x. p x ≡ false) xs
+none_from p i [] e = tt
+none_from p i (x ∷ xs) e = none_by p i x xs (p x) refl (none_from p (i + 1) xs) e
+
+pub none_passes : {X : Type 0} (p : X → Bool) (xs : List X) → position p xs ≡ None → All (λ x. p x ≡ false) xs
+none_passes p xs e = All-from_recursion (λ x. p x ≡ false) xs (none_from p 0 xs (sym (position_from-zero p xs) ∙ e))
+
+prefix_same : {X : Type 0} (p q : X → Bool) (xs : List X) → AllByRecursion (λ x. p x ≡ q x) xs → prefix_len (λ x. not (p x)) xs ≡ prefix_len (λ x. not (q x)) xs
+prefix_same p q [] all = refl
+prefix_same p q (x ∷ xs) all = ap₂ (λ t n. cond (not t) (1 + n) 0) all.0 (prefix_same p q xs all.1)
+
+position_same : {X : Type 0} (p q : X → Bool) (xs : List X) → AllByRecursion (λ x. p x ≡ q x) xs → position p xs ≡ position q xs
+position_same p q xs all = ap (λ n. cond (nat_lt n (length xs)) (Some n) None) (prefix_same p q xs all)
 
 prefix_len-map : {X Y : Type 0} (p : Y → Bool) (f : X → Y) (xs : List X) → prefix_len p (map f xs) ≡ prefix_len (λ x. p (f x)) xs
 prefix_len-map p f [] = refl
@@ -21,71 +69,182 @@ position-map p f xs =
     ap (λ n. cond (nat_lt n (length (map f xs))) (Some n) None) (prefix_len-map (λ y. not (p y)) f xs)
     ∙ ap (λ m. cond (nat_lt (position_or_len (λ x. p (f x)) xs) m) (Some (position_or_len (λ x. p (f x)) xs)) None) (length-map xs f)
 
-found_by : (text : List ℕ) (number : ℕ) (paths : List (List ℕ)) (keys : List Key)
-    → found text number (map (line_at paths) keys) ≡ or_else (position (λ (key : Key). is_line text number (line_at paths key)) keys) (position (λ (key : Key). is_line_below text number (line_at paths key)) keys)
-found_by text number paths keys =
-    ap (λ x. or_else x (position (is_line_below text number) (map (line_at paths) keys))) (position-map (is_line text number) (line_at paths) keys)
-    ∙ ap (λ x. or_else (position (λ (key : Key). is_line text number (line_at paths key)) keys) x) (position-map (is_line_below text number) (line_at paths) keys)
+-- ---- keys
 
--- what the lines from a place on add to the first one before them whose path ends with the text
-abbrev pub found_from : List ℕ → ℕ → List (List ℕ) → Option ℕ → ℕ → List Key → Option ℕ
-found_from text number paths ending i ahead =
-    or_else (position_from (λ (key : Key). is_line text number (line_at paths key)) i ahead) (or_else ending (position_from (λ (key : Key). is_line_below text number (line_at paths key)) i ahead))
+is_key_true : (key other : Key) → is_key key other ≡ true → other ≡ key
+is_key_true key other e =
+    let parts = and_parts (other.number == key.number) (other.path == key.path) e in
+    let number = eqb-true other.number key.number parts.0 in
+    let path = eqb-true other.path key.path parts.1 in
+    λ i. record { path = path i; number = number i }
 
-pub found_starts : (text : List ℕ) (number : ℕ) (paths : List (List ℕ)) (keys : List Key) → found text number (map (line_at paths) keys) ≡ found_from text number paths None 0 keys
-found_starts text number paths keys =
-    found_by text number paths keys
-    ∙ ap₂ or_else (position_from-zero (λ (key : Key). is_line text number (line_at paths key)) keys) (position_from-zero (λ (key : Key). is_line_below text number (line_at paths key)) keys)
+true_is_key : (key : Key) → is_key key key ≡ true
+true_is_key key = and_from (key.number == key.number) (key.path == key.path) (eq-eqb key.number key.number refl) (eq-eqb key.path key.path refl)
 
-whole_by : (whole ending : Bool) (i : ℕ) (rest below : Option ℕ) → cond whole Whole (cond ending Ending Other) ≡ Whole → or_else (cond whole (Some i) rest) below ≡ Some i
-whole_by true ending i rest below e = refl
-whole_by false true i rest below e = let no : ⊥ = cc in absurd no
-whole_by false false i rest below e = let no : ⊥ = cc in absurd no
+same_key : (key other : Key) → key_cmp other key ≡ Equal → other ≡ key
+same_key key other e = key_same other key (ap is_eq e)
 
-ending_by : (whole ending : Bool) (i : ℕ) (before rest below : Option ℕ) → cond whole Whole (cond ending Ending Other) ≡ Ending → or_else (cond whole (Some i) rest) (or_else before (cond ending (Some i) below)) ≡ or_else rest (or_else (or_else before (Some i)) below)
-ending_by true ending i before rest below e = let no : ⊥ = cc in absurd no
-ending_by false true i None rest below e = refl
-ending_by false true i (Some k) rest below e = refl
-ending_by false false i before rest below e = let no : ⊥ = cc in absurd no
+not_earlier : (keys : List Key) (key : Key) (i k : ℕ) → IsStrictlySortedBy key_cmp keys → i < length keys → k < i → get_or keys i key ≡ key → get_or keys k key ≡ key → ⊥
+not_earlier keys key i k up within lt here there =
+    let less = Less-from_sorted key_cmp keys k i key up lt within in
+    let twice : key_cmp key key ≡ Less = ap (λ m. key_cmp m key) (sym there) ∙ ap (λ m. key_cmp (get_or keys k key) m) (sym here) ∙ less in
+    let same = self_equal key_total key in
+    let no : Less ≡ Equal = sym twice ∙ same in
+    cc
 
-other_by : (whole ending : Bool) (i : ℕ) (before rest below : Option ℕ) → cond whole Whole (cond ending Ending Other) ≡ Other → or_else (cond whole (Some i) rest) (or_else before (cond ending (Some i) below)) ≡ or_else rest (or_else before below)
-other_by true ending i before rest below e = let no : ⊥ = cc in absurd no
-other_by false true i before rest below e = let no : ⊥ = cc in absurd no
-other_by false false i before rest below e = refl
+pub key_found : (keys : List Key) (key : Key) (i : ℕ) → IsStrictlySortedBy key_cmp keys → i < length keys → key_cmp (get_or keys i key) key ≡ Equal → position (is_key key) keys ≡ Some i
+key_found keys key i up lt e =
+    let here = same_key key (get_or keys i key) e in
+    position_is (is_key key) keys i key lt (ap (is_key key) here ∙ true_is_key key)
+    (λ k less. false_from_ne_true (is_key key (get_or keys k key)) (λ passes. not_earlier keys key i k up lt less here (is_key_true key (get_or keys k key) passes)))
 
--- the next line is of this path
-pub found_whole : (text : List ℕ) (number : ℕ) (paths : List (List ℕ)) (keys : List Key) (ending : Option ℕ) (i : ℕ) (d : Key) → i < length keys → line_fit text number (line_at paths (get_or keys i d)) ≡ Whole → found_from text number paths ending i (drop i keys) ≡ Some i
-found_whole text number paths keys ending i d lt e =
-    let key : Key = get_or keys i d in
-    ap (found_from text number paths ending i) (drop_more keys i d lt)
-    ∙ whole_by (is_line text number (line_at paths key)) (is_line_below text number (line_at paths key)) i _ _ e
+pub key_missing : (keys : List Key) (key : Key) → (Contains keys key → ⊥) → position (is_key key) keys ≡ None
+key_missing keys key never =
+    position_none (is_key key) keys key (λ k lt. false_from_ne_true (is_key key (get_or keys k key)) (λ passes. never (k, lt, is_key_true key (get_or keys k key) passes)))
 
-first_kept : (ending : Option ℕ) (i : ℕ) → or_else ending (Some i) ≡ option_or ending (Some i)
-first_kept None i = refl
-first_kept (Some k) i = refl
+-- ---- a path and a number
 
--- its path ends with the text
-pub found_ending : (text : List ℕ) (number : ℕ) (paths : List (List ℕ)) (keys : List Key) (ending after : Option ℕ) (i : ℕ) (d : Key) → i < length keys → line_fit text number (line_at paths (get_or keys i d)) ≡ Ending → after ≡ option_or ending (Some i)
-    → found_from text number paths ending i (drop i keys) ≡ found_from text number paths after (i + 1) (drop (i + 1) keys)
-found_ending text number paths keys ending after i d lt e is =
-    let key : Key = get_or keys i d in
-    ap (found_from text number paths ending i) (drop_more keys i d lt)
-    ∙ ending_by (is_line text number (line_at paths key)) (is_line_below text number (line_at paths key)) i ending _ _ e
-    ∙ ap (λ x. found_from text number paths x (i + 1) (drop (i + 1) keys)) (first_kept ending i ∙ sym is)
+path_not_twice : (paths : List (List ℕ)) (j k : ℕ) → IsStrictlySortedBy (slice_cmp nat_cmp) paths → k < length paths → j < k → get_or paths j [] ≡ get_or paths k [] → ⊥
+path_not_twice paths j k up within lt e =
+    let less = Less-from_sorted (slice_cmp nat_cmp) paths j k [] up lt within in
+    let twice = ap (λ text. slice_cmp nat_cmp text (get_or paths k [])) (sym e) ∙ less in
+    let same = self_equal nat_list_cmp_total (get_or paths k []) in
+    let no : Less ≡ Equal = sym twice ∙ same in
+    cc
 
--- neither
-pub found_other : (text : List ℕ) (number : ℕ) (paths : List (List ℕ)) (keys : List Key) (ending after : Option ℕ) (i : ℕ) (d : Key) → i < length keys → line_fit text number (line_at paths (get_or keys i d)) ≡ Other → after ≡ ending
-    → found_from text number paths ending i (drop i keys) ≡ found_from text number paths after (i + 1) (drop (i + 1) keys)
-found_other text number paths keys ending after i d lt e is =
-    let key : Key = get_or keys i d in
-    ap (found_from text number paths ending i) (drop_more keys i d lt)
-    ∙ other_by (is_line text number (line_at paths key)) (is_line_below text number (line_at paths key)) i ending _ _ e
-    ∙ ap (λ x. found_from text number paths x (i + 1) (drop (i + 1) keys)) (sym is)
+one_path : (paths : List (List ℕ)) (j k : ℕ) → IsStrictlySortedBy (slice_cmp nat_cmp) paths → j < length paths → k < length paths → get_or paths j [] ≡ get_or paths k [] → j ≡ k
+one_path paths j k up first second e =
+    ⊎_elim
+    (λ lt. absurd (path_not_twice paths j k up second lt e))
+    (λ ge. ⊎_elim (λ lt. absurd (path_not_twice paths k j up first lt (sym e))) (λ le. let same : j ≡ k = omega arith in same) (cases_lt k j))
+    (cases_lt j k)
 
-ends_with_none : (ending : Option ℕ) → or_else None (or_else ending None) ≡ ending
-ends_with_none None = refl
-ends_with_none (Some k) = refl
+path_test : (paths : List (List ℕ)) (text : List ℕ) (j k : ℕ) → IsStrictlySortedBy (slice_cmp nat_cmp) paths → j < length paths → k < length paths → get_or paths k [] ≡ text → (j == k) ≡ bytes_eq (get_or paths j []) text
+path_test paths text j k up first second at = by (j == k) refl
+  where
+    by : (t : Bool) → (j == k) ≡ t → t ≡ bytes_eq (get_or paths j []) text
+    by true e = sym ((bytes_eq-Decides (get_or paths j []) text).1 (ap (λ i. get_or paths i []) (eqb-true j k e) ∙ at))
+    by false e = sym (false_from_ne_true (bytes_eq (get_or paths j []) text) (λ same.
+        let one = one_path paths j k up first second ((bytes_eq-Decides (get_or paths j []) text).0 same ∙ sym at) in
+        let no : true ≡ false = sym (eq-eqb j k one) ∙ e in
+        cc))
 
--- there is no more line
-pub found_end : (text : List ℕ) (number : ℕ) (paths : List (List ℕ)) (keys : List Key) (ending : Option ℕ) (i : ℕ) → length keys ≤ i → found_from text number paths ending i (drop i keys) ≡ ending
-found_end text number paths keys ending i le = ap (found_from text number paths ending i) (drop_of_length-le keys le) ∙ ends_with_none ending
+-- the keys of a path and a number are the lines of its text
+pub text_line : (paths : List (List ℕ)) (keys : List Key) (text : List ℕ) (k number : ℕ) → IsStrictlySortedBy (slice_cmp nat_cmp) paths → All (HasPath paths) keys → k < length paths → get_or paths k [] ≡ text
+    → position (is_key (with_path number k)) keys ≡ position (is_line text number) (map (line_at paths) keys)
+text_line paths keys text k number up have within at =
+    position_same (is_key (with_path number k)) (λ key. is_line text number (line_at paths key)) keys (tests keys (recursion_from_All (HasPath paths) keys have))
+    ∙ sym (position-map (is_line text number) (line_at paths) keys)
+  where
+    tests : (keys : List Key) → AllByRecursion (HasPath paths) keys → AllByRecursion (λ key. is_key (with_path number k) key ≡ is_line text number (line_at paths key)) keys
+    tests [] have = tt
+    tests (key ∷ keys) have = (ap (λ t. (key.number == number) && t) (path_test paths text key.path k up have.0 within at), tests keys have.1)
+
+default_path : (paths : List (List ℕ)) (k : ℕ) (text : List ℕ) → k < length paths → get_or paths k [] ≡ text → get_or paths k text ≡ text
+default_path [] k text lt e = absurd (omega arith)
+default_path (path ∷ paths) zero text lt e = e
+default_path (path ∷ paths) (suc k) text lt e = default_path paths k text (omega arith) e
+
+pub no_text_line : (paths : List (List ℕ)) (keys : List Key) (text : List ℕ) (number : ℕ) → All (HasPath paths) keys → (Contains paths text → ⊥) → position (is_line text number) (map (line_at paths) keys) ≡ None
+no_text_line paths keys text number have never =
+    let none : Key = with_path 0 0 in
+    position-map (is_line text number) (line_at paths) keys
+    ∙ position_none (λ key. is_line text number (line_at paths key)) keys none
+    (λ k lt. false_from_ne_true (is_line text number (line_at paths (get_or keys k none))) (λ passes.
+    let key : Key = get_or keys k none in
+    let parts = and_parts (key.number == number) (bytes_eq (get_or paths key.path []) text) passes in
+    let within : HasPath paths key = All-get_or (HasPath paths) keys k none lt have in
+    never (key.path, within, default_path paths key.path text within ((bytes_eq-Decides (get_or paths key.path []) text).0 parts.1))))
+
+-- ---- paths that end so
+
+-- before this place no path that ends so has a line of this number
+abbrev pub NoneBelow : List (List ℕ) → List Key → List ℕ → ℕ → ℕ → Type 0
+NoneBelow paths keys text number i = (j : ℕ) → j < i → ends_with (get_or paths j []) text ≡ true → position (is_key (with_path number j)) keys ≡ None
+
+pub none_more : (paths : List (List ℕ)) (keys : List Key) (text : List ℕ) (number i : ℕ) → NoneBelow paths keys text number i → (ends_with (get_or paths i []) text ≡ true → position (is_key (with_path number i)) keys ≡ None) → NoneBelow paths keys text number (i + 1)
+none_more paths keys text number i before here j lt ends =
+    ⊎_elim (λ less. before j less ends) (λ ge. let same : j ≡ i = omega arith in subst (λ k. position (is_key (with_path number k)) keys ≡ None) (sym same) (here (subst (λ k. ends_with (get_or paths k []) text ≡ true) same ends))) (cases_lt j i)
+
+-- a line that passes has a path that ends so
+below_parts : (paths : List (List ℕ)) (text : List ℕ) (number : ℕ) (key : Key) → is_line_below text number (line_at paths key) ≡ true → (key.number ≡ number) × (ends_with (get_or paths key.path []) text ≡ true)
+below_parts paths text number key e =
+    let parts = and_parts (key.number == number) (ends_with (get_or paths key.path []) text) e in
+    (eqb-true key.number number parts.0, parts.1)
+
+key_is : (key : Key) (number k : ℕ) → key.number ≡ number → key.path ≡ k → key ≡ with_path number k
+key_is key number k e f = λ i. record { path = f i; number = e i }
+
+-- no line passes by a path that was looked at
+not_passed : (paths : List (List ℕ)) (keys : List Key) (text : List ℕ) (number i k : ℕ) (d : Key) → NoneBelow paths keys text number i → k < length keys → (get_or keys k d).path < i → is_line_below text number (line_at paths (get_or keys k d)) ≡ true → ⊥
+not_passed paths keys text number i k d before within lt passes =
+    let key : Key = get_or keys k d in
+    let parts = below_parts paths text number key passes in
+    let missing = All-get_or (λ other. is_key (with_path number key.path) other ≡ false) keys k d within (none_passes (is_key (with_path number key.path)) keys (before key.path lt parts.1)) in
+    let there : is_key (with_path number key.path) key ≡ true = ap (is_key (with_path number key.path)) (key_is key number key.path parts.0 refl) ∙ true_is_key (with_path number key.path) in
+    let no : true ≡ false = sym there ∙ missing in
+    cc
+
+pub none_below : (paths : List (List ℕ)) (keys : List Key) (text : List ℕ) (number i : ℕ) → All (HasPath paths) keys → length paths ≤ i → NoneBelow paths keys text number i → position (is_line_below text number) (map (line_at paths) keys) ≡ None
+none_below paths keys text number i have le before =
+    let none : Key = with_path 0 0 in
+    position-map (is_line_below text number) (line_at paths) keys
+    ∙ position_none (λ key. is_line_below text number (line_at paths key)) keys none
+    (λ k lt. false_from_ne_true (is_line_below text number (line_at paths (get_or keys k none)))
+    (λ passes. let within : HasPath paths (get_or keys k none) = All-get_or (HasPath paths) keys k none lt have in not_passed paths keys text number i k none before lt (omega (arith, within)) passes))
+
+not_less_by : (first second : Key) (r : Ordering) → r ≡ nat_cmp first.path second.path → ordering_then r (nat_cmp first.number second.number) ≡ Less → second.path < first.path → ⊥
+not_less_by first second Less e less more = let lt : first.path < second.path = ranked first.path second.path Less e in omega arith
+not_less_by first second Equal e less more = let same : first.path ≡ second.path = ranked first.path second.path Equal e in omega arith
+not_less_by first second Greater e less more = let no : ⊥ = cc in no
+
+no_later_path : (keys : List Key) (k m : ℕ) (d : Key) → IsStrictlySortedBy key_cmp keys → k < m → m < length keys → (get_or keys m d).path < (get_or keys k d).path → ⊥
+no_later_path keys k m d up lt within more = not_less_by (get_or keys k d) (get_or keys m d) (nat_cmp (get_or keys k d).path (get_or keys m d).path) refl (Less-from_sorted key_cmp keys k m d up lt within) more
+
+-- the first line of the first such path is the first line
+pub first_below : (paths : List (List ℕ)) (keys : List Key) (text : List ℕ) (number i m : ℕ) → IsStrictlySortedBy key_cmp keys → ends_with (get_or paths i []) text ≡ true → NoneBelow paths keys text number i → position (is_key (with_path number i)) keys ≡ Some m
+    → position (is_line_below text number) (map (line_at paths) keys) ≡ Some m
+first_below paths keys text number i m up ends before found =
+    let key : Key = with_path number i in
+    let at = position-Some (is_key key) keys m key found in
+    let here : get_or keys m key ≡ key = is_key_true key (get_or keys m key) at.1 in
+    position-map (is_line_below text number) (line_at paths) keys
+    ∙ position_is (λ other. is_line_below text number (line_at paths other)) keys m key at.0
+    (ap (λ (other : Key). is_line_below text number (line_at paths other)) here ∙ and_from (number == number) (ends_with (get_or paths i []) text) (eq-eqb number number refl) ends)
+    (λ k lt. false_from_ne_true (is_line_below text number (line_at paths (get_or keys k key))) (λ passes.
+    let other : Key = get_or keys k key in
+    let parts = below_parts paths text number other passes in
+    ⊎_elim
+    (λ less. not_passed paths keys text number i k key before (omega (arith, at.0)) less passes)
+    (λ ge. ⊎_elim
+    (λ more. no_later_path keys k m key up lt at.0 (let e : (get_or keys m key).path ≡ i = ap (λ (z : Key). z.path) here in omega (arith, e)))
+    (λ le. let same : other.path ≡ i = omega arith in not_earlier keys key m k up at.0 lt here (key_is other number i parts.0 same))
+    (cases_lt i other.path))
+    (cases_lt other.path i)))
+
+pub line_found : (paths : List (List ℕ)) (keys : List Key) (text : List ℕ) (number i : ℕ) (line : Option ℕ) → is_some line ≡ true → line ≡ position (is_key (with_path number i)) keys → IsStrictlySortedBy key_cmp keys → ends_with (get_or paths i []) text ≡ true → NoneBelow paths keys text number i
+    → line ≡ position (is_line_below text number) (map (line_at paths) keys)
+line_found paths keys text number i None some is up ends before = let no : ⊥ = cc in absurd no
+line_found paths keys text number i (Some m) some is up ends before = sym (first_below paths keys text number i m up ends before (sym is))
+
+pub line_absent : (line : Option ℕ) → is_some line ≡ false → line ≡ None
+line_absent None e = refl
+line_absent (Some m) e = let no : ⊥ = cc in absurd no
+
+-- ---- paths as they lie in memory
+
+pub path_at : (paths : List (Vec ℕ)) (i : ℕ) (text : List ℕ) → i < length paths → ((d : Vec ℕ) → slice_cmp nat_cmp (get_or paths i d).items text ≡ Equal) → get_or (texts paths) i [] ≡ text
+path_at [] i text lt equal = absurd (omega arith)
+path_at (path ∷ paths) i text lt equal =
+    get_or-map (λ (path : Vec ℕ). path.items) (path ∷ paths) i path [] lt
+    ∙ slice_cmp-IsAntisymmetric nat_cmp-IsAntisymmetric (get_or (path ∷ paths) i path).items text (equal path)
+
+-- a path that is there is found
+pub text_not_missed : (paths : List (Vec ℕ)) (text : List ℕ) (r : Result ℕ ℕ) (i : ℕ) → IsStrictlySortedBy path_cmp paths → Contains (texts paths) text → IsBinarySearchResult (λ (other : Vec ℕ). slice_cmp nat_cmp other.items text) paths r → r ≡ Err i → ⊥
+text_not_missed paths text r i up one found e =
+    let mapped = among_mapped (λ (path : Vec ℕ). path.items) text paths (to_among text (texts paths) one.0 one.1 one.2) in
+    path_not_missed paths mapped.0 text r i up one mapped.2 (subst (λ t. IsBinarySearchResult (λ (other : Vec ℕ). slice_cmp nat_cmp other.items t) paths r) (sym mapped.2) found) e
+
+-- the path that was looked at
+pub text_read : (paths : List (Vec ℕ)) (i : ℕ) (path : Vec ℕ) (text : List ℕ) → i < length paths → text ≡ path.items → path ≡ get_or paths i path → get_or (texts paths) i [] ≡ text
+text_read paths i path text lt is at = get_or-map (λ (path : Vec ℕ). path.items) paths i path [] lt ∙ ap (λ (path : Vec ℕ). path.items) (sym at) ∙ sym is

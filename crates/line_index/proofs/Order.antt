@@ -13,7 +13,7 @@ use Rattle.std.proofs.lemmas.Map.Keys.{Less-from_sorted, sorted_head, sorted_tai
 use Rattle.std.proofs.lemmas.Option.{get_or_from_slice_get, slice_get_within}
 use Rattle.line_index.specs.declared.lines.Key.{Key}
 use Rattle.line_index.specs.Lines.{Line, line_cmp}
-use Rattle.line_index.specs.Keys.{key_cmp}
+use Rattle.line_index.specs.Keys.{HasPath, key_cmp}
 use Rattle.line_index.specs.Index.{line_at}
 
 own_reverse : (r : Ordering) → r ≡ ordering_reverse r → r ≡ Equal
@@ -54,9 +54,6 @@ pub sorted_map : {X Y : Type 0} (f : X → Y) (R : Y → Y → Ordering) (xs : L
 unfolding IsStrictlySortedBy
 sorted_map f R [] up = tt
 sorted_map f R (x ∷ xs) up = (all_map (λ y. R (f x) y ≡ Less) f xs up.0, sorted_map f R xs up.1)
-
-abbrev pub HasPath : List (List ℕ) → Key → Type 0
-HasPath paths key = key.path < length paths
 
 line_less_by : (paths : List (List ℕ)) (k m : Key) (r : Ordering) → r ≡ nat_cmp k.path m.path → IsStrictlySortedBy (slice_cmp nat_cmp) paths → HasPath paths m
     → ordering_then r (nat_cmp k.number m.number) ≡ Less → line_cmp (line_at paths k) (line_at paths m) ≡ Less

@@ -10,10 +10,10 @@ use Rattle.dwarf_lines.specs.Registers.{File, Table}
 use Rattle.line_index.specs.declared.changes.Change.{Change}
 use Rattle.line_index.specs.declared.lines.Key.{Key}
 use Rattle.line_index.specs.Lines.{Line, IsRight, path, entry_path, numbered, first_covering, line_of_row, is_executable, line_of}
-use Rattle.line_index.specs.Keys.{IsNumbered, texts}
+use Rattle.line_index.specs.Keys.{HasPath, IsNumbered, texts}
 use Rattle.line_index.specs.Index.{line_at}
 use Rattle.line_index.proofs.Pieces.{Among, from_among, among_map}
-use Rattle.line_index.proofs.Order.{HasPath, all_map}
+use Rattle.line_index.proofs.Order.{all_map}
 use Rattle.line_index.proofs.Whole.{Built, all_among, has_path, used_by}
 
 -- ---- a line has a path

@@ -16,12 +16,12 @@ use Rattle.line_index.specs.declared.lines.Key.{Key}
 use Rattle.line_index.specs.Changes.{value_at, IsRising, holds}
 use Rattle.line_index.specs.Lines.{Line, path, entry_path, numbered, first_covering, line_of_row, is_executable, line_of, Begins, line_cmp}
 use Rattle.line_index.specs.Spans.{row_spans}
-use Rattle.line_index.specs.Keys.{key_cmp, row_key, with_path, key_at, change_keys, key_change, line_change, is_at, starts, AreStarts}
+use Rattle.line_index.specs.Keys.{HasPath, key_cmp, row_key, with_path, key_at, change_keys, key_change, line_change, is_at, starts, AreStarts}
 use Rattle.line_index.specs.Index.{IsIndex, AreEntries, line_at}
 use Rattle.line_index.proofs.Covering.{covering}
 use Rattle.line_index.proofs.Pieces.{Among, to_among, from_among, among_map, among_mapped, same_rising, same_values, found_where, said_by}
 use Rattle.line_index.proofs.Beginnings.{StartsAt, right_before, starts_increase, starts_are, are_starts}
-use Rattle.line_index.proofs.Order.{HasPath, lines_in_order, one_place}
+use Rattle.line_index.proofs.Order.{lines_in_order, one_place}
 
 -- what building found
 pub record Built (files : List File) (rows : List Row) (areas : List Area) (paths : List (List ℕ)) (positions : List (Option ℕ)) (keys : List Key) (changes lines : List Change) : Type 0 where

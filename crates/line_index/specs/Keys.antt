@@ -7,10 +7,7 @@ use Rattle.std.specs.Cmp.Lexicographic.{slice_cmp}
 use Rattle.std.specs.Global.{Vec}
 use Rattle.dwarf_lines.specs.declared.Row.{Row}
 use Rattle.line_index.specs.declared.changes.Change.{Change}
-use Rattle.line_index.specs.declared.find.Fit.{Fit}
-use Rattle.line_index.specs.declared.find.Fit.TheVariants.{Whole, Ending, Other}
 use Rattle.line_index.specs.declared.lines.Key.{Key}
-use Rattle.line_index.specs.Lines.{Line, is_line, is_line_below}
 
 -- the paths without where they lie in memory
 abbrev pub texts : List (Vec ℕ) → List (List ℕ)
@@ -32,6 +29,14 @@ IsNumbered key = (0 < key.number) × (key.number < 2 ^ 32)
 
 abbrev pub with_path : ℕ → ℕ → Key
 with_path number path = record { path = path; number = number }
+
+-- it is this key
+abbrev pub is_key : Key → Key → Bool
+is_key key other = other.number == key.number && other.path == key.path
+
+-- its path is one of these
+abbrev pub HasPath : List (List ℕ) → Key → Type 0
+HasPath paths key = key.path < length paths
 
 -- the key of a row, where these are the positions of the files' paths
 abbrev pub row_key : List (Option ℕ) → Row → Option Key
@@ -74,7 +79,3 @@ starts k before (c ∷ cs) = (if is_at k c.position && not (is_at k before) then
 pub record AreStarts (count : ℕ) (changes : List Change) (lists : List (List ℕ)) : Type 0 where
   pub as_many : length lists ≡ count
   pub each : (k : ℕ) → k < count → slice_get lists k ≡ Some (starts k None changes)
-
--- how a line meets a path and a number that are looked for
-abbrev pub line_fit : List ℕ → ℕ → Line → Fit
-line_fit text number line = if is_line text number line then Whole else if is_line_below text number line then Ending else Other

@@ -2,10 +2,9 @@
 use Rattle.std.specs.Prelude.{◌≡◌, ◌<◌, ◌^◌, length, map, All}
 use Rattle.std.specs.List.Sorted.{IsStrictlySortedBy}
 use Rattle.line_index.specs.declared.LineIndex.TheInside.{Inside}
-use Rattle.line_index.specs.declared.lines.Key.{Key}
 use Rattle.line_index.specs.Changes.{IsRising}
 use Rattle.line_index.specs.Lines.{IsRight, label}
-use Rattle.line_index.specs.Keys.{key_cmp, path_cmp, texts}
+use Rattle.line_index.specs.Keys.{HasPath, key_cmp, path_cmp, texts}
 use Rattle.line_index.specs.Index.{Index, line_at}
 
 abbrev pub index_view : Inside → Index
@@ -17,9 +16,10 @@ index_view inside = record {
 
 pub record IsWhole (inside : Inside) : Type 0 where
   pub few : length inside.lines.items < 2 ^ 32
+  pub few_paths : length inside.paths.items < 2 ^ 32
   pub paths_rise : IsStrictlySortedBy path_cmp inside.paths.items
   pub keys_rise : IsStrictlySortedBy key_cmp inside.lines.items
-  pub paths : All (λ (key : Key). key.path < length (texts inside.paths.items)) inside.lines.items
+  pub have_paths : All (HasPath (texts inside.paths.items)) inside.lines.items
   pub right : All IsRight (map (line_at (texts inside.paths.items)) inside.lines.items)
   pub labels : inside.labels.items ≡ map label (map (line_at (texts inside.paths.items)) inside.lines.items)
   pub as_many : length inside.entries.items ≡ length inside.lines.items

@@ -1,11 +1,11 @@
 //! Lines by name.
 
-ghost use Rattle.std.specs.Prelude.{◌≡◌, ◌+◌, ◌<◌, ◌^◌, length, map};
-ghost use Rattle.line_index.specs.Lines.{ends_with, found};
-ghost use Rattle.line_index.specs.Keys.{texts, line_fit};
+ghost use Rattle.std.specs.Prelude.{◌≡◌, ◌<◌, ◌^◌, length, map, position, All};
+ghost use Rattle.std.specs.List.Sorted.{IsStrictlySortedBy};
+ghost use Rattle.line_index.specs.Lines.{ends_with, is_line, is_line_below, found};
+ghost use Rattle.line_index.specs.Keys.{HasPath, is_key, key_cmp, path_cmp, texts, with_path};
 ghost use Rattle.line_index.specs.Index.{line_at};
 
-use crate::labels::path_of;
 use crate::lines::Key;
 
 /// The path ends with a slash and the text.
@@ -19,45 +19,64 @@ fn ends_with(path: &[u8], text: &[u8]) -> bool
     }
 }
 
-/// How a line meets the path and the number that are looked for.
-#[derive(Clone, Copy, Debug, PartialEq, Eq)]
-enum Fit {
-    /// Its path is that path.
-    Whole,
-    /// Its path ends with a slash and that path.
-    Ending,
-    Other,
-}
-
-/// Reads a path's bytes at most once, since a path that ends so is longer than the text.
-fn line_fit(paths: &[Vec<u8>], key: Key, text: &[u8], number: u32) -> Fit
-    ensures { result ≡ line_fit text.now number (line_at (texts paths.now) key) }
+/// The line of the path at this position, and of this number.
+fn line_of_path(keys: &[Key], path: u32, number: u32) -> Option<u32>
+    requires in_order { IsStrictlySortedBy key_cmp keys.now }
+    requires few { length keys.now < 2 ^ 32 }
+    ensures { result ≡ position (is_key (with_path number path)) keys.now }
 {
-    if key.number != number {
-        return Fit::Other;
-    }
-    let path = path_of(paths, key);
-    if path == text {
-        Fit::Whole
-    } else if ends_with(path, text) {
-        Fit::Ending
-    } else {
-        Fit::Other
+    match keys.binary_search(&Key { path, number }) {
+        Ok(place) => Some(place as u32),
+        Err(_) => None,
     }
 }
 
-/// The line of this path and number, else the first whose path ends with a slash and the text.
-pub fn find(paths: &[Vec<u8>], keys: &[Key], path: &[u8], number: u32) -> Option<u32>
-    requires { length keys.now < 2 ^ 32 }
-    ensures { result ≡ found path.now number (map (line_at (texts paths.now)) keys.now) }
+/// The line of this path and number.
+fn line_of_text(paths: &[Vec<u8>], keys: &[Key], path: &[u8], number: u32) -> Option<u32>
+    requires paths_in_order { IsStrictlySortedBy path_cmp paths.now }
+    requires few_paths { length paths.now < 2 ^ 32 }
+    requires in_order { IsStrictlySortedBy key_cmp keys.now }
+    requires have_paths { All (HasPath (texts paths.now)) keys.now }
+    requires few { length keys.now < 2 ^ 32 }
+    ensures { result ≡ position (is_line path.now number) (map (line_at (texts paths.now)) keys.now) }
 {
-    let mut ending = None;
-    for (place, key) in keys.iter().enumerate() {
-        match line_fit(paths, *key, path, number) {
-            Fit::Whole => return Some(place as u32),
-            Fit::Ending => ending = ending.or(Some(place as u32)),
-            Fit::Other => {}
+    match paths.binary_search_by(|other| other.as_slice().cmp(path)) {
+        Ok(place) => line_of_path(keys, place as u32, number),
+        Err(_) => None,
+    }
+}
+
+/// The first line of this number whose path ends with a slash and the text.
+fn line_below(paths: &[Vec<u8>], keys: &[Key], path: &[u8], number: u32) -> Option<u32>
+    requires few_paths { length paths.now < 2 ^ 32 }
+    requires in_order { IsStrictlySortedBy key_cmp keys.now }
+    requires have_paths { All (HasPath (texts paths.now)) keys.now }
+    requires few { length keys.now < 2 ^ 32 }
+    ensures { result ≡ position (is_line_below path.now number) (map (line_at (texts paths.now)) keys.now) }
+{
+    for (place, other) in paths.iter().enumerate() {
+        if ends_with(other, path) {
+            let line = line_of_path(keys, place as u32, number);
+            if line.is_some() {
+                return line;
+            }
         }
     }
-    ending
+    None
+}
+
+/// The line of this path and number, else the first whose path ends with a slash and the text. No
+/// line is looked at but by a search among those of a path.
+pub fn find(paths: &[Vec<u8>], keys: &[Key], path: &[u8], number: u32) -> Option<u32>
+    requires paths_in_order { IsStrictlySortedBy path_cmp paths.now }
+    requires few_paths { length paths.now < 2 ^ 32 }
+    requires in_order { IsStrictlySortedBy key_cmp keys.now }
+    requires have_paths { All (HasPath (texts paths.now)) keys.now }
+    requires few { length keys.now < 2 ^ 32 }
+    ensures { result ≡ found path.now number (map (line_at (texts paths.now)) keys.now) }
+{
+    match line_of_text(paths, keys, path, number) {
+        Some(line) => Some(line),
+        None => line_below(paths, keys, path, number),
+    }
 }

@@ -55,11 +55,13 @@ invariant_of-result c =
     let covering : length c.deref-3.result.now ≡ length c.in_ok-covering.covering.items = ap length c.deref-3.ensures.value in
     let areas : length c.areas.result.now ≤ 67108864 = subst (λ (areas : List Area). length areas ≤ 67108864) (sym c.areas.ensures.areas) (few_areas c.args.image.now c.areas.ensures.valid) in
     let rows : length c.as_slice-rows.result.now ≡ length c.args.table.now.rows = ap length c.as_slice-rows.ensures in
+    let files : length c.as_slice-files.result.now ≡ length c.args.table.now.files = ap length c.as_slice-files.ensures in
     record {
       few = omega (arith, c.in_ok-lines.ensures.few, c.in_ok-covering.ensures.few, c.requires.few_rows);
       paths_rise = c.in_ok-paths.ensures.in_order;
       keys_rise = c.in_ok-lines.ensures.in_order;
-      paths = have_paths (view c.args.table.now) c.args.image.now.areas c.in_ok-paths.paths.items c.in_ok-positions.positions.items c.in_ok-lines.lines.items c.in_ok-covering.covering.items c.in_ok-changes.changes.items (built c);
+      few_paths = omega (arith, c.in_ok-paths.ensures.few, files, c.requires.few_files);
+      have_paths = have_paths (view c.args.table.now) c.args.image.now.areas c.in_ok-paths.paths.items c.in_ok-positions.positions.items c.in_ok-lines.lines.items c.in_ok-covering.covering.items c.in_ok-changes.changes.items (built c);
       right = right_lines (view c.args.table.now) c.args.image.now.areas c.in_ok-paths.paths.items c.in_ok-positions.positions.items c.in_ok-lines.lines.items c.in_ok-covering.covering.items c.in_ok-changes.changes.items (built c) c.in_ok-paths.ensures.right c.in_ok-lines.ensures.numbered;
       labels = labels_are c.in_ok-labels.labels.items c.deref-8.result.now c.in_ok-paths.paths.items c.deref-9.result.now c.in_ok-lines.lines.items c.deref-8.ensures.value c.deref-9.ensures.value c.in_ok-labels.ensures;
       as_many = entries_many c.in_ok-entries.entries.items c.deref-7.result.now c.len.result (length c.in_ok-lines.lines.items) (c.len.ensures ∙ c.in_ok-lines.lines.ok.0) c.in_ok-entries.ensures;
