@@ -20,3 +20,4 @@ pub mod Labelled
 pub mod WrittenFiles
 pub mod Kept
 pub mod Righted
+pub mod Needed

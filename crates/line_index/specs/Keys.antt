@@ -38,6 +38,10 @@ is_key key other = other.number == key.number && other.path == key.path
 abbrev pub HasPath : List (List ℕ) → Key → Type 0
 HasPath paths key = key.path < length paths
 
+-- the file that the row at a position names, unless its line is 0
+abbrev pub named_file : List Row → Option ℕ → Option ℕ
+named_file rows position = option_and_then (λ k. option_and_then (λ (row : Row). if row.line == 0 then None else row.file) (slice_get rows k)) position
+
 -- the key of a row, where these are the positions of the files' paths
 abbrev pub row_key : List (Option ℕ) → Row → Option Key
 row_key ranks row =

@@ -1,10 +1,12 @@
 use Rattle.std.proofs.Common.{◌≡◌, ◌≤◌, ℕ, List, map, length, All, Contains, sym, ap, ◌∙◌, subst, arith}
 use Rattle.std.specs.Global.{Vec}
 use Rattle.coz_types.specs.declared.image.Area.{Area}
-use Rattle.dwarf_lines.specs.Registers.{File, files_view, view}
+use Rattle.dwarf_lines.specs.declared.FileName.{FileName}
+use Rattle.dwarf_lines.specs.declared.Row.{Row}
+use Rattle.dwarf_lines.specs.Registers.{File, Table, files_view, view}
 use Rattle.line_index.specs.declared.changes.Change.{Change}
 use Rattle.line_index.specs.declared.lines.Key.{Key}
-use Rattle.line_index.specs.Lines.{path}
+use Rattle.line_index.specs.Lines.{path, line_of}
 use Rattle.line_index.specs.Keys.{texts, change_keys, IsBelow}
 use Rattle.line_index.proofs.Areas.{few_areas}
 use Rattle.line_index.proofs.Found.{all_below}
@@ -12,6 +14,7 @@ use Rattle.line_index.specs.Index.{IsIndex, line_at}
 use Rattle.line_index.proofs.Whole.{Built, is_index}
 use Rattle.line_index.proofs.Righted.{have_paths, right_lines}
 use Rattle.line_index.proofs.Listed.{is_listed}
+use Rattle.line_index.proofs.Needed.{Names, same_line, same_index}
 use Rattle.line_index.proofs.Building.{is_built, are_starts_of, labels_are, entries_many, rise_of}
 use Rattle.line_index.proofs.build.Goals as goal
 
@@ -22,59 +25,71 @@ covering_rows-requires-clause-few_areas c =
 
 pub path_positions-requires-clause-each : goal.path_positions-requires-clause-each
 path_positions-requires-clause-each c =
-    subst (λ (paths : List (Vec ℕ)). All (λ (file : File). Contains (texts paths) (path file)) (files_view c.as_slice-files.result.now)) (sym c.deref.ensures.value) c.in_ok-paths.ensures.each
+    subst (λ (paths : List (Vec ℕ)). All (λ (file : File). Contains (texts paths) (path file)) (files_view c.deref-4.result.now)) (sym c.deref-3.ensures.value)
+    (subst (λ (files : List FileName). All (λ (file : File). Contains (texts c.in_ok-paths.paths.items) (path file)) (files_view files)) (c.deref-2.ensures.value ∙ sym c.deref-4.ensures.value) c.in_ok-paths.ensures.each)
 
 pub line_changes-requires-clause-each : goal.line_changes-requires-clause-each
 line_changes-requires-clause-each c =
     λ key h.
-    let here : change_keys c.as_slice-rows.result.now c.deref-4.result.now c.deref-6.result.now ≡ change_keys c.as_slice-rows.result.now c.deref-2.result.now c.deref-3.result.now
-    = λ i. change_keys c.as_slice-rows.result.now ((c.deref-4.ensures.value ∙ sym c.deref-2.ensures.value) i) ((c.deref-6.ensures.value ∙ sym c.deref-3.ensures.value) i) in
-    subst (λ (keys : List Key). Contains keys key) (sym c.deref-5.ensures.value) ((c.in_ok-lines.ensures.each key).1 (subst (λ (keys : List Key). Contains keys key) here h))
+    let here : change_keys c.as_slice-rows.result.now c.deref-7.result.now c.deref-9.result.now ≡ change_keys c.as_slice-rows.result.now c.deref-5.result.now c.deref-6.result.now
+    = λ i. change_keys c.as_slice-rows.result.now ((c.deref-7.ensures.value ∙ sym c.deref-5.ensures.value) i) ((c.deref-9.ensures.value ∙ sym c.deref-6.ensures.value) i) in
+    subst (λ (keys : List Key). Contains keys key) (sym c.deref-8.ensures.value) ((c.in_ok-lines.ensures.each key).1 (subst (λ (keys : List Key). Contains keys key) here h))
 
 pub line_changes-requires-clause-few : goal.line_changes-requires-clause-few
 line_changes-requires-clause-few c =
-    let lines : length c.deref-5.result.now ≡ length c.in_ok-lines.lines.items = ap length c.deref-5.ensures.value in
-    let covering : length c.deref-3.result.now ≡ length c.in_ok-covering.covering.items = ap length c.deref-3.ensures.value in
+    let lines : length c.deref-8.result.now ≡ length c.in_ok-lines.lines.items = ap length c.deref-8.ensures.value in
+    let covering : length c.deref-6.result.now ≡ length c.in_ok-covering.covering.items = ap length c.deref-6.ensures.value in
     let areas : length c.areas.result.now ≤ 67108864 = subst (λ (areas : List Area). length areas ≤ 67108864) (sym c.areas.ensures.areas) (few_areas c.args.image.now c.areas.ensures.valid) in
     let rows : length c.as_slice-rows.result.now ≡ length c.args.table.now.rows = ap length c.as_slice-rows.ensures in
     omega (arith, c.in_ok-lines.ensures.few, c.in_ok-covering.ensures.few, c.requires.few_rows)
 
 pub entries-requires : goal.entries-requires
 entries-requires c =
-    let count : length c.deref-5.result.now ≡ c.len.result = ap length c.deref-5.ensures.value ∙ sym (c.len.ensures ∙ c.in_ok-lines.lines.ok.0) in
-    let below = all_below c.as_slice-rows.result.now c.deref-4.result.now c.deref-5.result.now c.deref-6.result.now c.in_ok-changes.changes.items c.in_ok-changes.ensures in
-    subst (λ n. All (IsBelow n) c.deref-7.result.now) count (subst (λ (changes : List Change). All (IsBelow (length c.deref-5.result.now)) changes) (sym c.deref-7.ensures.value) below)
+    let count : length c.deref-8.result.now ≡ c.len.result = ap length c.deref-8.ensures.value ∙ sym (c.len.ensures ∙ c.in_ok-lines.lines.ok.0) in
+    let below = all_below c.as_slice-rows.result.now c.deref-7.result.now c.deref-8.result.now c.deref-9.result.now c.in_ok-changes.changes.items c.in_ok-changes.ensures in
+    subst (λ n. All (IsBelow n) c.deref-10.result.now) count (subst (λ (changes : List Change). All (IsBelow (length c.deref-8.result.now)) changes) (sym c.deref-10.ensures.value) below)
 
-built : (c : goal.In_ok-labels) → Built (view c.args.table.now).files (view c.args.table.now).rows c.args.image.now.areas (texts c.in_ok-paths.paths.items) c.in_ok-positions.positions.items c.in_ok-lines.lines.items c.in_ok-covering.covering.items c.in_ok-changes.changes.items
-built c = is_built (view c.args.table.now) c.args.image.now.areas c.areas.result.now c.as_slice-rows.result.now (files_view c.as_slice-files.result.now) c.in_ok-paths.paths.items c.deref.result.now c.in_ok-positions.positions.items c.deref-2.result.now c.deref-4.result.now c.in_ok-lines.lines.items c.deref-5.result.now c.in_ok-covering.covering.items c.deref-3.result.now c.deref-6.result.now c.in_ok-changes.changes.items
-    c.areas.ensures.areas c.as_slice-rows.ensures (ap files_view c.as_slice-files.ensures) c.deref.ensures.value c.deref-2.ensures.value c.deref-4.ensures.value c.deref-5.ensures.value c.deref-3.ensures.value c.deref-6.ensures.value
+abbrev needed : (c : goal.In_ok-labels) → Table
+needed c = record (view c.args.table.now) { files = files_view c.in_ok-named.named.items }
+
+built : (c : goal.In_ok-labels) → Built (needed c).files (needed c).rows c.args.image.now.areas (texts c.in_ok-paths.paths.items) c.in_ok-positions.positions.items c.in_ok-lines.lines.items c.in_ok-covering.covering.items c.in_ok-changes.changes.items
+built c = is_built (needed c) c.args.image.now.areas c.areas.result.now c.as_slice-rows.result.now (files_view c.deref-4.result.now) c.in_ok-paths.paths.items c.deref-3.result.now c.in_ok-positions.positions.items c.deref-5.result.now c.deref-7.result.now c.in_ok-lines.lines.items c.deref-8.result.now c.in_ok-covering.covering.items c.deref-6.result.now c.deref-9.result.now c.in_ok-changes.changes.items
+    c.areas.ensures.areas c.as_slice-rows.ensures (ap files_view c.deref-4.ensures.value) c.deref-3.ensures.value c.deref-5.ensures.value c.deref-7.ensures.value c.deref-8.ensures.value c.deref-6.ensures.value c.deref-9.ensures.value
     c.in_ok-paths.ensures.in_order c.in_ok-positions.ensures c.in_ok-covering.ensures.values c.in_ok-covering.ensures.rises c.in_ok-lines.ensures.in_order c.in_ok-lines.ensures.each c.in_ok-changes.ensures
 
 pub invariant_of-result : goal.invariant_of-result
 invariant_of-result c =
-    let covering : length c.deref-3.result.now ≡ length c.in_ok-covering.covering.items = ap length c.deref-3.ensures.value in
+    let covering : length c.deref-6.result.now ≡ length c.in_ok-covering.covering.items = ap length c.deref-6.ensures.value in
     let areas : length c.areas.result.now ≤ 67108864 = subst (λ (areas : List Area). length areas ≤ 67108864) (sym c.areas.ensures.areas) (few_areas c.args.image.now c.areas.ensures.valid) in
     let rows : length c.as_slice-rows.result.now ≡ length c.args.table.now.rows = ap length c.as_slice-rows.ensures in
     let files : length c.as_slice-files.result.now ≡ length c.args.table.now.files = ap length c.as_slice-files.ensures in
+    let named : length c.deref-2.result.now ≡ length c.in_ok-named.named.items = ap length c.deref-2.ensures.value in
     record {
       few = omega (arith, c.in_ok-lines.ensures.few, c.in_ok-covering.ensures.few, c.requires.few_rows);
       paths_rise = c.in_ok-paths.ensures.in_order;
       keys_rise = c.in_ok-lines.ensures.in_order;
-      few_paths = omega (arith, c.in_ok-paths.ensures.few, files, c.requires.few_files);
-      have_paths = have_paths (view c.args.table.now) c.args.image.now.areas c.in_ok-paths.paths.items c.in_ok-positions.positions.items c.in_ok-lines.lines.items c.in_ok-covering.covering.items c.in_ok-changes.changes.items (built c);
-      right = right_lines (view c.args.table.now) c.args.image.now.areas c.in_ok-paths.paths.items c.in_ok-positions.positions.items c.in_ok-lines.lines.items c.in_ok-covering.covering.items c.in_ok-changes.changes.items (built c) c.in_ok-paths.ensures.right c.in_ok-lines.ensures.numbered;
-      labels = labels_are c.in_ok-labels.labels.items c.deref-8.result.now c.in_ok-paths.paths.items c.deref-9.result.now c.in_ok-lines.lines.items c.deref-8.ensures.value c.deref-9.ensures.value c.in_ok-labels.ensures;
-      as_many = entries_many c.in_ok-entries.entries.items c.deref-7.result.now c.len.result (length c.in_ok-lines.lines.items) (c.len.ensures ∙ c.in_ok-lines.lines.ok.0) c.in_ok-entries.ensures;
-      rising = rise_of c.as_slice-rows.result.now c.deref-4.result.now c.deref-5.result.now c.deref-6.result.now c.in_ok-covering.covering.items c.in_ok-changes.changes.items c.deref-6.ensures.value c.in_ok-covering.ensures.rises c.in_ok-changes.ensures;
+      few_paths = omega (arith, c.in_ok-paths.ensures.few, named, c.in_ok-named.ensures.as_many, files, c.requires.few_files);
+      have_paths = have_paths (needed c) c.args.image.now.areas c.in_ok-paths.paths.items c.in_ok-positions.positions.items c.in_ok-lines.lines.items c.in_ok-covering.covering.items c.in_ok-changes.changes.items (built c);
+      right = right_lines (needed c) c.args.image.now.areas c.in_ok-paths.paths.items c.in_ok-positions.positions.items c.in_ok-lines.lines.items c.in_ok-covering.covering.items c.in_ok-changes.changes.items (built c) c.in_ok-paths.ensures.right c.in_ok-lines.ensures.numbered;
+      labels = labels_are c.in_ok-labels.labels.items c.deref-11.result.now c.in_ok-paths.paths.items c.deref-12.result.now c.in_ok-lines.lines.items c.deref-11.ensures.value c.deref-12.ensures.value c.in_ok-labels.ensures;
+      as_many = entries_many c.in_ok-entries.entries.items c.deref-10.result.now c.len.result (length c.in_ok-lines.lines.items) (c.len.ensures ∙ c.in_ok-lines.lines.ok.0) c.in_ok-entries.ensures;
+      rising = rise_of c.as_slice-rows.result.now c.deref-7.result.now c.deref-8.result.now c.deref-9.result.now c.in_ok-covering.covering.items c.in_ok-changes.changes.items c.deref-9.ensures.value c.in_ok-covering.ensures.rises c.in_ok-changes.ensures;
     }
+
+the_lines : (c : goal.In_ok-labels) → (a : ℕ) → line_of (needed c) c.args.image.now.areas a ≡ line_of (view c.args.table.now) c.args.image.now.areas a
+the_lines c =
+    same_line (view c.args.table.now) c.args.image.now.areas c.in_ok-named.named.items c.as_slice-files.result.now c.in_ok-covering.covering.items (ap files_view (sym c.as_slice-files.ensures)) (built c).values
+    (subst (λ (rows : List Row). All (λ (change : Change). Names rows c.in_ok-named.named.items c.as_slice-files.result.now change.position) c.in_ok-covering.covering.items) c.as_slice-rows.ensures
+    (subst (λ (changes : List Change). All (λ (change : Change). Names c.as_slice-rows.result.now c.in_ok-named.named.items c.as_slice-files.result.now change.position) changes) c.deref.ensures.value c.in_ok-named.ensures.named))
 
 the_index : (c : goal.In_ok-labels) → IsIndex (view c.args.table.now) c.args.image.now.areas (record { lines = map (line_at (texts c.in_ok-paths.paths.items)) c.in_ok-lines.lines.items; entries = texts c.in_ok-entries.entries.items; changes = c.in_ok-changes.changes.items })
 the_index c =
-    is_index (view c.args.table.now) c.args.image.now.areas (texts c.in_ok-paths.paths.items) c.in_ok-positions.positions.items c.in_ok-lines.lines.items c.in_ok-covering.covering.items c.in_ok-changes.changes.items (texts c.in_ok-entries.entries.items) (built c)
-    (are_starts_of c.len.result (length c.in_ok-lines.lines.items) c.deref-7.result.now c.in_ok-changes.changes.items (texts c.in_ok-entries.entries.items) (c.len.ensures ∙ c.in_ok-lines.lines.ok.0) c.deref-7.ensures.value c.in_ok-entries.ensures)
+    same_index (needed c) (view c.args.table.now) c.args.image.now.areas _ (the_lines c)
+    (is_index (needed c) c.args.image.now.areas (texts c.in_ok-paths.paths.items) c.in_ok-positions.positions.items c.in_ok-lines.lines.items c.in_ok-covering.covering.items c.in_ok-changes.changes.items (texts c.in_ok-entries.entries.items) (built c)
+    (are_starts_of c.len.result (length c.in_ok-lines.lines.items) c.deref-10.result.now c.in_ok-changes.changes.items (texts c.in_ok-entries.entries.items) (c.len.ensures ∙ c.in_ok-lines.lines.ok.0) c.deref-10.ensures.value c.in_ok-entries.ensures))
 
 pub returns-clause-index : goal.returns-clause-index
-returns-clause-index c = the_index c.before.before
+returns-clause-index c = the_index c.before.before.before
 
 pub returns-clause-listed : goal.returns-clause-listed
-returns-clause-listed c = is_listed (the_index c.before.before)
+returns-clause-listed c = is_listed (the_index c.before.before.before)
