@@ -1,5 +1,5 @@
 -- What a map has at a key after a change of one, and the rights after some were given.
-use Rattle.std.proofs.Common.{ℕ, zero, suc, ◌≡◌, ◌+◌, ◌*◌, ◌/◌, ◌%◌, ◌≤◌, ◌<◌, Bool, true, false, eqb, length, drop, get_or, List, [], ◌∷◌, arith, refl, sym, ap, ◌∙◌, ⊎_elim, ◌⊎◌}
+use Rattle.std.proofs.Common.{ℕ, zero, suc, ◌≡◌, ◌+◌, ◌*◌, ◌%◌, ◌≤◌, ◌<◌, Bool, true, false, eqb, length, drop, get_or, List, [], ◌∷◌, arith, refl, sym, ap, ◌∙◌, ⊎_elim, ◌⊎◌}
 use Rattle.std.proofs.lemmas.List.{drop_more}
 use Rattle.std.proofs.lemmas.Bool.{cases_Bool, cases_order, le-ltb, ne_eqb}
 use Rattle.std.specs.Int.{bytes_low_first}

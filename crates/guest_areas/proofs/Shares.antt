@@ -1,9 +1,9 @@
 -- No call changes the load areas or the layout.
-use Rattle.std.proofs.Common.{ℕ, zero, suc, ◌≡◌, ◌+◌, ◌-◌, ◌/◌, ◌%◌, [], ◌∷◌, Bool, true, false, not, ◌&&◌, ◌||◌, cond, leb, ltb, eqb, List, refl, sym, ◌∙◌, Option, Some, None}
+use Rattle.std.proofs.Common.{ℕ, ◌≡◌, ◌+◌, ◌-◌, [], ◌∷◌, Bool, true, false, not, ◌&&◌, ◌||◌, cond, leb, ltb, eqb, List, refl, sym, ◌∙◌, Option, Some, None}
 use Rattle.std.specs.Prelude.{pos}
 use Rattle.std.specs.Int.{bytes_low_first}
 use Rattle.coz_types.specs.declared.image.Rights.{Rights}
-use Rattle.guest_memory.specs.Memory.{MemoryMap, no_rights, read_and_write, given, zeroed, with_byte, with_number, with_bytes, first_memory}
+use Rattle.guest_memory.specs.Memory.{MemoryMap, no_rights, read_and_write, given, zeroed, with_number, with_bytes, first_memory}
 use Rattle.guest_memory.specs.Regions.{page_of, pages_for, brk_base, brk_end, stack_top}
 use Rattle.guest_memory.proofs.Runs.{same_regions-given, same_regions-with_bytes, same_regions-first}
 use Rattle.coz_types.specs.Image.{ImageParts}

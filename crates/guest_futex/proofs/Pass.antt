@@ -1,6 +1,5 @@
 -- One pass over the places of a queue: what is taken and kept so far, with what the rest will give.
-use Rattle.std.proofs.Common.{ℕ, zero, suc, ◌≡◌, ◌≢◌, ◌≤◌, ◌<◌, ◌+◌, ◌-◌, ◌⊎◌, List, [], ◌∷◌, ◌++◌, length, take, drop, set, get_or, arith, ⊎_elim, refl, sym, ◌∙◌, ap, append_assoc, length-append, add-one, drop-cons, length-set}
-use Rattle.std.proofs.lemmas.Bool.{eq-eqb, ne_eqb}
+use Rattle.std.proofs.Common.{ℕ, zero, suc, ◌≡◌, ◌≢◌, ◌≤◌, ◌<◌, ◌+◌, ◌-◌, ◌⊎◌, List, [], ◌∷◌, ◌++◌, length, take, drop, set, get_or, arith, refl, sym, ◌∙◌, ap, append_assoc, length-append, add-one, drop-cons, length-set}
 use Rattle.std.proofs.lemmas.List.{drop-set-lt, take_more_set, map-append, append-nil}
 use Rattle.guest_futex.specs.declared.queue.Place.{Place}
 use Rattle.guest_futex.specs.Waiters.{Waiter, woken, left}

@@ -1,5 +1,5 @@
 -- Memory: a byte at each address, and the rights of each page.
-use Rattle.std.specs.Prelude.{◌≡◌, ◌⊎◌, ℕ, zero, suc, ◌+◌, ◌*◌, ◌/◌, ◌%◌, Bool, true, false, not, ◌&&◌, ◌||◌, if◌then◌else◌, nat_le, nat_lt, ◌==◌, List, [], ◌∷◌, take, drop, fold, Option, Some, None, IsTrue}
+use Rattle.std.specs.Prelude.{◌≡◌, ◌⊎◌, ℕ, zero, suc, ◌+◌, ◌*◌, Bool, true, false, not, ◌&&◌, ◌||◌, if◌then◌else◌, nat_le, nat_lt, ◌==◌, List, [], ◌∷◌, take, drop, fold, Option, Some, None, IsTrue}
 use Rattle.std.specs.Int.{bytes_low_first}
 use Rattle.coz_types.specs.declared.image.Rights.{Rights}
 use Rattle.coz_types.specs.declared.image.Area.{Area}
