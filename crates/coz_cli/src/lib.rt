@@ -20,6 +20,3 @@ mod top;
 mod words;
 
 pub use top::serve;
-
-#[cfg(test)]
-mod tests;

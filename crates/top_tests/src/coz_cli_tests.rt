@@ -1,4 +1,4 @@
-use crate::serve;
+use coz_cli::serve;
 use coz_files::{FreeGate, HeldFile, MemoryFiles, MemorySink};
 use std::alloc::{AllocError, Global};
 use std::process::Abort;

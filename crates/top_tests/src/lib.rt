@@ -1,0 +1,5 @@
+//! Tests of the top call, and nothing else.
+#![tactic(auto)]
+
+#[cfg(test)]
+mod coz_cli_tests;
