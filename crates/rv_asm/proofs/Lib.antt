@@ -1,4 +1,5 @@
 mod Skips
+mod Tables
 mod Items
 mod Labels
 mod FirstLine

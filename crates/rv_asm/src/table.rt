@@ -1,7 +1,7 @@
 //! The statements by their first words, and the registers by their names.
 
 ghost use Rattle.std.specs.Prelude.{◌≡◌, map, option_map};
-ghost use Rattle.rv_asm.specs.Table.{register_of, form_of, look_up};
+ghost use Rattle.rv_asm.specs.Table.{register_of, form_of, look_up, plain_rows, atomic_rows};
 ghost use Rattle.rv_asm.specs.Registers.{number_of};
 ghost use Rattle.rv_asm.specs.Views.{seen};
 
@@ -78,8 +78,8 @@ const REGISTERS: [(&[u8], Register); 65] = [
     (b"t6", Register::X31),
 ];
 
-/// The statements by their first words.
-const FORMS: [(&[u8], Form); 168] = [
+/// The statements but the atomics, by their first words.
+const PLAIN: [(&[u8], Form); 80] = [
     (b"add", Form::Register(RegOp::Add)),
     (b"sll", Form::Register(RegOp::Sll)),
     (b"slt", Form::Register(RegOp::Slt)),
@@ -160,6 +160,10 @@ const FORMS: [(&[u8], Form); 168] = [
     (b".ascii", Form::Ascii),
     (b".zero", Form::Zeros),
     (b".align", Form::Align),
+];
+
+/// The atomics by their first words.
+const ATOMICS: [(&[u8], Form); 88] = [
     (
         b"lr.w",
         Form::Atomic(AtomicOp::Lr, Width::Word, Order::Relaxed),
@@ -533,10 +537,26 @@ pub fn register_of(name: &[u8]) -> Option<Register>
     look_up(&REGISTERS, name)
 }
 
+#[tactic(auto, unfolding(crate::specs::Table::plain_rows))]
+fn plain_form(name: &[u8]) -> Option<Form>
+    ensures { result ≡ look_up name.now plain_rows }
+{
+    look_up(&PLAIN, name)
+}
+
+#[tactic(auto, unfolding(crate::specs::Table::atomic_rows))]
+fn atomic_form(name: &[u8]) -> Option<Form>
+    ensures { result ≡ look_up name.now atomic_rows }
+{
+    look_up(&ATOMICS, name)
+}
+
 /// The form of the statement that begins with this word.
-#[tactic(auto, unfolding(crate::specs::Table::form_of, crate::specs::Table::rows))]
 pub fn form_of(name: &[u8]) -> Option<Form>
     ensures { result ≡ form_of name.now }
 {
-    look_up(&FORMS, name)
+    match plain_form(name) {
+        Some(form) => Some(form),
+        None => atomic_form(name),
+    }
 }
