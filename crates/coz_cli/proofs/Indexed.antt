@@ -22,7 +22,7 @@ use Rattle.coz_cli.specs.Verdict.{Verdict, asked_verdict, chosen_verdict}
 -- what is judged of an index with these lines, entries and positions
 abbrev judged : Asked → (Experiment Guest → Verdict) → List ℕ → ImageParts → List Line → List (List ℕ) → (ℕ → Option ℕ) → Verdict
 judged asked print input image lines entries position =
-    chosen_verdict (chosen lines asked) (λ (c : Chosen). print (experiment image position (point_in entries c.points) input (choice_of asked c.selected)))
+    chosen_verdict (chosen lines asked) (λ (c : Chosen). print (experiment image position (point_in entries c.points) input (choice_of c.selected asked.speedup asked.budget)))
 
 asked_is : (asked : Asked) (print : Experiment Guest → Verdict) (input : List ℕ) (image : ImageParts) (table : Table)
     → judged asked print input image (lines_in table image.areas) (entries_of image table) (position_in table image.areas) ≡ asked_verdict asked print input image table

@@ -1,5 +1,6 @@
 -- A verdict of 0 or 1 prints a run whose net part is the shortened run.
-use Rattle.std.proofs.Common.{◌≡◌, ℕ, ◌≤◌, IfSome, List, [], length, codes, ◌++◌, Option, Some, None, Result, Ok, Err, true, false, Bool, cond, nat_lt, refl, sym, ap, subst, ◌∙◌, arith}
+use Rattle.std.proofs.Common.{◌≡◌, ℕ, ◌≤◌, List, [], length, codes, ◌++◌, Option, Some, None, Result, Ok, Err, true, false, Bool, cond, nat_lt, refl, sym, ap, subst, ◌∙◌, arith}
+use Rattle.std.specs.Io.KnownBytes.{Appends}
 use Rattle.coz_types.specs.Image.{ImageParts}
 use Rattle.coz_files.specs.Held.{Held, file_at}
 use Rattle.elf_load.specs.declared.ElfFault.{ElfFault}
@@ -31,14 +32,17 @@ use Rattle.coz_cli.specs.Headline.{IsAsked, PrintsRun, PrintsReally, PrintsShort
 
 -- ---- the experiment of a request
 
+abbrev experiment_asked : ImageParts → Table → List ℕ → Asked → Chosen → Experiment Guest
+experiment_asked image table input asked choice = experiment_of image table input (choice_of choice.selected asked.speedup asked.budget) choice.points
+
 module _ (image : ImageParts) (table : Table) (input : List ℕ) (asked : Asked) (choice : Chosen) where
-  law : IsFit asked → IsLawful (experiment_of image table input asked choice) IsOrderly
+  law : IsFit asked → IsLawful (experiment_asked image table input asked choice) IsOrderly
   unfolding experiment_of
   law fit =
       let few : asked.speedup ≤ 100 = omega (arith, fit.speedup) in
-      lawful (has_selected (selected_line (choice_of asked choice.selected)) (position_in table image.areas)) (point_in (entries_of image table) choice.points) image input 4194304 usual asked.speedup asked.budget 1048576 few
+      lawful (has_selected (selected_line (choice_of choice.selected asked.speedup asked.budget)) (position_in table image.areas)) (point_in (entries_of image table) choice.points) image input 4194304 usual asked.speedup asked.budget 1048576 few
 
-  budget_is : (experiment_of image table input asked choice).budget ≡ asked.budget
+  budget_is : (experiment_asked image table input asked choice).budget ≡ asked.budget
   unfolding experiment_of
   budget_is = refl
 
@@ -50,7 +54,7 @@ record Runs (x : Experiment Guest) : Type 0 where
 
 runs_of : (held : Held) (asked : Asked) (x : Experiment Guest) → IsFit asked → 1 ≤ asked.budget → IsAsked held asked x → Runs x
 runs_of held asked x fit some is =
-    let y : Experiment Guest = experiment_of is.image is.table is.input asked is.choice in
+    let y : Experiment Guest = experiment_asked is.image is.table is.input asked is.choice in
     let lawful : IsLawful y IsOrderly = law is.image is.table is.input asked is.choice fit in
     let budget : 1 ≤ y.budget = subst (λ (n : ℕ). 1 ≤ n) (sym (budget_is is.image is.table is.input asked is.choice)) some in
     subst Runs (sym is.experiment)
@@ -75,11 +79,11 @@ module _ (held : Held) (asked : Asked) (print : Experiment Guest → Verdict) (v
 
   chosen_comes : (file input : List ℕ) (image : ImageParts) (table : Table) → Found file input → loaded file ≡ Ok image → table_in file ≡ Ok table
       → (c : Result Chosen Unchosen) → chosen (lines_in table image.areas) asked ≡ c
-      → v ≡ chosen_verdict c (λ choice. print (experiment_of image table input asked choice)) → Comes held asked print v
+      → v ≡ chosen_verdict c (λ choice. print (experiment_asked image table input asked choice)) → Comes held asked print v
   chosen_comes file input image table found program lines (Err (no_line piece)) named is = let no = low_of _ _ is low in absurd (omega arith)
   chosen_comes file input image table found program lines (Err (many_points count)) named is = let no = low_of _ _ is low in absurd (omega arith)
   chosen_comes file input image table found program lines (Ok choice) named is = record {
-    experiment = experiment_of image table input asked choice;
+    experiment = experiment_asked image table input asked choice;
     is_asked = record {
       file = file;
       input = input;
@@ -143,7 +147,7 @@ experiment_comes held asked print low =
 
 -- ---- the headline
 
-module _ (words : List (List ℕ)) (held : Held) (low : (verdict words held).status ≤ 1) where
+module _ (words : List (List ℕ)) (held : Held) (before now : Option (List ℕ)) (low : (verdict words held).status ≤ 1) (gained : Appends before now (verdict words held).text) where
   command_is : (asked : Asked) (c : Command) → request_of words ≡ Some asked → asked.command ≡ c → verdict words held ≡ command_verdict c asked held
   command_is asked c named is =
       ap (λ (request : Option Asked). request_verdict request held) named ∙ ap (λ (c : Command). command_verdict c asked held) is
@@ -152,7 +156,10 @@ module _ (words : List (List ℕ)) (held : Held) (low : (verdict words held).sta
   unfolding request_of
   fit_of asked named = fit_in words asked named
 
-  prints_run : (asked : Asked) → request_of words ≡ Some asked → asked.command ≡ Run → PrintsRun words held asked
+  gained_as : (v : Verdict) → verdict words held ≡ v → Appends before now v.text
+  gained_as v same = subst (λ (w : Verdict). Appends before now w.text) same gained
+
+  prints_run : (asked : Asked) → request_of words ≡ Some asked → asked.command ≡ Run → PrintsRun held asked before now
   prints_run asked named is =
       let same = command_is asked Run named is in
       let fit = fit_of asked named in
@@ -162,12 +169,12 @@ module _ (words : List (List ℕ)) (held : Held) (low : (verdict words held).sta
         experiment = comes.experiment;
         run = delayed_record comes.experiment;
         is_asked = comes.is_asked;
-        printed = ap (λ (v : Verdict). v.text) (same ∙ comes.is);
+        printed = gained_as (run_verdict (delayed_record comes.experiment)) (same ∙ comes.is);
         delayed = law.delayed;
         shortened = subst (IsShortened comes.experiment) (sym law.same) law.shortened;
       }
 
-  prints_really : (asked : Asked) → request_of words ≡ Some asked → asked.command ≡ Really → PrintsReally words held asked
+  prints_really : (asked : Asked) → request_of words ≡ Some asked → asked.command ≡ Really → PrintsReally held asked before now
   prints_really asked named is =
       let same = command_is asked Really named is in
       let fit = fit_of asked named in
@@ -177,14 +184,10 @@ module _ (words : List (List ℕ)) (held : Held) (low : (verdict words held).sta
         experiment = comes.experiment;
         run = shortened_record comes.experiment;
         is_asked = comes.is_asked;
-        printed = ap (λ (v : Verdict). v.text) (same ∙ comes.is);
+        printed = gained_as (really_verdict (shortened_record comes.experiment)) (same ∙ comes.is);
         shortened = law.shortened;
       }
 
-  -- where the verdict's status is 0 or 1, the words' run is printed
-  pub prints_shortened : PrintsShortened words held
+  -- where the verdict's status is 0 or 1 and its text was gained, the words' run is printed
+  pub prints_shortened : PrintsShortened words held before now
   prints_shortened = record { runs = prints_run; really = prints_really }
-
-pub if_some_weaker : {T : Type 0} (o : Option T) (P Q : T → Type 0) → ((x : T) → P x → Q x) → IfSome o P → IfSome o Q
-if_some_weaker None P Q f h = tt
-if_some_weaker (Some x) P Q f h = f x h

@@ -5,15 +5,29 @@ use Rattle.coz_files.specs.Faults.{Rose}
 use Rattle.coz_files.specs.Held.{Held}
 use Rattle.coz_cli.specs.declared.fault.Fault.{Fault}
 use Rattle.coz_cli.specs.declared.fault.Fault.TheVariants.{Usage, Program, Lines, Read, Write, NoLine, ManyPoints, Long, Memory, Source}
-use Rattle.coz_cli.specs.Words.{request_of}
+use Rattle.run_words.specs.Request.{Asked}
+use Rattle.coz_cli.specs.Words.{Names, request_of}
 use Rattle.coz_cli.specs.Verdict.{Verdict, verdict}
 use Rattle.coz_cli.specs.Answer.{IsMemoryFault, IsReadFault, Suits, Settles, fault_status, fault_line}
 use Rattle.coz_cli.specs.Serve.{IsLine}
 
+-- a fault of the words themselves, or one that suits their request
+abbrev pub IsOf : Option Asked → Fault → Type 0
+IsOf None fault = fault ≡ Usage
+IsOf (Some asked) fault = Suits asked (Err fault)
+
+names_path : (request : Option Asked) (path : _) → IsOf request (Read path) → Names request path.now
+names_path None path is = let no : ⊥ = cc in absurd no
+names_path (Some asked) path suits = suits
+
+no_write : (request : Option Asked) → IsOf request Write → ⊥
+no_write None is = let no : ⊥ = cc in no
+no_write (Some asked) suits = suits
+
 -- what is known of a fault that is told
 pub record IsKnown (fault : Fault) (status : ℕ) (words : List (List ℕ)) (told : Option Held) (before now : ℕ) : Type 0 where
   pub status_is : status ≡ fault_status fault
-  pub suits : Suits (request_of words) (Err fault)
+  pub of_words : IsOf (request_of words) fault
   pub settled : IfSome told (λ held. (IsMemoryFault fault → ⊥) → Settles (verdict words held) before now (Err fault))
   pub untold : IsReadFault fault → IfNone told (Rose before now)
 
@@ -56,11 +70,11 @@ module _ (status : ℕ) (words : List (List ℕ)) (told : Option Held) (before n
     usage = λ is. absurd (omega (arith, is, k.status_is));
     write = λ is. absurd (omega (arith, is, k.status_is));
     memory = λ is. absurd (omega (arith, is, k.status_is));
-    read = λ is. (path.now, k.suits, refl);
+    read = λ is. (path.now, names_path (request_of words) path k.of_words, refl);
     absent = λ is. absent_by path told (k.untold tt) k.settled;
     verdict = λ of. absurd (of.no_read k.status_is);
   }
-  told_line Write k = absurd k.suits
+  told_line Write k = absurd (no_write (request_of words) k.of_words)
   told_line Memory k = record {
     usage = λ is. absurd (omega (arith, is, k.status_is));
     write = λ is. absurd (omega (arith, is, k.status_is));

@@ -1,4 +1,4 @@
--- The experiment that a request asks for.
+-- The experiment on a program.
 use Rattle.std.specs.Prelude.{ℕ, List, map, Option, option_map}
 use Rattle.coz_types.specs.Image.{ImageParts}
 use Rattle.dwarf_lines.specs.Registers.{Table}
@@ -9,15 +9,13 @@ use Rattle.guest_memory.specs.Regions.{usual}
 use Rattle.guest_calls.specs.Guest.{Guest}
 use Rattle.virtual_run.specs.declared.choice.Choice.{Choice}
 use Rattle.virtual_run.specs.Run.{experiment}
-use Rattle.run_words.specs.Request.{Asked}
-use Rattle.coz_cli.specs.Selection.{Chosen}
 
--- the limits of the commands
-abbrev pub choice_of : Asked → Option ℕ → Choice
-choice_of asked selected = record {
+-- the position of the selected line, if there is one, its speedup and a budget, with the limits of the commands
+abbrev pub choice_of : Option ℕ → ℕ → ℕ → Choice
+choice_of selected speedup budget = record {
   selected = option_map (λ l. record { 0 = l }) selected;
-  speedup = asked.speedup;
-  budget = asked.budget;
+  speedup = speedup;
+  budget = budget;
   output_limit = 4194304;
   visit_limit = 1048576;
   layout = usual;
@@ -27,8 +25,8 @@ choice_of asked selected = record {
 abbrev pub entries_of : ImageParts → Table → List (List ℕ)
 entries_of image table = map (entries_in table image.areas) (lines_in table image.areas)
 
--- the run of a program with its line table on an input: each address has the line that its table says,
--- and the entry addresses of the chosen points' lines are those points
-unfoldable pub experiment_of : ImageParts → Table → List ℕ → Asked → Chosen → Experiment Guest
-experiment_of image table input asked chosen =
-    experiment image (position_in table image.areas) (point_in (entries_of image table) chosen.points) input (choice_of asked chosen.selected)
+-- the run of a program with its line table on an input, under a choice and with the lines at these positions as points:
+-- each address has the line that the table says, and the entry addresses of the points' lines are those points
+unfoldable pub experiment_of : ImageParts → Table → List ℕ → Choice → List ℕ → Experiment Guest
+experiment_of image table input choice points =
+    experiment image (position_in table image.areas) (point_in (entries_of image table) points) input choice

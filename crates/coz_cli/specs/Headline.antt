@@ -1,5 +1,6 @@
 -- The headline: what is printed of a delayed run is that of the shortened run.
 use Rattle.std.specs.Prelude.{◌≡◌, List, ℕ, [], Option, None, Some, Ok}
+use Rattle.std.specs.Io.KnownBytes.{Appends}
 use Rattle.coz_types.specs.Image.{ImageParts}
 use Rattle.coz_files.specs.Held.{Held, file_at}
 use Rattle.elf_load.specs.Loaded.{loaded}
@@ -13,9 +14,8 @@ use Rattle.run_words.specs.declared.Command.TheVariants.{Run, Really}
 use Rattle.coz_cli.specs.Words.{request_of}
 use Rattle.coz_cli.specs.LineTable.{table_in}
 use Rattle.coz_cli.specs.Selection.{Chosen, chosen}
-use Rattle.coz_cli.specs.Experiment.{experiment_of}
+use Rattle.coz_cli.specs.Experiment.{choice_of, experiment_of}
 use Rattle.coz_cli.specs.Text.{run_text, really_text}
-use Rattle.coz_cli.specs.Verdict.{verdict}
 
 -- the bytes of the input that is named, and none where none is
 abbrev pub IsInput : Held → Option (List ℕ) → List ℕ → Type 0
@@ -35,28 +35,28 @@ pub record IsAsked (held : Held) (asked : Asked) (x : Experiment Guest) : Type 0
   pub program : loaded file ≡ Ok image
   pub lines : table_in file ≡ Ok table
   pub named : chosen (lines_in table image.areas) asked ≡ Ok choice
-  pub experiment : x ≡ experiment_of image table input asked choice
+  pub experiment : x ≡ experiment_of image table input (choice_of choice.selected asked.speedup asked.budget) choice.points
 
--- What is printed of a delayed run is the text of the record that the delayed machine ends with, and the
+-- Behind what was held before there is now the text of the record that the delayed machine ends with, and the
 -- net part of that record (its end, output, counts, and each time less the global delay then) is what the
 -- shortened machine ends with, whose selected line really costs less and which knows no delays.
-pub record PrintsRun (words : List (List ℕ)) (held : Held) (asked : Asked) : Type 0 where
+pub record PrintsRun (held : Held) (asked : Asked) (before now : Option (List ℕ)) : Type 0 where
   pub experiment : Experiment Guest
   pub run : Record
   pub is_asked : IsAsked held asked experiment
-  pub printed : (verdict words held).text ≡ run_text run
+  pub printed : Appends before now (run_text run)
   pub delayed : IsDelayed experiment run
   pub shortened : IsShortened experiment (net run)
 
--- what is printed of a shortened run is the text of the record that the shortened machine ends with
-pub record PrintsReally (words : List (List ℕ)) (held : Held) (asked : Asked) : Type 0 where
+-- behind what was held before there is now the text of the record that the shortened machine ends with
+pub record PrintsReally (held : Held) (asked : Asked) (before now : Option (List ℕ)) : Type 0 where
   pub experiment : Experiment Guest
   pub run : NetRecord
   pub is_asked : IsAsked held asked experiment
-  pub printed : (verdict words held).text ≡ really_text run
+  pub printed : Appends before now (really_text run)
   pub shortened : IsShortened experiment run
 
 -- where the words ask for a run, such a run is printed
-pub record PrintsShortened (words : List (List ℕ)) (held : Held) : Type 0 where
-  pub runs : (asked : Asked) → request_of words ≡ Some asked → asked.command ≡ Run → PrintsRun words held asked
-  pub really : (asked : Asked) → request_of words ≡ Some asked → asked.command ≡ Really → PrintsReally words held asked
+pub record PrintsShortened (words : List (List ℕ)) (held : Held) (before now : Option (List ℕ)) : Type 0 where
+  pub runs : (asked : Asked) → request_of words ≡ Some asked → asked.command ≡ Run → PrintsRun held asked before now
+  pub really : (asked : Asked) → request_of words ≡ Some asked → asked.command ≡ Really → PrintsReally held asked before now

@@ -20,7 +20,7 @@ use Rattle.guest_calls.specs.Guest.{Guest}
 use Rattle.line_index.specs.Listed.{lines_in}
 use Rattle.coz_cli.specs.Text.{run_text, really_text, lines_text}
 use Rattle.coz_cli.specs.Selection.{Chosen, Unchosen, no_line, many_points, chosen}
-use Rattle.coz_cli.specs.Experiment.{experiment_of}
+use Rattle.coz_cli.specs.Experiment.{choice_of, experiment_of}
 use Rattle.dwarf_lines.specs.declared.LineFault.{LineFault}
 use Rattle.dwarf_lines.specs.Registers.{Table}
 use Rattle.coz_cli.specs.LineTable.{table_in}
@@ -74,7 +74,7 @@ chosen_verdict (Ok chosen) next = next chosen
 abbrev pub asked_verdict : Asked → (Experiment Guest → Verdict) → List ℕ → ImageParts → Table → Verdict
 asked_verdict asked print input image table =
     chosen_verdict (chosen (lines_in table image.areas) asked) (λ choice.
-    print (experiment_of image table input asked choice))
+    print (experiment_of image table input (choice_of choice.selected asked.speedup asked.budget) choice.points))
 
 -- on a program's file
 abbrev pub file_verdict : Asked → (Experiment Guest → Verdict) → List ℕ → List ℕ → Verdict

@@ -1,4 +1,4 @@
-ghost use Rattle.std.specs.Prelude.{◌≡◌, ◌≤◌, length, IfSome, IfNone, Some, option_map};
+ghost use Rattle.std.specs.Prelude.{◌≡◌, ◌≤◌, ◌^◌, length, IfSome, IfNone, option_map};
 ghost use Rattle.coz_files.specs.Faults.{Rose};
 ghost use Rattle.line_index.specs.Index.{position_at};
 ghost use Rattle.progress_points.specs.Points.{point_in};
@@ -40,18 +40,18 @@ pub enum Kind {
 }
 
 /// What is written of a run of the program and the input that the request names.
-pub fn judge_experiment<'a, F: Files>(
+pub fn judge_experiment<'r, F: Files>(
     alloc: Global,
-    request: Request<'a>,
+    request: &'r Request<'r>,
     kind: Kind,
     files: &mut F,
-) -> Answer<'a>
-    requires fit { IsFit (seen request) }
-    requires some_budget { 1 ≤ request.budget }
+) -> Answer<'r>
+    requires fit { IsFit (seen request.now) }
+    requires some_budget { 1 ≤ request.now.budget }
     ensures same { F.held files.new ≡ F.held files.old }
-    ensures suits { Suits (Some (seen request.entry)) result }
+    ensures suits { Suits (seen request.now) result }
     ensures settled { IfSome (F.held files.old) (λ held. (IsMemory result → ⊥) →
-        Settles (experiment_verdict (seen request.entry) held (print_of kind)) (F.faults files.old) (F.faults files.new) result) }
+        Settles (experiment_verdict (seen request.now) held (print_of kind)) (F.faults files.old) (F.faults files.new) result) }
     ensures untold { IsRead result → IfNone (F.held files.old) (Rose (F.faults files.old) (F.faults files.new)) }
     ensures no_fault { (IsRead result → ⊥) → F.faults files.new ≡ F.faults files.old }
 {
@@ -64,58 +64,60 @@ pub fn judge_experiment<'a, F: Files>(
 }
 
 /// What is written of a run of the program that a file is, if it is one.
-fn file_answer<'a>(
+fn file_answer<'r>(
     alloc: Global,
     file: &[u8],
     input: &[u8],
-    request: Request<'a>,
+    request: &'r Request<'r>,
     kind: Kind,
-) -> Answer<'a>
+) -> Answer<'r>
     requires short { length file.now ≤ 33554432 }
-    requires fit { IsFit (seen request) }
-    requires some_budget { 1 ≤ request.budget }
+    requires fit { IsFit (seen request.now) }
+    requires some_budget { 1 ≤ request.now.budget }
     ensures no_read { IsRead result → ⊥ }
-    ensures settled { (IsMemory result → ⊥) → answered result ≡ file_verdict (seen request.entry) (print_of kind) file.now input.now }
+    ensures settled { (IsMemory result → ⊥) → answered result ≡ file_verdict (seen request.now) (print_of kind) file.now input.now }
 {
     let program = read_program(alloc, file)?;
     index_answer(alloc, &program.image, &program.index, input, request, kind)
 }
 
 /// What is written of a run of a program with these lines, if it has those that are named.
-fn index_answer<'a>(
+fn index_answer<'r>(
     alloc: Global,
     image: &Image,
     index: &LineIndex,
     input: &[u8],
-    request: Request<'a>,
+    request: &'r Request<'r>,
     kind: Kind,
-) -> Answer<'a>
-    requires fit { IsFit (seen request) }
-    requires some_budget { 1 ≤ request.budget }
+) -> Answer<'r>
+    requires fit { IsFit (seen request.now) }
+    requires some_budget { 1 ≤ request.now.budget }
     ensures no_read { IsRead result → ⊥ }
     ensures settled { (IsMemory result → ⊥) → answered result ≡
-        chosen_verdict (chosen index.now.lines (seen request.entry)) (λ c.
-        print_of kind (experiment image.now (position_at index.now) (point_in index.now.entries c.points) input.now (choice_of (seen request.entry) c.selected))) }
+        chosen_verdict (chosen index.now.lines (seen request.now)) (λ c.
+        print_of kind (experiment image.now (position_at index.now) (point_in index.now.entries c.points) input.now
+            (choice_of c.selected request.now.speedup request.now.budget))) }
 {
     let chosen = choose(alloc, index, request)?;
-    let choice = choice(request, chosen.selected);
+    let choice = choice(chosen.selected, request.speedup, request.budget);
     match kind {
         Kind::Delayed => run_answer(alloc, image, index, &chosen.points, input, choice),
         Kind::Shortened => really_answer(alloc, image, index, &chosen.points, input, choice),
     }
 }
 
-/// What the request chooses for its run, with the limits of the commands.
-fn choice(request: Request, selected: Option<LineId>) -> Choice
-    requires fit { IsFit (seen request) }
-    requires some_budget { 1 ≤ request.budget }
-    ensures choice { result ≡ choice_of (seen request.entry) (option_map id_of selected) }
+/// What is chosen for a run, with the limits of the commands.
+fn choice(selected: Option<LineId>, speedup: u8, budget: u64) -> Choice
+    requires speedup { speedup ≤ 95 }
+    requires some_budget { 1 ≤ budget }
+    requires few { budget ≤ 10 ^ 12 }
+    ensures choice { result ≡ choice_of (option_map id_of selected) speedup budget }
     ensures within { IsChoice result }
 {
     Choice {
         selected,
-        speedup: request.speedup,
-        budget: request.budget,
+        speedup,
+        budget,
         output_limit: OUTPUT_LIMIT,
         visit_limit: VISIT_LIMIT,
         layout: Layout::usual(),

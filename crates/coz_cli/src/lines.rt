@@ -1,11 +1,11 @@
-ghost use Rattle.std.specs.Prelude.{◌≡◌, ◌≤◌, length, IfSome, IfNone, Some};
+ghost use Rattle.std.specs.Prelude.{◌≡◌, ◌≤◌, length, IfSome, IfNone};
 ghost use Rattle.coz_files.specs.Faults.{Rose};
 ghost use Rattle.run_words.specs.Seen.{seen};
 ghost use Rattle.run_words.specs.declared.Command.TheVariants.{Lines};
 ghost use Rattle.coz_cli.specs.Verdict.{command_verdict, lines_verdict};
 ghost use Rattle.coz_cli.specs.Answer.{answered, IsMemory, IsRead, Suits, Settles};
 
-use crate::answer::{Answer, Printed};
+use crate::answer::{Answer, Printed, Text};
 use crate::lines_text::lines_text;
 use crate::program::{MAX_PROGRAM, read_file, read_program};
 use coz_files::Files;
@@ -13,11 +13,15 @@ use run_words::Request;
 use std::alloc::Global;
 
 /// What is written of the lines of the program that the request names.
-pub fn judge_lines<'a, F: Files>(alloc: Global, request: Request<'a>, files: &mut F) -> Answer<'a>
+pub fn judge_lines<'r, F: Files>(
+    alloc: Global,
+    request: &'r Request<'r>,
+    files: &mut F,
+) -> Answer<'r>
     ensures same { F.held files.new ≡ F.held files.old }
-    ensures suits { Suits (Some (seen request.entry)) result }
+    ensures suits { Suits (seen request.now) result }
     ensures settled { IfSome (F.held files.old) (λ held. (IsMemory result → ⊥) →
-        Settles (command_verdict Lines (seen request.entry) held) (F.faults files.old) (F.faults files.new) result) }
+        Settles (command_verdict Lines (seen request.now) held) (F.faults files.old) (F.faults files.new) result) }
     ensures untold { IsRead result → IfNone (F.held files.old) (Rose (F.faults files.old) (F.faults files.new)) }
     ensures no_fault { (IsRead result → ⊥) → F.faults files.new ≡ F.faults files.old }
 {
@@ -26,12 +30,15 @@ pub fn judge_lines<'a, F: Files>(alloc: Global, request: Request<'a>, files: &mu
 }
 
 /// What is written of the lines of the program that a file is, if it is one.
-fn lines_answer<'a>(alloc: Global, file: &[u8]) -> Answer<'a>
+fn lines_answer<'r>(alloc: Global, file: &[u8]) -> Answer<'r>
     requires short { length file.now ≤ 33554432 }
     ensures no_read { IsRead result → ⊥ }
     ensures settled { (IsMemory result → ⊥) → answered result ≡ lines_verdict file.now }
 {
     let program = read_program(alloc, file)?;
     let text = lines_text(alloc, program.table.skipped, &program.index)?;
-    Ok(Printed { status: 0, text })
+    Ok(Printed {
+        status: 0,
+        text: Text::Bytes(text),
+    })
 }

@@ -14,7 +14,7 @@ ghost use Rattle.coz_cli.specs.Text.{run_text};
 ghost use Rattle.coz_cli.specs.Verdict.{ending_status, really_verdict, run_verdict};
 ghost use Rattle.coz_cli.specs.Answer.{answered, IsMemory, IsRead};
 
-use crate::answer::{Answer, Printed};
+use crate::answer::{Answer, Printed, Text};
 use crate::record::{RunRecord, ShortRecord};
 use crate::short_text::really_text;
 use crate::text::run_text;
@@ -69,14 +69,14 @@ fn machine_text(alloc: Global, machine: &Machine) -> Result<Vec<u8>, AllocError>
 }
 
 /// What is written of a program's delayed run.
-pub fn run_answer<'a>(
+pub fn run_answer<'r>(
     alloc: Global,
     image: &Image,
     index: &LineIndex,
     points: &Points,
     input: &[u8],
     choice: Choice,
-) -> Answer<'a>
+) -> Answer<'r>
     requires { IsChoice choice }
     ensures no_read { IsRead result → ⊥ }
     ensures settled { (IsMemory result → ⊥) → answered result ≡
@@ -87,19 +87,19 @@ pub fn run_answer<'a>(
     let text = machine_text(alloc, &machine)?;
     Ok(Printed {
         status: ending_status(ending),
-        text,
+        text: Text::Bytes(text),
     })
 }
 
 /// What is written of a program's shortened run.
-pub fn really_answer<'a>(
+pub fn really_answer<'r>(
     alloc: Global,
     image: &Image,
     index: &LineIndex,
     points: &Points,
     input: &[u8],
     choice: Choice,
-) -> Answer<'a>
+) -> Answer<'r>
     requires { IsChoice choice }
     ensures no_read { IsRead result → ⊥ }
     ensures settled { (IsMemory result → ⊥) → answered result ≡
@@ -118,6 +118,6 @@ pub fn really_answer<'a>(
     let text = really_text(alloc, record)?;
     Ok(Printed {
         status: ending_status(ending),
-        text,
+        text: Text::Bytes(text),
     })
 }

@@ -113,15 +113,15 @@ pub struct Chosen {
 
 /// What a request names among the lines of a program.
 #[tactic(auto, unfolding(crate::specs::Selection::chosen))]
-pub fn choose<'a>(
+pub fn choose<'r>(
     alloc: Global,
     index: &LineIndex,
-    request: Request<'a>,
-) -> Result<Chosen, Fault<'a>>
-    requires { IsFit (seen request) }
+    request: &'r Request<'r>,
+) -> Result<Chosen, Fault<'r>>
+    requires { IsFit (seen request.now) }
     ensures no_read { IsRead result → ⊥ }
     ensures settled { (IsMemory result → ⊥) → (next : Positions → Verdict) →
-        follows result (λ c. next (positions_of c)) ≡ chosen_verdict (chosen index.now.lines (seen request.entry)) next }
+        follows result (λ c. next (positions_of c)) ≡ chosen_verdict (chosen index.now.lines (seen request.now)) next }
     ensures points { IfOk result (λ c. IsPoints index.now c.points.lines c.points) }
 {
     let selected = line_named(index, request.line)?;

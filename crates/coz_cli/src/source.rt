@@ -1,4 +1,4 @@
-ghost use Rattle.std.specs.Prelude.{◌≡◌, ◌≤◌, length, IfSome, IfNone, Some};
+ghost use Rattle.std.specs.Prelude.{◌≡◌, ◌≤◌, length, IfSome, IfNone};
 ghost use Rattle.coz_files.specs.Faults.{Rose};
 ghost use Rattle.image_write.specs.File.{IsName};
 ghost use Rattle.run_words.specs.Seen.{seen};
@@ -7,7 +7,7 @@ ghost use Rattle.rv_asm.specs.Assembled.{assembled};
 ghost use Rattle.coz_cli.specs.Verdict.{command_verdict, source_verdict};
 ghost use Rattle.coz_cli.specs.Answer.{answered, IsMemory, IsRead, Suits, Settles};
 
-use crate::answer::{Answer, Printed};
+use crate::answer::{Answer, Printed, Text};
 use crate::program::read_file;
 use coz_files::Files;
 use image_write::write_elf;
@@ -19,12 +19,16 @@ use std::alloc::Global;
 const MAX_SOURCE: u64 = 4194304;
 
 /// What is written of the source that the request names.
-pub fn judge_source<'a, F: Files>(alloc: Global, request: Request<'a>, files: &mut F) -> Answer<'a>
-    requires named { IsName request.target.now }
+pub fn judge_source<'r, F: Files>(
+    alloc: Global,
+    request: &'r Request<'r>,
+    files: &mut F,
+) -> Answer<'r>
+    requires named { IsName request.now.target.now }
     ensures same { F.held files.new ≡ F.held files.old }
-    ensures suits { Suits (Some (seen request.entry)) result }
+    ensures suits { Suits (seen request.now) result }
     ensures settled { IfSome (F.held files.old) (λ held. (IsMemory result → ⊥) →
-        Settles (command_verdict Asm (seen request.entry) held) (F.faults files.old) (F.faults files.new) result) }
+        Settles (command_verdict Asm (seen request.now) held) (F.faults files.old) (F.faults files.new) result) }
     ensures untold { IsRead result → IfNone (F.held files.old) (Rose (F.faults files.old) (F.faults files.new)) }
     ensures no_fault { (IsRead result → ⊥) → F.faults files.new ≡ F.faults files.old }
 {
@@ -33,7 +37,7 @@ pub fn judge_source<'a, F: Files>(alloc: Global, request: Request<'a>, files: &m
 }
 
 /// The file of what a source stands for, with the source's name in it.
-fn source_answer<'a>(alloc: Global, source: &[u8], name: &str) -> Answer<'a>
+fn source_answer<'r>(alloc: Global, source: &[u8], name: &str) -> Answer<'r>
     requires short { length source.now ≤ 4194304 }
     requires named { IsName name.now }
     ensures no_read { IsRead result → ⊥ }
@@ -41,5 +45,8 @@ fn source_answer<'a>(alloc: Global, source: &[u8], name: &str) -> Answer<'a>
 {
     let assembled = assemble(alloc, source)?;
     let text = write_elf(alloc, &assembled, name.as_bytes())?;
-    Ok(Printed { status: 0, text })
+    Ok(Printed {
+        status: 0,
+        text: Text::Bytes(text),
+    })
 }

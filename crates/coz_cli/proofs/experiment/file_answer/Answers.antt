@@ -8,7 +8,7 @@ use Rattle.coz_cli.proofs.experiment.file_answer.Goals as goal
 
 pub returns-clause-settled : goal.returns-clause-settled
 returns-clause-settled c = λ other.
-    let asked = seen c.args.request in
+    let asked = seen c.args.request.now in
     let print = print_of c.args.kind in
     let input = c.args.input.now in
     let program = c.in_ok-program.program in

@@ -1,0 +1,74 @@
+-- What the top call leaves, by the answer that its words came to.
+use Rattle.std.proofs.Common.{◌≡◌, ◌≤◌, ℕ, List, Option, Some, None, IfSome, Ok, Err, refl, ap, sym, subst, arith, codes, inl, inr}
+use Rattle.std.specs.Prelude.{IfNone}
+use Rattle.std.specs.Io.KnownBytes.{Appends}
+use Rattle.coz_files.specs.Faults.{Rose}
+use Rattle.coz_files.specs.Held.{Held}
+use Rattle.run_words.specs.Request.{Asked}
+use Rattle.coz_cli.specs.declared.answer.Printed.{Printed}
+use Rattle.coz_cli.specs.declared.fault.Fault.{Fault}
+use Rattle.coz_cli.specs.declared.fault.Fault.TheVariants.{Usage}
+use Rattle.coz_cli.specs.Words.{request_of}
+use Rattle.coz_cli.specs.Verdict.{Verdict, command_verdict, request_verdict, verdict}
+use Rattle.coz_cli.specs.Answer.{Answer, IsMemory, IsReadFault, Suits, Settles, fault_line, fault_status, printed_verdict, text_bytes}
+use Rattle.coz_cli.specs.Headline.{PrintsShortened}
+use Rattle.coz_cli.specs.Serve.{IsLine}
+use Rattle.coz_cli.proofs.Printed.{prints_shortened}
+use Rattle.coz_cli.proofs.Told.{IsOf, told_high, told_line}
+
+-- nothing is asked of a status that is above a run's
+pub no_headline : (words : List (List ℕ)) (told before after : _) (status : ℕ) → 2 ≤ status → IfSome told (λ held. status ≤ 1 → PrintsShortened words held before after)
+no_headline words None before after status high = tt
+no_headline words (Some held) before after status high = λ low. absurd (omega (arith, high, low))
+
+-- a verdict of 0 or 1 whose text was gained prints such a run
+printed_run : (words : List (List ℕ)) (held : Held) (before after : Option (List ℕ)) (printed : Printed) → verdict words held ≡ printed_verdict printed
+    → Appends before after (text_bytes printed.text) → printed.status ≤ 1 → PrintsShortened words held before after
+printed_run words held before after printed is gained low =
+    prints_shortened words held before after
+    (subst (λ (v : Verdict). v.status ≤ 1) (sym is) low)
+    (subst (λ (v : Verdict). Appends before after v.text) (sym is) gained)
+
+module _ (words : List (List ℕ)) (faults now : ℕ) where
+  -- what an answer settles of a request it settles of the words
+  abbrev IsSettled : Option Held → Option Asked → Answer → Type 0
+  IsSettled told request answer = IfSome told (λ held. (IsMemory answer → ⊥) → Settles (request_verdict request held) faults now answer)
+
+  no_request : (told : Option Held) → IsSettled told None (Err Usage)
+  no_request None = tt
+  no_request (Some held) = λ _. inl refl
+
+  pub usage_line : (told : Option Held) → None ≡ request_of words → IsLine 2 words told faults now (codes "coz: usage")
+  usage_line told none =
+      told_line 2 words told faults now Usage
+      (record {
+        status_is = refl;
+        of_words = subst (λ request. IsOf request Usage) none refl;
+        settled = subst (λ request. IsSettled told request (Err Usage)) none (no_request told);
+        untold = λ never. absurd never;
+      })
+
+  module _ (asked : Asked) (makes : Some asked ≡ request_of words) where
+    pub fault_told : (told : Option Held) (fault : Fault) → Suits asked (Err fault)
+        → IfSome told (λ held. (IsMemory {A = Printed} (Err fault) → ⊥) → Settles (command_verdict asked.command asked held) faults now (Err fault))
+        → (IsReadFault fault → IfNone told (Rose faults now)) → IsLine (fault_status fault) words told faults now (fault_line fault)
+    fault_told told fault suits settled untold =
+        told_line (fault_status fault) words told faults now fault
+        (record {
+          status_is = refl;
+          of_words = subst (λ request. IsOf request fault) makes suits;
+          settled = subst (λ request. IsSettled told request (Err fault)) makes settled;
+          untold = untold;
+        })
+
+    pub headline : (told before after : Option _) (printed : Printed)
+        → IfSome told (λ held. (IsMemory {A = Printed} (Ok printed) → ⊥) → Settles (command_verdict asked.command asked held) faults now (Ok printed))
+        → Appends before after (text_bytes printed.text) → IfSome told (λ held. printed.status ≤ 1 → PrintsShortened words held before after)
+    headline None before after printed settled gained = tt
+    headline (Some held) before after printed settled gained =
+        let is = subst (λ request. IsSettled (Some held) request (Ok printed)) makes settled in
+        λ low.
+        elim (is (λ no. no)) [
+          | inl same ↦ printed_run words held before after printed (sym same) gained low
+          | inr failed ↦ absurd failed.0
+        ]
