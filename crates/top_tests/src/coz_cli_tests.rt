@@ -62,14 +62,28 @@ fn compressed(alloc: Global) -> Result<Vec<u8>, AllocError> {
     Ok(file)
 }
 
-/// A source of the program `one`, and two that have a fault.
-const SOURCES: [(&str, &[u8]); 3] = [
+/// A program whose header has its area twice.
+fn doubled(alloc: Global) -> Result<Vec<u8>, AllocError> {
+    let mut file = Vec::new(alloc);
+    file.extend_from_slice(&HEADERS[..56])?;
+    file.push(2)?;
+    file.extend_from_slice(&HEADERS[57..])?;
+    file.extend_from_slice(&HEADERS[64..])?;
+    for _ in 0..3932 {
+        file.push(0)?;
+    }
+    Ok(file)
+}
+
+/// A source of the program `one`, and three that have a fault.
+const SOURCES: [(&str, &[u8]); 4] = [
     (
         "one.s",
         b"    addi a0, x0, 0\n    addi a7, x0, 93\n    ecall\n",
     ),
     ("range.s", b"    addi a0, x0, 2048"),
     ("empty.s", b""),
+    ("much.s", b".data\n.zero 1048576\n.byte 1"),
 ];
 
 /// The programs, headers alone, the sources, an input, and a file of this length.
@@ -83,6 +97,7 @@ fn files(alloc: Global, fails: &[u64], length: usize) -> Result<MemoryFiles, All
     }
     held_files.push(held(alloc, "headers", HEADERS.to_vec(alloc)?)?)?;
     held_files.push(held(alloc, "compressed", compressed(alloc)?)?)?;
+    held_files.push(held(alloc, "doubled", doubled(alloc)?)?)?;
     held_files.push(held(alloc, "data", b"five".to_vec(alloc)?)?)?;
     held_files.push(held(alloc, "big", vec![in alloc; 0u8; length]?)?)?;
     Ok(MemoryFiles::new(held_files, fails.to_vec(alloc)?))
@@ -236,6 +251,12 @@ fn faults_of_programs_and_sources_are_told(rt: HostRuntime) -> Result<(), Fail> 
             b"coz: program: Compressed at 48\n",
         ),
         plain_case(
+            &["run", "doubled"],
+            3,
+            b"",
+            b"coz: program: SharedPage at 120\n",
+        ),
+        plain_case(
             &["asm", "range.s"],
             11,
             b"",
@@ -246,6 +267,12 @@ fn faults_of_programs_and_sources_are_told(rt: HostRuntime) -> Result<(), Fail> 
             11,
             b"",
             b"coz: source: Empty at line 1 column 1\n",
+        ),
+        plain_case(
+            &["asm", "much.s"],
+            11,
+            b"",
+            b"coz: source: Much at line 3 column 1\n",
         ),
     ];
     all_come_out(&rt, &cases)
@@ -352,14 +379,21 @@ fn one_file(alloc: Global, path: &str, bytes: &[u8]) -> Result<MemoryFiles, Allo
     Ok(MemoryFiles::new(held_files, Vec::new(alloc)))
 }
 
-/// The beginning of a line unit of 13 bytes, whose header says that it is longer.
-const SHORT_TABLE: [u8; 13] = [9, 0, 0, 0, 4, 0, 0x1B, 0, 0, 0, 4, 1, 1];
+/// Line tables of 13 bytes, and the lines of their faults: the beginning of a unit whose header says that it is longer,
+/// and one of the form of 64 bits.
+const TABLES: [([u8; 13], &[u8]); 2] = [
+    (
+        [9, 0, 0, 0, 4, 0, 0x1B, 0, 0, 0, 4, 1, 1],
+        b"coz: lines: Short at 6\n",
+    ),
+    ([0xFF; 13], b"coz: lines: LongForm at 0\n"),
+];
 
-/// The file of `one.s` with that unit as its line table.
-fn with_short_table(alloc: Global, file: &[u8]) -> Result<Vec<u8>, AllocError> {
+/// The file of `one.s` with this line table.
+fn with_table(alloc: Global, file: &[u8], table: &[u8]) -> Result<Vec<u8>, AllocError> {
     let mut cut = Vec::new(alloc);
     cut.extend_from_slice(file.get(..4108).unwrap_or(&[]))?;
-    cut.extend_from_slice(&SHORT_TABLE)?;
+    cut.extend_from_slice(table)?;
     cut.extend_from_slice(file.get(4121..4440).unwrap_or(&[]))?;
     // the size of the section
     cut.push(13)?;
@@ -378,17 +412,20 @@ fn what_is_assembled_runs(rt: HostRuntime) -> Result<(), Fail> {
         (run.status, run.out.as_slice(), run.err.len()),
         (0, ONE, 0)
     );
-    let cut = with_short_table(alloc, &made.out)?;
-    let refused = call(&rt, &["run", "cut"], one_file(alloc, "cut", &cut)?)?;
-    assert_eq!(rt;
-        (refused.status, refused.out.len(), refused.err.as_slice()),
-        (4, 0, b"coz: lines: Short at 6\n".as_slice())
-    );
+    for (table, err) in &TABLES {
+        let cut = with_table(alloc, &made.out, table)?;
+        let refused = call(&rt, &["run", "cut"], one_file(alloc, "cut", &cut)?)?;
+        assert_eq!(rt;
+            (refused.status, refused.out.len(), refused.err.as_slice()),
+            (4, 0, *err)
+        );
+    }
     Ok(())
 }
 
-/// Programs of one hart and of two, and one that traps.
-const LINED: [(&str, &[u8]); 3] = [
+/// Programs of one hart and of two, one that traps, and four whose harts wait: for nobody, for an exit, for a wake,
+/// and each for the other.
+const LINED: [(&str, &[u8]); 7] = [
     (
         "d/one.s",
         b"    addi a0, x0, 0\n    addi a7, x0, 93\n    ecall\n",
@@ -398,6 +435,22 @@ const LINED: [(&str, &[u8]); 3] = [
         b"li a0, 69376\nli a1, 0\nli a7, 220\necall\naddi t0, t0, 1\nli a0, 0\nli a7, 93\necall\n",
     ),
     ("trap.s", b"    ebreak\n"),
+    (
+        "stall.s",
+        b"la a0, word\nli a1, 0\nli a2, 0\nli a7, 98\necall\n.data\nword: .word 0\n",
+    ),
+    (
+        "join.s",
+        b"la a4, word\nli a0, 2166528\nli a7, 220\necall\nbeq a0, x0, child\nmv a0, a4\nli a1, 0\nli a2, 1\nli a7, 98\necall\nli a0, 0\nli a7, 94\necall\nchild: li a7, 124\necall\nli a7, 93\necall\n.data\nword: .word 1\n",
+    ),
+    (
+        "wait.s",
+        b"li a0, 69376\nli a7, 220\necall\nbeq a0, x0, child\nla a0, word\nli a1, 0\nli a2, 0\nli a7, 98\necall\nli a0, 0\nli a7, 94\necall\nchild: li a7, 124\necall\necall\nli t0, 10\nagain: div t1, t1, t0\naddi t0, t0, -1\nbne t0, x0, again\nla a0, word\nli a1, 1\nli a2, 1\nli a7, 98\necall\nli a7, 93\necall\n.data\nword: .word 0\n",
+    ),
+    (
+        "pc.s",
+        b"# pc.s\n.text\n_start:\nla s0, slot\nla s1, left\nli a0, 69376\nli a7, 220\necall\nbeq a0, x0, consume\nli s2, 50\nproduce:\nmul t1, s2, s2\naddi t1, t1, 7\nwait_free:\nlw t0, 0(s0)\nbeq t0, x0, put\nmv a0, s0\nli a1, 0\nmv a2, t0\nli a7, 98\necall\nj wait_free\nput:\nsw s2, 0(s0)\nmv a0, s0\nli a1, 1\nli a2, 1\nli a7, 98\necall\naddi s2, s2, -1\nbne s2, x0, produce\nfinish:\nlw t0, 0(s1)\nbeq t0, x0, say\nmv a0, s1\nli a1, 0\nmv a2, t0\nli a7, 98\necall\nj finish\nsay:\nli a0, 1\nla a1, text\nli a2, 5\nli a7, 64\necall\nli a0, 0\nli a7, 94\necall\nconsume:\nli s3, 50\ntake:\nlw t0, 0(s0)\nbne t0, x0, got\nmv a0, s0\nli a1, 0\nli a2, 0\nli a7, 98\necall\nj take\ngot:\ndiv t2, t0, s3\ndiv t2, t2, s3\nsw x0, 0(s0)\nmv a0, s0\nli a1, 1\nli a2, 1\nli a7, 98\necall\naddi s3, s3, -1\nbne s3, x0, take\nsw x0, 0(s1)\nmv a0, s1\nli a1, 1\nli a2, 1\nli a7, 98\necall\nli a0, 0\nli a7, 93\necall\n.data\nslot: .word 0\nleft: .word 1\ntext: .ascii \"done\\n\"\n",
+    ),
 ];
 
 const ONE_LINES: &[u8] = b"skipped 0\nd/one.s:1\t0x10000\nd/one.s:2\t0x10004\nd/one.s:3\t0x10008\n";
@@ -428,8 +481,23 @@ const CHILD_IS_CREDITED: &[u8] =
 const TRAP_IS_VISITED: &[u8] =
     b"end trapped:break:0:0x10000\nnet 50\nretired 1\nstarts 1\nvisit 0 hart 0 net 50\noutput 0\n\n";
 
+const STALLED: &[u8] =
+    b"end stalled\ntime 4500\ndelay 0\nnet 4500\nretired 6\nstarts 0\nhart 0 own 0 paused 0 credited 0\noutput 0\n\n";
+
+const JOINED: &[u8] =
+    b"end exited:0\ntime 17000\ndelay 0\nnet 17000\nretired 20\nstarts 0\nhart 0 own 0 paused 0 credited 0\nhart 1 own 0 paused 0 credited 0\noutput 0\n\n";
+
+const WAITER_IS_CREDITED: &[u8] =
+    b"end exited:0\ntime 43300\ndelay 19000\nnet 24300\nretired 57\nstarts 10\nhart 0 own 0 paused 0 credited 19000\nhart 1 own 19000 paused 0 credited 0\noutput 0\n\n";
+
+const WAITED: &[u8] =
+    b"end exited:0\ntime 43300\ndelay 0\nnet 43300\nretired 57\nstarts 10\nhart 0 own 0 paused 0 credited 0\nhart 1 own 0 paused 0 credited 0\noutput 0\n\n";
+
+const DONE: &[u8] =
+    b"end exited:0\ntime 488700\ndelay 0\nnet 488700\nretired 1568\nstarts 0\nhart 0 own 0 paused 0 credited 0\nhart 1 own 0 paused 0 credited 0\noutput 5\ndone\n\n";
+
 /// Words about these programs, and what they come to: the status, the output and the line of the fault.
-const NAMED: [(&[&str], u8, &[u8], &[u8]); 13] = [
+const NAMED: [(&[&str], u8, &[u8], &[u8]); 18] = [
     (&["lines", "d/one"], 0, ONE_LINES, b""),
     (
         &["run", "d/one", "--line", "one.s:3", "--speedup", "95"],
@@ -528,6 +596,16 @@ const NAMED: [(&[&str], u8, &[u8], &[u8]); 13] = [
         b"",
         b"coz: selection: no line s:1\n",
     ),
+    (&["run", "stall"], 1, STALLED, b""),
+    (&["run", "join"], 0, JOINED, b""),
+    (
+        &["run", "wait", "--line", "wait.s:17", "--speedup", "95"],
+        0,
+        WAITER_IS_CREDITED,
+        b"",
+    ),
+    (&["run", "wait", "--line", "wait.s:17"], 0, WAITED, b""),
+    (&["run", "pc"], 0, DONE, b""),
 ];
 
 /// The programs of these sources, each at its path without the ending.
