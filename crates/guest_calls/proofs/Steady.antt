@@ -1,5 +1,5 @@
 -- Of all instructions only `ecall` is a call, and none changes the load areas or the layout.
-use Rattle.std.proofs.Common.{ℕ, zero, suc, ◌≡◌, ◌+◌, ◌/◌, ◌%◌, ◌==◌, Bool, cond, Option, Some, None, refl, ap, ◌∙◌, ◌⊎◌, inl, inr, true, false}
+use Rattle.std.proofs.Common.{ℕ, ◌≡◌, ◌%◌, ◌==◌, Bool, cond, Option, Some, None, refl, ap, ◌∙◌, ◌⊎◌, inl, inr, true, false}
 use Rattle.std.specs.Int.{bytes_low_first}
 use Rattle.coz_types.specs.declared.ending.TrapCause.{TrapCause}
 use Rattle.coz_types.specs.declared.ending.TrapCause.TheVariants.{Access, Misaligned, Break}

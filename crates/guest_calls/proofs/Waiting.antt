@@ -106,9 +106,9 @@ unfolding AllOthers
 all_others-filter [] keeps ws apart = tt
 all_others-filter (h ∷ hs) keeps ws apart = (
   others-filter h keeps ws (λ w kept is.
-  let here : list_any (λ hart. hart == w.hart) (h ∷ hs) ≡ true = rw (eq-eqb h w.hart (sym is)) refl in
-  let never : true ≡ false = sym here ∙ apart w kept in
-  cc),
+      let here : list_any (λ hart. hart == w.hart) (h ∷ hs) ≡ true = rw (eq-eqb h w.hart (sym is)) refl in
+      let never : true ≡ false = sym here ∙ apart w kept in
+      cc),
   all_others-filter hs keeps ws (λ w kept. (either_false (h == w.hart) (list_any (λ hart. hart == w.hart) hs) (apart w kept)).1),
 )
 
