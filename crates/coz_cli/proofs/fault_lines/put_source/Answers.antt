@@ -1,4 +1,4 @@
-use Rattle.coz_files.specs.Puts.{continues_then, continues_whole}
+use Rattle.coz_files.proofs.PutsLemmas.{continues_then, continues_whole}
 use Rattle.coz_cli.proofs.fault_lines.put_source.Goals as goal
 
 pub returns : goal.returns

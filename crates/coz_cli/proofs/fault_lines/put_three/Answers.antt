@@ -1,4 +1,4 @@
-use Rattle.coz_files.specs.Puts.{puts_then, puts_stop}
+use Rattle.coz_files.proofs.PutsLemmas.{puts_then, puts_stop}
 use Rattle.coz_cli.proofs.fault_lines.put_three.Goals as goal
 
 pub returns-in-Done-put : goal.returns-in-Done-put
