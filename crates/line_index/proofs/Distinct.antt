@@ -2,9 +2,9 @@
 use Rattle.std.proofs.Common.{◌≡◌, ℕ, ◌+◌, ◌&&◌, Bool, true, false, List, [], ◌∷◌, ◌++◌, take, Ordering, length, map, get_or, Contains, Any, All, ◌↔◌, ◌<◌, ◌==◌, nat_eq, refl, sym, ap, ap₂, ◌∙◌, subst}
 use Rattle.std.specs.Global.{Vec}
 use Rattle.std.specs.declared.cmp.Ordering.TheVariants.{Less, Equal, Greater}
-use Rattle.std.specs.Ordering.{nat_cmp, eq_by_cmp, is_eq}
+use Rattle.std.specs.Ordering.{nat_cmp, ordering_then, eq_by_cmp, is_eq}
 use Rattle.std.specs.Cmp.{IsTotalOrder, nat_cmp_total, on_total, then_total, eq_by_cmp_equiv, both_tied, unsigned_ties}
-use Rattle.std.specs.Cmp.Lexicographic.{nat_list_cmp_total, texts_ties, pointwise}
+use Rattle.std.specs.Cmp.Lexicographic.{slice_cmp, nat_list_cmp_total, texts_ties, pointwise}
 use Rattle.std.specs.List.{dedup}
 use Rattle.std.specs.List.Retain.{IsFiltered, DiffersFromLast}
 use Rattle.std.specs.List.Sorted.{IsSorted, IsPermutation, IsStrictlySortedBy}
@@ -14,13 +14,13 @@ use Rattle.std.proofs.lemmas.List.Sorted.{Contains-permutation, IsPermutation-sy
 use Rattle.std.specs.FinMap.{slice_cmp-IsAntisymmetric, nat_cmp-IsAntisymmetric}
 use Rattle.std.proofs.lemmas.Bool.{eqb-true}
 use Rattle.std.proofs.lemmas.List.{length-map, get_or-map, map-append, take_more}
-use Rattle.std.proofs.lemmas.List.Elements.{All-from_get_or, Contains-get_or}
-use Rattle.dwarf_lines.specs.declared.FileName.{FileName}
-use Rattle.dwarf_lines.specs.Registers.{File, file_view, files_view}
+use Rattle.std.proofs.lemmas.List.Elements.{All-contains_itself, All-from_get_or, All-weaker, Contains-get_or}
+use Rattle.line_index.specs.declared.entry.Entry.{Entry}
+use Rattle.dwarf_lines.specs.Registers.{File}
 use Rattle.line_index.specs.Lines.{path}
 use Rattle.line_index.proofs.Pieces.{Among, to_among, from_among, among_map, among_mapped}
 use Rattle.line_index.specs.declared.lines.Key.{Key}
-use Rattle.line_index.specs.Keys.{key_cmp, path_cmp, texts}
+use Rattle.line_index.specs.Keys.{entries_view, entry_cmp, entry_view, key_cmp, path_cmp, texts}
 
 pub key_total : IsTotalOrder key_cmp
 key_total = then_total (on_total (λ (k : Key). k.path) nat_cmp_total) (on_total (λ (k : Key). k.number) nat_cmp_total)
@@ -97,11 +97,42 @@ paths_kept files xs ys e h =
     text_kept xs ys h (path (get_or files i none)) (subst (λ ts. Contains ts (path (get_or files i none))) (sym e) of_file))
 
 -- one more path
-pub paths_more : (paths : List (Vec ℕ)) (written : Vec ℕ) (files : List FileName) (i : ℕ) (d : FileName) → i < length files → texts paths ≡ map path (files_view (take i files)) → written.items ≡ path (file_view (get_or files i d))
-    → texts (paths ++ written ∷ []) ≡ map path (files_view (take (i + 1) files))
+pub paths_more : (paths : List (Vec ℕ)) (written : Vec ℕ) (files : List Entry) (i : ℕ) (d : Entry) → i < length files → texts paths ≡ map path (entries_view (take i files)) → written.items ≡ path (entry_view (get_or files i d))
+    → texts (paths ++ written ∷ []) ≡ map path (entries_view (take (i + 1) files))
 paths_more paths written files i d lt so_far is =
     map-append (λ (text : Vec ℕ). text.items) paths (written ∷ [])
     ∙ ap₂ (λ (ts : List (List ℕ)) (t : List ℕ). ts ++ t ∷ []) so_far is
-    ∙ sym (map-append path (files_view (take i files)) (file_view (get_or files i d) ∷ []))
-    ∙ ap (map path) (sym (map-append file_view (take i files) (get_or files i d ∷ [])))
-    ∙ ap (λ (fs : List FileName). map path (files_view fs)) (sym (take_more files i d lt))
+    ∙ sym (map-append path (entries_view (take i files)) (entry_view (get_or files i d) ∷ []))
+    ∙ ap (map path) (sym (map-append entry_view (take i files) (get_or files i d ∷ [])))
+    ∙ ap (λ (fs : List Entry). map path (entries_view fs)) (sym (take_more files i d lt))
+
+-- ---- entries
+
+pub entry_total : IsTotalOrder entry_cmp
+entry_total = then_total (on_total (λ (entry : Entry). entry.name.now) nat_list_cmp_total) (on_total (λ (entry : Entry). entry.directory.now) nat_list_cmp_total)
+
+pub entry_ties : (e f : Entry) → (pointwise nat_eq e.name.now f.name.now && pointwise nat_eq e.directory.now f.directory.now) ≡ eq_by_cmp entry_cmp e f
+entry_ties e f =
+    both_tied (pointwise nat_eq e.name.now f.name.now) (pointwise nat_eq e.directory.now f.directory.now) (slice_cmp nat_cmp e.name.now f.name.now) (slice_cmp nat_cmp e.directory.now f.directory.now) (texts_ties e.name.now f.name.now) (texts_ties e.directory.now f.directory.now)
+
+same_entry_by : (e f : Entry) (r : Ordering) → slice_cmp nat_cmp e.name.now f.name.now ≡ r → ordering_then r (slice_cmp nat_cmp e.directory.now f.directory.now) ≡ Equal → entry_view e ≡ entry_view f
+same_entry_by e f Less name is = let no : ⊥ = cc in absurd no
+same_entry_by e f Equal name is =
+    let names = slice_cmp-IsAntisymmetric nat_cmp-IsAntisymmetric e.name.now f.name.now name in
+    let directories = slice_cmp-IsAntisymmetric nat_cmp-IsAntisymmetric e.directory.now f.directory.now is in
+    λ i. record { directory = directories i; name = names i }
+same_entry_by e f Greater name is = let no : ⊥ = cc in absurd no
+
+-- entries that are equal are of one file
+pub same_entry : (e f : Entry) → entry_cmp e f ≡ Equal → entry_view e ≡ entry_view f
+same_entry e f is = same_entry_by e f (slice_cmp nat_cmp e.name.now f.name.now) refl is
+
+entry_kept : (xs ys : List Entry) → IsDistinctOf entry_cmp xs ys → (file : File) → Contains (entries_view xs) file → Contains (entries_view ys) file
+entry_kept xs ys h file one =
+    let mapped = among_mapped entry_view file xs (to_among file (entries_view xs) one.0 one.1 one.2) in
+    let there = h.kept mapped.0 (from_among mapped.0 xs mapped.1) in
+    let among = among_map entry_view there.1 ys (to_among there.1 ys there.0 there.2 there.3) in
+    from_among file (entries_view ys) (subst (λ f. Among f (entries_view ys)) (sym (same_entry mapped.0 there.1 (equal_by (entry_cmp mapped.0 there.1) there.4)) ∙ mapped.2) among)
+
+pub entries_kept : (files : List File) (xs ys : List Entry) → entries_view xs ≡ files → IsDistinctOf entry_cmp xs ys → All (Contains (entries_view ys)) files
+entries_kept files xs ys e h = subst (All (Contains (entries_view ys))) e (All-weaker (Contains (entries_view xs)) (Contains (entries_view ys)) (entry_kept xs ys h) (entries_view xs) (All-contains_itself (entries_view xs)))

@@ -11,17 +11,17 @@ use Rattle.std.proofs.lemmas.List.Elements.{All-from_get_or, All-get_or, filter_
 use Rattle.std.proofs.lemmas.Option.{slice_get-map, slice_get_within, slice_get-get_or}
 use Rattle.std.specs.FinMap.{slice_cmp-IsAntisymmetric, nat_cmp-IsAntisymmetric}
 use Rattle.dwarf_lines.specs.declared.Row.{Row}
-use Rattle.dwarf_lines.specs.declared.FileName.{FileName}
-use Rattle.dwarf_lines.specs.Registers.{File, file_view, files_view}
+use Rattle.dwarf_lines.specs.Registers.{File}
+use Rattle.line_index.specs.declared.entry.Entry.{Entry}
 use Rattle.line_index.specs.declared.changes.Change.{Change}
 use Rattle.line_index.specs.declared.lines.Key.{Key}
 use Rattle.line_index.specs.Lines.{path, entry_path}
-use Rattle.line_index.specs.Keys.{key_cmp, path_cmp, path_place, texts, key_at, change_keys, key_change, line_change, IsBelow}
+use Rattle.line_index.specs.Keys.{entries_view, entry_view, key_cmp, path_cmp, path_place, texts, key_at, change_keys, key_change, line_change, IsBelow}
 use Rattle.line_index.proofs.Order.{search_finds, self_equal}
 use Rattle.line_index.proofs.Pieces.{Among, to_among, from_among, among_mapped, of_change, in_front, in_rest}
 use Rattle.line_index.proofs.Distinct.{key_total, path_total}
 
-never : (P : ℕ → Type 0) (r : Result ℕ ℕ) (i : ℕ) → MatchResult r P (λ _. ⊥) → r ≡ Err i → ⊥
+pub never : (P : ℕ → Type 0) (r : Result ℕ ℕ) (i : ℕ) → MatchResult r P (λ _. ⊥) → r ≡ Err i → ⊥
 never P (Ok j) i h e = let no : ⊥ = cc in no
 never P (Err j) i h e = h
 
@@ -75,10 +75,10 @@ few_keys rows positions [] = omega arith
 few_keys rows positions (c ∷ changes) = no_more (key_at rows positions c.position) (change_keys rows positions changes) (length changes) (few_keys rows positions changes)
 
 -- what holds of all files holds of one
-pub file_at : (P : File → Type 0) (files : List FileName) (i : ℕ) (d : FileName) → i < length files → All P (files_view files) → P (file_view (get_or files i d))
+pub file_at : (P : File → Type 0) (files : List Entry) (i : ℕ) (d : Entry) → i < length files → All P (entries_view files) → P (entry_view (get_or files i d))
 file_at P files i d lt all =
-    let within : i < length (files_view files) = subst (λ n. i < n) (sym (length-map files file_view)) lt in
-    subst P (get_or-map file_view files i d (file_view d) lt) (All-get_or P (files_view files) i (file_view d) within all)
+    let within : i < length (entries_view files) = subst (λ n. i < n) (sym (length-map files entry_view)) lt in
+    subst P (get_or-map entry_view files i d (entry_view d) lt) (All-get_or P (entries_view files) i (entry_view d) within all)
 
 -- ---- positions of lines
 

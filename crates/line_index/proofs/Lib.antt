@@ -21,3 +21,4 @@ pub mod WrittenFiles
 pub mod Kept
 pub mod Righted
 pub mod Needed
+pub mod Placing

@@ -6,6 +6,9 @@ use Rattle.std.specs.Ordering.{nat_cmp, ordering_then}
 use Rattle.std.specs.Cmp.Lexicographic.{slice_cmp}
 use Rattle.std.specs.Global.{Vec}
 use Rattle.dwarf_lines.specs.declared.Row.{Row}
+use Rattle.dwarf_lines.specs.Registers.{File}
+use Rattle.line_index.specs.declared.entry.Entry.{Entry}
+use Rattle.line_index.specs.Lines.{entry_path}
 use Rattle.line_index.specs.declared.changes.Change.{Change}
 use Rattle.line_index.specs.declared.lines.Key.{Key}
 
@@ -19,6 +22,10 @@ path_cmp path other = slice_cmp nat_cmp path.items other.items
 -- the position of a path that is an entry
 abbrev pub path_place : List (Vec ℕ) → Option ℕ → Option (Option (List ℕ))
 path_place paths position = option_map (slice_get (texts paths)) position
+
+-- each position is that of the file's path, if it has one
+abbrev pub ArePlaces : List (Vec ℕ) → List (Option ℕ) → List File → Type 0
+ArePlaces paths positions files = map (path_place paths) positions ≡ map (λ (file : File). option_map Some (entry_path file)) files
 
 abbrev pub key_cmp : Key → Key → Ordering
 key_cmp k m = ordering_then (nat_cmp k.path m.path) (nat_cmp k.number m.number)
@@ -83,3 +90,14 @@ starts k before (c ∷ cs) = (if is_at k c.position && not (is_at k before) then
 pub record AreStarts (count : ℕ) (changes : List Change) (lists : List (List ℕ)) : Type 0 where
   pub as_many : length lists ≡ count
   pub each : (k : ℕ) → k < count → slice_get lists k ≡ Some (starts k None changes)
+
+-- an entry without where its bytes lie in memory
+abbrev pub entry_view : Entry → File
+entry_view entry = record { directory = entry.directory.now; name = entry.name.now }
+
+abbrev pub entries_view : List Entry → List File
+entries_view entries = map entry_view entries
+
+-- by name, then by directory
+abbrev pub entry_cmp : Entry → Entry → Ordering
+entry_cmp entry other = ordering_then (slice_cmp nat_cmp entry.name.now other.name.now) (slice_cmp nat_cmp entry.directory.now other.directory.now)

@@ -4,6 +4,7 @@
 
 mod changes;
 mod entries;
+mod entry;
 mod find;
 mod labels;
 mod lines;
@@ -21,6 +22,7 @@ ghost use Rattle.line_index.specs.Listed.{IsListed};
 
 use crate::changes::Change;
 use crate::entries::entries;
+use crate::entry::{file_positions, sorted_entries};
 use crate::labels::labels;
 use crate::lines::{Key, line_changes, sorted_keys};
 use crate::named::named_files;
@@ -105,8 +107,10 @@ pub fn build(alloc: Global, table: &LineTable, image: &Image) -> Result<LineInde
     let files = table.files.as_slice();
     let covering = covering_rows(alloc, rows, image.areas())?;
     let named = named_files(alloc, rows, files, &covering)?;
-    let paths = sorted_paths(alloc, &named)?;
-    let positions = path_positions(alloc, &paths, &named)?;
+    let distinct = sorted_entries(alloc, &named)?;
+    let paths = sorted_paths(alloc, &distinct)?;
+    let ranks = path_positions(alloc, &paths, &distinct)?;
+    let positions = file_positions(alloc, &distinct, &ranks, &named)?;
     let lines = sorted_keys(alloc, rows, &positions, &covering)?;
     let changes = line_changes(alloc, rows, &positions, &lines, &covering)?;
     let entries = entries(alloc, &changes, lines.len())?;
