@@ -1,6 +1,7 @@
 use coz_lists::Items;
 use image_write::write_elf;
 use rv_asm::{Assembled, assemble};
+use std::alloc::{AllocError, Global};
 use std::test::Fail;
 
 // A caller of both has nothing to test in between.
@@ -16,30 +17,43 @@ fn a_source_is_written(rt: HostRuntime) -> Result<(), Fail> {
     Ok(())
 }
 
-// The bytes were told by an implementation that was written apart from this one.
-#[test]
-fn a_small_program_is_written(rt: HostRuntime) -> Result<(), Fail> {
-    let alloc = rt.alloc();
-    let text = vec![in alloc; 0x13u8, 5, 0, 0, 0x93, 8, 0xD0, 5, 0x73, 0, 0, 0]?;
+// The bytes of the small program's file were told by an implementation that was written apart from this one.
+
+const HEADER: [u8; 64] = [
+    0x7F, 0x45, 0x4C, 0x46, 2, 1, 1, 0, 0, 0, 0, 0, 0, 0, 0, 0, 2, 0, 0xF3, 0, 1, 0, 0, 0, 0, 0, 1,
+    0, 0, 0, 0, 0, 0x40, 0, 0, 0, 0, 0, 0, 0, 0x78, 0x10, 0, 0, 0, 0, 0, 0, 0, 0, 0, 0, 0x40, 0,
+    0x38, 0, 1, 0, 0x40, 0, 5, 0, 4, 0,
+];
+
+const UNIT: [u8; 66] = [
+    0x3E, 0, 0, 0, 4, 0, 0x1D, 0, 0, 0, 4, 1, 1, 0xFB, 0x0E, 0x0D, 0, 1, 1, 1, 1, 0, 0, 0, 1, 0, 0,
+    1, 0, 0x6F, 0x6E, 0x65, 0x2E, 0x73, 0, 0, 0, 0, 0, 0, 9, 2, 0, 0, 1, 0, 0, 0, 0, 0, 1, 2, 1, 3,
+    1, 1, 2, 1, 3, 1, 1, 2, 1, 0, 1, 1,
+];
+
+const TEXT: [u8; 12] = [0x13, 5, 0, 0, 0x93, 8, 0xD0, 5, 0x73, 0, 0, 0];
+
+/// The file of the small program, whose words have the lines 1, 2 and 3.
+fn small_program(alloc: Global) -> Result<Vec<u8>, AllocError> {
     let made = Assembled {
-        text: Items::new(text),
+        text: Items::new(Vec::from_slice(alloc, &TEXT)?),
         content: Items::new(Vec::new(alloc)),
-        lines: Items::new(vec![in alloc; 1u32, 2, 3]?),
+        lines: Items::new(Vec::from_slice(alloc, &[1, 2, 3])?),
         entry: 0x1_0000,
     };
-    let file = write_elf(alloc, &made, b"one.s")?;
-    assert_eq!(rt; file.len(), 4536);
-    let header: [u8; 64] = [
-        0x7F, 0x45, 0x4C, 0x46, 2, 1, 1, 0, 0, 0, 0, 0, 0, 0, 0, 0, 2, 0, 0xF3, 0, 1, 0, 0, 0, 0,
-        0, 1, 0, 0, 0, 0, 0, 0x40, 0, 0, 0, 0, 0, 0, 0, 0x78, 0x10, 0, 0, 0, 0, 0, 0, 0, 0, 0, 0,
-        0x40, 0, 0x38, 0, 1, 0, 0x40, 0, 5, 0, 4, 0,
-    ];
-    assert_eq!(rt; file.get(..64), Some(header.as_slice()));
-    let unit: [u8; 66] = [
-        0x3E, 0, 0, 0, 4, 0, 0x1D, 0, 0, 0, 4, 1, 1, 0xFB, 0x0E, 0x0D, 0, 1, 1, 1, 1, 0, 0, 0, 1,
-        0, 0, 1, 0, 0x6F, 0x6E, 0x65, 0x2E, 0x73, 0, 0, 0, 0, 0, 0, 9, 2, 0, 0, 1, 0, 0, 0, 0, 0,
-        1, 2, 1, 3, 1, 1, 2, 1, 3, 1, 1, 2, 1, 0, 1, 1,
-    ];
-    assert_eq!(rt; file.get(4108..4174), Some(unit.as_slice()));
+    write_elf(alloc, &made, b"one.s")
+}
+
+/// Whether the file has its length, its header and its line unit.
+fn is_small_program(file: &[u8]) -> bool {
+    file.len() == 4536
+        && file.get(..64) == Some(HEADER.as_slice())
+        && file.get(4108..4174) == Some(UNIT.as_slice())
+}
+
+#[test]
+fn a_small_program_is_written(rt: HostRuntime) -> Result<(), Fail> {
+    let file = small_program(rt.alloc())?;
+    assert!(rt; is_small_program(file.as_slice()));
     Ok(())
 }

@@ -10,77 +10,249 @@ fn words_of(alloc: Global, texts: &[&str]) -> Result<Vec<String>, AllocError> {
     Ok(words)
 }
 
-/// Whether the words ask for a run of this program, with this input and this budget.
-fn asks(
-    alloc: Global,
-    texts: &[&str],
-    target: &str,
-    input: Option<&str>,
+/// What words ask for.
+#[derive(Clone, Copy)]
+struct Asked {
+    command: Command,
+    target: &'static str,
+    input: Option<&'static str>,
+    line: Option<&'static str>,
+    speedup: u8,
+    progress: Option<&'static str>,
     budget: u64,
-) -> Result<bool, AllocError> {
+}
+
+/// A run of `one` without an option.
+const RUN: Asked = Asked {
+    command: Command::Run,
+    target: "one",
+    input: None,
+    line: None,
+    speedup: 0,
+    progress: None,
+    budget: 100000000,
+};
+
+static TAKEN: [(&[&str], Asked); 26] = [
+    (&["run", "one"], RUN),
+    (&["run", "--", "one"], RUN),
+    (&["run", "one", "--"], RUN),
+    (&["run", "--budget=3", "one"], Asked { budget: 3, ..RUN }),
+    (
+        &["run", "one", "--budget", "3", "--input", "data"],
+        Asked {
+            input: Some("data"),
+            budget: 3,
+            ..RUN
+        },
+    ),
+    (
+        &["run", "one", "--input=-x"],
+        Asked {
+            input: Some("-x"),
+            ..RUN
+        },
+    ),
+    (
+        &["run", "one", "--input=a=b"],
+        Asked {
+            input: Some("a=b"),
+            ..RUN
+        },
+    ),
+    (
+        &["run", "--", "--"],
+        Asked {
+            target: "--",
+            ..RUN
+        },
+    ),
+    (
+        &["run", "-", "--budget=00000000000000000003"],
+        Asked {
+            target: "-",
+            budget: 3,
+            ..RUN
+        },
+    ),
+    (
+        &["run", "one", "--budget=1000000000000"],
+        Asked {
+            budget: 1000000000000,
+            ..RUN
+        },
+    ),
+    (
+        &["lines", "one"],
+        Asked {
+            command: Command::Lines,
+            target: "one",
+            budget: 0,
+            ..RUN
+        },
+    ),
+    (
+        &["lines", "--", "-one"],
+        Asked {
+            command: Command::Lines,
+            target: "-one",
+            budget: 0,
+            ..RUN
+        },
+    ),
+    (
+        &["asm", "one"],
+        Asked {
+            command: Command::Asm,
+            target: "one",
+            budget: 0,
+            ..RUN
+        },
+    ),
+    (
+        &["asm", "--", "-one"],
+        Asked {
+            command: Command::Asm,
+            target: "-one",
+            budget: 0,
+            ..RUN
+        },
+    ),
+    (
+        &["run", "one", "--line", "one.s:3"],
+        Asked {
+            line: Some("one.s:3"),
+            ..RUN
+        },
+    ),
+    (
+        &["run", "one", "--line", "a:b:3"],
+        Asked {
+            line: Some("a:b:3"),
+            ..RUN
+        },
+    ),
+    (
+        &["run", "one", "--line", "a:4294967295"],
+        Asked {
+            line: Some("a:4294967295"),
+            ..RUN
+        },
+    ),
+    (
+        &["run", "one", "--line", "a b:007"],
+        Asked {
+            line: Some("a b:007"),
+            ..RUN
+        },
+    ),
+    (
+        &["run", "one", "--line", ":::1"],
+        Asked {
+            line: Some(":::1"),
+            ..RUN
+        },
+    ),
+    (
+        &["run", "--speedup", "0", "one", "--line=a:1"],
+        Asked {
+            line: Some("a:1"),
+            ..RUN
+        },
+    ),
+    (
+        &["run", "--speedup", "95", "one", "--line=a:1"],
+        Asked {
+            line: Some("a:1"),
+            speedup: 95,
+            ..RUN
+        },
+    ),
+    (
+        &[
+            "run",
+            "--speedup",
+            "00000000000000000007",
+            "one",
+            "--line=a:1",
+        ],
+        Asked {
+            line: Some("a:1"),
+            speedup: 7,
+            ..RUN
+        },
+    ),
+    (
+        &["run", "one", "--progress", "a:1"],
+        Asked {
+            progress: Some("a:1"),
+            ..RUN
+        },
+    ),
+    (
+        &["run", "one", "--progress", "a:1,b:2"],
+        Asked {
+            progress: Some("a:1,b:2"),
+            ..RUN
+        },
+    ),
+    (
+        &["run", "one", "--progress", "a:1,a:1,a:1"],
+        Asked {
+            progress: Some("a:1,a:1,a:1"),
+            ..RUN
+        },
+    ),
+    (
+        &[
+            "really",
+            "--progress=b:2",
+            "--line",
+            "a:1",
+            "one",
+            "--speedup=5",
+            "--budget",
+            "9",
+            "--input=data",
+        ],
+        Asked {
+            command: Command::Really,
+            target: "one",
+            input: Some("data"),
+            line: Some("a:1"),
+            speedup: 5,
+            progress: Some("b:2"),
+            budget: 9,
+        },
+    ),
+];
+
+/// Whether the words ask for just that.
+fn asks(alloc: Global, texts: &[&str], asked: Asked) -> Result<bool, AllocError> {
     let words = words_of(alloc, texts)?;
     Ok(match read_words(words.as_slice()) {
         Some(request) => {
-            request.command == Command::Run
-                && request.target == target
-                && request.input == input
-                && request.line.is_none()
-                && request.speedup == 0
-                && request.progress.is_none()
-                && request.budget == budget
+            request.command == asked.command
+                && request.target == asked.target
+                && request.input == asked.input
+                && request.line == asked.line
+                && request.speedup == asked.speedup
+                && request.progress == asked.progress
+                && request.budget == asked.budget
         }
         None => false,
     })
 }
 
-fn is_refused(alloc: Global, texts: &[&str]) -> Result<bool, AllocError> {
-    let words = words_of(alloc, texts)?;
-    Ok(read_words(words.as_slice()).is_none())
-}
-
-/// Words that ask for a run: its program, its input and its budget.
-type Taken = (
-    &'static [&'static str],
-    &'static str,
-    Option<&'static str>,
-    u64,
-);
-
-const USUAL: u64 = 100000000;
-
-const TAKEN: [Taken; 10] = [
-    (&["run", "one"], "one", None, USUAL),
-    (&["run", "--", "one"], "one", None, USUAL),
-    (&["run", "one", "--"], "one", None, USUAL),
-    (&["run", "--budget=3", "one"], "one", None, 3),
-    (
-        &["run", "one", "--budget", "3", "--input", "data"],
-        "one",
-        Some("data"),
-        3,
-    ),
-    (&["run", "one", "--input=-x"], "one", Some("-x"), USUAL),
-    (&["run", "one", "--input=a=b"], "one", Some("a=b"), USUAL),
-    (&["run", "--", "--"], "--", None, USUAL),
-    (&["run", "-", "--budget=00000000000000000003"], "-", None, 3),
-    (
-        &["run", "one", "--budget=1000000000000"],
-        "one",
-        None,
-        1000000000000,
-    ),
-];
-
 #[test]
-fn takes_runs(rt: HostRuntime) -> Result<(), Fail> {
-    for (words, target, input, budget) in TAKEN {
-        let taken = asks(rt.alloc(), words, target, input, budget)?;
-        assert!(rt; taken, "{words:?}");
+fn takes_words(rt: HostRuntime) -> Result<(), Fail> {
+    for (words, asked) in &TAKEN {
+        assert!(rt; asks(rt.alloc(), words, *asked)?, "{words:?}");
     }
     Ok(())
 }
 
-const REFUSED: [&[&str]; 15] = [
+const REFUSED: [&[&str]; 31] = [
     &[],
     &["run"],
     &["run", "one", "two"],
@@ -96,176 +268,79 @@ const REFUSED: [&[&str]; 15] = [
     &["run", "-one"],
     &["run", "o\0e"],
     &["walk", "one"],
+    &["run", "one", "--line", "a:1", "--speedup=-1"],
+    &["run", "one", "--speedup", "5"],
+    &["run", "one", "--speedup", "0"],
+    &["run", "one", "--line=a:1", "--line=a:1"],
+    // The other commands have no options.
+    &["lines"],
+    &["lines", "one", "two"],
+    &["lines", "one", "--budget", "3"],
+    &["lines", "one", "--input=data"],
+    &["lines", "one", "--line", "a:1"],
+    &["lines", "one", "--progress", "a:1"],
+    &["asm"],
+    &["asm", "one", "two"],
+    &["asm", "one", "--budget", "3"],
+    &["asm", "one", "--input=data"],
+    &["asm", "one", "--line", "a:1"],
+    &["asm", "one", "--progress", "a:1"],
 ];
+
+const BAD_LINES: &[&str] = &[
+    "",
+    "a",
+    "3",
+    ":3",
+    "a:",
+    "a,b:3",
+    "a:0",
+    "a:4294967296",
+    "a:+1",
+    "a:1:",
+    "a:1,",
+];
+
+/// Words, and values that are refused behind them.
+const BAD_VALUES: [(&[&str], &[&str]); 4] = [
+    (&["run", "one", "--line"], BAD_LINES),
+    (&["run", "one", "--progress"], BAD_LINES),
+    (
+        &["run", "one", "--progress"],
+        &["a:1,", ",a:1", "a:1,,b:2", "a:1,b", "a:1, b:0"],
+    ),
+    (
+        &["run", "one", "--line", "a:1", "--speedup"],
+        &["96", "100", "-1", "", "x", "000000000000000000001"],
+    ),
+];
+
+fn is_refused(alloc: Global, texts: &[&str], value: Option<&str>) -> Result<bool, AllocError> {
+    let mut words = words_of(alloc, texts)?;
+    if let Some(text) = value {
+        words.push(String::from_str(alloc, text)?)?;
+    }
+    Ok(read_words(words.as_slice()).is_none())
+}
 
 #[test]
 fn refuses_words(rt: HostRuntime) -> Result<(), Fail> {
     for words in REFUSED {
-        assert!(rt; is_refused(rt.alloc(), words)?, "{words:?}");
+        assert!(rt; is_refused(rt.alloc(), words, None)?, "{words:?}");
     }
     Ok(())
 }
 
-/// Whether the words ask for this command and nothing more.
-fn asks_plainly(
-    alloc: Global,
-    texts: &[&str],
-    command: Command,
-    target: &str,
-) -> Result<bool, AllocError> {
-    let words = words_of(alloc, texts)?;
-    Ok(match read_words(words.as_slice()) {
-        Some(request) => {
-            request.command == command
-                && request.target == target
-                && request.input.is_none()
-                && request.line.is_none()
-                && request.speedup == 0
-                && request.progress.is_none()
-                && request.budget == 0
+#[test]
+fn refuses_values(rt: HostRuntime) -> Result<(), Fail> {
+    for (words, values) in BAD_VALUES {
+        for value in values {
+            assert!(rt;
+                is_refused(rt.alloc(), words, Some(*value))?,
+                "{words:?} {value}"
+            );
         }
-        None => false,
-    })
-}
-
-#[test]
-fn other_commands_have_no_options(rt: HostRuntime) -> Result<(), Fail> {
-    let alloc = rt.alloc();
-    for (name, command) in [("lines", Command::Lines), ("asm", Command::Asm)] {
-        assert!(rt; asks_plainly(alloc, &[name, "one"], command, "one")?);
-        assert!(rt; asks_plainly(alloc, &[name, "--", "-one"], command, "-one")?);
-        assert!(rt; is_refused(alloc, &[name])?);
-        assert!(rt; is_refused(alloc, &[name, "one", "two"])?);
-        assert!(rt; is_refused(alloc, &[name, "one", "--budget", "3"])?);
-        assert!(rt; is_refused(alloc, &[name, "one", "--input=data"])?);
-        assert!(rt; is_refused(alloc, &[name, "one", "--line", "a:1"])?);
-        assert!(rt; is_refused(alloc, &[name, "one", "--progress", "a:1"])?);
     }
-    Ok(())
-}
-
-/// Whether the words ask for a run of `one` with this line, this speedup and this list, and nothing more.
-fn asks_of_lines(
-    alloc: Global,
-    texts: &[&str],
-    line: Option<&str>,
-    speedup: u8,
-    progress: Option<&str>,
-) -> Result<bool, AllocError> {
-    let words = words_of(alloc, texts)?;
-    Ok(match read_words(words.as_slice()) {
-        Some(request) => {
-            request.command == Command::Run
-                && request.target == "one"
-                && request.input.is_none()
-                && request.line == line
-                && request.speedup == speedup
-                && request.progress == progress
-                && request.budget == 100000000
-        }
-        None => false,
-    })
-}
-
-#[test]
-fn takes_lines(rt: HostRuntime) -> Result<(), Fail> {
-    let alloc = rt.alloc();
-    for line in ["one.s:3", "a:b:3", "a:4294967295", "a b:007", ":::1"] {
-        let words = ["run", "one", "--line", line];
-        assert!(rt;
-            asks_of_lines(alloc, &words, Some(line), 0, None)?,
-            "{line}"
-        );
-    }
-    for (text, speedup) in [("0", 0), ("95", 95), ("00000000000000000007", 7)] {
-        let words = ["run", "--speedup", text, "one", "--line=a:1"];
-        assert!(rt;
-            asks_of_lines(alloc, &words, Some("a:1"), speedup, None)?,
-            "{text}"
-        );
-    }
-    for list in ["a:1", "a:1,b:2", "a:1,a:1,a:1"] {
-        let words = ["run", "one", "--progress", list];
-        assert!(rt;
-            asks_of_lines(alloc, &words, None, 0, Some(list))?,
-            "{list}"
-        );
-    }
-    Ok(())
-}
-
-#[test]
-fn refuses_lines(rt: HostRuntime) -> Result<(), Fail> {
-    let alloc = rt.alloc();
-    for line in [
-        "",
-        "a",
-        "3",
-        ":3",
-        "a:",
-        "a,b:3",
-        "a:0",
-        "a:4294967296",
-        "a:+1",
-        "a:1:",
-        "a:1,",
-    ] {
-        assert!(rt;
-            is_refused(alloc, &["run", "one", "--line", line])?,
-            "{line}"
-        );
-        assert!(rt;
-            is_refused(alloc, &["run", "one", "--progress", line])?,
-            "{line}"
-        );
-    }
-    for list in ["a:1,", ",a:1", "a:1,,b:2", "a:1,b", "a:1, b:0"] {
-        assert!(rt;
-            is_refused(alloc, &["run", "one", "--progress", list])?,
-            "{list}"
-        );
-    }
-    for speedup in ["96", "100", "-1", "", "x", "000000000000000000001"] {
-        let words = ["run", "one", "--line", "a:1", "--speedup", speedup];
-        assert!(rt; is_refused(alloc, &words)?, "{speedup}");
-    }
-    assert!(rt; is_refused(alloc, &["run", "one", "--line", "a:1", "--speedup=-1"])?);
-    assert!(rt; is_refused(alloc, &["run", "one", "--speedup", "5"])?);
-    assert!(rt; is_refused(alloc, &["run", "one", "--speedup", "0"])?);
-    assert!(rt; is_refused(alloc, &["run", "one", "--line=a:1", "--line=a:1"])?);
-    Ok(())
-}
-
-#[test]
-fn takes_all_options(rt: HostRuntime) -> Result<(), Fail> {
-    let alloc = rt.alloc();
-    let words = words_of(
-        alloc,
-        &[
-            "really",
-            "--progress=b:2",
-            "--line",
-            "a:1",
-            "one",
-            "--speedup=5",
-            "--budget",
-            "9",
-            "--input=data",
-        ],
-    )?;
-    let taken = match read_words(words.as_slice()) {
-        Some(request) => {
-            request.command == Command::Really
-                && request.target == "one"
-                && request.input == Some("data")
-                && request.line == Some("a:1")
-                && request.speedup == 5
-                && request.progress == Some("b:2")
-                && request.budget == 9
-        }
-        None => false,
-    };
-    assert!(rt; taken);
     Ok(())
 }
 
