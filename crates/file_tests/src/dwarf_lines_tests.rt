@@ -5,7 +5,7 @@ use std::alloc::Global;
 use std::test::Fail;
 
 /// A unit of version 4 with four rows. Its program begins at 37.
-const FOUR_ROWS: [u8; 71] = [
+static FOUR_ROWS: [u8; 71] = [
     0x43, 0x00, 0x00, 0x00, 0x04, 0x00, 0x1B, 0x00, 0x00, 0x00, 0x04, 0x01, 0x01, 0xFB, 0x0E, 0x0D,
     0x00, 0x01, 0x01, 0x01, 0x01, 0x00, 0x00, 0x00, 0x01, 0x00, 0x00, 0x01, 0x00, 0x61, 0x2E, 0x73,
     0x00, 0x00, 0x00, 0x00, 0x00, 0x00, 0x09, 0x02, 0x00, 0x00, 0x01, 0x00, 0x00, 0x00, 0x00, 0x00,
@@ -14,7 +14,7 @@ const FOUR_ROWS: [u8; 71] = [
 ];
 
 /// A unit of version 2 with each opcode, and one of version 5. llvm-dwarfdump prints its rows.
-const EACH_OPCODE: [u8; 123] = [
+static EACH_OPCODE: [u8; 123] = [
     0x71, 0x00, 0x00, 0x00, 0x02, 0x00, 0x24, 0x00, 0x00, 0x00, 0x04, 0x01, 0xFD, 0x0C, 0x0E, 0x00,
     0x01, 0x01, 0x01, 0x01, 0x00, 0x00, 0x00, 0x01, 0x00, 0x00, 0x01, 0x02, 0x64, 0x00, 0x00, 0x61,
     0x2E, 0x73, 0x00, 0x01, 0x00, 0x00, 0x62, 0x2E, 0x73, 0x00, 0x00, 0x00, 0x00, 0x00, 0x00, 0x09,
@@ -101,7 +101,7 @@ fn each_opcode_is_read(rt: HostRuntime) -> Result<(), Fail> {
 }
 
 /// The directory and the name of each file of `EACH_OPCODE`.
-const FILES: [(&str, &str); 3] = [("d", "a.s"), ("", "b.s"), ("d", "c")];
+static FILES: [(&str, &str); 3] = [("d", "a.s"), ("", "b.s"), ("d", "c")];
 
 #[test]
 fn files_are_read(rt: HostRuntime) -> Result<(), Fail> {
@@ -115,7 +115,7 @@ fn files_are_read(rt: HostRuntime) -> Result<(), Fail> {
 }
 
 /// The first and the last length, and the place of what is short, where the unit of four rows is cut to such a length.
-const CUTS: [(usize, usize, u64); 13] = [
+static CUTS: [(usize, usize, u64); 13] = [
     (4, 5, 4),
     (6, 36, 6),
     (38, 38, 38),
@@ -133,7 +133,7 @@ const CUTS: [(usize, usize, u64); 13] = [
 
 /// The fault of the unit of four rows that is cut to that length.
 fn fault_of_cut(length: usize) -> Option<LineFault> {
-    for (first, last, place) in CUTS {
+    for &(first, last, place) in &CUTS {
         if first <= length && length <= last {
             return fault(LineKind::Short, place);
         }
@@ -168,7 +168,7 @@ fn a_section_that_is_cut_is_short(rt: HostRuntime) -> Result<(), Fail> {
 }
 
 /// A byte of the unit of four rows that is set, and the fault that it makes.
-const SET_BYTES: [(usize, u8, LineKind, u64); 9] = [
+static SET_BYTES: [(usize, u8, LineKind, u64); 9] = [
     (0, 0x44, LineKind::Short, 0),
     (3, 0xFF, LineKind::Short, 0),
     (6, 0x3E, LineKind::Short, 6),
@@ -182,7 +182,7 @@ const SET_BYTES: [(usize, u8, LineKind, u64); 9] = [
 
 #[test]
 fn a_byte_that_is_set_makes_a_fault(rt: HostRuntime) -> Result<(), Fail> {
-    for (place, byte, kind, at) in SET_BYTES {
+    for &(place, byte, kind, at) in &SET_BYTES {
         let mut section = Vec::from_slice(rt.alloc(), &FOUR_ROWS)?;
         if place < section.len() {
             section[place] = byte;
@@ -195,7 +195,7 @@ fn a_byte_that_is_set_makes_a_fault(rt: HostRuntime) -> Result<(), Fail> {
 
 /// Programs under the header of the unit of four rows, and their faults: an operand of more than 64 bits, a line below
 /// zero, and no end of the sequence.
-const PROGRAMS: [(&[u8], LineKind, u64); 3] = [
+static PROGRAMS: [(&[u8], LineKind, u64); 3] = [
     (
         b"\x02\xFF\xFF\xFF\xFF\xFF\xFF\xFF\xFF\xFF\x7F",
         LineKind::Wide,
@@ -207,7 +207,7 @@ const PROGRAMS: [(&[u8], LineKind, u64); 3] = [
 
 #[test]
 fn programs_have_their_faults(rt: HostRuntime) -> Result<(), Fail> {
-    for (program, kind, at) in PROGRAMS {
+    for &(program, kind, at) in &PROGRAMS {
         let mut section = Vec::from_slice(rt.alloc(), &FOUR_ROWS[..37])?;
         section.extend_from_slice(program)?;
         assert!(rt; 4 <= section.len() && section.len() <= 71);

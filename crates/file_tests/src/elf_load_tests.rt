@@ -13,7 +13,7 @@ type Change = (usize, &'static [u8]);
 const ONES: [u8; 8] = [255; 8];
 
 // What isn't zero in a file of 4,536 bytes: three instructions at 0x10000, four sections.
-const GOOD: [Change; 27] = [
+static GOOD: [Change; 27] = [
     (0, b"\x7FELF\x02\x01\x01"),
     (16, &[2, 0, 243, 0, 1]),
     (26, &[1]),
@@ -60,7 +60,7 @@ fn put(file: &mut [u8], place: usize, bytes: &[u8]) {
 /// The good file with these changes.
 fn changed(alloc: Global, changes: &[Change]) -> Result<Vec<u8>, AllocError> {
     let mut file = vec![in alloc; 0u8; 4536]?;
-    for (place, bytes) in GOOD {
+    for &(place, bytes) in &GOOD {
         put(&mut file, place, bytes);
     }
     for (place, bytes) in changes {
@@ -81,7 +81,7 @@ fn fault(kind: ElfKind, place: u64) -> Option<LoadError> {
 type Fault = (&'static [Change], ElfKind, u64);
 
 /// Faults of the header and of the sections.
-const HEADERS: [Fault; 20] = [
+static HEADERS: [Fault; 20] = [
     (&[(1, &[0])], NotElf, 0),
     (&[(4, &[1])], NotClass64, 4),
     (&[(5, &[2])], NotLittle, 5),
@@ -106,7 +106,7 @@ const HEADERS: [Fault; 20] = [
 ];
 
 /// Faults of the program headers and of the entry.
-const SEGMENTS: [Fault; 12] = [
+static SEGMENTS: [Fault; 12] = [
     (&[(64, &[3])], Interp, 64),
     (&[(104, &[11])], SizeOrder, 64),
     (&[(82, &[0])], AddressOut, 64),
@@ -131,7 +131,7 @@ const SEGMENTS: [Fault; 12] = [
 ];
 
 /// Two faults: the earlier row counts, then the earlier entry.
-const TWICE: [Fault; 6] = [
+static TWICE: [Fault; 6] = [
     (&[(48, &[1]), (68, &[7])], Compressed, 48),
     (&[(4417, &[8]), (64, &[3])], PackedLines, 4408),
     (&[(104, &[11]), (82, &[0])], SizeOrder, 64),
@@ -198,7 +198,7 @@ fn put_headers(file: &mut [u8]) {
 /// The good file's header, and those program headers.
 fn many_headers(alloc: Global) -> Result<Vec<u8>, AllocError> {
     let mut file = vec![in alloc; 0u8; 64 + 56 * 65534]?;
-    for (place, bytes) in GOOD {
+    for &(place, bytes) in &GOOD {
         if place < 64 {
             put(&mut file, place, bytes);
         }
@@ -269,7 +269,7 @@ const LARGE: Area = Area {
 /// Changes of the good file, its areas, where its program headers are, and how many bytes of lines it has.
 type Loaded = (&'static [Change], &'static [Area], u64, usize);
 
-const LOADED: [Loaded; 8] = [
+static LOADED: [Loaded; 8] = [
     (&[], &[FIRST], 0, 66),
     (&SECOND, &[FIRST, WRITABLE], 0, 66),
     // The areas have 64 MiB together.
@@ -310,27 +310,56 @@ const LOADED: [Loaded; 8] = [
     (&[(4408, &[34])], &[FIRST], 0, 0),
 ];
 
+/// How many bytes of lines a file has.
+fn lines_in(alloc: Global, file: &[u8]) -> Result<usize, LoadError> {
+    let image = load(alloc, file)?;
+    Ok(section(&image, b".debug_line").map_or(0, |bytes| bytes.len()))
+}
+
 #[test]
 fn right_files_are_loaded(rt: HostRuntime) -> Result<(), Fail> {
-    for (changes, areas, headers, lines) in LOADED {
+    for &(changes, areas, headers, lines) in &LOADED {
         let file = changed(rt.alloc(), changes)?;
         let image = load(rt.alloc(), &file).ok().ok_or("a fault")?;
         assert_eq!(rt; image.areas(), areas);
-        let found = section(&image, b".debug_line").map_or(0, |bytes| bytes.len());
-        let parts = (image.entry(), image.headers(), found);
-        assert_eq!(rt; parts, (0x10000, headers, lines));
+        let parts = (image.entry(), image.headers(), lines_in(rt.alloc(), &file));
+        assert_eq!(rt; parts, (0x10000, headers, Ok(lines)));
     }
     Ok(())
+}
+
+/// Names, and where the bytes of the section of that name begin and end in the good file.
+static NAMES: [(&str, Option<(usize, usize)>); 7] = [
+    (".text", Some((4096, 4108))),
+    (".data", Some((4108, 4108))),
+    ("", None),
+    (".tex", None),
+    (".text\0", None),
+    ("text", None),
+    (".bss", None),
+];
+
+/// Whether the section of that name has the bytes between these places of the file.
+fn is_section(
+    alloc: Global,
+    file: &[u8],
+    name: &str,
+    places: Option<(usize, usize)>,
+) -> Result<bool, LoadError> {
+    let image = load(alloc, file)?;
+    let wanted = places.and_then(|(start, end)| file.get(start..end));
+    Ok(section(&image, name.as_bytes()) == wanted)
 }
 
 #[test]
 fn sections_are_found_by_name(rt: HostRuntime) -> Result<(), Fail> {
     let file = changed(rt.alloc(), &[])?;
-    let image = load(rt.alloc(), &file).ok().ok_or("a fault")?;
-    assert_eq!(rt; section(&image, b".text"), file.get(4096..4108));
-    assert_eq!(rt; section(&image, b".data"), Some(b"".as_slice()));
-    for name in ["", ".tex", ".text\0", "text", ".bss"] {
-        assert_eq!(rt; section(&image, name.as_bytes()), None);
+    for &(name, places) in &NAMES {
+        assert_eq!(rt;
+            is_section(rt.alloc(), &file, name, places),
+            Ok(true),
+            "{name}"
+        );
     }
     Ok(())
 }

@@ -6,7 +6,7 @@ const WIDE: LebFault = LebFault::Wide { place: 0 };
 
 // Bytes, the number that they begin with, and the cursor's place after: the standard's examples, padded ones, and
 // the edges of 64 bits.
-const UNSIGNED: [(&[u8], Result<u64, LebFault>, u64); 13] = [
+static UNSIGNED: [(&[u8], Result<u64, LebFault>, u64); 13] = [
     (b"\x02", Ok(2), 1),
     (b"\x7F", Ok(127), 1),
     (b"\x80\x01", Ok(128), 2),
@@ -34,7 +34,7 @@ const UNSIGNED: [(&[u8], Result<u64, LebFault>, u64); 13] = [
     (b"", Err(SHORT), 0),
 ];
 
-const SIGNED: [(&[u8], Result<i64, LebFault>, u64); 16] = [
+static SIGNED: [(&[u8], Result<i64, LebFault>, u64); 16] = [
     (b"\x02", Ok(2), 1),
     (b"\x7E", Ok(-2), 1),
     (b"\xFF\x00", Ok(127), 2),
@@ -63,7 +63,7 @@ const SIGNED: [(&[u8], Result<i64, LebFault>, u64); 16] = [
 
 #[test]
 fn unsigned_numbers_are_read(rt: HostRuntime) {
-    for (bytes, want, place) in UNSIGNED {
+    for &(bytes, want, place) in &UNSIGNED {
         let mut cursor = Cursor::new(bytes);
         let read = (cursor.uleb(), cursor.place());
         assert_eq!(rt; read, (want, place), "{bytes:?}");
@@ -72,7 +72,7 @@ fn unsigned_numbers_are_read(rt: HostRuntime) {
 
 #[test]
 fn signed_numbers_are_read(rt: HostRuntime) {
-    for (bytes, want, place) in SIGNED {
+    for &(bytes, want, place) in &SIGNED {
         let mut cursor = Cursor::new(bytes);
         let read = (cursor.sleb(), cursor.place());
         assert_eq!(rt; read, (want, place), "{bytes:?}");
