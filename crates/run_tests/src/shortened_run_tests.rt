@@ -196,7 +196,25 @@ struct Delays {
     first: Option<Visit>,
 }
 
-/// Makes two steps, with a point at the second instruction, and then runs to the end.
+/// Makes two steps, and then runs to the end.
+fn delays_of(machine: &mut Machine) -> Delays {
+    let due = machine.net_due(HartId(0));
+    machine.step();
+    machine.step();
+    let now = machine.now();
+    let raised = machine.raised();
+    machine.run();
+    Delays {
+        due,
+        now,
+        raised,
+        outcome: machine.outcome(),
+        account: machine.account(HartId(0)),
+        first: machine.visits().first().copied(),
+    }
+}
+
+/// The delays of a run with a point at the second instruction.
 fn run_delayed(
     alloc: Global,
     selected: Option<LineId>,
@@ -219,20 +237,7 @@ fn run_delayed(
         layout: SMALL,
     };
     let mut machine = Machine::new(alloc, &image, &index, &points, b"", choice)?;
-    let due = machine.net_due(HartId(0));
-    machine.step();
-    machine.step();
-    let now = machine.now();
-    let raised = machine.raised();
-    machine.run();
-    Ok(Some(Delays {
-        due,
-        now,
-        raised,
-        outcome: machine.outcome(),
-        account: machine.account(HartId(0)),
-        first: machine.visits().first().copied(),
-    }))
+    Ok(Some(delays_of(&mut machine)))
 }
 
 fn own(ticks: Tick) -> Option<Account> {
