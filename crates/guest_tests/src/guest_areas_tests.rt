@@ -61,6 +61,32 @@ fn answer(areas: &mut Areas, memory: &mut Memory, call: Call) -> i64
     }
 }
 
+/// Addresses of the entry stack, and what 8 bytes there hold.
+static ENTRY: [(Address, u64); 22] = [
+    (0x3F_FFFF_FF50, 1),
+    (0x3F_FFFF_FF58, 0x3F_FFFF_FFE0),
+    (0x3F_FFFF_FF60, 0),
+    (0x3F_FFFF_FF68, 0),
+    (0x3F_FFFF_FF70, 3),
+    (0x3F_FFFF_FF78, 0x10040),
+    (0x3F_FFFF_FF80, 4),
+    (0x3F_FFFF_FF88, 56),
+    (0x3F_FFFF_FF90, 5),
+    (0x3F_FFFF_FF98, 2),
+    (0x3F_FFFF_FFA0, 6),
+    (0x3F_FFFF_FFA8, 4096),
+    (0x3F_FFFF_FFB0, 9),
+    (0x3F_FFFF_FFB8, TEXT),
+    (0x3F_FFFF_FFC0, 25),
+    (0x3F_FFFF_FFC8, 0x3F_FFFF_FFF0),
+    (0x3F_FFFF_FFD0, 0),
+    (0x3F_FFFF_FFD8, 0),
+    (0x3F_FFFF_FFE0, 0x676F_7270),
+    (0x3F_FFFF_FFE8, 0),
+    (0x3F_FFFF_FFF0, 0),
+    (0x3F_FFFF_FFF8, 0),
+];
+
 #[test]
 fn the_break_and_the_entry(rt: HostRuntime) -> Result<(), Fail> {
     let (mut areas, mut memory) = program(rt.alloc())?;
@@ -80,30 +106,7 @@ fn the_break_and_the_entry(rt: HostRuntime) -> Result<(), Fail> {
     assert_eq!(rt; memory.load(BRK_BASE, 8), Ok(0));
 
     assert_eq!(rt; areas.stack_pointer(), 0x3F_FFFF_FF50);
-    for (address, wanted) in [
-        (0x3F_FFFF_FF50, 1),
-        (0x3F_FFFF_FF58, 0x3F_FFFF_FFE0),
-        (0x3F_FFFF_FF60, 0),
-        (0x3F_FFFF_FF68, 0),
-        (0x3F_FFFF_FF70, 3),
-        (0x3F_FFFF_FF78, 0x10040),
-        (0x3F_FFFF_FF80, 4),
-        (0x3F_FFFF_FF88, 56),
-        (0x3F_FFFF_FF90, 5),
-        (0x3F_FFFF_FF98, 2),
-        (0x3F_FFFF_FFA0, 6),
-        (0x3F_FFFF_FFA8, 4096),
-        (0x3F_FFFF_FFB0, 9),
-        (0x3F_FFFF_FFB8, TEXT),
-        (0x3F_FFFF_FFC0, 25),
-        (0x3F_FFFF_FFC8, 0x3F_FFFF_FFF0),
-        (0x3F_FFFF_FFD0, 0),
-        (0x3F_FFFF_FFD8, 0),
-        (0x3F_FFFF_FFE0, 0x676F_7270),
-        (0x3F_FFFF_FFE8, 0),
-        (0x3F_FFFF_FFF0, 0),
-        (0x3F_FFFF_FFF8, 0),
-    ] {
+    for &(address, wanted) in &ENTRY {
         assert_eq!(rt; memory.load(address, 8), Ok(wanted), "at {address}");
     }
     Ok(())
