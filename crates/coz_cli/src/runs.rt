@@ -1,5 +1,5 @@
 //! The runs of programs, and what is written of them.
-ghost use Rattle.std.specs.Prelude.{◌≡◌, ◌≤◌, length, IfOk, IsSome, map, Some};
+ghost use Rattle.std.specs.Prelude.{◌≡◌, IfOk, IsSome, map, Some};
 ghost use Rattle.coz_types.specs.declared.ending.Ending.{Ending};
 ghost use Rattle.delay_credits.specs.Delays.{account_as};
 ghost use Rattle.line_index.specs.Index.{position_at};
@@ -8,9 +8,9 @@ ghost use Rattle.virtual_run.specs.Run.{IsChoice, experiment};
 ghost use Rattle.virtual_run.specs.Seen.{experiment_of};
 ghost use Rattle.guest_calls.specs.Guest.{Guest};
 ghost use Rattle.machines.specs.Delayed.{Hart};
-ghost use Rattle.machines.specs.Records.{record_of, shortened_record};
+ghost use Rattle.machines.specs.Records.{net_record_of, record_of, shortened_record};
 ghost use Rattle.machines.specs.Standing.{delayed_record};
-ghost use Rattle.coz_cli.specs.Text.{run_text};
+ghost use Rattle.coz_cli.specs.Text.{really_text, run_text};
 ghost use Rattle.coz_cli.specs.Verdict.{ending_status, really_verdict, run_verdict};
 ghost use Rattle.coz_cli.specs.Answer.{answered, IsMemory, IsRead};
 
@@ -50,8 +50,7 @@ fn accounts(alloc: Global, machine: &Machine) -> Result<Vec<Account>, AllocError
 
 /// What `run` prints of a run that has ended.
 fn machine_text(alloc: Global, machine: &Machine) -> Result<Vec<u8>, AllocError>
-    requires ended { IsSome machine.now.state.ending }
-    requires later { machine.now.state.delay ≤ machine.now.state.now }
+    requires { IsSome machine.now.state.ending }
     ensures { (ending : Ending) → machine.now.state.ending ≡ Some ending → IfOk result (λ text. text.items ≡
         run_text (record_of (experiment_of machine.now) machine.now.state ending)) }
 {
@@ -91,6 +90,22 @@ pub fn run_answer<'r>(
     })
 }
 
+/// What `really` prints of a run that came to this end.
+fn short_text(alloc: Global, short: &Short, ending: Ending) -> Result<Vec<u8>, AllocError>
+    ensures { IfOk result (λ text. text.items ≡
+        really_text (net_record_of (experiment_of short.now) short.now.state ending)) }
+{
+    let record = ShortRecord {
+        ending,
+        net: short.net(),
+        retired: short.retired(),
+        starts: short.starts(),
+        visits: short.visits(),
+        output: short.output(),
+    };
+    really_text(alloc, record)
+}
+
 /// What is written of a program's shortened run.
 pub fn really_answer<'r>(
     alloc: Global,
@@ -107,15 +122,7 @@ pub fn really_answer<'r>(
 {
     let mut short = Short::new(alloc, image, index, points, input, choice)?;
     let ending = short.run();
-    let record = ShortRecord {
-        ending,
-        net: short.net(),
-        retired: short.retired(),
-        starts: short.starts(),
-        visits: short.visits(),
-        output: short.output(),
-    };
-    let text = really_text(alloc, record)?;
+    let text = short_text(alloc, &short, ending)?;
     Ok(Printed {
         status: ending_status(ending),
         text: Text::Bytes(text),
