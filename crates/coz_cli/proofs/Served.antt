@@ -1,5 +1,5 @@
 -- What the top call leaves, by the answer that its words came to.
-use Rattle.std.proofs.Common.{◌≡◌, ◌≤◌, ℕ, List, Option, Some, None, IfSome, Ok, Err, refl, ap, sym, subst, arith, codes, inl, inr}
+use Rattle.std.proofs.Common.{◌≡◌, ◌≤◌, ℕ, List, Option, Some, None, IfSome, Ok, Err, refl, sym, subst, arith, codes, inl, inr}
 use Rattle.std.specs.Prelude.{IfNone}
 use Rattle.std.specs.Io.KnownBytes.{Appends}
 use Rattle.coz_files.specs.Faults.{Rose}
@@ -14,7 +14,7 @@ use Rattle.coz_cli.specs.Answer.{Answer, IsMemory, IsReadFault, Suits, Settles, 
 use Rattle.coz_cli.specs.Headline.{PrintsShortened}
 use Rattle.coz_cli.specs.Serve.{IsLine}
 use Rattle.coz_cli.proofs.Printed.{prints_shortened}
-use Rattle.coz_cli.proofs.Told.{IsOf, told_high, told_line}
+use Rattle.coz_cli.proofs.Told.{IsOf, told_line}
 
 -- nothing is asked of a status that is above a run's
 pub no_headline : (words : List (List ℕ)) (told before after : _) (status : ℕ) → 2 ≤ status → IfSome told (λ held. status ≤ 1 → PrintsShortened words held before after)

@@ -96,7 +96,7 @@ fn index_answer<'r>(
     ensures settled { (IsMemory result → ⊥) → answered result ≡
         chosen_verdict (chosen index.now.lines (seen request.now)) (λ c.
         print_of kind (experiment image.now (position_at index.now) (point_in index.now.entries c.points) input.now
-            (choice_of c.selected request.now.speedup request.now.budget))) }
+        (choice_of c.selected request.now.speedup request.now.budget))) }
 {
     let chosen = choose(alloc, index, request)?;
     let choice = choice(chosen.selected, request.speedup, request.budget);
