@@ -55,7 +55,8 @@ made_waiting (x ∷ xs) zero waits = omega arith
 made_waiting (x ∷ xs) (suc h) waits = let below : h < length xs = made_waiting xs h waits in omega arith
 
 woken_places : (harts : List Hart) (address : ℕ) (ws : List Waiter) (count : ℕ) → AreWaiting harts ws → places (woken address ws count) (length harts) ≡ length harts
-woken_places harts address [] count waiting = refl
+woken_places harts address [] zero waiting = refl
+woken_places harts address [] (suc count) waiting = refl
 woken_places harts address (w ∷ ws) zero waiting = refl
 woken_places harts address (w ∷ ws) (suc count) waiting =
     ⊎_elim
