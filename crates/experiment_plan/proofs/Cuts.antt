@@ -1,0 +1,52 @@
+-- A line is cut at its last colon, and a list at its first comma.
+use Rattle.std.proofs.Common.{◌≡◌, ℕ, ◌+◌, ◌-◌, ◌<◌, ◌≤◌, Bool, true, false, not, ◌&&◌, nat_le, ◌∷◌, [], length, length-drop, take, drop, get_or, Some, None, refl, sym, ap, subst, ◌∙◌, arith, if◌then◌else◌}
+use Rattle.std.specs.Prelude.{is_some}
+use Rattle.std.specs.List.{AllWithin, after_last, before_last, suffix_len, slice_split, position_or_len}
+use Rattle.std.specs.Str.Parse.{digits_value}
+use Rattle.std.proofs.lemmas.List.Sums.{suffix_len_is, position_or_len_is}
+use Rattle.std.proofs.lemmas.List.Splits.{slice_split_none, slice_split_first}
+use Rattle.std.proofs.lemmas.List.{take_all}
+use Rattle.std.proofs.lemmas.Bool.{leb-true}
+use Rattle.experiment_plan.specs.Lists.{Text, is_colon, is_comma, is_number, is_path, number_in, is_line, pieces}
+use Rattle.experiment_plan.proofs.Bools.{both_true}
+
+-- where a colon stands right before a place and none behind it, that is the place behind the last
+pub behind : (text : Text) (place : ℕ) → place ≤ length text → ((k : ℕ) → place ≤ k → k < length text → is_colon (get_or text k 0) ≡ false)
+    → (0 < place → is_colon (get_or text (place - 1) 0) ≡ true) → suffix_len (λ b. not (is_colon b)) text ≡ length text - place
+behind text place within none there = suffix_len_is (λ b. not (is_colon b)) text place 0 within (λ k le lt. ap not (none k le lt)) (λ some. ap not (there some))
+
+-- ---- the number of a line is one, and fits 32 bits
+
+some_number : (least most : ℕ) (text : Text) → is_some (number_in least most text) ≡ true → (is_number text ≡ true) × (digits_value 10 text ≤ most)
+some_number least most text e = by (is_number text && nat_le least (digits_value 10 text) && nat_le (digits_value 10 text) most) refl e
+  where
+    by : (b : Bool) → (is_number text && nat_le least (digits_value 10 text) && nat_le (digits_value 10 text) most) ≡ b → is_some (if b then Some (digits_value 10 text) else None) ≡ true
+        → (is_number text ≡ true) × (digits_value 10 text ≤ most)
+    by false t is = absurd cc
+    by true t is =
+        let outer = both_true (is_number text && nat_le least (digits_value 10 text)) (nat_le (digits_value 10 text) most) t in
+        ((both_true (is_number text) (nat_le least (digits_value 10 text)) outer.0).0, leb-true (digits_value 10 text) most outer.1)
+
+pub line_number : (text number : Text) → is_line text ≡ true → number ≡ after_last is_colon text → (is_number number ≡ true) × (digits_value 10 number ≤ 4294967295)
+unfolding is_line
+line_number text number line after =
+    let is = (both_true (is_path (before_last is_colon text)) (is_some (number_in 1 4294967295 (after_last is_colon text))) line).1 in
+    some_number 1 4294967295 number (subst (λ (n : Text). is_some (number_in 1 4294967295 n) ≡ true) (sym after) is)
+
+-- ---- a list
+
+pub first : (text : Text) (place : ℕ) → place ≤ length text → ((k : ℕ) → k < place → is_comma (get_or text k 0) ≡ false) → (place < length text → is_comma (get_or text place 0) ≡ true)
+    → place ≡ position_or_len is_comma text
+first text place within none there = sym (position_or_len_is is_comma text place 0 within none there)
+
+pub one_piece : (text : Text) → AllWithin (λ b. is_comma b ≡ false) text 0 (length text) → pieces text ≡ text ∷ []
+unfolding pieces
+one_piece text none = slice_split_none is_comma text (λ i d lt. none i d (omega arith) lt)
+
+pub first_and_rest : (text : Text) (place : ℕ) → place ≡ position_or_len is_comma text → place < length text
+    → pieces text ≡ take place text ∷ pieces (take (length text - (place + 1)) (drop (place + 1) text))
+unfolding pieces
+first_and_rest text place is lt =
+    let rest = drop (place + 1) text in
+    subst (λ (n : ℕ). slice_split is_comma text ≡ take n text ∷ slice_split is_comma (drop (n + 1) text)) (sym is) (slice_split_first is_comma text 0 (omega (arith, is, lt)))
+    ∙ ap (λ (t : Text). take place text ∷ slice_split is_comma t) (sym (take_all (length text - (place + 1)) rest (omega (arith, length-drop (place + 1) text))))
