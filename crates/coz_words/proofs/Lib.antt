@@ -1,0 +1,12 @@
+pub mod Turns
+pub mod Walks
+pub mod Agree
+pub mod Commands
+pub mod Judged
+pub mod Texts
+pub mod Meaning
+pub mod Once
+pub mod Exact
+pub mod Found
+pub mod Fit
+pub mod Clauses

@@ -1,0 +1,5 @@
+pub mod Said
+pub mod Request
+pub mod Slow
+pub mod Parse
+pub mod Answers

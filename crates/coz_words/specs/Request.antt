@@ -1,0 +1,209 @@
+-- The request of a command line.
+use Rattle.std.specs.Prelude.{◌≡◌, ℕ, ◌≤◌, ◌^◌, Bool, not, ◌&&◌, ◌==◌, nat_lt, nat_le, true, false, List, [], ◌∷◌, length, codes, Option, Some, None, IfSome, if◌then◌else◌, option_and_then, find}
+use Rattle.std.specs.List.{list_all, list_any}
+use Rattle.std.specs.Str.{bytes_eq}
+use Rattle.coz_words.specs.Said.{Text, Item, option, target, SaysAll}
+use Rattle.experiment_plan.specs.Lists.{number_in, is_line, is_list, pieces}
+use Rattle.coz_words.specs.declared.command.Command.{Command}
+use Rattle.coz_words.specs.declared.command.Command.TheVariants.{Run, Really, Lines, Asm}
+use Rattle.coz_words.specs.declared.request.Request.{Request}
+
+-- ---- commands
+
+abbrev pub command_name : Command → Text
+command_name Run = codes "run"
+command_name Really = codes "really"
+command_name Lines = codes "lines"
+command_name Asm = codes "asm"
+
+-- the command runs the program
+abbrev pub runs : Command → Bool
+runs Run = true
+runs Really = true
+runs Lines = false
+runs Asm = false
+
+abbrev pub input_name : Text
+input_name = codes "input"
+
+abbrev pub line_name : Text
+line_name = codes "line"
+
+abbrev pub speedup_name : Text
+speedup_name = codes "speedup"
+
+abbrev pub lines_name : Text
+lines_name = codes "lines"
+
+abbrev pub progress_name : Text
+progress_name = codes "progress"
+
+abbrev pub speedups_name : Text
+speedups_name = codes "speedups"
+
+abbrev pub budget_name : Text
+budget_name = codes "budget"
+
+abbrev pub workers_name : Text
+workers_name = codes "workers"
+
+abbrev pub size_name : Text
+size_name = codes "size"
+
+-- the options of a command
+abbrev pub option_names : Command → List Text
+option_names c = if runs c then input_name ∷ line_name ∷ speedup_name ∷ progress_name ∷ budget_name ∷ [] else []
+
+abbrev pub is_among : List Text → Text → Bool
+is_among names name = list_any (λ n. bytes_eq n name) names
+
+-- ---- items
+
+abbrev pub text_of : Item → Text
+text_of (option name value) = value
+text_of (target text) = text
+
+abbrev pub has_name : Text → Item → Bool
+has_name name (option n value) = bytes_eq n name
+has_name name (target text) = false
+
+abbrev pub is_target : Item → Bool
+is_target (target text) = true
+is_target (option name value) = false
+
+-- the value of the first option of that name
+abbrev pub value_of : Text → List Item → Option Text
+value_of name items = option_and_then (λ item. Some (text_of item)) (find (has_name name) items)
+
+abbrev pub target_of : List Item → Option Text
+target_of items = option_and_then (λ item. Some (text_of item)) (find is_target items)
+
+-- the two are options of one name, or both the positional
+abbrev pub same_kind : Item → Item → Bool
+same_kind (option a v) (option b w) = bytes_eq a b
+same_kind (target v) (target w) = true
+same_kind _ _ = false
+
+-- each option comes at most once, and so does the positional
+abbrev pub is_once : List Item → Bool
+is_once [] = true
+is_once (item ∷ items) = not (list_any (same_kind item) items) && is_once items
+
+abbrev pub belongs : List Text → Item → Bool
+belongs names (option name value) = is_among names name
+belongs names (target text) = true
+
+abbrev pub is_some_text : Text → Bool
+is_some_text text = nat_lt 0 (length text)
+
+abbrev pub has_text : Item → Bool
+has_text item = is_some_text (text_of item)
+
+-- options of the command, each at most once, and no text is empty
+abbrev pub are_items_of : Command → List Item → Bool
+are_items_of c items = list_all (belongs (option_names c)) items && is_once items && list_all has_text items
+
+-- ---- values
+
+-- there is none, or it passes
+abbrev pub none_or : (Text → Bool) → Option Text → Bool
+none_or test None = true
+none_or test (Some text) = test text
+
+abbrev pub has_option : Command → Text → Bool
+has_option c name = is_among (option_names c) name
+
+-- the number of an option that comes; where it doesn't, the usual one, or 0 where the command hasn't the option
+abbrev pub number_or : Command → Text → ℕ → ℕ → ℕ → Option Text → Option ℕ
+number_or c name usual least most None = Some (if has_option c name then usual else 0)
+number_or c name usual least most (Some number) = number_in least most number
+
+-- the speedup that a value gives to a line; where no line is given, none can be given
+abbrev pub speedup_in : Option Text → Option Text → Option ℕ
+speedup_in line None = Some 0
+speedup_in None (Some number) = None
+speedup_in (Some line) (Some number) = number_in 0 95 number
+
+-- one value after the other, where all are there
+infixr 20 ◌>>=◌
+abbrev pub ◌>>=◌ : {A B : Type 0} → Option A → (A → Option B) → Option B
+o >>= f = option_and_then f o
+
+-- the numbers of a list of texts, where each is one
+abbrev pub numbers_in : ℕ → ℕ → List Text → Option (List ℕ)
+numbers_in least most [] = Some []
+numbers_in least most (text ∷ texts) = number_in least most text >>= λ number. numbers_in least most texts >>= λ numbers. Some (number ∷ numbers)
+
+abbrev pub all_speedups : List ℕ
+all_speedups = 0 ∷ 5 ∷ 10 ∷ 15 ∷ 20 ∷ 25 ∷ 30 ∷ 35 ∷ 40 ∷ 45 ∷ 50 ∷ 55 ∷ 60 ∷ 65 ∷ 70 ∷ 75 ∷ 80 ∷ 85 ∷ 90 ∷ 95 ∷ []
+
+-- the speedups, as they were given
+abbrev pub speedups_in : Command → Option Text → Option (List ℕ)
+speedups_in c None = Some (if has_option c speedups_name then all_speedups else [])
+speedups_in c (Some numbers) = numbers_in 0 95 (pieces numbers)
+
+-- ---- the request
+
+-- the request of a command, a positional, and the values of options by their names
+abbrev pub request_with : Command → Option Text → (Text → Option Text) → Option Request
+request_with c path value =
+    if none_or is_line (value line_name) && none_or is_list (value lines_name) && none_or is_list (value progress_name) then (
+    path >>= λ target.
+    speedup_in (value line_name) (value speedup_name) >>= λ speedup.
+    speedups_in c (value speedups_name) >>= λ speedups.
+    number_or c budget_name 100000000 1 1000000000000 (value budget_name) >>= λ budget.
+    number_or c workers_name 4 1 16 (value workers_name) >>= λ workers.
+    number_or c size_name 100 1 2000 (value size_name) >>= λ size.
+    Some (record {
+      command = c;
+      target = target;
+      input = value input_name;
+      line = value line_name;
+      speedup = speedup;
+      lines = value lines_name;
+      progress = value progress_name;
+      speedups = speedups;
+      budget = budget;
+      workers = workers;
+      seed = 0;
+      size = size;
+    })
+    ) else None
+
+-- the request that the items make, where they are right
+unfoldable pub asked : Command → List Item → Option Request
+asked c items = if are_items_of c items then request_with c (target_of items) (λ name. value_of name items) else None
+
+abbrev pub has_no_zero : Text → Bool
+has_no_zero word = list_all (λ b. not (b == 0)) word
+
+-- no zero byte, and not too long
+abbrev pub is_word : Text → Bool
+is_word word = has_no_zero word && nat_le (length word) 131072
+
+-- what is so of each request
+pub record IsFit (request : Request) : Type 0 where
+  -- its positional is a word that isn't empty
+  pub some : nat_lt 0 (length request.target) ≡ true
+  pub word : is_word request.target ≡ true
+  pub line : IfSome request.line (λ text. is_line text ≡ true)
+  pub speedup : request.speedup ≤ 95
+  -- a speedup is of a line
+  pub no_speedup : request.line ≡ None → request.speedup ≡ 0
+  pub lines : IfSome request.lines (λ text. is_list text ≡ true)
+  pub progress : IfSome request.progress (λ text. is_list text ≡ true)
+  pub speedups : list_all (λ p. nat_le p 95) request.speedups ≡ true
+  pub some_budget : runs request.command ≡ true → 1 ≤ request.budget
+  pub budget : request.budget ≤ 10 ^ 12
+  pub workers : request.workers ≤ 16
+  pub size : request.size ≤ 2000
+
+-- the words make this request: a command, and items that are right for it
+pub record Requests (words : List Text) (request : Request) : Type 0 where
+  pub command : Command
+  pub rest : List Text
+  pub items : List Item
+  pub whole : words ≡ command_name command ∷ rest
+  pub fit : list_all is_word words ≡ true
+  pub said : SaysAll items rest
+  pub right : asked command items ≡ Some request

@@ -1,0 +1,50 @@
+//! The commands.
+ghost use Rattle.std.specs.Prelude.{◌≡◌, map};
+ghost use Rattle.coz_words.specs.Request.{option_names, has_option};
+ghost use Rattle.coz_words.specs.Slow.{command_of};
+
+/// What a command line asks for, by its first word.
+#[derive(Clone, Copy, Debug, PartialEq, Eq)]
+pub enum Command {
+    /// To run a program, with a selected line sped up virtually.
+    Run,
+    /// To run it with the selected line made cheaper in fact.
+    Really,
+    /// To list a program's lines.
+    Lines,
+    /// To assemble a source.
+    Asm,
+}
+
+/// The command of that name.
+pub(crate) fn command_of(word: &str) -> Option<Command>
+    ensures { result ≡ command_of word.now }
+{
+    match word {
+        "run" => Some(Command::Run),
+        "really" => Some(Command::Really),
+        "lines" => Some(Command::Lines),
+        "asm" => Some(Command::Asm),
+        _ => None,
+    }
+}
+
+static RUN_OPTIONS: [&str; 5] = ["input", "line", "speedup", "progress", "budget"];
+
+static NO_OPTIONS: [&str; 0] = [];
+
+/// The names of a command's options.
+pub(crate) fn option_names(command: Command) -> &'static [&'static str]
+    ensures { map (λ s. s.now) result.now ≡ option_names command }
+{
+    match command {
+        Command::Run | Command::Really => RUN_OPTIONS.as_slice(),
+        Command::Lines | Command::Asm => NO_OPTIONS.as_slice(),
+    }
+}
+
+pub(crate) fn has_option(command: Command, name: &str) -> bool
+    ensures { result ≡ has_option command name.now }
+{
+    option_names(command).iter().any(|other| *other == name)
+}

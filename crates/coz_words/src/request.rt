@@ -1,0 +1,200 @@
+//! The request of a command line.
+ghost use Rattle.std.specs.Prelude.{◌≡◌, ◌⊎◌, ◌&&◌, Ok, Err, IfOk, Option, Some, None, if◌then◌else◌};
+ghost use Rattle.std.specs.List.{list_all};
+ghost use Rattle.std.specs.Option.{option_copied};
+ghost use Rattle.clap.specs.Words.{first_value, found_of};
+ghost use Rattle.coz_words.specs.Answers.{Answers, bytes_of, held};
+ghost use Rattle.coz_words.specs.Parse.{target_id};
+ghost use Rattle.coz_words.specs.Request.{IsFit, Requests, has_text, option_names, request_with, none_or, is_some_text};
+ghost use Rattle.coz_words.specs.Slow.{request_in};
+ghost use Rattle.coz_words.specs.declared.request.WordsError.TheVariants.{Usage, Memory};
+
+use crate::command::{Command, has_option, option_names};
+use crate::parse::parsed;
+use crate::spelling::command_in;
+use crate::value::{are_lines, number_or, speedup_of, speedups_of};
+use crate::word::{Word, copied};
+use clap::ArgMatches;
+use coz_lists::Items;
+use std::alloc::{AllocError, AllocFailed, Global};
+
+const GREATEST_BUDGET: u64 = 1000000000000;
+
+const USUAL_BUDGET: u64 = 100000000;
+
+const MOST_WORKERS: u64 = 16;
+
+const USUAL_WORKERS: u64 = 4;
+
+const GREATEST_SIZE: u64 = 2000;
+
+const USUAL_SIZE: u64 = 100;
+
+/// What the words ask for. A field that the command lacks is `None`, 0 or empty.
+#[derive(Debug, Drop)]
+pub struct Request {
+    pub command: Command,
+    /// The path of the program's or the source's file, which isn't empty.
+    pub target: Word,
+    /// The path of the file that the program reads, if it isn't to read an empty one.
+    pub input: Option<Word>,
+    /// The selected line, as it was given, if there is one.
+    pub line: Option<Word>,
+    /// How much faster the selected line is, in percent: 0 to 95, and 0 where no line is selected.
+    pub speedup: u8,
+    /// The list of lines to be selected in turn, as it was given, if there is one.
+    pub lines: Option<Word>,
+    /// The list of progress lines, as it was given, if there is one.
+    pub progress: Option<Word>,
+    /// The speedups to be tried, in percent, as they were given.
+    pub speedups: Items<u8>,
+    /// The most instructions to retire: 1 to 10^12, and 0 where the command runs nothing.
+    pub budget: u64,
+    /// How many workers there are: at most 16, and 0 where the command has none.
+    pub workers: u32,
+    /// What a source is made from, and 0 where the command makes none.
+    pub seed: u64,
+    /// The size of a source that is made: at most 2,000, and 0 where the command makes none.
+    pub size: u32,
+}
+
+/// Why there is no request.
+#[derive(Clone, Copy, Debug, PartialEq, Eq)]
+pub enum WordsError {
+    /// The words make none.
+    Usage,
+    /// For want of memory.
+    Memory,
+}
+
+impl From<AllocError> for WordsError {
+    ghost from_gives = { λ _ e. e ≡ Memory };
+
+    fn from(_: AllocError) -> WordsError {
+        WordsError::Memory
+    }
+}
+
+impl<T: Drop> From<AllocFailed<T>> for WordsError {
+    ghost from_gives = { λ _ e. e ≡ Memory };
+
+    fn from(_: AllocFailed<T>) -> WordsError {
+        WordsError::Memory
+    }
+}
+
+/// The text of the command's option of that name, if the command has it and it is given.
+fn text_of<'a>(command: Command, matches: &ArgMatches<'a>, name: &str) -> Option<&'a str>
+    ensures { option_copied result ≡ held command (first_value (found_of matches.now)) name.now }
+{
+    if has_option(command, name) {
+        matches.get_str(name)
+    } else {
+        None
+    }
+}
+
+/// The request that the values make.
+fn request_of(alloc: Global, command: Command, matches: &ArgMatches) -> Result<Request, WordsError>
+    ensures { Answers (request_with command (first_value (found_of matches.now) target_id) (held command (first_value (found_of matches.now)))) result }
+{
+    let line = text_of(command, matches, "line");
+    let lines = text_of(command, matches, "lines");
+    let progress = text_of(command, matches, "progress");
+    if !are_lines(line, lines, progress) {
+        return Err(WordsError::Usage);
+    }
+    let target = matches.get_str("target").ok_or(WordsError::Usage)?;
+    let speedup = speedup_of(line, text_of(command, matches, "speedup"))?;
+    let speedups = speedups_of(alloc, command, text_of(command, matches, "speedups"))?;
+    let budget = number_or(
+        command,
+        "budget",
+        USUAL_BUDGET,
+        1,
+        GREATEST_BUDGET,
+        text_of(command, matches, "budget"),
+    )?;
+    let workers = number_or(
+        command,
+        "workers",
+        USUAL_WORKERS,
+        1,
+        MOST_WORKERS,
+        text_of(command, matches, "workers"),
+    )?;
+    let size = number_or(
+        command,
+        "size",
+        USUAL_SIZE,
+        1,
+        GREATEST_SIZE,
+        text_of(command, matches, "size"),
+    )?;
+    Ok(Request {
+        command,
+        target: Word::copy(alloc, target)?,
+        input: copied(alloc, text_of(command, matches, "input"))?,
+        line: copied(alloc, line)?,
+        speedup,
+        lines: copied(alloc, lines)?,
+        progress: copied(alloc, progress)?,
+        speedups,
+        budget,
+        workers: workers as u32,
+        seed: 0,
+        size: size as u32,
+    })
+}
+
+fn has_text(text: Option<&str>) -> bool
+    ensures { result ≡ none_or is_some_text (option_copied text.entry) }
+{
+    text.is_none_or(|text| !text.is_empty())
+}
+
+/// Whether no text is empty.
+fn are_texts(command: Command, matches: &ArgMatches) -> bool
+    ensures { result ≡ (none_or is_some_text (first_value (found_of matches.now) target_id) && list_all (λ name. none_or is_some_text (held command (first_value (found_of matches.now)) name)) (option_names command)) }
+{
+    has_text(matches.get_str("target"))
+        && option_names(command)
+            .iter()
+            .all(|name| has_text(text_of(command, matches, *name)))
+}
+
+/// What `read_words` answers.
+fn request_in(alloc: Global, words: &[String]) -> Result<Request, WordsError>
+    ensures { Answers (request_in (bytes_of words.now)) result }
+{
+    let Some(command) = command_in(words) else {
+        return Err(WordsError::Usage);
+    };
+    let Some(matches) = parsed(alloc, option_names(command), words)? else {
+        return Err(WordsError::Usage);
+    };
+    if !are_texts(command, &matches) {
+        return Err(WordsError::Usage);
+    }
+    request_of(alloc, command, &matches)
+}
+
+/// The request that the words after the program's name make:
+///
+/// - `run` or `really`, the program's path, and `--input FILE`, `--line LINE`, `--speedup P`, `--progress LIST` and
+///   `--budget N` in any order, each at most once;
+/// - `lines` and the program's path;
+/// - `asm` and the source's path.
+///
+/// A value may stand in the option's word behind a `=`; a word `--` ends the options.
+/// A number has 1 to 20 digits. A speedup is 0 to 95, and stands beside a line; a budget is 1 to 10^12.
+/// A line is a path without a comma, `:` and a number from 1 to 2^32 - 1; a list is one line or more, with a comma between.
+/// All other words are `Usage`. Want of memory can stand against any words, and is then the answer in place of either.
+pub fn read_words(alloc: Global, words: &[String]) -> Result<Request, WordsError>
+    ensures given { IfOk result (λ request. Requests (bytes_of words.now) request) }
+    ensures only { (request : Request) → Requests (bytes_of words.now) request → (result ≡ Ok request) ⊎ (result ≡ Err Memory) }
+    ensures usage { (result ≡ Err Usage → (request : Request) → Requests (bytes_of words.now) request → ⊥) × (((request : Request) → Requests (bytes_of words.now) request → ⊥) → (result ≡ Err Usage) ⊎ (result ≡ Err Memory)) }
+    ensures fit { IfOk result IsFit }
+{
+    request_in(alloc, words)
+}

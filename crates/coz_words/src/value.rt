@@ -1,0 +1,97 @@
+//! What the values of options mean.
+ghost use Rattle.std.specs.Prelude.{◌≡◌, ◌&&◌};
+ghost use Rattle.std.specs.Option.{option_copied};
+ghost use Rattle.experiment_plan.specs.Lists.{is_line, is_list, number_in, pieces};
+ghost use Rattle.coz_words.specs.Answers.{Answers};
+ghost use Rattle.coz_words.specs.Request.{none_or, number_or, numbers_in, speedup_in, speedups_in};
+
+use crate::command::{Command, has_option};
+use crate::request::WordsError;
+use coz_lists::Items;
+use experiment_plan::{first_piece, is_line, is_list, number_in};
+use std::alloc::Global;
+
+/// In percent.
+const GREATEST_SPEEDUP: u64 = 95;
+
+/// The speedups, in percent, where the words give none.
+static ALL_SPEEDUPS: [u8; 20] = [
+    0, 5, 10, 15, 20, 25, 30, 35, 40, 45, 50, 55, 60, 65, 70, 75, 80, 85, 90, 95,
+];
+
+/// Whether the line and the lists are such, where they are given.
+pub fn are_lines(line: Option<&str>, lines: Option<&str>, progress: Option<&str>) -> bool
+    ensures { result ≡ (none_or is_line (option_copied line.entry) && none_or is_list (option_copied lines.entry) && none_or is_list (option_copied progress.entry)) }
+{
+    line.is_none_or(|text| is_line(text.as_bytes()))
+        && lines.is_none_or(|text| is_list(text.as_bytes()))
+        && progress.is_none_or(|text| is_list(text.as_bytes()))
+}
+
+/// A number from `least` to `most`. Where no text is given, it is the usual one, or 0 where the command lacks the option.
+pub fn number_or(
+    command: Command,
+    name: &str,
+    usual: u64,
+    least: u64,
+    most: u64,
+    text: Option<&str>,
+) -> Result<u64, WordsError>
+    ensures { Answers (number_or command name.now usual least most (option_copied text.entry)) result }
+{
+    match text {
+        Some(number) => number_in(number.as_bytes(), least, most).ok_or(WordsError::Usage),
+        None => Ok(if has_option(command, name) { usual } else { 0 }),
+    }
+}
+
+/// The speedup of a line, in percent.
+pub fn speedup_of(line: Option<&str>, text: Option<&str>) -> Result<u8, WordsError>
+    ensures { Answers (speedup_in (option_copied line.entry) (option_copied text.entry)) result }
+{
+    match (line, text) {
+        (_, None) => Ok(0),
+        (None, Some(_)) => Err(WordsError::Usage),
+        (Some(_), Some(number)) => speedup_in(number.as_bytes()),
+    }
+}
+
+fn speedup_in(text: &[u8]) -> Result<u8, WordsError>
+    ensures { Answers (number_in 0 95 text.now) result }
+{
+    match number_in(text, 0, GREATEST_SPEEDUP) {
+        Some(speedup) => Ok(speedup as u8),
+        None => Err(WordsError::Usage),
+    }
+}
+
+/// The speedups of a list with a comma between, in percent, as they were given.
+fn speedups_in(alloc: Global, text: &[u8]) -> Result<Items<u8>, WordsError>
+    ensures { Answers (numbers_in 0 95 (pieces text.now)) result }
+{
+    let mut speedups = Vec::new(alloc);
+    let mut left = Some(text);
+    while let Some(list) = left {
+        let (piece, rest) = first_piece(list);
+        speedups.push(speedup_in(piece)?)?;
+        left = rest;
+    }
+    Ok(Items::new(speedups))
+}
+
+/// The speedups, in percent: those given, all where none are, and none where the command lacks the option.
+pub fn speedups_of(
+    alloc: Global,
+    command: Command,
+    text: Option<&str>,
+) -> Result<Items<u8>, WordsError>
+    ensures { Answers (speedups_in command (option_copied text.entry)) result }
+{
+    match text {
+        Some(numbers) => speedups_in(alloc, numbers.as_bytes()),
+        None if has_option(command, "speedups") => {
+            Ok(Items::new(Vec::from_slice(alloc, ALL_SPEEDUPS.as_slice())?))
+        }
+        None => Ok(Items::new(Vec::new(alloc))),
+    }
+}

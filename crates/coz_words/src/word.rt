@@ -1,0 +1,46 @@
+//! A text that is kept of the words.
+ghost use Rattle.std.specs.Prelude.{◌≡◌, List, ℕ, IfOk, string_bytes};
+ghost use Rattle.std.specs.Option.{option_copied};
+
+use std::alloc::{AllocError, Global};
+use std::marker::Model;
+
+/// A text that the words gave. Contracts see the list of its bytes.
+#[derive(Debug, Drop)]
+pub struct Word {
+    held: String,
+}
+
+impl Model for Word {
+    ghost Value = { List ℕ };
+
+    ghost view = { λ word. string_bytes word.held };
+}
+
+impl Word {
+    /// A word of this text, which is copied.
+    pub(crate) fn copy(alloc: Global, text: &str) -> Result<Word, AllocError>
+        ensures { IfOk result (λ word. word ≡ text.now) }
+    {
+        Ok(Word {
+            held: String::from_str(alloc, text)?,
+        })
+    }
+
+    /// The text.
+    pub fn text(&self) -> &str
+        ensures { result.now ≡ self.now }
+    {
+        self.held.as_str()
+    }
+}
+
+/// A word of the text, if there is one.
+pub(crate) fn copied(alloc: Global, text: Option<&str>) -> Result<Option<Word>, AllocError>
+    ensures { IfOk result (λ word. word ≡ option_copied text.entry) }
+{
+    match text {
+        Some(text) => Ok(Some(Word::copy(alloc, text)?)),
+        None => Ok(None),
+    }
+}
