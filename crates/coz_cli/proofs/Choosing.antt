@@ -12,8 +12,8 @@ use Rattle.line_index.specs.Lines.{Line}
 use Rattle.progress_points.specs.declared.PointsError.{PointsError}
 use Rattle.progress_points.specs.declared.PointsError.TheVariants as points
 use Rattle.progress_points.specs.Points.{IsFault}
-use Rattle.run_words.specs.Said.{Text}
-use Rattle.run_words.specs.Values.{pieces, pieces_left}
+use Rattle.coz_words.specs.Said.{Text}
+use Rattle.experiment_plan.specs.Lists.{pieces, pieces_left}
 use Rattle.coz_cli.specs.declared.selection.Unchosen.{Unchosen as CodeUnchosen}
 use Rattle.coz_cli.specs.declared.selection.Unchosen.TheVariants as selecting
 use Rattle.coz_cli.specs.Answer.{fault_verdict, IsMemoryFault}

@@ -7,11 +7,11 @@ use Rattle.dwarf_lines.specs.declared.Row.{Row}
 use Rattle.dwarf_lines.specs.Registers.{Table}
 use Rattle.line_index.specs.Lines.{Line, line_of}
 use Rattle.line_index.specs.Listed.{lines_in, entries_in}
-use Rattle.run_words.specs.Said.{Text}
-use Rattle.run_words.specs.Values.{line_parts, pieces}
-use Rattle.run_words.specs.Request.{Asked}
-use Rattle.run_words.specs.declared.Command.TheVariants.{Run}
-use Rattle.coz_cli.specs.Selection.{no_line, chosen}
+use Rattle.coz_words.specs.Said.{Text}
+use Rattle.experiment_plan.specs.Lists.{line_parts, pieces}
+use Rattle.coz_words.specs.declared.request.Request.{Request}
+use Rattle.coz_words.specs.declared.command.Command.TheVariants.{Run}
+use Rattle.coz_cli.specs.Selection.{no_line, chosen, chosen_of}
 use Rattle.coz_cli.specs.Text.{outcome_text, net_outcome_text, hart_text, harts_text, visit_text, visits_text, net_visit_text, net_visits_text, output_text, run_text, really_text, more_addresses, addresses_text, labelled_text, lines_text}
 
 -- ---- the line and the points that are named
@@ -22,30 +22,30 @@ line path number = record { path = path; number = number }
 abbrev three : List Line
 three = line (codes "d/a.s") 1 ∷ line (codes "d/a.s") 2 ∷ line (codes "d/b.s") 1 ∷ []
 
-abbrev asked : Option Text → Option Text → Asked
-asked selected points = record { command = Run; target = codes "p"; input = None; line = selected; speedup = 50; progress = points; budget = 9 }
+abbrev asked : Option Text → Option Text → Request
+asked selected points = record { command = Run; target = codes "p"; input = None; line = selected; speedup = 50; progress = points; budget = 9; lines = None; speedups = []; workers = 0; seed = 0; size = 0 }
 
 -- by the whole path, and by the end of a path
 whole_path : chosen three (asked (Some (codes "d/a.s:2")) None) ≡ Ok (record { selected = Some 1; points = [] })
-unfolding chosen line_parts
+unfolding chosen_of line_parts
 whole_path = refl
 
 path_end : chosen three (asked (Some (codes "b.s:1")) None) ≡ Ok (record { selected = Some 2; points = [] })
-unfolding chosen line_parts
+unfolding chosen_of line_parts
 path_end = refl
 
 unfound : chosen three (asked (Some (codes "a.s:3")) (Some (codes "c.s:1"))) ≡ Err (no_line (codes "a.s:3"))
-unfolding chosen line_parts pieces
+unfolding chosen_of line_parts pieces
 unfound = refl
 
 -- the points rise, and a line that is named twice is one point
 named_twice : chosen three (asked None (Some (codes "b.s:1,a.s:1,d/b.s:1"))) ≡ Ok (record { selected = None; points = 0 ∷ 2 ∷ [] })
-unfolding chosen line_parts pieces
+unfolding chosen_of line_parts pieces
 named_twice = refl
 
 -- the first piece that is not found is told
 first_unfound : chosen three (asked (Some (codes "a.s:1")) (Some (codes "a.s:1,c.s:1,e.s:1"))) ≡ Err (no_line (codes "c.s:1"))
-unfolding chosen line_parts pieces
+unfolding chosen_of line_parts pieces
 first_unfound = refl
 
 -- ---- what is printed

@@ -11,7 +11,7 @@ use Rattle.progress_points.specs.Points.{Points, IsPoints, point_of, point_in}
 use Rattle.machines.specs.Guest.{Experiment}
 use Rattle.guest_calls.specs.Guest.{Guest}
 use Rattle.virtual_run.specs.Run.{experiment}
-use Rattle.run_words.specs.Request.{Asked}
+use Rattle.coz_words.specs.declared.request.Request.{Request}
 use Rattle.coz_cli.specs.Selection.{Chosen, chosen}
 use Rattle.coz_cli.specs.Experiment.{choice_of, entries_of, experiment_of}
 use Rattle.virtual_run.specs.declared.choice.Choice.{Choice}
@@ -20,16 +20,16 @@ use Rattle.coz_cli.specs.Kind.{print_of}
 use Rattle.coz_cli.specs.Verdict.{Verdict, asked_verdict, chosen_verdict}
 
 -- what is judged of an index with these lines, entries and positions
-abbrev judged : Asked → (Experiment Guest → Verdict) → List ℕ → ImageParts → List Line → List (List ℕ) → (ℕ → Option ℕ) → Verdict
+abbrev judged : Request → (Experiment Guest → Verdict) → List ℕ → ImageParts → List Line → List (List ℕ) → (ℕ → Option ℕ) → Verdict
 judged asked print input image lines entries position =
     chosen_verdict (chosen lines asked) (λ (c : Chosen). print (experiment image position (point_in entries c.points) input (choice_of c.selected asked.speedup asked.budget)))
 
-asked_is : (asked : Asked) (print : Experiment Guest → Verdict) (input : List ℕ) (image : ImageParts) (table : Table)
+asked_is : (asked : Request) (print : Experiment Guest → Verdict) (input : List ℕ) (image : ImageParts) (table : Table)
     → judged asked print input image (lines_in table image.areas) (entries_of image table) (position_in table image.areas) ≡ asked_verdict asked print input image table
 unfolding experiment_of
 asked_is asked print input image table = refl
 
-pub indexed : (asked : Asked) (print : Experiment Guest → Verdict) (input : List ℕ) (image : ImageParts) (table : Table) (index : Index) → IsIndex table image.areas index
+pub indexed : (asked : Request) (print : Experiment Guest → Verdict) (input : List ℕ) (image : ImageParts) (table : Table) (index : Index) → IsIndex table image.areas index
     → judged asked print input image index.lines index.entries (position_at index) ≡ asked_verdict asked print input image table
 indexed asked print input image table index is =
     ap (judged asked print input image index.lines index.entries) (fun_ext (positions_are is))

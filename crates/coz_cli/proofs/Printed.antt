@@ -18,10 +18,12 @@ use Rattle.guest_calls.specs.Guest.{Guest}
 use Rattle.guest_calls.specs.Orderly.{IsOrderly}
 use Rattle.guest_calls.proofs.Law.{lawful}
 use Rattle.virtual_run.specs.Run.{selected_line, has_selected}
-use Rattle.run_words.specs.Request.{Asked, IsFit, runs}
-use Rattle.run_words.specs.declared.Command.{Command}
-use Rattle.run_words.specs.declared.Command.TheVariants.{Run, Really}
-use Rattle.run_words.proofs.Fit.{fit_in}
+use Rattle.coz_words.specs.Request.{IsFit, runs}
+use Rattle.coz_words.specs.declared.request.Request.{Request}
+use Rattle.coz_words.specs.declared.command.Command.{Command}
+use Rattle.coz_words.specs.declared.command.Command.TheVariants.{Run, Really}
+use Rattle.coz_words.proofs.Exact.{exact_back}
+use Rattle.coz_words.proofs.Fit.{fit_in}
 use Rattle.coz_cli.specs.Words.{request_of}
 use Rattle.coz_cli.specs.LineTable.{table_in}
 use Rattle.coz_cli.specs.Selection.{Chosen, Unchosen, no_line, many_points, chosen}
@@ -32,10 +34,10 @@ use Rattle.coz_cli.specs.Headline.{IsAsked, PrintsRun, PrintsReally, PrintsShort
 
 -- ---- the experiment of a request
 
-abbrev experiment_asked : ImageParts → Table → List ℕ → Asked → Chosen → Experiment Guest
+abbrev experiment_asked : ImageParts → Table → List ℕ → Request → Chosen → Experiment Guest
 experiment_asked image table input asked choice = experiment_of image table input (choice_of choice.selected asked.speedup asked.budget) choice.points
 
-module _ (image : ImageParts) (table : Table) (input : List ℕ) (asked : Asked) (choice : Chosen) where
+module _ (image : ImageParts) (table : Table) (input : List ℕ) (asked : Request) (choice : Chosen) where
   law : IsFit asked → IsLawful (experiment_asked image table input asked choice) IsOrderly
   unfolding experiment_of
   law fit =
@@ -52,7 +54,7 @@ record Runs (x : Experiment Guest) : Type 0 where
   same : net (delayed_record x) ≡ shortened_record x
   shortened : IsShortened x (shortened_record x)
 
-runs_of : (held : Held) (asked : Asked) (x : Experiment Guest) → IsFit asked → 1 ≤ asked.budget → IsAsked held asked x → Runs x
+runs_of : (held : Held) (asked : Request) (x : Experiment Guest) → IsFit asked → 1 ≤ asked.budget → IsAsked held asked x → Runs x
 runs_of held asked x fit some is =
     let y : Experiment Guest = experiment_asked is.image is.table is.input asked is.choice in
     let lawful : IsLawful y IsOrderly = law is.image is.table is.input asked is.choice fit in
@@ -63,7 +65,7 @@ runs_of held asked x fit some is =
 -- ---- what a low verdict is of
 
 -- a verdict is that of an experiment that is asked for
-record Comes (held : Held) (asked : Asked) (print : Experiment Guest → Verdict) (v : Verdict) : Type 0 where
+record Comes (held : Held) (asked : Request) (print : Experiment Guest → Verdict) (v : Verdict) : Type 0 where
   experiment : Experiment Guest
   is_asked : IsAsked held asked experiment
   is : v ≡ print experiment
@@ -71,7 +73,7 @@ record Comes (held : Held) (asked : Asked) (print : Experiment Guest → Verdict
 low_of : (v w : Verdict) → v ≡ w → v.status ≤ 1 → w.status ≤ 1
 low_of v w same low = subst (λ (x : Verdict). x.status ≤ 1) same low
 
-module _ (held : Held) (asked : Asked) (print : Experiment Guest → Verdict) (v : Verdict) (low : v.status ≤ 1) where
+module _ (held : Held) (asked : Request) (print : Experiment Guest → Verdict) (v : Verdict) (low : v.status ≤ 1) where
   -- what was found so far
   record Found (file input : List ℕ) : Type 0 where
     found : file_at held asked.target ≡ Some file
@@ -137,7 +139,7 @@ given_is held (Some path) next low =
     let read = read_is 16777216 path (file_at held path) next low in
     record { input = read.file; given = read.is; same = read.same }
 
-experiment_comes : (held : Held) (asked : Asked) (print : Experiment Guest → Verdict) → (experiment_verdict asked held print).status ≤ 1 → Comes held asked print (experiment_verdict asked held print)
+experiment_comes : (held : Held) (asked : Request) (print : Experiment Guest → Verdict) → (experiment_verdict asked held print).status ≤ 1 → Comes held asked print (experiment_verdict asked held print)
 experiment_comes held asked print low =
     let v : Verdict = experiment_verdict asked held print in
     let next : List ℕ → Verdict = λ file. input_verdict asked.input held (file_verdict asked print file) in
@@ -148,18 +150,18 @@ experiment_comes held asked print low =
 -- ---- the headline
 
 module _ (words : List (List ℕ)) (held : Held) (before now : Option (List ℕ)) (low : (verdict words held).status ≤ 1) (gained : Appends before now (verdict words held).text) where
-  command_is : (asked : Asked) (c : Command) → request_of words ≡ Some asked → asked.command ≡ c → verdict words held ≡ command_verdict c asked held
+  command_is : (asked : Request) (c : Command) → request_of words ≡ Some asked → asked.command ≡ c → verdict words held ≡ command_verdict c asked held
   command_is asked c named is =
-      ap (λ (request : Option Asked). request_verdict request held) named ∙ ap (λ (c : Command). command_verdict c asked held) is
+      ap (λ (request : Option Request). request_verdict request held) named ∙ ap (λ (c : Command). command_verdict c asked held) is
 
-  fit_of : (asked : Asked) → request_of words ≡ Some asked → IsFit asked
+  fit_of : (asked : Request) → request_of words ≡ Some asked → IsFit asked
   unfolding request_of
-  fit_of asked named = fit_in words asked named
+  fit_of asked named = fit_in words asked (exact_back words asked named)
 
   gained_as : (v : Verdict) → verdict words held ≡ v → Appends before now v.text
   gained_as v same = subst (λ (w : Verdict). Appends before now w.text) same gained
 
-  prints_run : (asked : Asked) → request_of words ≡ Some asked → asked.command ≡ Run → PrintsRun held asked before now
+  prints_run : (asked : Request) → request_of words ≡ Some asked → asked.command ≡ Run → PrintsRun held asked before now
   prints_run asked named is =
       let same = command_is asked Run named is in
       let fit = fit_of asked named in
@@ -174,7 +176,7 @@ module _ (words : List (List ℕ)) (held : Held) (before now : Option (List ℕ)
         shortened = subst (IsShortened comes.experiment) (sym law.same) law.shortened;
       }
 
-  prints_really : (asked : Asked) → request_of words ≡ Some asked → asked.command ≡ Really → PrintsReally held asked before now
+  prints_really : (asked : Request) → request_of words ≡ Some asked → asked.command ≡ Really → PrintsReally held asked before now
   prints_really asked named is =
       let same = command_is asked Really named is in
       let fit = fit_of asked named in

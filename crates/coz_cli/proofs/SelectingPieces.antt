@@ -6,8 +6,8 @@ use Rattle.std.specs.List.Sorted.{IsStrictlyIncreasing}
 use Rattle.std.proofs.lemmas.List.Elements.{All-map}
 use Rattle.coz_types.specs.declared.LineId.{LineId}
 use Rattle.line_index.specs.Lines.{Line}
-use Rattle.run_words.specs.Said.{Text}
-use Rattle.run_words.specs.Values.{is_line, line_parts}
+use Rattle.coz_words.specs.Said.{Text}
+use Rattle.experiment_plan.specs.Lists.{is_line, line_parts}
 use Rattle.coz_cli.specs.Selection.{line_found, with_number, rising}
 use Rattle.coz_cli.specs.Found.{ids, id_of}
 use Rattle.coz_cli.proofs.Selecting.{rises, all_with}

@@ -1,13 +1,13 @@
 -- What the top call leaves, by the answer that its words came to.
-use Rattle.std.proofs.Common.{◌≡◌, ◌≤◌, ℕ, List, Option, Some, None, IfSome, Ok, Err, refl, sym, subst, arith, codes, inl, inr}
-use Rattle.std.specs.Prelude.{IfNone}
+use Rattle.std.proofs.Common.{◌≡◌, ◌≤◌, ℕ, List, Option, Some, None, IfSome, Ok, Err, refl, ap, sym, ◌∙◌, subst, arith, codes, inl, inr}
+use Rattle.std.specs.Prelude.{IfNone, IsSomeAnd, ◌⊎◌}
 use Rattle.std.specs.Io.KnownBytes.{Appends}
 use Rattle.coz_files.specs.Faults.{Rose}
 use Rattle.coz_files.specs.Held.{Held}
-use Rattle.run_words.specs.Request.{Asked}
+use Rattle.coz_words.specs.declared.request.Request.{Request}
 use Rattle.coz_cli.specs.declared.answer.Printed.{Printed}
 use Rattle.coz_cli.specs.declared.fault.Fault.{Fault}
-use Rattle.coz_cli.specs.declared.fault.Fault.TheVariants.{Usage}
+use Rattle.coz_cli.specs.declared.fault.Fault.TheVariants.{Usage, Program, Lines, Read, Write, NoLine, ManyPoints, Long, Memory, Source}
 use Rattle.coz_cli.specs.Words.{request_of}
 use Rattle.coz_cli.specs.Verdict.{Verdict, command_verdict, request_verdict, verdict}
 use Rattle.coz_cli.specs.Answer.{Answer, IsMemory, IsReadFault, Suits, Settles, fault_line, fault_status, printed_verdict, text_bytes}
@@ -29,9 +29,34 @@ printed_run words held before after printed is gained low =
     (subst (λ (v : Verdict). v.status ≤ 1) (sym is) low)
     (subst (λ (v : Verdict). Appends before after v.text) (sym is) gained)
 
+-- the status of a read is told of no other fault
+is_read : (fault : Fault) → fault_status fault ≡ 5 → IsReadFault fault
+is_read Usage five = absurd (omega (arith, five))
+is_read (Program fault) five = absurd (omega (arith, five))
+is_read (Lines fault) five = absurd (omega (arith, five))
+is_read (Read path) five = tt
+is_read Write five = absurd (omega (arith, five))
+is_read (NoLine piece) five = absurd (omega (arith, five))
+is_read (ManyPoints count) five = absurd (omega (arith, five))
+is_read (Long path) five = absurd (omega (arith, five))
+is_read Memory five = absurd (omega (arith, five))
+is_read (Source fault) five = absurd (omega (arith, five))
+
+not_memory : (fault : Fault) → fault_status fault ≡ 5 → IsMemory {A = Printed} (Err fault) → ⊥
+not_memory Usage five memory = memory
+not_memory (Program fault) five memory = memory
+not_memory (Lines fault) five memory = memory
+not_memory (Read path) five memory = memory
+not_memory Write five memory = memory
+not_memory (NoLine piece) five memory = memory
+not_memory (ManyPoints count) five memory = memory
+not_memory (Long path) five memory = memory
+not_memory Memory five memory = omega (arith, five)
+not_memory (Source fault) five memory = memory
+
 module _ (words : List (List ℕ)) (faults now : ℕ) where
   -- what an answer settles of a request it settles of the words
-  abbrev IsSettled : Option Held → Option Asked → Answer → Type 0
+  abbrev IsSettled : Option Held → Option Request → Answer → Type 0
   IsSettled told request answer = IfSome told (λ held. (IsMemory answer → ⊥) → Settles (request_verdict request held) faults now answer)
 
   no_request : (told : Option Held) → IsSettled told None (Err Usage)
@@ -48,7 +73,17 @@ module _ (words : List (List ℕ)) (faults now : ℕ) where
         untold = λ never. absurd never;
       })
 
-  module _ (asked : Asked) (makes : Some asked ≡ request_of words) where
+  pub memory_line : (told : Option Held) → IsLine 10 words told faults now (codes "coz: memory")
+  memory_line told = record {
+    usage = λ is. absurd (omega (arith, is));
+    write = λ is. absurd (omega (arith, is));
+    memory = λ is. refl;
+    read = λ is. absurd (omega (arith, is));
+    absent = λ is. absurd (omega (arith, is));
+    verdict = λ of. absurd (of.no_memory refl);
+  }
+
+  module _ (asked : Request) (makes : Some asked ≡ request_of words) where
     pub fault_told : (told : Option Held) (fault : Fault) → Suits asked (Err fault)
         → IfSome told (λ held. (IsMemory {A = Printed} (Err fault) → ⊥) → Settles (command_verdict asked.command asked held) faults now (Err fault))
         → (IsReadFault fault → IfNone told (Rose faults now)) → IsLine (fault_status fault) words told faults now (fault_line fault)
@@ -60,6 +95,17 @@ module _ (words : List (List ℕ)) (faults now : ℕ) where
           settled = subst (λ request. IsSettled told request (Err fault)) makes settled;
           untold = untold;
         })
+
+    pub read_cause : (told : Option Held) (fault : Fault)
+        → IfSome told (λ held. (IsMemory {A = Printed} (Err fault) → ⊥) → Settles (command_verdict asked.command asked held) faults now (Err fault))
+        → (IsReadFault fault → IfNone told (Rose faults now)) → fault_status fault ≡ 5 → Rose faults now ⊎ IsSomeAnd told (λ held. (verdict words held).status ≡ 5)
+    read_cause None fault settled untold five = inl (untold (is_read fault five))
+    read_cause (Some held) fault settled untold five =
+        let is = subst (λ request. IsSettled (Some held) request (Err fault)) makes settled in
+        elim (is (not_memory fault five)) [
+          | inl same ↦ inr (sym (ap (λ (v : Verdict). v.status) same) ∙ five)
+          | inr failed ↦ inl failed.1
+        ]
 
     pub headline : (told before after : Option _) (printed : Printed)
         → IfSome told (λ held. (IsMemory {A = Printed} (Ok printed) → ⊥) → Settles (command_verdict asked.command asked held) faults now (Ok printed))

@@ -5,22 +5,22 @@ use Rattle.coz_files.specs.Faults.{Rose}
 use Rattle.coz_files.specs.Held.{Held}
 use Rattle.coz_cli.specs.declared.fault.Fault.{Fault}
 use Rattle.coz_cli.specs.declared.fault.Fault.TheVariants.{Usage, Program, Lines, Read, Write, NoLine, ManyPoints, Long, Memory, Source}
-use Rattle.run_words.specs.Request.{Asked}
+use Rattle.coz_words.specs.declared.request.Request.{Request}
 use Rattle.coz_cli.specs.Words.{Names, request_of}
 use Rattle.coz_cli.specs.Verdict.{Verdict, verdict}
 use Rattle.coz_cli.specs.Answer.{IsMemoryFault, IsReadFault, Suits, Settles, fault_status, fault_line}
 use Rattle.coz_cli.specs.Serve.{IsLine}
 
 -- a fault of the words themselves, or one that suits their request
-abbrev pub IsOf : Option Asked → Fault → Type 0
+abbrev pub IsOf : Option Request → Fault → Type 0
 IsOf None fault = fault ≡ Usage
 IsOf (Some asked) fault = Suits asked (Err fault)
 
-names_path : (request : Option Asked) (path : _) → IsOf request (Read path) → Names request path.now
+names_path : (request : Option Request) (path : _) → IsOf request (Read path) → Names request path.now
 names_path None path is = let no : ⊥ = cc in absurd no
 names_path (Some asked) path suits = suits
 
-no_write : (request : Option Asked) → IsOf request Write → ⊥
+no_write : (request : Option Request) → IsOf request Write → ⊥
 no_write None is = let no : ⊥ = cc in no
 no_write (Some asked) suits = suits
 

@@ -6,8 +6,8 @@ use Rattle.std.specs.Option.{option_copied}
 use Rattle.std.specs.Global.{Vec}
 use Rattle.coz_types.specs.declared.LineId.{LineId}
 use Rattle.line_index.specs.Lines.{Line}
-use Rattle.run_words.specs.Said.{Text}
-use Rattle.run_words.specs.Values.{pieces}
+use Rattle.coz_words.specs.Said.{Text}
+use Rattle.experiment_plan.specs.Lists.{pieces}
 use Rattle.coz_cli.specs.declared.selection.Unchosen.{Unchosen as CodeUnchosen}
 use Rattle.coz_cli.specs.declared.selection.Unchosen.TheVariants.{NoLine, Memory}
 use Rattle.coz_cli.specs.declared.selection.Chosen.{Chosen as CodeChosen}

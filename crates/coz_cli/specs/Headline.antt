@@ -9,8 +9,8 @@ use Rattle.line_index.specs.Listed.{lines_in}
 use Rattle.machines.specs.Guest.{Experiment}
 use Rattle.machines.specs.Records.{Record, NetRecord, net, IsDelayed, IsShortened}
 use Rattle.guest_calls.specs.Guest.{Guest}
-use Rattle.run_words.specs.Request.{Asked}
-use Rattle.run_words.specs.declared.Command.TheVariants.{Run, Really}
+use Rattle.coz_words.specs.declared.request.Request.{Request}
+use Rattle.coz_words.specs.declared.command.Command.TheVariants.{Run, Really}
 use Rattle.coz_cli.specs.Words.{request_of}
 use Rattle.coz_cli.specs.LineTable.{table_in}
 use Rattle.coz_cli.specs.Selection.{Chosen, chosen}
@@ -24,7 +24,7 @@ IsInput held (Some path) input = file_at held path ≡ Some input
 
 -- The experiment that a request asks for: its path names a file that is a program with a line table,
 -- its input is that of the named file, and each line that it names is one of the program's.
-pub record IsAsked (held : Held) (asked : Asked) (x : Experiment Guest) : Type 0 where
+pub record IsAsked (held : Held) (asked : Request) (x : Experiment Guest) : Type 0 where
   pub file : List ℕ
   pub input : List ℕ
   pub image : ImageParts
@@ -40,7 +40,7 @@ pub record IsAsked (held : Held) (asked : Asked) (x : Experiment Guest) : Type 0
 -- Behind what was held before there is now the text of the record that the delayed machine ends with, and the
 -- net part of that record (its end, output, counts, and each time less the global delay then) is what the
 -- shortened machine ends with, whose selected line really costs less and which knows no delays.
-pub record PrintsRun (held : Held) (asked : Asked) (before now : Option (List ℕ)) : Type 0 where
+pub record PrintsRun (held : Held) (asked : Request) (before now : Option (List ℕ)) : Type 0 where
   pub experiment : Experiment Guest
   pub run : Record
   pub is_asked : IsAsked held asked experiment
@@ -49,7 +49,7 @@ pub record PrintsRun (held : Held) (asked : Asked) (before now : Option (List �
   pub shortened : IsShortened experiment (net run)
 
 -- behind what was held before there is now the text of the record that the shortened machine ends with
-pub record PrintsReally (held : Held) (asked : Asked) (before now : Option (List ℕ)) : Type 0 where
+pub record PrintsReally (held : Held) (asked : Request) (before now : Option (List ℕ)) : Type 0 where
   pub experiment : Experiment Guest
   pub run : NetRecord
   pub is_asked : IsAsked held asked experiment
@@ -58,5 +58,5 @@ pub record PrintsReally (held : Held) (asked : Asked) (before now : Option (List
 
 -- where the words ask for a run, such a run is printed
 pub record PrintsShortened (words : List (List ℕ)) (held : Held) (before now : Option (List ℕ)) : Type 0 where
-  pub runs : (asked : Asked) → request_of words ≡ Some asked → asked.command ≡ Run → PrintsRun held asked before now
-  pub really : (asked : Asked) → request_of words ≡ Some asked → asked.command ≡ Really → PrintsReally held asked before now
+  pub runs : (asked : Request) → request_of words ≡ Some asked → asked.command ≡ Run → PrintsRun held asked before now
+  pub really : (asked : Request) → request_of words ≡ Some asked → asked.command ≡ Really → PrintsReally held asked before now

@@ -1,9 +1,9 @@
 -- The line and the progress points that a request names, among the lines of a program.
 use Rattle.std.specs.Prelude.{ℕ, nat_lt, ◌==◌, length, List, [], ◌∷◌, fold, Option, Some, None, is_none, find, Result, Ok, Err, if◌then◌else◌}
 use Rattle.std.specs.List.{filter_map}
-use Rattle.run_words.specs.Said.{Text}
-use Rattle.run_words.specs.Request.{Asked}
-use Rattle.run_words.specs.Values.{line_parts, pieces}
+use Rattle.coz_words.specs.Said.{Text}
+use Rattle.coz_words.specs.declared.request.Request.{Request}
+use Rattle.experiment_plan.specs.Lists.{line_parts, pieces}
 use Rattle.line_index.specs.Lines.{Line, found}
 
 -- the positions of the selected line and of the progress points' lines
@@ -62,6 +62,9 @@ abbrev pub with_line : Result (Option ℕ) Unchosen → Result (List ℕ) Unchos
 with_line (Err why) points = Err why
 with_line (Ok selected) points = with_points selected points
 
--- the selected line is judged first, and then the points
-unfoldable pub chosen : List Line → Asked → Result Chosen Unchosen
-chosen lines asked = with_line (line_named lines asked.line) (progress_lines lines asked.progress)
+-- of a line and a list of progress points: the line is judged first, and then the points
+unfoldable pub chosen_of : List Line → Option Text → Option Text → Result Chosen Unchosen
+chosen_of lines line list = with_line (line_named lines line) (progress_lines lines list)
+
+abbrev pub chosen : List Line → Request → Result Chosen Unchosen
+chosen lines asked = chosen_of lines asked.line asked.progress

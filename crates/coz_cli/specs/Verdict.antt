@@ -7,9 +7,9 @@ use Rattle.coz_cli.specs.Words.{request_of}
 use Rattle.coz_types.specs.Image.{ImageParts}
 use Rattle.elf_load.specs.declared.ElfFault.{ElfFault}
 use Rattle.elf_load.specs.Loaded.{loaded}
-use Rattle.run_words.specs.Request.{Asked}
-use Rattle.run_words.specs.declared.Command.{Command}
-use Rattle.run_words.specs.declared.Command.TheVariants.{Run, Really, Lines, Asm}
+use Rattle.coz_words.specs.declared.request.Request.{Request}
+use Rattle.coz_words.specs.declared.command.Command.{Command}
+use Rattle.coz_words.specs.declared.command.Command.TheVariants.{Run, Really, Lines, Asm}
 use Rattle.rv_asm.specs.declared.AsmFault.{AsmFault}
 use Rattle.rv_asm.specs.Assembled.{Program, assembled}
 use Rattle.image_write.specs.File.{written_file}
@@ -71,13 +71,13 @@ chosen_verdict (Err (many_points count)) next = refused 7 (points_line count)
 chosen_verdict (Ok chosen) next = next chosen
 
 -- of the experiment that a request asks for, on a program with its line table and an input
-abbrev pub asked_verdict : Asked → (Experiment Guest → Verdict) → List ℕ → ImageParts → Table → Verdict
+abbrev pub asked_verdict : Request → (Experiment Guest → Verdict) → List ℕ → ImageParts → Table → Verdict
 asked_verdict asked print input image table =
     chosen_verdict (chosen (lines_in table image.areas) asked) (λ choice.
     print (experiment_of image table input (choice_of choice.selected asked.speedup asked.budget) choice.points))
 
 -- on a program's file
-abbrev pub file_verdict : Asked → (Experiment Guest → Verdict) → List ℕ → List ℕ → Verdict
+abbrev pub file_verdict : Request → (Experiment Guest → Verdict) → List ℕ → List ℕ → Verdict
 file_verdict asked print file input = program_verdict file (asked_verdict asked print input)
 
 -- of a path's file that may have so many bytes, and of what follows where it is there and has no more
@@ -91,7 +91,7 @@ input_verdict None held next = next []
 input_verdict (Some path) held next = read_verdict 16777216 path (file_at held path) next
 
 -- of an experiment, by what is printed of it
-abbrev pub experiment_verdict : Asked → Held → (Experiment Guest → Verdict) → Verdict
+abbrev pub experiment_verdict : Request → Held → (Experiment Guest → Verdict) → Verdict
 experiment_verdict asked held print =
     read_verdict 33554432 asked.target (file_at held asked.target) (λ file.
     input_verdict asked.input held (file_verdict asked print file))
@@ -105,13 +105,13 @@ abbrev pub source_verdict : List ℕ → Result Program AsmFault → Verdict
 source_verdict name (Err fault) = refused 11 (source_line fault)
 source_verdict name (Ok program) = printed (written_file program name)
 
-abbrev pub command_verdict : Command → Asked → Held → Verdict
+abbrev pub command_verdict : Command → Request → Held → Verdict
 command_verdict Run asked held = experiment_verdict asked held (λ x. run_verdict (delayed_record x))
 command_verdict Really asked held = experiment_verdict asked held (λ x. really_verdict (shortened_record x))
 command_verdict Lines asked held = read_verdict 33554432 asked.target (file_at held asked.target) lines_verdict
 command_verdict Asm asked held = read_verdict 4194304 asked.target (file_at held asked.target) (λ source. source_verdict asked.target (assembled source))
 
-abbrev pub request_verdict : Option Asked → Held → Verdict
+abbrev pub request_verdict : Option Request → Held → Verdict
 request_verdict None held = refused 2 (codes "coz: usage")
 request_verdict (Some asked) held = command_verdict asked.command asked held
 

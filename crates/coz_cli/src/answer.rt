@@ -1,8 +1,7 @@
 ghost use Rattle.std.specs.Prelude.{◌≡◌, IfSome, IfNone};
 ghost use Rattle.coz_files.specs.Faults.{Rose};
 ghost use Rattle.coz_files.specs.Puts.{Puts};
-ghost use Rattle.run_words.specs.Request.{IsFit};
-ghost use Rattle.run_words.specs.Seen.{seen};
+ghost use Rattle.coz_words.specs.Request.{IsFit};
 ghost use Rattle.coz_cli.specs.Verdict.{command_verdict};
 ghost use Rattle.coz_cli.specs.Answer.{IsMemory, IsRead, Suits, Settles, text_bytes};
 
@@ -11,7 +10,7 @@ use crate::fault::Fault;
 use crate::lines::judge_lines;
 use crate::source::judge_source;
 use coz_files::{Files, PutAnswer, Sink};
-use run_words::{Command, Request};
+use coz_words::{Command, Request};
 use std::alloc::Global;
 
 /// A text that is to be written.
@@ -40,12 +39,12 @@ pub fn put_text<O: Sink>(out: &mut O, text: &Text) -> PutAnswer
 }
 
 /// What a request comes to, and the files that it names.
-pub fn judge<'r, F: Files>(alloc: Global, request: &'r Request<'r>, files: &mut F) -> Answer<'r>
-    requires { IsFit (seen request.now) }
+pub fn judge<'r, F: Files>(alloc: Global, request: &'r Request, files: &mut F) -> Answer<'r>
+    requires { IsFit request.now }
     ensures same { F.held files.new ≡ F.held files.old }
-    ensures suits { Suits (seen request.now) result }
+    ensures suits { Suits request.now result }
     ensures settled { IfSome (F.held files.old) (λ held. (IsMemory result → ⊥) →
-        Settles (command_verdict request.now.command (seen request.now) held) (F.faults files.old) (F.faults files.new) result) }
+        Settles (command_verdict request.now.command request.now held) (F.faults files.old) (F.faults files.new) result) }
     ensures untold { IsRead result → IfNone (F.held files.old) (Rose (F.faults files.old) (F.faults files.new)) }
     ensures no_fault { (IsRead result → ⊥) → F.faults files.new ≡ F.faults files.old }
 {

@@ -3,8 +3,7 @@ ghost use Rattle.coz_files.specs.Faults.{Rose};
 ghost use Rattle.line_index.specs.Index.{position_at};
 ghost use Rattle.progress_points.specs.Points.{point_in};
 ghost use Rattle.virtual_run.specs.Run.{IsChoice, experiment};
-ghost use Rattle.run_words.specs.Request.{IsFit};
-ghost use Rattle.run_words.specs.Seen.{seen};
+ghost use Rattle.coz_words.specs.Request.{IsFit};
 ghost use Rattle.coz_cli.specs.Selection.{chosen};
 ghost use Rattle.coz_cli.specs.Experiment.{choice_of};
 ghost use Rattle.coz_cli.specs.Found.{id_of};
@@ -20,7 +19,7 @@ use coz_files::Files;
 use coz_types::{Image, LineId};
 use guest_memory::Layout;
 use line_index::LineIndex;
-use run_words::Request;
+use coz_words::Request;
 use std::alloc::Global;
 use virtual_run::Choice;
 
@@ -42,24 +41,24 @@ pub enum Kind {
 /// What is written of a run of the program and the input that the request names.
 pub fn judge_experiment<'r, F: Files>(
     alloc: Global,
-    request: &'r Request<'r>,
+    request: &'r Request,
     kind: Kind,
     files: &mut F,
 ) -> Answer<'r>
-    requires fit { IsFit (seen request.now) }
+    requires fit { IsFit request.now }
     requires some_budget { 1 ≤ request.now.budget }
     ensures same { F.held files.new ≡ F.held files.old }
-    ensures suits { Suits (seen request.now) result }
+    ensures suits { Suits request.now result }
     ensures settled { IfSome (F.held files.old) (λ held. (IsMemory result → ⊥) →
-        Settles (experiment_verdict (seen request.now) held (print_of kind)) (F.faults files.old) (F.faults files.new) result) }
+        Settles (experiment_verdict request.now held (print_of kind)) (F.faults files.old) (F.faults files.new) result) }
     ensures untold { IsRead result → IfNone (F.held files.old) (Rose (F.faults files.old) (F.faults files.new)) }
     ensures no_fault { (IsRead result → ⊥) → F.faults files.new ≡ F.faults files.old }
 {
-    let file = read_file(alloc, files, request.target, MAX_PROGRAM)?;
-    let Some(path) = request.input else {
+    let file = read_file(alloc, files, request.target.text(), MAX_PROGRAM)?;
+    let Some(path) = &request.input else {
         return file_answer(alloc, &file, &[], request, kind);
     };
-    let input = read_file(alloc, files, path, MAX_INPUT)?;
+    let input = read_file(alloc, files, path.text(), MAX_INPUT)?;
     file_answer(alloc, &file, &input, request, kind)
 }
 
@@ -68,14 +67,14 @@ fn file_answer<'r>(
     alloc: Global,
     file: &[u8],
     input: &[u8],
-    request: &'r Request<'r>,
+    request: &'r Request,
     kind: Kind,
 ) -> Answer<'r>
     requires short { length file.now ≤ 33554432 }
-    requires fit { IsFit (seen request.now) }
+    requires fit { IsFit request.now }
     requires some_budget { 1 ≤ request.now.budget }
     ensures no_read { IsRead result → ⊥ }
-    ensures settled { (IsMemory result → ⊥) → answered result ≡ file_verdict (seen request.now) (print_of kind) file.now input.now }
+    ensures settled { (IsMemory result → ⊥) → answered result ≡ file_verdict request.now (print_of kind) file.now input.now }
 {
     let program = read_program(alloc, file)?;
     index_answer(alloc, &program.image, &program.index, input, request, kind)
@@ -87,14 +86,14 @@ fn index_answer<'r>(
     image: &Image,
     index: &LineIndex,
     input: &[u8],
-    request: &'r Request<'r>,
+    request: &'r Request,
     kind: Kind,
 ) -> Answer<'r>
-    requires fit { IsFit (seen request.now) }
+    requires fit { IsFit request.now }
     requires some_budget { 1 ≤ request.now.budget }
     ensures no_read { IsRead result → ⊥ }
     ensures settled { (IsMemory result → ⊥) → answered result ≡
-        chosen_verdict (chosen index.now.lines (seen request.now)) (λ c.
+        chosen_verdict (chosen index.now.lines request.now) (λ c.
         print_of kind (experiment image.now (position_at index.now) (point_in index.now.entries c.points) input.now
         (choice_of c.selected request.now.speedup request.now.budget))) }
 {

@@ -18,7 +18,7 @@ pub enum Fault<'a> {
     Read(&'a str),
     Write,
     /// A line that is named is none of the program's.
-    NoLine(&'a str),
+    NoLine(&'a [u8]),
     ManyPoints(u64),
     Long(&'a str),
     Memory,

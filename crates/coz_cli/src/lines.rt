@@ -1,7 +1,6 @@
 ghost use Rattle.std.specs.Prelude.{◌≡◌, ◌≤◌, length, IfSome, IfNone};
 ghost use Rattle.coz_files.specs.Faults.{Rose};
-ghost use Rattle.run_words.specs.Seen.{seen};
-ghost use Rattle.run_words.specs.declared.Command.TheVariants.{Lines};
+ghost use Rattle.coz_words.specs.declared.command.Command.TheVariants.{Lines};
 ghost use Rattle.coz_cli.specs.Verdict.{command_verdict, lines_verdict};
 ghost use Rattle.coz_cli.specs.Answer.{answered, IsMemory, IsRead, Suits, Settles};
 
@@ -9,23 +8,23 @@ use crate::answer::{Answer, Printed, Text};
 use crate::lines_text::lines_text;
 use crate::program::{MAX_PROGRAM, read_file, read_program};
 use coz_files::Files;
-use run_words::Request;
+use coz_words::Request;
 use std::alloc::Global;
 
 /// What is written of the lines of the program that the request names.
 pub fn judge_lines<'r, F: Files>(
     alloc: Global,
-    request: &'r Request<'r>,
+    request: &'r Request,
     files: &mut F,
 ) -> Answer<'r>
     ensures same { F.held files.new ≡ F.held files.old }
-    ensures suits { Suits (seen request.now) result }
+    ensures suits { Suits request.now result }
     ensures settled { IfSome (F.held files.old) (λ held. (IsMemory result → ⊥) →
-        Settles (command_verdict Lines (seen request.now) held) (F.faults files.old) (F.faults files.new) result) }
+        Settles (command_verdict Lines request.now held) (F.faults files.old) (F.faults files.new) result) }
     ensures untold { IsRead result → IfNone (F.held files.old) (Rose (F.faults files.old) (F.faults files.new)) }
     ensures no_fault { (IsRead result → ⊥) → F.faults files.new ≡ F.faults files.old }
 {
-    let file = read_file(alloc, files, request.target, MAX_PROGRAM)?;
+    let file = read_file(alloc, files, request.target.text(), MAX_PROGRAM)?;
     lines_answer(alloc, &file)
 }
 

@@ -1,8 +1,7 @@
 ghost use Rattle.std.specs.Prelude.{◌≡◌, ◌≤◌, length, IfSome, IfNone};
 ghost use Rattle.coz_files.specs.Faults.{Rose};
 ghost use Rattle.image_write.specs.File.{IsName};
-ghost use Rattle.run_words.specs.Seen.{seen};
-ghost use Rattle.run_words.specs.declared.Command.TheVariants.{Asm};
+ghost use Rattle.coz_words.specs.declared.command.Command.TheVariants.{Asm};
 ghost use Rattle.rv_asm.specs.Assembled.{assembled};
 ghost use Rattle.coz_cli.specs.Verdict.{command_verdict, source_verdict};
 ghost use Rattle.coz_cli.specs.Answer.{answered, IsMemory, IsRead, Suits, Settles};
@@ -11,7 +10,7 @@ use crate::answer::{Answer, Printed, Text};
 use crate::program::read_file;
 use coz_files::Files;
 use image_write::write_elf;
-use run_words::Request;
+use coz_words::Request;
 use rv_asm::assemble;
 use std::alloc::Global;
 
@@ -21,19 +20,19 @@ const MAX_SOURCE: u64 = 4194304;
 /// What is written of the source that the request names.
 pub fn judge_source<'r, F: Files>(
     alloc: Global,
-    request: &'r Request<'r>,
+    request: &'r Request,
     files: &mut F,
 ) -> Answer<'r>
-    requires named { IsName request.now.target.now }
+    requires named { IsName request.now.target }
     ensures same { F.held files.new ≡ F.held files.old }
-    ensures suits { Suits (seen request.now) result }
+    ensures suits { Suits request.now result }
     ensures settled { IfSome (F.held files.old) (λ held. (IsMemory result → ⊥) →
-        Settles (command_verdict Asm (seen request.now) held) (F.faults files.old) (F.faults files.new) result) }
+        Settles (command_verdict Asm request.now held) (F.faults files.old) (F.faults files.new) result) }
     ensures untold { IsRead result → IfNone (F.held files.old) (Rose (F.faults files.old) (F.faults files.new)) }
     ensures no_fault { (IsRead result → ⊥) → F.faults files.new ≡ F.faults files.old }
 {
-    let source = read_file(alloc, files, request.target, MAX_SOURCE)?;
-    source_answer(alloc, &source, request.target)
+    let source = read_file(alloc, files, request.target.text(), MAX_SOURCE)?;
+    source_answer(alloc, &source, request.target.text())
 }
 
 /// The file of what a source stands for, with the source's name in it.

@@ -1,6 +1,5 @@
 use Rattle.std.proofs.Common.{◌∙◌}
 use Rattle.dwarf_lines.specs.Registers.{view}
-use Rattle.run_words.specs.Seen.{seen}
 use Rattle.coz_cli.specs.Kind.{print_of}
 use Rattle.coz_cli.specs.Verdict.{asked_verdict}
 use Rattle.coz_cli.proofs.Indexed.{indexed}
@@ -8,7 +7,7 @@ use Rattle.coz_cli.proofs.experiment.file_answer.Goals as goal
 
 pub returns-clause-settled : goal.returns-clause-settled
 returns-clause-settled c = λ other.
-    let asked = seen c.args.request.now in
+    let asked = c.args.request.now in
     let print = print_of c.args.kind in
     let input = c.args.input.now in
     let program = c.in_ok-program.program in

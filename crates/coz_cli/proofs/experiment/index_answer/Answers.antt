@@ -1,7 +1,6 @@
 use Rattle.std.proofs.Common.{◌∙◌, ap, sym, option_map}
 use Rattle.line_index.specs.Index.{position_at}
 use Rattle.progress_points.specs.Points.{point_of, point_in}
-use Rattle.run_words.specs.Seen.{seen}
 use Rattle.virtual_run.specs.Run.{experiment}
 use Rattle.coz_cli.specs.declared.experiment.Kind.{Kind}
 use Rattle.coz_cli.specs.Experiment.{choice_of}
@@ -14,7 +13,7 @@ use Rattle.coz_cli.proofs.experiment.index_answer.Goals as goal
 pub returns-in-Delayed-clause-settled : goal.returns-in-Delayed-clause-settled
 returns-in-Delayed-clause-settled c = λ other.
     let index = c.args.index.now in
-    let asked = seen c.args.request.now in
+    let asked = c.args.request.now in
     let chosen = c.in_ok-chosen.chosen in
     c.run_answer.ensures.settled other
     ∙ ap (λ (kind : Kind). print_of kind (experiment c.args.image.now (position_at index) (point_of chosen.points) c.args.input.now c.choice-choice.result)) (sym c.in-Delayed.is)
@@ -24,7 +23,7 @@ returns-in-Delayed-clause-settled c = λ other.
 pub returns-clause-settled : goal.returns-clause-settled
 returns-clause-settled c = λ other.
     let index = c.args.index.now in
-    let asked = seen c.args.request.now in
+    let asked = c.args.request.now in
     let chosen = c.in_ok-chosen.chosen in
     c.really_answer.ensures.settled other
     ∙ ap (λ (kind : Kind). print_of kind (experiment c.args.image.now (position_at index) (point_of chosen.points) c.args.input.now c.choice-choice.result)) (sym c.in-Shortened.is)

@@ -11,4 +11,4 @@ pub returns-in-Memory : goal.returns-in-Memory
 returns-in-Memory g c = rw c.in-Memory.is c.put_three-in-Memory.ensures
 
 pub returns-in-NoLine : goal.returns-in-NoLine
-returns-in-NoLine g c = rw c.in-NoLine.is (rw c.as_bytes-in-NoLine.ensures.value at c.put_three-in-NoLine.ensures)
+returns-in-NoLine g c = rw c.in-NoLine.is c.put_three-in-NoLine.ensures
