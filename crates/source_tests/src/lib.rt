@@ -2,6 +2,8 @@
 #![tactic(auto)]
 
 #[cfg(test)]
+mod coz_words_tests;
+#[cfg(test)]
 mod image_write_tests;
 #[cfg(test)]
 mod run_words_tests;

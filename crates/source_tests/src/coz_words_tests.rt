@@ -1,0 +1,280 @@
+use coz_words::{Command, Request, Word, WordsError, read_words};
+use std::alloc::{AllocError, Global};
+use std::test::Fail;
+
+fn words_of(alloc: Global, texts: &[&str]) -> Result<Vec<String>, AllocError> {
+    let mut words = Vec::new(alloc);
+    for text in texts {
+        words.push(String::from_str(alloc, *text)?)?;
+    }
+    Ok(words)
+}
+
+/// What a request's fields are to be; the others are to be `None`, 0 or empty.
+#[derive(Clone, Copy)]
+struct Wanted {
+    command: Command,
+    target: &'static str,
+    input: Option<&'static str>,
+    line: Option<&'static str>,
+    speedup: u8,
+    progress: Option<&'static str>,
+    budget: u64,
+}
+
+const RUN: Wanted = Wanted {
+    command: Command::Run,
+    target: "one",
+    input: None,
+    line: None,
+    speedup: 0,
+    progress: None,
+    budget: 100000000,
+};
+
+const PLAIN: Wanted = Wanted { budget: 0, ..RUN };
+
+const TAKEN: [(&[&str], Wanted); 22] = [
+    (&["run", "one"], RUN),
+    (&["run", "--", "one"], RUN),
+    (&["run", "one", "--"], RUN),
+    (&["run", "--budget=3", "one"], Wanted { budget: 3, ..RUN }),
+    (
+        &["run", "--", "--"],
+        Wanted {
+            target: "--",
+            ..RUN
+        },
+    ),
+    (
+        &["run", "one", "--input=-x"],
+        Wanted {
+            input: Some("-x"),
+            ..RUN
+        },
+    ),
+    (&["run", "-"], Wanted { target: "-", ..RUN }),
+    (
+        &["run", "one", "--input", "-"],
+        Wanted {
+            input: Some("-"),
+            ..RUN
+        },
+    ),
+    (
+        &["run", "one", "--input=="],
+        Wanted {
+            input: Some("="),
+            ..RUN
+        },
+    ),
+    (
+        &["run", "one", "--input=a=b"],
+        Wanted {
+            input: Some("a=b"),
+            ..RUN
+        },
+    ),
+    (
+        &["run", "one", "--budget=00000000000000000003"],
+        Wanted { budget: 3, ..RUN },
+    ),
+    (
+        &["run", "one", "--budget", "1000000000000"],
+        Wanted {
+            budget: 1000000000000,
+            ..RUN
+        },
+    ),
+    (
+        &["run", "one", "--line", "a b:c:007"],
+        Wanted {
+            line: Some("a b:c:007"),
+            ..RUN
+        },
+    ),
+    (
+        &["run", "--speedup", "95", "one", "--line=a:4294967295"],
+        Wanted {
+            line: Some("a:4294967295"),
+            speedup: 95,
+            ..RUN
+        },
+    ),
+    (
+        &["run", "one", "--progress", "a:1,b:2,a:1"],
+        Wanted {
+            progress: Some("a:1,b:2,a:1"),
+            ..RUN
+        },
+    ),
+    (
+        &[
+            "really",
+            "--progress=b:2",
+            "--line",
+            "a:1",
+            "one",
+            "--speedup=5",
+            "--budget",
+            "9",
+            "--input=data",
+        ],
+        Wanted {
+            command: Command::Really,
+            input: Some("data"),
+            line: Some("a:1"),
+            speedup: 5,
+            progress: Some("b:2"),
+            budget: 9,
+            ..RUN
+        },
+    ),
+    (
+        &["lines", "one"],
+        Wanted {
+            command: Command::Lines,
+            ..PLAIN
+        },
+    ),
+    (
+        &["lines", "one", "--"],
+        Wanted {
+            command: Command::Lines,
+            ..PLAIN
+        },
+    ),
+    (
+        &["lines", "--", "-one"],
+        Wanted {
+            command: Command::Lines,
+            target: "-one",
+            ..PLAIN
+        },
+    ),
+    (
+        &["asm", "one"],
+        Wanted {
+            command: Command::Asm,
+            ..PLAIN
+        },
+    ),
+    (
+        &["asm", "--", "one"],
+        Wanted {
+            command: Command::Asm,
+            ..PLAIN
+        },
+    ),
+    (
+        &["asm", "-"],
+        Wanted {
+            command: Command::Asm,
+            target: "-",
+            ..PLAIN
+        },
+    ),
+];
+
+fn is_text(word: &Option<Word>, text: Option<&str>) -> bool {
+    match (word, text) {
+        (Some(word), Some(text)) => word.text() == text,
+        (None, None) => true,
+        _ => false,
+    }
+}
+
+fn is_wanted(request: &Request, wanted: &Wanted) -> bool {
+    request.command == wanted.command
+        && request.target.text() == wanted.target
+        && is_text(&request.input, wanted.input)
+        && is_text(&request.line, wanted.line)
+        && request.speedup == wanted.speedup
+        && is_text(&request.progress, wanted.progress)
+        && request.budget == wanted.budget
+        && request.lines.is_none()
+        && request.speedups.len() == 0
+        && request.workers == 0
+        && request.seed == 0
+        && request.size == 0
+}
+
+#[test]
+fn takes_words(rt: HostRuntime) -> Result<(), Fail> {
+    let alloc = rt.alloc();
+    for (texts, wanted) in TAKEN {
+        let words = words_of(alloc, texts)?;
+        let is_taken = match read_words(alloc, words.as_slice()) {
+            Ok(request) => is_wanted(&request, &wanted),
+            Err(_) => false,
+        };
+        assert!(rt; is_taken, "{texts:?}");
+    }
+    Ok(())
+}
+
+const REFUSED: [&[&str]; 49] = [
+    &[],
+    &[""],
+    &["walk", "one"],
+    &["run"],
+    &["run", "--"],
+    &["run", ""],
+    &["run", "-one"],
+    &["run", "---"],
+    &["run", "o\0e"],
+    &["run", "one", "two"],
+    &["run", "one", "--", "two"],
+    &["run", "one", "--", "--budget"],
+    &["run", "--budget", "--", "one"],
+    &["run", "one", "-h"],
+    &["run", "--help"],
+    &["--version"],
+    &["run", "--version"],
+    &["run", "one", "--in=x"],
+    &["run", "--input"],
+    &["run", "one", "--input="],
+    &["run", "one", "--input", ""],
+    &["run", "one", "--input", "-x"],
+    &["run", "one", "--budget", "2", "--budget", "2"],
+    &["run", "one", "--budget", "0"],
+    &["run", "one", "--budget", "1000000000001"],
+    &["run", "one", "--budget", "x"],
+    &["run", "one", "--budget=000000000000000000003"],
+    &["run", "one", "--line", ":3"],
+    &["run", "one", "--line", "a:0"],
+    &["run", "one", "--line", "a:1:"],
+    &["run", "one", "--line", "a,b:3"],
+    &["run", "one", "--line", "a:4294967296"],
+    &["run", "one", "--line=a:1", "--line=a:1"],
+    &["run", "one", "--line=a:1", "--speedup=96"],
+    &["run", "one", "--line=a:1", "--speedup=-1"],
+    &["run", "one", "--line", "a:1", "--speedup", "-1"],
+    &["run", "one", "--speedup", "0"],
+    &["run", "one", "--progress", "a:1,"],
+    &["run", "one", "--progress", ",a:1"],
+    &["run", "one", "--progress", "a:1,,b:2"],
+    &["run", "one", "--lines", "a:1"],
+    &["run", "one", "--workers", "1"],
+    &["lines"],
+    &["lines", "one", "two"],
+    &["lines", "one", "--budget", "3"],
+    &["asm", "one", "--input=data"],
+    &["profile", "one"],
+    &["plot", "one"],
+    &["trial", "1"],
+];
+
+#[test]
+fn refuses_words(rt: HostRuntime) -> Result<(), Fail> {
+    let alloc = rt.alloc();
+    for texts in REFUSED {
+        let words = words_of(alloc, texts)?;
+        let is_refused = match read_words(alloc, words.as_slice()) {
+            Ok(_) => false,
+            Err(error) => error == WordsError::Usage,
+        };
+        assert!(rt; is_refused, "{texts:?}");
+    }
+    Ok(())
+}
