@@ -1,3 +1,4 @@
+pub mod Examples
 pub mod Turns
 pub mod Walks
 pub mod Agree
