@@ -1,11 +1,7 @@
 -- The printed texts.
-use Rattle.std.specs.Prelude.{ℕ, ◌+◌, ◌-◌, List, [], ◌∷◌, ◌++◌, length, codes, decimal, false}
+use Rattle.std.specs.Prelude.{ℕ, ◌+◌, ◌-◌, List, [], ◌∷◌, ◌++◌, length, codes, decimal}
 use Rattle.std.specs.List.{flat_map}
-use Rattle.std.specs.Fmt.{digits}
-use Rattle.coz_types.specs.declared.ending.Ending.{Ending}
-use Rattle.coz_types.specs.declared.ending.Ending.TheVariants.{Exited, Trapped, Unsupported, OutputFull, VisitsFull, Stalled, Spent}
-use Rattle.coz_types.specs.declared.ending.TrapCause.{TrapCause}
-use Rattle.coz_types.specs.declared.ending.TrapCause.TheVariants.{Fetch, Illegal, Misaligned, Access, Break}
+use Rattle.coz_types.specs.Endings.{address_text, ending_text}
 use Rattle.coz_types.specs.declared.image.Area.{Area}
 use Rattle.machines.specs.Delayed.{Account, Visit}
 use Rattle.machines.specs.Shortened.{NetVisit}
@@ -13,25 +9,6 @@ use Rattle.machines.specs.Records.{Record, NetRecord}
 use Rattle.dwarf_lines.specs.Registers.{Table}
 use Rattle.line_index.specs.Lines.{Line, label}
 use Rattle.line_index.specs.Listed.{lines_in, entries_in}
-
-abbrev pub cause_text : TrapCause → List ℕ
-cause_text Fetch = codes "fetch"
-cause_text Illegal = codes "illegal"
-cause_text Misaligned = codes "misaligned"
-cause_text Access = codes "access"
-cause_text Break = codes "break"
-
-abbrev pub address_text : ℕ → List ℕ
-address_text address = codes "0x" ++ digits 16 false address
-
-abbrev pub ending_text : Ending → List ℕ
-ending_text (Exited code) = codes "exited:" ++ decimal code
-ending_text (Trapped trap) = codes "trapped:" ++ cause_text trap.cause ++ codes ":" ++ decimal trap.hart.0 ++ codes ":" ++ address_text trap.pc
-ending_text (Unsupported number) = codes "unsupported:" ++ decimal number
-ending_text OutputFull = codes "output-full"
-ending_text VisitsFull = codes "visits-full"
-ending_text Stalled = codes "stalled"
-ending_text Spent = codes "spent"
 
 -- a name and a number on a line
 abbrev pub number_line : List ℕ → ℕ → List ℕ

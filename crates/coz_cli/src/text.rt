@@ -1,7 +1,8 @@
 ghost use Rattle.std.specs.Prelude.{◌≡◌, ◌++◌, ◌≤◌, codes, decimal, map, OnOk, IfOk, All};
 ghost use Rattle.delay_credits.specs.Delays.{account_as};
 ghost use Rattle.virtual_run.specs.DelayedRun.{visit_as};
-ghost use Rattle.coz_cli.specs.Text.{cause_text, address_text, ending_text, number_line, outcome_text, hart_text, harts_text, visit_text, visits_text, output_text, run_text};
+ghost use Rattle.coz_types.specs.Endings.{cause_text, address_text, ending_text};
+ghost use Rattle.coz_cli.specs.Text.{number_line, outcome_text, hart_text, harts_text, visit_text, visits_text, output_text, run_text};
 ghost use Rattle.coz_cli.specs.Record.{record_of};
 ghost use Rattle.coz_types.specs.declared.record.Visit.{Visit};
 

@@ -34,7 +34,7 @@ const RUN: Wanted = Wanted {
 
 const PLAIN: Wanted = Wanted { budget: 0, ..RUN };
 
-const TAKEN: [(&[&str], Wanted); 22] = [
+static TAKEN: [(&[&str], Wanted); 22] = [
     (&["run", "one"], RUN),
     (&["run", "--", "one"], RUN),
     (&["run", "one", "--"], RUN),
@@ -213,7 +213,7 @@ fn takes_words(rt: HostRuntime) -> Result<(), Fail> {
     Ok(())
 }
 
-const REFUSED: [&[&str]; 49] = [
+static REFUSED: [&[&str]; 49] = [
     &[],
     &[""],
     &["walk", "one"],

@@ -4,8 +4,8 @@
 #[cfg(test)]
 mod coz_words_tests;
 #[cfg(test)]
-mod image_write_tests;
+mod experiment_plan_tests;
 #[cfg(test)]
-mod run_words_tests;
+mod image_write_tests;
 #[cfg(test)]
 mod rv_asm_tests;
