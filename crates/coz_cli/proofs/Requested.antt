@@ -1,5 +1,5 @@
 -- What is answered of the words is the request that their definition computes.
-use Rattle.std.proofs.Common.{◌≡◌, List, ℕ, Option, Some, None, Result, Ok, Err, IfOk, refl, sym}
+use Rattle.std.proofs.Common.{◌≡◌, List, ℕ, Option, Some, None, Result, Ok, Err, IfOk, refl}
 use Rattle.coz_words.specs.Answers.{Answers}
 use Rattle.coz_words.specs.Request.{Requests}
 use Rattle.coz_words.specs.declared.request.Request.{Request}

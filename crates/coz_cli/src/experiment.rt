@@ -17,9 +17,9 @@ use crate::runs::{really_answer, run_answer};
 use crate::selection::choose;
 use coz_files::Files;
 use coz_types::{Image, LineId};
+use coz_words::Request;
 use guest_memory::Layout;
 use line_index::LineIndex;
-use coz_words::Request;
 use std::alloc::Global;
 use virtual_run::Choice;
 

@@ -123,9 +123,7 @@ fn put_line<S: Sink>(sink: &mut S, fault: Fault) -> PutAnswer
         Fault::Lines(fault) => put_table(sink, fault),
         Fault::Read(path) => put_three(sink, b"coz: read: ", path.as_bytes(), b"\n"),
         Fault::Write => put_three(sink, b"coz: write", b"", b"\n"),
-        Fault::NoLine(piece) => {
-            put_three(sink, b"coz: selection: no line ", piece, b"\n")
-        }
+        Fault::NoLine(piece) => { put_three(sink, b"coz: selection: no line ", piece, b"\n") }
         Fault::ManyPoints(count) => put_points(sink, count),
         Fault::Long(path) => put_three(sink, b"coz: long: ", path.as_bytes(), b"\n"),
         Fault::Memory => put_three(sink, b"coz: memory", b"", b"\n"),

@@ -12,11 +12,7 @@ use coz_words::Request;
 use std::alloc::Global;
 
 /// What is written of the lines of the program that the request names.
-pub fn judge_lines<'r, F: Files>(
-    alloc: Global,
-    request: &'r Request,
-    files: &mut F,
-) -> Answer<'r>
+pub fn judge_lines<'r, F: Files>(alloc: Global, request: &'r Request, files: &mut F) -> Answer<'r>
     ensures same { F.held files.new ≡ F.held files.old }
     ensures suits { Suits request.now result }
     ensures settled { IfSome (F.held files.old) (λ held. (IsMemory result → ⊥) →

@@ -13,10 +13,10 @@ ghost use Rattle.coz_cli.specs.Answer.{follows, IsMemory, IsRead};
 
 use crate::fault::Fault;
 use coz_types::LineId;
-use line_index::LineIndex;
-use progress_points::Points;
 use coz_words::{Request, Word};
 use experiment_plan::{first_piece, line_parts};
+use line_index::LineIndex;
+use progress_points::Points;
 use std::alloc::{AllocError, Global};
 
 /// Why lines that are named are not chosen.

@@ -9,8 +9,8 @@ ghost use Rattle.coz_cli.specs.Answer.{answered, IsMemory, IsRead, Suits, Settle
 use crate::answer::{Answer, Printed, Text};
 use crate::program::read_file;
 use coz_files::Files;
-use image_write::write_elf;
 use coz_words::Request;
+use image_write::write_elf;
 use rv_asm::assemble;
 use std::alloc::Global;
 
@@ -18,11 +18,7 @@ use std::alloc::Global;
 const MAX_SOURCE: u64 = 4194304;
 
 /// What is written of the source that the request names.
-pub fn judge_source<'r, F: Files>(
-    alloc: Global,
-    request: &'r Request,
-    files: &mut F,
-) -> Answer<'r>
+pub fn judge_source<'r, F: Files>(alloc: Global, request: &'r Request, files: &mut F) -> Answer<'r>
     requires named { IsName request.now.target }
     ensures same { F.held files.new ≡ F.held files.old }
     ensures suits { Suits request.now result }
