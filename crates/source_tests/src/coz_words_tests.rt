@@ -278,3 +278,18 @@ fn refuses_words(rt: HostRuntime) -> Result<(), Fail> {
     }
     Ok(())
 }
+
+#[test]
+fn a_word_has_at_most_131072_bytes(rt: HostRuntime) -> Result<(), Fail> {
+    let alloc = rt.alloc();
+    let mut path = String::new(alloc);
+    for _ in 0..131072 {
+        path.push('a')?;
+    }
+    let longest = words_of(alloc, &["lines", path.as_str()])?;
+    assert!(rt; read_words(alloc, &longest).is_ok());
+    path.push('a')?;
+    let longer = words_of(alloc, &["lines", path.as_str()])?;
+    assert!(rt; matches!(&read_words(alloc, &longer), Err(WordsError::Usage)));
+    Ok(())
+}

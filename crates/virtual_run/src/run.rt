@@ -29,7 +29,7 @@ const FIRST: HartId = HartId(0);
 #[derive(Drop)]
 pub struct Run<'a> {
     pub(crate) guest: Guest<'a>,
-    /// When each running hart retires, in net ticks.
+    /// When each running hart retires, in net ticks. A raise changes none of these moments, so it touches no key.
     pub(crate) schedule: Schedule,
     /// The harts that the last retirement made or woke, in order.
     pub(crate) started: HartList,
