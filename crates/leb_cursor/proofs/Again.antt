@@ -33,7 +33,7 @@ word_again n place rest lt = number_back w32 n place (to_le_bytes w32 n) rest re
 pub double_again : (n place : ℕ) (rest : List ℕ) → n < 2 ^ 64 → number_at w64 (ahead place (to_le_bytes w64 n ++ rest)) ≡ Ok (n, ahead (place + 8) rest)
 double_again n place rest lt = number_back w64 n place (to_le_bytes w64 n) rest refl (from_le_bytes-to_le_bytes_8 n lt)
 
-zero_place : (x rest : List ℕ) → AllByRecursion (λ b. 0 < b) x → position (λ b. b == 0) ((x ++ 0 ∷ []) ++ rest) ≡ Some (length x)
+pub zero_place : (x rest : List ℕ) → AllByRecursion (λ b. 0 < b) x → position (λ b. b == 0) ((x ++ 0 ∷ []) ++ rest) ≡ Some (length x)
 zero_place [] rest all = position_step (λ b. b == 0) 0 rest
 zero_place (b ∷ bs) rest all =
     let large : (b == 0) ≡ false = ne_eqb b 0 (λ e. omega (arith, all.0)) in

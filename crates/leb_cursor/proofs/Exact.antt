@@ -166,7 +166,7 @@ positive (suc b) e = omega arith
 zero_is : (b : ℕ) → (b == 0) ≡ true → b ≡ 0
 zero_is b e = eqb-true b 0 e
 
-text_of : (bytes : List ℕ) (k : ℕ) → position (λ b. b == 0) bytes ≡ Some k → IsTextOf bytes k
+pub text_of : (bytes : List ℕ) (k : ℕ) → position (λ b. b == 0) bytes ≡ Some k → IsTextOf bytes k
 text_of [] k e = absurd cc
 text_of (b ∷ bs) k e =
     elim (chosen (b == 0) (Some 0) (option_map suc (position (λ b. b == 0) bs)) (Some k) (sym (position_step (λ b. b == 0) b bs) ∙ e)) [

@@ -65,7 +65,7 @@ impl<'a> Cursor<'a> {
     }
 
     /// The next so many bytes.
-    fn take(&mut self, count: u64) -> Result<&'a [u8], Short>
+    pub fn take(&mut self, count: u64) -> Result<&'a [u8], Short>
         ensures { Reads (λ x. x.now) result self.old self.new (bytes_at count self.old) }
     {
         if self.left() < count {
