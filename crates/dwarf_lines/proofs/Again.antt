@@ -1,8 +1,8 @@
 -- What is spelled so is read again, whatever follows.
-use Rattle.std.proofs.Common.{◌≡◌, ◌≢◌, ℕ, zero, suc, ◌+◌, ◌-◌, ◌^◌, ◌<◌, ◌≤◌, inl, inr, Bool, true, false, nat_lt, List, [], ◌∷◌, ◌++◌, length, get_or, Result, Ok, refl, sym, ap, subst, ◌∙◌, arith, append_assoc}
+use Rattle.std.proofs.Common.{◌≡◌, ◌≢◌, ℕ, zero, suc, ◌+◌, ◌-◌, ◌^◌, ◌<◌, ◌≤◌, inl, inr, Bool, true, false, nat_lt, ◌==◌, List, [], ◌∷◌, ◌++◌, length, get_or, Result, Ok, refl, sym, ap, subst, ◌∙◌, arith, append_assoc}
 use Rattle.std.specs.List.{concat}
 use Rattle.std.specs.Int.{w16, w64, to_le_bytes}
-use Rattle.std.proofs.lemmas.Bool.{lt-ltb, le-ltb}
+use Rattle.std.proofs.lemmas.Bool.{lt-ltb, le-ltb, ne_eqb}
 use Rattle.std.proofs.lemmas.List.{length-append}
 use Rattle.std.proofs.lemmas.Nat.{from_le_bytes-to_le_bytes_8}
 use Rattle.leb_cursor.specs.Ahead.{Ahead, Reading, ◌>>=◌}
@@ -99,11 +99,13 @@ extended_back h op place bytes code rest some is reads =
     standard_back h op 0 place code rest (size ++ bytes) is.1 some
     (rw (parts, unsigned_back (length bytes) (place + 1) size (bytes ++ rest) is.2, part_again (length bytes) (place + 1 + length size) bytes rest refl, reads (place + 1 + length size)) (ap (λ (p : ℕ). Ok (op, ahead p rest)) sum))
 
-other_body : (h : Header) (place e p : ℕ) (bytes : List ℕ) → e ≢ 1 → e ≢ 2 → e ≢ 3 → body h place (ahead p (e ∷ bytes)) ≡ Ok Pass
+other_body : (h : Header) (place e p : ℕ) (bytes : List ℕ) → e ≢ 1 → e ≢ 2 → (e ≡ 3 → h.version ≡ 5) → body h place (ahead p (e ∷ bytes)) ≡ Ok Pass
 other_body h place zero p bytes not1 not2 not3 = rw (byte_again 0 p bytes) refl
 other_body h place (suc zero) p bytes not1 not2 not3 = absurd (not1 refl)
 other_body h place (suc (suc zero)) p bytes not1 not2 not3 = absurd (not2 refl)
-other_body h place (suc (suc (suc zero))) p bytes not1 not2 not3 = absurd (not3 refl)
+other_body h place (suc (suc (suc zero))) p bytes not1 not2 not3 =
+    let five : (h.version == 5) ≡ true = ap (λ (x : ℕ). x == 5) (not3 refl) in
+    rw (byte_again 3 p bytes, five) refl
 other_body h place (suc (suc (suc (suc k)))) p bytes not1 not2 not3 = rw (byte_again (suc (suc (suc (suc k)))) p bytes) refl
 
 end_body : (h : Header) (place p : ℕ) (spare : List ℕ) → body h place (ahead p (1 ∷ spare)) ≡ Ok EndSequence
@@ -112,8 +114,10 @@ end_body h place p spare = rw (byte_again 1 p spare) refl
 address_body : (h : Header) (place p a : ℕ) → a < 2 ^ 64 → body h place (ahead p (2 ∷ to_le_bytes w64 a)) ≡ Ok (SetAddress a)
 address_body h place p a lt = ap (λ (n : ℕ). Ok (SetAddress n)) (from_le_bytes-to_le_bytes_8 a lt)
 
-file_body : (h : Header) (place p : ℕ) (f : File) (code spare : List ℕ) → SpellsFile h.directories f code → body h place (ahead p (3 ∷ (code ++ spare))) ≡ Ok (DefineFile f)
-file_body h place p f code spare is = rw (byte_again 3 p (code ++ spare), file_back h.directories f (p + 1) code spare is) refl
+file_body : (h : Header) (place p : ℕ) (f : File) (code spare : List ℕ) → SpellsFile h.directories f code → h.version ≢ 5 → body h place (ahead p (3 ∷ (code ++ spare))) ≡ Ok (DefineFile f)
+file_body h place p f code spare is before =
+    let old : (h.version == 5) ≡ false = ne_eqb h.version 5 before in
+    rw (byte_again 3 p (code ++ spare), old, file_back h.directories f (p + 1) code spare is) refl
 
 -- ---- every operation
 
@@ -175,7 +179,7 @@ operation_again h (FixedAdvancePc n) place code rest some is = std h (FixedAdvan
 operation_again h (Special o) place code rest some is = special_back h o place code rest is.0 is.1
 operation_again h EndSequence place code rest some is = extended_back h EndSequence place (1 ∷ is.0) code rest some is.1 (λ p. end_body h place p is.0)
 operation_again h (SetAddress a) place code rest some is = extended_back h (SetAddress a) place (2 ∷ to_le_bytes w64 a) code rest some is.0 (λ p. address_body h place p a is.1)
-operation_again h (DefineFile f) place code rest some is = extended_back h (DefineFile f) place ((3 ∷ is.0) ++ is.1) code rest some is.2 (λ p. file_body h place p f is.0 is.1 is.3)
+operation_again h (DefineFile f) place code rest some is = extended_back h (DefineFile f) place ((3 ∷ is.0) ++ is.1) code rest some is.2 (λ p. file_body h place p f is.0 is.1 is.3 is.4)
 operation_again h Pass place code rest some is = passed_back h place code rest some is
 
 -- a spelled program is read

@@ -1,10 +1,15 @@
 -- A section with four rows, and its cuts.
 use Rattle.std.proofs.Common.{◌≡◌, pos, inr, lit<, lit≤, arith, ℕ, ◌-◌, List, [], ◌∷◌, ◌++◌, take, drop, set, refl, Some, None, Ok, Err, true, false, map, replicate}
+use Rattle.leb_cursor.specs.Ahead.{◌>>=◌}
 use Rattle.dwarf_lines.specs.declared.LineKind.TheVariants as kinds
 use Rattle.dwarf_lines.specs.Registers.{Header, AdvancePc, empty_table}
 use Rattle.dwarf_lines.specs.Spelling.{IsTable, Spells}
 use Rattle.dwarf_lines.specs.Law.{line_fault}
-use Rattle.dwarf_lines.specs.Reading.{fault, texts, files, pass, header, operation, program, unit_body, unit, units, reading}
+use Rattle.dwarf_lines.specs.Names.{Strings, strings, form_for}
+use Rattle.dwarf_lines.specs.Reading.{fault, texts, files, pass, header, operation, program, unit_body, unit, units, reading, formats, entries, listed, values}
+
+abbrev none : Strings
+none = strings [] []
 
 abbrev pub section : List ℕ
 section = 67 ∷ 0 ∷ 0 ∷ 0 ∷ 4 ∷ 0 ∷ 27 ∷ 0 ∷ 0 ∷ 0 ∷ 4 ∷ 1 ∷ 1 ∷ 251 ∷ 14 ∷ 13
@@ -18,7 +23,7 @@ section = 67 ∷ 0 ∷ 0 ∷ 0 ∷ 4 ∷ 0 ∷ 27 ∷ 0 ∷ 0 ∷ 0 ∷ 4 ∷ 1 
 abbrev cut : ℕ → List ℕ
 cut n = (n - 4) ∷ drop 1 (take n section)
 
-four_rows : reading section ≡ Ok (record {
+four_rows : reading none section ≡ Ok (record {
   files = record { directory = []; name = 97 ∷ 46 ∷ 115 ∷ [] } ∷ [];
   rows =
       record { sequence = 0; address = 0x10000; file = Some 0; line = 1; column = 0; is_stmt = true; ends = false }
@@ -28,24 +33,24 @@ four_rows : reading section ≡ Ok (record {
       ∷ [];
   skipped = 0;
 })
-unfolding reading units unit unit_body header texts files operation pass program
+unfolding reading units unit unit_body header texts files operation pass program formats entries listed values form_for
 four_rows = refl
 
-nothing : reading [] ≡ Ok empty_table
+nothing : reading none [] ≡ Ok empty_table
 unfolding reading units
 nothing = refl
 
 -- cut with its unit as long as before
-raw_cuts : map (λ n. line_fault (take n section)) (1 ∷ 3 ∷ 4 ∷ 10 ∷ 40 ∷ 70 ∷ []) ≡ replicate 6 (Some (fault kinds.Short 0))
-unfolding reading units unit unit_body header texts files operation pass program
+raw_cuts : map (λ n. line_fault none (take n section)) (1 ∷ 3 ∷ 4 ∷ 10 ∷ 40 ∷ 70 ∷ []) ≡ replicate 6 (Some (fault kinds.Short 0))
+unfolding reading units unit unit_body header texts files operation pass program formats entries listed values form_for
 raw_cuts = refl
 
-short_header : reading (set (take 13 section) 0 9) ≡ Err (fault kinds.Short 6)
-unfolding reading units unit unit_body header texts files operation pass program
+short_header : reading none (set (take 13 section) 0 9) ≡ Err (fault kinds.Short 6)
+unfolding reading units unit unit_body header texts files operation pass program formats entries listed values form_for
 short_header = refl
 
 -- the faults of its cuts
-cut_faults : map (λ n. line_fault (cut n)) (4 ∷ 5 ∷ 6 ∷ 13 ∷ 36 ∷ 37 ∷ 38 ∷ 39 ∷ 40 ∷ 41 ∷ 42 ∷ 43 ∷ 44 ∷ 45 ∷ 46 ∷ 47 ∷ 48 ∷ 49 ∷ 50 ∷ 51 ∷ 52 ∷ 53 ∷
+cut_faults : map (λ n. line_fault none (cut n)) (4 ∷ 5 ∷ 6 ∷ 13 ∷ 36 ∷ 37 ∷ 38 ∷ 39 ∷ 40 ∷ 41 ∷ 42 ∷ 43 ∷ 44 ∷ 45 ∷ 46 ∷ 47 ∷ 48 ∷ 49 ∷ 50 ∷ 51 ∷ 52 ∷ 53 ∷
     54 ∷ 55 ∷ 56 ∷ 57 ∷ 58 ∷ 59 ∷ 60 ∷ 61 ∷ 62 ∷ 63 ∷ 64 ∷ 65 ∷ 66 ∷ 67 ∷ 68 ∷ 69 ∷ 70 ∷ [])
     ≡ Some (fault kinds.Short 4) ∷ Some (fault kinds.Short 4) ∷ Some (fault kinds.Short 6) ∷
     Some (fault kinds.Short 6) ∷ Some (fault kinds.Short 6) ∷ None ∷ Some (fault kinds.Short 38) ∷
@@ -60,60 +65,56 @@ cut_faults : map (λ n. line_fault (cut n)) (4 ∷ 5 ∷ 6 ∷ 13 ∷ 36 ∷ 37 
     Some (fault kinds.Short 63) ∷ Some (fault kinds.Short 63) ∷ Some (fault kinds.Unended 66) ∷
     Some (fault kinds.Short 67) ∷ Some (fault kinds.Unended 68) ∷ Some (fault kinds.Short 69) ∷
     Some (fault kinds.Short 70) ∷ []
-unfolding reading units unit unit_body header texts files operation pass program
+unfolding reading units unit unit_body header texts files operation pass program formats entries listed values form_for
 cut_faults = refl
 
-long_form : reading (set (set (set (set section 0 0xF0) 1 0xFF) 2 0xFF) 3 0xFF) ≡ Err (fault kinds.LongForm 0)
-unfolding reading units unit unit_body header texts files operation pass program
+long_form : reading none (set (set (set (set section 0 0xF0) 1 0xFF) 2 0xFF) 3 0xFF) ≡ Err (fault kinds.LongForm 0)
+unfolding reading units unit unit_body header texts files operation pass program formats entries listed values form_for
 long_form = refl
 
-many_ops : reading (set section 11 2) ≡ Err (fault kinds.ManyOps 11)
-unfolding reading units unit unit_body header texts files operation pass program
+many_ops : reading none (set section 11 2) ≡ Err (fault kinds.ManyOps 11)
+unfolding reading units unit unit_body header texts files operation pass program formats entries listed values form_for
 many_ops = refl
 
-zero_range : reading (set section 14 0) ≡ Err (fault kinds.ZeroRange 14)
-unfolding reading units unit unit_body header texts files operation pass program
+zero_range : reading none (set section 14 0) ≡ Err (fault kinds.ZeroRange 14)
+unfolding reading units unit unit_body header texts files operation pass program formats entries listed values form_for
 zero_range = refl
 
-base_zero : reading (set section 15 0) ≡ Err (fault kinds.OpcodeBaseZero 15)
-unfolding reading units unit unit_body header texts files operation pass program
+base_zero : reading none (set section 15 0) ≡ Err (fault kinds.OpcodeBaseZero 15)
+unfolding reading units unit unit_body header texts files operation pass program formats entries listed values form_for
 base_zero = refl
 
-address_length : reading (set section 38 8) ≡ Err (fault kinds.AddressLength 37)
-unfolding reading units unit unit_body header texts files operation pass program
+address_length : reading none (set section 38 8) ≡ Err (fault kinds.AddressLength 37)
+unfolding reading units unit unit_body header texts files operation pass program formats entries listed values form_for
 address_length = refl
 
-line_out : reading (set section 59 0x7D) ≡ Err (fault kinds.LineOut 60)
-unfolding reading units unit unit_body header texts files operation pass program
+line_out : reading none (set section 59 0x7D) ≡ Err (fault kinds.LineOut 60)
+unfolding reading units unit unit_body header texts files operation pass program formats entries listed values form_for
 line_out = refl
 
-header_short : reading (set section 6 18) ≡ Err (fault kinds.Short 28)
-unfolding reading units unit unit_body header texts files operation pass program
+header_short : reading none (set section 6 18) ≡ Err (fault kinds.Short 28)
+unfolding reading units unit unit_body header texts files operation pass program formats entries listed values form_for
 header_short = refl
 
-header_past : reading (set section 6 62) ≡ Err (fault kinds.Short 6)
-unfolding reading units unit unit_body header texts files operation pass program
+header_past : reading none (set section 6 62) ≡ Err (fault kinds.Short 6)
+unfolding reading units unit unit_body header texts files operation pass program formats entries listed values form_for
 header_past = refl
 
-text_short : reading (set section 6 22) ≡ Err (fault kinds.Short 29)
-unfolding reading units unit unit_body header texts files operation pass program
+text_short : reading none (set section 6 22) ≡ Err (fault kinds.Short 29)
+unfolding reading units unit unit_body header texts files operation pass program formats entries listed values form_for
 text_short = refl
 
-other_version : reading (set section 4 5) ≡ Ok (record { files = []; rows = []; skipped = 1 })
-unfolding reading units unit unit_body header texts files operation pass program
-other_version = refl
-
 -- an advance whose number doesn't fit 64 bits, in place of the program
-wide : reading (44 ∷ drop 1 (take 37 section) ++ 2 ∷ 255 ∷ 255 ∷ 255 ∷ 255 ∷ 255 ∷ 255 ∷ 255 ∷ 255 ∷ 255 ∷ 2 ∷ []) ≡ Err (fault kinds.Wide 38)
-unfolding reading units unit unit_body header texts files operation pass program
+wide : reading none (44 ∷ drop 1 (take 37 section) ++ 2 ∷ 255 ∷ 255 ∷ 255 ∷ 255 ∷ 255 ∷ 255 ∷ 255 ∷ 255 ∷ 255 ∷ 2 ∷ []) ≡ Err (fault kinds.Wide 38)
+unfolding reading units unit unit_body header texts files operation pass program formats entries listed values form_for
 wide = refl
 
 -- the relation holds of small cases
-no_units : IsTable [] empty_table
+no_units : IsTable none [] empty_table
 no_units = record { units = []; whole = refl; takes = refl }
 
 -- a unit of version 9 is passed over
-one_passed : IsTable (3 ∷ 0 ∷ 0 ∷ 0 ∷ 9 ∷ 0 ∷ 7 ∷ []) (record { files = []; rows = []; skipped = 1 })
+one_passed : IsTable none (3 ∷ 0 ∷ 0 ∷ 0 ∷ 9 ∷ 0 ∷ 7 ∷ []) (record { files = []; rows = []; skipped = 1 })
 one_passed = record {
   units = (3 ∷ 0 ∷ 0 ∷ 0 ∷ 9 ∷ 0 ∷ 7 ∷ []) ∷ [];
   whole = refl;
@@ -121,8 +122,54 @@ one_passed = record {
 }
 
 small : Header
-small = record { minimum_length = 4; is_stmt = true; line_base = pos 0; line_range = 1; opcode_base = 13; lengths = []; directories = []; files = [] }
+small = record { version = 4; minimum_length = 4; is_stmt = true; line_base = pos 0; line_range = 1; opcode_base = 13; lengths = []; directories = []; files = [] }
 
 padded_advance : Spells small (AdvancePc 7) (2 ∷ 0x87 ∷ 0x80 ∷ 0x00 ∷ [])
 unfolding small
 padded_advance = (0x87 ∷ 0x80 ∷ 0x00 ∷ [], refl, lit< tt, lit< tt, (((lit≤ tt, (lit≤ tt, lit< tt)), refl), lit< tt))
+
+-- ---- version 5
+
+-- a unit of version 5 with the same file twice, of which the rows have the second
+abbrev five : List ℕ
+five = 79 ∷ 0 ∷ 0 ∷ 0 ∷ 5 ∷ 0 ∷ 8 ∷ 0 ∷ 44 ∷ 0 ∷ 0 ∷ 0 ∷ 4 ∷ 1 ∷ 1 ∷ 251
+    ∷ 14 ∷ 13 ∷ 0 ∷ 1 ∷ 1 ∷ 1 ∷ 1 ∷ 0 ∷ 0 ∷ 0 ∷ 1 ∷ 0 ∷ 0 ∷ 1 ∷ 1 ∷ 1
+    ∷ 8 ∷ 1 ∷ 46 ∷ 0 ∷ 2 ∷ 1 ∷ 8 ∷ 2 ∷ 11 ∷ 2 ∷ 111 ∷ 110 ∷ 101 ∷ 46 ∷ 115 ∷ 0
+    ∷ 0 ∷ 111 ∷ 110 ∷ 101 ∷ 46 ∷ 115 ∷ 0 ∷ 0 ∷ 0 ∷ 9 ∷ 2 ∷ 0 ∷ 0 ∷ 1 ∷ 0 ∷ 0
+    ∷ 0 ∷ 0 ∷ 0 ∷ 1 ∷ 2 ∷ 1 ∷ 3 ∷ 1 ∷ 1 ∷ 2 ∷ 1 ∷ 3 ∷ 1 ∷ 1 ∷ 2 ∷ 1
+    ∷ 0 ∷ 1 ∷ 1
+    ∷ []
+
+five_rows : reading none five ≡ Ok (record {
+  files = record { directory = []; name = 111 ∷ 110 ∷ 101 ∷ 46 ∷ 115 ∷ [] } ∷ record { directory = []; name = 111 ∷ 110 ∷ 101 ∷ 46 ∷ 115 ∷ [] } ∷ [];
+  rows =
+      record { sequence = 0; address = 0x10000; file = Some 1; line = 1; column = 0; is_stmt = true; ends = false }
+      ∷ record { sequence = 0; address = 0x10004; file = Some 1; line = 2; column = 0; is_stmt = true; ends = false }
+      ∷ record { sequence = 0; address = 0x10008; file = Some 1; line = 3; column = 0; is_stmt = true; ends = false }
+      ∷ record { sequence = 0; address = 0x1000C; file = Some 1; line = 3; column = 0; is_stmt = true; ends = true }
+      ∷ [];
+  skipped = 0;
+})
+unfolding reading units unit unit_body header texts files operation pass program formats entries listed values form_for
+five_rows = refl
+
+address_size : reading none (set five 6 4) ≡ Err (fault kinds.AddressSize 6)
+unfolding reading units unit unit_body header texts files operation pass program formats entries listed values form_for
+address_size = refl
+
+form_out : reading none (set five 32 0x1A) ≡ Err (fault kinds.FormOut 32)
+unfolding reading units unit unit_body header texts files operation pass program formats entries listed values form_for
+form_out = refl
+
+text_out : reading none (set five 32 0x0e) ≡ Err (fault kinds.TextOut 34)
+unfolding reading units unit unit_body header texts files operation pass program formats entries listed values form_for
+text_out = refl
+
+segment_size : reading none (set five 7 4) ≡ Err (fault kinds.SegmentSize 7)
+unfolding reading units unit unit_body header texts files operation pass program formats entries listed values form_for
+segment_size = refl
+
+-- units of other versions are passed over
+other_versions : reading none (set five 4 6 ++ section) ≡ (reading none section >>= λ t. Ok (record t { skipped = 1 }))
+unfolding reading units unit unit_body header texts files operation pass program formats entries listed values form_for
+other_versions = refl

@@ -49,17 +49,26 @@ address_takes h place true a op fits is e =
     (λ code is. (subst (λ (z : List ℕ). SpellsExtended (2 ∷ z) code) all is, c.is.1))
 
 passed_body : (h : Header) (e : ℕ) (bytes : List ℕ) (op : Operation) → e ≢ 1 → e ≢ 2 → e ≢ 3 → Pass ≡ op → IsBodyOf h op (e ∷ bytes)
-passed_body h e bytes op not1 not2 not3 is = subst (λ (o : Operation). IsBodyOf h o (e ∷ bytes)) is (λ code s. inr (inr (inr (inr (inr (inr (e, bytes, not1, not2, not3, s)))))))
+passed_body h e bytes op not1 not2 not3 is = subst (λ (o : Operation). IsBodyOf h o (e ∷ bytes)) is (λ code s. inr (inr (inr (inr (inr (inr (e, bytes, not1, not2, (λ f. absurd (not3 f)), s)))))))
+
+not_five : (version : ℕ) → (version == 5) ≡ false → version ≢ 5
+not_five version is five = let no : true ≡ false = sym (ap (λ (x : ℕ). x == 5) five) ∙ is in absurd cc
+
+third_takes : (h : Header) (five : Bool) (a : Ahead) (op : Operation) → IsBytes a.bytes → (h.version == 5) ≡ five
+    → (elim five as (λ x. Result Operation LineFault) [ true ↦ Ok Pass | false ↦ file h.directories a >>= λ f. Ok (DefineFile f.0) ]) ≡ Ok op → IsBodyOf h op (3 ∷ a.bytes)
+third_takes h true a op fits is e = subst (λ (o : Operation). IsBodyOf h o (3 ∷ a.bytes)) (op_is Pass op e)
+    (λ code s. inr (inr (inr (inr (inr (inr (3, a.bytes, (λ f. omega arith), (λ f. omega arith), (λ f. eqb-true h.version 5 is), s)))))))
+third_takes h false a op fits is e =
+    let x = bind_ok (file h.directories a) _ op e in
+    let c = file_takes h.directories a x.0 fits x.1 in
+    subst (λ (o : Operation). IsBodyOf h o (3 ∷ a.bytes)) (op_is (DefineFile x.0.0) op x.2)
+    (λ code s. (c.code, x.0.1.bytes, subst (λ (z : List ℕ). SpellsExtended (3 ∷ z) code) c.parts s, c.is, not_five h.version is))
 
 number_takes : (h : Header) (place e : ℕ) (a : Ahead) (op : Operation) → IsBytes a.bytes → get_or (extended h place (length a.bytes + 1)) e (λ rest. Ok Pass) a ≡ Ok op → IsBodyOf h op (e ∷ a.bytes)
 number_takes h place zero a op fits e = passed_body h 0 a.bytes op (λ f. cc) (λ f. cc) (λ f. cc) (op_is Pass op e)
 number_takes h place (suc zero) a op fits e = subst (λ (o : Operation). IsBodyOf h o (1 ∷ a.bytes)) (op_is EndSequence op e) (λ code is. (a.bytes, is))
 number_takes h place (suc (suc zero)) a op fits e = address_takes h place (length a.bytes + 1 == 9) a op fits refl e
-number_takes h place (suc (suc (suc zero))) a op fits e =
-    let x = bind_ok (file h.directories a) _ op e in
-    let c = file_takes h.directories a x.0 fits x.1 in
-    subst (λ (o : Operation). IsBodyOf h o (3 ∷ a.bytes)) (op_is (DefineFile x.0.0) op x.2)
-    (λ code is. (c.code, x.0.1.bytes, subst (λ (z : List ℕ). SpellsExtended (3 ∷ z) code) c.parts is, c.is))
+number_takes h place (suc (suc (suc zero))) a op fits e = third_takes h (h.version == 5) a op fits refl e
 number_takes h place (suc (suc (suc (suc k)))) a op fits e = passed_body h (suc (suc (suc (suc k)))) a.bytes op (λ f. omega arith) (λ f. omega arith) (λ f. omega arith) (op_is Pass op e)
 
 more : (n : ℕ) → suc n ≡ n + 1

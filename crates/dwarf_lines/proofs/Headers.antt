@@ -1,19 +1,19 @@
 -- What is read as a header is a spelling of it.
-use Rattle.std.proofs.Common.{◌≡◌, ℕ, zero, suc, ◌+◌, ◌-◌, ◌<◌, ◌≤◌, Bool, true, false, not, List, [], ◌∷◌, ◌++◌, length, nat_lt, ◌==◌, Result, Ok, Err, refl, sym, ap, subst, ◌∙◌, arith, append_assoc}
+use Rattle.std.proofs.Common.{◌≡◌, ℕ, zero, suc, ◌<◌, ◌≤◌, Bool, true, false, nat_le, List, [], ◌∷◌, ◌++◌, length, ◌==◌, Result, Ok, Err, refl, sym, ap, subst, ◌∙◌, arith, append_assoc}
 use Rattle.std.specs.List.{AllByRecursion}
-use Rattle.std.specs.Int.{w8, cast_signed}
+use Rattle.std.specs.Int.{w8}
 use Rattle.std.proofs.lemmas.List.{length-append}
-use Rattle.std.proofs.lemmas.Bool.{ltb-true, eqb-true}
+use Rattle.std.proofs.lemmas.Bool.{eqb-true}
 use Rattle.leb_cursor.specs.declared.Short.{Short}
-use Rattle.leb_cursor.specs.Ahead.{Ahead, Reading, ◌>>=◌, bytes_at, text_at, number_at}
-use Rattle.leb_cursor.proofs.Exact.{IsBytes, Consumes, mapped_to, byte_takes, bytes_takes, text_takes, IsEnded}
+use Rattle.leb_cursor.specs.Ahead.{Ahead, Reading, ◌>>=◌, text_at, number_at}
+use Rattle.leb_cursor.proofs.Exact.{IsBytes, Consumes, mapped_to, byte_takes, text_takes, IsEnded}
 use Rattle.dwarf_lines.specs.declared.LineFault.{LineFault}
 use Rattle.dwarf_lines.specs.declared.LineKind.{LineKind}
 use Rattle.dwarf_lines.specs.declared.LineKind.TheVariants as kinds
-use Rattle.dwarf_lines.specs.Registers.{File, Header, directory}
-use Rattle.dwarf_lines.specs.Spelling.{IsUleb, SpellsText, SpellsFile, SpellsAll, SpellsHeader}
+use Rattle.dwarf_lines.specs.Registers.{File, directory}
+use Rattle.dwarf_lines.specs.Spelling.{IsUleb, SpellsText, SpellsFile, SpellsAll}
 use Rattle.dwarf_lines.specs.Spelling as spelled
-use Rattle.dwarf_lines.specs.Reading.{field, byte, byte_that, unsigned, operations, texts, named, files, header}
+use Rattle.dwarf_lines.specs.Reading.{field, byte, byte_that, unsigned, operations, texts, named, files}
 use Rattle.dwarf_lines.proofs.Programs.{bind_ok, wanted_ok}
 use Rattle.dwarf_lines.proofs.Opcodes.{Consumes-then, unsigned_takes}
 
@@ -30,14 +30,14 @@ IsByte n code = code ≡ n ∷ []
 pub one_takes : (a b : Ahead) (n : ℕ) → IsBytes a.bytes → byte a ≡ Ok (n, b) → Consumes (λ code. code ≡ n ∷ []) a b
 one_takes a b n fits e = byte_takes a b n fits (field_ok (number_at w8 a) (n, b) e)
 
-that_takes : (test : ℕ → Bool) (kind : LineKind) (a : Ahead) (x : ℕ × Ahead) → IsBytes a.bytes → byte_that test kind a ≡ Ok x → Consumes (λ code. code ≡ x.0 ∷ []) a x.1 × (test x.0 ≡ true)
+pub that_takes : (test : ℕ → Bool) (kind : LineKind) (a : Ahead) (x : ℕ × Ahead) → IsBytes a.bytes → byte_that test kind a ≡ Ok x → Consumes (λ code. code ≡ x.0 ∷ []) a x.1 × (test x.0 ≡ true)
 that_takes test kind a x fits e =
     let b = bind_ok (byte a) _ x e in
     let w = wanted_ok (test b.0.0) kind a.place b.0 x b.2 in
     subst (λ (y : ℕ × Ahead). Consumes (λ code. code ≡ y.0 ∷ []) a y.1 × (test y.0 ≡ true)) w.1 (one_takes a b.0.1 b.0.0 fits b.1, w.0)
 
 -- nothing was read
-stays : (P : List ℕ → Type 0) (a : Ahead) → IsBytes a.bytes → P [] → Consumes P a a
+pub stays : (P : List ℕ → Type 0) (a : Ahead) → IsBytes a.bytes → P [] → Consumes P a a
 stays P a fits is = record { code = []; parts = refl; is = is; place = omega arith; rest = fits }
 
 is_one : (n : ℕ) (code : List ℕ) → (n == 1) ≡ true → code ≡ n ∷ [] → code ≡ 1 ∷ []
@@ -53,7 +53,7 @@ operations_by true a b fits e =
 operations_by false a b fits e = subst (Consumes (λ code. code ≡ []) a) (ok_is a b e) (stays (λ code. code ≡ []) a fits refl)
 
 pub operations_takes : (version : ℕ) (a b : Ahead) → IsBytes a.bytes → operations version a ≡ Ok b → Consumes (λ code. code ≡ spelled.operations version) a b
-operations_takes version a b fits e = operations_by (version == 4) a b fits e
+operations_takes version a b fits e = operations_by (nat_le 4 version) a b fits e
 
 -- ---- lists of texts and of files
 
@@ -157,72 +157,3 @@ files_takes (suc n) directories a b fs fits lt e =
     let c = text_takes a x.0.1 x.0.0 fits (field_ok (text_at a) x.0 x.1) in
     let shorter = less a x.0.1 x.0.0 c in
     files_go n directories x.0.0 a x.0.1 b fs fits c (λ c' d gs fits' le f. files_takes n directories c' d gs fits' (omega arith) f) x.2
-
--- ---- the header
-
-pub regroup : (m i b r o : ℕ) (ops ls ds fs spare : List ℕ)
-    → m ∷ (ops ++ (i ∷ b ∷ r ∷ o ∷ (ls ++ (ds ++ (fs ++ spare))))) ≡ (m ∷ ops) ++ (i ∷ b ∷ r ∷ o ∷ ls) ++ ds ++ fs ++ spare
-regroup m i b r o ops ls ds fs spare =
-    sym (append_assoc ((m ∷ ops) ++ (i ∷ b ∷ r ∷ o ∷ ls) ++ ds) fs spare
-    ∙ append_assoc ((m ∷ ops) ++ (i ∷ b ∷ r ∷ o ∷ ls)) ds (fs ++ spare)
-    ∙ append_assoc (m ∷ ops) (i ∷ b ∷ r ∷ o ∷ ls) (ds ++ (fs ++ spare)))
-
-in_front : (code x y z : List ℕ) → x ≡ code ++ y → y ≡ z → x ≡ code ++ z
-in_front code x y z e f = e ∙ ap (λ (r : List ℕ). code ++ r) f
-
-byte_in_front : (n : ℕ) (code x y z : List ℕ) → x ≡ code ++ y → code ≡ n ∷ [] → y ≡ z → x ≡ n ∷ z
-byte_in_front n code x y z e one f = e ∙ ap (λ (r : List ℕ). r ++ y) one ∙ ap (λ (r : List ℕ). n ∷ r) f
-
-one_more : (n : ℕ) (ls : List ℕ) → 0 < n → length ls ≡ n - 1 → n ≡ 1 + length ls
-one_more n ls some len = omega arith
-
--- all fields together
-spelled_by : (version m i b r o : ℕ) (ls : List ℕ) (ds : List (List ℕ)) (fs : List File) (a0 a1 a2 a3 a4 a5 a6 a7 a8 a9 : Ahead)
-    → Consumes (λ code. code ≡ m ∷ []) a0 a1 → Consumes (λ code. code ≡ spelled.operations version) a1 a2
-    → Consumes (λ code. code ≡ i ∷ []) a2 a3 → Consumes (λ code. code ≡ b ∷ []) a3 a4
-    → Consumes (λ code. code ≡ r ∷ []) a4 a5 → Consumes (λ code. code ≡ o ∷ []) a5 a6
-    → Consumes (λ code. (code ≡ ls) × (length ls ≡ o - 1)) a6 a7 → Consumes (AreTexts ds) a7 a8 → Consumes (AreFiles ds fs) a8 a9 → 0 < r → 0 < o
-    → SpellsHeader version (record { minimum_length = m; is_stmt = not (i == 0); line_base = cast_signed w8 b; line_range = r; opcode_base = o; lengths = ls; directories = ds; files = fs }) a0.bytes
-spelled_by version m i b r o ls ds fs a0 a1 a2 a3 a4 a5 a6 a7 a8 a9 c0 c1 c2 c3 c4 c5 c6 c7 c8 some_range some_base =
-    let ops = spelled.operations version in
-    let spare = a9.bytes in
-    let end7 : a7.bytes ≡ c7.code ++ (c8.code ++ spare) = in_front c7.code a7.bytes a8.bytes (c8.code ++ spare) c7.parts c8.parts in
-    let end6 : a6.bytes ≡ ls ++ (c7.code ++ (c8.code ++ spare)) = in_front ls a6.bytes a7.bytes (c7.code ++ (c8.code ++ spare)) (c6.parts ∙ ap (λ (x : List ℕ). x ++ a7.bytes) c6.is.0) end7 in
-    let end5 : a5.bytes ≡ o ∷ (ls ++ (c7.code ++ (c8.code ++ spare))) = byte_in_front o c5.code a5.bytes a6.bytes _ c5.parts c5.is end6 in
-    let end4 : a4.bytes ≡ r ∷ o ∷ (ls ++ (c7.code ++ (c8.code ++ spare))) = byte_in_front r c4.code a4.bytes a5.bytes _ c4.parts c4.is end5 in
-    let end3 : a3.bytes ≡ b ∷ r ∷ o ∷ (ls ++ (c7.code ++ (c8.code ++ spare))) = byte_in_front b c3.code a3.bytes a4.bytes _ c3.parts c3.is end4 in
-    let end2 : a2.bytes ≡ i ∷ b ∷ r ∷ o ∷ (ls ++ (c7.code ++ (c8.code ++ spare))) = byte_in_front i c2.code a2.bytes a3.bytes _ c2.parts c2.is end3 in
-    let end1 : a1.bytes ≡ ops ++ (i ∷ b ∷ r ∷ o ∷ (ls ++ (c7.code ++ (c8.code ++ spare)))) = in_front ops a1.bytes a2.bytes _ (c1.parts ∙ ap (λ (x : List ℕ). x ++ a2.bytes) c1.is) end2 in
-    let end0 : a0.bytes ≡ m ∷ (ops ++ (i ∷ b ∷ r ∷ o ∷ (ls ++ (c7.code ++ (c8.code ++ spare))))) = byte_in_front m c0.code a0.bytes a1.bytes _ c0.parts c0.is end1 in
-    let front : List ℕ = (m ∷ ops) ++ (i ∷ b ∷ r ∷ o ∷ ls) in
-    let whole : a0.bytes ≡ (m ∷ ops) ++ (i ∷ b ∷ r ∷ o ∷ ls) ++ (c7.is.0 ++ 0 ∷ []) ++ (c8.is.0 ++ 0 ∷ []) ++ spare =
-    end0 ∙ regroup m i b r o ops ls c7.code c8.code spare ∙ ap (λ (d : List ℕ). front ++ d ++ c8.code ++ spare) c7.is.1 ∙ ap (λ (f : List ℕ). front ++ (c7.is.0 ++ 0 ∷ []) ++ f ++ spare) c8.is.1 in
-    (i, b, c7.is.0, c8.is.0, spare, whole, refl, refl, some_range, one_more o ls some_base c6.is.1, c7.is.2, c8.is.2, c7.is.3, c8.is.3)
-
-pub enough : (x : ℕ) → x < suc x
-enough x = omega arith
-
-pub header_takes : (version : ℕ) (a : Ahead) (h : Header) → IsBytes a.bytes → header version a ≡ Ok h → SpellsHeader version h a.bytes
-unfolding header
-header_takes version a h fits e =
-    let minimum = bind_ok (byte a) _ h e in
-    let c0 = one_takes a minimum.0.1 minimum.0.0 fits minimum.1 in
-    let rest = bind_ok (operations version minimum.0.1) _ h minimum.2 in
-    let c1 = operations_takes version minimum.0.1 rest.0 c0.rest rest.1 in
-    let is_stmt = bind_ok (byte rest.0) _ h rest.2 in
-    let c2 = one_takes rest.0 is_stmt.0.1 is_stmt.0.0 c1.rest is_stmt.1 in
-    let base = bind_ok (byte is_stmt.0.1) _ h is_stmt.2 in
-    let c3 = one_takes is_stmt.0.1 base.0.1 base.0.0 c2.rest base.1 in
-    let range = bind_ok (byte_that (λ n. nat_lt 0 n) kinds.ZeroRange base.0.1) _ h base.2 in
-    let c4 = that_takes (λ n. nat_lt 0 n) kinds.ZeroRange base.0.1 range.0 c3.rest range.1 in
-    let opcode_base = bind_ok (byte_that (λ n. nat_lt 0 n) kinds.OpcodeBaseZero range.0.1) _ h range.2 in
-    let c5 = that_takes (λ n. nat_lt 0 n) kinds.OpcodeBaseZero range.0.1 opcode_base.0 c4.0.rest opcode_base.1 in
-    let lengths = bind_ok (field (bytes_at (opcode_base.0.0 - 1) opcode_base.0.1)) _ h opcode_base.2 in
-    let c6 = bytes_takes (opcode_base.0.0 - 1) opcode_base.0.1 lengths.0.1 lengths.0.0 c5.0.rest (field_ok _ _ lengths.1) in
-    let directories = bind_ok (texts (suc (length lengths.0.1.bytes)) lengths.0.1) _ h lengths.2 in
-    let c7 = texts_takes (suc (length lengths.0.1.bytes)) lengths.0.1 directories.0.1 directories.0.0 c6.rest (enough (length lengths.0.1.bytes)) directories.1 in
-    let entries = bind_ok (files (suc (length directories.0.1.bytes)) directories.0.0 directories.0.1) _ h directories.2 in
-    let c8 = files_takes (suc (length directories.0.1.bytes)) directories.0.0 directories.0.1 entries.0.1 entries.0.0 c7.rest (enough (length directories.0.1.bytes)) entries.1 in
-    let is = spelled_by version minimum.0.0 is_stmt.0.0 base.0.0 range.0.0 opcode_base.0.0 lengths.0.0 directories.0.0 entries.0.0 a minimum.0.1 rest.0 is_stmt.0.1 base.0.1 range.0.1 opcode_base.0.1 lengths.0.1 directories.0.1 entries.0.1
-    c0 c1 c2 c3 c4.0 c5.0 c6 c7 c8 (ltb-true _ _ c4.1) (ltb-true _ _ c5.1) in
-    subst (λ (g : Header). SpellsHeader version g a.bytes) (ok_is _ h entries.2) is

@@ -12,3 +12,11 @@ pub mod UnitsAgain
 pub mod Shorter
 pub mod Steps
 pub mod Whole
+pub mod FormExamples
+pub mod ListedTakes
+pub mod Heads
+pub mod ListedAgain
+pub mod HeadsAgain
+pub mod Zeros
+pub mod Fewer
+pub mod ListedLoops

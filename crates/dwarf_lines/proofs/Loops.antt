@@ -8,6 +8,7 @@ use Rattle.dwarf_lines.specs.declared.LineError.{LineError}
 use Rattle.dwarf_lines.specs.declared.LineError.TheVariants as errors
 use Rattle.dwarf_lines.specs.declared.LineKind.TheVariants as kinds
 use Rattle.dwarf_lines.specs.Registers.{File, Table, Header, Operation, State, after, has_line, is_open}
+use Rattle.dwarf_lines.specs.Names.{Strings}
 use Rattle.dwarf_lines.specs.Reading.{fault, field, wanted, unsigned, pass, texts, named, files, operation, program, finished, unit, units, Fails}
 use Rattle.dwarf_lines.proofs.Shorter.{IsLess, text_less, named_less, operation_less, unit_less}
 
@@ -27,7 +28,7 @@ same_step (Err e) f g same = refl
 abbrev pub joined : {A : Type 0} → List A → Reading (List A) LineFault → Reading (List A) LineFault
 joined xs reads = reads >>= λ more. Ok (xs ++ more.0, more.1)
 
-joined_step : {A : Type 0} (xs : List A) (x : A) (r : Reading (List A) LineFault) → joined (xs ++ x ∷ []) r ≡ joined xs (r >>= λ more. Ok (x ∷ more.0, more.1))
+pub joined_step : {A : Type 0} (xs : List A) (x : A) (r : Reading (List A) LineFault) → joined (xs ++ x ∷ []) r ≡ joined xs (r >>= λ more. Ok (x ∷ more.0, more.1))
 joined_step xs x (Ok more) = ap (λ (ys : List _). Ok (ys, more.1)) (append_assoc xs (x ∷ []) more.0)
 joined_step xs x (Err e) = refl
 
@@ -220,42 +221,42 @@ apply_fault h s a b op (errors.Fault f) total some read fails so_far = ap finish
 
 -- ---- units
 
-units_enough_by : (n m : ℕ) (t : Table) (place : ℕ) (bytes : List ℕ) → length bytes < n → length bytes < m → units n t (record { place = place; bytes = bytes }) ≡ units m t (record { place = place; bytes = bytes })
+units_enough_by : (n m : ℕ) (strings : Strings) (t : Table) (place : ℕ) (bytes : List ℕ) → length bytes < n → length bytes < m → units n strings t (record { place = place; bytes = bytes }) ≡ units m strings t (record { place = place; bytes = bytes })
 unfolding units
-units_enough_by zero m t place bytes lt more = absurd (omega arith)
-units_enough_by (suc n) zero t place bytes lt more = absurd (omega arith)
-units_enough_by (suc n) (suc m) t place [] lt more = refl
-units_enough_by (suc n) (suc m) t place (b ∷ bs) lt more =
+units_enough_by zero m strings t place bytes lt more = absurd (omega arith)
+units_enough_by (suc n) zero strings t place bytes lt more = absurd (omega arith)
+units_enough_by (suc n) (suc m) strings t place [] lt more = refl
+units_enough_by (suc n) (suc m) strings t place (b ∷ bs) lt more =
     let a : Ahead = record { place = place; bytes = b ∷ bs } in
-    same_step (unit t a) _ _
+    same_step (unit strings t a) _ _
     (λ u e.
-    let less = unit_less t u.0 a u.1 e in
-    units_enough_by n m u.0 u.1.place u.1.bytes (omega arith) (omega arith))
+    let less = unit_less strings t u.0 a u.1 e in
+    units_enough_by n m strings u.0 u.1.place u.1.bytes (omega arith) (omega arith))
 
-units_by : (t u : Table) (place : ℕ) (bytes : List ℕ) (b : Ahead) → 0 < length bytes → unit t (record { place = place; bytes = bytes }) ≡ Ok (u, b)
-    → units (suc (length bytes)) t (record { place = place; bytes = bytes }) ≡ units (suc (length b.bytes)) u b
+units_by : (strings : Strings) (t u : Table) (place : ℕ) (bytes : List ℕ) (b : Ahead) → 0 < length bytes → unit strings t (record { place = place; bytes = bytes }) ≡ Ok (u, b)
+    → units (suc (length bytes)) strings t (record { place = place; bytes = bytes }) ≡ units (suc (length b.bytes)) strings u b
 unfolding units
-units_by t u place [] b some e = absurd (omega arith)
-units_by t u place (x ∷ xs) b some e =
-    let less = unit_less t u (record { place = place; bytes = x ∷ xs }) b e in
-    rw e (units_enough_by (length (x ∷ xs)) (suc (length b.bytes)) u b.place b.bytes less (omega arith))
+units_by strings t u place [] b some e = absurd (omega arith)
+units_by strings t u place (x ∷ xs) b some e =
+    let less = unit_less strings t u (record { place = place; bytes = x ∷ xs }) b e in
+    rw e (units_enough_by (length (x ∷ xs)) (suc (length b.bytes)) strings u b.place b.bytes less (omega arith))
 
 -- one more unit
-pub units_next : (t u : Table) (a b : Ahead) (total : Result Table LineFault) → 0 < length a.bytes → unit t a ≡ Ok (u, b) → units (suc (length a.bytes)) t a ≡ total → units (suc (length b.bytes)) u b ≡ total
-units_next t u a b total some e so_far = sym (units_by t u a.place a.bytes b some e) ∙ so_far
+pub units_next : (strings : Strings) (t u : Table) (a b : Ahead) (total : Result Table LineFault) → 0 < length a.bytes → unit strings t a ≡ Ok (u, b) → units (suc (length a.bytes)) strings t a ≡ total → units (suc (length b.bytes)) strings u b ≡ total
+units_next strings t u a b total some e so_far = sym (units_by strings t u a.place a.bytes b some e) ∙ so_far
 
-units_fault_by : (t : Table) (place : ℕ) (bytes : List ℕ) (f : LineFault) → 0 < length bytes → unit t (record { place = place; bytes = bytes }) ≡ Err f → units (suc (length bytes)) t (record { place = place; bytes = bytes }) ≡ Err f
+units_fault_by : (strings : Strings) (t : Table) (place : ℕ) (bytes : List ℕ) (f : LineFault) → 0 < length bytes → unit strings t (record { place = place; bytes = bytes }) ≡ Err f → units (suc (length bytes)) strings t (record { place = place; bytes = bytes }) ≡ Err f
 unfolding units
-units_fault_by t place [] f some e = absurd (omega arith)
-units_fault_by t place (x ∷ xs) f some e = rw e refl
+units_fault_by strings t place [] f some e = absurd (omega arith)
+units_fault_by strings t place (x ∷ xs) f some e = rw e refl
 
-pub units_fault : (t : Table) (a : Ahead) (f : LineFault) → 0 < length a.bytes → unit t a ≡ Err f → units (suc (length a.bytes)) t a ≡ Err f
-units_fault t a f some e = units_fault_by t a.place a.bytes f some e
+pub units_fault : (strings : Strings) (t : Table) (a : Ahead) (f : LineFault) → 0 < length a.bytes → unit strings t a ≡ Err f → units (suc (length a.bytes)) strings t a ≡ Err f
+units_fault strings t a f some e = units_fault_by strings t a.place a.bytes f some e
 
-units_end_by : (t : Table) (place : ℕ) (bytes : List ℕ) → length bytes ≡ 0 → units (suc (length bytes)) t (record { place = place; bytes = bytes }) ≡ Ok t
+units_end_by : (strings : Strings) (t : Table) (place : ℕ) (bytes : List ℕ) → length bytes ≡ 0 → units (suc (length bytes)) strings t (record { place = place; bytes = bytes }) ≡ Ok t
 unfolding units
-units_end_by t place [] e = refl
-units_end_by t place (x ∷ xs) e = absurd (omega arith)
+units_end_by strings t place [] e = refl
+units_end_by strings t place (x ∷ xs) e = absurd (omega arith)
 
-pub units_end : (t : Table) (a : Ahead) → length a.bytes ≡ 0 → units (suc (length a.bytes)) t a ≡ Ok t
-units_end t a e = units_end_by t a.place a.bytes e
+pub units_end : (strings : Strings) (t : Table) (a : Ahead) → length a.bytes ≡ 0 → units (suc (length a.bytes)) strings t a ≡ Ok t
+units_end strings t a e = units_end_by strings t a.place a.bytes e

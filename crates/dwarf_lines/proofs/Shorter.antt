@@ -1,5 +1,5 @@
 -- What each field leaves ahead is shorter.
-use Rattle.std.proofs.Common.{◌≡◌, ℕ, zero, suc, ◌+◌, ◌-◌, ◌^◌, ◌<◌, ◌≤◌, Bool, true, false, cond, nat_lt, nat_le, List, [], ◌∷◌, length, get_or, take, Option, Some, None, option_map, position, Result, Ok, Err, ℤ, ◌==◌, refl, ap, subst, arith}
+use Rattle.std.proofs.Common.{◌≡◌, ℕ, zero, suc, ◌+◌, ◌^◌, ◌<◌, ◌≤◌, Bool, true, false, cond, nat_lt, nat_le, List, [], ◌∷◌, length, get_or, take, Option, Some, None, option_map, position, Result, Ok, Err, ℤ, ◌==◌, refl, ap, subst, arith}
 use Rattle.std.specs.Int.{Width, w8, w16, w32, byte_len, from_le_bytes}
 use Rattle.std.proofs.lemmas.Bool.{leb-true}
 use Rattle.std.proofs.lemmas.List.{length-drop, length-take-le}
@@ -10,10 +10,10 @@ use Rattle.leb_cursor.specs.Ahead.{Ahead, Reading, ◌>>=◌, past, short, up_to
 use Rattle.leb_cursor.specs.Numbers.{low_bits, signed_low_bits}
 use Rattle.leb_cursor.proofs.Exact.{bind_is}
 use Rattle.dwarf_lines.specs.declared.LineFault.{LineFault}
-use Rattle.dwarf_lines.specs.declared.LineKind.{LineKind}
 use Rattle.dwarf_lines.specs.declared.LineKind.TheVariants as kinds
 use Rattle.dwarf_lines.specs.Registers.{File, Table, Header, Operation, Special, Copy, AdvancePc, SetFile, SetColumn, NegateStmt, ConstAddPc, FixedAdvancePc, AdvanceLine, Pass}
-use Rattle.dwarf_lines.specs.Reading.{fault, field, leb_field, wanted, byte, half, word, unsigned, byte_that, announced, pass, texts, named, files, operations, header, with_none, with_unsigned, with_signed, with_half, passing, standard, body, extended_at, below_base, operation, is_read, unit_body, unit}
+use Rattle.dwarf_lines.specs.Names.{Strings}
+use Rattle.dwarf_lines.specs.Reading.{fault, field, leb_field, wanted, byte, half, word, unsigned, announced, pass, texts, named, files, with_none, with_unsigned, with_signed, with_half, passing, standard, body, extended_at, below_base, operation, is_read, unit_body, unit}
 use Rattle.dwarf_lines.proofs.Programs.{bind_ok, wanted_ok}
 use Rattle.dwarf_lines.proofs.Headers.{field_ok}
 use Rattle.dwarf_lines.proofs.Opcodes.{leb_ok}
@@ -36,13 +36,13 @@ at_most a b less = omega arith
 
 -- ---- fields of the cursor
 
-ok_is : {A E : Type 0} (x y : A) → (let done : A → Result A E = λ z. Ok z in done x ≡ done y) → x ≡ y
+pub ok_is : {A E : Type 0} (x y : A) → (let done : A → Result A E = λ z. Ok z in done x ≡ done y) → x ≡ y
 ok_is x y e = cc
 
-made_is : (x y : Ahead) → (let done : Ahead → Result Ahead LineFault = λ z. Ok z in done x ≡ done y) → x ≡ y
+pub made_is : (x y : Ahead) → (let done : Ahead → Result Ahead LineFault = λ z. Ok z in done x ≡ done y) → x ≡ y
 made_is x y e = cc
 
-second : {X E : Type 0} (x y : X) (a b : Ahead) → (let done : X × Ahead → Result (X × Ahead) E = λ z. Ok z in done (x, a) ≡ done (y, b)) → a ≡ b
+pub second : {X E : Type 0} (x y : X) (a b : Ahead) → (let done : X × Ahead → Result (X × Ahead) E = λ z. Ok z in done (x, a) ≡ done (y, b)) → a ≡ b
 second x y a b e = ap (λ (r : Result (_ × Ahead) _). elim r as (λ z. Ahead) [ Ok p ↦ p.1 | Err d ↦ a ]) e
 
 bytes_by : (fits : Bool) (n : ℕ) (a b : Ahead) (x : List ℕ) → nat_le n (length a.bytes) ≡ fits → cond {A = Reading (List ℕ) Short} fits (Ok (take n a.bytes, past n a)) (Err (short a)) ≡ Ok (x, b) → length b.bytes + n ≡ length a.bytes
@@ -52,7 +52,7 @@ bytes_by true n a b x is e =
     subst (λ (c : Ahead). length c.bytes + n ≡ length a.bytes) same (omega (arith, length-drop n a.bytes, room))
 bytes_by false n a b x is e = absurd cc
 
-bytes_left : (n : ℕ) (a b : Ahead) (x : List ℕ) → bytes_at n a ≡ Ok (x, b) → length b.bytes + n ≡ length a.bytes
+pub bytes_left : (n : ℕ) (a b : Ahead) (x : List ℕ) → bytes_at n a ≡ Ok (x, b) → length b.bytes + n ≡ length a.bytes
 bytes_left n a b x e = bytes_by (nat_le n (length a.bytes)) n a b x refl e
 
 -- of a number of fixed width
@@ -139,7 +139,7 @@ text_go n (c ∷ cs) a b ts again e =
     let x = bind_ok (texts n a) (λ more. Ok ((c ∷ cs) ∷ more.0, more.1)) (ts, b) e in
     subst (IsMost a) (second ((c ∷ cs) ∷ x.0.0) ts x.0.1 b x.2) (again x.0.1 x.0.0 x.1)
 
-texts_most : (n : ℕ) (a b : Ahead) (ts : List (List ℕ)) → texts n a ≡ Ok (ts, b) → IsMost a b
+pub texts_most : (n : ℕ) (a b : Ahead) (ts : List (List ℕ)) → texts n a ≡ Ok (ts, b) → IsMost a b
 unfolding texts
 texts_most zero a b ts e = subst (IsMost a) (second [] ts a b e) (omega arith)
 texts_most (suc n) a b ts e =
@@ -147,7 +147,7 @@ texts_most (suc n) a b ts e =
     most a x.0.1 b (at_most a x.0.1 (text_less a x.0.1 x.0.0 x.1)) (text_go n x.0.0 x.0.1 b ts (λ c us f. texts_most n x.0.1 c us f) x.2)
 
 -- each file takes a byte or more
-abbrev AreFew : List File → Ahead → Ahead → Type 0
+abbrev pub AreFew : List File → Ahead → Ahead → Type 0
 AreFew fs a b = length fs + length b.bytes ≤ length a.bytes
 
 few_is : (fs gs : List File) (a b c : Ahead) → (let done : List File × Ahead → Reading (List File) LineFault = λ z. Ok z in done (fs, b) ≡ done (gs, c)) → AreFew fs a b → AreFew gs a c
@@ -163,7 +163,7 @@ files_go n directories (t ∷ ts) a b fs again e =
     let few = again f.0.1 x.0.1 x.0.0 x.1 in
     few_is (f.0.0 ∷ x.0.0) fs a x.0.1 b x.2 (omega arith)
 
-files_few : (n : ℕ) (directories : List (List ℕ)) (a b : Ahead) (fs : List File) → files n directories a ≡ Ok (fs, b) → AreFew fs a b
+pub files_few : (n : ℕ) (directories : List (List ℕ)) (a b : Ahead) (fs : List File) → files n directories a ≡ Ok (fs, b) → AreFew fs a b
 unfolding files
 files_few zero directories a b fs e = few_is [] fs a a b e (omega arith)
 files_few (suc n) directories a b fs e =
@@ -171,63 +171,6 @@ files_few (suc n) directories a b fs e =
     let less = text_less a x.0.1 x.0.0 x.1 in
     let few = files_go n directories x.0.0 x.0.1 b fs (λ c d gs f. files_few n directories c d gs f) x.2 in
     omega arith
-
-that_most : (test : ℕ → Bool) (kind : LineKind) (a : Ahead) (x : ℕ × Ahead) → byte_that test kind a ≡ Ok x → IsMost a x.1
-that_most test kind a x e =
-    let b = bind_ok (byte a) _ x e in
-    let w = wanted_ok (test b.0.0) kind a.place b.0 x b.2 in
-    subst (λ (y : ℕ × Ahead). IsMost a y.1) w.1 (omega (arith, byte_left a b.0.1 b.0.0 b.1))
-
-operations_by : (four : Bool) (a b : Ahead)
-    → (elim four as (λ x. Result Ahead LineFault) [ true ↦ byte_that (λ n. n == 1) kinds.ManyOps a >>= λ n. Ok n.1 | false ↦ Ok a ]) ≡ Ok b → IsMost a b
-operations_by true a b e =
-    let x = bind_ok (byte_that (λ n. n == 1) kinds.ManyOps a) (λ n. Ok n.1) b e in
-    subst (IsMost a) (made_is x.0.1 b x.2) (that_most (λ n. n == 1) kinds.ManyOps a x.0 x.1)
-operations_by false a b e = subst (IsMost a) (made_is a b e) (omega arith)
-
-along : (n f x0 x1 x2 x3 x4 x5 x6 x7 x8 x9 : ℕ) → x1 + 1 ≡ x0 → x2 ≤ x1 → x3 + 1 ≡ x2 → x4 + 1 ≡ x3 → x5 ≤ x4 → x6 ≤ x5 → x7 + n ≡ x6 → x8 ≤ x7 → f + x9 ≤ x8 → f ≤ x0
-along n f x0 x1 x2 x3 x4 x5 x6 x7 x8 x9 c0 c1 c2 c3 c4 c5 c6 c7 c8 = omega arith
-
-header_is : (x y : Header) → (let done : Header → Result Header LineFault = λ z. Ok z in done x ≡ done y) → x ≡ y
-header_is x y e = cc
-
--- a header with at most so many files, or a fault
-record HasFew (n : ℕ) (r : Result Header LineFault) : Type 0 where
-  few : (h : Header) → r ≡ Ok h → length h.files ≤ n
-
-then_few : {A : Type 0} (n : ℕ) (r : Result A LineFault) (f : A → Result Header LineFault) → ((x : A) → r ≡ Ok x → HasFew n (f x)) → HasFew n (r >>= f)
-then_few n (Ok x) f each = each x refl
-then_few n (Err d) f each = record { few = λ h e. absurd cc }
-
-made_few : (n : ℕ) (g : Header) → length g.files ≤ n → HasFew n (Ok g)
-made_few n g le = record { few = λ h e. subst (λ (x : Header). length x.files ≤ n) (header_is g h e) le }
-
-has_few : (version : ℕ) (a : Ahead) → HasFew (length a.bytes) (header version a)
-unfolding header
-has_few version a =
-    then_few (length a.bytes) (byte a) _ (λ minimum e0.
-    then_few (length a.bytes) (operations version minimum.1) _ (λ rest e1.
-    then_few (length a.bytes) (byte rest) _ (λ is_stmt e2.
-    then_few (length a.bytes) (byte is_stmt.1) _ (λ base e3.
-    then_few (length a.bytes) (byte_that (λ n. nat_lt 0 n) kinds.ZeroRange base.1) _ (λ range e4.
-    then_few (length a.bytes) (byte_that (λ n. nat_lt 0 n) kinds.OpcodeBaseZero range.1) _ (λ opcode_base e5.
-    then_few (length a.bytes) (field (bytes_at (opcode_base.0 - 1) opcode_base.1)) _ (λ lengths e6.
-    then_few (length a.bytes) (texts (suc (length lengths.1.bytes)) lengths.1) _ (λ directories e7.
-    then_few (length a.bytes) (files (suc (length directories.1.bytes)) directories.0 directories.1) _ (λ entries e8.
-    made_few (length a.bytes) _
-    (along _ _ _ _ _ _ _ _ _ _ _ _
-    (byte_left a minimum.1 minimum.0 e0)
-    (operations_by (version == 4) minimum.1 rest e1)
-    (byte_left rest is_stmt.1 is_stmt.0 e2)
-    (byte_left is_stmt.1 base.1 base.0 e3)
-    (that_most (λ n. nat_lt 0 n) kinds.ZeroRange base.1 range e4)
-    (that_most (λ n. nat_lt 0 n) kinds.OpcodeBaseZero range.1 opcode_base e5)
-    (bytes_left (opcode_base.0 - 1) opcode_base.1 lengths.1 lengths.0 (field_ok _ _ e6))
-    (texts_most (suc (length lengths.1.bytes)) lengths.1 directories.1 directories.0 e7)
-    (files_few (suc (length directories.1.bytes)) directories.0 directories.1 entries.1 entries.0 e8)))))))))))
-
-pub header_few : (version : ℕ) (a : Ahead) (h : Header) → header version a ≡ Ok h → length h.files ≤ length a.bytes
-header_few version a h e = (has_few version a).few h e
 
 -- ---- opcodes
 
@@ -303,14 +246,14 @@ operation_less h a b op e =
 
 -- ---- units
 
-pub unit_less : (t u : Table) (a b : Ahead) → unit t a ≡ Ok (u, b) → IsLess a b
+pub unit_less : (strings : Strings) (t u : Table) (a b : Ahead) → unit strings t a ≡ Ok (u, b) → IsLess a b
 unfolding unit
-unit_less t u a b e =
+unit_less strings t u a b e =
     let size = bind_ok (word a) _ (u, b) e in
     let long = bind_ok (wanted (nat_lt size.0.0 0xFFFFFFF0) kinds.LongForm a.place size.0) _ (u, b) size.2 in
     let inside = bind_ok (announced a.place long.0.0 long.0.1) _ (u, b) long.2 in
     let version = bind_ok (half inside.0.0) _ (u, b) inside.2 in
-    let made = bind_ok (elim (is_read version.0.0) as (λ x. Result Table LineFault) [ true ↦ unit_body version.0.0 t version.0.1 | false ↦ Ok (record t { skipped = t.skipped + 1 }) ]) _ (u, b) version.2 in
+    let made = bind_ok (elim (is_read version.0.0) as (λ x. Result Table LineFault) [ true ↦ unit_body version.0.0 strings t version.0.1 | false ↦ Ok (record t { skipped = t.skipped + 1 }) ]) _ (u, b) version.2 in
     let first = number_left w32 a size.0.1 size.0.0 size.1 in
     let fine = wanted_ok (nat_lt size.0.0 0xFFFFFFF0) kinds.LongForm a.place size.0 long.0 long.1 in
     let next = announced_left a.place long.0.0 long.0.1 inside.0.0 inside.0.1 inside.1 in

@@ -9,10 +9,13 @@ use Rattle.leb_cursor.proofs.Exact.{IsBytes, Consumes, ahead, IsNumber, IsPart, 
 use Rattle.dwarf_lines.specs.declared.LineFault.{LineFault}
 use Rattle.dwarf_lines.specs.declared.LineKind.TheVariants as kinds
 use Rattle.dwarf_lines.specs.Registers.{Table, Header, Operation, Copy, AdvancePc, AdvanceLine, SetFile, SetColumn, NegateStmt, ConstAddPc, FixedAdvancePc, Special, EndSequence, SetAddress, DefineFile, Pass, State, begun, empty_table}
+use Rattle.dwarf_lines.specs.Names.{Strings}
+use Rattle.dwarf_lines.specs.Spelling as spelled
 use Rattle.dwarf_lines.specs.Spelling.{SpellsStandard, SpellsExtended, IsPassed, Spells, SpellsHeader, IsRead, ReadsUnit, TakesUnit, Takes, IsTable}
-use Rattle.dwarf_lines.specs.Reading.{fault, field, wanted, word, half, announced, header, program, is_read, unit_body, unit, units, reading}
+use Rattle.dwarf_lines.specs.Reading.{fault, field, wanted, word, half, announced, header, program, is_read, sizes, unit_body, unit, units, reading}
 use Rattle.dwarf_lines.proofs.Programs.{bind_ok, wanted_ok, program_takes}
-use Rattle.dwarf_lines.proofs.Headers.{field_ok, ok_is, header_takes, enough}
+use Rattle.dwarf_lines.proofs.Headers.{field_ok, ok_is}
+use Rattle.dwarf_lines.proofs.Heads.{header_takes, sizes_takes, enough}
 use Rattle.dwarf_lines.proofs.Extended.{operation_takes}
 
 -- ---- each spelling of an operation begins with its opcode
@@ -60,25 +63,30 @@ announced_takes place n a x fits e = part_takes n a x.0 x.1 fits (part_ok (nat_l
 three : (w : List ℕ) (n : ℕ) (number body rest whole mid x : List ℕ) → whole ≡ number ++ mid → number ≡ w → mid ≡ body ++ rest → body ≡ x → whole ≡ w ++ x ++ rest
 three w n number body rest whole mid x e is f same = e ∙ ap (λ (z : List ℕ). number ++ z) f ∙ sym (append_assoc number body rest) ∙ ap (λ (z : List ℕ). z ++ body ++ rest) is ∙ ap (λ (z : List ℕ). w ++ z ++ rest) same
 
-reads_by : (version : ℕ) (t : Table) (a b p c : Ahead) (n : ℕ) (h : Header) (s : State) → Consumes (IsNumber w32 (2 ^ 32) n) a b → Consumes (IsPart n b p) b c → SpellsHeader version h p.bytes
-    → program (suc (length c.bytes)) h (begun h t) c ≡ Ok s → ReadsUnit version a.bytes t s.table
-reads_by version t a b p c n h s number part head e =
+reads_by : (version : ℕ) (strings : Strings) (t : Table) (start a b p c : Ahead) (n : ℕ) (h : Header) (s : State) → Consumes (λ code. code ≡ spelled.sizes version) start a → Consumes (IsNumber w32 (2 ^ 32) n) a b → Consumes (IsPart n b p) b c → SpellsHeader version strings h p.bytes
+    → program (suc (length c.bytes)) h (begun h t) c ≡ Ok s → ReadsUnit version strings start.bytes t s.table
+reads_by version strings t start a b p c n h s two number part head e =
     let run = program_takes h (λ a op b. operation_takes h a (op, b)) (begins h) (suc (length c.bytes)) (begun h t) s c.place c.bytes part.rest (enough (length c.bytes)) e in
     let len : n ≡ length p.bytes = sym part.is.len in
     let whole : a.bytes ≡ to_le_bytes w32 n ++ p.bytes ++ c.bytes = three (to_le_bytes w32 n) n number.code part.code c.bytes a.bytes b.bytes p.bytes number.parts number.is.0 part.parts part.is.bytes in
-    (h, p.bytes, run.0, s, whole ∙ ap (λ (k : ℕ). to_le_bytes w32 k ++ p.bytes ++ c.bytes) len ∙ ap (λ (z : List ℕ). to_le_bytes w32 (length p.bytes) ++ p.bytes ++ z) run.1, head, run.2, run.3, refl)
+    let after : a.bytes ≡ to_le_bytes w32 (length p.bytes) ++ p.bytes ++ concat run.0 = whole ∙ ap (λ (k : ℕ). to_le_bytes w32 k ++ p.bytes ++ c.bytes) len ∙ ap (λ (z : List ℕ). to_le_bytes w32 (length p.bytes) ++ p.bytes ++ z) run.1 in
+    (h, p.bytes, run.0, s, two.parts ∙ ap (λ (z : List ℕ). z ++ a.bytes) two.is ∙ ap (λ (z : List ℕ). spelled.sizes version ++ z) after, head, run.2, run.3, refl)
 
-body_takes : (version : ℕ) (t u : Table) (a : Ahead) → IsBytes a.bytes → unit_body version t a ≡ Ok u → ReadsUnit version a.bytes t u
+body_takes : (version : ℕ) (strings : Strings) (t u : Table) (start : Ahead) → IsBytes start.bytes → unit_body version strings t start ≡ Ok u → ReadsUnit version strings start.bytes t u
 unfolding unit_body
-body_takes version t u a fits e =
-    let size = bind_ok (word a) _ u e in
+body_takes version strings t u start begin e =
+    let after = bind_ok (sizes version start) _ u e in
+    let a = after.0 in
+    let two = sizes_takes version start a begin after.1 in
+    let fits = two.rest in
+    let size = bind_ok (word a) _ u after.2 in
     let c = word_takes a size.0.1 size.0.0 fits (field_ok _ _ size.1) in
     let inside = bind_ok (announced a.place size.0.0 size.0.1) _ u size.2 in
     let d = announced_takes a.place size.0.0 size.0.1 inside.0 c.rest inside.1 in
-    let h = bind_ok (header version inside.0.0) _ u inside.2 in
-    let head = header_takes version inside.0.0 h.0 d.is.fits h.1 in
+    let h = bind_ok (header version strings inside.0.0) _ u inside.2 in
+    let head = header_takes version strings inside.0.0 h.0 d.is.fits h.1 in
     let s = bind_ok (program (suc (length inside.0.1.bytes)) h.0 (begun h.0 t) inside.0.1) _ u h.2 in
-    subst (ReadsUnit version a.bytes t) (ok_is s.0.table u s.2) (reads_by version t a size.0.1 inside.0.0 inside.0.1 size.0.0 h.0 s.0 c d head s.1)
+    subst (ReadsUnit version strings start.bytes t) (ok_is s.0.table u s.2) (reads_by version strings t start a size.0.1 inside.0.0 inside.0.1 size.0.0 h.0 s.0 two c d head s.1)
 
 pub both_true : (a b : Bool) → (a && b) ≡ true → (a ≡ true) × (b ≡ true)
 both_true true b e = (refl, e)
@@ -87,19 +95,19 @@ both_true false b e = absurd cc
 not_both : (a b : Bool) → (a && b) ≡ false → (a ≡ true) × (b ≡ true) → ⊥
 not_both a b e both = let no : true ≡ false = sym (ap (λ (x : Bool). x && b) both.0 ∙ both.1) ∙ e in absurd cc
 
-decided : (version : ℕ) (reads : Bool) (t u : Table) (a : Ahead) → is_read version ≡ reads → IsBytes a.bytes
-    → (elim reads as (λ x. Result Table LineFault) [ true ↦ unit_body version t a | false ↦ Ok (record t { skipped = t.skipped + 1 }) ]) ≡ Ok u
-    → (IsRead version × ReadsUnit version a.bytes t u) ⊎ ((IsRead version → ⊥) × (u ≡ record t { skipped = t.skipped + 1 }))
-decided version true t u a is fits e =
-    let both = both_true (nat_le 2 version) (nat_le version 4) is in
-    inl ((leb-true _ _ both.0, leb-true _ _ both.1), body_takes version t u a fits e)
-decided version false t u a is fits e =
-    inr ((λ in_range. not_both (nat_le 2 version) (nat_le version 4) is (le-leb _ _ in_range.0, le-leb _ _ in_range.1)), sym (ok_is (record t { skipped = t.skipped + 1 }) u e))
+decided : (version : ℕ) (strings : Strings) (reads : Bool) (t u : Table) (a : Ahead) → is_read version ≡ reads → IsBytes a.bytes
+    → (elim reads as (λ x. Result Table LineFault) [ true ↦ unit_body version strings t a | false ↦ Ok (record t { skipped = t.skipped + 1 }) ]) ≡ Ok u
+    → (IsRead version × ReadsUnit version strings a.bytes t u) ⊎ ((IsRead version → ⊥) × (u ≡ record t { skipped = t.skipped + 1 }))
+decided version strings true t u a is fits e =
+    let both = both_true (nat_le 2 version) (nat_le version 5) is in
+    inl ((leb-true _ _ both.0, leb-true _ _ both.1), body_takes version strings t u a fits e)
+decided version strings false t u a is fits e =
+    inr ((λ in_range. not_both (nat_le 2 version) (nat_le version 5) is (le-leb _ _ in_range.0, le-leb _ _ in_range.1)), sym (ok_is (record t { skipped = t.skipped + 1 }) u e))
 
-unit_by : (t u : Table) (a b p c v : Ahead) (n version : ℕ) → Consumes (IsNumber w32 (2 ^ 32) n) a b → n < 0xFFFFFFF0 → Consumes (IsPart n b p) b c → Consumes (IsNumber w16 (2 ^ 16) version) p v
-    → (IsRead version × ReadsUnit version v.bytes t u) ⊎ ((IsRead version → ⊥) × (u ≡ record t { skipped = t.skipped + 1 }))
-    → Consumes (λ code. TakesUnit code t u) a c
-unit_by t u a b p c v n version number small part half which =
+unit_by : (strings : Strings) (t u : Table) (a b p c v : Ahead) (n version : ℕ) → Consumes (IsNumber w32 (2 ^ 32) n) a b → n < 0xFFFFFFF0 → Consumes (IsPart n b p) b c → Consumes (IsNumber w16 (2 ^ 16) version) p v
+    → (IsRead version × ReadsUnit version strings v.bytes t u) ⊎ ((IsRead version → ⊥) × (u ≡ record t { skipped = t.skipped + 1 }))
+    → Consumes (λ code. TakesUnit strings code t u) a c
+unit_by strings t u a b p c v n version number small part half which =
     let inside : p.bytes ≡ to_le_bytes w16 version ++ v.bytes = half.parts ∙ ap (λ (z : List ℕ). z ++ v.bytes) half.is.0 in
     let len : n ≡ 2 + length v.bytes = sym part.is.len ∙ ap (λ (z : List ℕ). length z) inside ∙ length-append (to_le_bytes w16 version) v.bytes in
     record {
@@ -117,9 +125,9 @@ unit_by t u a b p c v n version number small part half which =
       rest = part.rest;
     }
 
-unit_takes : (t : Table) (a : Ahead) (y : Table × Ahead) → IsBytes a.bytes → unit t a ≡ Ok y → Consumes (λ code. TakesUnit code t y.0) a y.1
+unit_takes : (strings : Strings) (t : Table) (a : Ahead) (y : Table × Ahead) → IsBytes a.bytes → unit strings t a ≡ Ok y → Consumes (λ code. TakesUnit strings code t y.0) a y.1
 unfolding unit
-unit_takes t a y fits e =
+unit_takes strings t a y fits e =
     let size = bind_ok (word a) _ y e in
     let c = word_takes a size.0.1 size.0.0 fits (field_ok _ _ size.1) in
     let long = bind_ok (wanted (nat_lt size.0.0 0xFFFFFFF0) kinds.LongForm a.place size.0) _ y size.2 in
@@ -129,29 +137,29 @@ unit_takes t a y fits e =
     let d = announced_takes a.place size.0.0 size.0.1 inside.0 c.rest moved in
     let version = bind_ok (half inside.0.0) _ y inside.2 in
     let v = half_takes inside.0.0 version.0.1 version.0.0 d.is.fits (field_ok _ _ version.1) in
-    let u = bind_ok (elim (is_read version.0.0) as (λ x. Result Table LineFault) [ true ↦ unit_body version.0.0 t version.0.1 | false ↦ Ok (record t { skipped = t.skipped + 1 }) ]) _ y version.2 in
-    let which = decided version.0.0 (is_read version.0.0) t u.0 version.0.1 refl v.rest u.1 in
-    subst (λ (z : Table × Ahead). Consumes (λ code. TakesUnit code t z.0) a z.1) (ok_is (u.0, inside.0.1) y u.2)
-    (unit_by t u.0 a size.0.1 inside.0.0 inside.0.1 version.0.1 size.0.0 version.0.0 c (ltb-true _ _ w.0) d v which)
+    let u = bind_ok (elim (is_read version.0.0) as (λ x. Result Table LineFault) [ true ↦ unit_body version.0.0 strings t version.0.1 | false ↦ Ok (record t { skipped = t.skipped + 1 }) ]) _ y version.2 in
+    let which = decided version.0.0 strings (is_read version.0.0) t u.0 version.0.1 refl v.rest u.1 in
+    subst (λ (z : Table × Ahead). Consumes (λ code. TakesUnit strings code t z.0) a z.1) (ok_is (u.0, inside.0.1) y u.2)
+    (unit_by strings t u.0 a size.0.1 inside.0.0 inside.0.1 version.0.1 size.0.0 version.0.0 c (ltb-true _ _ w.0) d v which)
 
 long_enough : (unit t w : List ℕ) → unit ≡ w ++ t → 0 < length w → 0 < length unit
 long_enough unit t w e some = rw e (omega (arith, length-append w t))
 
-pub units_takes : (n : ℕ) (t u : Table) (place : ℕ) (bytes : List ℕ) → IsBytes bytes → length bytes < n → units n t (ahead place bytes) ≡ Ok u → (us : List (List ℕ)) × (bytes ≡ concat us) × Takes us t u
+pub units_takes : (n : ℕ) (strings : Strings) (t u : Table) (place : ℕ) (bytes : List ℕ) → IsBytes bytes → length bytes < n → units n strings t (ahead place bytes) ≡ Ok u → (us : List (List ℕ)) × (bytes ≡ concat us) × Takes strings us t u
 unfolding units
-units_takes zero t u place bytes fits lt e = absurd (omega arith)
-units_takes (suc n) t u place [] fits lt e = ([], refl, sym (ok_is t u e))
-units_takes (suc n) t u place (b ∷ bs) fits lt e =
-    let x = bind_ok (unit t (ahead place (b ∷ bs))) _ u e in
-    let c = unit_takes t (ahead place (b ∷ bs)) x.0 fits x.1 in
+units_takes zero strings t u place bytes fits lt e = absurd (omega arith)
+units_takes (suc n) strings t u place [] fits lt e = ([], refl, sym (ok_is t u e))
+units_takes (suc n) strings t u place (b ∷ bs) fits lt e =
+    let x = bind_ok (unit strings t (ahead place (b ∷ bs))) _ u e in
+    let c = unit_takes strings t (ahead place (b ∷ bs)) x.0 fits x.1 in
     let some : 0 < length c.code = long_enough c.code c.is.1 (to_le_bytes w32 (2 + length c.is.1) ++ to_le_bytes w16 c.is.0) c.is.2 (lit< tt) in
     let less : length x.0.1.bytes < n = omega (arith, ap (λ (z : List ℕ). length z) c.parts, length-append c.code x.0.1.bytes) in
-    let more = units_takes n x.0.0 u x.0.1.place x.0.1.bytes c.rest less x.2 in
+    let more = units_takes n strings x.0.0 u x.0.1.place x.0.1.bytes c.rest less x.2 in
     (c.code ∷ more.0, c.parts ∙ ap (λ (z : List ℕ). c.code ++ z) more.1, (x.0.0, c.is, more.2))
 
 -- what is read is a table of the section
-pub reading_takes : (section : List ℕ) (t : Table) → IsBytes section → reading section ≡ Ok t → IsTable section t
+pub reading_takes : (strings : Strings) (section : List ℕ) (t : Table) → IsBytes section → reading strings section ≡ Ok t → IsTable strings section t
 unfolding reading
-reading_takes section t fits e =
-    let x = units_takes (suc (length section)) empty_table t 0 section fits (omega arith) e in
+reading_takes strings section t fits e =
+    let x = units_takes (suc (length section)) strings empty_table t 0 section fits (omega arith) e in
     record { units = x.0; whole = x.1; takes = x.2 }

@@ -1,16 +1,20 @@
 -- Reading a section field by field, up to the first fault.
-use Rattle.std.specs.Prelude.{◌≡◌, ℕ, zero, suc, ◌+◌, ◌-◌, Bool, true, false, not, ◌&&◌, List, [], ◌∷◌, length, get_or, ℤ, Result, Ok, Err, nat_lt, nat_le, ◌==◌, if◌then◌else◌}
+use Rattle.std.specs.Prelude.{◌≡◌, ℕ, zero, suc, ◌+◌, ◌-◌, Bool, true, false, not, ◌&&◌, List, [], ◌∷◌, length, get_or, ℤ, Result, Ok, Err, nat_lt, nat_le, ◌==◌, ◌||◌, drop, take, position, Option, Some, None, if◌then◌else◌}
 use Rattle.std.specs.Int.{w8, w16, w32, w64, cast_signed}
 use Rattle.leb_cursor.specs.declared.Short.{Short}
 use Rattle.leb_cursor.specs.declared.LebFault.{LebFault}
 use Rattle.leb_cursor.specs.declared.LebFault.TheVariants as leb
-use Rattle.leb_cursor.specs.Ahead.{Ahead, Reading, ◌>>=◌, number_at, bytes_at, part_at, text_at, uleb_at, sleb_at}
+use Rattle.leb_cursor.specs.Ahead.{Ahead, Reading, ◌>>=◌, up_to, number_at, bytes_at, part_at, text_at, uleb_at, sleb_at}
 use Rattle.dwarf_lines.specs.declared.LineKind.{LineKind}
 use Rattle.dwarf_lines.specs.declared.LineKind.TheVariants as kinds
 use Rattle.dwarf_lines.specs.declared.LineFault.{LineFault}
 use Rattle.dwarf_lines.specs.declared.LineError.{LineError}
 use Rattle.dwarf_lines.specs.declared.LineError.TheVariants as errors
-use Rattle.dwarf_lines.specs.Registers.{File, Table, Header, Operation, Copy, AdvancePc, AdvanceLine, SetFile, SetColumn, NegateStmt, ConstAddPc, FixedAdvancePc, Special, EndSequence, SetAddress, DefineFile, Pass, State, empty_table, after, has_line, begun, is_open, directory, view}
+use Rattle.dwarf_lines.specs.Registers.{File, Table, Header, Operation, Copy, AdvancePc, AdvanceLine, SetFile, SetColumn, NegateStmt, ConstAddPc, FixedAdvancePc, Special, EndSequence, SetAddress, DefineFile, Pass, State, empty_table, after, has_line, begun, is_open, directory}
+use Rattle.dwarf_lines.specs.declared.forms.Form.{Form}
+use Rattle.dwarf_lines.specs.declared.forms.Form.TheVariants.{Own, General, Line, Byte, Half, Leb, Four, Eight, Sixteen, Block}
+use Rattle.dwarf_lines.specs.declared.forms.Format.{Format}
+use Rattle.dwarf_lines.specs.Names.{Strings, form_for, Value, Text, Number, Other, Entry, empty_entry, entry_of, paths, files_of}
 
 -- ---- fields
 
@@ -95,18 +99,135 @@ files (suc n) directories a = do
     | b ∷ bs ↦ named directories name.0 name.1 >>= λ first. files n directories first.1 >>= λ more. Ok (first.0 ∷ more.0, more.1)
   ]
 
--- ---- header (DWARF 4, 6.2.4)
+-- ---- directories and files of version 5 (DWARF 5, 6.2.4.1)
+
+-- four bytes, the place of a text in a section of texts; the text goes up to the next zero byte
+abbrev pub text_in : List ℕ → Ahead → Reading Value LineFault
+text_in texts a = do
+  n ← word a
+  up_to {X = Reading Value LineFault} (position (λ b. b == 0) (drop n.0 texts)) a (λ k. Ok (Text (take k (drop n.0 texts)), n.1)) (Err (fault kinds.TextOut a.place))
+
+abbrev pub own_text : Ahead → Reading Value LineFault
+own_text a = do
+  text ← field (text_at a)
+  Ok (Text text.0, text.1)
+
+abbrev pub number : Reading ℕ LineFault → Reading Value LineFault
+number reads = do
+  n ← reads
+  Ok (Number n.0, n.1)
+
+abbrev pub other : Reading (List ℕ) LineFault → Reading Value LineFault
+other reads = do
+  x ← reads
+  Ok (Other, x.1)
+
+abbrev pub block : Ahead → Reading (List ℕ) LineFault
+block a = do
+  size ← unsigned a
+  field (bytes_at size.0 size.1)
+
+abbrev pub value : Strings → Form → Ahead → Reading Value LineFault
+value strings Own a = own_text a
+value strings General a = text_in strings.general a
+value strings Line a = text_in strings.line a
+value strings Byte a = number (byte a)
+value strings Half a = number (half a)
+value strings Leb a = number (unsigned a)
+value strings Four a = other (field (bytes_at 4 a))
+value strings Eight a = other (field (bytes_at 8 a))
+value strings Sixteen a = other (field (bytes_at 16 a))
+value strings Block a = other (block a)
+
+-- the form that is there, else FormOut at this place
+abbrev pub allowed : Option Form → ℕ → Result Form LineFault
+allowed (Some form) place = Ok form
+allowed None place = Err (fault kinds.FormOut place)
+
+abbrev pub format : Ahead → Reading Format LineFault
+format a = do
+  content ← unsigned a
+  code ← unsigned content.1
+  form ← allowed (form_for content.0 code.0) content.1.place
+  Ok (record { content = content.0; form = form }, code.1)
+
+unfoldable pub formats : ℕ → Ahead → Reading (List Format) LineFault
+formats zero a = Ok ([], a)
+formats (suc n) a = do
+  first ← format a
+  more ← formats n first.1
+  Ok (first.0 ∷ more.0, more.1)
+
+-- a value for each format
+unfoldable pub values : Strings → List Format → Ahead → Reading (List Value) LineFault
+values strings [] a = Ok ([], a)
+values strings (f ∷ fs) a = do
+  first ← value strings f.form a
+  more ← values strings fs first.1
+  Ok (first.0 ∷ more.0, more.1)
+
+abbrev pub entry : Strings → List Format → Ahead → Reading Entry LineFault
+entry strings fs a = do
+  vs ← values strings fs a
+  Ok (entry_of fs vs.0 empty_entry, vs.1)
+
+unfoldable pub entries : ℕ → Strings → List Format → Ahead → Reading (List Entry) LineFault
+entries zero strings fs a = Ok ([], a)
+entries (suc n) strings fs a = do
+  first ← entry strings fs a
+  more ← entries n strings fs first.1
+  Ok (first.0 ∷ more.0, more.1)
+
+-- a count of formats, the formats, a count of entries, and these
+unfoldable pub listed : Strings → Ahead → Reading (List Entry) LineFault
+listed strings a = do
+  count ← byte a
+  fs ← formats count.0 count.1
+  n ← unsigned fs.1
+  fine ← wanted (nat_lt 0 count.0 || n.0 == 0) kinds.EmptyEntries fs.1.place n
+  entries fine.0 strings fs.0 fine.1
+
+-- ---- header (DWARF 4, 6.2.4; DWARF 5, 6.2.4)
+
+-- the directories' texts and the files
+pub record Names : Type 0 where
+  pub directories : List (List ℕ)
+  pub files : List File
+
+abbrev pub names_before_5 : Ahead → Reading Names LineFault
+names_before_5 a = do
+  directories ← texts (suc (length a.bytes)) a
+  entries ← files (suc (length directories.1.bytes)) directories.0 directories.1
+  Ok (record { directories = directories.0; files = entries.0 }, entries.1)
+
+abbrev pub names_5 : Strings → Ahead → Reading Names LineFault
+names_5 strings a = do
+  directories ← listed strings a
+  files ← listed strings directories.1
+  Ok (record { directories = paths directories.0; files = files_of (paths directories.0) files.0 }, files.1)
+
+abbrev pub names : Bool → Strings → Ahead → Reading Names LineFault
+names true strings a = names_5 strings a
+names false strings a = names_before_5 a
+
+-- address_size and segment_selector_size, in version 5 alone
+abbrev pub sizes : ℕ → Ahead → Result Ahead LineFault
+sizes version a =
+    elim (version == 5) [
+      | true ↦ byte_that (λ n. n == 8) kinds.AddressSize a >>= λ size. byte_that (λ n. n == 0) kinds.SegmentSize size.1 >>= λ segment. Ok segment.1
+      | false ↦ Ok a
+    ]
 
 abbrev pub operations : ℕ → Ahead → Result Ahead LineFault
 operations version a =
-    elim (version == 4) [
+    elim (nat_le 4 version) [
       | true ↦ byte_that (λ n. n == 1) kinds.ManyOps a >>= λ n. Ok n.1
       | false ↦ Ok a
     ]
 
 -- from minimum_instruction_length on
-unfoldable pub header : ℕ → Ahead → Result Header LineFault
-header version a = do
+unfoldable pub header : ℕ → Strings → Ahead → Result Header LineFault
+header version strings a = do
   minimum ← byte a
   rest ← operations version minimum.1
   is_stmt ← byte rest
@@ -114,17 +235,17 @@ header version a = do
   range ← byte_that (λ n. nat_lt 0 n) kinds.ZeroRange base.1
   opcode_base ← byte_that (λ n. nat_lt 0 n) kinds.OpcodeBaseZero range.1
   lengths ← field (bytes_at (opcode_base.0 - 1) opcode_base.1)
-  directories ← texts (suc (length lengths.1.bytes)) lengths.1
-  entries ← files (suc (length directories.1.bytes)) directories.0 directories.1
+  names ← names (version == 5) strings lengths.1
   Ok (record {
+    version = version;
     minimum_length = minimum.0;
     is_stmt = not (is_stmt.0 == 0);
     line_base = cast_signed w8 base.0;
     line_range = range.0;
     opcode_base = opcode_base.0;
     lengths = lengths.0;
-    directories = directories.0;
-    files = entries.0;
+    directories = names.0.directories;
+    files = names.0.files;
   })
 
 -- ---- opcodes (DWARF 4, 6.2.5)
@@ -182,7 +303,7 @@ extended h place size =
     (λ a. Ok Pass)
     ∷ (λ a. Ok EndSequence)
     ∷ address place size
-    ∷ (λ a. file h.directories a >>= λ f. Ok (DefineFile f.0))
+    ∷ (λ a. elim (h.version == 5) [ true ↦ Ok Pass | false ↦ file h.directories a >>= λ f. Ok (DefineFile f.0) ])
     ∷ []
 
 abbrev pub body : Header → ℕ → Ahead → Result Operation LineFault
@@ -229,36 +350,37 @@ finished reads = reads >>= λ s. Ok s.table
 -- ---- units
 
 abbrev pub is_read : ℕ → Bool
-is_read version = nat_le 2 version && nat_le version 4
+is_read version = nat_le 2 version && nat_le version 5
 
 -- after the version, up to the unit's end
-unfoldable pub unit_body : ℕ → Table → Ahead → Result Table LineFault
-unit_body version t a = do
-  size ← word a
-  inside ← announced a.place size.0 size.1
-  h ← header version inside.0
+unfoldable pub unit_body : ℕ → Strings → Table → Ahead → Result Table LineFault
+unit_body version strings t a = do
+  after ← sizes version a
+  size ← word after
+  inside ← announced after.place size.0 size.1
+  h ← header version strings inside.0
   finished (program (suc (length inside.1.bytes)) h (begun h t) inside.1)
 
-unfoldable pub unit : Table → Ahead → Reading Table LineFault
-unit t a = do
+unfoldable pub unit : Strings → Table → Ahead → Reading Table LineFault
+unit strings t a = do
   size ← word a
   long ← wanted (nat_lt size.0 0xFFFFFFF0) kinds.LongForm a.place size
   inside ← announced a.place long.0 long.1
   version ← half inside.0
-  u ← elim (is_read version.0) [ true ↦ unit_body version.0 t version.1 | false ↦ Ok (record t { skipped = t.skipped + 1 }) ]
+  u ← elim (is_read version.0) [ true ↦ unit_body version.0 strings t version.1 | false ↦ Ok (record t { skipped = t.skipped + 1 }) ]
   Ok (u, inside.1)
 
-unfoldable pub units : ℕ → Table → Ahead → Result Table LineFault
-units zero t a = Ok t
-units (suc n) t a =
+unfoldable pub units : ℕ → Strings → Table → Ahead → Result Table LineFault
+units zero strings t a = Ok t
+units (suc n) strings t a =
     elim (a.bytes) [
       | [] ↦ Ok t
-      | b ∷ bs ↦ unit t a >>= λ u. units n u.0 u.1
+      | b ∷ bs ↦ unit strings t a >>= λ u. units n strings u.0 u.1
     ]
 
 -- the table of a section, or its first fault
-unfoldable pub reading : List ℕ → Result Table LineFault
-reading section = units (suc (length section)) empty_table (record { place = 0; bytes = section })
+unfoldable pub reading : Strings → List ℕ → Result Table LineFault
+reading strings section = units (suc (length section)) strings empty_table (record { place = 0; bytes = section })
 
 -- ---- what calls answer
 

@@ -1,5 +1,5 @@
 -- What line programs change: the registers and the table so far (DWARF 4, 6.2.2).
-use Rattle.std.specs.Prelude.{ℕ, zero, suc, ◌+◌, ◌-◌, ◌*◌, ◌/◌, ◌%◌, ◌^◌, Bool, true, false, not, List, [], ◌∷◌, ◌++◌, map, length, count_by, get_or, ℤ, pos, negsuc, ◌+ℤ◌, Option, Some, None, nat_lt, if◌then◌else◌}
+use Rattle.std.specs.Prelude.{ℕ, zero, suc, ◌+◌, ◌-◌, ◌*◌, ◌/◌, ◌%◌, ◌^◌, Bool, true, false, not, List, [], ◌∷◌, ◌++◌, map, length, count_by, get_or, ℤ, pos, negsuc, ◌+ℤ◌, Option, Some, None, nat_lt, ◌==◌, if◌then◌else◌}
 use Rattle.std.specs.Borrow.{Bor}
 use Rattle.dwarf_lines.specs.declared.Row.{Row}
 use Rattle.dwarf_lines.specs.declared.registers.Registers.{Registers}
@@ -22,6 +22,7 @@ empty_table = record { files = []; rows = []; skipped = 0 }
 
 -- what the program of a unit needs of its header (DWARF 4, 6.2.4)
 pub record Header : Type 0 where
+  pub version : ℕ
   pub minimum_length : ℕ
   pub is_stmt : Bool
   pub line_base : ℤ
@@ -115,12 +116,20 @@ abbrev pub fits_line : ℤ → Bool
 fits_line (pos n) = nat_lt n (2 ^ 32)
 fits_line (negsuc n) = false
 
+-- the position of a file of the unit, counted from 0, if there is an entry
+abbrev pub file_from_0 : State → ℕ → Option ℕ
+file_from_0 s k = if nat_lt (s.first_file + k) (length s.table.files) then Some (s.first_file + k) else None
+
+-- files count from 0 in version 5, and from 1 before
+abbrev pub file_of : Header → State → ℕ → Option ℕ
+file_of h s n = if h.version == 5 then file_from_0 s n else file_position s n
+
 -- the row of these registers
-abbrev pub row : State → Bool → Registers → Row
-row s is_last r = record {
+abbrev pub row : Header → State → Bool → Registers → Row
+row h s is_last r = record {
   sequence = count_by (λ (row : Row). row.ends) s.table.rows;
   address = r.address;
-  file = file_position s r.file;
+  file = file_of h s r.file;
   line = natural r.line;
   column = r.column;
   is_stmt = r.is_stmt;
@@ -134,7 +143,7 @@ after h op s =
     record s {
       table = record s.table {
         files = s.table.files ++ defines op;
-        rows = s.table.rows ++ (if appends op then row s (ends op) r ∷ [] else []);
+        rows = s.table.rows ++ (if appends op then row h s (ends op) r ∷ [] else []);
       };
       registers = if ends op then fresh h else r;
     }

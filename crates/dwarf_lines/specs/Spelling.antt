@@ -1,10 +1,14 @@
 -- Which sections spell which tables. A section is a concatenation of units, and a program one of opcodes.
-use Rattle.std.specs.Prelude.{◌≡◌, ℕ, ◌+◌, ◌-◌, ◌^◌, ◌<◌, ◌≤◌, ◌≢◌, ◌⊎◌, true, false, List, [], ◌∷◌, ◌++◌, length, slice_index, ℤ, not, ◌==◌}
+use Rattle.std.specs.Prelude.{◌≡◌, ℕ, ◌+◌, ◌-◌, ◌^◌, ◌<◌, ◌≤◌, ◌≢◌, ◌⊎◌, true, false, List, [], ◌∷◌, ◌++◌, length, slice_index, ℤ, not, ◌==◌, nat_le, drop, Bool, Some}
 use Rattle.std.specs.List.{concat, AllByRecursion}
 use Rattle.std.specs.Int.{w16, w32, w64, to_le_bytes, cast_signed, w8}
 use Rattle.leb_cursor.specs.Numbers.{SpellsUnsigned, SpellsSigned}
 use Rattle.leb_cursor.specs.Ahead.{fits_64_signed}
 use Rattle.dwarf_lines.specs.Registers.{File, Table, Header, Operation, Copy, AdvancePc, AdvanceLine, SetFile, SetColumn, NegateStmt, ConstAddPc, FixedAdvancePc, Special, EndSequence, SetAddress, DefineFile, Pass, State, empty_table, after, has_line, begun, is_open, directory}
+use Rattle.dwarf_lines.specs.declared.forms.Form.{Form}
+use Rattle.dwarf_lines.specs.declared.forms.Form.TheVariants.{Own, General, Line, Byte, Half, Leb, Four, Eight, Sixteen, Block}
+use Rattle.dwarf_lines.specs.declared.forms.Format.{Format}
+use Rattle.dwarf_lines.specs.Names.{Strings, form_for, Value, Text, Number, Other, Entry, empty_entry, entry_of, paths, files_of}
 
 -- ---- numbers, texts and files
 
@@ -62,7 +66,7 @@ IsPassed h code =
     ⊎ SpellsStandard h 12 (AreUlebs 1) code
     ⊎ ((o : ℕ) × (12 < o) × SpellsStandard h o (AreUlebs (operand_count h o)) code)
     ⊎ SpellsExtended [] code
-    ⊎ ((e : ℕ) × (body : List ℕ) × (e ≢ 1) × (e ≢ 2) × (e ≢ 3) × SpellsExtended (e ∷ body) code)
+    ⊎ ((e : ℕ) × (body : List ℕ) × (e ≢ 1) × (e ≢ 2) × (e ≡ 3 → h.version ≡ 5) × SpellsExtended (e ∷ body) code)
 
 -- the bytes are a spelling of the operation
 abbrev pub Spells : Header → Operation → List ℕ → Type 0
@@ -77,7 +81,7 @@ Spells h (FixedAdvancePc n) code = SpellsStandard h 9 (λ operands. operands ≡
 Spells h (Special o) code = (code ≡ o ∷ []) × (h.opcode_base ≤ o)
 Spells h EndSequence code = (spare : List ℕ) × SpellsExtended (1 ∷ spare) code
 Spells h (SetAddress a) code = SpellsExtended (2 ∷ to_le_bytes w64 a) code × (a < 2 ^ 64)
-Spells h (DefineFile f) code = (file : List ℕ) × (spare : List ℕ) × SpellsExtended ((3 ∷ file) ++ spare) code × SpellsFile h.directories f file
+Spells h (DefineFile f) code = (file : List ℕ) × (spare : List ℕ) × SpellsExtended ((3 ∷ file) ++ spare) code × SpellsFile h.directories f file × (h.version ≢ 5)
 Spells h Pass code = IsPassed h code
 
 -- opcodes one after the other take a state to another
@@ -85,53 +89,111 @@ abbrev pub Goes : Header → List (List ℕ) → State → State → Type 0
 Goes h [] s t = t ≡ s
 Goes h (code ∷ codes) s t = (op : Operation) × Spells h op code × (has_line h op s ≡ true) × Goes h codes (after h op s) t
 
--- ---- units (DWARF 4, 6.2.4)
+-- ---- directories and files of version 5 (DWARF 5, 6.2.4.1)
 
--- the count of operations for an instruction, in version 4 alone
+-- the text from a place of a section of texts up to a zero byte
+abbrev pub IsTextAt : List ℕ → ℕ → List ℕ → Type 0
+IsTextAt texts n text = (rest : List ℕ) × (drop n texts ≡ (text ++ 0 ∷ []) ++ rest) × AllByRecursion (λ b. 0 < b) text
+
+-- four bytes, the place of a text
+abbrev pub SpellsPlace : List ℕ → Value → List ℕ → Type 0
+SpellsPlace texts v bytes = (n : ℕ) × (text : List ℕ) × (bytes ≡ to_le_bytes w32 n) × (n < 2 ^ 32) × IsTextAt texts n text × (v ≡ Text text)
+
+abbrev pub SpellsValue : Strings → Form → Value → List ℕ → Type 0
+SpellsValue strings Own v bytes = (text : List ℕ) × SpellsText text bytes × (v ≡ Text text)
+SpellsValue strings General v bytes = SpellsPlace strings.general v bytes
+SpellsValue strings Line v bytes = SpellsPlace strings.line v bytes
+SpellsValue strings Byte v bytes = (n : ℕ) × (bytes ≡ n ∷ []) × (v ≡ Number n)
+SpellsValue strings Half v bytes = (n : ℕ) × (bytes ≡ to_le_bytes w16 n) × (n < 2 ^ 16) × (v ≡ Number n)
+SpellsValue strings Leb v bytes = (n : ℕ) × IsUleb n bytes × (v ≡ Number n)
+SpellsValue strings Four v bytes = (length bytes ≡ 4) × (v ≡ Other)
+SpellsValue strings Eight v bytes = (length bytes ≡ 8) × (v ≡ Other)
+SpellsValue strings Sixteen v bytes = (length bytes ≡ 16) × (v ≡ Other)
+SpellsValue strings Block v bytes = (size : List ℕ) × (block : List ℕ) × (bytes ≡ size ++ block) × IsUleb (length block) size × (v ≡ Other)
+
+-- a content and the number of a form that it may have
+abbrev pub SpellsFormat : Format → List ℕ → Type 0
+SpellsFormat f bytes = (content : List ℕ) × (code : List ℕ) × (n : ℕ) × (bytes ≡ content ++ code) × IsUleb f.content content × IsUleb n code × (form_for f.content n ≡ Some f.form)
+
+-- a value for each format
+abbrev pub SpellsValues : Strings → List Format → List Value → List ℕ → Type 0
+SpellsValues strings [] [] bytes = bytes ≡ []
+SpellsValues strings [] (v ∷ vs) bytes = ⊥
+SpellsValues strings (f ∷ fs) [] bytes = ⊥
+SpellsValues strings (f ∷ fs) (v ∷ vs) bytes = (front : List ℕ) × (rest : List ℕ) × (bytes ≡ front ++ rest) × SpellsValue strings f.form v front × SpellsValues strings fs vs rest
+
+abbrev pub SpellsEntry : Strings → List Format → Entry → List ℕ → Type 0
+SpellsEntry strings fs e bytes = (vs : List Value) × SpellsValues strings fs vs bytes × (e ≡ entry_of fs vs empty_entry)
+
+-- the formats with their count, and the entries with theirs; without formats there are no entries
+abbrev pub SpellsListed : Strings → List Entry → List ℕ → Type 0
+SpellsListed strings entries bytes =
+    (fs : List Format) × (formats : List ℕ) × (count : List ℕ) × (spelled : List ℕ)
+    × (bytes ≡ length fs ∷ (formats ++ (count ++ spelled)))
+    × SpellsAll SpellsFormat fs formats × IsUleb (length entries) count × SpellsAll (SpellsEntry strings fs) entries spelled
+    × ((0 < length fs) ⊎ (length entries ≡ 0))
+
+-- ---- units (DWARF 4, 6.2.4; DWARF 5, 6.2.4)
+
+-- address_size and segment_selector_size, in version 5 alone
+abbrev pub sizes : ℕ → List ℕ
+sizes version = elim (version == 5) [ true ↦ 8 ∷ 0 ∷ [] | false ↦ [] ]
+
+-- the count of operations for an instruction, from version 4 on
 abbrev pub operations : ℕ → List ℕ
-operations version = elim (version == 4) [ true ↦ 1 ∷ [] | false ↦ [] ]
+operations version = elim (nat_le 4 version) [ true ↦ 1 ∷ [] | false ↦ [] ]
+
+-- directories and files, with their ends
+abbrev pub SpellsNames : Bool → Strings → List (List ℕ) → List File → List ℕ → Type 0
+SpellsNames true strings directories files bytes =
+    (ds : List Entry) × (fs : List Entry) × (front : List ℕ) × (rest : List ℕ)
+    × (bytes ≡ front ++ rest) × SpellsListed strings ds front × SpellsListed strings fs rest
+    × (directories ≡ paths ds) × (files ≡ files_of directories fs)
+SpellsNames false strings directories files bytes =
+    (front : List ℕ) × (rest : List ℕ)
+    × (bytes ≡ (front ++ 0 ∷ []) ++ (rest ++ 0 ∷ []))
+    × SpellsAll SpellsText directories front × SpellsAll (SpellsFile directories) files rest
+    × AllByRecursion (λ d. 0 < length d) directories × AllByRecursion (λ (f : File). 0 < length f.name) files
 
 -- the header's bytes from minimum_instruction_length on, up to where header_length ends it
-abbrev pub SpellsHeader : ℕ → Header → List ℕ → Type 0
-SpellsHeader version h bytes =
-    (is_stmt : ℕ) × (base : ℕ) × (directories : List ℕ) × (files : List ℕ) × (spare : List ℕ)
-    × (bytes ≡ (h.minimum_length ∷ operations version) ++ (is_stmt ∷ base ∷ h.line_range ∷ h.opcode_base ∷ h.lengths) ++ (directories ++ 0 ∷ []) ++ (files ++ 0 ∷ []) ++ spare)
+abbrev pub SpellsHeader : ℕ → Strings → Header → List ℕ → Type 0
+SpellsHeader version strings h bytes =
+    (is_stmt : ℕ) × (base : ℕ) × (names : List ℕ) × (spare : List ℕ)
+    × (bytes ≡ (h.minimum_length ∷ operations version) ++ (is_stmt ∷ base ∷ h.line_range ∷ h.opcode_base ∷ h.lengths) ++ names ++ spare)
+    × (h.version ≡ version)
     × (h.is_stmt ≡ not (is_stmt == 0))
     × (h.line_base ≡ cast_signed w8 base)
     × (0 < h.line_range)
     × (h.opcode_base ≡ 1 + length h.lengths)
-    × SpellsAll SpellsText h.directories directories
-    × SpellsAll (SpellsFile h.directories) h.files files
-    × AllByRecursion (λ d. 0 < length d) h.directories
-    × AllByRecursion (λ (f : File). 0 < length f.name) h.files
+    × SpellsNames (version == 5) strings h.directories h.files names
 
 abbrev pub IsRead : ℕ → Type 0
-IsRead version = (2 ≤ version) × (version ≤ 4)
+IsRead version = (2 ≤ version) × (version ≤ 5)
 
 -- what a unit of a version that is read has after its version
-abbrev pub ReadsUnit : ℕ → List ℕ → Table → Table → Type 0
-ReadsUnit version bytes t u =
+abbrev pub ReadsUnit : ℕ → Strings → List ℕ → Table → Table → Type 0
+ReadsUnit version strings bytes t u =
     (h : Header) × (header : List ℕ) × (codes : List (List ℕ)) × (s : State)
-    × (bytes ≡ to_le_bytes w32 (length header) ++ header ++ concat codes)
-    × SpellsHeader version h header
+    × (bytes ≡ sizes version ++ (to_le_bytes w32 (length header) ++ header ++ concat codes))
+    × SpellsHeader version strings h header
     × Goes h codes (begun h t) s
     × (is_open s.table.rows ≡ false)
     × (u ≡ s.table)
 
 -- a unit takes a table to another: it is read, or passed over and counted
-abbrev pub TakesUnit : List ℕ → Table → Table → Type 0
-TakesUnit unit t u =
+abbrev pub TakesUnit : Strings → List ℕ → Table → Table → Type 0
+TakesUnit strings unit t u =
     (version : ℕ) × (bytes : List ℕ)
     × (unit ≡ to_le_bytes w32 (2 + length bytes) ++ to_le_bytes w16 version ++ bytes)
     × (2 + length bytes < 0xFFFFFFF0) × (version < 2 ^ 16)
-    × ((IsRead version × ReadsUnit version bytes t u) ⊎ ((IsRead version → ⊥) × (u ≡ record t { skipped = t.skipped + 1 })))
+    × ((IsRead version × ReadsUnit version strings bytes t u) ⊎ ((IsRead version → ⊥) × (u ≡ record t { skipped = t.skipped + 1 })))
 
-abbrev pub Takes : List (List ℕ) → Table → Table → Type 0
-Takes [] t u = u ≡ t
-Takes (unit ∷ units) t u = (m : Table) × TakesUnit unit t m × Takes units m u
+abbrev pub Takes : Strings → List (List ℕ) → Table → Table → Type 0
+Takes strings [] t u = u ≡ t
+Takes strings (unit ∷ units) t u = (m : Table) × TakesUnit strings unit t m × Takes strings units m u
 
 -- the table of a section
-pub record IsTable (section : List ℕ) (table : Table) : Type 0 where
+pub record IsTable (strings : Strings) (section : List ℕ) (table : Table) : Type 0 where
   pub units : List (List ℕ)
   pub whole : section ≡ concat units
-  pub takes : Takes units empty_table table
+  pub takes : Takes strings units empty_table table

@@ -3,10 +3,11 @@
 ghost use Rattle.std.specs.Prelude.{◌≡◌, count_by};
 ghost use Rattle.dwarf_lines.specs.declared.Row.{Row};
 
-use crate::fields::{announced, half, word};
+use crate::fields::{address_sizes, announced, half, word};
 use crate::header::Header;
 use crate::opcode::Operation;
 use crate::registers::Registers;
+use crate::strings::Sections;
 use crate::{FileName, LineError, LineFault, LineKind, LineTable, Row};
 use coz_lists::Items;
 use leb_cursor::Cursor;
@@ -29,10 +30,10 @@ pub struct Draft<'a> {
 impl<'a> Draft<'a> {
     ghost use Rattle.std.specs.Prelude.{◌+◌, ◌<◌, ◌≤◌, ◌^◌, ◌∷◌, ◌++◌, [], ℕ, suc, length, IfOk, OnOk, Ok, Some, None};
     ghost use Rattle.dwarf_lines.specs.declared.LineKind.TheVariants.{LineOut};
-    ghost use Rattle.dwarf_lines.specs.Registers.{empty_table, fits_line, row, after, has_line, fresh, file_position, is_open, view};
+    ghost use Rattle.dwarf_lines.specs.Registers.{empty_table, fits_line, row, after, has_line, fresh, file_of, is_open, view};
     ghost use Rattle.dwarf_lines.specs.Reading.{Gives, WalksOver, wanted, program, finished, unit, unit_body};
     ghost use Rattle.dwarf_lines.specs.Bounds.{IsLineWithin, weight};
-    ghost use Rattle.dwarf_lines.specs.Views.{header_view, operation_view, so_far, state_of};
+    ghost use Rattle.dwarf_lines.specs.Views.{header_view, operation_view, sections_view, so_far, state_of};
 
     pub fn new(alloc: Global) -> Draft<'a>
         ensures { so_far result ≡ empty_table }
@@ -57,9 +58,15 @@ impl<'a> Draft<'a> {
 
     /// Reads the next unit, or passes over it and counts it.
     #[tactic(auto, unfolding(crate::specs::Reading::unit))]
-    pub fn read_unit(&mut self, alloc: Global, cursor: &mut Cursor<'a>) -> Result<(), LineError>
+    pub fn read_unit(
+        &mut self,
+        alloc: Global,
+        sections: &mut Sections<'a>,
+        cursor: &mut Cursor<'a>,
+    ) -> Result<(), LineError>
         requires { weight (so_far self.old) + length cursor.old.bytes ≤ 2 ^ 25 }
-        ensures exact { WalksOver (λ _. so_far self.new) result cursor.new (unit (so_far self.old) cursor.old) }
+        ensures exact { WalksOver (λ _. so_far self.new) result cursor.new (unit (sections_view sections.old) (so_far self.old) cursor.old) }
+        ensures kept { sections_view sections.new ≡ sections_view sections.old }
         ensures room { OnOk result (weight (so_far self.new) + length cursor.new.bytes ≤ weight (so_far self.old) + length cursor.old.bytes) }
     {
         let place = cursor.place();
@@ -72,8 +79,8 @@ impl<'a> Draft<'a> {
         }
         let mut inside = announced(place, size, cursor)?;
         let version = half(&mut inside)?;
-        if 2 <= version && version <= 4 {
-            self.read_body(alloc, version, inside)
+        if 2 <= version && version <= 5 {
+            self.read_body(alloc, version, sections, inside)
         } else {
             self.skipped += 1;
             Ok(())
@@ -86,16 +93,19 @@ impl<'a> Draft<'a> {
         &mut self,
         alloc: Global,
         version: u16,
+        sections: &mut Sections<'a>,
         mut body: Cursor<'a>,
     ) -> Result<(), LineError>
         requires { weight (so_far self.old) + length body.bytes ≤ 2 ^ 25 }
-        ensures exact { Gives (λ _. so_far self.new) result (unit_body version (so_far self.old) body.entry) }
+        ensures exact { Gives (λ _. so_far self.new) result (unit_body version (sections_view sections.old) (so_far self.old) body.entry) }
+        ensures kept { sections_view sections.new ≡ sections_view sections.old }
         ensures room { OnOk result (weight (so_far self.new) ≤ weight (so_far self.old) + length body.entry.bytes) }
     {
+        address_sizes(version, &mut body)?;
         let place = body.place();
         let size = word(&mut body)?;
         let fields = announced(place, size, &mut body)?;
-        let header = Header::read(alloc, version, fields)?;
+        let header = Header::read(alloc, version, sections, fields)?;
         let first_file = self.files.len();
         self.files.extend_from_slice(header.files.as_slice())?;
         self.run(&header, first_file, body)
@@ -145,11 +155,11 @@ impl<'a> Draft<'a> {
         let registers = before.changed(header, &operation);
         match operation {
             Operation::Copy | Operation::Special(_) => {
-                self.append(first_file, place, registers, false)?;
+                self.append(header, first_file, place, registers, false)?;
                 Ok(registers)
             }
             Operation::EndSequence => {
-                self.append(first_file, place, registers, true)?;
+                self.append(header, first_file, place, registers, true)?;
                 Ok(Registers::fresh(header))
             }
             Operation::DefineFile(file) => {
@@ -171,13 +181,14 @@ impl<'a> Draft<'a> {
     /// Appends the row of these registers, if its line fits; the opcode is at this place.
     fn append(
         &mut self,
+        header: &Header,
         first_file: usize,
         place: u64,
         registers: Registers,
         ends: bool,
     ) -> Result<(), LineError>
         requires { weight (so_far self.old) < 2 ^ 25 }
-        ensures exact { Gives (λ _. so_far self.new) result (wanted (fits_line registers.line) LineOut place (record (so_far self.old) { rows = self.old.rows.items ++ row (state_of self.old first_file registers) ends registers ∷ [] })) }
+        ensures exact { Gives (λ _. so_far self.new) result (wanted (fits_line registers.line) LineOut place (record (so_far self.old) { rows = self.old.rows.items ++ row (header_view header.now) (state_of self.old first_file registers) ends registers ∷ [] })) }
     {
         let line = match u32::try_from(registers.line) {
             Ok(line) => line,
@@ -188,7 +199,7 @@ impl<'a> Draft<'a> {
                 }));
             }
         };
-        let file = self.file_position(first_file, registers.file);
+        let file = self.file_of(header, first_file, registers.file);
         self.rows.push(Row {
             sequence: self.sequences,
             address: registers.address,
@@ -204,15 +215,16 @@ impl<'a> Draft<'a> {
         Ok(())
     }
 
-    /// The position of the unit's file of that number, counted from 1, if there is an entry.
-    fn file_position(&self, first_file: usize, number: u64) -> Option<u32>
+    /// The position of the unit's file of that number, if there is an entry.
+    fn file_of(&self, header: &Header, first_file: usize, number: u64) -> Option<u32>
         requires { length self.now.files.items ≤ 2 ^ 25 }
-        ensures { (registers : _) → result ≡ file_position (state_of self.now first_file registers) number }
+        ensures { (registers : _) → result ≡ file_of (header_view header.now) (state_of self.now first_file registers) number }
     {
-        if number == 0 {
+        let first_number = if header.version == 5 { 0 } else { 1 };
+        if number < first_number {
             return None;
         }
-        let position = (first_file as u64).saturating_add(number - 1);
+        let position = (first_file as u64).saturating_add(number - first_number);
         if position < self.files.len() as u64 {
             Some(position as u32)
         } else {

@@ -1,8 +1,8 @@
 //! The fields that headers and opcodes share.
 
-ghost use Rattle.std.specs.Prelude.{◌≡◌, ◌<◌, IfOk, nat_lt, List, ℕ, length, ◌++◌, take};
+ghost use Rattle.std.specs.Prelude.{◌≡◌, ◌<◌, ◌==◌, IfOk, nat_lt, List, ℕ, length, ◌++◌, take};
 ghost use Rattle.leb_cursor.specs.Ahead.{bytes_at, sleb_at, text_at};
-ghost use Rattle.dwarf_lines.specs.Reading.{Walks, WalksOn, WalksOver, field, leb_field, unsigned, byte, half, word, byte_that, operations, announced, pass};
+ghost use Rattle.dwarf_lines.specs.Reading.{Walks, WalksOn, WalksOver, field, leb_field, unsigned, byte, half, word, byte_that, sizes, operations, announced, pass};
 
 use crate::{LineError, LineFault, LineKind};
 use leb_cursor::Cursor;
@@ -59,19 +59,36 @@ pub fn positive_byte(kind: LineKind, cursor: &mut Cursor) -> Result<u8, LineFaul
     }
 }
 
-/// In version 4 the count of operations for an instruction, which has to be 1.
+/// A byte of this value, else this fault at it.
+fn byte_of(value: u8, kind: LineKind, cursor: &mut Cursor) -> Result<u8, LineFault>
+    ensures { Walks (λ x. x) result cursor.new (byte_that (λ n. n == value) kind cursor.old) }
+{
+    let place = cursor.place();
+    let found = byte(cursor)?;
+    if found == value {
+        Ok(found)
+    } else {
+        Err(LineFault { kind, place })
+    }
+}
+
+/// In version 5 the sizes of an address, which has to be 8, and of a segment, which has to be 0.
+pub fn address_sizes(version: u16, cursor: &mut Cursor) -> Result<(), LineFault>
+    ensures { WalksOn result cursor.new (sizes version cursor.old) }
+{
+    if version == 5 {
+        byte_of(8, LineKind::AddressSize, cursor)?;
+        byte_of(0, LineKind::SegmentSize, cursor)?;
+    }
+    Ok(())
+}
+
+/// From version 4 on the count of operations for an instruction, which has to be 1.
 pub fn one_operation(version: u16, cursor: &mut Cursor) -> Result<(), LineFault>
     ensures { WalksOn result cursor.new (operations version cursor.old) }
 {
-    if version == 4 {
-        let place = cursor.place();
-        let count = byte(cursor)?;
-        if count != 1 {
-            return Err(LineFault {
-                kind: LineKind::ManyOps,
-                place,
-            });
-        }
+    if 4 <= version {
+        byte_of(1, LineKind::ManyOps, cursor)?;
     }
     Ok(())
 }

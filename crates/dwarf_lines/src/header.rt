@@ -1,16 +1,26 @@
-//! The header of a unit (DWARF 4, 6.2.4).
+//! The header of a unit (DWARF 4, 6.2.4; DWARF 5, 6.2.4).
 
-ghost use Rattle.std.specs.Prelude.{◌≡◌, ◌+◌, ◌<◌, ◌≤◌, length};
+ghost use Rattle.std.specs.Prelude.{◌≡◌, ◌+◌, ◌<◌, length};
 
 use crate::entries::{read_directories, read_files};
 use crate::fields::{byte, bytes, one_operation, positive_byte};
+use crate::listed::{files_of, paths, read_listed};
+use crate::strings::Sections;
 use crate::{FileName, LineError, LineKind};
 use leb_cursor::Cursor;
 use std::alloc::Global;
 
+/// The directories and files of a header.
+#[derive(Drop)]
+pub struct Names<'a> {
+    pub directories: Vec<&'a [u8]>,
+    pub files: Vec<FileName<'a>>,
+}
+
 /// What a unit's program needs of its header.
 #[derive(Drop)]
 pub struct Header<'a> {
+    pub version: u16,
     pub minimum_length: u8,
     pub is_stmt: bool,
     pub line_base: i8,
@@ -26,16 +36,18 @@ pub struct Header<'a> {
 
 impl<'a> Header<'a> {
     ghost use Rattle.dwarf_lines.specs.Reading.{Gives, header};
-    ghost use Rattle.dwarf_lines.specs.Views.{header_view};
+    ghost use Rattle.dwarf_lines.specs.Views.{header_view, sections_view};
 
     /// The header from minimum_instruction_length on. What is left behind its files is passed.
     #[tactic(auto, unfolding(crate::specs::Reading::header))]
     pub fn read(
         alloc: Global,
         version: u16,
+        sections: &mut Sections<'a>,
         mut fields: Cursor<'a>,
     ) -> Result<Header<'a>, LineError>
-        ensures { Gives header_view result (header version fields.entry) }
+        ensures exact { Gives header_view result (header version (sections_view sections.old) fields.entry) }
+        ensures kept { sections_view sections.new ≡ sections_view sections.old }
     {
         let minimum_length = byte(&mut fields)?;
         one_operation(version, &mut fields)?;
@@ -44,17 +56,67 @@ impl<'a> Header<'a> {
         let line_range = positive_byte(LineKind::ZeroRange, &mut fields)?;
         let opcode_base = positive_byte(LineKind::OpcodeBaseZero, &mut fields)?;
         let lengths = bytes(alloc, opcode_base - 1, &mut fields)?;
-        let directories = read_directories(alloc, &mut fields)?;
-        let files = read_files(alloc, directories.as_slice(), &mut fields)?;
+        let names = Names::read(alloc, version, sections, &mut fields)?;
         Ok(Header {
+            version,
             minimum_length,
             is_stmt,
             line_base,
             line_range,
             opcode_base,
             lengths,
-            directories,
-            files,
+            directories: names.directories,
+            files: names.files,
         })
+    }
+}
+
+impl<'a> Names<'a> {
+    ghost use Rattle.std.specs.Prelude.{◌≡◌, ◌==◌};
+    ghost use Rattle.dwarf_lines.specs.Reading.{WalksOver, names, names_before_5, names_5};
+    ghost use Rattle.dwarf_lines.specs.Views.{names_view, sections_view};
+
+    /// The names of a header, as its version has them.
+    fn read(
+        alloc: Global,
+        version: u16,
+        sections: &mut Sections<'a>,
+        cursor: &mut Cursor<'a>,
+    ) -> Result<Names<'a>, LineError>
+        ensures exact { WalksOver names_view result cursor.new (names (version == 5) (sections_view sections.old) cursor.old) }
+        ensures kept { sections_view sections.new ≡ sections_view sections.old }
+    {
+        if version == 5 {
+            Names::read_listed(alloc, sections, cursor)
+        } else {
+            Names::read_ended(alloc, cursor)
+        }
+    }
+
+    /// The two lists of versions 2 to 4, each up to its empty entry.
+    fn read_ended(alloc: Global, cursor: &mut Cursor<'a>) -> Result<Names<'a>, LineError>
+        ensures { WalksOver names_view result cursor.new (names_before_5 cursor.old) }
+    {
+        let directories = read_directories(alloc, cursor)?;
+        let files = read_files(alloc, directories.as_slice(), cursor)?;
+        Ok(Names { directories, files })
+    }
+
+    /// The two lists of version 5, each with its formats and its count.
+    fn read_listed(
+        alloc: Global,
+        sections: &mut Sections<'a>,
+        cursor: &mut Cursor<'a>,
+    ) -> Result<Names<'a>, LineError>
+        ensures exact { WalksOver names_view result cursor.new (names_5 (sections_view sections.old) cursor.old) }
+        ensures kept { sections_view sections.new ≡ sections_view sections.old }
+    {
+        let strings = sections.lend(alloc)?;
+        let directories = read_listed(alloc, &strings, cursor)?;
+        let entries = read_listed(alloc, &strings, cursor)?;
+        sections.take_back(strings);
+        let directories = paths(alloc, directories.as_slice())?;
+        let files = files_of(alloc, directories.as_slice(), entries.as_slice())?;
+        Ok(Names { directories, files })
     }
 }

@@ -1,12 +1,15 @@
-//! Reads the line programs of a `.debug_line` section, versions 2 to 4 (DWARF 4, section 6.2).
+//! Reads the line programs of a `.debug_line` section, versions 2 to 5 (DWARF 4 and 5, section 6.2).
 #![tactic(auto)]
 
 mod draft;
 mod entries;
 mod fields;
+mod forms;
 mod header;
+mod listed;
 mod opcode;
 mod registers;
+mod strings;
 
 ghost use Rattle.std.specs.Prelude.{◌≡◌, ◌≤◌, length, IfOk, Ok};
 ghost use Rattle.dwarf_lines.specs.Registers.{Table, view};
@@ -15,8 +18,10 @@ ghost use Rattle.dwarf_lines.specs.declared.LineKind.TheVariants.{Short};
 ghost use Rattle.dwarf_lines.specs.Reading.{Gives, reading, leb_fault};
 ghost use Rattle.dwarf_lines.specs.Spelling.{IsTable};
 ghost use Rattle.dwarf_lines.specs.Law.{HasOne};
+ghost use Rattle.dwarf_lines.specs.Names.{strings};
 
 use crate::draft::Draft;
+use crate::strings::Sections;
 use coz_lists::Items;
 use leb_cursor::{Cursor, LebFault};
 use std::alloc::{AllocError, AllocFailed, Global};
@@ -40,6 +45,16 @@ pub enum LineKind {
     AddressLength,
     /// A unit that ends within a sequence.
     Unended,
+    /// An address_size of version 5 that isn't 8.
+    AddressSize,
+    /// A segment_selector_size of version 5 that isn't 0.
+    SegmentSize,
+    /// A form that isn't known, or that its content may not have.
+    FormOut,
+    /// Entries without a format.
+    EmptyEntries,
+    /// A place that isn't in its section of texts, or that no zero byte follows there.
+    TextOut,
 }
 
 /// A fault, and where in the section it is.
@@ -151,22 +166,29 @@ pub struct LineTable<'a> {
     pub skipped: u32,
 }
 
-/// The rows of a `.debug_line` section, or its first fault.
-pub fn read_lines<'a>(alloc: Global, section: &'a [u8]) -> Result<LineTable<'a>, LineError>
+/// The rows of a `.debug_line` section, or its first fault. Texts of version 5 may stand in the
+/// general section, `.debug_str`, and in that of lines, `.debug_line_str`.
+pub fn read_lines<'a>(
+    alloc: Global,
+    section: &'a [u8],
+    general: &'a [u8],
+    line: &'a [u8],
+) -> Result<LineTable<'a>, LineError>
     requires { length section.now ≤ 33554432 }
     // Which table or which fault it is.
-    ensures exact { Gives view result (reading section.now) }
+    ensures exact { Gives view result (reading (strings general.now line.now) section.now) }
     // What is read is a table of the section.
-    ensures found { IfOk result (λ t. IsTable section.now (view t)) }
+    ensures found { IfOk result (λ t. IsTable (strings general.now line.now) section.now (view t)) }
     // A table of the section is read, unless memory runs out.
-    ensures only { (t : Table) → IsTable section.now t → Gives view result (Ok t) }
-    // Each section has exactly one table and no fault, or exactly one fault and no table.
-    ensures one { HasOne section.now }
+    ensures only { (t : Table) → IsTable (strings general.now line.now) section.now t → Gives view result (Ok t) }
+    // With given texts each section has exactly one table and no fault, or exactly one fault and no table.
+    ensures one { HasOne (strings general.now line.now) section.now }
 {
     let mut cursor = Cursor::new(section);
+    let mut sections = Sections::new(general, line);
     let mut draft = Draft::new(alloc);
     while cursor.left() > 0 {
-        draft.read_unit(alloc, &mut cursor)?;
+        draft.read_unit(alloc, &mut sections, &mut cursor)?;
     }
     Ok(draft.into_table())
 }

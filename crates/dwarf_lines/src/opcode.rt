@@ -112,7 +112,10 @@ impl<'a> Operation<'a> {
                 }
                 Ok(Operation::SetAddress(inside.double()?))
             }
-            3 => Ok(Operation::DefineFile(read_file(header.directories.as_slice(), &mut inside)?)),
+            3 if header.version != 5 => {
+                let file = read_file(header.directories.as_slice(), &mut inside)?;
+                Ok(Operation::DefineFile(file))
+            }
             _ => Ok(Operation::Pass),
         }
     }

@@ -1,0 +1,97 @@
+//! The fields of each directory and file in version 5 (DWARF 5, 6.2.4.1).
+
+ghost use Rattle.std.specs.Prelude.{◌≡◌};
+ghost use Rattle.dwarf_lines.specs.Names.{form_for};
+ghost use Rattle.dwarf_lines.specs.Reading.{Walks, WalksOver, format, formats};
+
+use crate::fields::unsigned;
+use crate::{LineError, LineFault, LineKind};
+use leb_cursor::Cursor;
+use std::alloc::Global;
+
+/// The content that is the path of a directory or a file (DWARF 5, 7.22).
+pub const PATH: u64 = 1;
+/// The content that is the number of a file's directory.
+pub const DIRECTORY_INDEX: u64 = 2;
+
+/// How a value is written (DWARF 5, 7.5.6).
+#[derive(Clone, Copy, Debug, PartialEq, Eq)]
+pub enum Form {
+    /// A text in the entry.
+    Own,
+    /// The place of a text in the general section.
+    General,
+    /// The place of a text in the section of lines.
+    Line,
+    /// A number of one byte, of two, or in LEB128.
+    Byte,
+    Half,
+    Leb,
+    /// Bytes that nothing is made of.
+    Four,
+    Eight,
+    Sixteen,
+    /// A length in LEB128, and as many bytes.
+    Block,
+}
+
+/// A field of each entry.
+#[derive(Clone, Copy, Debug, PartialEq, Eq)]
+pub struct Format {
+    pub content: u64,
+    pub form: Form,
+}
+
+/// The form of that number, if the content may have it.
+#[tactic(auto, unfolding(crate::specs::Names::form_for))]
+fn form_for(content: u64, code: u64) -> Option<Form>
+    ensures { result ≡ form_for content code }
+{
+    let (form, is_path, is_directory) = match code {
+        0x08 => (Form::Own, true, false),
+        0x0e => (Form::General, true, false),
+        0x1f => (Form::Line, true, false),
+        0x0b => (Form::Byte, false, true),
+        0x05 => (Form::Half, false, true),
+        0x06 => (Form::Four, false, false),
+        0x07 => (Form::Eight, false, false),
+        0x1e => (Form::Sixteen, false, false),
+        0x0f => (Form::Leb, false, true),
+        0x09 => (Form::Block, false, false),
+        _ => return None,
+    };
+    let is_allowed = match content {
+        PATH => is_path,
+        DIRECTORY_INDEX => is_directory,
+        _ => true,
+    };
+    if is_allowed { Some(form) } else { None }
+}
+
+/// A content and its form.
+fn read_format(cursor: &mut Cursor) -> Result<Format, LineFault>
+    ensures { Walks (λ x. x) result cursor.new (format cursor.old) }
+{
+    let content = unsigned(cursor)?;
+    let place = cursor.place();
+    let code = unsigned(cursor)?;
+    match form_for(content, code) {
+        Some(form) => Ok(Format { content, form }),
+        None => Err(LineFault {
+            kind: LineKind::FormOut,
+            place,
+        }),
+    }
+}
+
+/// So many formats.
+pub fn read_formats(alloc: Global, count: u8, cursor: &mut Cursor) -> Result<Vec<Format>, LineError>
+    ensures { WalksOver (λ v. v.items) result cursor.new (formats count cursor.old) }
+{
+    let mut formats = Vec::new(alloc);
+    for _ in 0..count {
+        let next = read_format(cursor)?;
+        formats.push(next)?;
+    }
+    Ok(formats)
+}
