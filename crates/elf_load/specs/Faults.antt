@@ -1,5 +1,5 @@
 -- The table of faults: the first row that holds of the file tells its fault.
-use Rattle.std.specs.Prelude.{◌≡◌, ℕ, ◌*◌, ◌%◌, Bool, not, ◌&&◌, ◌||◌, List, [], ◌∷◌, ◌++◌, length, take, sum_by, slice_index, Option, Some, None, Result, Ok, Err, option_map, find, nat_lt, nat_le, ◌==◌, if◌then◌else◌, bytes_eq, codes}
+use Rattle.std.specs.Prelude.{◌≡◌, ℕ, ◌*◌, ◌%◌, Bool, not, ◌&&◌, ◌||◌, List, [], ◌∷◌, ◌++◌, length, take, sum_by, slice_index, Option, Some, None, Result, Ok, Err, option_map, find, nat_lt, nat_le, ◌==◌, if◌then◌else◌, bytes_eq}
 use Rattle.std.specs.List.{list_any}
 use Rattle.elf_load.specs.declared.ElfKind.{ElfKind}
 use Rattle.elf_load.specs.declared.ElfKind.TheVariants.{NotElf, NotClass64, NotLittle, NotExec, NotRiscv, Compressed, HeaderOut, PackedLines, Interp, SizeOrder, AddressOut, WritableCode, SharedPage, TooMuch, EntryOut}
@@ -8,7 +8,7 @@ use Rattle.elf_load.specs.declared.LoadError.{LoadError}
 use Rattle.elf_load.specs.declared.LoadError.TheVariants as errors
 use Rattle.elf_load.specs.declared.tables.Segment.{Segment}
 use Rattle.elf_load.specs.declared.tables.Section.{Section}
-use Rattle.elf_load.specs.Tables.{kind_of, machine, entry, phoff, shoff, flags, phentsize, phnum, shentsize, shnum, shstrndx, has_bit, runs_past, segments, sections, is_load, is_interp, load_areas, is_executable, is_writable, first_page, end_page, pages, share_page, has_address, has_bytes, is_compressed, is_named}
+use Rattle.elf_load.specs.Tables.{kind_of, machine, entry, phoff, shoff, flags, phentsize, phnum, shentsize, shnum, shstrndx, has_bit, runs_past, segments, sections, is_load, is_interp, load_areas, is_executable, is_writable, first_page, end_page, pages, share_page, has_address, has_bytes, is_compressed, holds_lines}
 
 -- a row: its kind, where it holds, and its place
 abbrev pub row : ElfKind → Bool → ℕ → Option ElfFault
@@ -64,7 +64,7 @@ abbrev pub rows_on : List ℕ → List Segment → List Section → List Segment
 rows_on file segments sections areas =
     entry_row HeaderOut (first_segment (λ s. is_load s && runs_past file s.offset s.filesz) segments)
     ∷ entry_row HeaderOut (first_section (λ s. has_bytes s && runs_past file s.offset s.size) sections)
-    ∷ entry_row PackedLines (first_section (λ s. is_named file (codes ".debug_line") s && is_compressed s) sections)
+    ∷ entry_row PackedLines (first_section (λ s. holds_lines file s && is_compressed s) sections)
     ∷ entry_row Interp (first_segment is_interp segments)
     ∷ entry_row SizeOrder (first_segment (λ s. is_load s && nat_lt s.memsz s.filesz) segments)
     ∷ entry_row AddressOut (first_segment (λ s. nat_lt (4096 * first_page s) 0x1000 || nat_lt 0x2000000000 (4096 * end_page s)) areas)

@@ -1,6 +1,7 @@
 -- The fields of an ELF64 file, its program headers and its section headers (ELF-64 Object File Format, version 1.5).
 -- A field past the file's end counts as zero.
-use Rattle.std.specs.Prelude.{ℕ, zero, suc, ◌+◌, ◌-◌, ◌*◌, ◌/◌, Bool, false, not, ◌&&◌, ◌||◌, List, [], ◌∷◌, map, filter, length, take, drop, Option, Some, None, option_map, position, nat_lt, nat_le, ◌==◌, if◌then◌else◌, bytes_eq}
+use Rattle.std.specs.Prelude.{ℕ, zero, suc, ◌+◌, ◌-◌, ◌*◌, ◌/◌, Bool, false, not, ◌&&◌, ◌||◌, List, [], ◌∷◌, map, filter, length, take, drop, Option, Some, None, option_map, position, nat_lt, nat_le, ◌==◌, if◌then◌else◌, bytes_eq, codes}
+use Rattle.std.specs.List.{list_any}
 use Rattle.std.specs.Int.{Width, w16, w32, w64, from_le_bytes, bit_at}
 use Rattle.elf_load.specs.declared.tables.Segment.{Segment}
 use Rattle.elf_load.specs.declared.tables.Section.{Section}
@@ -159,3 +160,10 @@ has_name names name s = is_text (drop s.name names) name
 
 abbrev pub is_named : List ℕ → List ℕ → Section → Bool
 is_named file name s = has_name (names file) name s
+
+-- the line table and the two sections of its texts
+abbrev pub line_names : List (List ℕ)
+line_names = codes ".debug_line" ∷ codes ".debug_str" ∷ codes ".debug_line_str" ∷ []
+
+abbrev pub holds_lines : List ℕ → Section → Bool
+holds_lines file s = list_any (λ name. is_named file name s) line_names

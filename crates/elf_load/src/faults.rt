@@ -3,7 +3,7 @@
 ghost use Rattle.std.specs.Prelude.{◌≡◌, ◌&&◌, ◌||◌, ◌*◌, ◌%◌, ◌==◌, not, nat_lt, option_map, codes, All, true};
 ghost use Rattle.std.specs.Option.{option_copied};
 ghost use Rattle.std.specs.List.{list_any};
-ghost use Rattle.elf_load.specs.Tables.{entry, has_bytes, has_address, has_name, is_text, is_area, is_compressed, is_executable, is_interp, is_load, is_named, is_writable, runs_past, first_page, end_page};
+ghost use Rattle.elf_load.specs.Tables.{entry, has_bytes, has_address, has_name, is_text, is_area, is_compressed, is_executable, is_interp, is_load, is_writable, holds_lines, line_names, runs_past, first_page, end_page};
 ghost use Rattle.elf_load.specs.Faults.{HasHeaders, Judges, JudgesOrFails, row, entry_row, first_row, first_section, first_segment, rows_on};
 
 use crate::fields::{double_at, runs_past};
@@ -82,13 +82,24 @@ pub fn has_name(names: &[u8], name: &[u8], section: &Section) -> bool
     is_text(&names[start..], name)
 }
 
-/// The line table is not compressed.
+/// Whether it is a section that lines are read from, by its name among these.
+fn holds_lines(names: &[u8], section: &Section) -> bool
+    ensures { result ≡ list_any (λ name. has_name names.now name section.now) line_names }
+{
+    has_name(names, b".debug_line", section)
+        || has_name(names, b".debug_str", section)
+        || has_name(names, b".debug_line_str", section)
+}
+
+/// The line table and its texts are not compressed.
 fn lines_unpacked(file: &[u8], sections: &[Section]) -> Result<(), ElfFault>
     requires { HasHeaders file.now }
-    ensures { Judges result (entry_row ElfKind.PackedLines (first_section (λ s. is_named file.now (codes ".debug_line") s && is_compressed s) sections.now)) }
+    ensures { Judges result (entry_row ElfKind.PackedLines (first_section (λ s. holds_lines file.now s && is_compressed s) sections.now)) }
 {
     let names = names(file);
-    let found = sections.iter().find(|s| has_name(names, b".debug_line", s) && s.is_compressed());
+    let found = sections
+        .iter()
+        .find(|s| holds_lines(names, s) && s.is_compressed());
     at_section(ElfKind::PackedLines, found)
 }
 

@@ -41,7 +41,7 @@ pub enum ElfKind {
     Compressed,
     /// A table, or the bytes of an entry, are not in the file.
     HeaderOut,
-    /// The section `.debug_line` is compressed.
+    /// A section `.debug_line`, `.debug_str` or `.debug_line_str` is compressed.
     PackedLines,
     /// It asks for an interpreter.
     Interp,

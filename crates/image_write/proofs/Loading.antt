@@ -9,7 +9,7 @@ use Rattle.elf_load.specs.declared.ElfKind.{ElfKind}
 use Rattle.elf_load.specs.declared.ElfFault.{ElfFault}
 use Rattle.elf_load.specs.declared.tables.Segment.{Segment}
 use Rattle.elf_load.specs.declared.tables.Section.{Section}
-use Rattle.elf_load.specs.Tables.{entry, phoff, phnum, shnum, segment_at, section_at, places, segments, sections, runs_past, is_area, is_load, is_executable, is_writable, is_interp, first_page, end_page, pages, share_page, has_address, has_place, has_bytes, is_compressed, is_named, load_areas}
+use Rattle.elf_load.specs.Tables.{entry, phoff, phnum, shnum, segment_at, section_at, places, segments, sections, runs_past, is_area, is_load, is_executable, is_writable, is_interp, first_page, end_page, pages, share_page, has_address, has_place, has_bytes, is_compressed, holds_lines, load_areas}
 use Rattle.elf_load.specs.Faults.{row, entry_row, first_segment, first_section, first_after, first_row, header_rows, rows_on, fault}
 use Rattle.elf_load.specs.Loaded.{area_of, headers, image, loaded}
 use Rattle.elf_load.proofs.Rows.{table_fault}
@@ -195,7 +195,7 @@ rows_none unit p file content is small at same =
         entry_none _ _ (no_section_has (λ s. has_bytes s && runs_past file s.offset s.size) (section_headers unit p)
             (refl, (fits file 4096 (length p.text) small.text_in, (fits file (content_place p) (length p.content) small.content_in, (fits file (unit_place p) (length unit) small.unit_in, (fits file (names_place unit p) 35 small.names_in, tt)))))),
         (
-          entry_none _ _ (no_section_has (λ s. is_named file (codes ".debug_line") s && is_compressed s) (section_headers unit p)
+          entry_none _ _ (no_section_has (λ s. holds_lines file s && is_compressed s) (section_headers unit p)
               (and_false _, (and_false _, (and_false _, (and_false _, (and_false _, tt)))))),
           (
             entry_none _ _ (no_segment is_interp (program_headers content p) (each (λ s. is_interp s ≡ false) content p refl (λ e. refl))),
