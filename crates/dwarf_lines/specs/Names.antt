@@ -80,4 +80,5 @@ abbrev pub paths : List Entry → List (List ℕ)
 paths entries = map (λ (e : Entry). e.path) entries
 
 abbrev pub files_of : List (List ℕ) → List Entry → List File
-files_of directories entries = map (λ (e : Entry). record { directory = directory_of directories e.directory; name = e.path }) entries
+files_of directories entries =
+    map (λ (e : Entry). record { directory = directory_of directories e.directory; name = e.path }) entries

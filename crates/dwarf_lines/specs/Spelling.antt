@@ -81,7 +81,9 @@ Spells h (FixedAdvancePc n) code = SpellsStandard h 9 (λ operands. operands ≡
 Spells h (Special o) code = (code ≡ o ∷ []) × (h.opcode_base ≤ o)
 Spells h EndSequence code = (spare : List ℕ) × SpellsExtended (1 ∷ spare) code
 Spells h (SetAddress a) code = SpellsExtended (2 ∷ to_le_bytes w64 a) code × (a < 2 ^ 64)
-Spells h (DefineFile f) code = (file : List ℕ) × (spare : List ℕ) × SpellsExtended ((3 ∷ file) ++ spare) code × SpellsFile h.directories f file × (h.version ≢ 5)
+Spells h (DefineFile f) code =
+    (file : List ℕ) × (spare : List ℕ)
+    × SpellsExtended ((3 ∷ file) ++ spare) code × SpellsFile h.directories f file × (h.version ≢ 5)
 Spells h Pass code = IsPassed h code
 
 -- opcodes one after the other take a state to another
@@ -97,7 +99,8 @@ IsTextAt texts n text = (rest : List ℕ) × (drop n texts ≡ (text ++ 0 ∷ []
 
 -- four bytes, the place of a text
 abbrev pub SpellsPlace : List ℕ → Value → List ℕ → Type 0
-SpellsPlace texts v bytes = (n : ℕ) × (text : List ℕ) × (bytes ≡ to_le_bytes w32 n) × (n < 2 ^ 32) × IsTextAt texts n text × (v ≡ Text text)
+SpellsPlace texts v bytes =
+    (n : ℕ) × (text : List ℕ) × (bytes ≡ to_le_bytes w32 n) × (n < 2 ^ 32) × IsTextAt texts n text × (v ≡ Text text)
 
 abbrev pub SpellsValue : Strings → Form → Value → List ℕ → Type 0
 SpellsValue strings Own v bytes = (text : List ℕ) × SpellsText text bytes × (v ≡ Text text)
@@ -109,18 +112,23 @@ SpellsValue strings Leb v bytes = (n : ℕ) × IsUleb n bytes × (v ≡ Number n
 SpellsValue strings Four v bytes = (length bytes ≡ 4) × (v ≡ Other)
 SpellsValue strings Eight v bytes = (length bytes ≡ 8) × (v ≡ Other)
 SpellsValue strings Sixteen v bytes = (length bytes ≡ 16) × (v ≡ Other)
-SpellsValue strings Block v bytes = (size : List ℕ) × (block : List ℕ) × (bytes ≡ size ++ block) × IsUleb (length block) size × (v ≡ Other)
+SpellsValue strings Block v bytes =
+    (size : List ℕ) × (block : List ℕ) × (bytes ≡ size ++ block) × IsUleb (length block) size × (v ≡ Other)
 
 -- a content and the number of a form that it may have
 abbrev pub SpellsFormat : Format → List ℕ → Type 0
-SpellsFormat f bytes = (content : List ℕ) × (code : List ℕ) × (n : ℕ) × (bytes ≡ content ++ code) × IsUleb f.content content × IsUleb n code × (form_for f.content n ≡ Some f.form)
+SpellsFormat f bytes =
+    (content : List ℕ) × (code : List ℕ) × (n : ℕ) × (bytes ≡ content ++ code)
+    × IsUleb f.content content × IsUleb n code × (form_for f.content n ≡ Some f.form)
 
 -- a value for each format
 abbrev pub SpellsValues : Strings → List Format → List Value → List ℕ → Type 0
 SpellsValues strings [] [] bytes = bytes ≡ []
 SpellsValues strings [] (v ∷ vs) bytes = ⊥
 SpellsValues strings (f ∷ fs) [] bytes = ⊥
-SpellsValues strings (f ∷ fs) (v ∷ vs) bytes = (front : List ℕ) × (rest : List ℕ) × (bytes ≡ front ++ rest) × SpellsValue strings f.form v front × SpellsValues strings fs vs rest
+SpellsValues strings (f ∷ fs) (v ∷ vs) bytes =
+    (front : List ℕ) × (rest : List ℕ) × (bytes ≡ front ++ rest)
+    × SpellsValue strings f.form v front × SpellsValues strings fs vs rest
 
 abbrev pub SpellsEntry : Strings → List Format → Entry → List ℕ → Type 0
 SpellsEntry strings fs e bytes = (vs : List Value) × SpellsValues strings fs vs bytes × (e ≡ entry_of fs vs empty_entry)
