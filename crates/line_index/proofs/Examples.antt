@@ -1,8 +1,11 @@
 -- Lines and entries computed address by address, on small tables.
-use Rattle.std.proofs.Common.{◌≡◌, ℕ, List, [], ◌∷◌, map, Option, Some, None, true, false, refl}
+use Rattle.std.proofs.Common.{◌≡◌, ℕ, List, [], ◌∷◌, map, Option, Some, None, Ok, true, false, refl}
 use Rattle.std.specs.Fmt.{digits}
 use Rattle.coz_types.specs.declared.image.Area.{Area}
 use Rattle.dwarf_lines.specs.declared.Row.{Row}
+use Rattle.leb_cursor.specs.Ahead.{◌>>=◌}
+use Rattle.dwarf_lines.specs.Names.{strings, form_for}
+use Rattle.dwarf_lines.specs.Reading.{texts, files, pass, header, operation, program, unit_body, unit, units, reading, formats, values, entries, listed}
 use Rattle.dwarf_lines.specs.Registers.{File, Table}
 use Rattle.line_index.specs.Lines.{Line, line_of, label, found, path}
 use Rattle.line_index.specs.Listed.{lines_in, entries_in, position_in}
@@ -107,3 +110,16 @@ some_lines = record { path = 98 ∷ 47 ∷ 97 ∷ []; number = 1 } ∷ record { 
 found_lines : found (97 ∷ []) 1 some_lines ∷ found (97 ∷ []) 2 some_lines ∷ found (99 ∷ 47 ∷ 97 ∷ []) 1 some_lines ∷ found (99 ∷ 97 ∷ []) 1 some_lines ∷ found (97 ∷ []) 3 some_lines ∷ found (47 ∷ 97 ∷ []) 1 some_lines ∷ found [] 1 some_lines ∷ []
     ≡ Some 0 ∷ Some 2 ∷ Some 1 ∷ Some 3 ∷ None ∷ None ∷ None ∷ []
 found_lines = refl
+
+-- a unit of version 5 whose two files have their paths from the section of lines' texts; its rows are of the second
+abbrev from_texts : List ℕ
+from_texts = 62 ∷ 0 ∷ 0 ∷ 0 ∷ 5 ∷ 0 ∷ 8 ∷ 0 ∷ 32 ∷ 0 ∷ 0 ∷ 0 ∷ 4 ∷ 1 ∷ 1 ∷ 251 ∷ 14 ∷ 13
+    ∷ 0 ∷ 1 ∷ 1 ∷ 1 ∷ 1 ∷ 0 ∷ 0 ∷ 0 ∷ 1 ∷ 0 ∷ 0 ∷ 1 ∷ 0 ∷ 0 ∷ 1 ∷ 1 ∷ 31 ∷ 2
+    ∷ 0 ∷ 0 ∷ 0 ∷ 0 ∷ 2 ∷ 0 ∷ 0 ∷ 0 ∷ 0 ∷ 9 ∷ 2 ∷ 0 ∷ 0 ∷ 1 ∷ 0 ∷ 0 ∷ 0 ∷ 0
+    ∷ 0 ∷ 1 ∷ 2 ∷ 1 ∷ 3 ∷ 1 ∷ 1 ∷ 2 ∷ 1 ∷ 0 ∷ 1 ∷ 1
+    ∷ []
+
+lines_from_texts : (reading (strings [] (120 ∷ 0 ∷ 97 ∷ 46 ∷ 115 ∷ 0 ∷ [])) from_texts >>= λ t. Ok (map (line_of t (code ∷ [])) (0x10000 ∷ 0x10004 ∷ 0x10008 ∷ [])))
+    ≡ Ok (line 1 ∷ line 2 ∷ None ∷ [])
+unfolding line_of reading units unit unit_body header texts files operation pass program formats entries listed values form_for
+lines_from_texts = refl

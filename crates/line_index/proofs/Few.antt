@@ -9,9 +9,11 @@ use Rattle.dwarf_lines.specs.declared.Row.{Row}
 use Rattle.dwarf_lines.specs.declared.LineTable.{LineTable}
 use Rattle.dwarf_lines.specs.Bounds.{weight}
 use Rattle.dwarf_lines.specs.Registers.{Table, Header, Operation, Copy, AdvancePc, AdvanceLine, SetFile, SetColumn, NegateStmt, ConstAddPc, FixedAdvancePc, Special, EndSequence, SetAddress, DefineFile, Pass, State, row, appends, ends, defines, changed, after, has_line, begun, is_open, empty_table, file_view, view}
-use Rattle.dwarf_lines.specs.Reading.{wanted, word, half, announced, header, operation, program, is_read, unit_body, unit, units, reading}
+use Rattle.dwarf_lines.specs.Names.{Strings}
+use Rattle.dwarf_lines.specs.Reading.{wanted, word, half, announced, sizes, header, operation, program, is_read, unit_body, unit, units, reading}
 use Rattle.dwarf_lines.proofs.Programs.{bind_ok, wanted_ok}
-use Rattle.dwarf_lines.proofs.Shorter.{number_left, announced_left, header_few, operation_less}
+use Rattle.dwarf_lines.proofs.Shorter.{number_left, announced_left, operation_less}
+use Rattle.dwarf_lines.proofs.Fewer.{sizes_most, header_few}
 
 -- ---- programs
 
@@ -33,7 +35,7 @@ one_at_most Pass row = omega arith
 
 weight_after : (h : Header) (op : Operation) (s : State) → weight (after h op s).table ≤ weight s.table + 1
 weight_after h op s =
-    let new : Row = row s (ends op) (changed h op s.registers) in
+    let new : Row = row h s (ends op) (changed h op s.registers) in
     omega (arith, one_at_most op new, length-append s.table.files (defines op), length-append s.table.rows (cond (appends op) (new ∷ []) []))
 
 state_is : (s t : State) → (let done : State → Result State LineFault = λ z. Ok z in done s ≡ done t) → s ≡ t
@@ -62,80 +64,82 @@ program_few (suc n) h s t place (b ∷ bs) e =
 
 -- ---- units
 
-unit_body_few : (version : ℕ) (t u : Table) (a : Ahead) → unit_body version t a ≡ Ok u → weight u ≤ weight t + length a.bytes
+unit_body_few : (version : ℕ) (strings : Strings) (t u : Table) (a : Ahead) → unit_body version strings t a ≡ Ok u → weight u ≤ weight t + length a.bytes
 unfolding unit_body
-unit_body_few version t u a e =
-    let size = bind_ok (word a) _ u e in
-    let inside = bind_ok (announced a.place size.0.0 size.0.1) _ u size.2 in
-    let read = bind_ok (header version inside.0.0) _ u inside.2 in
+unit_body_few version strings t u a e =
+    let after = bind_ok (sizes version a) _ u e in
+    let size = bind_ok (word after.0) _ u after.2 in
+    let inside = bind_ok (announced after.0.place size.0.0 size.0.1) _ u size.2 in
+    let read = bind_ok (header version strings inside.0.0) _ u inside.2 in
     let done = bind_ok (program (suc (length inside.0.1.bytes)) read.0 (begun read.0 t) inside.0.1) _ u read.2 in
-    let first = number_left w32 a size.0.1 size.0.0 size.1 in
-    let next = announced_left a.place size.0.0 size.0.1 inside.0.0 inside.0.1 inside.1 in
-    let few = header_few version inside.0.0 read.0 read.1 in
+    let behind = sizes_most version a after.0 after.1 in
+    let first = number_left w32 after.0 size.0.1 size.0.0 size.1 in
+    let next = announced_left after.0.place size.0.0 size.0.1 inside.0.0 inside.0.1 inside.1 in
+    let few = header_few version strings inside.0.0 read.0 read.1 in
     let files = length-append t.files read.0.files in
     let run = program_few (suc (length inside.0.1.bytes)) read.0 (begun read.0 t) done.0 inside.0.1.place inside.0.1.bytes done.1 in
     let same : weight done.0.table ≡ weight u = ap weight (table_is done.0.table u done.2) in
-    omega (arith, first, next.0, next.1, few, files, run, same)
+    omega (arith, behind, first, next.0, next.1, few, files, run, same)
 
 skipped_few : (t u : Table) (n : ℕ) → (let done : Table → Result Table LineFault = λ z. Ok z in done (record t { skipped = t.skipped + 1 }) ≡ done u) → 1 ≤ n → weight u ≤ weight t + n
 skipped_few t u n e le =
     let same : weight (record t { skipped = t.skipped + 1 }) ≡ weight u = ap weight (table_is (record t { skipped = t.skipped + 1 }) u e) in
     omega arith
 
-version_few : (reads : Bool) (version : ℕ) (t u : Table) (a : Ahead) (n : ℕ) → length a.bytes ≤ n → 1 ≤ n → (elim reads as (λ x. Result Table LineFault) [ true ↦ unit_body version t a | false ↦ Ok (record t { skipped = t.skipped + 1 }) ]) ≡ Ok u → weight u ≤ weight t + n
-version_few true version t u a n le some e = omega (arith, unit_body_few version t u a e)
-version_few false version t u a n le some e = skipped_few t u n e some
+version_few : (reads : Bool) (version : ℕ) (strings : Strings) (t u : Table) (a : Ahead) (n : ℕ) → length a.bytes ≤ n → 1 ≤ n → (elim reads as (λ x. Result Table LineFault) [ true ↦ unit_body version strings t a | false ↦ Ok (record t { skipped = t.skipped + 1 }) ]) ≡ Ok u → weight u ≤ weight t + n
+version_few true version strings t u a n le some e = omega (arith, unit_body_few version strings t u a e)
+version_few false version strings t u a n le some e = skipped_few t u n e some
 
 pair_is : (t u : Table) (a b : Ahead) → (let done : Table × Ahead → Result (Table × Ahead) LineFault = λ z. Ok z in done (t, a) ≡ done (u, b)) → (t ≡ u) × (a ≡ b)
 pair_is t u a b e = let same : ◌≡◌ {A = Table × Ahead} (t, a) (u, b) = cc in (ap (λ (p : Table × Ahead). p.0) same, ap (λ (p : Table × Ahead). p.1) same)
 
-unit_few : (t u : Table) (a b : Ahead) → unit t a ≡ Ok (u, b) → weight u + length b.bytes ≤ weight t + length a.bytes
+unit_few : (strings : Strings) (t u : Table) (a b : Ahead) → unit strings t a ≡ Ok (u, b) → weight u + length b.bytes ≤ weight t + length a.bytes
 unfolding unit
-unit_few t u a b e =
+unit_few strings t u a b e =
     let size = bind_ok (word a) _ (u, b) e in
     let long = bind_ok (wanted (nat_lt size.0.0 0xFFFFFFF0) kinds.LongForm a.place size.0) _ (u, b) size.2 in
     let inside = bind_ok (announced a.place long.0.0 long.0.1) _ (u, b) long.2 in
     let version = bind_ok (half inside.0.0) _ (u, b) inside.2 in
-    let made = bind_ok (elim (is_read version.0.0) as (λ x. Result Table LineFault) [ true ↦ unit_body version.0.0 t version.0.1 | false ↦ Ok (record t { skipped = t.skipped + 1 }) ]) _ (u, b) version.2 in
+    let made = bind_ok (elim (is_read version.0.0) as (λ x. Result Table LineFault) [ true ↦ unit_body version.0.0 strings t version.0.1 | false ↦ Ok (record t { skipped = t.skipped + 1 }) ]) _ (u, b) version.2 in
     let first = number_left w32 a size.0.1 size.0.0 size.1 in
     let fine = wanted_ok (nat_lt size.0.0 0xFFFFFFF0) kinds.LongForm a.place size.0 long.0 long.1 in
     let kept : length size.0.1.bytes ≡ length long.0.1.bytes = ap (λ (z : ℕ × Ahead). length z.1.bytes) fine.1 in
     let next = announced_left a.place long.0.0 long.0.1 inside.0.0 inside.0.1 inside.1 in
     let number = number_left w16 inside.0.0 version.0.1 version.0.0 version.1 in
-    let grown = version_few (is_read version.0.0) version.0.0 t made.0 version.0.1 (length inside.0.0.bytes) (omega (arith, number)) (omega (arith, number)) made.1 in
+    let grown = version_few (is_read version.0.0) version.0.0 strings t made.0 version.0.1 (length inside.0.0.bytes) (omega (arith, number)) (omega (arith, number)) made.1 in
     let ends = pair_is made.0 u inside.0.1 b made.2 in
     let same : weight made.0 ≡ weight u = ap weight ends.0 in
     let left : length inside.0.1.bytes ≡ length b.bytes = ap (λ (z : Ahead). length z.bytes) ends.1 in
     omega (arith, first, kept, next.0, next.1, grown, same, left)
 
-units_few : (n : ℕ) (t u : Table) (place : ℕ) (bytes : List ℕ) → units n t (record { place = place; bytes = bytes }) ≡ Ok u → weight u ≤ weight t + length bytes
+units_few : (n : ℕ) (strings : Strings) (t u : Table) (place : ℕ) (bytes : List ℕ) → units n strings t (record { place = place; bytes = bytes }) ≡ Ok u → weight u ≤ weight t + length bytes
 unfolding units
-units_few zero t u place bytes e =
+units_few zero strings t u place bytes e =
     let same : weight t ≡ weight u = ap weight (table_is t u e) in
     omega arith
-units_few (suc n) t u place [] e =
+units_few (suc n) strings t u place [] e =
     let same : weight t ≡ weight u = ap weight (table_is t u e) in
     omega arith
-units_few (suc n) t u place (b ∷ bs) e =
+units_few (suc n) strings t u place (b ∷ bs) e =
     let ahead : Ahead = record { place = place; bytes = b ∷ bs } in
-    let first = bind_ok (unit t ahead) _ u e in
-    let one = unit_few t first.0.0 ahead first.0.1 first.1 in
-    let rest = units_few n first.0.0 u first.0.1.place first.0.1.bytes first.2 in
+    let first = bind_ok (unit strings t ahead) _ u e in
+    let one = unit_few strings t first.0.0 ahead first.0.1 first.1 in
+    let rest = units_few n strings first.0.0 u first.0.1.place first.0.1.bytes first.2 in
     omega (arith, one, rest)
 
 -- rows, files and skipped units together
-pub weight_few : (section : List ℕ) (table : Table) → reading section ≡ Ok table → weight table ≤ length section
+pub weight_few : (strings : Strings) (section : List ℕ) (table : Table) → reading strings section ≡ Ok table → weight table ≤ length section
 unfolding reading
-weight_few section table e = omega (arith, units_few (suc (length section)) empty_table table 0 section e)
+weight_few strings section table e = omega (arith, units_few (suc (length section)) strings empty_table table 0 section e)
 
 -- so the table of a section of at most 32 MiB can be indexed
-pub few_rows_and_files : (section : List ℕ) (table : Table) → reading section ≡ Ok table → length section ≤ 33554432 → (length table.rows ≤ 33554432) × (length table.files ≤ 33554432)
-few_rows_and_files section table e le =
-    let few = weight_few section table e in
+pub few_rows_and_files : (strings : Strings) (section : List ℕ) (table : Table) → reading strings section ≡ Ok table → length section ≤ 33554432 → (length table.rows ≤ 33554432) × (length table.files ≤ 33554432)
+few_rows_and_files strings section table e le =
+    let few = weight_few strings section table e in
     (omega (arith, few), omega (arith, few))
 
 -- and that of what was read of it
-pub few_of_table : (section : List ℕ) (table : LineTable) → reading section ≡ Ok (view table) → length section ≤ 33554432 → (length table.rows ≤ 33554432) × (length table.files ≤ 33554432)
-few_of_table section table e le =
-    let few = few_rows_and_files section (view table) e le in
+pub few_of_table : (strings : Strings) (section : List ℕ) (table : LineTable) → reading strings section ≡ Ok (view table) → length section ≤ 33554432 → (length table.rows ≤ 33554432) × (length table.files ≤ 33554432)
+few_of_table strings section table e le =
+    let few = few_rows_and_files strings section (view table) e le in
     (few.0, omega (arith, few.1, length-map table.files file_view))
