@@ -1,6 +1,6 @@
 -- A written file has no fault, and its image is the program's.
 use Rattle.std.proofs.Common.{◌≡◌, ℕ, ◌+◌, ◌-◌, ◌*◌, ◌/◌, ◌%◌, ◌≤◌, ◌<◌, ◌^◌, ◌==◌, Bool, true, false, not, ◌&&◌, ◌||◌, List, [], ◌∷◌, length, map, filter, min, Option, Some, None, Result, Ok, Err, refl, sym, ap, ap₂, subst, ◌∙◌, arith, find, option_map, nat_lt, nat_le, if◌then◌else◌, ne_eqb}
-use Rattle.std.specs.Prelude.{sum_by, IfOk, unwrap_or, codes}
+use Rattle.std.specs.Prelude.{sum_by, IfOk, unwrap_or}
 use Rattle.std.specs.List.{AllByRecursion, list_any}
 use Rattle.std.proofs.lemmas.Bool.{le-ltb, lt-ltb, le-leb, lt-leb, ltb-true}
 use Rattle.coz_types.specs.declared.image.Area.{Area}

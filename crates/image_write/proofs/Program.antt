@@ -26,7 +26,7 @@ abbrev pub lengths : List ℕ
 lengths = 0 ∷ 1 ∷ 1 ∷ 1 ∷ 1 ∷ 0 ∷ 0 ∷ 0 ∷ 1 ∷ 0 ∷ 0 ∷ 1 ∷ []
 
 abbrev pub header_of : List ℕ → Header
-header_of name = record { minimum_length = 4; is_stmt = true; line_base = negsuc 4; line_range = 14; opcode_base = 13; lengths = lengths; directories = []; files = one_file name }
+header_of name = record { version = 4; minimum_length = 4; is_stmt = true; line_base = negsuc 4; line_range = 14; opcode_base = 13; lengths = lengths; directories = []; files = one_file name }
 
 -- these rows so far, and the registers
 abbrev state_of : List ℕ → List Row → ℕ → ℤ → State

@@ -7,6 +7,7 @@ use Rattle.std.proofs.lemmas.List.Elements.{recursion_from_All}
 use Rattle.elf_load.specs.Loaded as loading
 use Rattle.dwarf_lines.specs.declared.LineFault.{LineFault}
 use Rattle.dwarf_lines.specs.Registers.{Table, empty_table}
+use Rattle.dwarf_lines.specs.Names.{Strings, strings}
 use Rattle.dwarf_lines.specs.Spelling.{SpellsHeader, SpellsFile, ReadsUnit, TakesUnit, IsTable}
 use Rattle.dwarf_lines.specs.Reading.{reading}
 use Rattle.dwarf_lines.proofs.UnitsAgain.{reading_again}
@@ -17,6 +18,10 @@ use Rattle.image_write.specs.File.{IsName, written_file}
 use Rattle.image_write.proofs.Lengths.{body_short}
 use Rattle.image_write.proofs.LineSection.{unit_found}
 use Rattle.image_write.proofs.Program.{header_of, AreLines, by_program, ended, rows_closed}
+
+-- its texts are all in the unit
+abbrev none : Strings
+none = strings [] []
 
 -- ---- the header
 
@@ -34,22 +39,19 @@ entry_of name = name ++ 0 ∷ 0 ∷ 0 ∷ 0 ∷ []
 spelled_file : (name : List ℕ) → AllByRecursion (λ b. 0 < b) name → SpellsFile [] (record { directory = []; name = name }) (entry_of name)
 spelled_file name full = (name ++ 0 ∷ [], 0 ∷ [], 0 ∷ [], 0 ∷ [], 0, 0, 0, sym (append_assoc name (0 ∷ []) (0 ∷ 0 ∷ 0 ∷ [])), (full, refl), ((lit< tt, refl), lit< tt), ((lit< tt, refl), lit< tt), ((lit< tt, refl), lit< tt), refl)
 
-spelled_header : (name : List ℕ) → AllByRecursion (λ b. 0 < b) name → 0 < length name → SpellsHeader 4 (header_of name) (numbers ++ files name)
+spelled_header : (name : List ℕ) → AllByRecursion (λ b. 0 < b) name → 0 < length name → SpellsHeader 4 none (header_of name) (numbers ++ files name)
 spelled_header name full some = (
   1,
   0xFB,
-  [],
-  entry_of name,
+  0 ∷ (entry_of name ++ 0 ∷ []),
   [],
   ap (λ (bytes : List ℕ). numbers ++ 0 ∷ bytes) (sym (append-nil (entry_of name ++ 0 ∷ []))),
   refl,
   refl,
+  refl,
   lit< tt,
   refl,
-  refl,
-  (entry_of name, [], sym (append-nil (entry_of name)), spelled_file name full, refl),
-  tt,
-  (some, tt),
+  ([], entry_of name, refl, refl, (entry_of name, [], sym (append-nil (entry_of name)), spelled_file name full, refl), tt, (some, tt)),
 )
 
 -- ---- the unit
@@ -60,7 +62,7 @@ header_bytes name = numbers ++ files name
 abbrev after_version : List ℕ → List ℕ → List ℕ
 after_version lines name = counted (header_bytes name) ++ line_program lines
 
-reads_unit : (lines name : List ℕ) → AllByRecursion (λ b. 0 < b) name → 0 < length name → AreLines lines → length lines < 2 ^ 20 → ReadsUnit 4 (after_version lines name) empty_table (table_of lines name)
+reads_unit : (lines name : List ℕ) → AllByRecursion (λ b. 0 < b) name → 0 < length name → AreLines lines → length lines < 2 ^ 20 → ReadsUnit 4 none (after_version lines name) empty_table (table_of lines name)
 unfolding word table_of
 reads_unit lines name full some all few =
     let r = by_program name lines all few in
@@ -84,12 +86,12 @@ whole_unit lines name =
     ∙ ap (λ (x : List ℕ). word n ++ x) (whole_body lines name)
     ∙ sym (append_assoc (word n) (half 4) (after_version lines name))
 
-takes_unit : (lines name : List ℕ) → AllByRecursion (λ b. 0 < b) name → 0 < length name → AreLines lines → length lines < 2 ^ 20 → length name < 2 ^ 20 → TakesUnit (unit lines name) empty_table (table_of lines name)
+takes_unit : (lines name : List ℕ) → AllByRecursion (λ b. 0 < b) name → 0 < length name → AreLines lines → length lines < 2 ^ 20 → length name < 2 ^ 20 → TakesUnit none (unit lines name) empty_table (table_of lines name)
 unfolding half word
 takes_unit lines name full some all few short =
     (4, after_version lines name, whole_unit lines name, body_below lines name few short, lit< tt, inl ((lit≤ tt, lit≤ tt), reads_unit lines name full some all few))
 
-is_table : (lines name : List ℕ) → TakesUnit (unit lines name) empty_table (table_of lines name) → IsTable (unit lines name) (table_of lines name)
+is_table : (lines name : List ℕ) → TakesUnit none (unit lines name) empty_table (table_of lines name) → IsTable none (unit lines name) (table_of lines name)
 is_table lines name takes = record { units = unit lines name ∷ []; whole = sym (append-nil (unit lines name)); takes = (table_of lines name, takes, refl) }
 
 -- ---- the file
@@ -98,16 +100,16 @@ all_lines : (lines : List ℕ) → AllByRecursion (λ line. (1 ≤ line) × (lin
 all_lines [] all = tt
 all_lines (l ∷ more) all = (omega (arith, all.0), all_lines more all.1)
 
-unit_is_read : (p : Program) (name : List ℕ) → IsProgram p → IsName name → reading (unit p.lines name) ≡ Ok (table_of p.lines name)
+unit_is_read : (p : Program) (name : List ℕ) → IsProgram p → IsName name → reading none (unit p.lines name) ≡ Ok (table_of p.lines name)
 unit_is_read p name is named =
     let full = without_zeros name (recursion_from_All (λ b. not (b == 0) ≡ true) name named.2) in
     let all = all_lines p.lines (recursion_from_All (λ line. (1 ≤ line) × (line ≤ 65536)) p.lines is.lines_fit) in
-    reading_again (unit p.lines name) (table_of p.lines name) (is_table p.lines name (takes_unit p.lines name full named.0 all (omega (arith, is.whole, is.text_fits)) (omega (arith, named.1))))
+    reading_again none (unit p.lines name) (table_of p.lines name) (is_table p.lines name (takes_unit p.lines name full named.0 all (omega (arith, is.whole, is.text_fits)) (omega (arith, named.1))))
 
-lines_found : (p : Program) (name : List ℕ) → IsProgram p → IsName name → option_map reading (loading.section (written_file p name) (codes ".debug_line")) ≡ Some (Ok (table_of p.lines name))
-lines_found p name is named = ap (λ (o : Option (List ℕ)). option_map reading o) (unit_found p name is named) ∙ ap (λ (r : Result Table LineFault). Some r) (unit_is_read p name is named)
+lines_found : (p : Program) (name : List ℕ) → IsProgram p → IsName name → option_map (reading none) (loading.section (written_file p name) (codes ".debug_line")) ≡ Some (Ok (table_of p.lines name))
+lines_found p name is named = ap (λ (o : Option (List ℕ)). option_map (reading none) o) (unit_found p name is named) ∙ ap (λ (r : Result Table LineFault). Some r) (unit_is_read p name is named)
 
 -- what a call wrote, if it is the written file
-pub given_lines : {V E : Type 0} (bytes : V → List ℕ) (p : Program) (name : List ℕ) (r : Result V E) → IsName name → IfOk r (λ v. bytes v ≡ written_file p name) → IsProgram p → IfOk r (λ v. option_map reading (loading.section (bytes v) (codes ".debug_line")) ≡ Some (Ok (table_of p.lines name)))
-given_lines bytes p name (Ok v) named e is = ap (λ (f : List ℕ). option_map reading (loading.section f (codes ".debug_line"))) e ∙ lines_found p name is named
+pub given_lines : {V E : Type 0} (bytes : V → List ℕ) (p : Program) (name : List ℕ) (r : Result V E) → IsName name → IfOk r (λ v. bytes v ≡ written_file p name) → IsProgram p → IfOk r (λ v. option_map (reading none) (loading.section (bytes v) (codes ".debug_line")) ≡ Some (Ok (table_of p.lines name)))
+given_lines bytes p name (Ok v) named e is = ap (λ (f : List ℕ). option_map (reading none) (loading.section f (codes ".debug_line"))) e ∙ lines_found p name is named
 given_lines bytes p name (Err x) named e is = tt

@@ -5,8 +5,9 @@ mod headers;
 mod numbers;
 mod unit;
 
-ghost use Rattle.std.specs.Prelude.{◌≡◌, ◌<◌, ◌≤◌, ◌-◌, ◌^◌, ◌++◌, length, replicate, nat_lt, option_map, IfOk, Ok, Some, codes};
+ghost use Rattle.std.specs.Prelude.{◌≡◌, ◌<◌, ◌≤◌, ◌-◌, ◌^◌, ◌++◌, [], length, replicate, nat_lt, option_map, IfOk, Ok, Some, codes};
 ghost use Rattle.elf_load.specs.Loaded.{loaded, section};
+ghost use Rattle.dwarf_lines.specs.Names.{strings};
 ghost use Rattle.dwarf_lines.specs.Reading.{reading};
 ghost use Rattle.rv_asm.specs.Assembled.{IsProgram, view};
 ghost use Rattle.image_write.specs.File.{IsWritable, IsName, filled_up, file_header, segments, headers_place, segment_count, front, file_with, written_file};
@@ -86,7 +87,7 @@ pub fn write_elf(alloc: Global, assembled: &Assembled, name: &[u8]) -> Result<Ve
     ensures bytes { IfOk result (λ v. v.items ≡ written_file (view assembled.now) name.now) }
     ensures loads { IsProgram (view assembled.now) → IfOk result (λ v. loaded v.items ≡ Ok (image_of (view assembled.now) v.items)) }
     ensures line_unit { IsProgram (view assembled.now) → IfOk result (λ v. section v.items (codes ".debug_line") ≡ Some (unit (view assembled.now).lines name.now)) }
-    ensures lines { IsProgram (view assembled.now) → IfOk result (λ v. option_map reading (section v.items (codes ".debug_line")) ≡ Some (Ok (table_of (view assembled.now).lines name.now))) }
+    ensures lines { IsProgram (view assembled.now) → IfOk result (λ v. option_map (reading (strings [] [])) (section v.items (codes ".debug_line")) ≡ Some (Ok (table_of (view assembled.now).lines name.now))) }
 {
     let unit = unit(alloc, assembled.lines.as_slice(), name)?;
     file_with(alloc, assembled, unit.as_slice())
