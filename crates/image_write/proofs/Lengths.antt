@@ -2,7 +2,7 @@
 use Rattle.std.proofs.Common.{◌≡◌, ◌≤◌, ◌<◌, ℕ, zero, suc, ◌+◌, ◌-◌, ◌*◌, ◌/◌, ◌%◌, Bool, true, false, List, [], ◌∷◌, ◌++◌, length, refl, ap, ◌∙◌, sym, arith, append_assoc, length-append, cond, if◌then◌else◌}
 use Rattle.std.specs.Prelude.{find, unwrap_or, ℤ, pos, ◌-ℤ◌, ◌==◌, nat_lt, ◌^◌, Some}
 use Rattle.rv_decode.specs.Fields.{twos, is_signed}
-use Rattle.image_write.specs.Unit.{half, word, double, groups, fewest, uleb, sleb, advance_pc, advance_line, row, rows, line_program, set_address, end_sequence, counted, numbers, files, unit_body}
+use Rattle.image_write.specs.Unit.{half, word, double, groups, fewest, uleb, sleb, advance_pc, advance_line, row, rows, line_program, set_address, end_sequence, counted, numbers, files, unit_body, sizes, ended_files, counted_files}
 
 pub length-half : (n : ℕ) → length (half n) ≡ 2
 unfolding half
@@ -91,17 +91,31 @@ length-line_program (l ∷ more) =
 length-counted : (bytes : List ℕ) → length (counted bytes) ≡ length bytes + 4
 length-counted bytes = omega (arith, length-append (word (length bytes)) bytes, length-word (length bytes))
 
-length-header : (name : List ℕ) → length (numbers ++ files name) ≡ length name + 24
-length-header name = simp length-append (omega arith)
+length-files : (version : ℕ) (name : List ℕ) → length (files version name) ≤ 2 * length name + 16
+length-files version name = elim (version == 5) as (λ five. length (if five then counted_files name else ended_files name) ≤ 2 * length name + 16) [
+  | true ↦ omega (arith, length-append ((1 ∷ 1 ∷ 8 ∷ 1 ∷ 46 ∷ 0 ∷ []) ++ (2 ∷ 1 ∷ 8 ∷ 2 ∷ 11 ∷ 2 ∷ []) ++ (name ++ 0 ∷ 0 ∷ [])) (name ++ 0 ∷ 0 ∷ []), length-append ((1 ∷ 1 ∷ 8 ∷ 1 ∷ 46 ∷ 0 ∷ []) ++ (2 ∷ 1 ∷ 8 ∷ 2 ∷ 11 ∷ 2 ∷ [])) (name ++ 0 ∷ 0 ∷ []), length-append name (0 ∷ 0 ∷ []))
+  | false ↦ omega (arith, length-append (0 ∷ [] ++ name ++ 0 ∷ 0 ∷ 0 ∷ 0 ∷ []) (0 ∷ []), length-append (0 ∷ [] ++ name) (0 ∷ 0 ∷ 0 ∷ 0 ∷ []))
+]
+
+length-header : (version : ℕ) (name : List ℕ) → length (numbers ++ files version name) ≤ 2 * length name + 34
+length-header version name = omega (arith, length-append numbers (files version name), length-files version name)
+
+at_most_two : (five : Bool) (x : List ℕ) → length x ≤ 2 → length (if five then x else []) ≤ 2
+at_most_two true x le = le
+at_most_two false x le = omega arith
+
+length-sizes : (version : ℕ) → length (sizes version) ≤ 2
+length-sizes version = at_most_two (version == 5) (8 ∷ 0 ∷ []) (omega arith)
 
 -- the first number that isn't a length of the 32-bit form
-pub body_short : (ls name : List ℕ) → length ls < 2 ^ 20 → length name < 2 ^ 20 → length (unit_body ls name) < 0xFFFFFFF0
-body_short ls name few short =
-    let header = numbers ++ files name in
-    omega (arith, length-append (half 4 ++ counted header) (line_program ls), length-append (half 4) (counted header), length-half 4, length-counted header, length-header name, length-line_program ls)
+pub body_short : (ls name : List ℕ) (version : ℕ) → length ls < 2 ^ 20 → length name < 2 ^ 20 → length (unit_body ls name version) < 0xFFFFFFF0
+body_short ls name version few short =
+    let header = numbers ++ files version name in
+    let front = half version ++ sizes version in
+    omega (arith, length-append (front ++ counted header) (line_program ls), length-append front (counted header), length-append (half version) (sizes version), length-half version, length-sizes version, length-counted header, length-header version name, length-line_program ls)
 
-pub body_small : (ls name : List ℕ) → length ls < 2 ^ 20 → length name < 2 ^ 20 → length (unit_body ls name) < 2 ^ 32
-body_small ls name few short = omega (arith, body_short ls name few short)
+pub body_small : (ls name : List ℕ) (version : ℕ) → length ls < 2 ^ 20 → length name < 2 ^ 20 → length (unit_body ls name version) < 2 ^ 32
+body_small ls name version few short = omega (arith, body_short ls name version few short)
 
-pub unit_small : (ls name : List ℕ) → length ls < 2 ^ 20 → length name < 2 ^ 20 → length (counted (unit_body ls name)) < 2 ^ 33
-unit_small ls name few short = omega (arith, length-counted (unit_body ls name), body_small ls name few short)
+pub unit_small : (ls name : List ℕ) (version : ℕ) → length ls < 2 ^ 20 → length name < 2 ^ 20 → length (counted (unit_body ls name version)) < 2 ^ 33
+unit_small ls name version few short = omega (arith, length-counted (unit_body ls name version), body_small ls name version few short)

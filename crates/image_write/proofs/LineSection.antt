@@ -64,11 +64,11 @@ section_found u p is =
     ap₂ search_by (names_read u p f is ∙ names_bytes u p) (sections_are u p f is) ∙ line_found u p in
     ap (λ (o : Option Section). option_map (bytes_of f) o) found ∙ ap (λ (bytes : List ℕ). Some bytes) (unit_bytes u p)
 
-pub unit_found : (p : Program) (name : List ℕ) → IsProgram p → IsName name → loading.section (written_file p name) (codes ".debug_line") ≡ Some (unit p.lines name)
+pub unit_found : (p : Program) (name : List ℕ) (version : ℕ) → IsProgram p → IsName name → loading.section (written_file p name version) (codes ".debug_line") ≡ Some (unit p.lines name version)
 unfolding written_file
-unit_found p name is named = section_found (unit p.lines name) p (laid (unit p.lines name) p is (unit_is_small p name is named))
+unit_found p name version is named = section_found (unit p.lines name version) p (laid (unit p.lines name version) p is (unit_is_small p name version is named))
 
 -- what a call wrote, if it is the written file
-pub given_unit : {V E : Type 0} (bytes : V → List ℕ) (p : Program) (name : List ℕ) (r : Result V E) → IsName name → IfOk r (λ v. bytes v ≡ written_file p name) → IsProgram p → IfOk r (λ v. loading.section (bytes v) (codes ".debug_line") ≡ Some (unit p.lines name))
-given_unit bytes p name (Ok v) named e is = ap (λ (f : List ℕ). loading.section f (codes ".debug_line")) e ∙ unit_found p name is named
-given_unit bytes p name (Err x) named e is = tt
+pub given_unit : {V E : Type 0} (bytes : V → List ℕ) (p : Program) (name : List ℕ) (version : ℕ) (r : Result V E) → IsName name → IfOk r (λ v. bytes v ≡ written_file p name version) → IsProgram p → IfOk r (λ v. loading.section (bytes v) (codes ".debug_line") ≡ Some (unit p.lines name version))
+given_unit bytes p name version (Ok v) named e is = ap (λ (f : List ℕ). loading.section f (codes ".debug_line")) e ∙ unit_found p name version is named
+given_unit bytes p name version (Err x) named e is = tt

@@ -316,17 +316,17 @@ loads_laid unit p file is laid_out =
     (sym laid_out.is_headed.has_entry) (sym (no_headers unit p file laid_out)) (sym laid_out.is_headed.has_phnum) in
     loaded_when file none ∙ ap (λ (x : ImageParts). Ok x) (sym parts)
 
-pub unit_is_small : (p : Program) (name : List ℕ) → IsProgram p → IsName name → length (unit p.lines name) < 2 ^ 33
+pub unit_is_small : (p : Program) (name : List ℕ) (version : ℕ) → IsProgram p → IsName name → length (unit p.lines name version) < 2 ^ 33
 unfolding unit
-unit_is_small p name is named = unit_small p.lines name (omega (arith, is.whole, is.text_fits)) (omega (arith, named.1))
+unit_is_small p name version is named = unit_small p.lines name version (omega (arith, is.whole, is.text_fits)) (omega (arith, named.1))
 
-pub written_loads : (p : Program) (name : List ℕ) → IsProgram p → IsName name → loaded (written_file p name) ≡ Ok (image_of p (written_file p name))
+pub written_loads : (p : Program) (name : List ℕ) (version : ℕ) → IsProgram p → IsName name → loaded (written_file p name version) ≡ Ok (image_of p (written_file p name version))
 unfolding written_file
-written_loads p name is named =
-    let u = unit p.lines name in
-    loads_laid u p (file_with u p) is (laid u p is (unit_is_small p name is named))
+written_loads p name version is named =
+    let u = unit p.lines name version in
+    loads_laid u p (file_with u p) is (laid u p is (unit_is_small p name version is named))
 
 -- what a call wrote, if it is the written file
-pub given_loads : {V E : Type 0} (bytes : V → List ℕ) (p : Program) (name : List ℕ) (r : Result V E) → IsName name → IfOk r (λ v. bytes v ≡ written_file p name) → IsProgram p → IfOk r (λ v. loaded (bytes v) ≡ Ok (image_of p (bytes v)))
-given_loads bytes p name (Ok v) named e is = subst (λ (file : List ℕ). loaded file ≡ Ok (image_of p file)) (sym e) (written_loads p name is named)
-given_loads bytes p name (Err x) named e is = tt
+pub given_loads : {V E : Type 0} (bytes : V → List ℕ) (p : Program) (name : List ℕ) (version : ℕ) (r : Result V E) → IsName name → IfOk r (λ v. bytes v ≡ written_file p name version) → IsProgram p → IfOk r (λ v. loaded (bytes v) ≡ Ok (image_of p (bytes v)))
+given_loads bytes p name version (Ok v) named e is = subst (λ (file : List ℕ). loaded file ≡ Ok (image_of p file)) (sym e) (written_loads p name version is named)
+given_loads bytes p name version (Err x) named e is = tt

@@ -120,13 +120,16 @@ file_with unit p =
     ++ replicate (headers_place unit p - names_end unit p) 0
     ++ sections unit p
 
-unfoldable pub written_file : Program → List ℕ → List ℕ
-written_file p name = file_with (unit p.lines name) p
+unfoldable pub written_file : Program → List ℕ → ℕ → List ℕ
+written_file p name version = file_with (unit p.lines name version) p
 
 -- ---- what can be written
 
 abbrev pub IsName : List ℕ → Type 0
 IsName name = (0 < length name) × (length name ≤ 131072) × AllPass (λ b. not (b == 0)) name
+
+abbrev pub IsVersion : ℕ → Type 0
+IsVersion version = (4 ≤ version) × (version ≤ 5)
 
 abbrev pub IsWritable : Program → Type 0
 IsWritable p = (length p.text ≤ 1048576) × (length p.content ≤ 1048576) × (length p.text ≡ 4 * length p.lines)

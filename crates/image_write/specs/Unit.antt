@@ -1,4 +1,4 @@
--- The line unit of a written file, version 4.
+-- The line unit of a written file, of version 4 or 5.
 use Rattle.std.specs.Prelude.{ℕ, zero, suc, ◌+◌, ◌*◌, ◌/◌, ◌%◌, ◌^◌, Bool, List, [], ◌∷◌, ◌++◌, length, find, ℤ, pos, ◌-ℤ◌, unwrap_or, nat_lt, ◌==◌, if◌then◌else◌}
 use Rattle.std.specs.Int.{w16, w32, w64, to_le_bytes}
 use Rattle.rv_decode.specs.Fields.{twos, is_signed}
@@ -70,17 +70,28 @@ numbers =
     4 ∷ 1 ∷ 1 ∷ 0xFB ∷ 14 ∷ 13 ∷ []
     ++ 0 ∷ 1 ∷ 1 ∷ 1 ∷ 1 ∷ 0 ∷ 0 ∷ 0 ∷ 1 ∷ 0 ∷ 0 ∷ 1 ∷ []
 
+-- the sizes of an address and of a segment, in version 5 alone
+abbrev pub sizes : ℕ → List ℕ
+sizes version = if version == 5 then 8 ∷ 0 ∷ [] else []
+
 -- no directory, and one file
-abbrev pub files : List ℕ → List ℕ
-files name = 0 ∷ [] ++ name ++ 0 ∷ 0 ∷ 0 ∷ 0 ∷ [] ++ 0 ∷ []
+abbrev pub ended_files : List ℕ → List ℕ
+ended_files name = 0 ∷ [] ++ name ++ 0 ∷ 0 ∷ 0 ∷ 0 ∷ [] ++ 0 ∷ []
+
+-- the directory `.`, a text, and twice the file, a text and the number of its directory in one byte
+abbrev pub counted_files : List ℕ → List ℕ
+counted_files name = (1 ∷ 1 ∷ 8 ∷ 1 ∷ 46 ∷ 0 ∷ []) ++ (2 ∷ 1 ∷ 8 ∷ 2 ∷ 11 ∷ 2 ∷ []) ++ (name ++ 0 ∷ 0 ∷ []) ++ (name ++ 0 ∷ 0 ∷ [])
+
+abbrev pub files : ℕ → List ℕ → List ℕ
+files version name = if version == 5 then counted_files name else ended_files name
 
 -- the bytes behind their own count in four bytes
 abbrev pub counted : List ℕ → List ℕ
 counted bytes = word (length bytes) ++ bytes
 
 -- the version, the header behind its length, and the program
-abbrev pub unit_body : List ℕ → List ℕ → List ℕ
-unit_body lines name = half 4 ++ counted (numbers ++ files name) ++ line_program lines
+abbrev pub unit_body : List ℕ → List ℕ → ℕ → List ℕ
+unit_body lines name version = half version ++ sizes version ++ counted (numbers ++ files version name) ++ line_program lines
 
-unfoldable pub unit : List ℕ → List ℕ → List ℕ
-unit lines name = counted (unit_body lines name)
+unfoldable pub unit : List ℕ → List ℕ → ℕ → List ℕ
+unit lines name version = counted (unit_body lines name version)

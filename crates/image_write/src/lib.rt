@@ -10,7 +10,7 @@ ghost use Rattle.elf_load.specs.Loaded.{loaded, section};
 ghost use Rattle.dwarf_lines.specs.Names.{strings};
 ghost use Rattle.dwarf_lines.specs.Reading.{reading};
 ghost use Rattle.rv_asm.specs.Assembled.{IsProgram, view};
-ghost use Rattle.image_write.specs.File.{IsWritable, IsName, filled_up, file_header, segments, headers_place, segment_count, front, file_with, written_file};
+ghost use Rattle.image_write.specs.File.{IsWritable, IsName, IsVersion, filled_up, file_header, segments, headers_place, segment_count, front, file_with, written_file};
 ghost use Rattle.image_write.specs.Image.{image_of};
 ghost use Rattle.image_write.specs.Unit.{unit};
 ghost use Rattle.image_write.specs.Lines.{table_of};
@@ -79,16 +79,22 @@ fn file_with(alloc: Global, assembled: &Assembled, unit: &[u8]) -> Result<Vec<u8
     Ok(out)
 }
 
-/// The file that loads as what was assembled, with its line table: `name` is the name of the source in it.
+/// The file that loads as what was assembled, with its line table of version 4 or 5: `name` is the name of the source in it.
 #[tactic(auto, unfolding(crate::specs::File::written_file))]
-pub fn write_elf(alloc: Global, assembled: &Assembled, name: &[u8]) -> Result<Vec<u8>, AllocError>
+pub fn write_elf(
+    alloc: Global,
+    assembled: &Assembled,
+    name: &[u8],
+    version: u8,
+) -> Result<Vec<u8>, AllocError>
     requires writable { IsWritable (view assembled.now) }
     requires named { IsName name.now }
-    ensures bytes { IfOk result (λ v. v.items ≡ written_file (view assembled.now) name.now) }
+    requires version { IsVersion version }
+    ensures bytes { IfOk result (λ v. v.items ≡ written_file (view assembled.now) name.now version) }
     ensures loads { IsProgram (view assembled.now) → IfOk result (λ v. loaded v.items ≡ Ok (image_of (view assembled.now) v.items)) }
-    ensures line_unit { IsProgram (view assembled.now) → IfOk result (λ v. section v.items (codes ".debug_line") ≡ Some (unit (view assembled.now).lines name.now)) }
-    ensures lines { IsProgram (view assembled.now) → IfOk result (λ v. option_map (reading (strings [] [])) (section v.items (codes ".debug_line")) ≡ Some (Ok (table_of (view assembled.now).lines name.now))) }
+    ensures line_unit { IsProgram (view assembled.now) → IfOk result (λ v. section v.items (codes ".debug_line") ≡ Some (unit (view assembled.now).lines name.now version)) }
+    ensures lines { IsProgram (view assembled.now) → IfOk result (λ v. option_map (reading (strings [] [])) (section v.items (codes ".debug_line")) ≡ Some (Ok (table_of (view assembled.now).lines name.now version))) }
 {
-    let unit = unit(alloc, assembled.lines.as_slice(), name)?;
+    let unit = unit(alloc, assembled.lines.as_slice(), name, version)?;
     file_with(alloc, assembled, unit.as_slice())
 }

@@ -1,7 +1,7 @@
-//! The line unit of a written file (DWARF 4, section 6.2).
+//! The line unit of a written file (DWARF 4 and 5, section 6.2).
 
 ghost use Rattle.std.specs.Prelude.{◌≡◌, ◌<◌, ◌≤◌, ◌+◌, ◌*◌, ◌^◌, ◌++◌, length, IfOk};
-ghost use Rattle.image_write.specs.Unit.{set_address, end_sequence, advance_pc, advance_line, row, rows, line_program, numbers, files, counted, unit_body, unit};
+ghost use Rattle.image_write.specs.Unit.{set_address, end_sequence, advance_pc, advance_line, row, rows, line_program, numbers, sizes, ended_files, counted_files, files, counted, unit_body, unit};
 
 use crate::numbers::{push_double, push_half, push_sleb, push_uleb, push_word};
 use std::alloc::{AllocError, Global};
@@ -11,6 +11,15 @@ const TEXT_START: u64 = 0x1_0000;
 
 /// minimum_instruction_length, maximum_operations_per_instruction, default_is_stmt, line_base, line_range, opcode_base, and the lengths of the opcodes from 1 to 12.
 const NUMBERS: [u8; 18] = [4, 1, 1, 0xFB, 14, 13, 0, 1, 1, 1, 1, 0, 0, 0, 1, 0, 0, 1];
+
+/// One field, the path as a text; one directory, `.`.
+const CURRENT_DIRECTORY: [u8; 6] = [1, 1, 8, 1, b'.', 0];
+
+/// Two fields, the path as a text and the number of the directory as a byte; two files.
+const TWO_FILES: [u8; 6] = [2, 1, 8, 2, 11, 2];
+
+/// The sizes of an address and of a segment.
+const SIZES: [u8; 2] = [8, 0];
 
 /// The end of the sequence.
 const END_SEQUENCE: [u8; 3] = [0, 1, 1];
@@ -86,17 +95,35 @@ fn line_program(alloc: Global, lines: &[u32]) -> Result<Vec<u8>, AllocError>
     Ok(out)
 }
 
-/// The header's numbers, no directory, and one file.
-fn header(alloc: Global, name: &[u8]) -> Result<Vec<u8>, AllocError>
-    ensures { IfOk result (λ v. v.items ≡ numbers ++ files name.now) }
+/// The header's numbers, its directories and its files.
+fn header(alloc: Global, name: &[u8], version: u8) -> Result<Vec<u8>, AllocError>
+    ensures { IfOk result (λ v. v.items ≡ numbers ++ files version name.now) }
 {
     let mut out = Vec::from_slice(alloc, &NUMBERS)?;
-    push_files(&mut out, name)?;
+    if version == 5 {
+        push_counted_files(&mut out, name)?;
+    } else {
+        push_ended_files(&mut out, name)?;
+    }
     Ok(out)
 }
 
-fn push_files(out: &mut Vec<u8>, name: &[u8]) -> Result<(), AllocError>
-    ensures { IfOk result (λ _. out.new.items ≡ out.old.items ++ files name.now) }
+/// The directory `.`, and twice the file.
+fn push_counted_files(out: &mut Vec<u8>, name: &[u8]) -> Result<(), AllocError>
+    ensures { IfOk result (λ _. out.new.items ≡ out.old.items ++ counted_files name.now) }
+{
+    out.extend_from_slice(&CURRENT_DIRECTORY)?;
+    out.extend_from_slice(&TWO_FILES)?;
+    out.extend_from_slice(name)?;
+    out.extend_from_slice(&[0, 0])?;
+    out.extend_from_slice(name)?;
+    out.extend_from_slice(&[0, 0])?;
+    Ok(())
+}
+
+/// No directory, and one file.
+fn push_ended_files(out: &mut Vec<u8>, name: &[u8]) -> Result<(), AllocError>
+    ensures { IfOk result (λ _. out.new.items ≡ out.old.items ++ ended_files name.now) }
 {
     out.push(0)?;
     out.extend_from_slice(name)?;
@@ -117,29 +144,32 @@ fn counted(alloc: Global, bytes: &[u8]) -> Result<Vec<u8>, AllocError>
 }
 
 /// The unit behind its length.
-fn unit_body(alloc: Global, lines: &[u32], name: &[u8]) -> Result<Vec<u8>, AllocError>
+fn unit_body(alloc: Global, lines: &[u32], name: &[u8], version: u8) -> Result<Vec<u8>, AllocError>
     requires lines { length lines.now < 2 ^ 20 }
     requires name { length name.now < 2 ^ 20 }
-    ensures { IfOk result (λ v. v.items ≡ unit_body lines.now name.now) }
+    ensures { IfOk result (λ v. v.items ≡ unit_body lines.now name.now version) }
 {
-    let header = counted(alloc, &header(alloc, name)?)?;
+    let header = counted(alloc, &header(alloc, name, version)?)?;
     let program = line_program(alloc, lines)?;
     let mut out = Vec::new(alloc);
-    push_half(&mut out, 4)?;
+    push_half(&mut out, u16::from(version))?;
+    if version == 5 {
+        out.extend_from_slice(&SIZES)?;
+    }
     out.extend_from_slice(&header)?;
     out.extend_from_slice(&program)?;
     Ok(out)
 }
 
-/// The line unit, of version 4.
+/// The line unit.
 #[tactic(auto, unfolding(crate::specs::Unit::unit))]
-pub fn unit(alloc: Global, lines: &[u32], name: &[u8]) -> Result<Vec<u8>, AllocError>
+pub fn unit(alloc: Global, lines: &[u32], name: &[u8], version: u8) -> Result<Vec<u8>, AllocError>
     requires lines { length lines.now < 2 ^ 20 }
     requires name { length name.now < 2 ^ 20 }
-    ensures items { IfOk result (λ v. v.items ≡ unit lines.now name.now) }
+    ensures items { IfOk result (λ v. v.items ≡ unit lines.now name.now version) }
     ensures small { IfOk result (λ v. length v.items < 2 ^ 33) }
 {
-    let body = unit_body(alloc, lines, name)?;
+    let body = unit_body(alloc, lines, name, version)?;
     let out = counted(alloc, body.as_slice())?;
     Ok(out)
 }

@@ -1,3 +1,5 @@
+ghost use Rattle.image_write.specs.File.{IsVersion};
+
 use coz_lists::Items;
 use image_write::write_elf;
 use rv_asm::{Assembled, assemble};
@@ -10,7 +12,7 @@ fn a_source_is_written(rt: HostRuntime) -> Result<(), Fail> {
     let alloc = rt.alloc();
     let source = b"addi a0, x0, 0\naddi a7, x0, 93\necall\n";
     let length = match assemble(alloc, source) {
-        Ok(made) => write_elf(alloc, &made, b"one.s")?.len(),
+        Ok(made) => write_elf(alloc, &made, b"one.s", 4)?.len(),
         Err(_) => 0,
     };
     assert_eq!(rt; length, 4536);
@@ -31,17 +33,26 @@ const UNIT: [u8; 66] = [
     1, 1, 2, 1, 3, 1, 1, 2, 1, 0, 1, 1,
 ];
 
+const UNIT_5: [u8; 83] = [
+    0x4F, 0, 0, 0, 5, 0, 8, 0, 0x2C, 0, 0, 0, 4, 1, 1, 0xFB, 0x0E, 0x0D, 0, 1, 1, 1, 1, 0, 0, 0, 1,
+    0, 0, 1, 1, 1, 8, 1, 0x2E, 0, 2, 1, 8, 2, 0x0B, 2, 0x6F, 0x6E, 0x65, 0x2E, 0x73, 0, 0, 0x6F,
+    0x6E, 0x65, 0x2E, 0x73, 0, 0, 0, 9, 2, 0, 0, 1, 0, 0, 0, 0, 0, 1, 2, 1, 3, 1, 1, 2, 1, 3, 1, 1,
+    2, 1, 0, 1, 1,
+];
+
 const TEXT: [u8; 12] = [0x13, 5, 0, 0, 0x93, 8, 0xD0, 5, 0x73, 0, 0, 0];
 
 /// The file of the small program, whose words have the lines 1, 2 and 3.
-fn small_program(alloc: Global) -> Result<Vec<u8>, AllocError> {
+fn small_program(alloc: Global, version: u8) -> Result<Vec<u8>, AllocError>
+    requires { IsVersion version }
+{
     let made = Assembled {
         text: Items::new(Vec::from_slice(alloc, &TEXT)?),
         content: Items::new(Vec::new(alloc)),
         lines: Items::new(Vec::from_slice(alloc, &[1, 2, 3])?),
         entry: 0x1_0000,
     };
-    write_elf(alloc, &made, b"one.s")
+    write_elf(alloc, &made, b"one.s", version)
 }
 
 /// Whether the file has its length, its header and its line unit.
@@ -53,7 +64,15 @@ fn is_small_program(file: &[u8]) -> bool {
 
 #[test]
 fn a_small_program_is_written(rt: HostRuntime) -> Result<(), Fail> {
-    let file = small_program(rt.alloc())?;
+    let file = small_program(rt.alloc(), 4)?;
     assert!(rt; is_small_program(file.as_slice()));
+    Ok(())
+}
+
+#[test]
+fn a_small_program_is_written_with_lines_of_version_5(rt: HostRuntime) -> Result<(), Fail> {
+    let file = small_program(rt.alloc(), 5)?;
+    assert_eq!(rt; file.len(), 4552);
+    assert!(rt; file.get(4108..4191) == Some(UNIT_5.as_slice()));
     Ok(())
 }

@@ -9,17 +9,17 @@ use Rattle.image_write.proofs.write_elf.Goals as goal
 pub returns-clause-loads : goal.returns-clause-loads
 unfolding written_file
 returns-clause-loads c is =
-    let bytes : IfOk c.file_with.result (λ v. v.items ≡ written_file (view c.args.assembled.now) c.args.name.now) = search rules in
-    given_loads (λ v. v.items) (view c.args.assembled.now) c.args.name.now c.file_with.result c.requires.named bytes is
+    let bytes : IfOk c.file_with.result (λ v. v.items ≡ written_file (view c.args.assembled.now) c.args.name.now c.args.version) = search rules in
+    given_loads (λ v. v.items) (view c.args.assembled.now) c.args.name.now c.args.version c.file_with.result c.requires.named bytes is
 
 pub returns-clause-line_unit : goal.returns-clause-line_unit
 unfolding written_file
 returns-clause-line_unit c is =
-    let bytes : IfOk c.file_with.result (λ v. v.items ≡ written_file (view c.args.assembled.now) c.args.name.now) = search rules in
-    given_unit (λ v. v.items) (view c.args.assembled.now) c.args.name.now c.file_with.result c.requires.named bytes is
+    let bytes : IfOk c.file_with.result (λ v. v.items ≡ written_file (view c.args.assembled.now) c.args.name.now c.args.version) = search rules in
+    given_unit (λ v. v.items) (view c.args.assembled.now) c.args.name.now c.args.version c.file_with.result c.requires.named bytes is
 
 pub returns-clause-lines : goal.returns-clause-lines
 unfolding written_file
 returns-clause-lines c is =
-    let bytes : IfOk c.file_with.result (λ v. v.items ≡ written_file (view c.args.assembled.now) c.args.name.now) = search rules in
-    given_lines (λ v. v.items) (view c.args.assembled.now) c.args.name.now c.file_with.result c.requires.named bytes is
+    let bytes : IfOk c.file_with.result (λ v. v.items ≡ written_file (view c.args.assembled.now) c.args.name.now c.args.version) = search rules in
+    given_lines (λ v. v.items) (view c.args.assembled.now) c.args.name.now c.args.version c.file_with.result c.requires.named c.requires.version bytes is
