@@ -5,7 +5,7 @@ use std::alloc::Global;
 use std::test::Fail;
 
 /// A unit of version 4 with four rows. Its program begins at 37.
-static FOUR_ROWS: [u8; 71] = [
+pub static FOUR_ROWS: [u8; 71] = [
     0x43, 0x00, 0x00, 0x00, 0x04, 0x00, 0x1B, 0x00, 0x00, 0x00, 0x04, 0x01, 0x01, 0xFB, 0x0E, 0x0D,
     0x00, 0x01, 0x01, 0x01, 0x01, 0x00, 0x00, 0x00, 0x01, 0x00, 0x00, 0x01, 0x00, 0x61, 0x2E, 0x73,
     0x00, 0x00, 0x00, 0x00, 0x00, 0x00, 0x09, 0x02, 0x00, 0x00, 0x01, 0x00, 0x00, 0x00, 0x00, 0x00,
@@ -13,7 +13,7 @@ static FOUR_ROWS: [u8; 71] = [
     0xAA, 0xBB, 0x02, 0x02, 0x00, 0x01, 0x01,
 ];
 
-/// A unit of version 2 with each opcode, and one of version 5. llvm-dwarfdump prints its rows.
+/// A unit of version 2 with each opcode, and one of version 6. llvm-dwarfdump prints its rows.
 static EACH_OPCODE: [u8; 123] = [
     0x71, 0x00, 0x00, 0x00, 0x02, 0x00, 0x24, 0x00, 0x00, 0x00, 0x04, 0x01, 0xFD, 0x0C, 0x0E, 0x00,
     0x01, 0x01, 0x01, 0x01, 0x00, 0x00, 0x00, 0x01, 0x00, 0x00, 0x01, 0x02, 0x64, 0x00, 0x00, 0x61,
@@ -22,7 +22,7 @@ static EACH_OPCODE: [u8; 123] = [
     0x0A, 0x0B, 0x0C, 0x05, 0x0D, 0x81, 0x00, 0x02, 0x02, 0x02, 0x03, 0x09, 0x01, 0x08, 0x09, 0x05,
     0x00, 0x03, 0x7F, 0x2A, 0x00, 0x03, 0x80, 0xAA, 0xBB, 0x00, 0x00, 0x00, 0x02, 0x04, 0x07, 0x00,
     0x07, 0x03, 0x63, 0x00, 0x01, 0x00, 0x00, 0x99, 0x04, 0x03, 0x01, 0x04, 0x04, 0x01, 0x00, 0x01,
-    0x01, 0x01, 0x00, 0x01, 0x01, 0x02, 0x00, 0x00, 0x00, 0x05, 0x00,
+    0x01, 0x01, 0x00, 0x01, 0x01, 0x02, 0x00, 0x00, 0x00, 0x06, 0x00,
 ];
 
 fn row(address: u64, file: Option<u32>, line: u32, ends: bool) -> Row {
@@ -61,7 +61,7 @@ fn fault(kind: LineKind, place: u64) -> Option<LineFault> {
 fn fault_of(alloc: Global, section: &[u8]) -> Result<Option<LineFault>, LineError>
     requires { length section.now ≤ 33554432 }
 {
-    match read_lines(alloc, section) {
+    match read_lines(alloc, section, &[], &[]) {
         Ok(_) => Ok(None),
         Err(LineError::Fault(fault)) => Ok(Some(fault)),
         Err(LineError::Memory) => Err(LineError::Memory),
@@ -70,7 +70,7 @@ fn fault_of(alloc: Global, section: &[u8]) -> Result<Option<LineFault>, LineErro
 
 #[test]
 fn four_rows_are_read(rt: HostRuntime) -> Result<(), Fail> {
-    let table = read_lines(rt.alloc(), &FOUR_ROWS)?;
+    let table = read_lines(rt.alloc(), &FOUR_ROWS, &[], &[])?;
     let rows = [
         row(0x10000, Some(0), 1, false),
         row(0x10008, Some(0), 2, false),
@@ -84,7 +84,7 @@ fn four_rows_are_read(rt: HostRuntime) -> Result<(), Fail> {
 
 #[test]
 fn each_opcode_is_read(rt: HostRuntime) -> Result<(), Fail> {
-    let table = read_lines(rt.alloc(), &EACH_OPCODE)?;
+    let table = read_lines(rt.alloc(), &EACH_OPCODE, &[], &[])?;
     let rows = [
         row(0x1000, Some(0), 1, false),
         later_row(0x1008, Some(1), false),
@@ -105,7 +105,7 @@ static FILES: [(&str, &str); 3] = [("d", "a.s"), ("", "b.s"), ("d", "c")];
 
 #[test]
 fn files_are_read(rt: HostRuntime) -> Result<(), Fail> {
-    let table = read_lines(rt.alloc(), &EACH_OPCODE)?;
+    let table = read_lines(rt.alloc(), &EACH_OPCODE, &[], &[])?;
     assert_eq!(rt; table.files.len(), FILES.len());
     for (file, (directory, name)) in table.files.as_slice().iter().zip(FILES.iter()) {
         assert_eq!(rt; file.directory, directory.as_bytes());

@@ -81,7 +81,7 @@ fn fault(kind: ElfKind, place: u64) -> Option<LoadError> {
 type Fault = (&'static [Change], ElfKind, u64);
 
 /// Faults of the header and of the sections.
-static HEADERS: [Fault; 20] = [
+static HEADERS: [Fault; 22] = [
     (&[(1, &[0])], NotElf, 0),
     (&[(4, &[1])], NotClass64, 4),
     (&[(5, &[2])], NotLittle, 5),
@@ -103,6 +103,13 @@ static HEADERS: [Fault; 20] = [
     (&[(4417, &[8])], PackedLines, 4408),
     // The name counts, though a NOBITS section can't be found by it.
     (&[(4412, &[8]), (4417, &[8])], PackedLines, 4408),
+    // The two sections of texts.
+    (&[(4187, b".debug_str\0"), (4417, &[8])], PackedLines, 4408),
+    (
+        &[(4187, b".debug_line_str\0"), (4417, &[8])],
+        PackedLines,
+        4408,
+    ),
 ];
 
 /// Faults of the program headers and of the entry.

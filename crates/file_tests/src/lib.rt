@@ -14,4 +14,6 @@ mod leb_cursor_tests;
 #[cfg(test)]
 mod line_index_tests;
 #[cfg(test)]
+mod line_names_tests;
+#[cfg(test)]
 mod progress_points_tests;
