@@ -4,7 +4,7 @@ use Rattle.elf_load.specs.declared.ElfKind.{ElfKind}
 use Rattle.elf_load.specs.declared.ElfKind.TheVariants.{NotElf, NotClass64, NotLittle, NotExec, NotRiscv, Compressed, HeaderOut, PackedLines, Interp, SizeOrder, AddressOut, WritableCode, SharedPage, TooMuch, EntryOut}
 use Rattle.elf_load.specs.declared.ElfFault.{ElfFault}
 use Rattle.dwarf_lines.specs.declared.LineKind.{LineKind}
-use Rattle.dwarf_lines.specs.declared.LineKind.TheVariants.{Short, Wide, LongForm, ManyOps, ZeroRange, OpcodeBaseZero, LineOut, AddressLength, Unended}
+use Rattle.dwarf_lines.specs.declared.LineKind.TheVariants.{Short, Wide, LongForm, ManyOps, ZeroRange, OpcodeBaseZero, LineOut, AddressLength, Unended, AddressSize, SegmentSize, FormOut, EmptyEntries, TextOut}
 use Rattle.dwarf_lines.specs.declared.LineFault.{LineFault}
 use Rattle.rv_asm.specs.declared.AsmKind.{AsmKind}
 use Rattle.rv_asm.specs.declared.AsmKind.TheVariants.{Lines, Byte, Token, Twice, Name, Section, Operand, Range, Much, Missing, Far, Empty}
@@ -40,6 +40,11 @@ line_kind_name OpcodeBaseZero = codes "OpcodeBaseZero"
 line_kind_name LineOut = codes "LineOut"
 line_kind_name AddressLength = codes "AddressLength"
 line_kind_name Unended = codes "Unended"
+line_kind_name AddressSize = codes "AddressSize"
+line_kind_name SegmentSize = codes "SegmentSize"
+line_kind_name FormOut = codes "FormOut"
+line_kind_name EmptyEntries = codes "EmptyEntries"
+line_kind_name TextOut = codes "TextOut"
 
 abbrev pub table_line : LineFault → List ℕ
 table_line fault = codes "coz: lines: " ++ line_kind_name fault.kind ++ codes " at " ++ decimal fault.place

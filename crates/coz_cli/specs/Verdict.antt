@@ -103,7 +103,7 @@ lines_verdict file = program_verdict file (λ image table. printed (lines_text t
 -- of what a source stands for, under this name
 abbrev pub source_verdict : List ℕ → Result Program AsmFault → Verdict
 source_verdict name (Err fault) = refused 11 (source_line fault)
-source_verdict name (Ok program) = printed (written_file program name)
+source_verdict name (Ok program) = printed (written_file program name 4)
 
 abbrev pub command_verdict : Command → Request → Held → Verdict
 command_verdict Run asked held = experiment_verdict asked held (λ x. run_verdict (delayed_record x))

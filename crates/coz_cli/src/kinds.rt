@@ -41,6 +41,11 @@ pub fn line_kind_name(kind: LineKind) -> &'static [u8]
         LineKind::LineOut => b"LineOut",
         LineKind::AddressLength => b"AddressLength",
         LineKind::Unended => b"Unended",
+        LineKind::AddressSize => b"AddressSize",
+        LineKind::SegmentSize => b"SegmentSize",
+        LineKind::FormOut => b"FormOut",
+        LineKind::EmptyEntries => b"EmptyEntries",
+        LineKind::TextOut => b"TextOut",
     }
 }
 

@@ -9,10 +9,10 @@ ghost use Rattle.coz_cli.specs.Verdict.{Verdict, program_verdict, read_verdict};
 ghost use Rattle.coz_cli.specs.Answer.{follows, IsMemory, IsOfPath, IsRead, SettlesThen};
 
 use crate::fault::Fault;
-use crate::line_table::line_section;
+use crate::line_table::read_table;
 use coz_files::{FileAnswer, Files};
 use coz_types::Image;
-use dwarf_lines::{LineTable, read_lines};
+use dwarf_lines::LineTable;
 use elf_load::load;
 use line_index::{LineIndex, build};
 use std::alloc::Global;
@@ -61,7 +61,7 @@ pub fn read_program<'a, 'f>(alloc: Global, file: &'f [u8]) -> Result<Program<'f>
     ensures indexed { IfOk result (λ program. IsIndex (view program.table) program.image.areas program.index) }
 {
     let image = load(alloc, file)?;
-    let table = read_lines(alloc, line_section(&image))?;
+    let table = read_table(alloc, &image)?;
     let index = build(alloc, &table, &image)?;
     Ok(Program {
         image,

@@ -31,6 +31,9 @@ pub fn judge_source<'r, F: Files>(alloc: Global, request: &'r Request, files: &m
     source_answer(alloc, &source, request.target.text())
 }
 
+/// The version of the line table of the file that is written.
+const LINES_VERSION: u8 = 4;
+
 /// The file of what a source stands for, with the source's name in it.
 fn source_answer<'r>(alloc: Global, source: &[u8], name: &str) -> Answer<'r>
     requires short { length source.now ≤ 4194304 }
@@ -39,7 +42,7 @@ fn source_answer<'r>(alloc: Global, source: &[u8], name: &str) -> Answer<'r>
     ensures settled { (IsMemory result → ⊥) → answered result ≡ source_verdict name.now (assembled source.now) }
 {
     let assembled = assemble(alloc, source)?;
-    let text = write_elf(alloc, &assembled, name.as_bytes())?;
+    let text = write_elf(alloc, &assembled, name.as_bytes(), LINES_VERSION)?;
     Ok(Printed {
         status: 0,
         text: Text::Bytes(text),
