@@ -22,3 +22,6 @@ pub mod Kept
 pub mod Righted
 pub mod Needed
 pub mod Placing
+pub mod Endings
+pub mod Firsts
+pub mod Stretch

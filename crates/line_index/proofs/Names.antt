@@ -1,7 +1,7 @@
 -- Lines by name: what a search among keys and one among paths tell of the first line that passes.
-use Rattle.std.proofs.Common.{◌≡◌, ℕ, zero, suc, ◌+◌, ◌<◌, ◌≤◌, ⊎_elim, Bool, true, false, not, ◌&&◌, List, [], ◌∷◌, length, map, get_or, Option, Some, None, is_some, Result, Err, Ordering, All, Contains, cond, nat_lt, ◌==◌, bytes_eq, refl, sym, ap, ap₂, ◌∙◌, subst, arith}
-use Rattle.std.specs.declared.cmp.Ordering.TheVariants.{Less, Equal, Greater}
-use Rattle.std.specs.Ordering.{nat_cmp, ordering_then, is_eq}
+use Rattle.std.proofs.Common.{◌≡◌, ℕ, zero, suc, ◌+◌, ◌<◌, ⊎_elim, Bool, true, false, not, ◌&&◌, List, [], ◌∷◌, length, map, get_or, Some, None, Result, Err, All, Contains, cond, nat_lt, ◌==◌, bytes_eq, refl, sym, ap, ap₂, ◌∙◌, subst, arith}
+use Rattle.std.specs.declared.cmp.Ordering.TheVariants.{Less, Equal}
+use Rattle.std.specs.Ordering.{nat_cmp, is_eq}
 use Rattle.std.specs.Cmp.Lexicographic.{slice_cmp, nat_list_cmp_total}
 use Rattle.std.specs.List.{AllByRecursion, position, position_from, position_or_len, prefix_len}
 use Rattle.std.specs.List.Sorted.{IsStrictlySortedBy, IsBinarySearchResult}
@@ -9,16 +9,14 @@ use Rattle.std.specs.Global.{Vec}
 use Rattle.std.specs.FinMap.{slice_cmp-IsAntisymmetric, nat_cmp-IsAntisymmetric}
 use Rattle.std.proofs.lemmas.Bool.{eqb-true, eq-eqb, lt-ltb, cases_lt, and_from, and_parts, false_from_ne_true}
 use Rattle.std.proofs.lemmas.Bool.Decides.{nat_tests}
-use Rattle.std.proofs.lemmas.Cmp.{ranked}
 use Rattle.std.proofs.lemmas.Iterator.Adapters.{position_from-zero}
 use Rattle.std.proofs.lemmas.List.{length-map, get_or-map}
 use Rattle.std.proofs.lemmas.List.Elements.{All-from_recursion, All-get_or, recursion_from_All}
-use Rattle.std.proofs.lemmas.List.Quantifiers.{position-Some}
 use Rattle.std.proofs.lemmas.List.Sums.{position_or_len_is}
 use Rattle.std.proofs.lemmas.Map.Keys.{Less-from_sorted}
 use Rattle.std.proofs.lemmas.Slice.Eq.{bytes_eq-Decides}
 use Rattle.line_index.specs.declared.lines.Key.{Key}
-use Rattle.line_index.specs.Lines.{ends_with, is_line, is_line_below}
+use Rattle.line_index.specs.Lines.{is_line}
 use Rattle.line_index.specs.Keys.{HasPath, is_key, key_cmp, path_cmp, texts, with_path}
 use Rattle.line_index.specs.Index.{line_at}
 use Rattle.line_index.proofs.Order.{self_equal}
@@ -64,21 +62,21 @@ prefix_len-map p f [] = refl
 prefix_len-map p f (x ∷ xs) = ap (λ n. cond (p (f x)) (1 + n) 0) (prefix_len-map p f xs)
 
 -- a list's first place that passes, after each element was mapped
-position-map : {X Y : Type 0} (p : Y → Bool) (f : X → Y) (xs : List X) → position p (map f xs) ≡ position (λ x. p (f x)) xs
+pub position-map : {X Y : Type 0} (p : Y → Bool) (f : X → Y) (xs : List X) → position p (map f xs) ≡ position (λ x. p (f x)) xs
 position-map p f xs =
     ap (λ n. cond (nat_lt n (length (map f xs))) (Some n) None) (prefix_len-map (λ y. not (p y)) f xs)
     ∙ ap (λ m. cond (nat_lt (position_or_len (λ x. p (f x)) xs) m) (Some (position_or_len (λ x. p (f x)) xs)) None) (length-map xs f)
 
 -- ---- keys
 
-is_key_true : (key other : Key) → is_key key other ≡ true → other ≡ key
+pub is_key_true : (key other : Key) → is_key key other ≡ true → other ≡ key
 is_key_true key other e =
     let parts = and_parts (other.number == key.number) (other.path == key.path) e in
     let number = eqb-true other.number key.number parts.0 in
     let path = eqb-true other.path key.path parts.1 in
     λ i. record { path = path i; number = number i }
 
-true_is_key : (key : Key) → is_key key key ≡ true
+pub true_is_key : (key : Key) → is_key key key ≡ true
 true_is_key key = and_from (key.number == key.number) (key.path == key.path) (eq-eqb key.number key.number refl) (eq-eqb key.path key.path refl)
 
 same_key : (key other : Key) → key_cmp other key ≡ Equal → other ≡ key
@@ -155,81 +153,6 @@ no_text_line paths keys text number have never =
     let parts = and_parts (key.number == number) (bytes_eq (get_or paths key.path []) text) passes in
     let within : HasPath paths key = All-get_or (HasPath paths) keys k none lt have in
     never (key.path, within, default_path paths key.path text within ((bytes_eq-Decides (get_or paths key.path []) text).0 parts.1))))
-
--- ---- paths that end so
-
--- before this place no path that ends so has a line of this number
-abbrev pub NoneBelow : List (List ℕ) → List Key → List ℕ → ℕ → ℕ → Type 0
-NoneBelow paths keys text number i = (j : ℕ) → j < i → ends_with (get_or paths j []) text ≡ true → position (is_key (with_path number j)) keys ≡ None
-
-pub none_more : (paths : List (List ℕ)) (keys : List Key) (text : List ℕ) (number i : ℕ) → NoneBelow paths keys text number i → (ends_with (get_or paths i []) text ≡ true → position (is_key (with_path number i)) keys ≡ None) → NoneBelow paths keys text number (i + 1)
-none_more paths keys text number i before here j lt ends =
-    ⊎_elim (λ less. before j less ends) (λ ge. let same : j ≡ i = omega arith in subst (λ k. position (is_key (with_path number k)) keys ≡ None) (sym same) (here (subst (λ k. ends_with (get_or paths k []) text ≡ true) same ends))) (cases_lt j i)
-
--- a line that passes has a path that ends so
-below_parts : (paths : List (List ℕ)) (text : List ℕ) (number : ℕ) (key : Key) → is_line_below text number (line_at paths key) ≡ true → (key.number ≡ number) × (ends_with (get_or paths key.path []) text ≡ true)
-below_parts paths text number key e =
-    let parts = and_parts (key.number == number) (ends_with (get_or paths key.path []) text) e in
-    (eqb-true key.number number parts.0, parts.1)
-
-key_is : (key : Key) (number k : ℕ) → key.number ≡ number → key.path ≡ k → key ≡ with_path number k
-key_is key number k e f = λ i. record { path = f i; number = e i }
-
--- no line passes by a path that was looked at
-not_passed : (paths : List (List ℕ)) (keys : List Key) (text : List ℕ) (number i k : ℕ) (d : Key) → NoneBelow paths keys text number i → k < length keys → (get_or keys k d).path < i → is_line_below text number (line_at paths (get_or keys k d)) ≡ true → ⊥
-not_passed paths keys text number i k d before within lt passes =
-    let key : Key = get_or keys k d in
-    let parts = below_parts paths text number key passes in
-    let missing = All-get_or (λ other. is_key (with_path number key.path) other ≡ false) keys k d within (none_passes (is_key (with_path number key.path)) keys (before key.path lt parts.1)) in
-    let there : is_key (with_path number key.path) key ≡ true = ap (is_key (with_path number key.path)) (key_is key number key.path parts.0 refl) ∙ true_is_key (with_path number key.path) in
-    let no : true ≡ false = sym there ∙ missing in
-    cc
-
-pub none_below : (paths : List (List ℕ)) (keys : List Key) (text : List ℕ) (number i : ℕ) → All (HasPath paths) keys → length paths ≤ i → NoneBelow paths keys text number i → position (is_line_below text number) (map (line_at paths) keys) ≡ None
-none_below paths keys text number i have le before =
-    let none : Key = with_path 0 0 in
-    position-map (is_line_below text number) (line_at paths) keys
-    ∙ position_none (λ key. is_line_below text number (line_at paths key)) keys none
-    (λ k lt. false_from_ne_true (is_line_below text number (line_at paths (get_or keys k none)))
-    (λ passes. let within : HasPath paths (get_or keys k none) = All-get_or (HasPath paths) keys k none lt have in not_passed paths keys text number i k none before lt (omega (arith, within)) passes))
-
-not_less_by : (first second : Key) (r : Ordering) → r ≡ nat_cmp first.path second.path → ordering_then r (nat_cmp first.number second.number) ≡ Less → second.path < first.path → ⊥
-not_less_by first second Less e less more = let lt : first.path < second.path = ranked first.path second.path Less e in omega arith
-not_less_by first second Equal e less more = let same : first.path ≡ second.path = ranked first.path second.path Equal e in omega arith
-not_less_by first second Greater e less more = let no : ⊥ = cc in no
-
-no_later_path : (keys : List Key) (k m : ℕ) (d : Key) → IsStrictlySortedBy key_cmp keys → k < m → m < length keys → (get_or keys m d).path < (get_or keys k d).path → ⊥
-no_later_path keys k m d up lt within more = not_less_by (get_or keys k d) (get_or keys m d) (nat_cmp (get_or keys k d).path (get_or keys m d).path) refl (Less-from_sorted key_cmp keys k m d up lt within) more
-
--- the first line of the first such path is the first line
-pub first_below : (paths : List (List ℕ)) (keys : List Key) (text : List ℕ) (number i m : ℕ) → IsStrictlySortedBy key_cmp keys → ends_with (get_or paths i []) text ≡ true → NoneBelow paths keys text number i → position (is_key (with_path number i)) keys ≡ Some m
-    → position (is_line_below text number) (map (line_at paths) keys) ≡ Some m
-first_below paths keys text number i m up ends before found =
-    let key : Key = with_path number i in
-    let at = position-Some (is_key key) keys m key found in
-    let here : get_or keys m key ≡ key = is_key_true key (get_or keys m key) at.1 in
-    position-map (is_line_below text number) (line_at paths) keys
-    ∙ position_is (λ other. is_line_below text number (line_at paths other)) keys m key at.0
-    (ap (λ (other : Key). is_line_below text number (line_at paths other)) here ∙ and_from (number == number) (ends_with (get_or paths i []) text) (eq-eqb number number refl) ends)
-    (λ k lt. false_from_ne_true (is_line_below text number (line_at paths (get_or keys k key))) (λ passes.
-    let other : Key = get_or keys k key in
-    let parts = below_parts paths text number other passes in
-    ⊎_elim
-    (λ less. not_passed paths keys text number i k key before (omega (arith, at.0)) less passes)
-    (λ ge. ⊎_elim
-    (λ more. no_later_path keys k m key up lt at.0 (let e : (get_or keys m key).path ≡ i = ap (λ (z : Key). z.path) here in omega (arith, e)))
-    (λ le. let same : other.path ≡ i = omega arith in not_earlier keys key m k up at.0 lt here (key_is other number i parts.0 same))
-    (cases_lt i other.path))
-    (cases_lt other.path i)))
-
-pub line_found : (paths : List (List ℕ)) (keys : List Key) (text : List ℕ) (number i : ℕ) (line : Option ℕ) → is_some line ≡ true → line ≡ position (is_key (with_path number i)) keys → IsStrictlySortedBy key_cmp keys → ends_with (get_or paths i []) text ≡ true → NoneBelow paths keys text number i
-    → line ≡ position (is_line_below text number) (map (line_at paths) keys)
-line_found paths keys text number i None some is up ends before = let no : ⊥ = cc in absurd no
-line_found paths keys text number i (Some m) some is up ends before = sym (first_below paths keys text number i m up ends before (sym is))
-
-pub line_absent : (line : Option ℕ) → is_some line ≡ false → line ≡ None
-line_absent None e = refl
-line_absent (Some m) e = let no : ⊥ = cc in absurd no
 
 -- ---- paths as they lie in memory
 

@@ -5,7 +5,10 @@ ghost use Rattle.std.specs.List.Sorted.{IsStrictlySortedBy};
 ghost use Rattle.line_index.specs.Lines.{ends_with, is_line, is_line_below, found};
 ghost use Rattle.line_index.specs.Keys.{HasPath, is_key, key_cmp, path_cmp, texts, with_path};
 ghost use Rattle.line_index.specs.Index.{line_at};
+ghost use Rattle.line_index.specs.Backwards.{AreBackwards};
+ghost use Rattle.line_index.specs.Changes.{least};
 
+use crate::backwards::{Backward, first_ending};
 use crate::lines::Key;
 
 /// The path ends with a slash and the text.
@@ -46,30 +49,54 @@ fn line_of_text(paths: &[Vec<u8>], keys: &[Key], path: &[u8], number: u32) -> Op
     }
 }
 
+/// The lesser of two lines, where there are two.
+fn earlier(line: Option<u32>, other: Option<u32>) -> Option<u32>
+    ensures { result ≡ least line other }
+{
+    match (line, other) {
+        (None, _) => other,
+        (Some(_), None) => line,
+        (Some(x), Some(y)) => { if x <= y { line } else { other } }
+    }
+}
+
 /// The first line of this number whose path ends with a slash and the text.
-fn line_below(paths: &[Vec<u8>], keys: &[Key], path: &[u8], number: u32) -> Option<u32>
-    requires few_paths { length paths.now < 2 ^ 32 }
+fn line_below(
+    paths: &[Vec<u8>],
+    backwards: &[Backward],
+    keys: &[Key],
+    path: &[u8],
+    number: u32,
+) -> Option<u32>
+    requires backwards { AreBackwards (texts paths.now) backwards.now }
     requires in_order { IsStrictlySortedBy key_cmp keys.now }
     requires have_paths { All (HasPath (texts paths.now)) keys.now }
     requires few { length keys.now < 2 ^ 32 }
     ensures { result ≡ position (is_line_below path.now number) (map (line_at (texts paths.now)) keys.now) }
 {
-    for (place, other) in paths.iter().enumerate() {
-        if ends_with(other, path) {
-            let line = line_of_path(keys, place as u32, number);
-            if line.is_some() {
-                return line;
-            }
+    let rest = &backwards[first_ending(backwards, path)..];
+    let mut line = None;
+    for one in rest {
+        if !ends_with(&paths[one.place as usize], path) {
+            return line;
         }
+        line = earlier(line, line_of_path(keys, one.place, number));
     }
-    None
+    line
 }
 
-/// The line of this path and number, else the first whose path ends with a slash and the text. No
-/// line is looked at but by a search among those of a path.
-pub fn find(paths: &[Vec<u8>], keys: &[Key], path: &[u8], number: u32) -> Option<u32>
+/// The line of this path and number, else the first whose path ends with a slash and the text. A
+/// path is looked for by a search in order, and a line by one among the lines.
+pub fn find(
+    paths: &[Vec<u8>],
+    backwards: &[Backward],
+    keys: &[Key],
+    path: &[u8],
+    number: u32,
+) -> Option<u32>
     requires paths_in_order { IsStrictlySortedBy path_cmp paths.now }
     requires few_paths { length paths.now < 2 ^ 32 }
+    requires backwards { AreBackwards (texts paths.now) backwards.now }
     requires in_order { IsStrictlySortedBy key_cmp keys.now }
     requires have_paths { All (HasPath (texts paths.now)) keys.now }
     requires few { length keys.now < 2 ^ 32 }
@@ -77,6 +104,6 @@ pub fn find(paths: &[Vec<u8>], keys: &[Key], path: &[u8], number: u32) -> Option
 {
     match line_of_text(paths, keys, path, number) {
         Some(line) => Some(line),
-        None => line_below(paths, keys, path, number),
+        None => line_below(paths, backwards, keys, path, number),
     }
 }

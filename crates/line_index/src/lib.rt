@@ -2,6 +2,7 @@
 //! is escaped as in labels, and so it is ordered and looked for.
 #![tactic(auto)]
 
+mod backwards;
 mod changes;
 mod entries;
 mod entry;
@@ -20,6 +21,7 @@ ghost use Rattle.line_index.specs.Lines.{label, found};
 ghost use Rattle.line_index.specs.Index.{Index, IsIndex, position_at};
 ghost use Rattle.line_index.specs.Listed.{IsListed};
 
+use crate::backwards::{Backward, backwards};
 use crate::changes::Change;
 use crate::entries::entries;
 use crate::entry::{file_positions, sorted_entries};
@@ -37,6 +39,7 @@ use std::marker::Model;
 #[derive(Drop)]
 pub struct LineIndex {
     paths: Vec<Vec<u8>>,
+    backwards: Vec<Backward>,
     lines: Vec<Key>,
     labels: Vec<Label>,
     entries: Vec<Vec<Address>>,
@@ -92,7 +95,7 @@ impl LineIndex {
     pub fn find(&self, path: &[u8], number: u32) -> Option<LineId>
         ensures { result ≡ option_map (λ k. record { 0 = k }) (found path.now number self.now.lines) }
     {
-        find::find(&self.paths, &self.lines, path, number).map(LineId)
+        find::find(&self.paths, &self.backwards, &self.lines, path, number).map(LineId)
     }
 }
 
@@ -115,8 +118,10 @@ pub fn build(alloc: Global, table: &LineTable, image: &Image) -> Result<LineInde
     let changes = line_changes(alloc, rows, &positions, &lines, &covering)?;
     let entries = entries(alloc, &changes, lines.len())?;
     let labels = labels(alloc, &paths, &lines)?;
+    let backwards = backwards(alloc, &paths)?;
     Ok(LineIndex {
         paths,
+        backwards,
         lines,
         labels,
         entries,

@@ -11,6 +11,7 @@ use Rattle.line_index.specs.Lines.{path, line_of}
 use Rattle.line_index.specs.Keys.{ArePlaces, entries_view, texts, change_keys, IsBelow}
 use Rattle.line_index.proofs.Areas.{few_areas}
 use Rattle.line_index.proofs.Found.{all_below}
+use Rattle.line_index.specs.Backwards.{AreBackwards}
 use Rattle.line_index.specs.Index.{IsIndex, line_at}
 use Rattle.line_index.proofs.Whole.{Built, is_index}
 use Rattle.line_index.proofs.Righted.{have_paths, right_lines}
@@ -59,16 +60,16 @@ entries-requires c =
     let below = all_below c.as_slice-rows.result.now c.deref-11.result.now c.deref-12.result.now c.deref-13.result.now c.in_ok-changes.changes.items c.in_ok-changes.ensures in
     subst (λ n. All (IsBelow n) c.deref-14.result.now) count (subst (λ (changes : List Change). All (IsBelow (length c.deref-12.result.now)) changes) (sym c.deref-14.ensures.value) below)
 
-abbrev needed : (c : goal.In_ok-labels) → Table
+abbrev needed : (c : goal.In_ok-backwards) → Table
 needed c = record (view c.args.table.now) { files = files_view c.in_ok-named.named.items }
 
-placed : (c : goal.In_ok-labels) → ArePlaces c.deref-4.result.now c.in_ok-positions.positions.items (files_view c.deref-8.result.now)
+placed : (c : goal.In_ok-backwards) → ArePlaces c.deref-4.result.now c.in_ok-positions.positions.items (files_view c.deref-8.result.now)
 placed c =
     c.in_ok-positions.ensures c.deref-4.result.now
     (subst (λ (positions : List (Option ℕ)). ArePlaces c.deref-4.result.now positions (entries_view c.deref-6.result.now)) (sym c.deref-7.ensures.value)
     (subst (λ (entries : List Entry). ArePlaces c.deref-4.result.now c.in_ok-ranks.ranks.items (entries_view entries)) (c.deref-5.ensures.value ∙ sym c.deref-6.ensures.value) c.in_ok-ranks.ensures))
 
-built : (c : goal.In_ok-labels) → Built (needed c).files (needed c).rows c.args.image.now.areas (texts c.in_ok-paths.paths.items) c.in_ok-positions.positions.items c.in_ok-lines.lines.items c.in_ok-covering.covering.items c.in_ok-changes.changes.items
+built : (c : goal.In_ok-backwards) → Built (needed c).files (needed c).rows c.args.image.now.areas (texts c.in_ok-paths.paths.items) c.in_ok-positions.positions.items c.in_ok-lines.lines.items c.in_ok-covering.covering.items c.in_ok-changes.changes.items
 built c = is_built (needed c) c.args.image.now.areas c.areas.result.now c.as_slice-rows.result.now (files_view c.deref-8.result.now) c.in_ok-paths.paths.items c.deref-4.result.now c.in_ok-positions.positions.items c.deref-9.result.now c.deref-11.result.now c.in_ok-lines.lines.items c.deref-12.result.now c.in_ok-covering.covering.items c.deref-10.result.now c.deref-13.result.now c.in_ok-changes.changes.items
     c.areas.ensures.areas c.as_slice-rows.ensures (ap files_view c.deref-8.ensures.value) c.deref-4.ensures.value c.deref-9.ensures.value c.deref-11.ensures.value c.deref-12.ensures.value c.deref-10.ensures.value c.deref-13.ensures.value
     c.in_ok-paths.ensures.in_order (placed c) c.in_ok-covering.ensures.values c.in_ok-covering.ensures.rises c.in_ok-lines.ensures.in_order c.in_ok-lines.ensures.each c.in_ok-changes.ensures
@@ -84,6 +85,7 @@ invariant_of-result c =
     record {
       few = omega (arith, c.in_ok-lines.ensures.few, c.in_ok-covering.ensures.few, c.requires.few_rows);
       paths_rise = c.in_ok-paths.ensures.in_order;
+      backwards = subst (λ (paths : List (Vec ℕ)). AreBackwards (texts paths) c.in_ok-backwards.backwards.items) c.deref-17.ensures.value c.in_ok-backwards.ensures;
       keys_rise = c.in_ok-lines.ensures.in_order;
       few_paths = omega (arith, c.in_ok-paths.ensures.few, distinct, c.in_ok-distinct.ensures.few, named, c.in_ok-named.ensures.as_many, files, c.requires.few_files);
       have_paths = have_paths (needed c) c.args.image.now.areas c.in_ok-paths.paths.items c.in_ok-positions.positions.items c.in_ok-lines.lines.items c.in_ok-covering.covering.items c.in_ok-changes.changes.items (built c);
@@ -93,13 +95,13 @@ invariant_of-result c =
       rising = rise_of c.as_slice-rows.result.now c.deref-11.result.now c.deref-12.result.now c.deref-13.result.now c.in_ok-covering.covering.items c.in_ok-changes.changes.items c.deref-13.ensures.value c.in_ok-covering.ensures.rises c.in_ok-changes.ensures;
     }
 
-the_lines : (c : goal.In_ok-labels) → (a : ℕ) → line_of (needed c) c.args.image.now.areas a ≡ line_of (view c.args.table.now) c.args.image.now.areas a
+the_lines : (c : goal.In_ok-backwards) → (a : ℕ) → line_of (needed c) c.args.image.now.areas a ≡ line_of (view c.args.table.now) c.args.image.now.areas a
 the_lines c =
     same_line (view c.args.table.now) c.args.image.now.areas c.in_ok-named.named.items c.as_slice-files.result.now c.in_ok-covering.covering.items (ap files_view (sym c.as_slice-files.ensures)) (built c).values
     (subst (λ (rows : List Row). All (λ (change : Change). Names rows c.in_ok-named.named.items c.as_slice-files.result.now change.position) c.in_ok-covering.covering.items) c.as_slice-rows.ensures
     (subst (λ (changes : List Change). All (λ (change : Change). Names c.as_slice-rows.result.now c.in_ok-named.named.items c.as_slice-files.result.now change.position) changes) c.deref.ensures.value c.in_ok-named.ensures.named))
 
-the_index : (c : goal.In_ok-labels) → IsIndex (view c.args.table.now) c.args.image.now.areas (record { lines = map (line_at (texts c.in_ok-paths.paths.items)) c.in_ok-lines.lines.items; entries = texts c.in_ok-entries.entries.items; changes = c.in_ok-changes.changes.items })
+the_index : (c : goal.In_ok-backwards) → IsIndex (view c.args.table.now) c.args.image.now.areas (record { lines = map (line_at (texts c.in_ok-paths.paths.items)) c.in_ok-lines.lines.items; entries = texts c.in_ok-entries.entries.items; changes = c.in_ok-changes.changes.items })
 the_index c =
     same_index (needed c) (view c.args.table.now) c.args.image.now.areas _ (the_lines c)
     (is_index (needed c) c.args.image.now.areas (texts c.in_ok-paths.paths.items) c.in_ok-positions.positions.items c.in_ok-lines.lines.items c.in_ok-covering.covering.items c.in_ok-changes.changes.items (texts c.in_ok-entries.entries.items) (built c)
