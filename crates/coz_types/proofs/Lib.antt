@@ -1,2 +1,3 @@
+pub mod Hexadecimals
 pub mod WrittenPaths
 pub mod Labels
