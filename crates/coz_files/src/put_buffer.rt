@@ -1,0 +1,98 @@
+//! A buffer before a sink.
+ghost use Rattle.std.specs.Prelude.{◌≡◌, Some, []};
+ghost use Rattle.coz_files.specs.Gathered.{Fits, Gathers, Ends};
+ghost use Rattle.coz_files.specs.declared.put_buffer.TheConstants.{ROOM};
+
+use crate::{PutAnswer, Sink};
+use arrayvec::ArrayVec;
+use std::marker::Model;
+
+/// How many bytes are gathered before they are put.
+const ROOM: usize = 4096;
+
+/// Bytes on their way to a sink: they are gathered in a fixed room, and put where it is full. Once a put has failed,
+/// nothing more is put. The sink is passed at each call, and is to be the same one.
+#[derive(Drop)]
+pub struct PutBuffer {
+    bytes: ArrayVec<u8, ROOM>,
+    answer: PutAnswer,
+}
+
+impl Model for PutBuffer {
+    ghost use Rattle.coz_files.specs.Gathered.{Rest, rest_at};
+
+    ghost Value = { Rest };
+
+    ghost view = { λ b. rest_at b.answer b.bytes.items };
+}
+
+impl PutBuffer {
+    /// A buffer with nothing gathered.
+    pub fn new() -> PutBuffer
+        ensures { result ≡ Some [] }
+    {
+        PutBuffer {
+            bytes: ArrayVec::new(),
+            answer: PutAnswer::Done,
+        }
+    }
+
+    /// Takes a further piece. One that is longer than the whole room is put by itself.
+    pub fn push<S: Sink>(&mut self, sink: &mut S, bytes: &[u8])
+        ensures gathers { Gathers S.holds S.faults sink.old sink.new self.old self.new bytes.now }
+        // The sink is left alone while there is room.
+        ensures waits { Fits ROOM self.old bytes.now → sink.new ≡ sink.old }
+    {
+        if let PutAnswer::Failed = self.answer {
+            return;
+        }
+        if let Ok(()) = self.bytes.try_extend_from_slice(bytes) {
+            return;
+        }
+        self.answer = sink.put(self.bytes.as_slice());
+        self.bytes.clear();
+        if let PutAnswer::Failed = self.answer {
+            return;
+        }
+        if let Err(_) = self.bytes.try_extend_from_slice(bytes) {
+            self.answer = sink.put(bytes);
+        }
+    }
+
+    /// Puts what is left, and says whether all that was pushed is put.
+    pub fn finish<S: Sink>(self, sink: &mut S) -> PutAnswer
+        ensures { Ends S.holds S.faults sink.old sink.new self result }
+    {
+        match self.answer {
+            PutAnswer::Done => sink.put(self.bytes.as_slice()),
+            PutAnswer::Failed => PutAnswer::Failed,
+        }
+    }
+}
+
+#[cfg(test)]
+mod tests {
+    use super::*;
+    use crate::MemorySink;
+    use std::test::Fail;
+
+    // Two pieces that fill a buffer together, and one that is longer than a buffer.
+    const WHOLE: usize = 11000;
+
+    #[test]
+    fn a_buffer_puts_what_fits(rt: HostRuntime) -> Result<(), Fail> {
+        let mut text = [7; WHOLE];
+        text[6000..].fill(8);
+        for room in [0, 1, 7000, WHOLE] {
+            let mut sink = MemorySink::new(rt.alloc(), room as u64, Vec::new(rt.alloc()))?;
+            let mut buffer = PutBuffer::new();
+            buffer.push(&mut sink, &text[..3000]);
+            buffer.push(&mut sink, &text[3000..6000]);
+            buffer.push(&mut sink, &text[6000..]);
+            let is_done = buffer.finish(&mut sink) == PutAnswer::Done;
+            let held = sink.held();
+            assert!(rt; is_done == (room == WHOLE) && held.len() == room && text.starts_with(held));
+        }
+        Ok(())
+    }
+}
