@@ -1,0 +1,44 @@
+//! Pieces of a profile's text, on their way to a sink.
+ghost use Rattle.std.specs.Prelude.{◌++◌, decimal};
+ghost use Rattle.coz_files.specs.Gathered.{Gathers};
+ghost use Rattle.coz_types.specs.Endings.{address_text};
+ghost use Rattle.profile_book.specs.Profile.{hex_text};
+
+use coz_files::{PutBuffer, Sink};
+use coz_types::{Address, HexDigits};
+
+/// A name and its value.
+pub fn put_field<O: Sink>(to: &mut PutBuffer, out: &mut O, name: &[u8], value: &[u8])
+    ensures { Gathers O.holds O.faults out.old out.new to.old to.new (name.now ++ value.now) }
+{
+    to.push(out, name);
+    to.push(out, value);
+}
+
+/// A name and its number.
+pub fn put_number<O: Sink>(to: &mut PutBuffer, out: &mut O, name: &[u8], number: u64)
+    ensures { Gathers O.holds O.faults out.old out.new to.old to.new (name.now ++ decimal number) }
+{
+    let mut buffer = itoa::Buffer::new();
+    let written = buffer.format(number);
+    put_field(to, out, name, written.as_bytes());
+}
+
+/// A name and the digits of a digest.
+pub fn put_digest<O: Sink>(to: &mut PutBuffer, out: &mut O, name: &[u8], digest: &[u8; 32])
+    ensures { Gathers O.holds O.faults out.old out.new to.old to.new (name.now ++ hex_text digest.now) }
+{
+    let mut text = [0u8; 64];
+    match hex::encode_to_slice(digest.as_slice(), &mut text) {
+        Ok(()) => put_field(to, out, name, &text),
+        Err(_) => unreachable!(),
+    }
+}
+
+/// An address.
+pub fn put_address<O: Sink>(to: &mut PutBuffer, out: &mut O, address: Address)
+    ensures { Gathers O.holds O.faults out.old out.new to.old to.new (address_text address) }
+{
+    let digits = HexDigits::new(address);
+    put_field(to, out, b"0x", digits.bytes());
+}

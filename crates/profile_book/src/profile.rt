@@ -1,0 +1,13 @@
+use coz_lists::Items;
+use coz_types::{Label, Summary};
+
+/// What a profile says.
+#[derive(Debug, Drop)]
+pub struct Profile {
+    /// How many instructions each run may retire.
+    pub budget: u64,
+    /// The labels of the progress points, by point.
+    pub points: Items<Label>,
+    /// The summary of each experiment.
+    pub summaries: Items<Summary>,
+}
