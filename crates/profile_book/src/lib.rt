@@ -1,10 +1,26 @@
-//! Profiles: what they say, their text, and its writer.
+//! Profiles: what they say, their text, its grammar and first fault, its writer and its reader.
 #![tactic(auto)]
 
+mod cursor;
+mod digests;
+mod endings;
+mod fault;
+mod fields;
+mod item;
+mod labels;
+mod lines;
+mod loops;
+mod moves;
+mod numbers;
+mod orders;
 mod pieces;
 mod profile;
+mod reader;
+mod values;
 mod writer;
 mod written_lines;
 
+pub use fault::{BookError, BookFault, BookField};
 pub use profile::Profile;
+pub use reader::{read_profile, texts_have_no_fault};
 pub use writer::write_profile;
