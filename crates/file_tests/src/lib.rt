@@ -1,4 +1,4 @@
-//! Tests of the libraries that read programs and their lines, and nothing else.
+//! Tests of the libraries that read programs, their lines and profiles, and nothing else.
 #![tactic(auto)]
 
 #[cfg(test)]
@@ -17,3 +17,5 @@ mod line_index_tests;
 mod line_names_tests;
 #[cfg(test)]
 mod progress_points_tests;
+#[cfg(test)]
+mod profile_book_tests;
