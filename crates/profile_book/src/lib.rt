@@ -21,6 +21,7 @@ mod writer;
 mod written_lines;
 
 pub use fault::{BookError, BookFault, BookField};
+pub use pieces::{put_field, put_number};
 pub use profile::Profile;
 pub use reader::{read_profile, texts_have_no_fault};
 pub use writer::write_profile;

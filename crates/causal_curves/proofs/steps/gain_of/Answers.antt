@@ -1,0 +1,16 @@
+use Rattle.std.proofs.Common.{rules, ◌-◌, None, arith}
+use Rattle.causal_curves.specs.declared.curve.CurveStep.{CurveStep}
+use Rattle.causal_curves.proofs.Gains.{gain_at_end, gain_counts, gain_stays}
+use Rattle.causal_curves.proofs.steps.gain_of.Goals as goal
+
+abbrev any : CurveStep
+any = record { speedup = 0; value = None }
+
+pub loop-i-init : goal.loop-i-init
+loop-i-init c = gain_at_end c.args.steps.now
+
+pub loop-i-preserved-then-steps-i-ne0 : goal.loop-i-preserved-then-steps-i-ne0
+loop-i-preserved-then-steps-i-ne0 c = gain_counts c.args.steps.now (c.loop-i.i - 1) c.loop-i.i any c.loop-i.gain _ (omega arith) (omega arith) (search rules) (search rules) c.loop-i.invariant
+
+pub loop-i-preserved : goal.loop-i-preserved
+loop-i-preserved c = gain_stays c.args.steps.now (c.loop-i.i - 1) c.loop-i.i any c.loop-i.gain (omega arith) (omega arith) (search rules) c.loop-i.invariant
