@@ -1,10 +1,10 @@
 -- The gain of the steps from a place on, and bars.
-use Rattle.std.proofs.Common.{◌≡◌, ℕ, suc, ◌+◌, ◌/◌, ◌<◌, ◌≤◌, Bool, true, false, ◌==◌, List, [], ◌∷◌, length, drop, take, get_or, min, replicate, Option, Some, None, ℤ, pos, negsuc, nat_abs, rules, refl, sym, ap, ◌∙◌, arith, drop-cons, if◌then◌else◌}
+use Rattle.std.proofs.Common.{◌≡◌, ℕ, suc, ◌/◌, ◌<◌, Bool, true, false, ◌==◌, List, ◌∷◌, length, drop, take, get_or, min, replicate, Option, Some, None, ℤ, pos, negsuc, nat_abs, rules, refl, sym, ap, ◌∙◌, arith, drop-cons, if◌then◌else◌}
 use Rattle.std.specs.Int.Signed.{lt_z}
 use Rattle.std.proofs.lemmas.Bool.{ltb-true}
 use Rattle.std.proofs.lemmas.List.{drop_all, take-replicate}
 use Rattle.causal_curves.specs.Curves.{greater, gain_of}
-use Rattle.causal_curves.specs.Texts.{bar, mark}
+use Rattle.causal_curves.specs.Texts.{bar}
 use Rattle.causal_curves.specs.declared.curve.CurveStep.{CurveStep}
 
 pub gain_at_end : (steps : List CurveStep) → None ≡ gain_of (drop (length steps) steps)

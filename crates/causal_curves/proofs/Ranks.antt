@@ -1,8 +1,8 @@
 -- The curves of a point, one line after the other, and of one point after the other.
-use Rattle.std.proofs.Common.{◌≡◌, ℕ, zero, suc, ◌+◌, ◌<◌, ◌≤◌, Bool, true, false, ◌==◌, List, [], ◌∷◌, ◌++◌, length, take, drop, map, slice_index_or, refl, sym, ap, ◌∙◌, append_assoc, arith, rules, get_or, find, option_copied, IfSome, Option, Some, None, ℤ, Bor, if◌then◌else◌}
+use Rattle.std.proofs.Common.{◌≡◌, ℕ, zero, suc, ◌+◌, ◌<◌, ◌≤◌, Bool, true, false, ◌==◌, List, [], ◌∷◌, ◌++◌, length, take, drop, map, slice_index_or, refl, sym, ap, ◌∙◌, append_assoc, arith, rules, get_or, find, IfSome, Option, ℤ, Bor}
 use Rattle.std.specs.Fn.{Mut, Called, ComputesKey}
 use Rattle.std.proofs.lemmas.Fn.{always_returns_same}
-use Rattle.std.specs.List.{All, AllByRecursion, flat_map, enumerate_from}
+use Rattle.std.specs.List.{AllByRecursion, flat_map, enumerate_from}
 use Rattle.std.proofs.lemmas.List.{append-nil, take_more, take_all, flat_map_more}
 use Rattle.std.proofs.lemmas.List.FromFn.{length-enumerate_from, get_or-enumerate_from}
 use Rattle.coz_types.specs.Labels.{Text}
@@ -21,9 +21,9 @@ pub one_more : (into new total : List Curve) (point n : ℕ) (rest front back : 
 one_more into new total point n rest front back c group f b is pushed so_far =
     let others : List Curve = curves_at back point in
     let all : c ∷ others ≡ curves_at rest point =
-        ap (λ (x : Curve). x ∷ others) (is ∙ ap (curve_of point) f)
-        ∙ ap (λ (xs : List Summary). curve_of point (take n rest) ∷ curves_at xs point) b
-        ∙ sym (ap (map (curve_of point)) group)
+    ap (λ (x : Curve). x ∷ others) (is ∙ ap (curve_of point) f)
+    ∙ ap (λ (xs : List Summary). curve_of point (take n rest) ∷ curves_at xs point) b
+    ∙ sym (ap (map (curve_of point)) group)
     in
     ap (λ (cs : List Curve). cs ++ others) pushed ∙ append_assoc into (c ∷ []) others ∙ ap (λ (cs : List Curve). into ++ cs) all ∙ so_far
 

@@ -1,5 +1,5 @@
 -- The curves of a profile, and their ranks.
-use Rattle.std.specs.Prelude.{◌≡◌, ℕ, ◌*◌, ◌-◌, Bool, ◌||◌, ◌==◌, true, false, List, [], ◌∷◌, length, map, find, flat_map, get_or, Option, Some, None, ℤ, pos, ◌-ℤ◌, ◌*ℤ◌, if◌then◌else◌}
+use Rattle.std.specs.Prelude.{ℕ, ◌*◌, ◌-◌, Bool, ◌||◌, ◌==◌, true, false, List, [], ◌∷◌, map, find, flat_map, get_or, Option, Some, None, ℤ, pos, ◌-ℤ◌, ◌*ℤ◌, if◌then◌else◌}
 use Rattle.std.specs.Int.{int_div_euclid}
 use Rattle.std.specs.List.{enumerate_from}
 use Rattle.std.specs.List.Sorted.{IsPermutation, IsSortedBy, IsStableBy}

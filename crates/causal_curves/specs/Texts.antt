@@ -1,5 +1,5 @@
 -- The text of curves.
-use Rattle.std.specs.Prelude.{ℕ, ◌/◌, min, List, [], ◌∷◌, ◌++◌, flat_map, replicate, codes, Option, Some, None, ℤ, pos, negsuc, nat_abs}
+use Rattle.std.specs.Prelude.{ℕ, ◌/◌, min, [], ◌++◌, flat_map, replicate, codes, Option, Some, None, ℤ, pos, negsuc, nat_abs}
 use Rattle.std.specs.Fmt.{signed_decimal}
 use Rattle.coz_types.specs.Labels.{Text}
 use Rattle.profile_book.specs.Profile.{field, number_field}

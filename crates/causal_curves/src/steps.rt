@@ -1,5 +1,5 @@
 //! The steps of a curve.
-ghost use Rattle.std.specs.Prelude.{◌≡◌, ◌<◌, map, option_copied, IfOk, IfSome, length};
+ghost use Rattle.std.specs.Prelude.{◌≡◌, ◌<◌, ◌==◌, not, map, option_copied, IfOk, IfSome, length};
 ghost use Rattle.std.specs.List.{All};
 ghost use Rattle.causal_curves.specs.Curves.{base_of, step_of, greater, gain_of, curve_of};
 ghost use Rattle.causal_curves.specs.Measured.{IsMeasured};
@@ -37,13 +37,20 @@ fn greater(a: Option<i128>, b: Option<i128>) -> Option<i128>
     if a.cmp(&b).is_lt() { b } else { a }
 }
 
+fn is_faster(step: &CurveStep) -> bool
+    ensures { result ≡ not (step.now.speedup == 0) }
+{
+    step.speedup != 0
+}
+
 fn gain_of(steps: &[CurveStep]) -> Option<i128>
     ensures { result ≡ gain_of steps.now }
 {
     let mut gain = None;
     for i in (0..steps.len()).rev() {
-        if steps[i].speedup != 0 {
-            gain = greater(gain, steps[i].value);
+        let step = steps[i];
+        if is_faster(&step) {
+            gain = greater(gain, step.value);
         }
     }
     gain

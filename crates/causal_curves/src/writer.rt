@@ -14,6 +14,7 @@ const LONGEST_BAR: usize = 40;
 const STEP: u128 = 250;
 
 static GAINS: [u8; LONGEST_BAR] = [b'#'; LONGEST_BAR];
+
 static LOSSES: [u8; LONGEST_BAR] = [b'-'; LONGEST_BAR];
 
 fn bar(value: Option<i128>) -> &'static [u8]
@@ -22,7 +23,11 @@ fn bar(value: Option<i128>) -> &'static [u8]
     match value {
         Some(value) => {
             let length = (value.unsigned_abs() / STEP).min(LONGEST_BAR as u128) as usize;
-            if value < 0 { &LOSSES[..length] } else { &GAINS[..length] }
+            if value < 0 {
+                &LOSSES[..length]
+            } else {
+                &GAINS[..length]
+            }
         }
         None => b"",
     }

@@ -8,10 +8,10 @@ pub returns-then-not-have_one_label-clause-group : goal.returns-then-not-have_on
 returns-then-not-have_one_label-clause-group c =
     let xs = c.args.summaries.now in
     group_at c.loop-i.i xs (search rules) (search rules) c.loop-i.invariant (λ d lt.
-      let first : get_or xs (c.loop-i.i - 1) d ≡ c.index-summaries-i.result = at_place xs (c.loop-i.i - 1) d _ (omega arith) (search rules) in
-      let second : get_or xs c.loop-i.i d ≡ c.index-summaries-i-in-loop-i.result = at_place xs c.loop-i.i d _ (omega arith) (search rules) in
-      let other : c.have_one_label.result ≡ false = search rules in
-      ap₂ (λ (a b : Summary). bytes_eq a.selected b.selected) first second ∙ sym c.have_one_label.ensures ∙ other)
+    let first : get_or xs (c.loop-i.i - 1) d ≡ c.index-summaries-i.result = at_place xs (c.loop-i.i - 1) d _ (omega arith) (search rules) in
+    let second : get_or xs c.loop-i.i d ≡ c.index-summaries-i-in-loop-i.result = at_place xs c.loop-i.i d _ (omega arith) (search rules) in
+    let other : c.have_one_label.result ≡ false = search rules in
+    ap₂ (λ (a b : Summary). bytes_eq a.selected b.selected) first second ∙ sym c.have_one_label.ensures ∙ other)
 
 pub returns-clause-group : goal.returns-clause-group
 returns-clause-group c =

@@ -1,4 +1,4 @@
-use Rattle.std.proofs.Common.{rules, ◌≡◌, ◌++◌, ap, ◌∙◌}
+use Rattle.std.proofs.Common.{rules, ◌++◌, ap, ◌∙◌}
 use Rattle.causal_curves.specs.Curves.{curves_of, curves_at}
 use Rattle.causal_curves.proofs.Ranks.{points_more, points_whole}
 use Rattle.causal_curves.proofs.ranked.all_curves.Goals as goal

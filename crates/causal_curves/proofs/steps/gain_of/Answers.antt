@@ -9,8 +9,8 @@ any = record { speedup = 0; value = None }
 pub loop-i-init : goal.loop-i-init
 loop-i-init c = gain_at_end c.args.steps.now
 
-pub loop-i-preserved-then-steps-i-ne0 : goal.loop-i-preserved-then-steps-i-ne0
-loop-i-preserved-then-steps-i-ne0 c = gain_counts c.args.steps.now (c.loop-i.i - 1) c.loop-i.i any c.loop-i.gain _ (omega arith) (omega arith) (search rules) (search rules) c.loop-i.invariant
+pub loop-i-preserved-then-is_faster : goal.loop-i-preserved-then-is_faster
+loop-i-preserved-then-is_faster c = gain_counts c.args.steps.now (c.loop-i.i - 1) c.loop-i.i any c.loop-i.gain _ (omega arith) (omega arith) (search rules) (search rules) c.loop-i.invariant
 
 pub loop-i-preserved : goal.loop-i-preserved
 loop-i-preserved c = gain_stays c.args.steps.now (c.loop-i.i - 1) c.loop-i.i any c.loop-i.gain (omega arith) (omega arith) (search rules) c.loop-i.invariant
