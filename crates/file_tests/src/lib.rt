@@ -1,6 +1,8 @@
-//! Tests of the libraries that read programs, their lines and profiles, and nothing else.
+//! Tests of the libraries that read programs, their lines, profiles and curves, and nothing else.
 #![tactic(auto)]
 
+#[cfg(test)]
+mod causal_curves_tests;
 #[cfg(test)]
 mod coz_lists_tests;
 #[cfg(test)]

@@ -1,0 +1,94 @@
+use causal_curves::{curves, write_curves};
+use coz_files::{MemorySink, PutAnswer};
+use profile_book::read_profile;
+use std::test::Fail;
+
+// Two points and four lines: visits that fail at the second point, a time that falls by less than a ten thousandth, no run
+// at speedup 0, and no net time there.
+const PROFILE: &[u8] = b"coz-ticks\tversion=1\tbudget=1000\tpoints=2\n\
+point\tindex=0\tname=p.s:1\n\
+point\tindex=1\tname=p.s:2\n\
+experiment\tselected=a.s:1\tspeedup=0\tend=exited:0\ttime=1000\tdelay=0\tretired=3\tstarts=1\n\
+output\tlength=0\tsha256=e3b0c44298fc1c149afbf4c8996fb92427ae41e4649b934ca495991b7852b855\n\
+throughput-point\tindex=0\tdelta=4\n\
+throughput-point\tindex=1\tdelta=0\n\
+visits\tsha256=e3b0c44298fc1c149afbf4c8996fb92427ae41e4649b934ca495991b7852b855\n\
+experiment\tselected=a.s:1\tspeedup=25\tend=exited:0\ttime=900\tdelay=150\tretired=3\tstarts=1\n\
+output\tlength=0\tsha256=e3b0c44298fc1c149afbf4c8996fb92427ae41e4649b934ca495991b7852b855\n\
+throughput-point\tindex=0\tdelta=4\n\
+throughput-point\tindex=1\tdelta=3\n\
+visits\tsha256=e3b0c44298fc1c149afbf4c8996fb92427ae41e4649b934ca495991b7852b855\n\
+experiment\tselected=a.s:1\tspeedup=50\tend=exited:0\ttime=1100\tdelay=0\tretired=3\tstarts=1\n\
+output\tlength=0\tsha256=e3b0c44298fc1c149afbf4c8996fb92427ae41e4649b934ca495991b7852b855\n\
+throughput-point\tindex=0\tdelta=4\n\
+throughput-point\tindex=1\tdelta=0\n\
+visits\tsha256=e3b0c44298fc1c149afbf4c8996fb92427ae41e4649b934ca495991b7852b855\n\
+experiment\tselected=b.s:1\tspeedup=0\tend=exited:0\ttime=3000\tdelay=0\tretired=3\tstarts=1\n\
+output\tlength=0\tsha256=e3b0c44298fc1c149afbf4c8996fb92427ae41e4649b934ca495991b7852b855\n\
+throughput-point\tindex=0\tdelta=1\n\
+throughput-point\tindex=1\tdelta=1\n\
+visits\tsha256=e3b0c44298fc1c149afbf4c8996fb92427ae41e4649b934ca495991b7852b855\n\
+experiment\tselected=b.s:1\tspeedup=25\tend=exited:0\ttime=3001\tdelay=0\tretired=3\tstarts=1\n\
+output\tlength=0\tsha256=e3b0c44298fc1c149afbf4c8996fb92427ae41e4649b934ca495991b7852b855\n\
+throughput-point\tindex=0\tdelta=1\n\
+throughput-point\tindex=1\tdelta=1\n\
+visits\tsha256=e3b0c44298fc1c149afbf4c8996fb92427ae41e4649b934ca495991b7852b855\n\
+experiment\tselected=b.s:1\tspeedup=50\tend=exited:0\ttime=1900\tdelay=100\tretired=3\tstarts=1\n\
+output\tlength=0\tsha256=e3b0c44298fc1c149afbf4c8996fb92427ae41e4649b934ca495991b7852b855\n\
+throughput-point\tindex=0\tdelta=1\n\
+throughput-point\tindex=1\tdelta=1\n\
+visits\tsha256=e3b0c44298fc1c149afbf4c8996fb92427ae41e4649b934ca495991b7852b855\n\
+experiment\tselected=c.s:1\tspeedup=50\tend=exited:0\ttime=700\tdelay=0\tretired=3\tstarts=1\n\
+output\tlength=0\tsha256=e3b0c44298fc1c149afbf4c8996fb92427ae41e4649b934ca495991b7852b855\n\
+throughput-point\tindex=0\tdelta=1\n\
+throughput-point\tindex=1\tdelta=1\n\
+visits\tsha256=e3b0c44298fc1c149afbf4c8996fb92427ae41e4649b934ca495991b7852b855\n\
+experiment\tselected=d.s:1\tspeedup=0\tend=exited:0\ttime=100\tdelay=100\tretired=3\tstarts=1\n\
+output\tlength=0\tsha256=e3b0c44298fc1c149afbf4c8996fb92427ae41e4649b934ca495991b7852b855\n\
+throughput-point\tindex=0\tdelta=1\n\
+throughput-point\tindex=1\tdelta=1\n\
+visits\tsha256=e3b0c44298fc1c149afbf4c8996fb92427ae41e4649b934ca495991b7852b855\n\
+experiment\tselected=d.s:1\tspeedup=50\tend=exited:0\ttime=90\tdelay=0\tretired=3\tstarts=1\n\
+output\tlength=0\tsha256=e3b0c44298fc1c149afbf4c8996fb92427ae41e4649b934ca495991b7852b855\n\
+throughput-point\tindex=0\tdelta=1\n\
+throughput-point\tindex=1\tdelta=1\n\
+visits\tsha256=e3b0c44298fc1c149afbf4c8996fb92427ae41e4649b934ca495991b7852b855\n";
+
+const CURVES: &[u8] = b"curve\tpoint=0\tselected=b.s:1\tgain=4000\n\
+step\tspeedup=0\tvalue=0\tbar=\n\
+step\tspeedup=25\tvalue=-4\tbar=\n\
+step\tspeedup=50\tvalue=4000\tbar=################\n\
+curve\tpoint=0\tselected=a.s:1\tgain=2500\n\
+step\tspeedup=0\tvalue=0\tbar=\n\
+step\tspeedup=25\tvalue=2500\tbar=##########\n\
+step\tspeedup=50\tvalue=-1000\tbar=----\n\
+curve\tpoint=0\tselected=c.s:1\tgain=absent\n\
+step\tspeedup=50\tvalue=absent\tbar=\n\
+curve\tpoint=0\tselected=d.s:1\tgain=absent\n\
+step\tspeedup=0\tvalue=absent\tbar=\n\
+step\tspeedup=50\tvalue=absent\tbar=\n\
+curve\tpoint=1\tselected=b.s:1\tgain=4000\n\
+step\tspeedup=0\tvalue=0\tbar=\n\
+step\tspeedup=25\tvalue=-4\tbar=\n\
+step\tspeedup=50\tvalue=4000\tbar=################\n\
+curve\tpoint=1\tselected=a.s:1\tgain=absent\n\
+step\tspeedup=0\tvalue=absent\tbar=\n\
+step\tspeedup=25\tvalue=absent\tbar=\n\
+step\tspeedup=50\tvalue=absent\tbar=\n\
+curve\tpoint=1\tselected=c.s:1\tgain=absent\n\
+step\tspeedup=50\tvalue=absent\tbar=\n\
+curve\tpoint=1\tselected=d.s:1\tgain=absent\n\
+step\tspeedup=0\tvalue=absent\tbar=\n\
+step\tspeedup=50\tvalue=absent\tbar=\n";
+
+#[test]
+fn curves_are_drawn_by_rank(rt: HostRuntime) -> Result<(), Fail> {
+    let mut out = MemorySink::new(rt.alloc(), 4096, Vec::new(rt.alloc()))?;
+    let mut answer = PutAnswer::Failed;
+    if let Ok(profile) = read_profile(rt.alloc(), PROFILE) {
+        let curves = curves(rt.alloc(), &profile)?;
+        answer = write_curves(curves.as_slice(), &mut out);
+    }
+    assert!(rt; answer == PutAnswer::Done && out.held() == CURVES);
+    Ok(())
+}
