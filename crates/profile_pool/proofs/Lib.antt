@@ -1,0 +1,5 @@
+pub mod Examples
+pub mod Counting
+pub mod Hashing
+pub mod Within
+pub mod Summing

@@ -1,0 +1,21 @@
+ghost use Rattle.std.specs.Prelude.{◌≡◌, ◌≤◌, length, map, IfOk};
+ghost use Rattle.virtual_run.specs.Visits.{net_of};
+ghost use Rattle.profile_pool.specs.Summaries.{counts_of};
+
+use coz_types::Visit;
+use std::alloc::{AllocError, Global};
+
+/// How often each of so many points was visited.
+pub fn counts(alloc: Global, points: u32, visits: &[Visit]) -> Result<Vec<u64>, AllocError>
+    requires few { length visits.now ≤ 1048576 }
+    ensures { IfOk result (λ counts. counts.items ≡ counts_of points (map net_of visits.now)) }
+{
+    let mut counts = vec![in alloc; 0u64; points as usize]?;
+    for visit in visits {
+        let point = usize::from(visit.point.0);
+        if point < counts.len() {
+            counts[point] += 1;
+        }
+    }
+    Ok(counts)
+}

@@ -1,0 +1,31 @@
+ghost use Rattle.std.specs.Prelude.{◌≡◌, ◌≤◌, ◌^◌, option_map};
+ghost use Rattle.coz_types.specs.declared.LineId.{LineId};
+ghost use Rattle.virtual_run.specs.Run.{IsChoice};
+ghost use Rattle.profile_pool.specs.Choices.{choice_of};
+
+use coz_types::LineId;
+use guest_memory::Layout;
+use virtual_run::Choice;
+
+/// The most bytes that a run writes, and the most visits that it keeps.
+const OUTPUT_LIMIT: u64 = 4194304;
+
+const VISIT_LIMIT: u64 = 1048576;
+
+/// What is chosen for a run, with the limits of the commands.
+pub fn choice(selected: Option<LineId>, speedup: u8, budget: u64) -> Choice
+    requires speedup { speedup ≤ 95 }
+    requires some_budget { 1 ≤ budget }
+    requires few { budget ≤ 10 ^ 12 }
+    ensures choice { result ≡ choice_of (option_map (λ (line : LineId). line.0) selected) speedup budget }
+    ensures within { IsChoice result }
+{
+    Choice {
+        selected,
+        speedup,
+        budget,
+        output_limit: OUTPUT_LIMIT,
+        visit_limit: VISIT_LIMIT,
+        layout: Layout::usual(),
+    }
+}

@@ -1,0 +1,40 @@
+ghost use Rattle.std.specs.Prelude.{◌≡◌, ◌≤◌, true, IsSome, Some};
+ghost use Rattle.coz_types.specs.Ranges.{is_ending};
+ghost use Rattle.virtual_run.specs.DelayedRun.{outcome_of, IsOfAHart, IsSmall};
+
+use coz_types::{Ending, Outcome};
+use virtual_run::Machine;
+
+/// The same ending. A trap is of one of 256 harts, and the other numbers are within their types once they are read.
+fn in_range(ending: Ending) -> Ending
+    requires { IsOfAHart ending }
+    ensures same { result ≡ ending }
+    ensures range { is_ending result ≡ true }
+{
+    match ending {
+        Ending::Exited(code) => Ending::Exited(code),
+        Ending::Trapped(trap) => Ending::Trapped(trap),
+        Ending::Unsupported(number) => Ending::Unsupported(number),
+        other => other,
+    }
+}
+
+/// How a run that has ended came out.
+pub fn outcome(machine: &Machine) -> Outcome
+    requires { IsSome machine.now.state.ending }
+    ensures outcome { Some result ≡ outcome_of machine.now.state }
+    ensures small { IsSmall result }
+    ensures in_time { result.delay ≤ result.time }
+    ensures ending { is_ending result.ending ≡ true }
+{
+    let Some(outcome) = machine.outcome() else {
+        unreachable!()
+    };
+    Outcome {
+        ending: in_range(outcome.ending),
+        time: outcome.time,
+        delay: outcome.delay,
+        retired: outcome.retired,
+        starts: outcome.starts,
+    }
+}
