@@ -1,6 +1,5 @@
 -- The bytes of a visit, computed.
-use Rattle.std.proofs.Common.{◌≡◌, ℕ, List, [], ◌∷◌, refl}
-use Rattle.machines.specs.Shortened.{NetVisit}
+use Rattle.std.proofs.Common.{◌≡◌, [], ◌∷◌, refl}
 use Rattle.machines.specs.Delayed.{Visit}
 use Rattle.machines.specs.Records.{net_visit}
 use Rattle.profile_pool.specs.Summaries.{visit_bytes, counts_of}

@@ -1,14 +1,12 @@
-use Rattle.std.proofs.Common.{◌∙◌, ap, sym, length, map, Some, []}
+use Rattle.std.proofs.Common.{◌∙◌, ap, sym, length, map, []}
 use Rattle.std.proofs.lemmas.Option.{get_or_from_slice_get}
 use Rattle.line_index.specs.Lines.{label}
 use Rattle.line_index.specs.Index.{position_at}
 use Rattle.progress_points.specs.Points.{point_of}
-use Rattle.machines.specs.Records.{record_of}
 use Rattle.machines.specs.Standing.{delayed_record}
 use Rattle.virtual_run.specs.declared.choice.Choice.{Choice}
 use Rattle.virtual_run.specs.Run.{experiment}
 use Rattle.virtual_run.specs.Seen.{experiment_of}
-use Rattle.profile_pool.specs.Choices.{choice_of}
 use Rattle.profile_pool.specs.Summaries.{summary_in}
 use Rattle.profile_pool.proofs.Summing.{summary_at}
 use Rattle.profile_pool.proofs.summary.run_pair.Goals as goal
