@@ -1,14 +1,16 @@
 -- A line is cut at its last colon, and a list at its first comma.
-use Rattle.std.proofs.Common.{◌≡◌, ℕ, ◌+◌, ◌-◌, ◌<◌, ◌≤◌, Bool, true, false, not, ◌&&◌, nat_le, ◌∷◌, [], length, length-drop, take, drop, get_or, Some, None, refl, sym, ap, subst, ◌∙◌, arith, if◌then◌else◌}
+use Rattle.std.proofs.Common.{◌≡◌, ℕ, suc, ◌+◌, ◌-◌, ◌<◌, ◌≤◌, Bool, true, false, not, ◌&&◌, nat_le, ◌∷◌, ◌++◌, [], length, length-drop, take, drop, get_or, Some, None, refl, sym, ap, subst, ◌∙◌, arith, if◌then◌else◌}
 use Rattle.std.specs.Prelude.{is_some}
 use Rattle.std.specs.List.{AllWithin, after_last, before_last, suffix_len, slice_split, position_or_len}
 use Rattle.std.specs.Str.Parse.{digits_value}
-use Rattle.std.proofs.lemmas.List.Sums.{suffix_len_is, position_or_len_is}
+use Rattle.std.proofs.lemmas.Bool.{eqb-true}
+use Rattle.std.proofs.Math.Seq.{drop-cons}
+use Rattle.std.proofs.lemmas.List.Sums.{suffix_len_is, position_or_len_is, prefix_len_stops}
 use Rattle.std.proofs.lemmas.List.Splits.{slice_split_none, slice_split_first}
-use Rattle.std.proofs.lemmas.List.{take_all}
+use Rattle.std.proofs.lemmas.List.{take_all, take-append-drop}
 use Rattle.std.proofs.lemmas.Bool.{leb-true}
 use Rattle.experiment_plan.specs.Lists.{Text, is_colon, is_comma, is_number, is_path, number_in, is_line, pieces}
-use Rattle.experiment_plan.proofs.Bools.{both_true}
+use Rattle.experiment_plan.proofs.Bools.{both_true, not_not}
 
 -- where a colon stands right before a place and none behind it, that is the place behind the last
 pub behind : (text : Text) (place : ℕ) → place ≤ length text → ((k : ℕ) → place ≤ k → k < length text → is_colon (get_or text k 0) ≡ false)
@@ -50,3 +52,16 @@ first_and_rest text place is lt =
     let rest = drop (place + 1) text in
     subst (λ (n : ℕ). slice_split is_comma text ≡ take n text ∷ slice_split is_comma (drop (n + 1) text)) (sym is) (slice_split_first is_comma text 0 (omega (arith, is, lt)))
     ∙ ap (λ (t : Text). take place text ∷ slice_split is_comma t) (sym (take_all (length text - (place + 1)) rest (omega (arith, length-drop (place + 1) text))))
+
+-- the text is what stands before its first comma, the comma and the rest
+pub cut_there : (text : Text) (place : ℕ) → place ≡ position_or_len is_comma text → place < length text → text ≡ take place text ++ 44 ∷ take (length text - (place + 1)) (drop (place + 1) text)
+cut_there text place is lt =
+    let rest = drop (place + 1) text in
+    let stops : not (is_comma (get_or text (position_or_len is_comma text) 0)) ≡ false = prefix_len_stops (λ b. not (is_comma b)) text 0 (omega (arith, is, lt)) in
+    let comma : get_or text place 0 ≡ 44 = ap (λ k. get_or text k 0) is ∙ eqb-true (get_or text (position_or_len is_comma text) 0) 44 (not_not (is_comma (get_or text (position_or_len is_comma text) 0)) (sym stops)) in
+    let on : suc place ≡ place + 1 = omega arith in
+    sym (take-append-drop place text)
+    ∙ ap (λ (t : Text). take place text ++ t) (drop-cons text place 0 lt)
+    ∙ ap (λ k. take place text ++ get_or text place 0 ∷ drop k text) on
+    ∙ ap (λ b. take place text ++ b ∷ rest) comma
+    ∙ ap (λ (t : Text). take place text ++ 44 ∷ t) (sym (take_all (length text - (place + 1)) rest (omega (arith, length-drop (place + 1) text))))

@@ -1,3 +1,7 @@
 pub mod Bools
 pub mod Numbers
 pub mod Cuts
+pub mod Among
+pub mod Rising
+pub mod Naming
+pub mod Pairing

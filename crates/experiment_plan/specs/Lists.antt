@@ -1,5 +1,5 @@
 -- Numbers, lines and lists of lines, as words name them.
-use Rattle.std.specs.Prelude.{ℕ, ◌+◌, Bool, not, ◌&&◌, ◌==◌, nat_lt, nat_le, List, [], length, Option, Some, None, if◌then◌else◌, is_some}
+use Rattle.std.specs.Prelude.{◌≡◌, ℕ, ◌+◌, Bool, not, ◌&&◌, ◌==◌, nat_lt, nat_le, List, [], ◌∷◌, ◌++◌, length, Option, Some, None, if◌then◌else◌, is_some}
 use Rattle.std.specs.List.{list_all, before_last, after_last, slice_split}
 use Rattle.std.specs.Str.Parse.{digits_value}
 
@@ -52,6 +52,11 @@ is_list text = list_all is_line (pieces text)
 abbrev pub pieces_left : Option Text → List Text
 pieces_left None = []
 pieces_left (Some text) = pieces text
+
+-- the text is the piece, and where something is left a comma and that
+abbrev pub IsCut : Text → Text → Option Text → Type 0
+IsCut text piece None = text ≡ piece
+IsCut text piece (Some rest) = text ≡ piece ++ 44 ∷ rest
 
 -- how long that is: less with each piece that is taken
 abbrev pub length_left : Option Text → ℕ

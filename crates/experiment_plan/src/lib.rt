@@ -1,8 +1,15 @@
-//! What a line and a list of lines are, as an experiment's words name them, and the numbers in them.
+//! What a line and a list of lines are, as an experiment's words name them, and the numbers in them; which lines of a
+//! program such a list selects; and the plan of the experiments on lines at speedups.
 #![tactic(auto)]
 
+mod experiment;
 mod line;
 mod number;
+mod planning;
+mod selection;
 
+pub use experiment::{Experiment, Plan, PlanError};
 pub use line::{first_piece, is_line, is_list, line_parts};
 pub use number::number_in;
+pub use planning::plan;
+pub use selection::{SelectError, line_found, select};

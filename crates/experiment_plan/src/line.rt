@@ -2,7 +2,7 @@
 ghost use Rattle.std.specs.Prelude.{◌≡◌, ◌∷◌, ◌<◌, ◌≤◌, ◌-◌, true, false, not, IfSome, length};
 ghost use Rattle.std.specs.List.{AllWithin, list_all, suffix_len, position_or_len, before_last, after_last};
 ghost use Rattle.std.specs.Option.{option_copied};
-ghost use Rattle.experiment_plan.specs.Lists.{is_comma, is_colon, is_path, is_line, line_parts, pieces, pieces_left, is_list};
+ghost use Rattle.experiment_plan.specs.Lists.{is_comma, is_colon, is_path, is_line, line_parts, pieces, pieces_left, is_list, IsCut};
 
 use crate::number::{number_in, value_of};
 
@@ -77,6 +77,7 @@ fn first_comma(text: &[u8]) -> usize
 /// The first piece of a list, and what stands behind its comma, if there is one.
 pub fn first_piece<'a>(text: &'a [u8]) -> (&'a [u8], Option<&'a [u8]>)
     ensures pieces { pieces text.now ≡ result.0.now ∷ pieces_left (option_copied result.1) }
+    ensures cut { IsCut text.now result.0.now (option_copied result.1) }
     ensures shorter { IfSome result.1 (λ rest. length rest.now < length text.now) }
 {
     let place = first_comma(text);

@@ -1,0 +1,67 @@
+//! The experiments of a profile, and why there are none.
+ghost use Rattle.std.specs.Prelude.{◌≡◌};
+ghost use Rattle.experiment_plan.specs.declared.experiment.PlanError.TheVariants.{Memory};
+
+use coz_types::LineId;
+use std::alloc::{AllocError, AllocFailed};
+use std::marker::Model;
+
+/// A line and how many per cent faster it is to be, 0 to 95.
+#[derive(Clone, Copy, Debug, PartialEq, Eq)]
+pub struct Experiment {
+    pub line: LineId,
+    pub speedup: u8,
+}
+
+/// Why there is no plan.
+#[derive(Clone, Copy, Debug, PartialEq, Eq)]
+pub enum PlanError {
+    /// There are so many pairs, more than 100,000.
+    TooMany(u64),
+    Memory,
+}
+
+impl From<AllocError> for PlanError {
+    ghost from_gives = { λ _ e. e ≡ Memory };
+
+    fn from(_: AllocError) -> PlanError {
+        PlanError::Memory
+    }
+}
+
+/// The experiments of a profile, by line and then by speedup. Contracts see the list of them.
+#[derive(Drop)]
+pub struct Plan {
+    pub(crate) pairs: Vec<Experiment>,
+    // How many pairs each line has.
+    pub(crate) speedups: usize,
+}
+
+impl Model for Plan {
+    ghost use Rattle.std.specs.Prelude.{List};
+    ghost use Rattle.experiment_plan.specs.declared.experiment.Experiment.{Experiment};
+
+    ghost Value = { List Experiment };
+
+    ghost use Rattle.experiment_plan.specs.Pairs.{IsEven};
+
+    ghost view = { λ plan. plan.pairs.items };
+
+    ghost invariant = { λ plan. IsEven plan.speedups plan.pairs.items };
+}
+
+impl Plan {
+    /// The experiments, by line and then by speedup.
+    pub fn pairs(&self) -> &[Experiment]
+        ensures { result.now ≡ self.now }
+    {
+        &self.pairs
+    }
+}
+
+fn is_shared<T: Send + Sync>() {}
+
+// Workers share a plan.
+fn plan_is_shared() {
+    is_shared::<Plan>()
+}
