@@ -1,7 +1,7 @@
 -- Word lists and their requests, computed.
 use Rattle.std.proofs.Common.{◌≡◌, List, [], ◌∷◌, codes, Option, Some, None, refl}
 use Rattle.coz_words.specs.Said.{Text}
-use Rattle.coz_words.specs.declared.command.Command.TheVariants.{Run, Really, Lines, Asm}
+use Rattle.coz_words.specs.declared.command.Command.TheVariants.{Run, Really, Profile, Lines, Asm}
 use Rattle.coz_words.specs.Request.{asked, speedups_in}
 use Rattle.coz_words.specs.declared.request.Request.{Request}
 use Rattle.experiment_plan.specs.Lists.{is_line, line_parts, pieces}
@@ -53,6 +53,14 @@ asm_one = refl
 lines_one : request_in (codes "lines" ∷ codes "one" ∷ []) ≡ Some (record { command = Lines; target = codes "one"; input = None; line = None; speedup = 0; lines = None; progress = None; speedups = []; budget = 0; workers = 0; seed = 0; size = 0 })
 unfolding items_in asked
 lines_one = refl
+
+profile_one : request_in (codes "profile" ∷ codes "one" ∷ codes "--speedups" ∷ codes "50,5,50" ∷ []) ≡ Some (record { command = Profile; target = codes "one"; input = None; line = None; speedup = 0; lines = None; progress = None; speedups = 50 ∷ 5 ∷ 50 ∷ []; budget = 100000000; workers = 0; seed = 0; size = 0 })
+unfolding items_in asked pieces
+profile_one = refl
+
+no_workers : request_in (codes "profile" ∷ codes "one" ∷ codes "--workers" ∷ codes "2" ∷ []) ≡ None
+unfolding items_in asked
+no_workers = refl
 
 -- ---- lines
 

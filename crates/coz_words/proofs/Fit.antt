@@ -9,7 +9,7 @@ use Rattle.std.proofs.lemmas.List.Folds.{list_all-append}
 use Rattle.experiment_plan.specs.Lists.{is_number, number_in, is_line, is_list, pieces}
 use Rattle.coz_words.specs.Said.{Text, Item, option, target, dashes, SaysAll}
 use Rattle.coz_words.specs.declared.command.Command.{Command}
-use Rattle.coz_words.specs.declared.command.Command.TheVariants.{Run, Really, Lines, Asm}
+use Rattle.coz_words.specs.declared.command.Command.TheVariants.{Run, Really, Profile, Lines, Asm}
 use Rattle.coz_words.specs.declared.request.Request.{Request}
 use Rattle.coz_words.specs.Request.{IsFit, Requests, asked, are_items_of, belongs, has_option, has_text, is_once, is_word, none_or, number_or, numbers_in, speedup_in, speedups_in, all_speedups, command_name, option_names, request_with, runs, target_of, value_of, input_name, line_name, speedup_name, lines_name, progress_name, speedups_name, budget_name, workers_name, size_name}
 use Rattle.coz_words.proofs.Agree.{both_true}
@@ -97,6 +97,7 @@ speedups_fit c None ns is = by (has_option c speedups_name) same
 has_budget : (c : Command) → runs c ≡ true → has_option c budget_name ≡ true
 has_budget Run is = refl
 has_budget Really is = refl
+has_budget Profile is = refl
 has_budget Lines is = absurd cc
 has_budget Asm is = absurd cc
 

@@ -5,7 +5,7 @@ use Rattle.std.specs.Str.{bytes_eq}
 use Rattle.coz_words.specs.Said.{Text, Item, option, target, SaysAll}
 use Rattle.experiment_plan.specs.Lists.{number_in, is_line, is_list, pieces}
 use Rattle.coz_words.specs.declared.command.Command.{Command}
-use Rattle.coz_words.specs.declared.command.Command.TheVariants.{Run, Really, Lines, Asm}
+use Rattle.coz_words.specs.declared.command.Command.TheVariants.{Run, Really, Profile, Lines, Asm}
 use Rattle.coz_words.specs.declared.request.Request.{Request}
 
 -- ---- commands
@@ -13,6 +13,7 @@ use Rattle.coz_words.specs.declared.request.Request.{Request}
 abbrev pub command_name : Command → Text
 command_name Run = codes "run"
 command_name Really = codes "really"
+command_name Profile = codes "profile"
 command_name Lines = codes "lines"
 command_name Asm = codes "asm"
 
@@ -20,6 +21,7 @@ command_name Asm = codes "asm"
 abbrev pub runs : Command → Bool
 runs Run = true
 runs Really = true
+runs Profile = true
 runs Lines = false
 runs Asm = false
 
@@ -50,9 +52,20 @@ workers_name = codes "workers"
 abbrev pub size_name : Text
 size_name = codes "size"
 
+-- the options of the commands that run a program once
+abbrev pub run_options : List Text
+run_options = input_name ∷ line_name ∷ speedup_name ∷ progress_name ∷ budget_name ∷ []
+
+abbrev pub profile_options : List Text
+profile_options = input_name ∷ lines_name ∷ progress_name ∷ speedups_name ∷ budget_name ∷ []
+
 -- the options of a command
 abbrev pub option_names : Command → List Text
-option_names c = if runs c then input_name ∷ line_name ∷ speedup_name ∷ progress_name ∷ budget_name ∷ [] else []
+option_names Run = run_options
+option_names Really = run_options
+option_names Profile = profile_options
+option_names Lines = []
+option_names Asm = []
 
 abbrev pub is_among : List Text → Text → Bool
 is_among names name = list_any (λ n. bytes_eq n name) names

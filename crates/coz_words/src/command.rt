@@ -10,6 +10,8 @@ pub enum Command {
     Run,
     /// To run it with the selected line made cheaper in fact.
     Really,
+    /// To run it with each of several lines sped up in turn, by each of several speedups.
+    Profile,
     /// To list a program's lines.
     Lines,
     /// To assemble a source.
@@ -23,6 +25,7 @@ pub(crate) fn command_of(word: &str) -> Option<Command>
     match word {
         "run" => Some(Command::Run),
         "really" => Some(Command::Really),
+        "profile" => Some(Command::Profile),
         "lines" => Some(Command::Lines),
         "asm" => Some(Command::Asm),
         _ => None,
@@ -30,6 +33,8 @@ pub(crate) fn command_of(word: &str) -> Option<Command>
 }
 
 static RUN_OPTIONS: [&str; 5] = ["input", "line", "speedup", "progress", "budget"];
+
+static PROFILE_OPTIONS: [&str; 5] = ["input", "lines", "progress", "speedups", "budget"];
 
 static NO_OPTIONS: [&str; 0] = [];
 
@@ -39,6 +44,7 @@ pub(crate) fn option_names(command: Command) -> &'static [&'static str]
 {
     match command {
         Command::Run | Command::Really => RUN_OPTIONS.as_slice(),
+        Command::Profile => PROFILE_OPTIONS.as_slice(),
         Command::Lines | Command::Asm => NO_OPTIONS.as_slice(),
     }
 }

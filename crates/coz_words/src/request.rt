@@ -183,12 +183,15 @@ fn request_in(alloc: Global, words: &[String]) -> Result<Request, WordsError>
 ///
 /// - `run` or `really`, the program's path, and `--input FILE`, `--line LINE`, `--speedup P`, `--progress LIST` and
 ///   `--budget N` in any order, each at most once;
+/// - `profile`, the program's path, and `--input FILE`, `--lines LIST`, `--progress LIST`, `--speedups NUMBERS` and
+///   `--budget N` likewise;
 /// - `lines` and the program's path;
 /// - `asm` and the source's path.
 ///
 /// A value may stand in the option's word behind a `=`; a word `--` ends the options.
 /// A number has 1 to 20 digits. A speedup is 0 to 95, and stands beside a line; a budget is 1 to 10^12.
-/// A line is a path without a comma, `:` and a number from 1 to 2^32 - 1; a list is one line or more, with a comma between.
+/// A line is a path without a comma, `:` and a number from 1 to 2^32 - 1; a list is one line or more, with a comma between,
+/// and so are NUMBERS of speedups, which are 0, 5, 10 and so on to 95 where none are given.
 /// All other words are `Usage`. Want of memory can stand against any words, and is then the answer in place of either.
 pub fn read_words(alloc: Global, words: &[String]) -> Result<Request, WordsError>
     ensures given { IfOk result (λ request. Requests (bytes_of words.now) request) }

@@ -18,7 +18,9 @@ struct Wanted {
     input: Option<&'static str>,
     line: Option<&'static str>,
     speedup: u8,
+    lines: Option<&'static str>,
     progress: Option<&'static str>,
+    speedups: &'static [u8],
     budget: u64,
 }
 
@@ -28,13 +30,23 @@ const RUN: Wanted = Wanted {
     input: None,
     line: None,
     speedup: 0,
+    lines: None,
     progress: None,
+    speedups: &[],
     budget: 100000000,
+};
+
+const PROFILE: Wanted = Wanted {
+    command: Command::Profile,
+    speedups: &[
+        0, 5, 10, 15, 20, 25, 30, 35, 40, 45, 50, 55, 60, 65, 70, 75, 80, 85, 90, 95,
+    ],
+    ..RUN
 };
 
 const PLAIN: Wanted = Wanted { budget: 0, ..RUN };
 
-static TAKEN: [(&[&str], Wanted); 22] = [
+static TAKEN: [(&[&str], Wanted); 24] = [
     (&["run", "one"], RUN),
     (&["run", "--", "one"], RUN),
     (&["run", "one", "--"], RUN),
@@ -130,6 +142,29 @@ static TAKEN: [(&[&str], Wanted); 22] = [
             ..RUN
         },
     ),
+    (&["profile", "one"], PROFILE),
+    (
+        &[
+            "profile",
+            "--speedups=50,5,50",
+            "one",
+            "--lines",
+            "a:1,b:2",
+            "--progress",
+            "c:3",
+            "--budget=1000",
+            "--input",
+            "data",
+        ],
+        Wanted {
+            input: Some("data"),
+            lines: Some("a:1,b:2"),
+            progress: Some("c:3"),
+            speedups: &[50, 5, 50],
+            budget: 1000,
+            ..PROFILE
+        },
+    ),
     (
         &["lines", "one"],
         Wanted {
@@ -192,8 +227,8 @@ fn is_wanted(request: &Request, wanted: &Wanted) -> bool {
         && request.speedup == wanted.speedup
         && is_text(&request.progress, wanted.progress)
         && request.budget == wanted.budget
-        && request.lines.is_none()
-        && request.speedups.len() == 0
+        && is_text(&request.lines, wanted.lines)
+        && request.speedups.as_slice() == wanted.speedups
         && request.workers == 0
         && request.seed == 0
         && request.size == 0
@@ -213,7 +248,7 @@ fn takes_words(rt: HostRuntime) -> Result<(), Fail> {
     Ok(())
 }
 
-static REFUSED: [&[&str]; 49] = [
+static REFUSED: [&[&str]; 55] = [
     &[],
     &[""],
     &["walk", "one"],
@@ -260,7 +295,13 @@ static REFUSED: [&[&str]; 49] = [
     &["lines", "one", "two"],
     &["lines", "one", "--budget", "3"],
     &["asm", "one", "--input=data"],
-    &["profile", "one"],
+    &["profile", "one", "--speedups", "96"],
+    &["profile", "one", "--speedups", "5,"],
+    &["profile", "one", "--speedups", ""],
+    &["profile", "one", "--lines", ""],
+    &["profile", "one", "--line", "one.s:1"],
+    &["profile", "one", "--workers", "2"],
+    &["profile", "one", "--budget", "0"],
     &["plot", "one"],
     &["trial", "1"],
 ];

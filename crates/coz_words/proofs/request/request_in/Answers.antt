@@ -4,8 +4,11 @@ use Rattle.coz_words.specs.Parse.{target_id}
 use Rattle.coz_words.specs.Request.{request_with}
 use Rattle.coz_words.specs.declared.request.Request.{Request}
 use Rattle.coz_words.proofs.Commands.{texts}
-use Rattle.coz_words.proofs.Found.{parsed_none, parsed_some, said_by}
+use Rattle.coz_words.proofs.Found.{no_command, parsed_none, parsed_some, said_by}
 use Rattle.coz_words.proofs.request.request_in.Goals as goal
+
+pub returns-in_default : goal.returns-in_default
+returns-in_default c = no_command (bytes_of c.args.words.now) (sym c.command_in.ensures ∙ c.in_default.is)
 
 pub returns-in_default-2 : goal.returns-in_default-2
 returns-in_default-2 c =
