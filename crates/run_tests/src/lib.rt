@@ -4,6 +4,8 @@
 #[cfg(test)]
 mod delay_credits_tests;
 #[cfg(test)]
+mod experiment_claims_tests;
+#[cfg(test)]
 mod hart_schedule_tests;
 #[cfg(test)]
 mod shortened_run_tests;
