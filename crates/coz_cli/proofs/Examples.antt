@@ -9,9 +9,9 @@ use Rattle.line_index.specs.Lines.{Line, line_of}
 use Rattle.line_index.specs.Listed.{lines_in, entries_in}
 use Rattle.coz_words.specs.Said.{Text}
 use Rattle.experiment_plan.specs.Lists.{line_parts, pieces}
-use Rattle.coz_words.specs.declared.request.Request.{Request}
-use Rattle.coz_words.specs.declared.command.Command.TheVariants.{Run}
-use Rattle.coz_cli.specs.Selection.{no_line, chosen, chosen_of}
+use Rattle.experiment_plan.specs.declared.experiment.Experiment.{Experiment}
+use Rattle.coz_cli.specs.Profiled.{pairs_of}
+use Rattle.coz_cli.specs.Selection.{line_named, lines_named}
 use Rattle.coz_cli.specs.Text.{outcome_text, net_outcome_text, hart_text, harts_text, visit_text, visits_text, net_visit_text, net_visits_text, output_text, run_text, really_text, more_addresses, addresses_text, labelled_text, lines_text}
 
 -- ---- the line and the points that are named
@@ -22,31 +22,35 @@ line path number = record { path = path; number = number }
 abbrev three : List Line
 three = line (codes "d/a.s") 1 ∷ line (codes "d/a.s") 2 ∷ line (codes "d/b.s") 1 ∷ []
 
-abbrev asked : Option Text → Option Text → Request
-asked selected points = record { command = Run; target = codes "p"; input = None; line = selected; speedup = 50; progress = points; budget = 9; lines = None; speedups = []; workers = 0; seed = 0; size = 0 }
+abbrev pair : ℕ → ℕ → Experiment
+pair line speedup = record { line = record { 0 = line }; speedup = speedup }
 
 -- by the whole path, and by the end of a path
-whole_path : chosen three (asked (Some (codes "d/a.s:2")) None) ≡ Ok (record { selected = Some 1; points = [] })
-unfolding chosen_of line_parts
+whole_path : line_named three (Some (codes "d/a.s:2")) ≡ Ok (Some 1)
+unfolding line_parts
 whole_path = refl
 
-path_end : chosen three (asked (Some (codes "b.s:1")) None) ≡ Ok (record { selected = Some 2; points = [] })
-unfolding chosen_of line_parts
+path_end : line_named three (Some (codes "b.s:1")) ≡ Ok (Some 2)
+unfolding line_parts
 path_end = refl
 
-unfound : chosen three (asked (Some (codes "a.s:3")) (Some (codes "c.s:1"))) ≡ Err (no_line (codes "a.s:3"))
-unfolding chosen_of line_parts pieces
+unfound : line_named three (Some (codes "a.s:3")) ≡ Err (codes "a.s:3")
+unfolding line_parts
 unfound = refl
 
--- the points rise, and a line that is named twice is one point
-named_twice : chosen three (asked None (Some (codes "b.s:1,a.s:1,d/b.s:1"))) ≡ Ok (record { selected = None; points = 0 ∷ 2 ∷ [] })
-unfolding chosen_of line_parts pieces
+-- the lines of a list rise, and a line that is named twice stands once
+named_twice : lines_named three [] (Some (codes "b.s:1,a.s:1,d/b.s:1")) ≡ Ok (0 ∷ 2 ∷ [])
+unfolding line_parts pieces
 named_twice = refl
 
 -- the first piece that is not found is told
-first_unfound : chosen three (asked (Some (codes "a.s:1")) (Some (codes "a.s:1,c.s:1,e.s:1"))) ≡ Err (no_line (codes "c.s:1"))
-unfolding chosen_of line_parts pieces
+first_unfound : lines_named three [] (Some (codes "a.s:1,c.s:1,e.s:1")) ≡ Err (codes "c.s:1")
+unfolding line_parts pieces
 first_unfound = refl
+
+-- each line at 0 and at each speedup, once
+planned_once : pairs_of (0 ∷ 2 ∷ []) (50 ∷ 5 ∷ 50 ∷ []) ≡ pair 0 0 ∷ pair 0 5 ∷ pair 0 50 ∷ pair 2 0 ∷ pair 2 5 ∷ pair 2 50 ∷ []
+planned_once = refl
 
 -- ---- what is printed
 

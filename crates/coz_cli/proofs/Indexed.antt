@@ -1,4 +1,4 @@
--- An index of a program's table says of its lines and points what the table says.
+-- An index of a program's table says of its lines and runs what the table says.
 use Rattle.std.proofs.Common.{◌≡◌, ℕ, List, Option, refl, ap, ap₂, ◌∙◌}
 use Rattle.std.proofs.Math.Path.{fun_ext}
 use Rattle.coz_types.specs.Image.{ImageParts}
@@ -11,38 +11,35 @@ use Rattle.progress_points.specs.Points.{Points, IsPoints, point_of, point_in}
 use Rattle.machines.specs.Guest.{Experiment}
 use Rattle.guest_calls.specs.Guest.{Guest}
 use Rattle.virtual_run.specs.Run.{experiment}
-use Rattle.coz_words.specs.declared.request.Request.{Request}
-use Rattle.coz_cli.specs.Selection.{Chosen, chosen}
-use Rattle.coz_cli.specs.Experiment.{choice_of, entries_of, experiment_of}
 use Rattle.virtual_run.specs.declared.choice.Choice.{Choice}
-use Rattle.coz_cli.specs.declared.experiment.Kind.{Kind}
-use Rattle.coz_cli.specs.Kind.{print_of}
-use Rattle.coz_cli.specs.Verdict.{Verdict, asked_verdict, chosen_verdict}
+use Rattle.coz_cli.specs.Experiment.{Runs, entries_of, experiment_of, runs_in}
+use Rattle.coz_cli.specs.Verdict.{Verdict, Judging}
 
--- what is judged of an index with these lines, entries and positions
-abbrev judged : Request → (Experiment Guest → Verdict) → List ℕ → ImageParts → List Line → List (List ℕ) → (ℕ → Option ℕ) → Verdict
-judged asked print input image lines entries position =
-    chosen_verdict (chosen lines asked) (λ (c : Chosen). print (experiment image position (point_in entries c.points) input (choice_of c.selected asked.speedup asked.budget)))
+module _ (image : ImageParts) (table : Table) (input : List ℕ) where
+  -- the runs with these entries and positions
+  abbrev runs_with : List (List ℕ) → (ℕ → Option ℕ) → Runs
+  runs_with entries position choice points = experiment image position (point_in entries points) input choice
 
-asked_is : (asked : Request) (print : Experiment Guest → Verdict) (input : List ℕ) (image : ImageParts) (table : Table)
-    → judged asked print input image (lines_in table image.areas) (entries_of image table) (position_in table image.areas) ≡ asked_verdict asked print input image table
-unfolding experiment_of
-asked_is asked print input image table = refl
+  runs_are : runs_with (entries_of image table) (position_in table image.areas) ≡ experiment_of image table input
+  unfolding experiment_of
+  runs_are = refl
 
-pub indexed : (asked : Request) (print : Experiment Guest → Verdict) (input : List ℕ) (image : ImageParts) (table : Table) (index : Index) → IsIndex table image.areas index
-    → judged asked print input image index.lines index.entries (position_at index) ≡ asked_verdict asked print input image table
-indexed asked print input image table index is =
-    ap (judged asked print input image index.lines index.entries) (fun_ext (positions_are is))
-    ∙ ap (λ (es : List (List ℕ)). judged asked print input image index.lines es (position_in table image.areas)) (entries_are is)
-    ∙ ap (λ (ls : List Line). judged asked print input image ls (entries_of image table) (position_in table image.areas)) (lines_are is)
-    ∙ asked_is asked print input image table
+  module _ (index : Index) (is : IsIndex table image.areas index) where
+    same_runs : runs_in image index input ≡ experiment_of image table input
+    same_runs =
+        ap (runs_with index.entries) (fun_ext (positions_are is))
+        ∙ ap (λ (es : List (List ℕ)). runs_with es (position_in table image.areas)) (entries_are is)
+        ∙ runs_are
+
+    pub indexed : (next : Judging) → next index.lines (runs_in image index input) ≡ next (lines_in table image.areas) (experiment_of image table input)
+    indexed next = ap₂ next (lines_are is) same_runs
 
 -- the points that were made of lines of an index
 pub points_are : (index : Index) (lines : List ℕ) (points : Points) → IsPoints index lines points → point_of points ≡ point_in index.entries lines
 points_are index lines points is = fun_ext is.each
 
--- what is printed of a choice and of points that were made of lines
-pub printed_of : (kind : Kind) (image : ImageParts) (index : Index) (input : List ℕ) (points : Points) (lines : List ℕ) (made given : Choice) → IsPoints index lines points → made ≡ given
-    → print_of kind (experiment image (position_at index) (point_of points) input made) ≡ print_of kind (experiment image (position_at index) (point_in index.entries lines) input given)
-printed_of kind image index input points lines made given is same =
-    ap₂ (λ (p : ℕ → Option ℕ) (c : Choice). print_of kind (experiment image (position_at index) p input c)) (points_are index lines points is) same
+-- the experiment of points that were made of lines
+pub experiment_is : (image : ImageParts) (index : Index) (input : List ℕ) (points : Points) (lines : List ℕ) (made given : Choice) → IsPoints index lines points → made ≡ given
+    → experiment image (position_at index) (point_of points) input made ≡ runs_in image index input given lines
+experiment_is image index input points lines made given is same =
+    ap₂ (λ (p : ℕ → Option ℕ) (c : Choice). experiment image (position_at index) p input c) (points_are index lines points is) same

@@ -7,7 +7,7 @@ use Rattle.coz_files.specs.Held.{Held}
 use Rattle.coz_words.specs.declared.request.Request.{Request}
 use Rattle.coz_cli.specs.declared.answer.Printed.{Printed}
 use Rattle.coz_cli.specs.declared.fault.Fault.{Fault}
-use Rattle.coz_cli.specs.declared.fault.Fault.TheVariants.{Usage, Program, Lines, Read, Write, NoLine, ManyPoints, Long, Memory, Source}
+use Rattle.coz_cli.specs.declared.fault.Fault.TheVariants.{Usage, Program, Lines, Read, Write, NoLine, ManyPoints, Long, ManyExperiments, Memory, Source}
 use Rattle.coz_cli.specs.Words.{request_of}
 use Rattle.coz_cli.specs.Verdict.{Verdict, command_verdict, request_verdict, verdict}
 use Rattle.coz_cli.specs.Answer.{Answer, IsMemory, IsReadFault, Suits, Settles, fault_line, fault_status, printed_verdict, text_bytes}
@@ -39,6 +39,7 @@ is_read Write five = absurd (omega (arith, five))
 is_read (NoLine piece) five = absurd (omega (arith, five))
 is_read (ManyPoints count) five = absurd (omega (arith, five))
 is_read (Long path) five = absurd (omega (arith, five))
+is_read (ManyExperiments count) five = absurd (omega (arith, five))
 is_read Memory five = absurd (omega (arith, five))
 is_read (Source fault) five = absurd (omega (arith, five))
 
@@ -51,6 +52,7 @@ not_memory Write five memory = memory
 not_memory (NoLine piece) five memory = memory
 not_memory (ManyPoints count) five memory = memory
 not_memory (Long path) five memory = memory
+not_memory (ManyExperiments count) five memory = memory
 not_memory Memory five memory = omega (arith, five)
 not_memory (Source fault) five memory = memory
 

@@ -4,7 +4,7 @@ use Rattle.std.specs.Prelude.{IfNone, IsSomeAnd}
 use Rattle.coz_files.specs.Faults.{Rose}
 use Rattle.coz_files.specs.Held.{Held}
 use Rattle.coz_cli.specs.declared.fault.Fault.{Fault}
-use Rattle.coz_cli.specs.declared.fault.Fault.TheVariants.{Usage, Program, Lines, Read, Write, NoLine, ManyPoints, Long, Memory, Source}
+use Rattle.coz_cli.specs.declared.fault.Fault.TheVariants.{Usage, Program, Lines, Read, Write, NoLine, ManyPoints, Long, ManyExperiments, Memory, Source}
 use Rattle.coz_words.specs.declared.request.Request.{Request}
 use Rattle.coz_cli.specs.Words.{Names, request_of}
 use Rattle.coz_cli.specs.Verdict.{Verdict, verdict}
@@ -88,6 +88,7 @@ module _ (status : ℕ) (words : List (List ℕ)) (told : Option Held) (before n
   told_line (NoLine piece) k = plain (NoLine piece) k (λ is. omega (arith, is, k.status_is)) (λ is. omega (arith, is, k.status_is)) (λ is. omega (arith, is, k.status_is)) (λ is. omega (arith, is, k.status_is)) (λ no. no) (λ no. no)
   told_line (ManyPoints count) k = plain (ManyPoints count) k (λ is. omega (arith, is, k.status_is)) (λ is. omega (arith, is, k.status_is)) (λ is. omega (arith, is, k.status_is)) (λ is. omega (arith, is, k.status_is)) (λ no. no) (λ no. no)
   told_line (Long path) k = plain (Long path) k (λ is. omega (arith, is, k.status_is)) (λ is. omega (arith, is, k.status_is)) (λ is. omega (arith, is, k.status_is)) (λ is. omega (arith, is, k.status_is)) (λ no. no) (λ no. no)
+  told_line (ManyExperiments count) k = plain (ManyExperiments count) k (λ is. omega (arith, is, k.status_is)) (λ is. omega (arith, is, k.status_is)) (λ is. omega (arith, is, k.status_is)) (λ is. omega (arith, is, k.status_is)) (λ no. no) (λ no. no)
   told_line (Source fault) k = plain (Source fault) k (λ is. omega (arith, is, k.status_is)) (λ is. omega (arith, is, k.status_is)) (λ is. omega (arith, is, k.status_is)) (λ is. omega (arith, is, k.status_is)) (λ no. no) (λ no. no)
 
 -- no fault has the status of a run
@@ -100,5 +101,6 @@ told_high Write = omega arith
 told_high (NoLine piece) = omega arith
 told_high (ManyPoints count) = omega arith
 told_high (Long path) = omega arith
+told_high (ManyExperiments count) = omega arith
 told_high Memory = omega arith
 told_high (Source fault) = omega arith

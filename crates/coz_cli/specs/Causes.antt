@@ -5,12 +5,12 @@ use Rattle.dwarf_lines.specs.declared.LineError.{LineError}
 use Rattle.dwarf_lines.specs.declared.LineError.TheVariants as reading
 use Rattle.progress_points.specs.declared.PointsError.{PointsError}
 use Rattle.progress_points.specs.declared.PointsError.TheVariants as points
+use Rattle.experiment_plan.specs.declared.experiment.PlanError.{PlanError}
+use Rattle.experiment_plan.specs.declared.experiment.PlanError.TheVariants as planning
 use Rattle.rv_asm.specs.declared.AsmError.{AsmError}
 use Rattle.rv_asm.specs.declared.AsmError.TheVariants as assembling
-use Rattle.coz_cli.specs.declared.selection.Unchosen.{Unchosen}
-use Rattle.coz_cli.specs.declared.selection.Unchosen.TheVariants as selecting
 use Rattle.coz_cli.specs.declared.fault.Fault.{Fault}
-use Rattle.coz_cli.specs.declared.fault.Fault.TheVariants.{Program, Lines, NoLine, ManyPoints, Memory, Source}
+use Rattle.coz_cli.specs.declared.fault.Fault.TheVariants.{Program, Lines, ManyPoints, ManyExperiments, Memory, Source}
 
 abbrev pub loading_fault : LoadError → Fault
 loading_fault (loading.Fault fault) = Program fault
@@ -20,13 +20,13 @@ abbrev pub reading_fault : LineError → Fault
 reading_fault (reading.Fault fault) = Lines fault
 reading_fault reading.Memory = Memory
 
-abbrev pub selecting_fault : Unchosen → Fault
-selecting_fault (selecting.NoLine piece) = NoLine piece
-selecting_fault selecting.Memory = Memory
-
 abbrev pub points_fault : PointsError → Fault
 points_fault (points.TooMany count) = ManyPoints count
 points_fault points.Memory = Memory
+
+abbrev pub planning_fault : PlanError → Fault
+planning_fault (planning.TooMany count) = ManyExperiments count
+planning_fault planning.Memory = Memory
 
 abbrev pub assembling_fault : AsmError → Fault
 assembling_fault (assembling.Fault fault) = Source fault

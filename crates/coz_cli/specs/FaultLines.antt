@@ -1,4 +1,4 @@
--- The lines of the faults of a program, of its line table and of a source.
+-- The lines of the faults of a program, of its line table, of a selection, a plan and a source.
 use Rattle.std.specs.Prelude.{ℕ, List, ◌++◌, codes, decimal}
 use Rattle.elf_load.specs.declared.ElfKind.{ElfKind}
 use Rattle.elf_load.specs.declared.ElfKind.TheVariants.{NotElf, NotClass64, NotLittle, NotExec, NotRiscv, Compressed, HeaderOut, PackedLines, Interp, SizeOrder, AddressOut, WritableCode, SharedPage, TooMuch, EntryOut}
@@ -71,3 +71,6 @@ no_line_line piece = codes "coz: selection: no line " ++ piece
 
 abbrev pub points_line : ℕ → List ℕ
 points_line count = codes "coz: selection: " ++ decimal count ++ codes " points"
+
+abbrev pub plan_line : ℕ → List ℕ
+plan_line count = codes "coz: plan: " ++ decimal count ++ codes " experiments"

@@ -1,20 +1,24 @@
 -- The headline: what is printed of a delayed run is that of the shortened run.
-use Rattle.std.specs.Prelude.{◌≡◌, List, ℕ, [], Option, None, Some, Ok}
+use Rattle.std.specs.Prelude.{◌≡◌, List, ℕ, [], Option, None, Some, Ok, All, ◌≤◌, length}
 use Rattle.std.specs.Io.KnownBytes.{Appends}
 use Rattle.coz_types.specs.Image.{ImageParts}
 use Rattle.coz_files.specs.Held.{Held, file_at}
 use Rattle.elf_load.specs.Loaded.{loaded}
 use Rattle.dwarf_lines.specs.Registers.{Table}
+use Rattle.line_index.specs.Lines.{Line}
 use Rattle.line_index.specs.Listed.{lines_in}
+use Rattle.experiment_plan.specs.declared.experiment.Experiment.{Experiment as Pair}
+use Rattle.profile_book.specs.Profile.{profile_text}
 use Rattle.machines.specs.Guest.{Experiment}
 use Rattle.machines.specs.Records.{Record, NetRecord, net, IsDelayed, IsShortened}
 use Rattle.guest_calls.specs.Guest.{Guest}
 use Rattle.coz_words.specs.declared.request.Request.{Request}
-use Rattle.coz_words.specs.declared.command.Command.TheVariants.{Run, Really}
+use Rattle.coz_words.specs.declared.command.Command.TheVariants.{Run, Really, Profile}
 use Rattle.coz_cli.specs.Words.{request_of}
 use Rattle.coz_cli.specs.LineTable.{table_in}
-use Rattle.coz_cli.specs.Selection.{Chosen, chosen}
-use Rattle.coz_cli.specs.Experiment.{choice_of, experiment_of}
+use Rattle.coz_cli.specs.Selection.{line_named, lines_named}
+use Rattle.coz_cli.specs.Experiment.{Runs, choice_of, experiment_of}
+use Rattle.coz_cli.specs.Profiled.{all_lines, experiment_on, pairs_of, profile_with}
 use Rattle.coz_cli.specs.Text.{run_text, really_text}
 
 -- the bytes of the input that is named, and none where none is
@@ -29,13 +33,16 @@ pub record IsAsked (held : Held) (asked : Request) (x : Experiment Guest) : Type
   pub input : List ℕ
   pub image : ImageParts
   pub table : Table
-  pub choice : Chosen
+  pub selected : Option ℕ
+  pub points : List ℕ
   pub found : file_at held asked.target ≡ Some file
   pub given : IsInput held asked.input input
   pub program : loaded file ≡ Ok image
   pub lines : table_in file ≡ Ok table
-  pub named : chosen (lines_in table image.areas) asked ≡ Ok choice
-  pub experiment : x ≡ experiment_of image table input (choice_of choice.selected asked.speedup asked.budget) choice.points
+  pub line_is : line_named (lines_in table image.areas) asked.line ≡ Ok selected
+  pub points_are : lines_named (lines_in table image.areas) [] asked.progress ≡ Ok points
+  pub few : length points ≤ 64
+  pub experiment : x ≡ experiment_of image table input (choice_of selected asked.speedup asked.budget) points
 
 -- Behind what was held before there is now the text of the record that the delayed machine ends with, and the
 -- net part of that record (its end, output, counts, and each time less the global delay then) is what the
@@ -56,7 +63,44 @@ pub record PrintsReally (held : Held) (asked : Request) (before now : Option (Li
   pub printed : Appends before now (really_text run)
   pub shortened : IsShortened experiment run
 
--- where the words ask for a run, such a run is printed
+-- The plan that a request for a profile asks for: its path names a file that is a program with a line table, its
+-- input is that of the named file, the lines that it names are the program's, and the pairs are each of the lines to
+-- be selected with each speedup.
+pub record IsPlanned (held : Held) (asked : Request) (runs : Runs) (lines : List Line) (points : List ℕ) (pairs : List Pair) : Type 0 where
+  pub file : List ℕ
+  pub input : List ℕ
+  pub image : ImageParts
+  pub table : Table
+  pub selected : List ℕ
+  pub found : file_at held asked.target ≡ Some file
+  pub given : IsInput held asked.input input
+  pub program : loaded file ≡ Ok image
+  pub table_is : table_in file ≡ Ok table
+  pub runs_are : runs ≡ experiment_of image table input
+  pub lines_are : lines ≡ lines_in table image.areas
+  pub selected_are : lines_named lines (all_lines lines) asked.lines ≡ Ok selected
+  pub points_are : lines_named lines [] asked.progress ≡ Ok points
+  pub few_points : length points ≤ 64
+  pub planned : pairs ≡ pairs_of selected asked.speedups
+  pub few_pairs : length pairs ≤ 100000
+
+-- Behind what was held before there is now the text of a profile: of the budget, the points' labels, and of each pair
+-- of the plan, in its order, the summary of the record with which the delayed machine ends on the pair's experiment.
+-- The net part of each such record is what the shortened machine ends with, whose selected line really costs less and
+-- which knows no delays.
+pub record PrintsProfile (held : Held) (asked : Request) (before now : Option (List ℕ)) : Type 0 where
+  pub runs : Runs
+  pub lines : List Line
+  pub points : List ℕ
+  pub pairs : List Pair
+  pub is_planned : IsPlanned held asked runs lines points pairs
+  pub run : Pair → Record
+  pub delayed : All (λ pair. IsDelayed (experiment_on runs asked.budget points pair) (run pair)) pairs
+  pub shortened : All (λ pair. IsShortened (experiment_on runs asked.budget points pair) (net (run pair))) pairs
+  pub printed : Appends before now (profile_text (profile_with run lines asked.budget points pairs))
+
+-- where the words ask for a run or a profile, such a run or profile is printed
 pub record PrintsShortened (words : List (List ℕ)) (held : Held) (before now : Option (List ℕ)) : Type 0 where
   pub runs : (asked : Request) → request_of words ≡ Some asked → asked.command ≡ Run → PrintsRun held asked before now
+  pub profiles : (asked : Request) → request_of words ≡ Some asked → asked.command ≡ Profile → PrintsProfile held asked before now
   pub really : (asked : Request) → request_of words ≡ Some asked → asked.command ≡ Really → PrintsReally held asked before now

@@ -1,12 +1,20 @@
--- What is printed of an experiment, by the machine that runs it.
+-- What a program is run for, and the verdict of it.
 use Rattle.machines.specs.Guest.{Experiment}
 use Rattle.machines.specs.Records.{shortened_record}
 use Rattle.machines.specs.Standing.{delayed_record}
 use Rattle.guest_calls.specs.Guest.{Guest}
+use Rattle.coz_words.specs.declared.request.Request.{Request}
 use Rattle.coz_cli.specs.declared.experiment.Kind.{Kind}
-use Rattle.coz_cli.specs.declared.experiment.Kind.TheVariants.{Delayed, Shortened}
-use Rattle.coz_cli.specs.Verdict.{Verdict, run_verdict, really_verdict}
+use Rattle.coz_cli.specs.declared.experiment.Kind.TheVariants.{Delayed, Shortened, Profiled}
+use Rattle.coz_cli.specs.Verdict.{Verdict, Judging, asked_verdict, profiled_verdict, run_verdict, really_verdict}
 
-abbrev pub print_of : Kind → Experiment Guest → Verdict
-print_of Delayed x = run_verdict (delayed_record x)
-print_of Shortened x = really_verdict (shortened_record x)
+abbrev pub run_printed : Experiment Guest → Verdict
+run_printed x = run_verdict (delayed_record x)
+
+abbrev pub really_printed : Experiment Guest → Verdict
+really_printed x = really_verdict (shortened_record x)
+
+abbrev pub judging : Kind → Request → Judging
+judging Delayed asked = asked_verdict asked run_printed
+judging Shortened asked = asked_verdict asked really_printed
+judging Profiled asked = profiled_verdict asked

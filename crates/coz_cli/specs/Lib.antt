@@ -4,8 +4,9 @@ pub mod Text
 pub mod FaultLines
 pub mod LineTable
 pub mod Selection
-pub mod Found
 pub mod Experiment
+pub mod Profiled
+pub mod PlanRuns
 pub mod Verdict
 pub mod Kind
 pub mod LinesText

@@ -1,7 +1,9 @@
 -- What the words and the files that the paths hold come to: a status, a text for the output and a line for the errors.
-use Rattle.std.specs.Prelude.{ℕ, List, [], ◌++◌, length, nat_lt, codes, Option, None, Some, Result, Ok, Err, if◌then◌else◌}
+use Rattle.std.specs.Prelude.{ℕ, List, [], ◌++◌, length, nat_lt, codes, Bool, true, false, Option, None, Some, Result, Ok, Err, if◌then◌else◌}
+use Rattle.std.specs.List.{list_all}
 use Rattle.coz_types.specs.declared.ending.Ending.{Ending}
 use Rattle.coz_types.specs.declared.ending.Ending.TheVariants.{Exited}
+use Rattle.coz_types.specs.declared.record.Summary.{Summary}
 use Rattle.coz_files.specs.Held.{Held, file_at}
 use Rattle.coz_cli.specs.Words.{request_of}
 use Rattle.coz_types.specs.Image.{ImageParts}
@@ -9,7 +11,7 @@ use Rattle.elf_load.specs.declared.ElfFault.{ElfFault}
 use Rattle.elf_load.specs.Loaded.{loaded}
 use Rattle.coz_words.specs.declared.request.Request.{Request}
 use Rattle.coz_words.specs.declared.command.Command.{Command}
-use Rattle.coz_words.specs.declared.command.Command.TheVariants.{Run, Really, Lines, Asm}
+use Rattle.coz_words.specs.declared.command.Command.TheVariants.{Run, Really, Profile, Lines, Asm}
 use Rattle.rv_asm.specs.declared.AsmFault.{AsmFault}
 use Rattle.rv_asm.specs.Assembled.{Program, assembled}
 use Rattle.image_write.specs.File.{written_file}
@@ -17,14 +19,20 @@ use Rattle.machines.specs.Guest.{Experiment}
 use Rattle.machines.specs.Records.{Record, NetRecord, shortened_record}
 use Rattle.machines.specs.Standing.{delayed_record}
 use Rattle.guest_calls.specs.Guest.{Guest}
+use Rattle.line_index.specs.Lines.{Line}
 use Rattle.line_index.specs.Listed.{lines_in}
+use Rattle.experiment_plan.specs.declared.experiment.Experiment.{Experiment as Pair}
+use Rattle.profile_book.specs.Profile.{profile_text}
+use Rattle.profile_book.specs.declared.profile.Profile.{Profile as Book}
 use Rattle.coz_cli.specs.Text.{run_text, really_text, lines_text}
-use Rattle.coz_cli.specs.Selection.{Chosen, Unchosen, no_line, many_points, chosen}
-use Rattle.coz_cli.specs.Experiment.{choice_of, experiment_of}
+use Rattle.coz_words.specs.Said.{Text}
+use Rattle.coz_cli.specs.Selection.{line_named, lines_named}
+use Rattle.coz_cli.specs.Experiment.{Runs, choice_of, experiment_of}
 use Rattle.dwarf_lines.specs.declared.LineFault.{LineFault}
 use Rattle.dwarf_lines.specs.Registers.{Table}
 use Rattle.coz_cli.specs.LineTable.{table_in}
-use Rattle.coz_cli.specs.FaultLines.{program_line, table_line, source_line, no_line_line, points_line}
+use Rattle.coz_cli.specs.FaultLines.{program_line, table_line, source_line, no_line_line, points_line, plan_line}
+use Rattle.coz_cli.specs.Profiled.{all_lines, pairs_of, profile_of}
 
 pub record Verdict : Type 0 where
   pub status : ℕ
@@ -38,9 +46,12 @@ refused status line = record { status = status; text = []; line = line }
 abbrev pub printed : List ℕ → Verdict
 printed text = record { status = 0; text = text; line = [] }
 
+abbrev pub has_exited : Ending → Bool
+has_exited (Exited code) = true
+has_exited _ = false
+
 abbrev pub ending_status : Ending → ℕ
-ending_status (Exited code) = 0
-ending_status _ = 1
+ending_status ending = if has_exited ending then 0 else 1
 
 -- of a run
 abbrev pub run_verdict : Record → Verdict
@@ -49,6 +60,10 @@ run_verdict r = record { status = ending_status r.ending; text = run_text r; lin
 -- of a run that knows no delays
 abbrev pub really_verdict : NetRecord → Verdict
 really_verdict r = record { status = ending_status r.ending; text = really_text r; line = [] }
+
+-- of a profile
+abbrev pub profile_verdict : Book → Verdict
+profile_verdict p = record { status = if list_all (λ (s : Summary). has_exited s.outcome.ending) p.summaries then 0 else 1; text = profile_text p; line = [] }
 
 -- of the program that a file is, if it is one, and of what follows
 abbrev pub loaded_verdict : Result ImageParts ElfFault → (ImageParts → Verdict) → Verdict
@@ -64,21 +79,43 @@ table_verdict (Ok table) next = next table
 abbrev pub program_verdict : List ℕ → (ImageParts → Table → Verdict) → Verdict
 program_verdict file next = loaded_verdict (loaded file) (λ image. table_verdict (table_in file) (next image))
 
--- of the line and the points that are named, and of what follows
-abbrev pub chosen_verdict : Result Chosen Unchosen → (Chosen → Verdict) → Verdict
-chosen_verdict (Err (no_line piece)) next = refused 7 (no_line_line piece)
-chosen_verdict (Err (many_points count)) next = refused 7 (points_line count)
-chosen_verdict (Ok chosen) next = next chosen
+-- of lines that are named, if the program has them, and of what follows
+abbrev pub named_verdict : {A : Type 0} → Result A Text → (A → Verdict) → Verdict
+named_verdict (Err piece) next = refused 7 (no_line_line piece)
+named_verdict (Ok named) next = next named
 
--- of the experiment that a request asks for, on a program with its line table and an input
-abbrev pub asked_verdict : Request → (Experiment Guest → Verdict) → List ℕ → ImageParts → Table → Verdict
-asked_verdict asked print input image table =
-    chosen_verdict (chosen (lines_in table image.areas) asked) (λ choice.
-    print (experiment_of image table input (choice_of choice.selected asked.speedup asked.budget) choice.points))
+-- of progress points, if there are at most 64, and of what follows
+abbrev pub points_verdict : List ℕ → (List ℕ → Verdict) → Verdict
+points_verdict points next = if nat_lt 64 (length points) then refused 7 (points_line (length points)) else next points
 
--- on a program's file
-abbrev pub file_verdict : Request → (Experiment Guest → Verdict) → List ℕ → List ℕ → Verdict
-file_verdict asked print file input = program_verdict file (asked_verdict asked print input)
+-- of a program's lines and its runs
+abbrev pub Judging : Type 0
+Judging = List Line → Runs → Verdict
+
+-- of the experiment that a request asks for, by what is printed of it
+abbrev pub asked_verdict : Request → (Experiment Guest → Verdict) → Judging
+asked_verdict asked print lines runs =
+    named_verdict (line_named lines asked.line) (λ selected.
+    named_verdict (lines_named lines [] asked.progress) (λ named.
+    points_verdict named (λ points.
+    print (runs (choice_of selected asked.speedup asked.budget) points))))
+
+-- of a plan, if there are at most 100,000 pairs, and of what follows
+abbrev pub plan_verdict : List Pair → (List Pair → Verdict) → Verdict
+plan_verdict pairs next = if nat_lt 100000 (length pairs) then refused 9 (plan_line (length pairs)) else next pairs
+
+-- of the profile that a request asks for
+unfoldable pub profiled_verdict : Request → Judging
+profiled_verdict asked lines runs =
+    named_verdict (lines_named lines (all_lines lines) asked.lines) (λ selected.
+    named_verdict (lines_named lines [] asked.progress) (λ named.
+    points_verdict named (λ points.
+    plan_verdict (pairs_of selected asked.speedups) (λ pairs.
+    profile_verdict (profile_of runs lines asked.budget points pairs)))))
+
+-- on a program's file and an input
+abbrev pub file_verdict : Judging → List ℕ → List ℕ → Verdict
+file_verdict next file input = program_verdict file (λ image table. next (lines_in table image.areas) (experiment_of image table input))
 
 -- of a path's file that may have so many bytes, and of what follows where it is there and has no more
 abbrev pub read_verdict : ℕ → List ℕ → Option (List ℕ) → (List ℕ → Verdict) → Verdict
@@ -90,11 +127,11 @@ abbrev pub input_verdict : Option (List ℕ) → Held → (List ℕ → Verdict)
 input_verdict None held next = next []
 input_verdict (Some path) held next = read_verdict 16777216 path (file_at held path) next
 
--- of an experiment, by what is printed of it
-abbrev pub experiment_verdict : Request → Held → (Experiment Guest → Verdict) → Verdict
-experiment_verdict asked held print =
+-- of the program and the input that a request names, and of what follows
+abbrev pub files_verdict : Request → Held → Judging → Verdict
+files_verdict asked held next =
     read_verdict 33554432 asked.target (file_at held asked.target) (λ file.
-    input_verdict asked.input held (file_verdict asked print file))
+    input_verdict asked.input held (file_verdict next file))
 
 -- of a program's lines
 abbrev pub lines_verdict : List ℕ → Verdict
@@ -106,8 +143,9 @@ source_verdict name (Err fault) = refused 11 (source_line fault)
 source_verdict name (Ok program) = printed (written_file program name 4)
 
 abbrev pub command_verdict : Command → Request → Held → Verdict
-command_verdict Run asked held = experiment_verdict asked held (λ x. run_verdict (delayed_record x))
-command_verdict Really asked held = experiment_verdict asked held (λ x. really_verdict (shortened_record x))
+command_verdict Run asked held = files_verdict asked held (asked_verdict asked (λ x. run_verdict (delayed_record x)))
+command_verdict Really asked held = files_verdict asked held (asked_verdict asked (λ x. really_verdict (shortened_record x)))
+command_verdict Profile asked held = files_verdict asked held (profiled_verdict asked)
 command_verdict Lines asked held = read_verdict 33554432 asked.target (file_at held asked.target) lines_verdict
 command_verdict Asm asked held = read_verdict 4194304 asked.target (file_at held asked.target) (λ source. source_verdict asked.target (assembled source))
 

@@ -11,12 +11,14 @@ use crate::lines::judge_lines;
 use crate::source::judge_source;
 use coz_files::{Files, PutAnswer, Sink};
 use coz_words::{Command, Request};
+use profile_book::{Profile, write_profile};
 use std::alloc::Global;
 
 /// A text that is to be written.
 #[derive(Drop)]
 pub enum Text {
     Bytes(Vec<u8>),
+    Profile(Profile),
 }
 
 /// A text that is to be written, and the status beside it.
@@ -35,6 +37,7 @@ pub fn put_text<O: Sink>(out: &mut O, text: &Text) -> PutAnswer
 {
     match text {
         Text::Bytes(bytes) => out.put(bytes),
+        Text::Profile(profile) => write_profile(profile, out),
     }
 }
 
@@ -51,6 +54,7 @@ pub fn judge<'r, F: Files>(alloc: Global, request: &'r Request, files: &mut F) -
     match request.command {
         Command::Run => judge_experiment(alloc, request, Kind::Delayed, files),
         Command::Really => judge_experiment(alloc, request, Kind::Shortened, files),
+        Command::Profile => judge_experiment(alloc, request, Kind::Profiled, files),
         Command::Lines => judge_lines(alloc, request, files),
         Command::Asm => judge_source(alloc, request, files),
     }

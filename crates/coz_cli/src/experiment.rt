@@ -1,41 +1,35 @@
-ghost use Rattle.std.specs.Prelude.{◌≡◌, ◌≤◌, ◌^◌, length, IfSome, IfNone, option_map};
+ghost use Rattle.std.specs.Prelude.{◌≡◌, ◌≤◌, length, IfSome, IfNone};
 ghost use Rattle.coz_files.specs.Faults.{Rose};
-ghost use Rattle.line_index.specs.Index.{position_at};
-ghost use Rattle.progress_points.specs.Points.{point_in};
-ghost use Rattle.virtual_run.specs.Run.{IsChoice, experiment};
 ghost use Rattle.coz_words.specs.Request.{IsFit};
-ghost use Rattle.coz_cli.specs.Selection.{chosen};
-ghost use Rattle.coz_cli.specs.Experiment.{choice_of};
-ghost use Rattle.coz_cli.specs.Found.{id_of};
-ghost use Rattle.coz_cli.specs.Kind.{print_of};
-ghost use Rattle.coz_cli.specs.Verdict.{chosen_verdict, experiment_verdict, file_verdict};
+ghost use Rattle.coz_cli.specs.Experiment.{runs_in};
+ghost use Rattle.coz_cli.specs.Kind.{judging, really_printed, run_printed};
+ghost use Rattle.coz_cli.specs.Verdict.{asked_verdict, file_verdict, files_verdict};
 ghost use Rattle.coz_cli.specs.Answer.{answered, IsMemory, IsRead, Suits, Settles};
 
 use crate::answer::Answer;
+use crate::profile::profile_answer;
 use crate::program::{MAX_PROGRAM, read_file, read_program};
 use crate::runs::{really_answer, run_answer};
-use crate::selection::choose;
+use crate::selection::{bytes_of, line_named, progress_points};
 use coz_files::Files;
-use coz_types::{Image, LineId};
+use coz_types::Image;
 use coz_words::Request;
-use guest_memory::Layout;
 use line_index::LineIndex;
+use profile_pool::choice;
 use std::alloc::Global;
-use virtual_run::Choice;
 
 /// The most bytes of an input.
 const MAX_INPUT: u64 = 16777216;
 
-/// The most bytes that a run writes, and the most visits that it keeps.
-const OUTPUT_LIMIT: u64 = 4194304;
-
-const VISIT_LIMIT: u64 = 1048576;
-
-/// The machine that runs the program.
+/// What a program is run for.
 #[derive(Clone, Copy)]
 pub enum Kind {
+    /// One delayed run.
     Delayed,
+    /// One shortened run.
     Shortened,
+    /// The delayed runs of a plan.
+    Profiled,
 }
 
 /// What is written of a run of the program and the input that the request names.
@@ -50,7 +44,7 @@ pub fn judge_experiment<'r, F: Files>(
     ensures same { F.held files.new ≡ F.held files.old }
     ensures suits { Suits request.now result }
     ensures settled { IfSome (F.held files.old) (λ held. (IsMemory result → ⊥) →
-        Settles (experiment_verdict request.now held (print_of kind)) (F.faults files.old) (F.faults files.new) result) }
+        Settles (files_verdict request.now held (judging kind request.now)) (F.faults files.old) (F.faults files.new) result) }
     ensures untold { IsRead result → IfNone (F.held files.old) (Rose (F.faults files.old) (F.faults files.new)) }
     ensures no_fault { (IsRead result → ⊥) → F.faults files.new ≡ F.faults files.old }
 {
@@ -74,7 +68,7 @@ fn file_answer<'r>(
     requires fit { IsFit request.now }
     requires some_budget { 1 ≤ request.now.budget }
     ensures no_read { IsRead result → ⊥ }
-    ensures settled { (IsMemory result → ⊥) → answered result ≡ file_verdict request.now (print_of kind) file.now input.now }
+    ensures settled { (IsMemory result → ⊥) → answered result ≡ file_verdict (judging kind request.now) file.now input.now }
 {
     let program = read_program(alloc, file)?;
     index_answer(alloc, &program.image, &program.index, input, request, kind)
@@ -92,33 +86,51 @@ fn index_answer<'r>(
     requires fit { IsFit request.now }
     requires some_budget { 1 ≤ request.now.budget }
     ensures no_read { IsRead result → ⊥ }
-    ensures settled { (IsMemory result → ⊥) → answered result ≡
-        chosen_verdict (chosen index.now.lines request.now) (λ c.
-        print_of kind (experiment image.now (position_at index.now) (point_in index.now.entries c.points) input.now
-        (choice_of c.selected request.now.speedup request.now.budget))) }
+    ensures settled { (IsMemory result → ⊥) → answered result ≡ judging kind request.now index.now.lines (runs_in image.now index.now input.now) }
 {
-    let chosen = choose(alloc, index, request)?;
-    let choice = choice(chosen.selected, request.speedup, request.budget);
     match kind {
-        Kind::Delayed => run_answer(alloc, image, index, &chosen.points, input, choice),
-        Kind::Shortened => really_answer(alloc, image, index, &chosen.points, input, choice),
+        Kind::Delayed => delayed_answer(alloc, image, index, input, request),
+        Kind::Shortened => shortened_answer(alloc, image, index, input, request),
+        Kind::Profiled => profile_answer(alloc, image, index, input, request),
     }
 }
 
-/// What is chosen for a run, with the limits of the commands.
-fn choice(selected: Option<LineId>, speedup: u8, budget: u64) -> Choice
-    requires speedup { speedup ≤ 95 }
-    requires some_budget { 1 ≤ budget }
-    requires few { budget ≤ 10 ^ 12 }
-    ensures choice { result ≡ choice_of (option_map id_of selected) speedup budget }
-    ensures within { IsChoice result }
+/// What is written of the delayed run of a program with these lines, if it has those that are named.
+fn delayed_answer<'r>(
+    alloc: Global,
+    image: &Image,
+    index: &LineIndex,
+    input: &[u8],
+    request: &'r Request,
+) -> Answer<'r>
+    requires fit { IsFit request.now }
+    requires some_budget { 1 ≤ request.now.budget }
+    ensures no_read { IsRead result → ⊥ }
+    ensures settled { (IsMemory result → ⊥) → answered result ≡
+        asked_verdict request.now run_printed index.now.lines (runs_in image.now index.now input.now) }
 {
-    Choice {
-        selected,
-        speedup,
-        budget,
-        output_limit: OUTPUT_LIMIT,
-        visit_limit: VISIT_LIMIT,
-        layout: Layout::usual(),
-    }
+    let selected = line_named(index, bytes_of(&request.line))?;
+    let points = progress_points(alloc, index, bytes_of(&request.progress))?;
+    let choice = choice(selected, request.speedup, request.budget);
+    run_answer(alloc, image, index, &points, input, choice)
+}
+
+/// The same of its shortened run.
+fn shortened_answer<'r>(
+    alloc: Global,
+    image: &Image,
+    index: &LineIndex,
+    input: &[u8],
+    request: &'r Request,
+) -> Answer<'r>
+    requires fit { IsFit request.now }
+    requires some_budget { 1 ≤ request.now.budget }
+    ensures no_read { IsRead result → ⊥ }
+    ensures settled { (IsMemory result → ⊥) → answered result ≡
+        asked_verdict request.now really_printed index.now.lines (runs_in image.now index.now input.now) }
+{
+    let selected = line_named(index, bytes_of(&request.line))?;
+    let points = progress_points(alloc, index, bytes_of(&request.progress))?;
+    let choice = choice(selected, request.speedup, request.budget);
+    really_answer(alloc, image, index, &points, input, choice)
 }

@@ -1,10 +1,10 @@
 ghost use Rattle.std.specs.Prelude.{◌≡◌};
 ghost use Rattle.coz_cli.specs.declared.fault.Fault.TheVariants.{Memory};
-ghost use Rattle.coz_cli.specs.Causes.{assembling_fault, loading_fault, points_fault, reading_fault, selecting_fault};
+ghost use Rattle.coz_cli.specs.Causes.{assembling_fault, loading_fault, planning_fault, points_fault, reading_fault};
 
-use crate::selection::Unchosen;
 use dwarf_lines::{LineError, LineFault};
 use elf_load::{ElfFault, LoadError};
+use experiment_plan::PlanError;
 use progress_points::PointsError;
 use rv_asm::{AsmError, AsmFault};
 use std::alloc::AllocError;
@@ -21,6 +21,7 @@ pub enum Fault<'a> {
     NoLine(&'a [u8]),
     ManyPoints(u64),
     Long(&'a str),
+    ManyExperiments(u64),
     Memory,
     Source(AsmFault),
 }
@@ -55,17 +56,6 @@ impl<'a> From<LineError> for Fault<'a> {
     }
 }
 
-impl<'a> From<Unchosen<'a>> for Fault<'a> {
-    ghost from_gives = { λ error fault. fault ≡ selecting_fault error };
-
-    fn from(error: Unchosen<'a>) -> Fault<'a> {
-        match error {
-            Unchosen::NoLine(piece) => Fault::NoLine(piece),
-            Unchosen::Memory => Fault::Memory,
-        }
-    }
-}
-
 impl<'a> From<PointsError> for Fault<'a> {
     ghost from_gives = { λ error fault. fault ≡ points_fault error };
 
@@ -73,6 +63,17 @@ impl<'a> From<PointsError> for Fault<'a> {
         match error {
             PointsError::TooMany(count) => Fault::ManyPoints(count),
             PointsError::Memory => Fault::Memory,
+        }
+    }
+}
+
+impl<'a> From<PlanError> for Fault<'a> {
+    ghost from_gives = { λ error fault. fault ≡ planning_fault error };
+
+    fn from(error: PlanError) -> Fault<'a> {
+        match error {
+            PlanError::TooMany(count) => Fault::ManyExperiments(count),
+            PlanError::Memory => Fault::Memory,
         }
     }
 }

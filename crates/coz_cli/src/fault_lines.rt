@@ -1,7 +1,7 @@
 //! The lines of faults, and their statuses.
 ghost use Rattle.std.specs.Prelude.{◌≡◌, ◌++◌, codes, decimal};
 ghost use Rattle.coz_files.specs.Puts.{Puts, Continues};
-ghost use Rattle.coz_cli.specs.FaultLines.{elf_kind_name, line_kind_name, asm_kind_name, program_line, table_line, source_line, points_line};
+ghost use Rattle.coz_cli.specs.FaultLines.{elf_kind_name, line_kind_name, asm_kind_name, program_line, table_line, source_line, plan_line, points_line};
 ghost use Rattle.coz_cli.specs.Answer.{fault_status, fault_line};
 ghost use Rattle.coz_cli.specs.Serve.{IsPut};
 
@@ -25,6 +25,7 @@ fn status_of(fault: Fault) -> u8
         Fault::NoLine(_) => 7,
         Fault::ManyPoints(_) => 7,
         Fault::Long(_) => 8,
+        Fault::ManyExperiments(_) => 9,
         Fault::Memory => 10,
         Fault::Source(_) => 11,
     }
@@ -113,6 +114,16 @@ fn put_points<S: Sink>(sink: &mut S, count: u64) -> PutAnswer
     put_next(sink, answer, b"\n")
 }
 
+/// Puts the line of too many experiments.
+fn put_plan<S: Sink>(sink: &mut S, count: u64) -> PutAnswer
+    ensures { Puts S.holds S.faults sink.old sink.new result (plan_line count ++ codes "\n") }
+{
+    let answer = put_next(sink, PutAnswer::Done, b"coz: plan: ");
+    let answer = put_number(sink, answer, count);
+    let answer = put_next(sink, answer, b" experiments");
+    put_next(sink, answer, b"\n")
+}
+
 /// Puts a fault's line.
 fn put_line<S: Sink>(sink: &mut S, fault: Fault) -> PutAnswer
     ensures { Puts S.holds S.faults sink.old sink.new result (fault_line fault.entry ++ codes "\n") }
@@ -126,6 +137,7 @@ fn put_line<S: Sink>(sink: &mut S, fault: Fault) -> PutAnswer
         Fault::NoLine(piece) => { put_three(sink, b"coz: selection: no line ", piece, b"\n") }
         Fault::ManyPoints(count) => put_points(sink, count),
         Fault::Long(path) => put_three(sink, b"coz: long: ", path.as_bytes(), b"\n"),
+        Fault::ManyExperiments(count) => put_plan(sink, count),
         Fault::Memory => put_three(sink, b"coz: memory", b"", b"\n"),
         Fault::Source(fault) => put_source(sink, fault),
     }

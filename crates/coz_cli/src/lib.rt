@@ -9,6 +9,8 @@ mod kinds;
 mod line_table;
 mod lines;
 mod lines_text;
+mod plan_runs;
+mod profile;
 mod program;
 mod record;
 mod runs;

@@ -193,6 +193,12 @@ fn runs_are_printed(rt: HostRuntime) -> Result<(), Fail> {
             b"",
         ),
         plain_case(&["run", "one", "--budget", "2"], 1, SPENT, b""),
+        plain_case(
+            &["profile", "one"],
+            0,
+            b"coz-ticks\tversion=1\tbudget=100000000\tpoints=0\n",
+            b"",
+        ),
     ];
     all_come_out(&rt, &cases)
 }
@@ -314,6 +320,10 @@ fn writes_that_fail_are_told(rt: HostRuntime) -> Result<(), Fail> {
             ..plain_case(&["run", "one"], 6, b"end exited", b"coz: write\n")
         },
         Case {
+            room: 10,
+            ..plain_case(&["profile", "one"], 6, b"coz-ticks\t", b"coz: write\n")
+        },
+        Case {
             put_fails: &[0],
             ..plain_case(&["asm", "one.s"], 6, b"", b"coz: write\n")
         },
@@ -364,7 +374,7 @@ fn call<R: Threads + Sync + AllocGlobal>(
         texts.push(String::from_str(alloc, word)?)?;
     }
     let mut files = files;
-    let mut out = MemorySink::new(alloc, 20000, Vec::new(alloc))?;
+    let mut out = MemorySink::new(alloc, 40000, Vec::new(alloc))?;
     let mut err = MemorySink::new(alloc, 1000, Vec::new(alloc))?;
     let status = serve(rt, alloc, &texts, &mut files, &mut out, &mut err, &FreeGate);
     Ok(Served {
@@ -496,8 +506,17 @@ const WAITED: &[u8] =
 const DONE: &[u8] =
     b"end exited:0\ntime 488700\ndelay 0\nnet 488700\nretired 1568\nstarts 0\nhart 0 own 0 paused 0 credited 0\nhart 1 own 0 paused 0 credited 0\noutput 5\ndone\n\n";
 
+const PROFILED: &[u8] =
+    b"coz-ticks\tversion=1\tbudget=100000000\tpoints=0\nexperiment\tselected=d/one.s:1\tspeedup=0\tend=exited:0\ttime=4200\tdelay=0\tretired=3\tstarts=1\noutput\tlength=0\tsha256=e3b0c44298fc1c149afbf4c8996fb92427ae41e4649b934ca495991b7852b855\nvisits\tsha256=e3b0c44298fc1c149afbf4c8996fb92427ae41e4649b934ca495991b7852b855\nexperiment\tselected=d/one.s:1\tspeedup=50\tend=exited:0\ttime=4200\tdelay=50\tretired=3\tstarts=1\noutput\tlength=0\tsha256=e3b0c44298fc1c149afbf4c8996fb92427ae41e4649b934ca495991b7852b855\nvisits\tsha256=e3b0c44298fc1c149afbf4c8996fb92427ae41e4649b934ca495991b7852b855\n";
+
+const PLANNED: &[u8] =
+    b"coz-ticks\tversion=1\tbudget=100000000\tpoints=2\npoint\tindex=0\tname=d/one.s:1\npoint\tindex=1\tname=d/one.s:3\nexperiment\tselected=d/one.s:3\tspeedup=0\tend=exited:0\ttime=4200\tdelay=0\tretired=3\tstarts=1\noutput\tlength=0\tsha256=e3b0c44298fc1c149afbf4c8996fb92427ae41e4649b934ca495991b7852b855\nthroughput-point\tindex=0\tdelta=1\nthroughput-point\tindex=1\tdelta=1\nvisits\tsha256=311c28758470181a2359726d62577fd5ad256010eea90c084fc1048b7363fb50\nexperiment\tselected=d/one.s:3\tspeedup=50\tend=exited:0\ttime=4200\tdelay=2000\tretired=3\tstarts=1\noutput\tlength=0\tsha256=e3b0c44298fc1c149afbf4c8996fb92427ae41e4649b934ca495991b7852b855\nthroughput-point\tindex=0\tdelta=1\nthroughput-point\tindex=1\tdelta=1\nvisits\tsha256=face0d2a0780a5e63e2c1e057ef7ce7994e2fafc978e6b8af2e0f341238eca6f\n";
+
+const SPENT_RUNS: &[u8] =
+    b"coz-ticks\tversion=1\tbudget=2\tpoints=0\nexperiment\tselected=d/one.s:1\tspeedup=0\tend=spent\ttime=200\tdelay=0\tretired=2\tstarts=1\noutput\tlength=0\tsha256=e3b0c44298fc1c149afbf4c8996fb92427ae41e4649b934ca495991b7852b855\nvisits\tsha256=e3b0c44298fc1c149afbf4c8996fb92427ae41e4649b934ca495991b7852b855\nexperiment\tselected=d/one.s:1\tspeedup=50\tend=spent\ttime=200\tdelay=50\tretired=2\tstarts=1\noutput\tlength=0\tsha256=e3b0c44298fc1c149afbf4c8996fb92427ae41e4649b934ca495991b7852b855\nvisits\tsha256=e3b0c44298fc1c149afbf4c8996fb92427ae41e4649b934ca495991b7852b855\n";
+
 /// Words about these programs, and what they come to: the status, the output and the line of the fault.
-const NAMED: [(&[&str], u8, &[u8], &[u8]); 18] = [
+const NAMED: [(&[&str], u8, &[u8], &[u8]); 23] = [
     (&["lines", "d/one"], 0, ONE_LINES, b""),
     (
         &["run", "d/one", "--line", "one.s:3", "--speedup", "95"],
@@ -606,6 +625,53 @@ const NAMED: [(&[&str], u8, &[u8], &[u8]); 18] = [
     ),
     (&["run", "wait", "--line", "wait.s:17"], 0, WAITED, b""),
     (&["run", "pc"], 0, DONE, b""),
+    (
+        &["profile", "d/one", "--lines", "one.s:1", "--speedups", "50"],
+        0,
+        PROFILED,
+        b"",
+    ),
+    (
+        &[
+            "profile",
+            "--speedups=50,0,50",
+            "--lines=one.s:3,d/one.s:3",
+            "d/one",
+            "--progress=one.s:3,one.s:1",
+        ],
+        0,
+        PLANNED,
+        b"",
+    ),
+    (
+        &[
+            "profile",
+            "d/one",
+            "--lines=one.s:1",
+            "--speedups=50",
+            "--budget=2",
+        ],
+        1,
+        SPENT_RUNS,
+        b"",
+    ),
+    (
+        &["profile", "d/one", "--lines", "one.s:1,one.s:9,one.s:8"],
+        7,
+        b"",
+        b"coz: selection: no line one.s:9\n",
+    ),
+    (
+        &[
+            "profile",
+            "d/one",
+            "--lines=one.s:9",
+            "--progress=one.s:8",
+        ],
+        7,
+        b"",
+        b"coz: selection: no line one.s:9\n",
+    ),
 ];
 
 /// The programs of these sources, each at its path without the ending.
@@ -660,18 +726,36 @@ fn long_source(alloc: Global, count: u32) -> Result<(Vec<u8>, String), AllocErro
     Ok((source, list))
 }
 
+/// Of programs of so many lines: the words behind the program, the status, and the line of the fault.
+const MANY: [(u32, &[&str], u8, &[u8]); 4] = [
+    (64, &["really", "p", "--progress"], 1, b""),
+    (
+        65,
+        &["really", "p", "--progress"],
+        7,
+        b"coz: selection: 65 points\n",
+    ),
+    (5001, &["profile", "p"], 9, b"coz: plan: 100020 experiments\n"),
+    (
+        5001,
+        &["profile", "p", "--progress"],
+        7,
+        b"coz: selection: 5001 points\n",
+    ),
+];
+
 #[test]
-fn there_are_64_points_at_most(rt: HostRuntime) -> Result<(), Fail> {
+fn there_are_limits_of_points_and_plans(rt: HostRuntime) -> Result<(), Fail> {
     let alloc = rt.alloc();
-    for (count, status, err) in [
-        (64u32, 1u8, b"".as_slice()),
-        (65, 7, b"coz: selection: 65 points\n".as_slice()),
-    ] {
-        let (source, list) = long_source(alloc, count)?;
+    for (count, begin, status, err) in &MANY {
+        let (source, list) = long_source(alloc, *count)?;
         let made = call(&rt, &["asm", "p.s"], one_file(alloc, "p.s", &source)?)?;
-        let words = ["really", "p", "--progress", list.as_str()];
+        let mut words = begin.to_vec(alloc)?;
+        if begin.len() == 3 {
+            words.push(list.as_str())?;
+        }
         let served = call(&rt, &words, one_file(alloc, "p", &made.out)?)?;
-        assert_eq!(rt; (served.status, served.err.as_slice()), (status, err));
+        assert_eq!(rt; (served.status, served.err.as_slice()), (*status, *err));
     }
     Ok(())
 }
