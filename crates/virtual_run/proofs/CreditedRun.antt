@@ -11,7 +11,7 @@ use Rattle.coz_types.specs.declared.record.Outcome.{Outcome}
 use Rattle.coz_types.specs.declared.record.Visit.{Visit as GivenVisit}
 use Rattle.coz_types.specs.Image.{ImageParts}
 use Rattle.cost_table.specs.Costs.{cycles_of}
-use Rattle.hart_schedule.specs.Keys.{key_of, without_key, IsLeast}
+use Rattle.hart_schedule.specs.Keys.{key_of, without_key}
 use Rattle.line_index.specs.Index.{position_at}
 use Rattle.progress_points.specs.Points.{point_of}
 use Rattle.machines.specs.declared.Fate.{Fate}
@@ -33,16 +33,17 @@ use Rattle.machines.proofs.Standing.{agrees, in_time, end_in_time, steps_is, las
 use Rattle.delay_credits.specs.Delays.{Delays, account_as, hart_at, pause_of, at, with_start, with_stop, none_raised}
 use Rattle.delay_credits.specs.Ticks.{without_work, ticked}
 use Rattle.guest_calls.specs.Calls.{retirement}
-use Rattle.guest_calls.specs.Guest.{Guest, IsMade, pc_of, is_running as runs_in}
+use Rattle.guest_calls.specs.Guest.{Guest, IsMade, pc_of, first_guest, is_running as runs_in}
 use Rattle.guest_calls.specs.Orderly.{IsOrderly}
 use Rattle.guest_calls.specs.Retire.{next_of, retire}
 use Rattle.guest_calls.proofs.Law.{running_low, others_idle, own_trap}
 use Rattle.virtual_run.specs.declared.choice.Setting.{Setting}
 use Rattle.virtual_run.specs.declared.run.Run.{Run}
 use Rattle.virtual_run.specs.Begin.{started_by, many, AreIdle}
-use Rattle.virtual_run.specs.Ending.{ending_of, runs_after}
+use Rattle.virtual_run.specs.Ending.{ending_of}
 use Rattle.virtual_run.specs.Visits.{Visits, visits_of}
-use Rattle.virtual_run.specs.Run.{selected_of, state_of, AreWithin, IsChoice, IsReached, IsStateOf, IsSteady, IsFirst}
+use Rattle.virtual_run.specs.Run.{IsChoice, IsReached, IsSteady, IsFirst}
+use Rattle.virtual_run.specs.Advance.{IsAdvance}
 use Rattle.virtual_run.specs.Credited.{raise_ticks, with_credits, with_starts, with_raises, with_begun, settled_by, Runs, AllRun, AllBelow, Holds, CanBegin}
 use Rattle.virtual_run.specs.Seen.{Seen, experiment_with, experiment_of}
 use Rattle.virtual_run.specs.DelayedRun.{visit_as, net_due_of, account_in, outcome_of, IsOfAHart, IsSmall, AgreesThroughout, EndsOnce, IsPaced}
@@ -78,26 +79,6 @@ counted_with image input setting = record {
 visit_kept : (o : Option ℕ) (h time delay : ℕ) → map visit_as (visits_of o h time delay) ≡ option_to_list (option_map (λ p. record { point = p; hart = h; time = time; delay = delay }) o)
 visit_kept None h time delay = refl
 visit_kept (Some p) h time delay = refl
-
--- what a move of the engine promises
-pub record IsAdvance (setting : Setting) (run new : Run) (h : ℕ) (fate : Fate) (delay : ℕ) (x : Experiment Guest) (dues : List (Option ℕ)) : Type 0 where
-  pub goes : run.ending ≡ None
-  pub moved : IsStateOf new (move x (state_of run dues))
-  pub turn : key_of run.schedule h ≡ Some new.time
-  pub first : IsLeast run.schedule h
-  pub retires : retirement new.guest fate new.started ≡ retire run.guest h new.time
-  pub visits : new.visits ≡ record run.visits { kept = run.visits.kept ++ visits_of (point_of setting.points.now (pc_of run.guest h)) h (new.time + delay) delay }
-  pub ending : new.ending ≡ ending_of fate
-      (nat_le setting.choice.output_limit (length new.guest.output))
-      (nat_le setting.choice.visit_limit (length new.visits.kept))
-      (runs_after fate new.started (without_key h run.schedule))
-      new.retired setting.choice.budget
-  pub unfull : new.ending ≡ None → length new.visits.kept < setting.choice.visit_limit
-  pub selected : new.ending ≡ None → new.selected ≡ selected_of setting new.guest (started_by h fate new.started)
-  pub room : length new.schedule ≡ 256
-  pub retired : new.retired ≡ run.retired + 1
-  pub few : new.starts ≤ new.retired + many new.schedule
-  pub within : (moment : ℕ) → AreWithin moment run.schedule → AreWithin (moment + 4000) new.schedule
 
 -- an ending is of a hart if it is where it is a trap
 of_a_hart : (e : Ending) → ((trap : Trap) → e ≡ Trapped trap → trap.hart.0 < 256) → IsOfAHart e
@@ -189,7 +170,7 @@ module _ (image : ImageParts) (input : List ℕ) (setting : Setting) (run : Run)
   pub is_steady : run.ending ≡ None → IsSteady run
   is_steady none = steady image (position_at setting.index.now) (point_of setting.points.now) input setting.choice p.valid run p.reached none
 
-  module _ (new : Run) (h : ℕ) (fate : Fate) (delay : ℕ) (given : delay ≡ credits.raised) (a : IsAdvance setting run new h fate delay x s.dues) where
+  module _ (new : Run) (h : ℕ) (fate : Fate) (delay : ℕ) (given : delay ≡ credits.raised) (goes : run.ending ≡ None) (a : IsAdvance setting run h fate delay new) where
     abbrev t : Turn
     t = record { hart = h; due = new.time }
 
@@ -198,7 +179,7 @@ module _ (image : ImageParts) (input : List ℕ) (setting : Setting) (run : Run)
 
     next : IsNext x IsOrderly law never run.retired t later_now credits
     next = record {
-      goes = ending_now ∙ a.goes;
+      goes = ending_now ∙ goes;
       turn = next_is run.schedule s.dues h new.time p.reached.reached.dues a.turn a.first;
       moment = ap (λ (m : ℕ). new.time + m) given;
       holds = p.holds;
@@ -232,7 +213,7 @@ module _ (image : ImageParts) (input : List ℕ) (setting : Setting) (run : Run)
         change_length h stop (at later_now credits).harts (subst (λ (n : ℕ). h < n) (sym same) hart_below) ∙ same ∙ p.room
 
     turned : IsTurn run.guest run.schedule h new.time
-    turned = let st : IsSteady run = is_steady a.goes in record { orderly = st.orderly; running = st.running; room = st.room; turn = a.turn }
+    turned = let st : IsSteady run = is_steady goes in record { orderly = st.orderly; running = st.running; room = st.room; turn = a.turn }
 
     begin_idle : new.ending ≡ None → AreIdle new.guest (without_key h run.schedule) (started_by h fate new.started)
     begin_idle none =
@@ -248,7 +229,7 @@ module _ (image : ImageParts) (input : List ℕ) (setting : Setting) (run : Run)
         ∙ others_idle run.guest h new.time turned.orderly hart_ran k (ap (λ (r : Retirement Guest). is_among k r.others) (sym a.retires) ∙ among)
 
     pub reached_new : IsReached x new
-    reached_new = reached_next image (position_at setting.index.now) (point_of setting.points.now) input setting.choice p.valid run p.reached new a.goes a.moved a.room (ap (λ (v : Visits). v.limit) a.visits) a.unfull a.retired a.few a.within
+    reached_new = reached_next image (position_at setting.index.now) (point_of setting.points.now) input setting.choice p.valid run p.reached new goes (a.moved (first_guest image input setting.choice.output_limit setting.choice.layout) s.dues p.reached.reached.dues) a.room (ap (λ (v : Visits). v.limit) a.visits) a.unfull a.retired a.few a.within
 
     next_count : new.retired ≡ suc run.retired
     next_count = a.retired ∙ add-one run.retired
@@ -368,7 +349,7 @@ module _ (image : ImageParts) (input : List ℕ) (setting : Setting) (run : Run)
     -- the moves up to the retirement
     pub steps_next : Steps x d (standing x new.retired)
     steps_next =
-        let by = steps_is x IsOrderly law run.retired t (ending_now ∙ a.goes) next.turn in
+        let by = steps_is x IsOrderly law run.retired t (ending_now ∙ goes) next.turn in
         subst (λ (n : ℕ). Steps x d (standing x n)) (sym next_count) (by.retires (never.awake d.guest h)).1
 
 -- when a hart retires, of its load

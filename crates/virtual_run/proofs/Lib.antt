@@ -13,3 +13,4 @@ pub mod CreditedPlaces
 pub mod Made
 pub mod CreditedBegin
 pub mod CreditedRun
+pub mod Advance

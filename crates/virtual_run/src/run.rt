@@ -1,12 +1,9 @@
-ghost use Rattle.std.specs.Prelude.{◌≡◌, ℕ, ◌+◌, ◌^◌, ◌≤◌, ◌<◌, ◌++◌, [], List, Option, Some, None, length, nat_le, IsSome, IfOk, All, if◌then◌else◌};
+ghost use Rattle.std.specs.Prelude.{◌≡◌, ◌+◌, ◌^◌, ◌≤◌, ◌<◌, ◌++◌, [], Some, length, nat_le, IfOk, All, if◌then◌else◌};
 ghost use Rattle.hart_schedule.specs.Keys.{key_of, without_key, IsEmpty, IsLeast};
 ghost use Rattle.machines.specs.Delayed.{is_any};
 ghost use Rattle.machines.specs.Guest.{goes_on};
-ghost use Rattle.machines.specs.Shortened.{move, runs_any};
+ghost use Rattle.machines.specs.Shortened.{runs_any};
 ghost use Rattle.progress_points.specs.Points.{point_of};
-ghost use Rattle.guest_calls.specs.Guest.{pc_of};
-ghost use Rattle.guest_calls.specs.Calls.{retirement};
-ghost use Rattle.guest_calls.specs.Retire.{retire};
 ghost use Rattle.virtual_run.specs.Begin.{started_by, many, AreIdle, AreBegun};
 ghost use Rattle.virtual_run.specs.Ending.{ending_of, runs_after};
 ghost use Rattle.virtual_run.specs.Visits.{visits_of};
@@ -145,8 +142,8 @@ fn ending_after(
 }
 
 impl<'a> Run<'a> {
-    ghost use Rattle.guest_calls.specs.Guest.{Guest};
-    ghost use Rattle.virtual_run.specs.Run.{experiment_in, selected_of, ticks_in, state_of, AreDues, AreWithin, IsChoice, IsStateOf, IsSteady, IsFirst};
+    ghost use Rattle.virtual_run.specs.Run.{selected_of, ticks_in, IsChoice, IsSteady, IsFirst};
+    ghost use Rattle.virtual_run.specs.Advance.{IsAdvance};
 
     /// A run that is about to begin.
     pub fn new(
@@ -184,25 +181,7 @@ impl<'a> Run<'a> {
         requires steady { IsSteady self.old }
         requires speedup { setting.now.choice.speedup ≤ 95 }
         requires delay { delay ≤ 10 ^ 17 }
-        ensures moved { (first : Guest) (dues : List (Option ℕ)) → AreDues self.old.schedule dues → IsStateOf self.new (move (experiment_in setting.now first) (state_of self.old dues)) }
-        ensures turn { key_of self.old.schedule result.hart.0 ≡ Some self.new.time }
-        ensures first { IsLeast self.old.schedule result.hart.0 }
-        ensures retires { retirement self.new.guest result.fate self.new.started ≡ retire self.old.guest result.hart.0 self.new.time }
-        ensures visits { self.new.visits ≡ record self.old.visits {
-          kept = self.old.visits.kept ++ visits_of (point_of setting.now.points.now (pc_of self.old.guest result.hart.0)) result.hart.0 (self.new.time + delay) delay;
-        } }
-        ensures ending { self.new.ending ≡ ending_of result.fate
-            (nat_le setting.now.choice.output_limit (length self.new.guest.output))
-            (nat_le setting.now.choice.visit_limit (length self.new.visits.kept))
-            (runs_after result.fate self.new.started (without_key result.hart.0 self.old.schedule))
-            self.new.retired setting.now.choice.budget }
-        ensures unfull { self.new.ending ≡ None → length self.new.visits.kept < setting.now.choice.visit_limit }
-        ensures selected { self.new.ending ≡ None → self.new.selected ≡ selected_of setting.now self.new.guest (started_by result.hart.0 result.fate self.new.started) }
-        ensures none_selected { IsSome self.new.ending → self.new.selected ≡ [] }
-        ensures room { length self.new.schedule ≡ 256 }
-        ensures retired { self.new.retired ≡ self.old.retired + 1 }
-        ensures few { self.new.starts ≤ self.new.retired + many self.new.schedule }
-        ensures within { (moment : ℕ) → AreWithin moment self.old.schedule → AreWithin (moment + 4000) self.new.schedule }
+        ensures { IsAdvance setting.now self.old result.hart.0 result.fate delay self.new }
     {
         let turn = first_turn(&self.schedule);
         let address = self.guest.pc(turn.hart);

@@ -1,12 +1,10 @@
-use Rattle.std.proofs.Common.{◌≡◌, ℕ, ◌+◌, ◌^◌, ◌≤◌, List, Option, None, ap, sym, ◌∙◌, arith}
-use Rattle.machines.specs.Guest.{Experiment}
-use Rattle.machines.specs.Shortened.{shortened}
+use Rattle.std.proofs.Common.{◌≡◌, ℕ, ◌+◌, ◌^◌, ◌≤◌, None, ap, sym, ◌∙◌, arith}
 use Rattle.machines.specs.Standing.{standing}
-use Rattle.guest_calls.specs.Guest.{Guest, first_guest}
+use Rattle.guest_calls.specs.Guest.{Guest}
 use Rattle.machines.specs.Delayed.{Delayed}
 use Rattle.virtual_run.specs.Seen.{Seen, experiment_with}
 use Rattle.virtual_run.specs.DelayedRun.{IsPaced}
-use Rattle.virtual_run.proofs.CreditedRun.{IsAdvance, none_of, not_over, not_ended, agrees_seen, agrees_after, next_seen, steps_seen, ending_now, retired_now, is_steady, raised_few, time_few, hart_below, is_later, hart_runs, hart_unpaused, can_begin, paced_next, steps_next}
+use Rattle.virtual_run.proofs.CreditedRun.{none_of, not_over, not_ended, agrees_seen, agrees_after, next_seen, steps_seen, ending_now, retired_now, is_steady, raised_few, time_few, hart_below, is_later, hart_runs, hart_unpaused, can_begin, paced_next, steps_next}
 use Rattle.virtual_run.proofs.machine.Machine.step.Goals as goal
 
 pub returns-then-is_some-clause-ended : goal.returns-then-is_some-clause-ended
@@ -47,27 +45,9 @@ overflow_add-self c =
     let h : ℕ = c.advance-retired.result.hart.0 in
     let fate = c.advance-retired.result.fate in
     let delay : ℕ = c.raised-raised.result in
-    let e = c.advance-retired.ensures in
-    let x : Experiment Guest = experiment_with m.image.now m.input.now m.setting in
-    let dues : List (Option ℕ) = (shortened x m.run.retired).dues in
     let none : m.run.ending ≡ None = none_of m.run.ending (sym c.is_some.ensures ∙ c.if-is_some.false) in
-    let a : IsAdvance m.setting m.run new h fate delay x dues = record {
-      goes = none;
-      moved = e.moved (first_guest m.image.now m.input.now m.setting.choice.output_limit m.setting.choice.layout) dues c.self.invariant.reached.reached.dues;
-      turn = e.turn;
-      first = e.first;
-      retires = e.retires;
-      visits = e.visits;
-      ending = e.ending;
-      unfull = e.unfull;
-      selected = e.selected;
-      room = e.room;
-      retired = e.retired;
-      few = e.few;
-      within = e.within;
-    } in
     let few : m.credits.raised ≤ 10 ^ 16 = raised_few m.image.now m.input.now m.setting m.run m.credits m.moment c.self.invariant in
-    let time : new.time ≤ 10 ^ 16 = time_few m.image.now m.input.now m.setting m.run m.credits m.moment c.self.invariant new h fate delay c.raised-raised.ensures a in
+    let time : new.time ≤ 10 ^ 16 = time_few m.image.now m.input.now m.setting m.run m.credits m.moment c.self.invariant new h fate delay c.raised-raised.ensures none c.advance-retired.ensures in
     omega (arith, c.raised-raised.ensures)
 
 pub settle-requires-clause-below : goal.settle-requires-clause-below
@@ -77,26 +57,8 @@ settle-requires-clause-below c =
     let h : ℕ = c.advance-retired.result.hart.0 in
     let fate = c.advance-retired.result.fate in
     let delay : ℕ = c.raised-raised.result in
-    let e = c.advance-retired.ensures in
-    let x : Experiment Guest = experiment_with m.image.now m.input.now m.setting in
-    let dues : List (Option ℕ) = (shortened x m.run.retired).dues in
     let none : m.run.ending ≡ None = none_of m.run.ending (sym c.is_some.ensures ∙ c.if-is_some.false) in
-    let a : IsAdvance m.setting m.run new h fate delay x dues = record {
-      goes = none;
-      moved = e.moved (first_guest m.image.now m.input.now m.setting.choice.output_limit m.setting.choice.layout) dues c.self.invariant.reached.reached.dues;
-      turn = e.turn;
-      first = e.first;
-      retires = e.retires;
-      visits = e.visits;
-      ending = e.ending;
-      unfull = e.unfull;
-      selected = e.selected;
-      room = e.room;
-      retired = e.retired;
-      few = e.few;
-      within = e.within;
-    } in
-    hart_below m.image.now m.input.now m.setting m.run m.credits m.moment c.self.invariant new h fate delay c.raised-raised.ensures a
+    hart_below m.image.now m.input.now m.setting m.run m.credits m.moment c.self.invariant new h fate delay c.raised-raised.ensures none c.advance-retired.ensures
 
 pub settle-requires-clause-later : goal.settle-requires-clause-later
 settle-requires-clause-later c =
@@ -105,26 +67,8 @@ settle-requires-clause-later c =
     let h : ℕ = c.advance-retired.result.hart.0 in
     let fate = c.advance-retired.result.fate in
     let delay : ℕ = c.raised-raised.result in
-    let e = c.advance-retired.ensures in
-    let x : Experiment Guest = experiment_with m.image.now m.input.now m.setting in
-    let dues : List (Option ℕ) = (shortened x m.run.retired).dues in
     let none : m.run.ending ≡ None = none_of m.run.ending (sym c.is_some.ensures ∙ c.if-is_some.false) in
-    let a : IsAdvance m.setting m.run new h fate delay x dues = record {
-      goes = none;
-      moved = e.moved (first_guest m.image.now m.input.now m.setting.choice.output_limit m.setting.choice.layout) dues c.self.invariant.reached.reached.dues;
-      turn = e.turn;
-      first = e.first;
-      retires = e.retires;
-      visits = e.visits;
-      ending = e.ending;
-      unfull = e.unfull;
-      selected = e.selected;
-      room = e.room;
-      retired = e.retired;
-      few = e.few;
-      within = e.within;
-    } in
-    is_later m.image.now m.input.now m.setting m.run m.credits m.moment c.self.invariant new h fate delay c.raised-raised.ensures a
+    is_later m.image.now m.input.now m.setting m.run m.credits m.moment c.self.invariant new h fate delay c.raised-raised.ensures none c.advance-retired.ensures
 
 pub settle-requires-clause-running : goal.settle-requires-clause-running
 settle-requires-clause-running c =
@@ -133,26 +77,8 @@ settle-requires-clause-running c =
     let h : ℕ = c.advance-retired.result.hart.0 in
     let fate = c.advance-retired.result.fate in
     let delay : ℕ = c.raised-raised.result in
-    let e = c.advance-retired.ensures in
-    let x : Experiment Guest = experiment_with m.image.now m.input.now m.setting in
-    let dues : List (Option ℕ) = (shortened x m.run.retired).dues in
     let none : m.run.ending ≡ None = none_of m.run.ending (sym c.is_some.ensures ∙ c.if-is_some.false) in
-    let a : IsAdvance m.setting m.run new h fate delay x dues = record {
-      goes = none;
-      moved = e.moved (first_guest m.image.now m.input.now m.setting.choice.output_limit m.setting.choice.layout) dues c.self.invariant.reached.reached.dues;
-      turn = e.turn;
-      first = e.first;
-      retires = e.retires;
-      visits = e.visits;
-      ending = e.ending;
-      unfull = e.unfull;
-      selected = e.selected;
-      room = e.room;
-      retired = e.retired;
-      few = e.few;
-      within = e.within;
-    } in
-    hart_runs m.image.now m.input.now m.setting m.run m.credits m.moment c.self.invariant new h fate delay c.raised-raised.ensures a
+    hart_runs m.image.now m.input.now m.setting m.run m.credits m.moment c.self.invariant new h fate delay c.raised-raised.ensures none c.advance-retired.ensures
 
 pub settle-requires-clause-unpaused : goal.settle-requires-clause-unpaused
 settle-requires-clause-unpaused c =
@@ -161,26 +87,8 @@ settle-requires-clause-unpaused c =
     let h : ℕ = c.advance-retired.result.hart.0 in
     let fate = c.advance-retired.result.fate in
     let delay : ℕ = c.raised-raised.result in
-    let e = c.advance-retired.ensures in
-    let x : Experiment Guest = experiment_with m.image.now m.input.now m.setting in
-    let dues : List (Option ℕ) = (shortened x m.run.retired).dues in
     let none : m.run.ending ≡ None = none_of m.run.ending (sym c.is_some.ensures ∙ c.if-is_some.false) in
-    let a : IsAdvance m.setting m.run new h fate delay x dues = record {
-      goes = none;
-      moved = e.moved (first_guest m.image.now m.input.now m.setting.choice.output_limit m.setting.choice.layout) dues c.self.invariant.reached.reached.dues;
-      turn = e.turn;
-      first = e.first;
-      retires = e.retires;
-      visits = e.visits;
-      ending = e.ending;
-      unfull = e.unfull;
-      selected = e.selected;
-      room = e.room;
-      retired = e.retired;
-      few = e.few;
-      within = e.within;
-    } in
-    hart_unpaused m.image.now m.input.now m.setting m.run m.credits m.moment c.self.invariant new h fate delay c.raised-raised.ensures a
+    hart_unpaused m.image.now m.input.now m.setting m.run m.credits m.moment c.self.invariant new h fate delay c.raised-raised.ensures none c.advance-retired.ensures
 
 pub settle-requires-clause-can : goal.settle-requires-clause-can
 settle-requires-clause-can c =
@@ -189,26 +97,8 @@ settle-requires-clause-can c =
     let h : ℕ = c.advance-retired.result.hart.0 in
     let fate = c.advance-retired.result.fate in
     let delay : ℕ = c.raised-raised.result in
-    let e = c.advance-retired.ensures in
-    let x : Experiment Guest = experiment_with m.image.now m.input.now m.setting in
-    let dues : List (Option ℕ) = (shortened x m.run.retired).dues in
     let none : m.run.ending ≡ None = none_of m.run.ending (sym c.is_some.ensures ∙ c.if-is_some.false) in
-    let a : IsAdvance m.setting m.run new h fate delay x dues = record {
-      goes = none;
-      moved = e.moved (first_guest m.image.now m.input.now m.setting.choice.output_limit m.setting.choice.layout) dues c.self.invariant.reached.reached.dues;
-      turn = e.turn;
-      first = e.first;
-      retires = e.retires;
-      visits = e.visits;
-      ending = e.ending;
-      unfull = e.unfull;
-      selected = e.selected;
-      room = e.room;
-      retired = e.retired;
-      few = e.few;
-      within = e.within;
-    } in
-    can_begin m.image.now m.input.now m.setting m.run m.credits m.moment c.self.invariant new h fate delay c.raised-raised.ensures a
+    can_begin m.image.now m.input.now m.setting m.run m.credits m.moment c.self.invariant new h fate delay c.raised-raised.ensures none c.advance-retired.ensures
 
 pub invariant_of-self : goal.invariant_of-self
 invariant_of-self c =
@@ -217,26 +107,8 @@ invariant_of-self c =
     let h : ℕ = c.advance-retired.result.hart.0 in
     let fate = c.advance-retired.result.fate in
     let delay : ℕ = c.raised-raised.result in
-    let e = c.advance-retired.ensures in
-    let x : Experiment Guest = experiment_with m.image.now m.input.now m.setting in
-    let dues : List (Option ℕ) = (shortened x m.run.retired).dues in
     let none : m.run.ending ≡ None = none_of m.run.ending (sym c.is_some.ensures ∙ c.if-is_some.false) in
-    let a : IsAdvance m.setting m.run new h fate delay x dues = record {
-      goes = none;
-      moved = e.moved (first_guest m.image.now m.input.now m.setting.choice.output_limit m.setting.choice.layout) dues c.self.invariant.reached.reached.dues;
-      turn = e.turn;
-      first = e.first;
-      retires = e.retires;
-      visits = e.visits;
-      ending = e.ending;
-      unfull = e.unfull;
-      selected = e.selected;
-      room = e.room;
-      retired = e.retired;
-      few = e.few;
-      within = e.within;
-    } in
-    paced_next m.image.now m.input.now m.setting m.run m.credits m.moment c.self.invariant new h fate delay c.raised-raised.ensures a c.settle.new.credits c.settle.ensures
+    paced_next m.image.now m.input.now m.setting m.run m.credits m.moment c.self.invariant new h fate delay c.raised-raised.ensures none c.advance-retired.ensures c.settle.new.credits c.settle.ensures
 
 pub returns-clause-ended : goal.returns-clause-ended
 returns-clause-ended c =
@@ -245,55 +117,15 @@ returns-clause-ended c =
     let h : ℕ = c.advance-retired.result.hart.0 in
     let fate = c.advance-retired.result.fate in
     let delay : ℕ = c.raised-raised.result in
-    let e = c.advance-retired.ensures in
-    let x : Experiment Guest = experiment_with m.image.now m.input.now m.setting in
-    let dues : List (Option ℕ) = (shortened x m.run.retired).dues in
     let none : m.run.ending ≡ None = none_of m.run.ending (sym c.is_some.ensures ∙ c.if-is_some.false) in
-    let a : IsAdvance m.setting m.run new h fate delay x dues = record {
-      goes = none;
-      moved = e.moved (first_guest m.image.now m.input.now m.setting.choice.output_limit m.setting.choice.layout) dues c.self.invariant.reached.reached.dues;
-      turn = e.turn;
-      first = e.first;
-      retires = e.retires;
-      visits = e.visits;
-      ending = e.ending;
-      unfull = e.unfull;
-      selected = e.selected;
-      room = e.room;
-      retired = e.retired;
-      few = e.few;
-      within = e.within;
-    } in
-    let after : IsPaced m.image.now m.input.now m.setting new c.settle.new.credits (new.time + delay) = paced_next m.image.now m.input.now m.setting m.run m.credits m.moment c.self.invariant new h fate delay c.raised-raised.ensures a c.settle.new.credits c.settle.ensures in
+    let after : IsPaced m.image.now m.input.now m.setting new c.settle.new.credits (new.time + delay) = paced_next m.image.now m.input.now m.setting m.run m.credits m.moment c.self.invariant new h fate delay c.raised-raised.ensures none c.advance-retired.ensures c.settle.new.credits c.settle.ensures in
     sym (ending_now m.image.now m.input.now m.setting new c.settle.new.credits (new.time + delay) after)
 
 pub returns-clause-next : goal.returns-clause-next
 returns-clause-next c goes =
     let m = c.self.inside in
     let new = c.advance-retired.new.self in
-    let h : ℕ = c.advance-retired.result.hart.0 in
-    let fate = c.advance-retired.result.fate in
-    let delay : ℕ = c.raised-raised.result in
-    let e = c.advance-retired.ensures in
-    let x : Experiment Guest = experiment_with m.image.now m.input.now m.setting in
-    let dues : List (Option ℕ) = (shortened x m.run.retired).dues in
-    let none : m.run.ending ≡ None = none_of m.run.ending (sym c.is_some.ensures ∙ c.if-is_some.false) in
-    let a : IsAdvance m.setting m.run new h fate delay x dues = record {
-      goes = none;
-      moved = e.moved (first_guest m.image.now m.input.now m.setting.choice.output_limit m.setting.choice.layout) dues c.self.invariant.reached.reached.dues;
-      turn = e.turn;
-      first = e.first;
-      retires = e.retires;
-      visits = e.visits;
-      ending = e.ending;
-      unfull = e.unfull;
-      selected = e.selected;
-      room = e.room;
-      retired = e.retired;
-      few = e.few;
-      within = e.within;
-    } in
-    next_seen m.image.now m.input.now m.setting m.run m.credits m.moment c.self.invariant c.args.self.now new.retired c.self.view_is e.retired
+    next_seen m.image.now m.input.now m.setting m.run m.credits m.moment c.self.invariant c.args.self.now new.retired c.self.view_is c.advance-retired.ensures.retired
 
 pub returns-clause-steps : goal.returns-clause-steps
 returns-clause-steps c goes =
@@ -302,26 +134,8 @@ returns-clause-steps c goes =
     let h : ℕ = c.advance-retired.result.hart.0 in
     let fate = c.advance-retired.result.fate in
     let delay : ℕ = c.raised-raised.result in
-    let e = c.advance-retired.ensures in
-    let x : Experiment Guest = experiment_with m.image.now m.input.now m.setting in
-    let dues : List (Option ℕ) = (shortened x m.run.retired).dues in
     let none : m.run.ending ≡ None = none_of m.run.ending (sym c.is_some.ensures ∙ c.if-is_some.false) in
-    let a : IsAdvance m.setting m.run new h fate delay x dues = record {
-      goes = none;
-      moved = e.moved (first_guest m.image.now m.input.now m.setting.choice.output_limit m.setting.choice.layout) dues c.self.invariant.reached.reached.dues;
-      turn = e.turn;
-      first = e.first;
-      retires = e.retires;
-      visits = e.visits;
-      ending = e.ending;
-      unfull = e.unfull;
-      selected = e.selected;
-      room = e.room;
-      retired = e.retired;
-      few = e.few;
-      within = e.within;
-    } in
-    steps_seen m.image.now m.input.now m.setting m.run m.credits m.moment c.self.invariant c.args.self.now (standing x new.retired) c.self.view_is (steps_next m.image.now m.input.now m.setting m.run m.credits m.moment c.self.invariant new h fate delay c.raised-raised.ensures a)
+    steps_seen m.image.now m.input.now m.setting m.run m.credits m.moment c.self.invariant c.args.self.now (standing (experiment_with m.image.now m.input.now m.setting) new.retired) c.self.view_is (steps_next m.image.now m.input.now m.setting m.run m.credits m.moment c.self.invariant new h fate delay c.raised-raised.ensures none c.advance-retired.ensures)
 
 pub returns-clause-over : goal.returns-clause-over
 returns-clause-over c some =
@@ -335,24 +149,6 @@ returns-clause-agrees c =
     let h : ℕ = c.advance-retired.result.hart.0 in
     let fate = c.advance-retired.result.fate in
     let delay : ℕ = c.raised-raised.result in
-    let e = c.advance-retired.ensures in
-    let x : Experiment Guest = experiment_with m.image.now m.input.now m.setting in
-    let dues : List (Option ℕ) = (shortened x m.run.retired).dues in
     let none : m.run.ending ≡ None = none_of m.run.ending (sym c.is_some.ensures ∙ c.if-is_some.false) in
-    let a : IsAdvance m.setting m.run new h fate delay x dues = record {
-      goes = none;
-      moved = e.moved (first_guest m.image.now m.input.now m.setting.choice.output_limit m.setting.choice.layout) dues c.self.invariant.reached.reached.dues;
-      turn = e.turn;
-      first = e.first;
-      retires = e.retires;
-      visits = e.visits;
-      ending = e.ending;
-      unfull = e.unfull;
-      selected = e.selected;
-      room = e.room;
-      retired = e.retired;
-      few = e.few;
-      within = e.within;
-    } in
-    let after : IsPaced m.image.now m.input.now m.setting new c.settle.new.credits (new.time + delay) = paced_next m.image.now m.input.now m.setting m.run m.credits m.moment c.self.invariant new h fate delay c.raised-raised.ensures a c.settle.new.credits c.settle.ensures in
+    let after : IsPaced m.image.now m.input.now m.setting new c.settle.new.credits (new.time + delay) = paced_next m.image.now m.input.now m.setting m.run m.credits m.moment c.self.invariant new h fate delay c.raised-raised.ensures none c.advance-retired.ensures c.settle.new.credits c.settle.ensures in
     agrees_after m.image.now m.input.now m.setting m.run m.credits m.moment c.self.invariant c.args.self.now new.retired c.self.view_is (retired_now m.image.now m.input.now m.setting new c.settle.new.credits (new.time + delay) after)

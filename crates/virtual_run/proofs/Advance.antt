@@ -1,0 +1,127 @@
+-- One move of the engine, from its calls.
+use Rattle.std.proofs.Common.{◌≡◌, ℕ, ◌+◌, ◌≤◌, ◌<◌, false, List, [], ◌++◌, length, nat_le, true, Option, Some, None, IsSome, is_some, refl, ap, subst, sym, ◌∙◌, arith}
+use Rattle.std.proofs.lemmas.Bool.Decides.{nat_tests}
+use Rattle.std.proofs.lemmas.List.{length-set}
+use Rattle.coz_types.specs.declared.ending.Ending.{Ending}
+use Rattle.hart_schedule.specs.Keys.{Keys, key_of, without_key, IsLeast}
+use Rattle.machines.specs.declared.Fate.{Fate}
+use Rattle.machines.specs.Guest.{Retirement, sleeps}
+use Rattle.progress_points.specs.Points.{point_of}
+use Rattle.guest_calls.specs.Guest.{Guest, pc_of}
+use Rattle.guest_calls.specs.Retire.{retire}
+use Rattle.guest_calls.proofs.Law.{never_sleeps}
+use Rattle.virtual_run.specs.declared.choice.Setting.{Setting}
+use Rattle.virtual_run.specs.declared.run.Run.{Run}
+use Rattle.virtual_run.specs.Visits.{Visits, visits_of}
+use Rattle.virtual_run.specs.Begin.{started_by, many, AreIdle, AreBegun}
+use Rattle.virtual_run.specs.Ending.{ending_of, runs_after}
+use Rattle.virtual_run.specs.Run.{selects, selected_of, ticks_in, IsSteady}
+use Rattle.virtual_run.specs.Advance.{IsAdvance}
+use Rattle.virtual_run.proofs.Many.{many_without}
+use Rattle.virtual_run.proofs.Begin.{ticks_few, within_begun, within_left, within_later}
+use Rattle.virtual_run.proofs.Law.{IsTurn, started_idle, none_own, none_full}
+use Rattle.virtual_run.proofs.Moves.{IsMove, run_of, outcome, net_kept, ended, goes}
+
+-- the calls of a move up to the judging of its ending
+pub record IsLeft (setting : Setting) (run : Run) (left : Keys) (h due delay : ℕ) (after : Guest) (fate : Fate) (others : List ℕ) (now : Visits) (address : ℕ) (e : Option Ending) : Type 0 where
+  pub steady : IsSteady run
+  pub turn : key_of run.schedule h ≡ Some due
+  pub first : IsLeast run.schedule h
+  pub taken : left ≡ without_key h run.schedule
+  pub place : address ≡ pc_of run.guest h
+  pub retires : outcome after fate others ≡ retire run.guest h due
+  pub keeps : now ≡ record run.visits { kept = run.visits.kept ++ visits_of (point_of setting.points.now address) h (due + delay) delay }
+  pub ends : e ≡ ending_of fate (nat_le setting.choice.output_limit (length after.output)) (nat_le setting.choice.visit_limit (length now.kept)) (runs_after fate others left) (run.retired + 1) setting.choice.budget
+
+-- so many visits are not full
+below_limit : (limit count : ℕ) → nat_le limit count ≡ false → count < limit
+below_limit limit count e = grind (arith, nat_tests)
+
+not_some : (e : Option Ending) → e ≡ None → IsSome e → ⊥
+not_some None is some = let no : false ≡ true = some in let never : ⊥ = cc in never
+not_some (Some a) is some = let no : ⊥ = cc in no
+
+module _ (setting : Setting) (run : Run) (left : Keys) (h due delay : ℕ) (after : Guest) (fate : Fate) (others : List ℕ) (now : Visits) (address : ℕ) (e : Option Ending) (l : IsLeft setting run left h due delay after fate others now address e) where
+  move_is : IsMove setting run left h due after fate others now.kept e
+  move_is = record {
+    goes = l.steady.goes;
+    turn = l.turn;
+    first = l.first;
+    taken = l.taken;
+    retires = l.retires;
+    awake = ap (λ (r : Retirement Guest). sleeps r.fate) l.retires ∙ never_sleeps run.guest h due l.steady.orderly (l.steady.running h ∙ ap is_some l.turn);
+    visits =
+        net_kept run.visits.kept now.kept (point_of setting.points.now (pc_of run.guest h)) h due delay
+        (ap (λ (vs : Visits). vs.kept) l.keeps ∙ ap (λ (a : ℕ). run.visits.kept ++ visits_of (point_of setting.points.now a) h (due + delay) delay) l.place);
+    ends = l.ends;
+  }
+
+  -- where the run goes on, the harts that the move started can begin
+  pub idle_then : e ≡ None → AreIdle after left (started_by h fate others)
+  idle_then none =
+      let turn : IsTurn run.guest run.schedule h due = record { orderly = l.steady.orderly; running = l.steady.running; room = l.steady.room; turn = l.turn } in
+      let own = none_own fate (nat_le setting.choice.output_limit (length after.output)) (nat_le setting.choice.visit_limit (length now.kept)) (runs_after fate others left) (run.retired + 1) setting.choice.budget (sym l.ends ∙ none) in
+      subst (λ (keys : Keys). AreIdle after keys (started_by h fate others)) (sym l.taken) (started_idle run.guest run.schedule h due after fate others turn l.retires own)
+
+  -- one hart less is due
+  many_left : many run.schedule ≡ many left + 1
+  many_left = many_without run.schedule h due l.turn ∙ ap (λ (keys : Keys). many keys + 1) (sym l.taken)
+
+  keeps_at : now ≡ record run.visits { kept = run.visits.kept ++ visits_of (point_of setting.points.now (pc_of run.guest h)) h (due + delay) delay }
+  keeps_at = l.keeps ∙ ap (λ (a : ℕ). record run.visits { kept = run.visits.kept ++ visits_of (point_of setting.points.now a) h (due + delay) delay }) l.place
+
+  ends_at : e ≡ ending_of fate (nat_le setting.choice.output_limit (length after.output)) (nat_le setting.choice.visit_limit (length now.kept)) (runs_after fate others (without_key h run.schedule)) (run.retired + 1) setting.choice.budget
+  ends_at = l.ends ∙ ap (λ (keys : Keys). ending_of fate (nat_le setting.choice.output_limit (length after.output)) (nat_le setting.choice.visit_limit (length now.kept)) (runs_after fate others keys) (run.retired + 1) setting.choice.budget) l.taken
+
+  unfull_then : e ≡ None → length now.kept < setting.choice.visit_limit
+  unfull_then none =
+      below_limit setting.choice.visit_limit (length now.kept)
+      (none_full fate (nat_le setting.choice.output_limit (length after.output)) (nat_le setting.choice.visit_limit (length now.kept)) (runs_after fate others left) (run.retired + 1) setting.choice.budget (sym l.ends ∙ none))
+
+  -- the run goes on
+  pub advance_goes : (new : Keys) (chosen : List ℕ) (starts : ℕ) → e ≡ None → setting.choice.speedup ≤ 95 → AreBegun (ticks_in setting after) due (started_by h fate others) left new
+      → chosen ≡ selected_of setting after (started_by h fate others) → length new ≡ 256 → starts ≡ run.starts + length chosen → length chosen + many left ≤ many new
+      → IsAdvance setting run h fate delay (run_of due after new others chosen now (run.retired + 1) starts e)
+  advance_goes new chosen starts none small begun selected room counted few = record {
+    moved = λ first dues are.
+        goes setting first run left h due after fate others now.kept e move_is dues are new chosen now.limit starts none small (idle_then none).apart begun
+        (counted ∙ ap (λ (hs : List ℕ). run.starts + length hs) selected);
+    turn = l.turn;
+    first = l.first;
+    retires = l.retires;
+    visits = keeps_at;
+    ending = ends_at;
+    unfull = unfull_then;
+    selected = λ _. selected;
+    none_selected = λ some. absurd (not_some e none some);
+    room = room;
+    retired = refl;
+    few =
+        let less : many run.schedule ≡ many left + 1 = many_left in
+        let before : run.starts ≤ run.retired + many run.schedule = l.steady.few in
+        omega (arith, less, before, counted, few);
+    within = λ moment within.
+        let soon = within_left run.schedule left h moment l.taken within in
+        within_begun (ticks_in setting after) due (started_by h fate others) left new moment (ticks_few (selects setting) setting.choice.speedup after) begun (within h due l.turn) soon;
+  }
+
+  -- the run ends with the move
+  pub advance_ended : (a : Ending) (chosen : List ℕ) → e ≡ Some a → chosen ≡ [] → IsAdvance setting run h fate delay (run_of due after left others chosen now (run.retired + 1) run.starts e)
+  advance_ended a chosen some empty = record {
+    moved = λ first dues are. ended setting first run left h due after fate others now.kept e move_is dues are a chosen now.limit some;
+    turn = l.turn;
+    first = l.first;
+    retires = l.retires;
+    visits = keeps_at;
+    ending = ends_at;
+    unfull = unfull_then;
+    selected = λ none. let no : ◌≡◌ {A = Option Ending} (Some a) None = sym some ∙ none in let never : ⊥ = cc in absurd never;
+    none_selected = λ _. empty;
+    room = ap length l.taken ∙ length-set run.schedule h None ∙ l.steady.room;
+    retired = refl;
+    few =
+        let less : many run.schedule ≡ many left + 1 = many_left in
+        let before : run.starts ≤ run.retired + many run.schedule = l.steady.few in
+        omega (arith, less, before);
+    within = λ moment within. within_later moment (moment + 4000) left (omega arith) (within_left run.schedule left h moment l.taken within);
+  }

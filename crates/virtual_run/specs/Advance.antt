@@ -1,0 +1,37 @@
+-- One move of the engine of both machines.
+use Rattle.std.specs.Prelude.{◌≡◌, ℕ, ◌+◌, ◌≤◌, ◌<◌, ◌++◌, List, [], length, nat_le, Option, Some, None, IsSome}
+use Rattle.hart_schedule.specs.Keys.{key_of, without_key, IsLeast}
+use Rattle.machines.specs.declared.Fate.{Fate}
+use Rattle.machines.specs.Shortened.{move}
+use Rattle.progress_points.specs.Points.{point_of}
+use Rattle.guest_calls.specs.Calls.{retirement}
+use Rattle.guest_calls.specs.Guest.{Guest, pc_of}
+use Rattle.guest_calls.specs.Retire.{retire}
+use Rattle.virtual_run.specs.declared.choice.Setting.{Setting}
+use Rattle.virtual_run.specs.declared.run.Run.{Run}
+use Rattle.virtual_run.specs.Begin.{started_by, many}
+use Rattle.virtual_run.specs.Ending.{ending_of, runs_after}
+use Rattle.virtual_run.specs.Run.{experiment_in, selected_of, state_of, AreDues, AreWithin, IsStateOf}
+use Rattle.virtual_run.specs.Visits.{visits_of}
+
+-- in a setting this run becomes that one as a hart retires to this fate, where a visit is kept with this delay
+pub record IsAdvance (setting : Setting) (run : Run) (hart : ℕ) (fate : Fate) (delay : ℕ) (new : Run) : Type 0 where
+  -- a move of the shortened machine, whatever its guest began as
+  pub moved : (first : Guest) (dues : List (Option ℕ)) → AreDues run.schedule dues → IsStateOf new (move (experiment_in setting first) (state_of run dues))
+  -- the hart is the one that is due first
+  pub turn : key_of run.schedule hart ≡ Some new.time
+  pub first : IsLeast run.schedule hart
+  pub retires : retirement new.guest fate new.started ≡ retire run.guest hart new.time
+  pub visits : new.visits ≡ record run.visits { kept = run.visits.kept ++ visits_of (point_of setting.points.now (pc_of run.guest hart)) hart (new.time + delay) delay }
+  pub ending : new.ending ≡ ending_of fate
+      (nat_le setting.choice.output_limit (length new.guest.output))
+      (nat_le setting.choice.visit_limit (length new.visits.kept))
+      (runs_after fate new.started (without_key hart run.schedule))
+      new.retired setting.choice.budget
+  pub unfull : new.ending ≡ None → length new.visits.kept < setting.choice.visit_limit
+  pub selected : new.ending ≡ None → new.selected ≡ selected_of setting new.guest (started_by hart fate new.started)
+  pub none_selected : IsSome new.ending → new.selected ≡ []
+  pub room : length new.schedule ≡ 256
+  pub retired : new.retired ≡ run.retired + 1
+  pub few : new.starts ≤ new.retired + many new.schedule
+  pub within : (moment : ℕ) → AreWithin moment run.schedule → AreWithin (moment + 4000) new.schedule
