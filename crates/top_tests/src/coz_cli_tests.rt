@@ -374,7 +374,7 @@ fn call<R: Threads + Sync + AllocGlobal>(
         texts.push(String::from_str(alloc, word)?)?;
     }
     let mut files = files;
-    let mut out = MemorySink::new(alloc, 40000, Vec::new(alloc))?;
+    let mut out = MemorySink::new(alloc, 100000, Vec::new(alloc))?;
     let mut err = MemorySink::new(alloc, 1000, Vec::new(alloc))?;
     let status = serve(rt, alloc, &texts, &mut files, &mut out, &mut err, &FreeGate);
     Ok(Served {
