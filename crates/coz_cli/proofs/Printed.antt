@@ -240,7 +240,7 @@ profile_printed held asked before now fit some low gained =
     let runs : Runs = experiment_of on.image on.table on.input in
     let print : List ℕ → List Pair → Verdict = λ points pairs. profile_verdict (profile_of runs lines asked.budget points pairs) in
     let selected = named_is (lines_named lines (all_lines lines) asked.lines)
-        (λ selected. named_verdict (lines_named lines [] asked.progress) (λ named. points_verdict named (λ points. plan_verdict (pairs_of selected asked.speedups) (print points)))) v low comes.is in
+    (λ selected. named_verdict (lines_named lines [] asked.progress) (λ named. points_verdict named (λ points. plan_verdict (pairs_of selected asked.speedups) (print points)))) v low comes.is in
     let pairs : List Pair = pairs_of selected.value asked.speedups in
     let named = named_is (lines_named lines [] asked.progress) (λ named. points_verdict named (λ points. plan_verdict pairs (print points))) v low selected.same in
     let points : List ℕ = named.value in

@@ -22,7 +22,11 @@ use progress_points::Points;
 use std::alloc::{AllocError, Global};
 
 /// The labels of the points' lines.
-fn point_labels(alloc: Global, index: &LineIndex, points: &Points) -> Result<Items<Label>, AllocError>
+fn point_labels(
+    alloc: Global,
+    index: &LineIndex,
+    points: &Points,
+) -> Result<Items<Label>, AllocError>
     requires few { length points.now.lines ≤ 64 }
     requires below { All (λ line. line < length index.now.lines) points.now.lines }
     ensures { IfOk result (λ labels. labels ≡ map (label_at index.now.lines) points.now.lines) }
@@ -48,7 +52,9 @@ fn has_exited(ending: Ending) -> bool
 fn all_exited(summaries: &[Summary]) -> bool
     ensures { result ≡ list_all (λ (s : Summary). has_exited s.outcome.ending) summaries.now }
 {
-    summaries.iter().all(|summary| has_exited(summary.outcome.ending))
+    summaries
+        .iter()
+        .all(|summary| has_exited(summary.outcome.ending))
 }
 
 /// A profile that is to be written, and its status.
@@ -84,7 +90,15 @@ pub fn profile_answer<'r>(
     let points = progress_points(alloc, index, bytes_of(&request.progress))?;
     let plan = plan(alloc, &lines, request.speedups.as_slice())?;
     let labels = point_labels(alloc, index, &points)?;
-    let summaries = summaries(alloc, image, index, &points, input, plan.pairs(), request.budget)?;
+    let summaries = summaries(
+        alloc,
+        image,
+        index,
+        &points,
+        input,
+        plan.pairs(),
+        request.budget,
+    )?;
     Ok(printed_profile(Profile {
         budget: request.budget,
         points: labels,

@@ -51,11 +51,7 @@ pub fn line_named<'r>(
 }
 
 /// The lines that a list names, as they rise and each once.
-fn lines_of<'r>(
-    alloc: Global,
-    index: &LineIndex,
-    list: &'r [u8],
-) -> Result<Vec<LineId>, Fault<'r>>
+fn lines_of<'r>(alloc: Global, index: &LineIndex, list: &'r [u8]) -> Result<Vec<LineId>, Fault<'r>>
     requires { is_list list.now ≡ true }
     ensures no_read { IsRead result → ⊥ }
     ensures settled { (IsMemory result → ⊥) → (next : List ℕ → Verdict) →
@@ -126,11 +122,7 @@ fn progress_lines<'r>(
 }
 
 /// The points of these lines, if there are not too many.
-fn points_of<'r>(
-    alloc: Global,
-    index: &LineIndex,
-    lines: &[LineId],
-) -> Result<Points, Fault<'r>>
+fn points_of<'r>(alloc: Global, index: &LineIndex, lines: &[LineId]) -> Result<Points, Fault<'r>>
     requires { All (λ (line : LineId). line.0 < length index.now.lines) lines.now }
     ensures no_read { IsRead result → ⊥ }
     ensures settled { (IsMemory result → ⊥) → (next : List ℕ → Verdict) →

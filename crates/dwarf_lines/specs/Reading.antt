@@ -106,8 +106,8 @@ abbrev pub text_in : List ℕ → Ahead → Reading Value LineFault
 text_in texts a = do
   n ← word a
   up_to {X = Reading Value LineFault} (position (λ b. b == 0) (drop n.0 texts)) a
-    (λ k. Ok (Text (take k (drop n.0 texts)), n.1))
-    (Err (fault kinds.TextOut a.place))
+      (λ k. Ok (Text (take k (drop n.0 texts)), n.1))
+      (Err (fault kinds.TextOut a.place))
 
 abbrev pub own_text : Ahead → Reading Value LineFault
 own_text a = do

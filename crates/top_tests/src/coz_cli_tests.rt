@@ -662,12 +662,7 @@ const NAMED: [(&[&str], u8, &[u8], &[u8]); 23] = [
         b"coz: selection: no line one.s:9\n",
     ),
     (
-        &[
-            "profile",
-            "d/one",
-            "--lines=one.s:9",
-            "--progress=one.s:8",
-        ],
+        &["profile", "d/one", "--lines=one.s:9", "--progress=one.s:8"],
         7,
         b"",
         b"coz: selection: no line one.s:9\n",
@@ -735,7 +730,12 @@ const MANY: [(u32, &[&str], u8, &[u8]); 4] = [
         7,
         b"coz: selection: 65 points\n",
     ),
-    (5001, &["profile", "p"], 9, b"coz: plan: 100020 experiments\n"),
+    (
+        5001,
+        &["profile", "p"],
+        9,
+        b"coz: plan: 100020 experiments\n",
+    ),
     (
         5001,
         &["profile", "p", "--progress"],
