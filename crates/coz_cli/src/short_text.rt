@@ -11,15 +11,11 @@ use coz_types::Visit;
 use std::alloc::{AllocError, Global};
 
 #[tactic(auto, unfolding(crate::specs::Text::net_outcome_text))]
-fn push_outcome<'a>(
-    alloc: Global,
-    text: &mut Vec<u8>,
-    run: ShortRecord<'a>,
-) -> Result<(), AllocError>
+fn push_outcome<'a>(text: &mut Vec<u8>, run: ShortRecord<'a>) -> Result<(), AllocError>
     ensures { OnOk result (text.new.items ≡ text.old.items ++ net_outcome_text (net_record_of run.entry)) }
 {
     text.extend_from_slice(b"end ")?;
-    push_ending(alloc, text, run.ending)?;
+    push_ending(text, run.ending)?;
     text.extend_from_slice(b"\n")?;
     push_line(text, b"net ", run.net)?;
     push_line(text, b"retired ", run.retired)?;
@@ -56,7 +52,7 @@ pub fn really_text<'a>(alloc: Global, run: ShortRecord<'a>) -> Result<Vec<u8>, A
     ensures { IfOk result (λ text. text.items ≡ really_text (net_record_of run.entry)) }
 {
     let mut text = Vec::new(alloc);
-    push_outcome(alloc, &mut text, run)?;
+    push_outcome(&mut text, run)?;
     push_visits(&mut text, run.visits)?;
     push_output(&mut text, run.output)?;
     Ok(text)

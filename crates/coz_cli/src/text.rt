@@ -1,13 +1,13 @@
 ghost use Rattle.std.specs.Prelude.{◌≡◌, ◌++◌, ◌≤◌, codes, decimal, map, OnOk, IfOk, All};
 ghost use Rattle.delay_credits.specs.Delays.{account_as};
 ghost use Rattle.virtual_run.specs.DelayedRun.{visit_as};
-ghost use Rattle.coz_types.specs.Endings.{cause_text, address_text, ending_text};
+ghost use Rattle.coz_types.specs.Endings.{address_text, ending_text};
 ghost use Rattle.coz_cli.specs.Text.{number_line, outcome_text, hart_text, harts_text, visit_text, visits_text, output_text, run_text};
 ghost use Rattle.coz_cli.specs.Record.{record_of};
 ghost use Rattle.coz_types.specs.declared.record.Visit.{Visit};
 
 use crate::record::RunRecord;
-use coz_types::{Account, Ending, TrapCause, Visit};
+use coz_types::{Account, Ending, HexDigits, Visit};
 use itoa::Buffer;
 use std::alloc::{AllocError, Global};
 
@@ -26,26 +26,14 @@ pub fn push_line(text: &mut Vec<u8>, name: &[u8], n: u64) -> Result<(), AllocErr
     text.extend_from_slice(b"\n")
 }
 
-fn cause_name(cause: TrapCause) -> &'static [u8]
-    ensures { result.now ≡ cause_text cause }
-{
-    match cause {
-        TrapCause::Fetch => b"fetch",
-        TrapCause::Illegal => b"illegal",
-        TrapCause::Misaligned => b"misaligned",
-        TrapCause::Access => b"access",
-        TrapCause::Break => b"break",
-    }
-}
-
-pub fn push_address(alloc: Global, text: &mut Vec<u8>, address: u64) -> Result<(), AllocError>
+pub fn push_address(text: &mut Vec<u8>, address: u64) -> Result<(), AllocError>
     ensures { OnOk result (text.new.items ≡ text.old.items ++ address_text address) }
 {
-    let shown = format!(in alloc; "0x{address:x}")?;
-    text.extend_from_slice(shown.as_bytes())
+    text.extend_from_slice(b"0x")?;
+    text.extend_from_slice(HexDigits::new(address).bytes())
 }
 
-pub fn push_ending(alloc: Global, text: &mut Vec<u8>, ending: Ending) -> Result<(), AllocError>
+pub fn push_ending(text: &mut Vec<u8>, ending: Ending) -> Result<(), AllocError>
     ensures { OnOk result (text.new.items ≡ text.old.items ++ ending_text ending) }
 {
     match ending {
@@ -55,11 +43,11 @@ pub fn push_ending(alloc: Global, text: &mut Vec<u8>, ending: Ending) -> Result<
         }
         Ending::Trapped(trap) => {
             text.extend_from_slice(b"trapped:")?;
-            text.extend_from_slice(cause_name(trap.cause))?;
+            text.extend_from_slice(trap.cause.name())?;
             text.extend_from_slice(b":")?;
             push_number(text, trap.hart.0 as u64)?;
             text.extend_from_slice(b":")?;
-            push_address(alloc, text, trap.pc)
+            push_address(text, trap.pc)
         }
         Ending::Unsupported(number) => {
             text.extend_from_slice(b"unsupported:")?;
@@ -73,13 +61,13 @@ pub fn push_ending(alloc: Global, text: &mut Vec<u8>, ending: Ending) -> Result<
 }
 
 #[tactic(auto, unfolding(crate::specs::Text::outcome_text))]
-fn push_outcome<'a>(alloc: Global, text: &mut Vec<u8>, run: RunRecord<'a>) -> Result<(), AllocError>
+fn push_outcome<'a>(text: &mut Vec<u8>, run: RunRecord<'a>) -> Result<(), AllocError>
     requires { run.outcome.delay ≤ run.outcome.time }
     ensures { OnOk result (text.new.items ≡ text.old.items ++ outcome_text (record_of run.entry)) }
 {
     let outcome = run.outcome;
     text.extend_from_slice(b"end ")?;
-    push_ending(alloc, text, outcome.ending)?;
+    push_ending(text, outcome.ending)?;
     text.extend_from_slice(b"\n")?;
     push_line(text, b"time ", outcome.time)?;
     push_line(text, b"delay ", outcome.delay)?;
@@ -155,7 +143,7 @@ pub fn run_text<'a>(alloc: Global, run: RunRecord<'a>) -> Result<Vec<u8>, AllocE
     ensures { IfOk result (λ text. text.items ≡ run_text (record_of run.entry)) }
 {
     let mut text = Vec::new(alloc);
-    push_outcome(alloc, &mut text, run)?;
+    push_outcome(&mut text, run)?;
     push_harts(&mut text, run.accounts)?;
     push_visits(&mut text, run.visits)?;
     push_output(&mut text, run.output)?;
