@@ -1,7 +1,7 @@
 ghost use Rattle.std.specs.Prelude.{◌≤◌, length};
 
 use crate::dwarf_lines_tests::FOUR_ROWS;
-use dwarf_lines::{LineError, LineFault, LineKind, LineTable, read_lines};
+use dwarf_lines::{FileName, LineError, LineFault, LineKind, LineTable, Row, read_lines};
 use std::alloc::Global;
 use std::test::Fail;
 
@@ -410,21 +410,39 @@ fn lengths(made: &Made) -> (usize, usize) {
     }
 }
 
+/// Whether the file has this directory and this name.
+fn is_file(file: &FileName, wanted: &(&[u8], &[u8])) -> bool {
+    let (directory, name) = *wanted;
+    let in_directory = file.directory == directory;
+    let named = file.name == name;
+    in_directory & named
+}
+
+/// Whether the row is of this file and this line.
+fn is_row(row: &Row, wanted: &(Option<u32>, u32)) -> bool {
+    let (file, line) = *wanted;
+    row.file == file && row.line == line
+}
+
 fn is_table(
     table: &LineTable,
     files: &[(&[u8], &[u8])],
     rows: &[(Option<u32>, u32)],
     skipped: u32,
 ) -> bool {
+    let read_files = table.files.as_slice();
+    let read_rows = table.rows.as_slice();
     table.skipped == skipped
-        && table.files.len() == files.len()
-        && table.rows.len() == rows.len()
-        && table.files.as_slice().iter().zip(files.iter()).all(|(
-            file,
-            (directory, name),
-        )| file.directory == *directory && file.name == *name)
-        && table.rows.as_slice().iter().zip(rows.iter()).all(|(row, (file, line))| row.file == *file
-            && row.line == *line)
+        && read_files.len() == files.len()
+        && read_rows.len() == rows.len()
+        && read_files
+            .iter()
+            .zip(files.iter())
+            .all(|(file, wanted)| is_file(file, wanted))
+        && read_rows
+            .iter()
+            .zip(rows.iter())
+            .all(|(row, wanted)| is_row(row, wanted))
 }
 
 /// Whether the section is read so.
