@@ -1,3 +1,4 @@
+//! The calls on claims and their seats: one step of the shared word each.
 ghost use Rattle.std.specs.Prelude.{◌≡◌, ℕ, ◌+◌, ◌-◌, ◌<◌, ◌≤◌, ◌^◌, ◌++◌, [], ◌∷◌, IfOk, length};
 ghost use Rattle.experiment_claims.specs.Drawn.{hand, times, once_below, owns_all};
 ghost use Rattle.experiment_claims.specs.Seats.{hand_of, bound_of, IsSeatOf, Draws};

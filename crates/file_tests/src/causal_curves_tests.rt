@@ -1,3 +1,4 @@
+//! Tests of `causal_curves`.
 use causal_curves::{curves, write_curves};
 use coz_files::{MemorySink, PutAnswer};
 use profile_book::read_profile;

@@ -1,3 +1,4 @@
+//! Tests of `coz_lists`.
 use coz_lists::Items;
 use std::test::Fail;
 

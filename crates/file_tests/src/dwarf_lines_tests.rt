@@ -1,3 +1,4 @@
+//! Tests of `dwarf_lines`.
 ghost use Rattle.std.specs.Prelude.{◌≤◌, length};
 
 use dwarf_lines::{LineError, LineFault, LineKind, Row, read_lines};

@@ -1,3 +1,4 @@
+//! Tests of `elf_load`.
 ghost use Rattle.std.specs.Prelude.{◌≤◌};
 
 use coz_types::{Area, Rights};

@@ -1,3 +1,4 @@
+//! Tests of `leb_cursor`.
 use leb_cursor::{Cursor, LebFault, Short};
 
 const SHORT: LebFault = LebFault::Short(Short { place: 0 });

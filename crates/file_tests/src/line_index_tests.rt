@@ -1,3 +1,4 @@
+//! Tests of `line_index`.
 ghost use Rattle.std.specs.Prelude.{◌≤◌, length};
 
 use coz_lists::Items;

@@ -1,3 +1,4 @@
+//! Tests of line tables whose files are named by entries of described formats, and in sections of texts.
 ghost use Rattle.std.specs.Prelude.{◌≤◌, length};
 
 use crate::dwarf_lines_tests::FOUR_ROWS;

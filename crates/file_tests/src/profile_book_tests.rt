@@ -1,3 +1,4 @@
+//! Tests of `profile_book`.
 use profile_book::BookField::*;
 use profile_book::{BookError, BookFault, BookField, read_profile};
 use std::alloc::{AllocError, Global};

@@ -1,3 +1,4 @@
+//! Tests of `progress_points`.
 use coz_lists::Items;
 use coz_types::{Address, Area, Image, LineId, PointId, Rights};
 use dwarf_lines::{FileName, LineTable, Row};

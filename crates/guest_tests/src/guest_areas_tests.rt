@@ -1,3 +1,4 @@
+//! Tests of `guest_areas`.
 ghost use Rattle.std.specs.Prelude.{IfOk};
 ghost use Rattle.guest_areas.specs.Space.{SharesRegions};
 

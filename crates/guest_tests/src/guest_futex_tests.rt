@@ -1,3 +1,4 @@
+//! Tests of `guest_futex`.
 ghost use Rattle.std.specs.Prelude.{◌≡◌, ◌≢◌, ◌+◌, ◌<◌, ◌≤◌, length, All};
 ghost use Rattle.guest_futex.specs.Waiters.{with_waiter, woken, left};
 

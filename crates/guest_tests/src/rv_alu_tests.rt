@@ -1,3 +1,4 @@
+//! Tests of `rv_alu`.
 ghost use Rattle.std.specs.Prelude.{◌≡◌, ◌^◌};
 ghost use Rattle.rv_decode.specs.Instructions.{amount_bits};
 ghost use Rattle.rv_alu.specs.Operations.{is_amo};

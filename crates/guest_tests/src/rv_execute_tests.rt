@@ -1,3 +1,4 @@
+//! Tests of `rv_execute`.
 ghost use Rattle.std.specs.Prelude.{◌≡◌, IsTrue};
 ghost use Rattle.rv_decode.specs.Fields.{is_signed};
 ghost use Rattle.rv_decode.specs.Instructions.{InRange};

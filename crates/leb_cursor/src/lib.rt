@@ -64,7 +64,7 @@ impl<'a> Cursor<'a> {
         self.bytes.len() as u64
     }
 
-    /// The next so many bytes.
+    /// The next so many bytes; `Short` where fewer are left. After a fault a cursor stands where it stood.
     pub fn take(&mut self, count: u64) -> Result<&'a [u8], Short>
         ensures { Reads (λ x. x.now) result self.old self.new (bytes_at count self.old) }
     {
@@ -77,7 +77,7 @@ impl<'a> Cursor<'a> {
         Ok(front)
     }
 
-    /// The next byte.
+    /// The next byte; `Short` at the end.
     pub fn byte(&mut self) -> Result<u8, Short>
         ensures { Reads (λ x. x) result self.old self.new (number_at w8 self.old) }
     {
@@ -85,7 +85,7 @@ impl<'a> Cursor<'a> {
         Ok(bytes[0])
     }
 
-    /// The number in the next 2 bytes, the lowest first.
+    /// The number in the next 2 bytes, the lowest first; `Short` where fewer are left.
     pub fn half(&mut self) -> Result<u16, Short>
         ensures { Reads (λ x. x) result self.old self.new (number_at w16 self.old) }
     {
@@ -93,7 +93,7 @@ impl<'a> Cursor<'a> {
         Ok(LittleEndian::read_u16(bytes))
     }
 
-    /// The number in the next 4 bytes, the lowest first.
+    /// The number in the next 4 bytes, the lowest first; `Short` where fewer are left.
     pub fn word(&mut self) -> Result<u32, Short>
         ensures { Reads (λ x. x) result self.old self.new (number_at w32 self.old) }
     {
@@ -101,7 +101,7 @@ impl<'a> Cursor<'a> {
         Ok(LittleEndian::read_u32(bytes))
     }
 
-    /// The number in the next 8 bytes, the lowest first.
+    /// The number in the next 8 bytes, the lowest first; `Short` where fewer are left.
     pub fn double(&mut self) -> Result<u64, Short>
         ensures { Reads (λ x. x) result self.old self.new (number_at w64 self.old) }
     {
@@ -109,7 +109,7 @@ impl<'a> Cursor<'a> {
         Ok(LittleEndian::read_u64(bytes))
     }
 
-    /// The bytes before the next zero byte, which is passed too.
+    /// The bytes before the next zero byte, which is passed too; `Short` where none follows.
     pub fn text(&mut self) -> Result<&'a [u8], Short>
         ensures { Reads (λ x. x.now) result self.old self.new (text_at self.old) }
     {
@@ -125,7 +125,7 @@ impl<'a> Cursor<'a> {
         }
     }
 
-    /// Passes so many bytes.
+    /// Passes so many bytes; `Short` where fewer are left.
     pub fn skip(&mut self, count: u64) -> Result<(), Short>
         ensures { Reads (λ x. x) result self.old self.new (pass_at count self.old) }
     {
@@ -133,7 +133,7 @@ impl<'a> Cursor<'a> {
         Ok(())
     }
 
-    /// The next so many bytes, as a cursor of their own that goes on counting places.
+    /// The next so many bytes, as a cursor of their own that goes on counting places; `Short` where fewer are left.
     pub fn part(&mut self, count: u64) -> Result<Cursor<'a>, Short>
         ensures { Reads (λ x. x) result self.old self.new (part_at count self.old) }
     {
@@ -142,7 +142,7 @@ impl<'a> Cursor<'a> {
         Ok(Cursor { place, bytes })
     }
 
-    /// An unsigned LEB128 number, padded or not.
+    /// An unsigned LEB128 number, padded or not (DWARF 5, section 7.6). `Short` where no byte ends it, `Wide` where its value is 2^64 or more.
     pub fn uleb(&mut self) -> Result<u64, LebFault>
         ensures { Reads (λ x. x) result self.old self.new (uleb_at self.old) }
     {
@@ -162,7 +162,7 @@ impl<'a> Cursor<'a> {
         }
     }
 
-    /// A signed LEB128 number, padded or not.
+    /// A signed LEB128 number, padded or not. `Short` where no byte ends it, `Wide` where its value doesn't fit 64 bits with a sign.
     pub fn sleb(&mut self) -> Result<i64, LebFault>
         ensures { Reads (λ x. x) result self.old self.new (sleb_at self.old) }
     {

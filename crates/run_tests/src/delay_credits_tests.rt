@@ -1,3 +1,4 @@
+//! Tests of `delay_credits`.
 use coz_types::HartId;
 use delay_credits::Credits;
 use std::test::Fail;

@@ -1,3 +1,4 @@
+//! Tests of `experiment_claims`.
 use experiment_claims::Claims;
 use std::test::Fail;
 

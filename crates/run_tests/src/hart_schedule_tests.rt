@@ -1,3 +1,4 @@
+//! Tests of `hart_schedule`.
 ghost use Rattle.std.specs.Prelude.{◌≡◌};
 
 use coz_types::{HartId, Tick};

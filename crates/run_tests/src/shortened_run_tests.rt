@@ -1,3 +1,4 @@
+//! Tests of `shortened_run`.
 ghost use Rattle.std.specs.Prelude.{◌≤◌, ◌<◌, length};
 
 use coz_lists::Items;

@@ -1,3 +1,4 @@
+//! Tests of `coz_words`.
 use coz_words::{Command, Request, Word, WordsError, read_words};
 use std::alloc::{AllocError, Global};
 use std::test::Fail;

@@ -1,3 +1,4 @@
+//! Tests of `experiment_plan`.
 use experiment_plan::{first_piece, is_line, is_list, line_parts, number_in};
 
 /// Whether the text is a line of this path and this number.

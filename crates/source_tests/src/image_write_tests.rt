@@ -1,3 +1,4 @@
+//! Tests of `image_write`.
 ghost use Rattle.image_write.specs.File.{IsVersion};
 
 use coz_lists::Items;

@@ -1,3 +1,4 @@
+//! Tests of `rv_asm`.
 use rv_asm::{AsmError, AsmKind, assemble};
 use std::alloc::Global;
 use std::test::Fail;

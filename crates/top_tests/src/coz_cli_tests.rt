@@ -1,3 +1,4 @@
+//! Tests of `coz_cli`.
 use coz_cli::serve;
 use coz_files::{FreeGate, HeldFile, MemoryFiles, MemorySink};
 use std::alloc::{AllocError, Global};
