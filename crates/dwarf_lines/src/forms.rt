@@ -10,9 +10,30 @@ use leb_cursor::Cursor;
 use std::alloc::Global;
 
 /// The content that is the path of a directory or a file (DWARF 5, 7.22).
-pub const PATH: u64 = 1;
+pub const DW_LNCT_PATH: u64 = 1;
 /// The content that is the number of a file's directory.
-pub const DIRECTORY_INDEX: u64 = 2;
+pub const DW_LNCT_DIRECTORY_INDEX: u64 = 2;
+
+// The forms (DWARF 5, 7.5.6).
+const DW_FORM_DATA2: u64 = 0x05;
+
+const DW_FORM_DATA4: u64 = 0x06;
+
+const DW_FORM_DATA8: u64 = 0x07;
+
+const DW_FORM_STRING: u64 = 0x08;
+
+const DW_FORM_BLOCK: u64 = 0x09;
+
+const DW_FORM_DATA1: u64 = 0x0B;
+
+const DW_FORM_STRP: u64 = 0x0E;
+
+const DW_FORM_UDATA: u64 = 0x0F;
+
+const DW_FORM_DATA16: u64 = 0x1E;
+
+const DW_FORM_LINE_STRP: u64 = 0x1F;
 
 /// How a value is written (DWARF 5, 7.5.6).
 #[derive(Clone, Copy, Debug, PartialEq, Eq)]
@@ -48,21 +69,21 @@ fn form_for(content: u64, code: u64) -> Option<Form>
     ensures { result ≡ form_for content code }
 {
     let (form, is_path, is_directory) = match code {
-        0x08 => (Form::Own, true, false),
-        0x0e => (Form::General, true, false),
-        0x1f => (Form::Line, true, false),
-        0x0b => (Form::Byte, false, true),
-        0x05 => (Form::Half, false, true),
-        0x06 => (Form::Four, false, false),
-        0x07 => (Form::Eight, false, false),
-        0x1e => (Form::Sixteen, false, false),
-        0x0f => (Form::Leb, false, true),
-        0x09 => (Form::Block, false, false),
+        DW_FORM_STRING => (Form::Own, true, false),
+        DW_FORM_STRP => (Form::General, true, false),
+        DW_FORM_LINE_STRP => (Form::Line, true, false),
+        DW_FORM_DATA1 => (Form::Byte, false, true),
+        DW_FORM_DATA2 => (Form::Half, false, true),
+        DW_FORM_DATA4 => (Form::Four, false, false),
+        DW_FORM_DATA8 => (Form::Eight, false, false),
+        DW_FORM_DATA16 => (Form::Sixteen, false, false),
+        DW_FORM_UDATA => (Form::Leb, false, true),
+        DW_FORM_BLOCK => (Form::Block, false, false),
         _ => return None,
     };
     let is_allowed = match content {
-        PATH => is_path,
-        DIRECTORY_INDEX => is_directory,
+        DW_LNCT_PATH => is_path,
+        DW_LNCT_DIRECTORY_INDEX => is_directory,
         _ => true,
     };
     if is_allowed { Some(form) } else { None }

@@ -8,7 +8,7 @@ ghost use Rattle.dwarf_lines.specs.Registers.{files_view, texts_view};
 ghost use Rattle.dwarf_lines.specs.Views.{value_view, entry_view, entries_view, strings_view};
 
 use crate::fields::{byte, text, unsigned};
-use crate::forms::{DIRECTORY_INDEX, Form, Format, PATH, read_formats};
+use crate::forms::{DW_LNCT_DIRECTORY_INDEX, DW_LNCT_PATH, Form, Format, read_formats};
 use crate::strings::{Strings, Texts};
 use crate::{FileName, LineError, LineFault, LineKind};
 use leb_cursor::Cursor;
@@ -93,8 +93,8 @@ fn with_value<'a>(content: u64, value: Value<'a>, entry: Entry<'a>) -> Entry<'a>
     ensures { entry_view result ≡ with_value content (value_view value.entry) (entry_view entry.entry) }
 {
     match value {
-        Value::Text(path) if content == PATH => Entry { path, ..entry },
-        Value::Number(number) if content == DIRECTORY_INDEX => Entry {
+        Value::Text(path) if content == DW_LNCT_PATH => Entry { path, ..entry },
+        Value::Number(number) if content == DW_LNCT_DIRECTORY_INDEX => Entry {
             directory: Some(number),
             ..entry
         },

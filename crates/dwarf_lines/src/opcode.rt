@@ -1,10 +1,42 @@
-//! The opcodes of a line program (DWARF 4, 6.2.5).
+//! The opcodes of a line program (DWARF 5, 6.2.5).
 
 use crate::entries::read_file;
 use crate::fields::{byte, half, pass, signed, unsigned};
 use crate::header::Header;
 use crate::{FileName, LineFault, LineKind};
 use leb_cursor::Cursor;
+
+// The standard opcodes (DWARF 5, 6.2.5.2).
+const DW_LNS_COPY: u8 = 1;
+
+const DW_LNS_ADVANCE_PC: u8 = 2;
+
+const DW_LNS_ADVANCE_LINE: u8 = 3;
+
+const DW_LNS_SET_FILE: u8 = 4;
+
+const DW_LNS_SET_COLUMN: u8 = 5;
+
+const DW_LNS_NEGATE_STMT: u8 = 6;
+
+const DW_LNS_SET_BASIC_BLOCK: u8 = 7;
+
+const DW_LNS_CONST_ADD_PC: u8 = 8;
+
+const DW_LNS_FIXED_ADVANCE_PC: u8 = 9;
+
+const DW_LNS_SET_PROLOGUE_END: u8 = 10;
+
+const DW_LNS_SET_EPILOGUE_BEGIN: u8 = 11;
+
+const DW_LNS_SET_ISA: u8 = 12;
+
+// The extended opcodes (DWARF 5, 6.2.5.3); the third is of versions before 5.
+const DW_LNE_END_SEQUENCE: u8 = 1;
+
+const DW_LNE_SET_ADDRESS: u8 = 2;
+
+const DW_LNE_DEFINE_FILE: u8 = 3;
 
 /// What an opcode says, with its operands.
 #[derive(Clone, Copy, Drop)]
@@ -56,16 +88,18 @@ impl<'a> Operation<'a> {
         ensures { Walks operation_view result cursor.new (below_base (header_view header.now) 0 opcode cursor.old) }
     {
         match opcode {
-            1 => Ok(Operation::Copy),
-            2 => Ok(Operation::AdvancePc(unsigned(cursor)?)),
-            3 => Ok(Operation::AdvanceLine(signed(cursor)?)),
-            4 => Ok(Operation::SetFile(unsigned(cursor)?)),
-            5 => Ok(Operation::SetColumn(unsigned(cursor)?)),
-            6 => Ok(Operation::NegateStmt),
-            7 | 10 | 11 => Ok(Operation::Pass),
-            8 => Ok(Operation::ConstAddPc),
-            9 => Ok(Operation::FixedAdvancePc(half(cursor)?)),
-            12 => {
+            DW_LNS_COPY => Ok(Operation::Copy),
+            DW_LNS_ADVANCE_PC => Ok(Operation::AdvancePc(unsigned(cursor)?)),
+            DW_LNS_ADVANCE_LINE => Ok(Operation::AdvanceLine(signed(cursor)?)),
+            DW_LNS_SET_FILE => Ok(Operation::SetFile(unsigned(cursor)?)),
+            DW_LNS_SET_COLUMN => Ok(Operation::SetColumn(unsigned(cursor)?)),
+            DW_LNS_NEGATE_STMT => Ok(Operation::NegateStmt),
+            DW_LNS_SET_BASIC_BLOCK | DW_LNS_SET_PROLOGUE_END | DW_LNS_SET_EPILOGUE_BEGIN => {
+                Ok(Operation::Pass)
+            }
+            DW_LNS_CONST_ADD_PC => Ok(Operation::ConstAddPc),
+            DW_LNS_FIXED_ADVANCE_PC => Ok(Operation::FixedAdvancePc(half(cursor)?)),
+            DW_LNS_SET_ISA => {
                 pass(1, cursor)?;
                 Ok(Operation::Pass)
             }
@@ -102,8 +136,8 @@ impl<'a> Operation<'a> {
             return Ok(Operation::Pass);
         }
         match byte(&mut inside)? {
-            1 => Ok(Operation::EndSequence),
-            2 => {
+            DW_LNE_END_SEQUENCE => Ok(Operation::EndSequence),
+            DW_LNE_SET_ADDRESS => {
                 if size != 9 {
                     return Err(LineFault {
                         kind: LineKind::AddressLength,
@@ -112,7 +146,7 @@ impl<'a> Operation<'a> {
                 }
                 Ok(Operation::SetAddress(inside.double()?))
             }
-            3 if header.version != 5 => {
+            DW_LNE_DEFINE_FILE if header.version != 5 => {
                 let file = read_file(header.directories.as_slice(), &mut inside)?;
                 Ok(Operation::DefineFile(file))
             }

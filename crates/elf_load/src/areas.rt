@@ -6,6 +6,7 @@ ghost use Rattle.elf_load.specs.Tables.{is_area, is_load, has_place, end_page, s
 ghost use Rattle.elf_load.specs.Faults.{HasHeaders, first_row, table_rows};
 ghost use Rattle.elf_load.specs.Loaded.{rights_of, area_of, headers};
 
+use crate::codes::{E_PHOFF, PAGE};
 use crate::fields::double_at;
 use crate::tables::Segment;
 use coz_types::{Area, Rights};
@@ -38,8 +39,8 @@ fn area_of(file: &[u8], segment: &Segment) -> Area
     ensures { result ≡ area_of file.now segment.now }
 {
     Area {
-        start: 4096 * segment.first_page(),
-        size: 4096 * (segment.end_page() - segment.first_page()),
+        start: PAGE * segment.first_page(),
+        size: PAGE * (segment.end_page() - segment.first_page()),
         rights: rights_of(segment),
         vaddr: segment.vaddr,
         offset: segment.offset.min(file.len() as u64),
@@ -69,7 +70,7 @@ pub fn headers(file: &[u8], segments: &[Segment]) -> u64
     requires segments { segments.now ≡ segments_of file.now }
     ensures { result ≡ headers file.now }
 {
-    let place = double_at(file, 32);
+    let place = double_at(file, E_PHOFF);
     match holder(segments, place) {
         Some(s) => s.vaddr + (place - s.offset),
         None => 0,

@@ -6,6 +6,7 @@ ghost use Rattle.std.specs.List.{list_any};
 ghost use Rattle.elf_load.specs.Tables.{entry, has_bytes, has_address, has_name, is_text, is_area, is_compressed, is_executable, is_interp, is_load, is_writable, holds_lines, line_names, runs_past, first_page, end_page};
 ghost use Rattle.elf_load.specs.Faults.{HasHeaders, Judges, JudgesOrFails, row, entry_row, first_row, first_section, first_segment, rows_on};
 
+use crate::codes::{E_ENTRY, PAGE};
 use crate::fields::{double_at, runs_past};
 use crate::pages::{no_shared_page, not_too_much};
 use crate::tables::{Section, Segment, names};
@@ -13,9 +14,9 @@ use crate::{ElfFault, ElfKind, LoadError};
 use std::alloc::Global;
 
 /// The pages of a program are from 0x1000 to 0x20_0000_0000, whose end this page is.
-const FIRST_PAGE: u64 = 0x1000 / 4096;
+const FIRST_PAGE: u64 = 0x1000 / PAGE;
 
-const END_PAGE: u64 = 0x20_0000_0000 / 4096;
+const END_PAGE: u64 = 0x20_0000_0000 / PAGE;
 
 /// The fault at a program header, if one was found.
 pub fn at_segment(kind: ElfKind, found: Option<&Segment>) -> Result<(), ElfFault>
@@ -151,13 +152,13 @@ fn entry_in_code(file: &[u8], segments: &[Segment]) -> Result<(), ElfFault>
     requires { HasHeaders file.now }
     ensures { Judges result (row ElfKind.EntryOut (not (entry file.now % 4 == 0 && list_any (λ s. is_load s && is_executable s && has_address (entry file.now) s) segments.now)) 24) }
 {
-    let entry = double_at(file, 24);
+    let entry = double_at(file, E_ENTRY);
     if entry % 4 == 0 && is_entered(segments, entry) {
         Ok(())
     } else {
         Err(ElfFault {
             kind: ElfKind::EntryOut,
-            place: 24,
+            place: E_ENTRY as u64,
         })
     }
 }

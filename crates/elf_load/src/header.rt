@@ -3,6 +3,11 @@
 ghost use Rattle.std.specs.Prelude.{◌≡◌, Err};
 ghost use Rattle.elf_load.specs.Faults.{Judges, first_row, header_rows};
 
+use crate::codes::{
+    E_FLAGS, E_MACHINE, E_PHENTSIZE, E_PHNUM, E_PHOFF, E_SHENTSIZE, E_SHNUM, E_SHOFF, E_SHSTRNDX,
+    E_TYPE, EHDR_SIZE, EI_CLASS, EI_DATA, ELFCLASS64, ELFDATA2LSB, EM_RISCV, ET_EXEC, PHDR_SIZE,
+    PN_XNUM, SHDR_SIZE,
+};
 use crate::fields::{double_at, half_at, runs_past, word_at};
 use crate::{ElfFault, ElfKind};
 
@@ -16,46 +21,54 @@ fn fault(kind: ElfKind, place: u64) -> Result<(), ElfFault>
 pub fn check_header(file: &[u8]) -> Result<(), ElfFault>
     ensures { Judges result (first_row (header_rows file.now)) }
 {
-    if file.len() < 64 {
+    if file.len() < EHDR_SIZE {
         return fault(ElfKind::NotElf, file.len() as u64);
     }
-    if file[..4] != [0x7F, 0x45, 0x4C, 0x46] {
+    if file[..4] != [0x7F, b'E', b'L', b'F'] {
         return fault(ElfKind::NotElf, 0);
     }
-    if file[4] != 2 {
-        return fault(ElfKind::NotClass64, 4);
+    if file[EI_CLASS] != ELFCLASS64 {
+        return fault(ElfKind::NotClass64, EI_CLASS as u64);
     }
-    if file[5] != 1 {
-        return fault(ElfKind::NotLittle, 5);
+    if file[EI_DATA] != ELFDATA2LSB {
+        return fault(ElfKind::NotLittle, EI_DATA as u64);
     }
-    if half_at(file, 16) != 2 {
-        return fault(ElfKind::NotExec, 16);
+    if half_at(file, E_TYPE) != ET_EXEC {
+        return fault(ElfKind::NotExec, E_TYPE as u64);
     }
-    if half_at(file, 18) != 243 {
-        return fault(ElfKind::NotRiscv, 18);
+    if half_at(file, E_MACHINE) != EM_RISCV {
+        return fault(ElfKind::NotRiscv, E_MACHINE as u64);
     }
-    if word_at(file, 48) % 2 == 1 {
-        return fault(ElfKind::Compressed, 48);
+    if word_at(file, E_FLAGS) % 2 == 1 {
+        return fault(ElfKind::Compressed, E_FLAGS as u64);
     }
-    let segments = half_at(file, 56);
-    if segments == 65535 {
-        return fault(ElfKind::HeaderOut, 56);
+    let segments = half_at(file, E_PHNUM);
+    if segments == PN_XNUM {
+        return fault(ElfKind::HeaderOut, E_PHNUM as u64);
     }
-    if segments != 0 && half_at(file, 54) != 56 {
-        return fault(ElfKind::HeaderOut, 54);
+    if segments != 0 && half_at(file, E_PHENTSIZE) != PHDR_SIZE as u16 {
+        return fault(ElfKind::HeaderOut, E_PHENTSIZE as u64);
     }
-    if runs_past(file, double_at(file, 32), 56 * segments as u64) {
-        return fault(ElfKind::HeaderOut, 32);
+    if runs_past(
+        file,
+        double_at(file, E_PHOFF),
+        PHDR_SIZE as u64 * segments as u64,
+    ) {
+        return fault(ElfKind::HeaderOut, E_PHOFF as u64);
     }
-    let sections = half_at(file, 60);
-    if sections != 0 && half_at(file, 58) != 64 {
-        return fault(ElfKind::HeaderOut, 58);
+    let sections = half_at(file, E_SHNUM);
+    if sections != 0 && half_at(file, E_SHENTSIZE) != SHDR_SIZE as u16 {
+        return fault(ElfKind::HeaderOut, E_SHENTSIZE as u64);
     }
-    if runs_past(file, double_at(file, 40), 64 * sections as u64) {
-        return fault(ElfKind::HeaderOut, 40);
+    if runs_past(
+        file,
+        double_at(file, E_SHOFF),
+        SHDR_SIZE as u64 * sections as u64,
+    ) {
+        return fault(ElfKind::HeaderOut, E_SHOFF as u64);
     }
-    if sections != 0 && half_at(file, 62) >= sections {
-        return fault(ElfKind::HeaderOut, 62);
+    if sections != 0 && half_at(file, E_SHSTRNDX) >= sections {
+        return fault(ElfKind::HeaderOut, E_SHSTRNDX as u64);
     }
     Ok(())
 }

@@ -2,6 +2,7 @@
 #![tactic(auto)]
 
 mod areas;
+mod codes;
 mod faults;
 mod fields;
 mod header;
@@ -16,6 +17,7 @@ ghost use Rattle.elf_load.specs.Faults.{fault};
 ghost use Rattle.elf_load.specs.Loaded.{Loads, loaded, section};
 
 use crate::areas::{headers, image_areas, load_areas};
+use crate::codes::{E_ENTRY, E_PHNUM};
 use crate::faults::check_tables;
 use crate::fields::{double_at, half_at};
 use crate::header::check_header;
@@ -110,8 +112,8 @@ pub fn load<'a>(alloc: Global, file: &'a [u8]) -> Result<Image<'a>, LoadError>
     check_tables(alloc, file, &segments, &sections, &areas)?;
     let headers = headers(file, &segments);
     let areas = image_areas(alloc, file, &areas)?;
-    let entry = double_at(file, 24);
-    let count = half_at(file, 56);
+    let entry = double_at(file, E_ENTRY);
+    let count = half_at(file, E_PHNUM);
     Ok(Image::new(file, areas, entry, headers, count))
 }
 

@@ -4,6 +4,11 @@ ghost use Rattle.std.specs.Prelude.{◌≡◌, ◌≤◌, ◌+◌, length, IfOk}
 ghost use Rattle.elf_load.specs.Tables.{has_bit, segment_at, segments, section_at, sections, bytes_of, names};
 ghost use Rattle.elf_load.specs.Faults.{HasHeaders};
 
+use crate::codes::{
+    E_PHNUM, E_PHOFF, E_SHNUM, E_SHOFF, E_SHSTRNDX, P_FILESZ, P_FLAGS, P_MEMSZ, P_OFFSET, P_TYPE,
+    P_VADDR, PAGE, PF_R, PF_W, PF_X, PHDR_SIZE, PT_INTERP, PT_LOAD, SH_FLAGS, SH_NAME, SH_OFFSET,
+    SH_SIZE, SH_TYPE, SHDR_SIZE, SHF_COMPRESSED, SHT_NOBITS, SHT_NULL,
+};
 use crate::fields::{double_at, half_at, word_at};
 use std::alloc::{AllocError, Global};
 
@@ -45,32 +50,32 @@ impl Segment {
     pub fn is_load(&self) -> bool
         ensures { result ≡ is_load self.now }
     {
-        self.kind == 1
+        self.kind == PT_LOAD
     }
 
     /// Whether it asks for an interpreter (PT_INTERP).
     pub fn is_interp(&self) -> bool
         ensures { result ≡ is_interp self.now }
     {
-        self.kind == 3
+        self.kind == PT_INTERP
     }
 
     pub fn is_executable(&self) -> bool
         ensures { result ≡ is_executable self.now }
     {
-        has_bit(0, self.flags as u64)
+        has_bit(PF_X, self.flags as u64)
     }
 
     pub fn is_writable(&self) -> bool
         ensures { result ≡ is_writable self.now }
     {
-        has_bit(1, self.flags as u64)
+        has_bit(PF_W, self.flags as u64)
     }
 
     pub fn is_readable(&self) -> bool
         ensures { result ≡ is_readable self.now }
     {
-        has_bit(2, self.flags as u64)
+        has_bit(PF_R, self.flags as u64)
     }
 
     /// Whether it takes memory.
@@ -84,7 +89,7 @@ impl Segment {
     pub fn first_page(&self) -> u64
         ensures { result ≡ first_page self.now }
     {
-        self.vaddr / 4096
+        self.vaddr / PAGE
     }
 
     /// The number of the page after its last one.
@@ -92,7 +97,7 @@ impl Segment {
         ensures page { result ≡ end_page self.now }
         ensures small { result ≤ 2 ^ 53 }
     {
-        ((self.vaddr as u128 + self.memsz as u128 + 4095) / 4096) as u64
+        ((self.vaddr as u128 + self.memsz as u128 + (PAGE as u128 - 1)) / PAGE as u128) as u64
     }
 
     /// Whether its memory has the address.
@@ -118,13 +123,13 @@ impl Section {
     pub fn has_bytes(&self) -> bool
         ensures { result ≡ has_bytes self.now }
     {
-        !(self.kind == 0 || self.kind == 8)
+        !(self.kind == SHT_NULL || self.kind == SHT_NOBITS)
     }
 
     pub fn is_compressed(&self) -> bool
         ensures { result ≡ is_compressed self.now }
     {
-        has_bit(11, self.flags)
+        has_bit(SHF_COMPRESSED, self.flags)
     }
 }
 
@@ -134,12 +139,12 @@ fn segment_at(file: &[u8], place: usize) -> Segment
 {
     Segment {
         place: place as u64,
-        kind: word_at(file, place),
-        flags: word_at(file, place + 4),
-        offset: double_at(file, place + 8),
-        vaddr: double_at(file, place + 16),
-        filesz: double_at(file, place + 32),
-        memsz: double_at(file, place + 40),
+        kind: word_at(file, place + P_TYPE),
+        flags: word_at(file, place + P_FLAGS),
+        offset: double_at(file, place + P_OFFSET),
+        vaddr: double_at(file, place + P_VADDR),
+        filesz: double_at(file, place + P_FILESZ),
+        memsz: double_at(file, place + P_MEMSZ),
     }
 }
 
@@ -148,11 +153,11 @@ pub fn read_segments(alloc: Global, file: &[u8]) -> Result<Vec<Segment>, AllocEr
     requires { HasHeaders file.now }
     ensures { IfOk result (λ read. read.items ≡ segments file.now) }
 {
-    let first = double_at(file, 32);
-    let count = half_at(file, 56) as usize;
+    let first = double_at(file, E_PHOFF);
+    let count = half_at(file, E_PHNUM) as usize;
     let mut segments = Vec::with_capacity(alloc, count)?;
     for index in 0..count {
-        segments.push(segment_at(file, first as usize + 56 * index))?;
+        segments.push(segment_at(file, first as usize + PHDR_SIZE * index))?;
     }
     Ok(segments)
 }
@@ -163,11 +168,11 @@ pub fn section_at(file: &[u8], place: usize) -> Section
 {
     Section {
         place: place as u64,
-        name: word_at(file, place),
-        kind: word_at(file, place + 4),
-        flags: double_at(file, place + 8),
-        offset: double_at(file, place + 24),
-        size: double_at(file, place + 32),
+        name: word_at(file, place + SH_NAME),
+        kind: word_at(file, place + SH_TYPE),
+        flags: double_at(file, place + SH_FLAGS),
+        offset: double_at(file, place + SH_OFFSET),
+        size: double_at(file, place + SH_SIZE),
     }
 }
 
@@ -176,11 +181,11 @@ pub fn read_sections(alloc: Global, file: &[u8]) -> Result<Vec<Section>, AllocEr
     requires { HasHeaders file.now }
     ensures { IfOk result (λ read. read.items ≡ sections file.now) }
 {
-    let first = double_at(file, 40);
-    let count = half_at(file, 60) as usize;
+    let first = double_at(file, E_SHOFF);
+    let count = half_at(file, E_SHNUM) as usize;
     let mut sections = Vec::with_capacity(alloc, count)?;
     for index in 0..count {
-        sections.push(section_at(file, first as usize + 64 * index))?;
+        sections.push(section_at(file, first as usize + SHDR_SIZE * index))?;
     }
     Ok(sections)
 }
@@ -200,12 +205,12 @@ pub fn names(file: &[u8]) -> &[u8]
     requires { HasHeaders file.now }
     ensures { result.now ≡ names file.now }
 {
-    let index = half_at(file, 62);
-    if index == 0 || index >= half_at(file, 60) {
+    let index = half_at(file, E_SHSTRNDX);
+    if index == 0 || index >= half_at(file, E_SHNUM) {
         return &[];
     }
-    let first = double_at(file, 40);
-    let section = section_at(file, first as usize + 64 * index as usize);
+    let first = double_at(file, E_SHOFF);
+    let section = section_at(file, first as usize + SHDR_SIZE * index as usize);
     if section.has_bytes() {
         bytes_of(file, &section)
     } else {

@@ -17,6 +17,54 @@ const TEXT_START: u64 = 0x1_0000;
 /// The names of the sections, each with a zero behind it.
 pub const NAMES: [u8; 35] = *b"\0.text\0.data\0.debug_line\0.shstrtab\0";
 
+// The places of the names.
+const TEXT_NAME: u32 = 1;
+
+const DATA_NAME: u32 = 7;
+
+const LINES_NAME: u32 = 13;
+
+const NAMES_NAME: u32 = 25;
+
+/// How many sections there are, with the null one.
+const SECTIONS: u16 = 5;
+
+/// The number of the section of the names.
+const NAMES_SECTION: u16 = 4;
+
+// Codes of the file's header (ELF64; RISC-V ELF psABI).
+const ET_EXEC: u16 = 2;
+
+const EM_RISCV: u16 = 243;
+
+const EV_CURRENT: u32 = 1;
+
+const EHDR_SIZE: u16 = 64;
+
+const PHDR_SIZE: u16 = 56;
+
+const SHDR_SIZE: u16 = 64;
+
+/// The type of a segment that is loaded.
+const PT_LOAD: u32 = 1;
+
+/// PF_R and PF_X.
+const TEXT_RIGHTS: u32 = 5;
+
+/// PF_R and PF_W.
+const DATA_RIGHTS: u32 = 6;
+
+// The types of sections.
+const SHT_PROGBITS: u32 = 1;
+
+const SHT_STRTAB: u32 = 3;
+
+/// SHF_ALLOC and SHF_EXECINSTR.
+const TEXT_FLAGS: u64 = 6;
+
+/// SHF_WRITE and SHF_ALLOC.
+const DATA_FLAGS: u64 = 3;
+
 /// The least multiple that isn't below `n`.
 fn up_to_multiple(multiple: u64, n: u64) -> u64
     requires some { 0 < multiple }
@@ -121,19 +169,19 @@ pub fn file_header(
 {
     let magic = [0x7F, 0x45, 0x4C, 0x46, 2, 1, 1, 0, 0, 0, 0, 0, 0, 0, 0, 0];
     let mut out = Vec::from_slice(alloc, &magic)?;
-    push_half(&mut out, 2)?;
-    push_half(&mut out, 243)?;
-    push_word(&mut out, 1)?;
+    push_half(&mut out, ET_EXEC)?;
+    push_half(&mut out, EM_RISCV)?;
+    push_word(&mut out, EV_CURRENT)?;
     push_double(&mut out, entry)?;
-    push_double(&mut out, 64)?;
+    push_double(&mut out, u64::from(EHDR_SIZE))?;
     push_double(&mut out, headers)?;
     push_word(&mut out, 0)?;
-    push_half(&mut out, 64)?;
-    push_half(&mut out, 56)?;
+    push_half(&mut out, EHDR_SIZE)?;
+    push_half(&mut out, PHDR_SIZE)?;
     push_half(&mut out, segments)?;
-    push_half(&mut out, 64)?;
-    push_half(&mut out, 5)?;
-    push_half(&mut out, 4)?;
+    push_half(&mut out, SHDR_SIZE)?;
+    push_half(&mut out, SECTIONS)?;
+    push_half(&mut out, NAMES_SECTION)?;
     Ok(out)
 }
 
@@ -149,7 +197,7 @@ fn segment(
     ensures { IfOk result (λ v. v.items ≡ segment flags place address size) }
 {
     let mut out = Vec::new(alloc);
-    push_word(&mut out, 1)?;
+    push_word(&mut out, PT_LOAD)?;
     push_word(&mut out, flags)?;
     push_double(&mut out, place)?;
     push_double(&mut out, address)?;
@@ -166,11 +214,17 @@ pub fn segments(alloc: Global, assembled: &Assembled) -> Result<Vec<u8>, AllocEr
     requires { IsWritable (view assembled.now) }
     ensures { IfOk result (λ v. v.items ≡ segments (view assembled.now)) }
 {
-    let mut out = segment(alloc, 5, PAGE, TEXT_START, assembled.text.len() as u64)?;
+    let mut out = segment(
+        alloc,
+        TEXT_RIGHTS,
+        PAGE,
+        TEXT_START,
+        assembled.text.len() as u64,
+    )?;
     if has_content(assembled) {
         let pages = whole_pages(assembled);
         let size = assembled.content.len() as u64;
-        let data = segment(alloc, 6, PAGE + pages, TEXT_START + pages, size)?;
+        let data = segment(alloc, DATA_RIGHTS, PAGE + pages, TEXT_START + pages, size)?;
         out.extend_from_slice(&data)?;
     }
     Ok(out)
@@ -213,9 +267,33 @@ pub fn sections(alloc: Global, assembled: &Assembled, unit: &[u8]) -> Result<Vec
     let text = assembled.text.len() as u64;
     let content = assembled.content.len() as u64;
     let mut out = section(alloc, 0, 0, 0, 0, 0, 0)?;
-    out.extend_from_slice(&section(alloc, 1, 1, 6, PAGE, text, 4)?)?;
-    out.extend_from_slice(&section(alloc, 7, 1, 3, content_place(assembled), content, 8)?)?;
-    out.extend_from_slice(&section(alloc, 13, 1, 0, unit_place(assembled), unit.len() as u64, 1)?)?;
-    out.extend_from_slice(&section(alloc, 25, 3, 0, names_place(assembled, unit), 35, 1)?)?;
+    out.extend_from_slice(&section(alloc, TEXT_NAME, SHT_PROGBITS, TEXT_FLAGS, PAGE, text, 4)?)?;
+    out.extend_from_slice(&section(
+        alloc,
+        DATA_NAME,
+        SHT_PROGBITS,
+        DATA_FLAGS,
+        content_place(assembled),
+        content,
+        8,
+    )?)?;
+    out.extend_from_slice(&section(
+        alloc,
+        LINES_NAME,
+        SHT_PROGBITS,
+        0,
+        unit_place(assembled),
+        unit.len() as u64,
+        1,
+    )?)?;
+    out.extend_from_slice(&section(
+        alloc,
+        NAMES_NAME,
+        SHT_STRTAB,
+        0,
+        names_place(assembled, unit),
+        35,
+        1,
+    )?)?;
     Ok(out)
 }

@@ -21,8 +21,22 @@ const TWO_FILES: [u8; 6] = [2, 1, 8, 2, 11, 2];
 /// The sizes of an address and of a segment.
 const SIZES: [u8; 2] = [8, 0];
 
-/// The end of the sequence.
-const END_SEQUENCE: [u8; 3] = [0, 1, 1];
+// The opcodes that are written (DWARF 5, 6.2.5.2 and 6.2.5.3).
+const DW_LNS_COPY: u8 = 1;
+
+const DW_LNS_ADVANCE_PC: u8 = 2;
+
+const DW_LNS_ADVANCE_LINE: u8 = 3;
+
+const DW_LNE_END_SEQUENCE: u8 = 1;
+
+const DW_LNE_SET_ADDRESS: u8 = 2;
+
+/// The end of the sequence: an extended opcode of one byte.
+const END_SEQUENCE: [u8; 3] = [0, 1, DW_LNE_END_SEQUENCE];
+
+/// The head of the extended opcode of 9 bytes that sets the address.
+const SET_ADDRESS: [u8; 3] = [0, 9, DW_LNE_SET_ADDRESS];
 
 /// The address moves on by so many words.
 fn push_advance_pc(out: &mut Vec<u8>, words: u32) -> Result<(), AllocError>
@@ -32,7 +46,7 @@ fn push_advance_pc(out: &mut Vec<u8>, words: u32) -> Result<(), AllocError>
     if words == 0 {
         return Ok(());
     }
-    out.push(2)?;
+    out.push(DW_LNS_ADVANCE_PC)?;
     push_uleb(out, u64::from(words))
 }
 
@@ -43,7 +57,7 @@ fn push_advance_line(out: &mut Vec<u8>, old: u32, new: u32) -> Result<(), AllocE
     if old == new {
         return Ok(());
     }
-    out.push(3)?;
+    out.push(DW_LNS_ADVANCE_LINE)?;
     push_sleb(out, i64::from(new) - i64::from(old))
 }
 
@@ -54,7 +68,7 @@ fn push_row(out: &mut Vec<u8>, words: u32, old: u32, new: u32) -> Result<(), All
 {
     push_advance_pc(out, words)?;
     push_advance_line(out, old, new)?;
-    out.push(1)?;
+    out.push(DW_LNS_COPY)?;
     Ok(())
 }
 
@@ -83,7 +97,7 @@ fn line_program(alloc: Global, lines: &[u32]) -> Result<Vec<u8>, AllocError>
     requires { length lines.now < 2 ^ 20 }
     ensures { IfOk result (λ v. v.items ≡ line_program lines.now) }
 {
-    let mut out = Vec::from_slice(alloc, &[0, 9, 2])?;
+    let mut out = Vec::from_slice(alloc, &SET_ADDRESS)?;
     push_double(&mut out, TEXT_START)?;
     match lines.split_first() {
         None => out.extend_from_slice(&END_SEQUENCE)?,
