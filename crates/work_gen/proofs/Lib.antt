@@ -1,0 +1,11 @@
+mod Adding
+mod Texts
+mod Reading
+mod Names
+mod Steps
+mod Running
+mod Filling
+mod Blocks
+mod Ends
+mod Accepted
+mod Short

@@ -1,0 +1,93 @@
+//! Makes a large source of assembly from a number, the same on each machine.
+#![tactic(auto)]
+
+mod draws;
+mod kinds;
+mod listing;
+
+ghost use Rattle.std.specs.Prelude.{◌≡◌, ◌≤◌, length, IfOk};
+ghost use Rattle.work_gen.specs.Text.{generated, view};
+ghost use Rattle.work_gen.specs.Accepted.{IsAccepted};
+
+use crate::kinds::put_blocks;
+use crate::listing::Listing;
+use coz_lists::Items;
+use std::alloc::{AllocError, Global};
+
+/// A source, and the line of its progress point.
+#[derive(Drop)]
+pub struct Generated {
+    pub text: Items<u8>,
+    /// Counted from 1. Each hart passes it once, at its end.
+    pub point: u32,
+}
+
+/// The lines before the blocks: three more harts are started, and all work.
+const OPENING: [&[u8]; 17] = [
+    b"    .text",
+    b"_start:",
+    b"    li s0, 3",
+    b"spawn:",
+    b"    li a0, 69376",
+    b"    li a1, 0",
+    b"    li a2, 0",
+    b"    li a3, 0",
+    b"    li a4, 0",
+    b"    li a7, 220",
+    b"    ecall",
+    b"    beq a0, x0, work",
+    b"    addi s0, s0, -1",
+    b"    bne s0, x0, spawn",
+    b"work:",
+    b"    la a4, lock",
+    b"    la a5, total",
+];
+
+/// The lines between the blocks and the progress point.
+const MIDDLE: [&[u8]; 2] = [b"    la a0, ended", b"    li a1, 1"];
+
+/// The progress point and what is behind it: the last hart ends the program.
+const ENDING: [&[u8]; 18] = [
+    b"    amoadd.w a2, a1, (a0)",
+    b"    li a3, 3",
+    b"    beq a2, a3, last",
+    b"    li a0, 0",
+    b"    li a7, 93",
+    b"    ecall",
+    b"last:",
+    b"    li a0, 0",
+    b"    li a7, 94",
+    b"    ecall",
+    b"    .data",
+    b"    .align 3",
+    b"total:",
+    b"    .dword 0",
+    b"lock:",
+    b"    .word 0",
+    b"ended:",
+    b"    .word 0",
+];
+
+/// The text that a seed and 1 to 2,000 blocks make. The assembler accepts each, and it has at most 2 MiB.
+#[tactic(auto, unfolding(crate::specs::Text::generated))]
+pub fn source(alloc: Global, seed: u64, size: u32) -> Result<Generated, AllocError>
+    requires least { 1 ≤ size }
+    requires most { size ≤ 2000 }
+    ensures text { IfOk result (λ g. view g ≡ generated seed size) }
+    ensures accepted { IfOk result (λ g. IsAccepted (view g)) }
+    ensures short { IfOk result (λ g. length g.text ≤ 2097152) }
+{
+    let mut listing = Listing {
+        text: Vec::new(alloc),
+        lines: 0,
+    };
+    listing.put_all(&OPENING)?;
+    put_blocks(&mut listing, size, seed)?;
+    listing.put_all(&MIDDLE)?;
+    let point = listing.lines + 1;
+    listing.put_all(&ENDING)?;
+    Ok(Generated {
+        text: Items::new(listing.text),
+        point,
+    })
+}
