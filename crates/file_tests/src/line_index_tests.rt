@@ -96,6 +96,7 @@ fn the_first_row_in_file_order_has_the_address(rt: HostRuntime) -> Result<(), Fa
         row(0, 0x10004, 0, 1),
         row(0, 0x10008, 0, 1),
         row(1, 0x10000, 0, 2),
+        row(1, 0x10002, 0, 2),
         row(1, 0x1000C, 0, 2),
     ];
     let index = index_of(rt.alloc(), &FILES, &rows)?;
@@ -171,6 +172,8 @@ fn a_whole_path_is_found_before_an_ending(rt: HostRuntime) -> Result<(), Fail> {
         file(b"a/b.s"),
         file(b"xb.s"),
         file(b"/b.s"),
+        file(b"b/a/m.s"),
+        file(b"a/b/m.s"),
     ];
     let rows = [
         row(0, 0x10000, 0, 9),
@@ -179,12 +182,16 @@ fn a_whole_path_is_found_before_an_ending(rt: HostRuntime) -> Result<(), Fail> {
         row(0, 0x1000C, 2, 7),
         row(0, 0x10010, 3, 9),
         row(0, 0x10014, 4, 11),
-        row(0, 0x10018, 0, 1),
+        row(0, 0x10018, 5, 7),
+        row(0, 0x1001C, 6, 7),
+        row(0, 0x10020, 0, 1),
     ];
     let index = index_of(rt.alloc(), &files, &rows)?;
     let names = [
-        (b"b.s".as_slice(), 7, Some(LineId(2))),
-        (b"b.s".as_slice(), 9, Some(LineId(4))),
+        (b"b.s".as_slice(), 7, Some(LineId(3))),
+        (b"b.s".as_slice(), 9, Some(LineId(6))),
+        // The first by its path, though not by its path read backwards.
+        (b"m.s".as_slice(), 7, Some(LineId(2))),
         (b"b.s".as_slice(), 11, Some(LineId(0))),
         (b"/b.s".as_slice(), 11, Some(LineId(0))),
         (b"a/b.s".as_slice(), 7, Some(LineId(1))),
@@ -194,7 +201,7 @@ fn a_whole_path_is_found_before_an_ending(rt: HostRuntime) -> Result<(), Fail> {
         (b"".as_slice(), 7, None),
     ];
     assert!(rt; are_found(&index, &names));
-    assert_eq!(rt; index.count(), 6);
+    assert_eq!(rt; index.count(), 8);
     Ok(())
 }
 
