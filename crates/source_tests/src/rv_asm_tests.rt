@@ -49,11 +49,21 @@ const FAULTS: [(&[u8], AsmKind, u32, u32); 22] = [
     (b".data\n.byte 300 x", AsmKind::Range, 2, 7),
     (b"j a\nj b", AsmKind::Missing, 1, 3),
     (b".data\n.zero 1048576\n.byte 1", AsmKind::Much, 3, 1),
-    (b".data\n.byte 1\n.align 12\n.zero 1044481", AsmKind::Much, 4, 1),
+    (
+        b".data\n.byte 1\n.align 12\n.zero 1044481",
+        AsmKind::Much,
+        4,
+        1,
+    ),
     (b"nop\nj t\n.data\n.zero 1044484\nt:", AsmKind::Far, 2, 3),
     (b"beq x0, x0, t\n.data\n.byte 1\nt:", AsmKind::Far, 1, 13),
     // a distance that is odd
-    (b"nop\nbeq x0, x0, t\n.data\n.byte 1\nt:", AsmKind::Far, 2, 13),
+    (
+        b"nop\nbeq x0, x0, t\n.data\n.byte 1\nt:",
+        AsmKind::Far,
+        2,
+        13,
+    ),
     (b".data\n.dword t", AsmKind::Missing, 2, 8),
 ];
 
