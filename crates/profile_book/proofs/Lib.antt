@@ -17,3 +17,4 @@ pub mod BlocksAgain
 pub mod CutLines
 pub mod Only
 pub mod Gathering
+pub mod Falls

@@ -10,6 +10,7 @@ use Rattle.profile_book.specs.Judging.{IsRead}
 use Rattle.profile_book.specs.Profile.{IsProfile, IsTextOf, profile_text}
 use Rattle.profile_book.specs.Items.{items_of}
 use Rattle.profile_book.specs.Reading.{Gives, profile_at}
+use Rattle.profile_book.specs.Told.{or_nothing, told}
 use Rattle.profile_book.specs.Grammar.{book_fault}
 use Rattle.profile_book.proofs.Texts.{items_few, reading_is, IsReading}
 use Rattle.profile_book.proofs.Again.{head_items, names_items}
@@ -56,3 +57,7 @@ pub no_fault_of_text : (bytes : Text) (p : Profile) → IsTextOf p bytes → boo
 no_fault_of_text bytes p is =
     let reads : profile_at (length bytes) (items_of bytes) ≡ Ok p = ap (λ (t : Text). profile_at (length t) (items_of t)) is.1 ∙ written_is_read p is.0 in
     (subst (IsReading bytes) reads (reading_is bytes)).0
+
+pub told_is : (bytes : Text) (p : Profile) → IsTextOf p bytes → told bytes ≡ p
+unfolding told
+told_is bytes p is = ap or_nothing (ap (λ (t : Text). profile_at (length t) (items_of t)) is.1 ∙ written_is_read p is.0)

@@ -4,6 +4,7 @@ pub mod EndingSpellings
 pub mod Grammar
 pub mod Judging
 pub mod Reading
+pub mod Told
 pub mod Standing
 pub mod Scanning
 pub mod Parts

@@ -24,5 +24,7 @@ mod written_lines;
 pub use fault::{BookError, BookFault, BookField};
 pub use pieces::{put_field, put_number};
 pub use profile::Profile;
-pub use reader::{read_profile, texts_have_no_fault};
+pub use reader::{
+    labels_rise_or_fall, read_profile, texts_have_no_fault, texts_tell_their_profile,
+};
 pub use writer::{profile_text, write_profile};

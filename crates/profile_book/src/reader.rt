@@ -1,9 +1,11 @@
 //! The reader of a profile's text.
-ghost use Rattle.std.specs.Prelude.{◌≡◌, ◌↔◌, ℕ, List, length, IfOk, None};
+ghost use Rattle.std.specs.Prelude.{◌≡◌, ◌↔◌, ℕ, List, length, not, true, IfOk, None, Some};
+ghost use Rattle.coz_types.specs.Labels.{is_label, label_before};
 ghost use Rattle.profile_book.specs.Profile.{IsTextOf};
 ghost use Rattle.profile_book.specs.Items.{items_of};
-ghost use Rattle.profile_book.specs.Grammar.{book_fault};
+ghost use Rattle.profile_book.specs.Grammar.{book_fault, not_before};
 ghost use Rattle.profile_book.specs.Reading.{Gives, profile_at};
+ghost use Rattle.profile_book.specs.Told.{told};
 ghost use Rattle.profile_book.specs.Judging.{IsJudged, IsRead};
 ghost use Rattle.profile_book.specs.declared.profile.Profile.{Profile};
 
@@ -46,4 +48,15 @@ pub fn read_profile(alloc: Global, bytes: &[u8]) -> Result<Profile, BookError>
 /// There is no fault exactly where the bytes are the text of a profile.
 pub fn texts_have_no_fault()
     ensures { (bytes : List ℕ) → (book_fault bytes ≡ None) ↔ ((p : Profile) × IsTextOf p bytes) }
+{}
+
+/// A profile's text tells this profile.
+pub fn texts_tell_their_profile()
+    ensures { (bytes : List ℕ) (p : Profile) → IsTextOf p bytes → told bytes ≡ p }
+{}
+
+/// A label that isn't right behind the one before it falls: it comes before that one.
+pub fn labels_rise_or_fall()
+    ensures { (last label : List ℕ) → is_label last ≡ true → is_label label ≡ true →
+        not_before (Some last) label ≡ not (label_before label last) }
 {}
