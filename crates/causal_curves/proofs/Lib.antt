@@ -1,3 +1,4 @@
 pub mod FirstGroups
 pub mod Gains
 pub mod Ranks
+pub mod Rankings

@@ -100,3 +100,17 @@ pub record IsRanking (curves ranked : List Curve) : Type 0 where
   pub all : IsPermutation curves ranked
   pub sorted : IsSortedBy ranks_before ranked
   pub stable : IsStableBy ranks_before curves ranked
+
+-- an element among others, before the first that it isn't behind
+abbrev pub put_by : {X : Type 0} → (X → X → Bool) → X → List X → List X
+put_by lt x [] = x ∷ []
+put_by lt x (y ∷ ys) = elim (lt y x) [ true ↦ y ∷ put_by lt x ys | false ↦ x ∷ y ∷ ys ]
+
+-- the elements in order, those that tie as they stood
+unfoldable pub sorted_by : {X : Type 0} → (X → X → Bool) → List X → List X
+sorted_by lt [] = []
+sorted_by lt (x ∷ xs) = put_by lt x (sorted_by lt xs)
+
+-- the curves by rank: the one list that is their ranking
+abbrev pub ranked : List Curve → List Curve
+ranked curves = sorted_by ranks_before curves

@@ -2,7 +2,7 @@
 ghost use Rattle.std.specs.Prelude.{◌≡◌, ◌++◌, map, length, IfOk, OnOk};
 ghost use Rattle.std.specs.List.{All};
 ghost use Rattle.profile_book.specs.Profile.{IsProfile};
-ghost use Rattle.causal_curves.specs.Curves.{groups, curve_of, curves_at, curves_of, IsRanking};
+ghost use Rattle.causal_curves.specs.Curves.{groups, curve_of, curves_at, curves_of, ranked, IsRanking};
 ghost use Rattle.causal_curves.specs.Measured.{IsMeasured};
 
 use crate::curve::Curve;
@@ -47,7 +47,8 @@ fn all_curves(alloc: Global, profile: &Profile) -> Result<Vec<Curve>, AllocError
 /// The curves of each progress point over each line, by rank.
 pub fn curves(alloc: Global, profile: &Profile) -> Result<Items<Curve>, AllocError>
     requires { IsProfile profile.now }
-    ensures { IfOk result (IsRanking (curves_of profile.now)) }
+    ensures ranking { IfOk result (IsRanking (curves_of profile.now)) }
+    ensures ranked { IfOk result (λ curves. curves ≡ ranked (curves_of profile.now)) }
 {
     let mut curves = all_curves(alloc, profile)?;
     curves.sort_by_key(|curve| (curve.point, Reverse(curve.gain)))?;
