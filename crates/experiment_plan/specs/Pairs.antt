@@ -1,5 +1,5 @@
 -- The pairs of lines and speedups that a plan is.
-use Rattle.std.specs.Prelude.{◌≡◌, ℕ, ◌≤◌, ◌<◌, List, ◌∷◌, length, map, flat_map, Result, Ok, Err}
+use Rattle.std.specs.Prelude.{◌≡◌, ℕ, ◌≤◌, ◌<◌, List, ◌∷◌, length, map, flat_map, All, Result, Ok, Err}
 use Rattle.std.specs.declared.cmp.Ordering.{Ordering}
 use Rattle.std.specs.Ordering.{nat_cmp, ordering_then}
 use Rattle.coz_types.specs.declared.LineId.{LineId}
@@ -23,12 +23,14 @@ planned lines speedups = pairs_of lines (rising (0 ∷ speedups))
 abbrev pub pair_cmp : Experiment → Experiment → Ordering
 pair_cmp e f = ordering_then (nat_cmp e.line.0 f.line.0) (nat_cmp e.speedup f.speedup)
 
--- pairs of so many speedups a line
-pub record IsEven (count : ℕ) (pairs : List Experiment) : Type 0 where
+-- the pairs of a plan: of so many speedups a line, none above 95 per cent, and at most 100,000 pairs
+pub record ArePlanned (count : ℕ) (pairs : List Experiment) : Type 0 where
   pub lines : List LineId
   pub speedups : List ℕ
   pub all : pairs ≡ pairs_of lines speedups
   pub as_many : count ≡ length speedups
+  pub slow : All (λ (pair : Experiment). pair.speedup ≤ 95) pairs
+  pub few : length pairs ≤ 100000
 
 -- all pairs, or how many they are, which is above 100,000
 abbrev pub IsPlan : List LineId → List ℕ → Result (List Experiment) PlanError → Type 0

@@ -1,5 +1,6 @@
 //! The experiments of a profile, and why there are none.
-ghost use Rattle.std.specs.Prelude.{◌≡◌};
+ghost use Rattle.std.specs.Prelude.{◌≡◌, ◌≤◌, length, All};
+ghost use Rattle.experiment_plan.specs.declared.experiment.Experiment.{Experiment};
 ghost use Rattle.experiment_plan.specs.declared.experiment.PlanError.TheVariants.{Memory};
 
 use coz_types::LineId;
@@ -29,7 +30,7 @@ impl From<AllocError> for PlanError {
     }
 }
 
-/// The experiments of a profile, by line and then by speedup. Contracts see the list of them.
+/// The experiments of a profile, by line and then by speedup: at most 100,000. Contracts see the list of them.
 #[derive(Drop)]
 pub struct Plan {
     pub(crate) pairs: Vec<Experiment>,
@@ -43,17 +44,19 @@ impl Model for Plan {
 
     ghost Value = { List Experiment };
 
-    ghost use Rattle.experiment_plan.specs.Pairs.{IsEven};
+    ghost use Rattle.experiment_plan.specs.Pairs.{ArePlanned};
 
     ghost view = { λ plan. plan.pairs.items };
 
-    ghost invariant = { λ plan. IsEven plan.speedups plan.pairs.items };
+    ghost invariant = { λ plan. ArePlanned plan.speedups plan.pairs.items };
 }
 
 impl Plan {
     /// The experiments, by line and then by speedup.
     pub fn pairs(&self) -> &[Experiment]
-        ensures { result.now ≡ self.now }
+        ensures pairs { result.now ≡ self.now }
+        ensures few { length result.now ≤ 100000 }
+        ensures speedups { All (λ (pair : Experiment). pair.speedup ≤ 95) result.now }
     {
         &self.pairs
     }

@@ -3,3 +3,5 @@ pub mod Counting
 pub mod Hashing
 pub mod Within
 pub mod Summing
+mod Joined
+mod Ordered

@@ -1,2 +1,5 @@
 pub mod Choices
 pub mod Summaries
+pub mod Work
+pub mod Worked
+pub mod Jobs

@@ -8,6 +8,7 @@ use Rattle.coz_types.specs.declared.record.Summary.{Summary}
 use Rattle.machines.specs.Shortened.{NetVisit}
 use Rattle.machines.specs.Records.{Record, net}
 use Rattle.machines.specs.Standing.{delayed_record}
+use Rattle.experiment_plan.specs.declared.experiment.Experiment.{Experiment}
 use Rattle.line_index.specs.Lines.{label}
 use Rattle.line_index.specs.Index.{Index, position_at}
 use Rattle.progress_points.specs.Points.{Points, point_of}
@@ -48,3 +49,8 @@ summary_in image index points input budget line speedup =
     let choice = choice_of (Some line) speedup budget in
     summary_of (get_or (map label index.lines) line []) speedup (length points.lines)
     (delayed_record (experiment image (position_at index) (point_of points) input choice))
+
+-- the summary of the run of each pair, in the plan's order
+abbrev pub summaries_of : ImageParts → Index → Points → List ℕ → ℕ → List Experiment → List Summary
+summaries_of image index points input budget plan =
+    map (λ (pair : Experiment). summary_in image index points input budget pair.line.0 pair.speedup) plan

@@ -1,11 +1,16 @@
-//! The runs of a plan's experiments, and what a profile keeps of each.
+//! The runs of a plan's experiments by workers, and what a profile keeps of each.
 #![tactic(auto)]
 
+mod claimed;
 mod counts;
 mod digests;
+mod job;
 mod limits;
 mod outcomes;
+mod pool;
 mod summary;
+mod work;
 
 pub use limits::choice;
+pub use pool::run_plan;
 pub use summary::{run_pair, summarise};

@@ -55,7 +55,7 @@ returns-clause-settled c = λ _.
     let runs = runs_in c.args.image.now index c.args.input.now in
     let planned = subst (λ (ps : List ℕ). IsPlan lines ps (Ok pairs)) c.as_slice.ensures (subst (λ (ls : List LineId). IsPlan ls c.as_slice.result.now (Ok pairs)) c.deref.ensures.value c.in_ok-plan.ensures.plan) in
     let ran = c.in_ok-summaries.ensures.summaries
-    ∙ ap (λ (ps : List Pair). summaries_of c.args.image.now index points c.args.input.now asked.budget ps) c.pairs.ensures
+    ∙ ap (λ (ps : List Pair). summaries_of c.args.image.now index points c.args.input.now asked.budget ps) c.pairs.ensures.pairs
     ∙ summaries_are c.args.image.now index points c.args.input.now asked.budget pairs c.in_ok-points.ensures.points in
     after_points asked index.lines runs (ids lines) _ c.bytes_of.ensures
     (c.in_ok-lines.ensures.settled (λ never. never)) points.lines _ c.bytes_of-2.ensures

@@ -2,7 +2,7 @@ use Rattle.std.proofs.Common.{◌≤◌, ◌<◌, ℕ, List, ◌∷◌, All, len
 use Rattle.std.specs.List.Sorted.{IsStrictlySortedBy}
 use Rattle.experiment_plan.specs.declared.experiment.Experiment.{Experiment}
 use Rattle.experiment_plan.specs.Selected.{rising}
-use Rattle.experiment_plan.specs.Pairs.{pair_cmp}
+use Rattle.experiment_plan.specs.Pairs.{pair_cmp, pairs_of}
 use Rattle.experiment_plan.proofs.Rising.{rises}
 use Rattle.experiment_plan.proofs.Pairing.{few_speedups, plan_of, plan_length, sorted_pairs, lines_below, speedups_few}
 use Rattle.experiment_plan.proofs.planning.plan.Goals as goal
@@ -22,6 +22,20 @@ returns-clause-plan c =
     let count = plan_length c.args.lines.now c.args.speedups.now _ _ _ c.pair_count-count.ensures c.deref.ensures.value c.in_ok-speedups.ensures in
     let few : c.pair_count-count.result ≤ 100000 = search rules in
     (is, omega (arith, few, count, ap length is))
+
+pub invariant_of-result : goal.invariant_of-result
+invariant_of-result c =
+    let is = plan_of c.args.lines.now c.args.speedups.now _ _ _ c.in_ok-pairs.ensures c.deref-2.ensures.value c.in_ok-speedups.ensures in
+    let count = plan_length c.args.lines.now c.args.speedups.now _ _ _ c.pair_count-count.ensures c.deref.ensures.value c.in_ok-speedups.ensures in
+    let most : c.pair_count-count.result ≤ 100000 = search rules in
+    record {
+      lines = c.args.lines.now;
+      speedups = c.in_ok-speedups.speedups.items;
+      all = c.in_ok-pairs.ensures ∙ ap (λ (ps : List ℕ). pairs_of c.args.lines.now ps) c.deref-2.ensures.value;
+      as_many = search rules;
+      slow = subst (All (λ (pair : Experiment). pair.speedup ≤ 95)) (sym is) (speedups_few c.args.lines.now c.args.speedups.now c.requires.speedups);
+      few = omega (arith, most, count, ap length is);
+    }
 
 pub returns-clause-in_order : goal.returns-clause-in_order
 returns-clause-in_order c =

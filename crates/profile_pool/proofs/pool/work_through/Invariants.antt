@@ -1,0 +1,16 @@
+use Rattle.std.proofs.Common.{◌+◌, ◌≤◌, length}
+use Rattle.experiment_claims.specs.Seats.{hand_of, IsSeatOf, bound_of}
+use Rattle.profile_pool.specs.Work.{work_at}
+use Rattle.profile_pool.specs.Worked.{Worked, AreSummaries}
+use Rattle.profile_pool.proofs.pool.work_through.Given as goal
+
+-- no draw has met the bound so far
+abbrev pub invariant-loop-claim : goal.invariant-loop-claim
+invariant-loop-claim g l =
+    IsSeatOf l.claims l.seat
+    × Worked (work_at l.work) (bound_of l.claims) (bound_of l.claims + 1) 0 (hand_of l.seat) l.done.items
+    × (length (hand_of l.seat).numbers ≤ bound_of l.claims)
+    × AreSummaries (length l.work.points.now.lines) l.done.items
+
+abbrev pub decreases-loop-claim : goal.decreases-loop-claim
+decreases-loop-claim g l = (hand_of l.seat).turns

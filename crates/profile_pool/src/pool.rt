@@ -1,0 +1,179 @@
+//! Workers that draw the claims of a plan from one word.
+ghost use Rattle.std.specs.Prelude.{◌≡◌, ℕ, ◌+◌, ◌*◌, ◌<◌, ◌≤◌, ◌^◌, map, [], IfOk, length, All, vec_len};
+ghost use Rattle.std.specs.List.{range_with_len};
+ghost use Rattle.coz_types.specs.declared.record.Summary.{Summary};
+ghost use Rattle.coz_types.specs.Ranges.{IsSummary};
+ghost use Rattle.experiment_claims.specs.Drawn.{hand};
+ghost use Rattle.experiment_claims.specs.Seats.{hand_of, IsSeatOf, bound_of};
+ghost use Rattle.experiment_plan.specs.declared.experiment.Experiment.{Experiment};
+ghost use Rattle.profile_pool.specs.Summaries.{summaries_of};
+ghost use Rattle.profile_pool.specs.Work.{work_at, IsWork};
+ghost use Rattle.profile_pool.specs.Worked.{Worked, EachClaim, AreSummaries};
+ghost use Rattle.profile_pool.specs.Jobs.{IsJob, IsAnswer};
+
+use crate::claimed::{Claimed, summary_at};
+use crate::job::{Answer, Job};
+use crate::work::Work;
+use coz_files::Gate;
+use coz_types::{Image, Summary};
+use experiment_claims::{ClaimSeat, Claims};
+use experiment_plan::Plan;
+use line_index::LineIndex;
+use progress_points::Points;
+use std::alloc::{AllocError, Global};
+use std::thread;
+use std::thread::Threads;
+
+/// Draws until there is no claim left, and does the work of each claim that it got.
+fn work_through<G: Gate>(
+    alloc: Global,
+    work: &Work,
+    claims: &Claims,
+    job: Job,
+    gate: &G,
+) -> Result<Answer, AllocError>
+    requires work { IsWork work.now × (bound_of claims.now ≡ length work.now.plan.now) }
+    requires job { IsJob claims.now job }
+    ensures { IfOk result (IsAnswer work.now claims.now) }
+{
+    let Job { worker, mut seat } = job;
+    let mut done = Vec::new(alloc);
+    while let Some(claim) = claims.draw(&mut seat) {
+        gate.claimed(worker, claim);
+        let summary = summary_at(alloc, work, claim)?;
+        done.push(Claimed { claim, summary })?;
+    }
+    Ok(Answer { seat, done })
+}
+
+/// A seat for each worker, with one turn more than there are claims, and the seat that is left.
+fn deal(
+    alloc: Global,
+    claims: &Claims,
+    first: ClaimSeat,
+    bound: u32,
+    workers: u32,
+) -> Result<(ClaimSeat, Vec<Job>), AllocError>
+    requires seat { IsSeatOf claims.now first × (hand_of first ≡ hand (2 ^ 40) []) }
+    requires bound { bound ≡ bound_of claims.now }
+    requires workers { workers ≤ 16 }
+    ensures rest { IfOk result (λ dealt. IsSeatOf claims.now dealt.0 × ((hand_of dealt.0).numbers ≡ [])) }
+    ensures turns { IfOk result (λ dealt. (hand_of dealt.0).turns + workers * (bound + 1) ≡ 2 ^ 40) }
+    ensures jobs { IfOk result (λ dealt. (vec_len dealt.1 ≡ workers) × All (IsJob claims.now) dealt.1.items) }
+{
+    let turns = u64::from(bound) + 1;
+    let mut seat = first;
+    let mut jobs = Vec::new(alloc);
+    for worker in 0..workers {
+        let (rest, part) = claims.split(seat, turns);
+        seat = rest;
+        jobs.push(Job { worker, seat: part })?;
+    }
+    Ok((seat, jobs))
+}
+
+/// Has each worker work in a thread of its own, where one can be made, and else one after another.
+fn run_jobs<R: Threads + Sync, G: Gate>(
+    rt: &R,
+    alloc: Global,
+    work: &Work,
+    claims: &Claims,
+    jobs: Vec<Job>,
+    gate: &G,
+) -> Result<Vec<Result<Answer, AllocError>>, AllocError>
+    requires work { IsWork work.now × (bound_of claims.now ≡ length work.now.plan.now) }
+    requires jobs { All (IsJob claims.now) jobs.items }
+    ensures len { IfOk result (λ answers. vec_len answers ≡ vec_len jobs) }
+    ensures each { IfOk result (λ answers. All (λ r. IfOk r (IsAnswer work.now claims.now)) answers.items) }
+{
+    thread::map_vec(
+        rt,
+        jobs,
+        &|job: Job| -> Result<Answer, AllocError>
+            requires { IsWork work.now × (bound_of claims.now ≡ length work.now.plan.now) × IsJob claims.now job }
+            ensures { IfOk result (IsAnswer work.entry.now claims.entry.now) }
+        { work_through(alloc, work, claims, job, gate) },
+    )
+}
+
+/// Joins the seats of all workers, and what they did.
+fn gather(
+    alloc: Global,
+    work: &Work,
+    claims: &Claims,
+    rest: ClaimSeat,
+    answers: Vec<Result<Answer, AllocError>>,
+) -> Result<Answer, AllocError>
+    requires rest { IsSeatOf claims.now rest × ((hand_of rest).numbers ≡ []) }
+    requires answers { All (λ r. IfOk r (IsAnswer work.now claims.now)) answers.items }
+    ensures seat { IfOk result (λ a. IsSeatOf claims.now a.seat) }
+    ensures worked { IfOk result (λ a. Worked (work_at work.now) (bound_of claims.now)
+        ((hand_of rest).turns + vec_len answers * (bound_of claims.now + 1)) (vec_len answers) (hand_of a.seat) a.done.items) }
+    ensures ranges { IfOk result (λ a. AreSummaries (length work.now.points.now.lines) a.done.items) }
+{
+    let mut seat = rest;
+    let mut done = Vec::with_capacity(alloc, work.plan.len())?;
+    for answer in answers {
+        let Answer {
+            seat: other,
+            done: mut more,
+        } = answer?;
+        seat = claims.join(seat, other);
+        done.append(&mut more)?;
+    }
+    Ok(Answer { seat, done })
+}
+
+/// The summaries in the order of their claims.
+fn in_order(alloc: Global, mut done: Vec<Claimed>) -> Result<Vec<Summary>, AllocError>
+    ensures { (f : ℕ → Summary) (n : ℕ) → EachClaim f n done.items →
+        IfOk result (λ summaries. summaries.items ≡ map f (range_with_len 0 n)) }
+{
+    done.sort_by_key(|claimed| claimed.claim)?;
+    let mut summaries = Vec::with_capacity(alloc, done.len())?;
+    for claimed in done {
+        let Claimed { claim: _, summary } = claimed;
+        summaries.push(summary)?;
+    }
+    Ok(summaries)
+}
+
+/// The summary of the run of each pair of a plan, in the plan's order, whatever the number of workers and the gate.
+/// Only want of memory stands against it, after which the workers that are left work to their end.
+pub fn run_plan<R: Threads + Sync, G: Gate>(
+    rt: &R,
+    alloc: Global,
+    image: &Image,
+    index: &LineIndex,
+    points: &Points,
+    input: &[u8],
+    plan: &Plan,
+    budget: u64,
+    workers: u32,
+    gate: &G,
+) -> Result<Vec<Summary>, AllocError>
+    requires lines { All (λ (pair : Experiment). pair.line.0 < length index.now.lines) plan.now }
+    requires some_budget { 1 ≤ budget }
+    requires few { budget ≤ 10 ^ 12 }
+    requires some_workers { 1 ≤ workers }
+    requires few_workers { workers ≤ 16 }
+    ensures summaries { IfOk result (λ summaries. summaries.items ≡ summaries_of image.now index.now points.now input.now budget plan.now) }
+    ensures ranges { IfOk result (λ summaries. All (IsSummary (length points.now.lines)) summaries.items) }
+{
+    let pairs = plan.pairs();
+    let work = Work {
+        image,
+        index,
+        points,
+        input,
+        plan: pairs,
+        budget,
+    };
+    let bound = pairs.len() as u32;
+    let (claims, first) = Claims::new(alloc, bound)?;
+    let (rest, jobs) = deal(alloc, &claims, first, bound, workers)?;
+    let answers = run_jobs(rt, alloc, &work, &claims, jobs, gate)?;
+    let Answer { seat, done } = gather(alloc, &work, &claims, rest, answers)?;
+    claims.finish(seat);
+    in_order(alloc, done)
+}
