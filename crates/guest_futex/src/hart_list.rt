@@ -49,6 +49,15 @@ impl HartList {
         &self.places[..self.count]
     }
 
+    /// Makes the list the same as another one.
+    pub fn copy_from(&mut self, other: &HartList)
+        ensures { self.new ≡ other.now }
+    {
+        let count = other.count;
+        self.places[..count].copy_from_slice(&other.places[..count]);
+        self.count = count;
+    }
+
     /// Makes the list empty.
     pub fn clear(&mut self)
         ensures { self.new ≡ [] }
