@@ -12,8 +12,11 @@ use Rattle.guest_areas.specs.Entry.{with_numbers, with_entry, stack_pointer, fir
 abbrev area : Area
 area = record { start = 0x10000; size = 4096; rights = record { read = true; write = false; execute = true }; vaddr = 0x10000; offset = 0; filled = 0 }
 
+abbrev image : ImageParts
+image = record { file = []; areas = area ∷ []; entry = 0x10000; headers = 0x10040; header_count = 2 }
+
 abbrev start : Space
-start = space (record { areas = area ∷ []; layout = usual; break = brk_base; mapped = [] }) (empty_memory (area ∷ []) usual)
+start = space (record { areas = area ∷ []; layout = usual; break = brk_base; mapped = [] }) (empty_memory image usual)
 
 abbrev mapped : ℕ → Space → Space
 mapped length s = (map length 3 s).space
@@ -67,9 +70,6 @@ half = refl
 hole : protect map_base 12288 1 (unmap (map_base + 4096) 4096 (mapped 12288 start)).space ≡ (let a : Answered = record { answer = no_memory; space = (unmap (map_base + 4096) 4096 (mapped 12288 start)).space } in a)
 unfolding map unmap protect
 hole = refl
-
-abbrev image : ImageParts
-image = record { file = []; areas = area ∷ []; entry = 0x10000; headers = 0x10040; header_count = 2 }
 
 -- the address of the one argument, and its first byte
 argument : load (first_space image usual).memory (stack_pointer + 8) 8 ≡ Some 0x3FFFFFFFE0

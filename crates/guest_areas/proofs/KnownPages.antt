@@ -85,7 +85,7 @@ each_not test first n m e f =
     ap (λ (k : ℕ). is_each test first k) e ∙ ap (λ (b : Bool). each_from test first m b) f
 
 -- the pages that the areas know are known to the memory
-pub shared : (r : RegionMap) (m : MemoryMap) (page : ℕ) → SharesRegions r m → IsKnown r.areas r.layout page → IsKnown m.areas m.layout page
+pub shared : (r : RegionMap) (m : MemoryMap) (page : ℕ) → SharesRegions r m → IsKnown r.areas r.layout page → IsKnown m.image.areas m.layout page
 shared r m page shares known =
     subst (λ (xs : List Area). IsKnown xs m.layout page) shares.areas (subst (λ (l : Layout). IsKnown r.areas l page) shares.layout known)
 

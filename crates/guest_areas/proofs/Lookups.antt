@@ -115,7 +115,7 @@ stack_rights image layout valid =
     let p = valid.whole_stack in
     let q = valid.some_stack in
     let s = valid.stack in
-    rights-given (page_of (stack_base layout)) (page_of layout.stack) read_and_write (fold (with_area image) (empty_memory image.areas layout) image.areas) 0x3FFFFFF refl (omega arith) (omega arith)
+    rights-given (page_of (stack_base layout)) (page_of layout.stack) read_and_write (fold (with_area image) (empty_memory image layout) image.areas) 0x3FFFFFF refl (omega arith) (omega arith)
 
 rights-with_bytes : (m : MemoryMap) (a : ℕ) (bs : List ℕ) → (with_bytes a bs m).rights ≡ m.rights
 rights-with_bytes m a [] = refl

@@ -26,7 +26,7 @@ space regions memory = record { regions = regions; memory = memory }
 
 -- the memory keeps the same load areas and the same layout
 pub record SharesRegions (r : RegionMap) (m : MemoryMap) : Type 0 where
-  pub areas : r.areas ≡ m.areas
+  pub areas : r.areas ≡ m.image.areas
   pub layout : r.layout ≡ m.layout
 
 -- what a call answers, and the space after it

@@ -1,5 +1,5 @@
 -- What holds of a guest's fields, as harts change.
-use Rattle.std.proofs.Common.{ℕ, zero, suc, ◌≡◌, ◌≢◌, ◌<◌, ◌≤◌, Bool, true, false, List, [], ◌∷◌, ◌++◌, length, get_or, set, refl, arith, length-append}
+use Rattle.std.proofs.Common.{ℕ, zero, suc, ◌≡◌, ◌≢◌, ◌<◌, ◌≤◌, Bool, true, false, List, [], ◌∷◌, ◌++◌, length, get_or, set, refl, subst, arith, length-append}
 use Rattle.std.proofs.lemmas.List.{length-set}
 use Rattle.std.specs.Prelude.{All}
 use Rattle.guest_memory.specs.Memory.{MemoryMap}
@@ -10,8 +10,9 @@ use Rattle.guest_futex.proofs.WaitersLemmas.{apart-with_waiter, apart-left, leng
 use Rattle.guest_calls.specs.declared.hart.Hart.{Hart}
 use Rattle.guest_calls.specs.declared.hart.HartStatus.{HartStatus}
 use Rattle.guest_calls.specs.declared.hart.HartStatus.TheVariants.{Running, Waiting, Gone}
-use Rattle.guest_calls.specs.Guest.{no_hart, is_running_status, with_running_each}
+use Rattle.guest_calls.specs.Guest.{Guest, no_hart, is_running_status, with_running_each}
 use Rattle.guest_calls.specs.Kept.{IsKept}
+use Rattle.guest_calls.specs.Orderly.{IsOrderly}
 use Rattle.guest_calls.proofs.Waiting.{waiting-set, waiting-elsewhere, waiting-append, waiting-with_waiter, waiting-woken, others-running, length-run_each}
 use Rattle.guest_calls.proofs.Rows.{made-running}
 
@@ -27,6 +28,11 @@ all-others h (w ∷ ws) others (suc k) d below = all-others h ws others.1 k d (l
 
 abbrev runs_at : List Hart → ℕ → Bool
 runs_at hs h = is_running_status (get_or hs h no_hart).status
+
+-- a guest whose fields keep their rules is orderly
+pub orderly : (inside g : Guest) (cap : ℕ) (r : RegionMap) (m : MemoryMap) → inside ≡ g → IsKept inside.harts cap inside.waiters r m → IsOrderly g
+orderly inside g cap r m view kept =
+    subst (λ (x : Guest). IsOrderly x) view (record { few = kept.few; waiting = kept.waiting; apart = kept.apart })
 
 module _ (hs : List Hart) (cap : ℕ) (ws : List Waiter) (r : RegionMap) (m : MemoryMap) where
   -- a hart of the same status in its place

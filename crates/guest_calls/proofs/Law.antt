@@ -10,12 +10,13 @@ use Rattle.machines.specs.Guest.{IsLawful, started, own_ending, sleeps}
 use Rattle.machines.specs.Delayed.{fresh}
 use Rattle.machines.proofs.Wakeless.{rests}
 use Rattle.guest_memory.specs.declared.Layout.{Layout}
-use Rattle.guest_calls.specs.Guest.{Guest, is_running, first_guest}
+use Rattle.guest_calls.specs.Guest.{Guest, making, is_running, first_guest}
+use Rattle.guest_calls.specs.Calls.{call_of}
 use Rattle.guest_calls.specs.Retire.{retire}
 use Rattle.guest_calls.specs.Plug.{plug}
 use Rattle.guest_calls.specs.Orderly.{IsOrderly}
 pub use Rattle.guest_calls.proofs.Started.{running_low}
-use Rattle.guest_calls.proofs.Retired.{retire_started}
+use Rattle.guest_calls.proofs.Retired.{call_started, retire_started}
 
 -- a hart that a retirement starts runs after it
 pub started_runs : (g : Guest) (h v : ℕ) → IsOrderly g → is_running g h ≡ true → IsNone (own_ending (retire g h v).fate)
@@ -38,6 +39,13 @@ never_sleeps g h v good runs = (retire_started g h v good runs).awake
 -- a trap is that of the hart that retires
 pub own_trap : (g : Guest) (h v : ℕ) → IsOrderly g → is_running g h ≡ true → (t : Trap) → (retire g h v).fate ≡ Ends (Trapped t) → t.hart.0 ≡ h
 own_trap g h v good runs = (retire_started g h v good runs).trap
+
+-- what a guest was made with stays
+pub retire-made : (g : Guest) (h v : ℕ) → IsOrderly g → is_running g h ≡ true → making (retire g h v).guest ≡ making g
+retire-made g h v good runs = (retire_started g h v good runs).made
+
+pub call_of-made : (g : Guest) (h v : ℕ) → IsOrderly g → is_running g h ≡ true → making (call_of g h v).guest ≡ making g
+call_of-made g h v good runs = (call_started g h v good runs).made
 
 first_orderly : (image : ImageParts) (input : List ℕ) (output_limit : ℕ) (layout : Layout) → IsOrderly (first_guest image input output_limit layout)
 unfolding first_guest

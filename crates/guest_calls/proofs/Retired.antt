@@ -1,5 +1,5 @@
 -- The retirement of a hart of an orderly guest, by what it does.
-use Rattle.std.proofs.Common.{◌≡◌, ℕ, ◌==◌, Bool, true, false, not, List, [], ◌∷◌, length, Option, Some, None, pos, refl, sym, ap, subst, replicate}
+use Rattle.std.proofs.Common.{◌≡◌, ℕ, ◌==◌, Bool, true, false, not, List, [], ◌∷◌, length, take, drop, Option, Some, None, pos, refl, sym, ap, subst, replicate}
 use Rattle.coz_types.specs.declared.ending.Ending.{Ending}
 use Rattle.coz_types.specs.declared.ending.Ending.TheVariants.{Exited, Trapped}
 use Rattle.coz_types.specs.declared.ending.Trap.{Trap}
@@ -12,47 +12,52 @@ use Rattle.rv_decode.specs.Instructions.{instruction_of}
 use Rattle.guest_memory.specs.Memory.{is_readable, is_writable, bytes_at}
 use Rattle.guest_areas.specs.Answers.{bad_file, no_memory, bad_address, invalid, no_terminal, no_seek}
 use Rattle.guest_areas.specs.Space.{Space, with_break, map, unmap, protect}
+use Rattle.guest_areas.proofs.Shares.{with_break-steady, map-steady, unmap-steady, protect-steady}
 use Rattle.rv_execute.specs.declared.hart.Step.{Step}
 use Rattle.rv_execute.specs.declared.hart.Step.TheVariants.{Next, Call, Fault}
 use Rattle.rv_execute.specs.Execution.{Setting, execute}
 use Rattle.guest_calls.specs.declared.pieces.Piece.{Piece}
-use Rattle.guest_calls.specs.Guest.{Guest, hart_at, pc_of, with_hart, with_state, with_setting, with_stored, with_written, is_running, memory_of, setting_of, thread_id}
+use Rattle.guest_calls.specs.Guest.{Guest, making, hart_at, pc_of, with_hart, with_state, with_setting, with_stored, with_written, is_running, memory_of, setting_of, thread_id}
 use Rattle.guest_calls.specs.Calls
 use Rattle.guest_calls.specs.Calls.{of_space, unsupported, a0, a1, a2, a3, with_filled, with_read, filled, total, is_each_writable, is_each_readable, bytes_of, pieces_at, are_few, is_named, read_length, is_stream, is_input, is_output, is_mapping, calls, call_of}
 use Rattle.guest_calls.specs.Retire.{word_at, Stepped, stepped, stepped_by, step, follows, retire}
 use Rattle.guest_calls.specs.Orderly.{IsOrderly}
+use Rattle.guest_calls.proofs.Steady.{regions-kept}
 use Rattle.guest_calls.proofs.Steps.{step-call}
-use Rattle.guest_calls.proofs.Started.{IsStarted, IsAsBefore, either, same_harts, later, hart_kept, unchanged, still_orderly, none_beside, goes_started, ends_started, kept_started, answer_started, checked, of_space_started, unsupported_started}
+use Rattle.guest_calls.proofs.Started.{IsStarted, IsAsBefore, either, memory_made, stored_made, space_made, same_harts, later, hart_kept, unchanged, still_orderly, none_beside, goes_started, ends_started, kept_started, answer_started, checked, of_space_started, unsupported_started}
 use Rattle.guest_calls.proofs.ThreadRows.{exit_started, futex_started, clone_started}
 
 -- each call
 ioctl_started : (g : Guest) (h : ℕ) → IsOrderly g → is_running g h ≡ true → IsStarted g h (Calls.ioctl g h)
 unfolding Calls.ioctl
-ioctl_started g h good runs = checked (is_stream (a0 g h)) no_terminal h g _ good runs (answer_started bad_file h g g refl refl good runs)
+ioctl_started g h good runs = checked (is_stream (a0 g h)) no_terminal h g _ good runs (answer_started bad_file h g g refl refl refl good runs)
 
 lseek_started : (g : Guest) (h : ℕ) → IsOrderly g → is_running g h ≡ true → IsStarted g h (Calls.lseek g h)
 unfolding Calls.lseek
-lseek_started g h good runs = checked (is_stream (a0 g h)) no_seek h g _ good runs (answer_started bad_file h g g refl refl good runs)
+lseek_started g h good runs = checked (is_stream (a0 g h)) no_seek h g _ good runs (answer_started bad_file h g g refl refl refl good runs)
+
+filled_made : (address count : ℕ) (g : Guest) → making (with_filled address count g) ≡ making g
+filled_made address count g = stored_made address (take count g.input) (record g { input = drop count g.input })
 
 read_started : (g : Guest) (h : ℕ) → IsOrderly g → is_running g h ≡ true → IsStarted g h (Calls.read g h)
 unfolding Calls.read
 read_started g h good runs =
     checked (not (is_input (a0 g h))) bad_file h g _ good runs
     (checked (not (is_writable (memory_of g) (a1 g h) (read_length g h))) bad_address h g _ good runs
-    (answer_started (pos (read_length g h)) h g (with_filled (a1 g h) (read_length g h) g) refl refl good runs))
+    (answer_started (pos (read_length g h)) h g (with_filled (a1 g h) (read_length g h) g) refl refl (filled_made (a1 g h) (read_length g h) g) good runs))
 
 write_started : (g : Guest) (h : ℕ) → IsOrderly g → is_running g h ≡ true → IsStarted g h (Calls.write g h)
 unfolding Calls.write
 write_started g h good runs =
     checked (not (is_output (a0 g h))) bad_file h g _ good runs
     (checked (not (is_readable (memory_of g) (a1 g h) (a2 g h))) bad_address h g _ good runs
-    (answer_started (pos (a2 g h)) h g (with_written (bytes_at (memory_of g) (a1 g h) (a2 g h)) g) refl refl good runs))
+    (answer_started (pos (a2 g h)) h g (with_written (bytes_at (memory_of g) (a1 g h) (a2 g h)) g) refl refl refl good runs))
 
 read_kept : (ps : List Piece) (g : Guest) → IsAsBefore g (with_read ps g)
 read_kept [] g = unchanged g
 read_kept (p ∷ ps) g =
     let next : Guest = with_filled p.address p.length g in
-    later g next (with_read (p ∷ ps) g) (same_harts g next refl refl) (read_kept ps next)
+    later g next (with_read (p ∷ ps) g) (same_harts g next refl refl (filled_made p.address p.length g)) (read_kept ps next)
 
 read_pieces_started : (g : Guest) (h : ℕ) (ps : List Piece) → IsOrderly g → is_running g h ≡ true → IsStarted g h (Calls.read_pieces g h ps)
 unfolding Calls.read_pieces
@@ -72,7 +77,7 @@ write_pieces_started : (g : Guest) (h : ℕ) (ps : List Piece) → IsOrderly g �
 unfolding Calls.write_pieces
 write_pieces_started g h ps good runs =
     checked (not (is_each_readable (memory_of g) ps)) bad_address h g _ good runs
-    (answer_started (pos (total ps)) h g (with_written (bytes_of (memory_of g) ps) g) refl refl good runs)
+    (answer_started (pos (total ps)) h g (with_written (bytes_of (memory_of g) ps) g) refl refl refl good runs)
 
 writev_started : (g : Guest) (h : ℕ) → IsOrderly g → is_running g h ≡ true → IsStarted g h (Calls.writev g h)
 unfolding Calls.writev
@@ -84,7 +89,7 @@ writev_started g h good runs =
 
 exit_group_started : (g : Guest) (h : ℕ) → IsOrderly g → is_running g h ≡ true → IsStarted g h (Calls.exit_group g h)
 unfolding Calls.exit_group
-exit_group_started g h good runs = ends_started g h g _ (λ t is. absurd (let no : ◌≡◌ {A = Ending} (Exited _) (Trapped t) = is in cc)) good
+exit_group_started g h good runs = ends_started g h g _ (λ t is. absurd (let no : ◌≡◌ {A = Ending} (Exited _) (Trapped t) = is in cc)) refl good
 
 set_tid_address_started : (g : Guest) (h : ℕ) → IsOrderly g → is_running g h ≡ true → IsStarted g h (Calls.set_tid_address g h)
 unfolding Calls.set_tid_address
@@ -92,15 +97,15 @@ set_tid_address_started g h good runs = kept_started (pos (thread_id h)) h g (wi
 
 sched_yield_started : (g : Guest) (h : ℕ) → IsOrderly g → is_running g h ≡ true → IsStarted g h (Calls.sched_yield g h)
 unfolding Calls.sched_yield
-sched_yield_started g h good runs = answer_started (pos 0) h g g refl refl good runs
+sched_yield_started g h good runs = answer_started (pos 0) h g g refl refl refl good runs
 
 getpid_started : (g : Guest) (h : ℕ) → IsOrderly g → is_running g h ≡ true → IsStarted g h (Calls.getpid g h)
 unfolding Calls.getpid
-getpid_started g h good runs = answer_started (pos 1) h g g refl refl good runs
+getpid_started g h good runs = answer_started (pos 1) h g g refl refl refl good runs
 
 gettid_started : (g : Guest) (h : ℕ) → IsOrderly g → is_running g h ≡ true → IsStarted g h (Calls.gettid g h)
 unfolding Calls.gettid
-gettid_started g h good runs = answer_started (pos (thread_id h)) h g g refl refl good runs
+gettid_started g h good runs = answer_started (pos (thread_id h)) h g g refl refl refl good runs
 
 rt_sigprocmask_started : (g : Guest) (h : ℕ) → IsOrderly g → is_running g h ≡ true → IsStarted g h (Calls.rt_sigprocmask g h)
 unfolding Calls.rt_sigprocmask
@@ -108,34 +113,34 @@ rt_sigprocmask_started g h good runs =
     checked (not (a3 g h == 8)) invalid h g _ good runs
     (checked (a2 g h == 0) (pos 0) h g _ good runs
     (checked (not (is_writable (memory_of g) (a2 g h) 8)) bad_address h g _ good runs
-    (answer_started (pos 0) h g (with_stored (a2 g h) (replicate 8 0) g) refl refl good runs)))
+    (answer_started (pos 0) h g (with_stored (a2 g h) (replicate 8 0) g) refl refl (stored_made (a2 g h) (replicate 8 0) g) good runs)))
 
 brk_started : (g : Guest) (h : ℕ) → IsOrderly g → is_running g h ≡ true → IsStarted g h (Calls.brk g h)
 unfolding Calls.brk
 brk_started g h good runs =
-    let space : Space = with_break (a0 g h) g.space in answer_started (pos space.regions.break) h g (record g { space = space }) refl refl good runs
+    let space : Space = with_break (a0 g h) g.space in answer_started (pos space.regions.break) h g (record g { space = space }) refl refl (space_made g space (with_break-steady (a0 g h) g.space)) good runs
 
 munmap_started : (g : Guest) (h : ℕ) → IsOrderly g → is_running g h ≡ true → IsStarted g h (Calls.munmap g h)
 unfolding Calls.munmap
-munmap_started g h good runs = of_space_started g h (unmap (a0 g h) (a1 g h) g.space) good runs
+munmap_started g h good runs = of_space_started g h (unmap (a0 g h) (a1 g h) g.space) (unmap-steady (a0 g h) (a1 g h) g.space) good runs
 
 mremap_started : (g : Guest) (h : ℕ) → IsOrderly g → is_running g h ≡ true → IsStarted g h (Calls.mremap g h)
 unfolding Calls.mremap
-mremap_started g h good runs = answer_started no_memory h g g refl refl good runs
+mremap_started g h good runs = answer_started no_memory h g g refl refl refl good runs
 
 mmap_started : (g : Guest) (h : ℕ) → IsOrderly g → is_running g h ≡ true → IsStarted g h (Calls.mmap g h)
 unfolding Calls.mmap
 mmap_started g h good runs =
     either (IsStarted g h) (is_mapping (a3 g h)) (of_space g h (map (a1 g h) (a2 g h) g.space)) (unsupported g h)
-    (of_space_started g h (map (a1 g h) (a2 g h) g.space) good runs) (unsupported_started g h good)
+    (of_space_started g h (map (a1 g h) (a2 g h) g.space) (map-steady (a1 g h) (a2 g h) g.space) good runs) (unsupported_started g h good)
 
 mprotect_started : (g : Guest) (h : ℕ) → IsOrderly g → is_running g h ≡ true → IsStarted g h (Calls.mprotect g h)
 unfolding Calls.mprotect
-mprotect_started g h good runs = of_space_started g h (protect (a0 g h) (a1 g h) (a2 g h) g.space) good runs
+mprotect_started g h good runs = of_space_started g h (protect (a0 g h) (a1 g h) (a2 g h) g.space) (protect-steady (a0 g h) (a1 g h) (a2 g h) g.space) good runs
 
 madvise_started : (g : Guest) (h : ℕ) → IsOrderly g → is_running g h ≡ true → IsStarted g h (Calls.madvise g h)
 unfolding Calls.madvise
-madvise_started g h good runs = answer_started invalid h g g refl refl good runs
+madvise_started g h good runs = answer_started invalid h g g refl refl refl good runs
 
 -- a call by its number
 abbrev Row : Type 0
@@ -168,19 +173,19 @@ known_started : (o : Option Row) (g : Guest) (h v : ℕ) → IsRowIfSome o → I
 known_started None g h v row good runs = unsupported_started g h good
 known_started (Some call) g h v row good runs = row g h v good runs
 
-call_started : (g : Guest) (h v : ℕ) → IsOrderly g → is_running g h ≡ true → IsStarted g h (call_of g h v)
+pub call_started : (g : Guest) (h v : ℕ) → IsOrderly g → is_running g h ≡ true → IsStarted g h (call_of g h v)
 unfolding call_of
 call_started g h v good runs = known_started (value_at calls (Calls.number g h)) g h v (row_at calls (Calls.number g h) all_rows) good runs
 
 -- a step
-executed_kept : (g : Guest) (h : ℕ) (s : Setting) → IsAsBefore g (with_setting h s g)
-executed_kept g h s =
+executed_kept : (g : Guest) (h : ℕ) (s : Setting) → (s.memory.image ≡ (memory_of g).image) × (s.memory.layout ≡ (memory_of g).layout) → IsAsBefore g (with_setting h s g)
+executed_kept g h s same =
     let between : Guest = with_state h s.hart g in
-    later g between (with_setting h s g) (hart_kept g h _ refl) (same_harts between (with_setting h s g) refl refl)
+    later g between (with_setting h s g) (hart_kept g h _ refl) (same_harts between (with_setting h s g) refl refl (memory_made between s.memory same))
 
 decoded_kept : (g : Guest) (h : ℕ) (o : Option Instr) → IsAsBefore g (elim o as (λ _. Stepped) [ None ↦ stepped g (Fault Illegal) | Some i ↦ stepped_by g h (execute h i (setting_of g h)) ]).guest
 decoded_kept g h None = unchanged g
-decoded_kept g h (Some i) = executed_kept g h (execute h i (setting_of g h)).setting
+decoded_kept g h (Some i) = executed_kept g h (execute h i (setting_of g h)).setting (regions-kept h i (setting_of g h))
 
 fetched_kept : (g : Guest) (h : ℕ) (o : Option ℕ)
     → IsAsBefore g (elim o as (λ _. Stepped) [ None ↦ stepped g (Fault Fetch) | Some w ↦ elim (instruction_of w) [ None ↦ stepped g (Fault Illegal) | Some i ↦ stepped_by g h (execute h i (setting_of g h)) ] ]).guest
@@ -198,7 +203,7 @@ own_trap cause h pc t is = let same : ◌≡◌ {A = Trap} (record { cause = cau
 follows_started : (g after : Guest) (h v : ℕ) (s : Step) → IsAsBefore g after → (s ≡ Call → after ≡ g) → IsOrderly g → is_running g h ≡ true → IsStarted g h (follows h v (stepped after s))
 follows_started g after h v Next kept same good runs = goes_started g h [] after (none_beside g h after kept good) runs
 follows_started g after h v Call kept same good runs = subst (λ (x : Guest). IsStarted g h (call_of x h v)) (sym (same refl)) (call_started g h v good runs)
-follows_started g after h v (Fault cause) kept same good runs = ends_started g h after _ (λ t is. own_trap cause h (pc_of after h) t is) (still_orderly g after kept good)
+follows_started g after h v (Fault cause) kept same good runs = ends_started g h after _ (λ t is. own_trap cause h (pc_of after h) t is) kept.made (still_orderly g after kept good)
 
 pub retire_started : (g : Guest) (h v : ℕ) → IsOrderly g → is_running g h ≡ true → IsStarted g h (retire g h v)
 unfolding retire

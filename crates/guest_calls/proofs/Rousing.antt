@@ -89,12 +89,12 @@ rewritten items new n same all =
     ∙ ap (take n) (append-none new)
     ∙ take-whole new n (omega arith)
 
-pub roused : (items after : List Hart) (regions : RegionMap) (m : MemoryMap) (rs : Reservations) (ws rest : List Waiter) (input : List ℕ) (output : Written) (g : Guest) (a n : ℕ)
-    → guest_of items regions m rs ws input output ≡ g → after ≡ with_running_each (woken a ws n) items → rest ≡ left a ws n
-    → guest_of after regions m rs rest input output ≡ with_woken a n g
-roused items after regions m rs ws rest input output g a n view run stay =
-    ap (λ (x : List Hart). guest_of x regions m rs rest input output) run
-    ∙ ap (λ (x : List Waiter). guest_of (with_running_each (woken a ws n) items) regions m rs x input output) stay
+pub roused : (items after : List Hart) (regions : RegionMap) (m : MemoryMap) (rs : Reservations) (ws rest : List Waiter) (input whole : List ℕ) (output : Written) (g : Guest) (a n : ℕ)
+    → guest_of items regions m rs ws input whole output ≡ g → after ≡ with_running_each (woken a ws n) items → rest ≡ left a ws n
+    → guest_of after regions m rs rest input whole output ≡ with_woken a n g
+roused items after regions m rs ws rest input whole output g a n view run stay =
+    ap (λ (x : List Hart). guest_of x regions m rs rest input whole output) run
+    ∙ ap (λ (x : List Waiter). guest_of (with_running_each (woken a ws n) items) regions m rs x input whole output) stay
     ∙ ap (with_woken a n) view
 
 still-set : (hs : List Hart) (x h : ℕ) (hart : Hart) → hart.status ≡ Running → is_running_status (get_or hs h no_hart).status ≡ true → is_running_status (get_or (set hs x hart) h no_hart).status ≡ true

@@ -32,7 +32,7 @@ pub shares-stored : (r : RegionMap) (m after : MemoryMap) (a : ℕ) (bs : List �
 shares-stored r m after a bs shared e =
     let kept = same_regions-with_bytes m a bs in
     record {
-      areas = shared.areas ∙ sym (ap (λ (x : MemoryMap). x.areas) e ∙ kept.0);
+      areas = shared.areas ∙ sym (ap (λ (x : MemoryMap). x.image.areas) e ∙ ap (λ (i : ImageParts). i.areas) kept.0);
       layout = shared.layout ∙ sym (ap (λ (x : MemoryMap). x.layout) e ∙ kept.1);
     }
 
@@ -166,18 +166,28 @@ appended places now into w k n m a old there inside e got was =
     ∙ ap (written (take (length places.items) (take w places.items ++ bytes_at m a n))) limit
     ∙ ap (with_bytes_written (bytes_at m a n)) was
 
+-- an output after the written places of another one
+pub written_over : {Z : Type 0} (places : Vec ℕ Z) (into there : List ℕ) (w : ℕ) (other : Written) → length into ≡ length places.items → take w into ≡ take w there → length places.items ≡ length there → written (take w there) (length there) ≡ other
+    → written (take w (with_items places into).items) (length (with_items places into).items) ≡ other
+written_over places into there w other kept copied sizes was =
+    let items : (with_items places into).items ≡ into = with_items_is places into (kept ∙ sym places.ok.0) in
+    ap (λ (xs : List ℕ). written (take w xs) (length xs)) items
+    ∙ ap (λ (bs : List ℕ). written bs (length into)) copied
+    ∙ ap (written (take w there)) (kept ∙ sizes)
+    ∙ was
+
 pub first-layout : (m : MemoryMap) (image : ImageParts) (layout : Layout) → m ≡ first_memory image layout → m.layout ≡ layout
 first-layout m image layout e = ap (λ (x : MemoryMap). x.layout) e ∙ (same_regions-first image layout).1
 
 pub first-made : (items : List Hart) (regions : RegionMap) (m : MemoryMap) (rs : Reservations) (ws : List Waiter) (input : List ℕ) (output : Written) (image : ImageParts) (limit : ℕ) (layout : Layout) → items ≡ first_hart image ∷ []
-    → space regions m ≡ first_space image layout → rs ≡ [] → ws ≡ [] → output ≡ written [] limit → guest_of items regions m rs ws input output ≡ first_guest image input limit layout
+    → space regions m ≡ first_space image layout → rs ≡ [] → ws ≡ [] → output ≡ written [] limit → guest_of items regions m rs ws input input output ≡ first_guest image input limit layout
 unfolding first_guest
 first-made items regions m rs ws input output image limit layout hs sp none idle empty =
-    ap (λ (x : List Hart). guest_of x regions m rs ws input output) hs
-    ∙ ap (λ (x : Space). guest_of (first_hart image ∷ []) x.regions x.memory rs ws input output) sp
-    ∙ ap (λ (x : Reservations). guest_of (first_hart image ∷ []) (first_space image layout).regions (first_space image layout).memory x ws input output) none
-    ∙ ap (λ (x : List Waiter). guest_of (first_hart image ∷ []) (first_space image layout).regions (first_space image layout).memory [] x input output) idle
-    ∙ ap (λ (x : Written). guest_of (first_hart image ∷ []) (first_space image layout).regions (first_space image layout).memory [] [] input x) empty
+    ap (λ (x : List Hart). guest_of x regions m rs ws input input output) hs
+    ∙ ap (λ (x : Space). guest_of (first_hart image ∷ []) x.regions x.memory rs ws input input output) sp
+    ∙ ap (λ (x : Reservations). guest_of (first_hart image ∷ []) (first_space image layout).regions (first_space image layout).memory x ws input input output) none
+    ∙ ap (λ (x : List Waiter). guest_of (first_hart image ∷ []) (first_space image layout).regions (first_space image layout).memory [] x input input output) idle
+    ∙ ap (λ (x : Written). guest_of (first_hart image ∷ []) (first_space image layout).regions (first_space image layout).memory [] [] input input x) empty
 
 pub first-hart : (items before : List Hart) (hart : Hart) (sp entry : ℕ) (image : ImageParts) → items ≡ before ++ hart ∷ [] → before ≡ []
     → hart ≡ hart_from (record { registers = set (replicate 32 0) 2 sp; pc = entry }) 0 → sp ≡ stack_pointer → entry ≡ image.entry → items ≡ first_hart image ∷ []

@@ -1,6 +1,7 @@
--- Which harts run after a retirement of an orderly guest, and that the guest stays orderly.
+-- Which harts run after a retirement of an orderly guest, that the guest stays orderly, and that what it was made with stays.
 use Rattle.std.proofs.Common.{◌≡◌, ◌<◌, ◌≤◌, ℕ, ◌==◌, Bool, true, false, cond, if◌then◌else◌, List, [], ◌∷◌, length, IsNone, ℤ, refl, sym, ap, ◌∙◌, arith, eqb-true}
 use Rattle.std.proofs.lemmas.List.{length-set}
+use Rattle.coz_types.specs.Image.{ImageParts}
 use Rattle.coz_types.specs.declared.ending.Ending.{Ending}
 use Rattle.coz_types.specs.declared.ending.Ending.TheVariants.{Trapped, Unsupported}
 use Rattle.coz_types.specs.declared.ending.Trap.{Trap}
@@ -9,10 +10,14 @@ use Rattle.machines.specs.declared.Fate.TheVariants.{Goes, Ends}
 use Rattle.machines.specs.Guest.{Retirement, goes_on, sleeps, started, own_ending}
 use Rattle.machines.specs.Places.{is_among, AllApart}
 use Rattle.rv_decode.specs.Fields.{twos}
-use Rattle.guest_areas.specs.Space.{Answered}
+use Rattle.guest_memory.specs.declared.Layout.{Layout}
+use Rattle.guest_memory.specs.Memory.{MemoryMap, with_bytes}
+use Rattle.guest_memory.proofs.Runs.{same_regions-with_bytes}
+use Rattle.guest_areas.specs.Space.{Space, Answered}
+use Rattle.guest_areas.proofs.Shares.{IsSteady}
 use Rattle.guest_calls.specs.declared.hart.Hart.{Hart}
 use Rattle.guest_calls.specs.Answering.{with_result}
-use Rattle.guest_calls.specs.Guest.{Guest, hart_at, state_of, with_hart, with_state, is_running, is_running_status}
+use Rattle.guest_calls.specs.Guest.{Guest, Making, making, memory_of, hart_at, state_of, with_hart, with_state, with_memory, with_stored, is_running, is_running_status}
 use Rattle.guest_calls.specs.Calls.{retirement, answered, of_space, unsupported}
 use Rattle.guest_calls.specs.Orderly.{IsOrderly}
 use Rattle.guest_calls.proofs.Waiting.{status-set}
@@ -29,12 +34,14 @@ pub record IsStarted (g : Guest) (h : ℕ) (r : Retirement Guest) : Type 0 where
   pub trap : (t : Trap) → r.fate ≡ Ends (Trapped t) → t.hart.0 ≡ h
   -- those that it makes or wakes didn't run before
   pub idle : (k : ℕ) → is_among k r.others ≡ true → is_running g k ≡ false
+  pub made : making r.guest ≡ making g
 
 -- each hart has the status that it had, and the same harts wait
 pub record IsAsBefore (g after : Guest) : Type 0 where
   pub count : length after.harts ≡ length g.harts
   pub waiters : after.waiters ≡ g.waiters
   pub status : (k : ℕ) → status_at after.harts k ≡ status_at g.harts k
+  pub made : making after ≡ making g
 
 -- beside the harts that ran, of which h is one, these others run, which didn't before
 pub record RunsBeside (g : Guest) (h : ℕ) (others : List ℕ) (after : Guest) : Type 0 where
@@ -42,6 +49,7 @@ pub record RunsBeside (g : Guest) (h : ℕ) (others : List ℕ) (after : Guest) 
   pub apart : AllApart (h ∷ others)
   pub running : (k : ℕ) → is_running after k ≡ (if is_among k others then true else is_running g k)
   pub idle : (k : ℕ) → is_among k others ≡ true → is_running g k ≡ false
+  pub made : making after ≡ making g
 
 -- a running hart is one of those that were made
 pub running_low : (g : Guest) (h : ℕ) → IsOrderly g → is_running g h ≡ true → (h < length g.harts) × (h < 256)
@@ -54,11 +62,21 @@ pub either : {X : Type 0} (P : X → Type 0) (b : Bool) (x y : X) → P x → P 
 either P true x y p q = p
 either P false x y p q = q
 
-pub same_harts : (g after : Guest) → after.harts ≡ g.harts → after.waiters ≡ g.waiters → IsAsBefore g after
-same_harts g after harts waiters = record {
+-- another memory of the same image and layout
+pub memory_made : (g : Guest) (m : MemoryMap) → (m.image ≡ (memory_of g).image) × (m.layout ≡ (memory_of g).layout) → making (with_memory m g) ≡ making g
+memory_made g m same =
+    ap (λ (i : ImageParts). let x : Making = record { image = i; layout = m.layout; input = g.whole_input; output_limit = g.output_limit } in x) same.0
+    ∙ ap (λ (l : Layout). let x : Making = record { image = (memory_of g).image; layout = l; input = g.whole_input; output_limit = g.output_limit } in x) same.1
+
+pub stored_made : (address : ℕ) (bytes : List ℕ) (g : Guest) → making (with_stored address bytes g) ≡ making g
+stored_made address bytes g = memory_made g (with_bytes address bytes (memory_of g)) (same_regions-with_bytes (memory_of g) address bytes)
+
+pub same_harts : (g after : Guest) → after.harts ≡ g.harts → after.waiters ≡ g.waiters → making after ≡ making g → IsAsBefore g after
+same_harts g after harts waiters made = record {
   count = ap (λ (hs : List Hart). length hs) harts;
   waiters = waiters;
   status = λ k. ap (λ (hs : List Hart). status_at hs k) harts;
+  made = made;
 }
 
 pub later : (g between after : Guest) → IsAsBefore g between → IsAsBefore between after → IsAsBefore g after
@@ -66,6 +84,7 @@ later g between after first second = record {
   count = second.count ∙ first.count;
   waiters = second.waiters ∙ first.waiters;
   status = λ k. second.status k ∙ first.status k;
+  made = second.made ∙ first.made;
 }
 
 pub hart_kept : (g : Guest) (h : ℕ) (hart : Hart) → hart.status ≡ (hart_at g h).status → IsAsBefore g (with_hart h hart g)
@@ -73,10 +92,11 @@ hart_kept g h hart e = record {
   count = length-set g.harts h hart;
   waiters = refl;
   status = λ k. status-set g.harts h k hart e;
+  made = refl;
 }
 
 pub unchanged : (g : Guest) → IsAsBefore g g
-unchanged g = same_harts g g refl refl
+unchanged g = same_harts g g refl refl refl
 
 pub still_orderly : (g after : Guest) → IsAsBefore g after → IsOrderly g → IsOrderly after
 still_orderly g after kept good = record {
@@ -91,6 +111,7 @@ none_beside g h after kept good = record {
   apart = (refl, tt);
   running = λ k. ap is_running_status (kept.status k);
   idle = λ k among. absurd (let never : false ≡ true = among in cc);
+  made = kept.made;
 }
 
 pub beside_then : (g : Guest) (h : ℕ) (others : List ℕ) (after last : Guest) → RunsBeside g h others after → IsAsBefore after last → RunsBeside g h others last
@@ -99,6 +120,7 @@ beside_then g h others after last beside kept = record {
   apart = beside.apart;
   running = λ k. ap is_running_status (kept.status k) ∙ beside.running k;
   idle = beside.idle;
+  made = kept.made ∙ beside.made;
 }
 
 -- the hart goes on
@@ -116,20 +138,22 @@ goes_started g h others after beside runs = record {
   awake = refl;
   trap = λ t is. absurd (let no : ◌≡◌ {A = Fate} Goes (Ends (Trapped t)) = is in cc);
   idle = beside.idle;
+  made = beside.made;
 }
 
 same_ending : (e f : Ending) → Ends e ≡ Ends f → e ≡ f
 same_ending e f is = cc
 
 -- the run ends
-pub ends_started : (g : Guest) (h : ℕ) (after : Guest) (e : Ending) → ((t : Trap) → e ≡ Trapped t → t.hart.0 ≡ h) → IsOrderly after → IsStarted g h (retirement after (Ends e) [])
-ends_started g h after e own good = record {
+pub ends_started : (g : Guest) (h : ℕ) (after : Guest) (e : Ending) → ((t : Trap) → e ≡ Trapped t → t.hart.0 ≡ h) → making after ≡ making g → IsOrderly after → IsStarted g h (retirement after (Ends e) [])
+ends_started g h after e own made good = record {
   orderly = good;
   apart = tt;
   running = λ none k. absurd (let never : true ≡ false = none in cc);
   awake = refl;
   trap = λ t is. own t (same_ending e (Trapped t) is);
   idle = λ k among. absurd (let never : false ≡ true = among in cc);
+  made = made;
 }
 
 -- the hart waits or leaves
@@ -138,9 +162,9 @@ stops_bit true true before out = sym (out refl)
 stops_bit true false before out = refl
 stops_bit false other before out = refl
 
-pub stops_started : (g : Guest) (h : ℕ) (others : List ℕ) (after last : Guest) (fate : Fate) → goes_on fate ≡ false → sleeps fate ≡ false → ((t : Trap) → fate ≡ Ends (Trapped t) → t.hart.0 ≡ h) → RunsBeside g h others after → IsOrderly last
+pub stops_started : (g : Guest) (h : ℕ) (others : List ℕ) (after last : Guest) (fate : Fate) → goes_on fate ≡ false → sleeps fate ≡ false → ((t : Trap) → fate ≡ Ends (Trapped t) → t.hart.0 ≡ h) → RunsBeside g h others after → IsOrderly last → making last ≡ making after
     → ((k : ℕ) → is_running last k ≡ (if k == h then false else is_running after k)) → IsStarted g h (retirement last fate others)
-stops_started g h others after last fate stays awake own beside orderly stops = record {
+stops_started g h others after last fate stays awake own beside orderly made stops = record {
   orderly = orderly;
   apart = rw stays beside.apart.1;
   running = λ none k. rw stays
@@ -150,6 +174,7 @@ stops_started g h others after last fate stays awake own beside orderly stops = 
   awake = awake;
   trap = own;
   idle = beside.idle;
+  made = made ∙ beside.made;
 }
 
 -- a call that is answered
@@ -162,16 +187,20 @@ replied_started n h g others after beside runs =
 pub kept_started : (z : ℤ) (h : ℕ) (g after : Guest) → IsAsBefore g after → IsOrderly g → is_running g h ≡ true → IsStarted g h (answered z h after)
 kept_started z h g after kept good runs = replied_started (twos 64 z) h g [] after (none_beside g h after kept good) runs
 
-pub answer_started : (z : ℤ) (h : ℕ) (g after : Guest) → after.harts ≡ g.harts → after.waiters ≡ g.waiters → IsOrderly g → is_running g h ≡ true → IsStarted g h (answered z h after)
-answer_started z h g after harts waiters good runs = kept_started z h g after (same_harts g after harts waiters) good runs
+pub answer_started : (z : ℤ) (h : ℕ) (g after : Guest) → after.harts ≡ g.harts → after.waiters ≡ g.waiters → making after ≡ making g → IsOrderly g → is_running g h ≡ true → IsStarted g h (answered z h after)
+answer_started z h g after harts waiters made good runs = kept_started z h g after (same_harts g after harts waiters made) good runs
 
 -- each branch of a choice
 pub checked : (b : Bool) (z : ℤ) (h : ℕ) (g : Guest) (r : Retirement Guest) → IsOrderly g → is_running g h ≡ true → IsStarted g h r → IsStarted g h (if b then answered z h g else r)
-checked true z h g r good runs rest = answer_started z h g g refl refl good runs
+checked true z h g r good runs rest = answer_started z h g g refl refl refl good runs
 checked false z h g r good runs rest = rest
 
-pub of_space_started : (g : Guest) (h : ℕ) (a : Answered) → IsOrderly g → is_running g h ≡ true → IsStarted g h (of_space g h a)
-of_space_started g h a good runs = answer_started a.answer h g (record g { space = a.space }) refl refl good runs
+-- another space of the same image and layout
+pub space_made : (g : Guest) (after : Space) → IsSteady g.space after → making (record g { space = after }) ≡ making g
+space_made g after steady = memory_made g after.memory (steady.image, steady.layout)
+
+pub of_space_started : (g : Guest) (h : ℕ) (a : Answered) → IsSteady g.space a.space → IsOrderly g → is_running g h ≡ true → IsStarted g h (of_space g h a)
+of_space_started g h a steady good runs = answer_started a.answer h g (record g { space = a.space }) refl refl (space_made g a.space steady) good runs
 
 pub unsupported_started : (g : Guest) (h : ℕ) → IsOrderly g → IsStarted g h (unsupported g h)
-unsupported_started g h good = ends_started g h g _ (λ t is. absurd (let no : ◌≡◌ {A = Ending} (Unsupported _) (Trapped t) = is in cc)) good
+unsupported_started g h good = ends_started g h g _ (λ t is. absurd (let no : ◌≡◌ {A = Ending} (Unsupported _) (Trapped t) = is in cc)) refl good

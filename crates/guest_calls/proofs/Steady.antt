@@ -1,4 +1,4 @@
--- Of all instructions only `ecall` is a call, and none changes the load areas or the layout.
+-- Of all instructions only `ecall` is a call, and none changes a memory's image or its layout.
 use Rattle.std.proofs.Common.{ℕ, ◌≡◌, ◌%◌, ◌==◌, Bool, cond, Option, Some, None, refl, ap, ◌∙◌, ◌⊎◌, inl, inr, true, false}
 use Rattle.std.specs.Int.{bytes_low_first}
 use Rattle.coz_types.specs.declared.ending.TrapCause.{TrapCause}
@@ -16,7 +16,7 @@ use Rattle.rv_execute.specs.Execution.{Setting, register, address_at, Executed, 
 
 pub record Steady (m : MemoryMap) (e : Executed) : Type 0 where
   pub no_call : e.step ≡ Call → ⊥
-  pub areas : e.setting.memory.areas ≡ m.areas
+  pub image : e.setting.memory.image ≡ m.image
   pub layout : e.setting.memory.layout ≡ m.layout
 
 either : {X : Type 0} (P : X → Type 0) (b : Bool) (x y : X) → P x → P y → P (cond b x y)
@@ -24,19 +24,19 @@ either P true x y p q = p
 either P false x y p q = q
 
 next-steady : (s : Setting) → Steady s.memory (next s)
-next-steady s = record { no_call = λ (p : Next ≡ Call). cc; areas = refl; layout = refl }
+next-steady s = record { no_call = λ (p : Next ≡ Call). cc; image = refl; layout = refl }
 
 put-steady : (rd n : ℕ) (s : Setting) → Steady s.memory (put rd n s)
-put-steady rd n s = record { no_call = λ (p : Next ≡ Call). cc; areas = refl; layout = refl }
+put-steady rd n s = record { no_call = λ (p : Next ≡ Call). cc; image = refl; layout = refl }
 
 fault-steady : (cause : TrapCause) (s : Setting) → Steady s.memory (fault s cause)
-fault-steady cause s = record { no_call = λ (p : Fault cause ≡ Call). cc; areas = refl; layout = refl }
+fault-steady cause s = record { no_call = λ (p : Fault cause ≡ Call). cc; image = refl; layout = refl }
 
 jump-steady : (rd target : ℕ) (s : Setting) → Steady s.memory (jump rd target s)
 jump-steady rd target s =
     let jumped : Executed = record { setting = record s { hart = with_pc target (with_register rd (pc_after s.hart) s.hart) }; step = Next } in
     either (Steady s.memory) (target % 4 == 0) jumped (fault s Misaligned)
-    (record { no_call = λ (p : Next ≡ Call). cc; areas = refl; layout = refl }) (fault-steady Misaligned s)
+    (record { no_call = λ (p : Next ≡ Call). cc; image = refl; layout = refl }) (fault-steady Misaligned s)
 
 branch-steady : (taken : Bool) (target : ℕ) (s : Setting) → Steady s.memory (branch taken target s)
 branch-steady taken target s = either (Steady s.memory) taken (jump 0 target s) (next s) (jump-steady 0 target s) (next-steady s)
@@ -48,17 +48,17 @@ loaded-steady rd f (Some n) s = put-steady rd (f n) s
 -- a memory after a store, if there is one, keeps the regions
 abbrev Keeps : MemoryMap → Option MemoryMap → Type 0
 Keeps m None = Unit {0}
-Keeps m (Some after) = (after.areas ≡ m.areas) × (after.layout ≡ m.layout)
+Keeps m (Some after) = (after.image ≡ m.image) × (after.layout ≡ m.layout)
 
 store-keeps : (m : MemoryMap) (a size v : ℕ) → Keeps m (store a size v m)
 store-keeps m a size v = either (Keeps m) (is_writable m a size) (Some (with_number a size v m)) None (same_regions-with_bytes m a (bytes_low_first 0 size v)) tt
 
 stored-steady : (a size : ℕ) (o : Option MemoryMap) (s : Setting) → Keeps s.memory o → Steady s.memory (elim o [ None ↦ fault s Access | Some memory ↦ next (with_store a size memory s) ])
 stored-steady a size None s k = fault-steady Access s
-stored-steady a size (Some m) s k = record { no_call = λ (p : Next ≡ Call). cc; areas = k.0; layout = k.1 }
+stored-steady a size (Some m) s k = record { no_call = λ (p : Next ≡ Call). cc; image = k.0; layout = k.1 }
 
 put_stored-steady : (rd n a size : ℕ) (m : MemoryMap) (s : Setting) → Keeps s.memory (Some m) → Steady s.memory (put rd n (with_store a size m s))
-put_stored-steady rd n a size m s k = record { no_call = λ (p : Next ≡ Call). cc; areas = k.0; layout = k.1 }
+put_stored-steady rd n a size m s k = record { no_call = λ (p : Next ≡ Call). cc; image = k.0; layout = k.1 }
 
 reserved-steady : (reserved : Bool) (rd a size : ℕ) (o : Option MemoryMap) (s : Setting) → Keeps s.memory o
     → Steady s.memory (elim o [ None ↦ fault s Access | Some memory ↦ cond reserved (put rd 0 (with_store a size memory s)) (put rd 1 s) ])
@@ -74,7 +74,7 @@ exchanged-steady rd n a size (Some m) s k = put_stored-steady rd n a size m s k
 reserve-steady : (h : ℕ) (wide : Bool) (rd a : ℕ) (o : Option ℕ) (s : Setting)
     → Steady s.memory (elim o [ None ↦ fault s Access | Some n ↦ put rd (atomic_loaded wide n) (record s { reservations = with_reservation h a s.reservations }) ])
 reserve-steady h wide rd a None s = fault-steady Access s
-reserve-steady h wide rd a (Some n) s = record { no_call = λ (p : Next ≡ Call). cc; areas = refl; layout = refl }
+reserve-steady h wide rd a (Some n) s = record { no_call = λ (p : Next ≡ Call). cc; image = refl; layout = refl }
 
 exchange-steady : (op : AtomicOp) (wide : Bool) (rd a n : ℕ) (o : Option ℕ) (s : Setting)
     → Steady s.memory (elim o [
@@ -139,12 +139,12 @@ pub only_ecall : (h : ℕ) (i : Instr) (s : Setting) → (execute h i s).step �
 only_ecall h i s p =
     elim (execute-steady h i s) [ inl steady ↦ absurd (steady.no_call p) | inr e ↦ e ]
 
--- the regions after an instruction are those before it
-pub regions-kept : (h : ℕ) (i : Instr) (s : Setting) → ((execute h i s).setting.memory.areas ≡ s.memory.areas) × ((execute h i s).setting.memory.layout ≡ s.memory.layout)
+-- the image and the layout after an instruction are those before it
+pub regions-kept : (h : ℕ) (i : Instr) (s : Setting) → ((execute h i s).setting.memory.image ≡ s.memory.image) × ((execute h i s).setting.memory.layout ≡ s.memory.layout)
 regions-kept h i s =
     elim (execute-steady h i s) [
-      | inl steady ↦ (steady.areas, steady.layout)
+      | inl steady ↦ (steady.image, steady.layout)
       | inr e ↦
           let same : (execute h i s).setting ≡ s = ap (λ (x : Instr). (execute h x s).setting) e ∙ ecall-unchanged h s in
-          (ap (λ (x : Setting). x.memory.areas) same, ap (λ (x : Setting). x.memory.layout) same)
+          (ap (λ (x : Setting). x.memory.image) same, ap (λ (x : Setting). x.memory.layout) same)
     ]

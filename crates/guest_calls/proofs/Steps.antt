@@ -7,6 +7,7 @@ use Rattle.machines.specs.declared.Fate.TheVariants.{Goes}
 use Rattle.rv_decode.specs.declared.Instr.{Instr}
 use Rattle.rv_decode.specs.declared.Instr.TheVariants.{Ecall}
 use Rattle.rv_decode.specs.Instructions.{instruction_of}
+use Rattle.coz_types.specs.Image.{ImageParts}
 use Rattle.guest_memory.specs.Memory.{MemoryMap}
 use Rattle.guest_areas.specs.Space.{RegionMap, SharesRegions}
 use Rattle.rv_execute.specs.declared.hart.HartState.{HartState}
@@ -128,17 +129,17 @@ shares-executed r h i s hart m rs result e shared =
     let kept = regions-kept h i s in
     let same : m ≡ (execute h i s).setting.memory = ap (λ (x : Executed). x.setting.memory) e in
     record {
-      areas = shared.areas ∙ sym (ap (λ (x : MemoryMap). x.areas) same ∙ kept.0);
+      areas = shared.areas ∙ sym (ap (λ (x : MemoryMap). x.image.areas) same ∙ ap (λ (i : ImageParts). i.areas) kept.0);
       layout = shared.layout ∙ sym (ap (λ (x : MemoryMap). x.layout) same ∙ kept.1);
     }
 
 -- what is executed on the hart's own registers, in its place
-pub step-in_place : (items : List Hart) (regions : RegionMap) (m after_m : MemoryMap) (r after_r : Reservations) (waiters : List Waiter) (input : List ℕ) (output : Written) (g : Guest) (h w : ℕ) (i : Instr) (hart : Hart) (s : HartState) (result : Step)
-    → guest_of items regions m r waiters input output ≡ g → hart ≡ get_or items h no_hart → Some w ≡ word_at g h → Some i ≡ instruction_of w
+pub step-in_place : (items : List Hart) (regions : RegionMap) (m after_m : MemoryMap) (r after_r : Reservations) (waiters : List Waiter) (input whole : List ℕ) (output : Written) (g : Guest) (h w : ℕ) (i : Instr) (hart : Hart) (s : HartState) (result : Step)
+    → guest_of items regions m r waiters input whole output ≡ g → hart ≡ get_or items h no_hart → Some w ≡ word_at g h → Some i ≡ instruction_of w
     → executed s after_m after_r result ≡ execute h i (setting hart.state m r)
-    → stepped (guest_of (set items h (record hart { state = s })) regions after_m after_r waiters input output) result ≡ step g h
-step-in_place items regions m after_m r after_r waiters input output g h w i hart s result view at e f x =
-    let old : Guest = guest_of items regions m r waiters input output in
-    ap (λ (y : Hart). stepped (guest_of (set items h (record y { state = s })) regions after_m after_r waiters input output) result) at
+    → stepped (guest_of (set items h (record hart { state = s })) regions after_m after_r waiters input whole output) result ≡ step g h
+step-in_place items regions m after_m r after_r waiters input whole output g h w i hart s result view at e f x =
+    let old : Guest = guest_of items regions m r waiters input whole output in
+    ap (λ (y : Hart). stepped (guest_of (set items h (record y { state = s })) regions after_m after_r waiters input whole output) result) at
     ∙ step-executed old h w i s after_m after_r result (e ∙ ap (λ (y : Guest). word_at y h) (sym view)) f (x ∙ ap (λ (y : Hart). execute h i (setting y.state m r)) at)
     ∙ ap (λ (y : Guest). step y h) view

@@ -22,7 +22,7 @@ use Rattle.guest_calls.specs.Calls.{retirement, answered, left_by, leave, unsupp
 use Rattle.guest_calls.specs.Orderly.{IsOrderly}
 use Rattle.guest_calls.proofs.Waiting.{others-running, waiting-elsewhere, waiting-append, waiting-with_waiter, waiting-woken, length-run_each}
 use Rattle.guest_calls.proofs.RunningHarts.{made_running, runs_here, runs_set, runs_append, next_idle, not_woken, apart_woken, woken_idle, runs_woken}
-use Rattle.guest_calls.proofs.Started.{IsStarted, IsAsBefore, RunsBeside, running_low, either, same_harts, later, unchanged, still_orderly, none_beside, beside_then, stops_started, replied_started, answer_started, checked, unsupported_started}
+use Rattle.guest_calls.proofs.Started.{IsStarted, IsAsBefore, RunsBeside, running_low, either, same_harts, later, unchanged, still_orderly, none_beside, beside_then, stops_started, replied_started, answer_started, stored_made, checked, unsupported_started}
 
 -- waiters are woken
 woken_beside : (g : Guest) (h address count : ℕ) → IsOrderly g → is_running g h ≡ true → RunsBeside g h (woken address g.waiters count) (with_woken address count g)
@@ -35,6 +35,7 @@ woken_beside g h address count good runs = record {
   apart = (not_woken h address g.waiters count (others-running g.harts h g.waiters (runs_here g.harts h runs) good.waiting), apart_woken address g.waiters count good.apart);
   running = λ k. runs_woken g.harts address g.waiters count k good.waiting;
   idle = λ k among. woken_idle g.harts k address g.waiters count good.waiting among;
+  made = refl;
 }
 
 -- a running hart is no waiter, whatever becomes of it
@@ -63,14 +64,15 @@ never_traps false code t is = cc
 leave_started : (g : Guest) (h : ℕ) (others : List ℕ) (after : Guest) → RunsBeside g h others after → is_running g h ≡ true → IsStarted g h (leave h others after)
 leave_started g h others after beside runs =
     let still : is_running after h ≡ true = runs_still g h others after beside runs in
-    stops_started g h others after (left_by h after) _ (never_goes (is_over (left_by h after)) _) (never_sleeps (is_over (left_by h after)) _) (λ t is. absurd (never_traps (is_over (left_by h after)) _ t is)) beside (set_orderly after h _ beside.orderly still)
+    stops_started g h others after (left_by h after) _ (never_goes (is_over (left_by h after)) _) (never_sleeps (is_over (left_by h after)) _) (λ t is. absurd (never_traps (is_over (left_by h after)) _ t is)) beside (set_orderly after h _ beside.orderly still) refl
     (λ k. runs_set after.harts h k _ (made_running after.harts h still))
 
 cleared_beside : (g : Guest) (h : ℕ) → IsOrderly g → is_running g h ≡ true → RunsBeside g h (woken_at_exit g h) (cleared g h)
 cleared_beside g h good runs =
     let zeroed : Guest = with_stored (clear_address g h) (replicate 4 0) g in
-    let beside = woken_beside zeroed h (clear_address g h) 1 (still_orderly g zeroed (same_harts g zeroed refl refl) good) runs in
-    record { orderly = beside.orderly; apart = beside.apart; running = beside.running; idle = beside.idle }
+    let told = stored_made (clear_address g h) (replicate 4 0) g in
+    let beside = woken_beside zeroed h (clear_address g h) 1 (still_orderly g zeroed (same_harts g zeroed refl refl told) good) runs in
+    record { orderly = beside.orderly; apart = beside.apart; running = beside.running; idle = beside.idle; made = beside.made ∙ told }
 
 pub exit_started : (g : Guest) (h : ℕ) → IsOrderly g → is_running g h ≡ true → IsStarted g h (Calls.exit g h)
 unfolding Calls.exit
@@ -91,7 +93,7 @@ waiting_orderly g h address good runs =
 
 waits_started : (g : Guest) (h address : ℕ) → IsOrderly g → is_running g h ≡ true → IsStarted g h (retirement (waiting_for g h address) Waits [])
 waits_started g h address good runs =
-    stops_started g h [] g (waiting_for g h address) Waits refl refl (λ t is. absurd (let no : ◌≡◌ {A = Fate} Waits (Ends (Trapped t)) = is in cc)) (none_beside g h g (unchanged g) good) (waiting_orderly g h address good runs)
+    stops_started g h [] g (waiting_for g h address) Waits refl refl (λ t is. absurd (let no : ◌≡◌ {A = Fate} Waits (Ends (Trapped t)) = is in cc)) (none_beside g h g (unchanged g) good) (waiting_orderly g h address good runs) refl
     (λ k. runs_set g.harts h k _ (made_running g.harts h runs))
 
 wait_started : (g : Guest) (h : ℕ) → IsOrderly g → is_running g h ≡ true → IsStarted g h (Calls.wait g h)
@@ -119,7 +121,7 @@ futex_started g h good runs =
 word_kept : (address n : ℕ) (g : Guest) → IsAsBefore g (with_word address n g)
 word_kept address n g =
     let stored : Guest = with_stored address (to_le_bytes w32 n) g in
-    either (IsAsBefore g) (is_writable (memory_of g) address 4) stored g (same_harts g stored refl refl) (unchanged g)
+    either (IsAsBefore g) (is_writable (memory_of g) address 4) stored g (same_harts g stored refl refl (stored_made address (to_le_bytes w32 n) g)) (unchanged g)
 
 parent_kept : (g : Guest) (h : ℕ) (changed : Guest) → IsAsBefore changed (with_parent_tid g h changed)
 parent_kept g h changed =
@@ -137,6 +139,7 @@ child_beside g h good runs room =
       apart = (rw (ne_eqb h (length g.harts) (omega arith)) refl, (refl, tt));
       running = λ k. runs_append g.harts _ k refl;
       idle = λ k among. next_idle g.harts k among;
+      made = refl;
     }
 
 cloned_beside : (g : Guest) (h : ℕ) → IsOrderly g → is_running g h ≡ true → length g.harts < 256 → RunsBeside g h (child g h ∷ []) (cloned g h)
@@ -147,7 +150,7 @@ cloned_beside g h good runs room =
 
 with_room : (full : Bool) (g : Guest) (h : ℕ) (r : Retirement Guest) → nat_le hart_limit (length g.harts) ≡ full → IsOrderly g → is_running g h ≡ true → (length g.harts < 256 → IsStarted g h r)
     → IsStarted g h (if full then answered try_again h g else r)
-with_room true g h r e good runs rest = answer_started try_again h g g refl refl good runs
+with_room true g h r e good runs rest = answer_started try_again h g g refl refl refl good runs
 with_room false g h r e good runs rest = rest (leb-false 256 (length g.harts) e)
 
 pub clone_started : (g : Guest) (h : ℕ) → IsOrderly g → is_running g h ≡ true → IsStarted g h (Calls.clone g h)

@@ -21,9 +21,17 @@ pub record Guest : Type 0 where
   pub reservations : Reservations
   -- the eldest first
   pub waiters : List Waiter
-  -- the input that is left
+  -- the input that is left, and all of it
   pub input : List ℕ
+  pub whole_input : List ℕ
   pub output : List ℕ
+  pub output_limit : ℕ
+
+-- what a guest was made with
+pub record Making : Type 0 where
+  pub image : ImageParts
+  pub layout : Layout
+  pub input : List ℕ
   pub output_limit : ℕ
 
 abbrev pub is_running_status : HartStatus → Bool
@@ -81,6 +89,14 @@ thread_id h = h + 1
 abbrev pub memory_of : Guest → MemoryMap
 memory_of g = g.space.memory
 
+abbrev pub making : Guest → Making
+making g = record {
+  image = (memory_of g).image;
+  layout = (memory_of g).layout;
+  input = g.whole_input;
+  output_limit = g.output_limit;
+}
+
 abbrev pub with_memory : MemoryMap → Guest → Guest
 with_memory memory g = record g { space = space g.space.regions memory }
 
@@ -110,6 +126,7 @@ first_guest image input output_limit layout = record {
   reservations = [];
   waiters = [];
   input = input;
+  whole_input = input;
   output = [];
   output_limit = output_limit;
 }

@@ -10,13 +10,14 @@ use Rattle.guest_calls.specs.Output.{Written}
 use Rattle.guest_calls.specs.Guest.{Guest}
 use Rattle.guest_calls.specs.Orderly.{AreWaiting}
 
-abbrev pub guest_of : List Hart → RegionMap → MemoryMap → Reservations → List Waiter → List ℕ → Written → Guest
-guest_of harts regions memory reservations waiters input written = record {
+abbrev pub guest_of : List Hart → RegionMap → MemoryMap → Reservations → List Waiter → List ℕ → List ℕ → Written → Guest
+guest_of harts regions memory reservations waiters input whole_input written = record {
   harts = harts;
   space = space regions memory;
   reservations = reservations;
   waiters = waiters;
   input = input;
+  whole_input = whole_input;
   output = written.bytes;
   output_limit = written.limit;
 }

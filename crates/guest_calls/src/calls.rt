@@ -2,7 +2,7 @@
 ghost use Rattle.std.specs.Prelude.{◌≡◌, ◌≤◌, ◌<◌, ◌%◌, [], length, Some, false, IsTrue, MatchResult, pos};
 ghost use Rattle.rv_decode.specs.declared.Instr.TheVariants.{Ecall};
 ghost use Rattle.guest_memory.specs.Memory.{is_writable};
-ghost use Rattle.guest_calls.specs.Guest.{IsMade, is_running, is_over, thread_id, memory_of, with_stored};
+ghost use Rattle.guest_calls.specs.Guest.{IsMade, is_running, is_over, making, thread_id, memory_of, with_stored};
 ghost use Rattle.guest_calls.specs.Calls as calls;
 ghost use Rattle.guest_calls.specs.Calls.{retirement, number, argument, replied, answered, with_filled, call_of};
 ghost use Rattle.guest_calls.specs.Retire.{next_of};
@@ -58,6 +58,17 @@ impl<'a> Guest<'a> {
         requires running { IsTrue (is_running self.old hart.0) }
         requires started { started.old ≡ [] }
         requires call { next_of self.old hart.0 ≡ Some Ecall }
+        ensures effect { retirement self.new result started.new ≡ call_of self.old hart.0 net }
+        ensures made { making self.new ≡ making self.old }
+    {
+        let _ = &self.harts;
+        self.call_by_number(hart, net, started)
+    }
+
+    #[inline(always)]
+    fn call_by_number(&mut self, hart: HartId, net: Tick, started: &mut HartList) -> Fate
+        requires running { IsTrue (is_running self.old hart.0) }
+        requires started { started.old ≡ [] }
         ensures { retirement self.new result started.new ≡ call_of self.old hart.0 net }
     {
         match self.number(hart) {

@@ -13,7 +13,7 @@ ghost use Rattle.std.specs.Prelude.{◌≡◌, ◌≤◌, [], length, IfOk, IsTr
 ghost use Rattle.std.specs.Result.{result_ok};
 ghost use Rattle.cost_table.specs.Costs.{cycles_of};
 ghost use Rattle.guest_memory.specs.Regions.{IsLayout};
-ghost use Rattle.guest_calls.specs.Guest.{IsMade, is_running, pc_of, hart_at, first_guest};
+ghost use Rattle.guest_calls.specs.Guest.{IsMade, is_running, making, pc_of, hart_at, first_guest};
 ghost use Rattle.guest_calls.specs.Calls.{retirement};
 ghost use Rattle.guest_calls.specs.Retire.{word_at, next_of, stepped, step, trap_of, retire};
 
@@ -38,12 +38,13 @@ const HARTS: usize = 256;
 #[derive(Drop)]
 pub struct Guest<'a> {
     harts: Vec<Hart>,
-    memory: Memory,
+    memory: Memory<'a>,
     areas: Areas,
     reservations: Reservations,
     queue: Queue,
     /// The input that is left.
     input: &'a [u8],
+    whole_input: &'a [u8],
     output: Output,
 }
 
@@ -55,7 +56,7 @@ impl<'a> Model for Guest<'a> {
     ghost use Rattle.std.specs.Vec.{vec_capacity};
     ghost use Rattle.guest_calls.specs.Kept.{guest_of, IsKept};
 
-    ghost view = { λ g. guest_of g.harts.items g.areas g.memory g.reservations g.queue g.input.now g.output };
+    ghost view = { λ g. guest_of g.harts.items g.areas g.memory g.reservations g.queue g.input.now g.whole_input.now g.output };
 
     ghost invariant = { λ g. IsKept g.harts.items (vec_capacity g.harts) g.queue g.areas g.memory };
 }
@@ -88,6 +89,7 @@ impl<'a> Guest<'a> {
             reservations: Reservations::new(),
             queue,
             input,
+            whole_input: input,
             output,
         })
     }
@@ -143,13 +145,33 @@ impl<'a> Guest<'a> {
     pub fn retire(&mut self, hart: HartId, net: Tick, started: &mut HartList) -> Fate
         requires running { IsTrue (is_running self.old hart.0) }
         requires started { started.old ≡ [] }
-        ensures { retirement self.new result started.new ≡ retire self.old hart.0 net }
+        ensures effect { retirement self.new result started.new ≡ retire self.old hart.0 net }
+        ensures made { making self.new ≡ making self.old }
     {
+        let _ = &self.harts;
         match self.step(hart) {
             Step::Next => Fate::Goes,
             Step::Call => self.call(hart, net, started),
             Step::Fault(cause) => self.trap(hart, cause),
         }
+    }
+
+    /// Makes this guest equal to another one that was made with the same image, layout, input and output limit, and takes
+    /// no memory.
+    pub fn copy_from(&mut self, other: &Guest<'a>)
+        requires { making self.old ≡ making other.now }
+        ensures { self.new ≡ other.now }
+    {
+        self.harts.clear();
+        let Ok(()) = self.harts.extend_from_slice(&other.harts) else {
+            unreachable!()
+        };
+        self.memory.copy_from(&other.memory);
+        self.areas.copy_from(&other.areas);
+        self.reservations.copy_from(&other.reservations);
+        self.queue.copy_from(&other.queue);
+        self.input = other.input;
+        self.output.copy_from(&other.output);
     }
 
     fn hart(&self, hart: HartId) -> &Hart

@@ -1,4 +1,4 @@
-ghost use Rattle.std.specs.Prelude.{◌≡◌, ◌≤◌, ◌%◌, ◌^◌, [], length, IfOk, IsTrue};
+ghost use Rattle.std.specs.Prelude.{◌≡◌, ◌≤◌, ◌%◌, ◌^◌, [], length, take, IfOk, IsTrue};
 ghost use Rattle.guest_memory.specs.Memory.{is_readable, bytes_at};
 ghost use Rattle.guest_calls.specs.Output.{with_bytes_written};
 ghost use Rattle.guest_calls.specs.Calls.{is_each_readable, bytes_of, total};
@@ -27,6 +27,16 @@ impl Model for Output {
     ghost invariant = { λ o. (o.written ≤ length o.places.items) × (length o.places.items ≤ 67108864) };
 }
 
+/// Copies the first bytes of a list over those of another one of the same length.
+fn copy_front(into: &mut [u8], from: &[u8], count: usize)
+    requires sizes { length into.old ≡ length from.now }
+    requires fits { count ≤ length into.old }
+    ensures len { length into.new ≡ length into.old }
+    ensures front { take count into.new ≡ take count from.now }
+{
+    into[..count].copy_from_slice(&from[..count]);
+}
+
 impl Output {
     /// Nothing is written yet, and there is room for so many bytes.
     pub fn new(alloc: Global, limit: usize) -> Result<Output, AllocError>
@@ -43,6 +53,15 @@ impl Output {
         ensures few { length result.now ≤ 67108864 }
     {
         &self.places[..self.written]
+    }
+
+    /// Makes this equal to another one of the same limit. Of the places only those that were written are copied.
+    pub fn copy_from(&mut self, other: &Output)
+        requires { self.old.limit ≡ other.now.limit }
+        ensures { self.new ≡ other.now }
+    {
+        copy_front(&mut self.places, &other.places, other.written);
+        self.written = other.written;
     }
 
     /// Appends bytes of the memory that may be read, as far as there is room.

@@ -8,7 +8,7 @@ use Rattle.coz_types.specs.declared.image.Rights.{Rights}
 use Rattle.coz_types.specs.declared.image.Area.{Area}
 use Rattle.coz_types.specs.Image.{ImageParts}
 use Rattle.guest_memory.specs.declared.Layout.{Layout}
-use Rattle.std.specs.Prelude.{fold}
+use Rattle.std.specs.Prelude.{fold, if◌then◌else◌}
 use Rattle.coz_types.specs.Maps.{value_or}
 use Rattle.byteorder.specs.Endian.{little_from}
 use Rattle.guest_memory.specs.Memory.{empty_memory, first_memory, read_and_write, MemoryMap, no_rights, byte_at, with_byte, rights_at, is_allowed, is_readable, is_writable, is_executable, number_at, with_number, with_bytes, with_rights, with_area, area_bytes, given, bytes_at, load, store, fetch}
@@ -158,32 +158,50 @@ given_more m after first count i r h e =
     ∙ ap (λ (q : ℕ). given q (count - (i + 1)) r (with_rights (first + i) r m)) (let f : first + (i + 1) ≡ first + i + 1 = omega arith in f)
     ∙ ap (λ (k : ℕ). given (first + i) k r m) (let f : suc (count - (i + 1)) ≡ count - i = omega arith in f)
 
--- neither the rights nor the bytes that are given change the areas and the layout
-pub same_regions-given : (m : MemoryMap) (first count : ℕ) (r : Rights) → ((given first count r m).areas ≡ m.areas) × ((given first count r m).layout ≡ m.layout)
+-- neither the rights nor the bytes that are given change the image and the layout
+pub same_regions-given : (m : MemoryMap) (first count : ℕ) (r : Rights) → ((given first count r m).image ≡ m.image) × ((given first count r m).layout ≡ m.layout)
 same_regions-given m first zero r = (refl, refl)
 same_regions-given m first (suc count) r = same_regions-given (with_rights first r m) (first + 1) count r
 
-pub same_regions-with_bytes : (m : MemoryMap) (a : ℕ) (bs : List ℕ) → ((with_bytes a bs m).areas ≡ m.areas) × ((with_bytes a bs m).layout ≡ m.layout)
+pub same_regions-with_bytes : (m : MemoryMap) (a : ℕ) (bs : List ℕ) → ((with_bytes a bs m).image ≡ m.image) × ((with_bytes a bs m).layout ≡ m.layout)
 same_regions-with_bytes m a [] = (refl, refl)
 same_regions-with_bytes m a (b ∷ bs) = same_regions-with_bytes (with_byte a b m) (a + 1) bs
 
-pub same_regions-with_area : (image : ImageParts) (m : MemoryMap) (area : Area) → ((with_area image m area).areas ≡ m.areas) × ((with_area image m area).layout ≡ m.layout)
+pub same_regions-with_area : (image : ImageParts) (m : MemoryMap) (area : Area) → ((with_area image m area).image ≡ m.image) × ((with_area image m area).layout ≡ m.layout)
 same_regions-with_area image m area =
     let g = same_regions-given m (page_of area.start) (page_of area.size) area.rights in
     let w = same_regions-with_bytes (given (page_of area.start) (page_of area.size) area.rights m) area.vaddr (area_bytes image area) in
     (w.0 ∙ g.0, w.1 ∙ g.1)
 
-same_regions-areas : (image : ImageParts) (m : MemoryMap) (areas : List Area) → ((fold (with_area image) m areas).areas ≡ m.areas) × ((fold (with_area image) m areas).layout ≡ m.layout)
+same_regions-areas : (image : ImageParts) (m : MemoryMap) (areas : List Area) → ((fold (with_area image) m areas).image ≡ m.image) × ((fold (with_area image) m areas).layout ≡ m.layout)
 same_regions-areas image m [] = (refl, refl)
 same_regions-areas image m (a ∷ as_) =
     let here = same_regions-with_area image m a in
     let rest = same_regions-areas image (with_area image m a) as_ in
     (rest.0 ∙ here.0, rest.1 ∙ here.1)
 
--- a first memory keeps the areas and the layout
-pub same_regions-first : (image : ImageParts) (layout : Layout) → ((first_memory image layout).areas ≡ image.areas) × ((first_memory image layout).layout ≡ layout)
+-- a first memory keeps the image and the layout
+pub same_regions-first : (image : ImageParts) (layout : Layout) → ((first_memory image layout).image ≡ image) × ((first_memory image layout).layout ≡ layout)
 same_regions-first image layout =
-    let m = fold (with_area image) (empty_memory image.areas layout) image.areas in
+    let m = fold (with_area image) (empty_memory image layout) image.areas in
     let g = same_regions-given m (page_of (stack_base layout)) (page_of layout.stack) read_and_write in
-    let a = same_regions-areas image (empty_memory image.areas layout) image.areas in
+    let a = same_regions-areas image (empty_memory image layout) image.areas in
     (g.0 ∙ a.0, g.1 ∙ a.1)
+
+-- what is a first memory is that of its own image and layout
+pub first_again : (image : ImageParts) (layout : Layout) (m : MemoryMap) → m ≡ first_memory image layout → m ≡ first_memory m.image m.layout
+first_again image layout m e =
+    let f = same_regions-first image layout in
+    e ∙ ap (λ (i : ImageParts). first_memory i layout) (sym (ap (λ (x : MemoryMap). x.image) e ∙ f.0))
+    ∙ ap (λ (l : Layout). first_memory m.image l) (sym (ap (λ (x : MemoryMap). x.layout) e ∙ f.1))
+
+-- nor does a store change them
+pub same_regions-store : (m after : MemoryMap) (a n v : ℕ) → Some after ≡ store a n v m → (after.image ≡ m.image) × (after.layout ≡ m.layout)
+same_regions-store m after a n v e =
+    let same : after ≡ with_number a n v m = told (is_writable m a n) (with_number a n v m) after e in
+    let kept = same_regions-with_bytes m a (bytes_low_first 0 n v) in
+    (ap (λ (x : MemoryMap). x.image) same ∙ kept.0, ap (λ (x : MemoryMap). x.layout) same ∙ kept.1)
+  where
+    told : (b : Bool) (x y : MemoryMap) → Some y ≡ (if b then Some x else None) → y ≡ x
+    told true x y e = cc
+    told false x y e = absurd (cc)

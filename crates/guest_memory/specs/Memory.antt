@@ -10,8 +10,8 @@ use Rattle.guest_memory.specs.Entries.{put}
 use Rattle.guest_memory.specs.Regions.{page_of, stack_base, IsKnown}
 
 pub record MemoryMap : Type 0 where
-  -- the load areas and the sizes of the other regions
-  pub areas : List Area
+  -- what it was made from: the image with the load areas, and the sizes of the other regions
+  pub image : ImageParts
   pub layout : Layout
   -- the rights of each page that has any, by its number
   pub rights : Map Rights
@@ -75,7 +75,7 @@ with_number a n value m = with_bytes a (bytes_low_first 0 n value) m
 
 -- a page that the memory keeps: it is known, or may be written
 abbrev pub IsHeld : MemoryMap → ℕ → Type 0
-IsHeld m a = IsKnown m.areas m.layout (page_of a) ⊎ IsTrue (rights_at m a).write
+IsHeld m a = IsKnown m.image.areas m.layout (page_of a) ⊎ IsTrue (rights_at m a).write
 
 -- the sizes of a load or a store
 abbrev pub IsSize : ℕ → Type 0
@@ -108,11 +108,11 @@ abbrev pub with_area : ImageParts → MemoryMap → Area → MemoryMap
 with_area image m area =
     with_bytes area.vaddr (area_bytes image area) (given (page_of area.start) (page_of area.size) area.rights m)
 
-abbrev pub empty_memory : List Area → Layout → MemoryMap
-empty_memory areas layout = record { areas = areas; layout = layout; rights = []; bytes = [] }
+abbrev pub empty_memory : ImageParts → Layout → MemoryMap
+empty_memory image layout = record { image = image; layout = layout; rights = []; bytes = [] }
 
 -- the load areas of an image, and a stack of zeros
 abbrev pub first_memory : ImageParts → Layout → MemoryMap
 first_memory image layout =
     given (page_of (stack_base layout)) (page_of layout.stack) read_and_write
-    (fold (with_area image) (empty_memory image.areas layout) image.areas)
+    (fold (with_area image) (empty_memory image layout) image.areas)

@@ -4,6 +4,7 @@
 //! numbers of their pages. The code keeps flat lists of all pages and bytes of the load areas and the three regions.
 #![tactic(auto)]
 
+mod copies;
 mod find;
 mod lay;
 mod numbers;
@@ -17,7 +18,8 @@ ghost use Rattle.guest_memory.specs.Regions.{IsLayout, IsKnown, usual, page_of};
 ghost use Rattle.std.specs.List.{Contains};
 ghost use Rattle.coz_types.specs.Image.{IsAreaOf};
 
-use crate::find::find;
+use crate::copies::copy_touched;
+use crate::find::{find, find_from, pick};
 use crate::lay::lay;
 use crate::numbers::{number_of, put_number, zero_from};
 use coz_types::{Address, Area, Image, Rights};
@@ -95,23 +97,26 @@ enum Right {
 
 /// The memory of a guest. All its room is taken when it is made.
 #[derive(Drop)]
-pub struct Memory {
-    areas: Vec<Area>,
+pub struct Memory<'a> {
+    image: &'a Image<'a>,
     layout: Layout,
     spans: Vec<Span>,
+    /// The place of the span that the entry is in, where a fetch looks first.
+    code: usize,
     pages: Vec<Page>,
     bytes: Vec<u8>,
 }
 
-impl Model for Memory {
+impl<'a> Model for Memory<'a> {
+    ghost use Rattle.std.specs.Prelude.{◌<◌, length};
     ghost use Rattle.guest_memory.specs.Memory.{MemoryMap};
     ghost use Rattle.guest_memory.specs.Shown.{shown, IsMemory};
 
     ghost Value = { MemoryMap };
 
-    ghost view = { λ m. shown m.areas.items m.layout m.spans.items m.pages.items m.bytes.items };
+    ghost view = { λ m. shown m.image.now m.layout m.spans.items m.pages.items m.bytes.items };
 
-    ghost invariant = { λ m. IsMemory m.areas.items m.layout m.spans.items m.pages.items m.bytes.items };
+    ghost invariant = { λ m. IsMemory m.image.now m.layout m.spans.items m.pages.items m.bytes.items × (m.code < length m.spans.items) };
 }
 
 fn has(rights: Rights, right: Right) -> bool
@@ -131,10 +136,14 @@ fn room_in_page(address: Address) -> usize
     (PAGE - address % PAGE) as usize
 }
 
-impl Memory {
+impl<'a> Memory<'a> {
     /// The memory that a program begins with: the load areas with their rights and the file's bytes in them, and
     /// a stack of zeros that may be read and written. Everything else has no rights.
-    pub fn new(alloc: Global, image: &Image, layout: Layout) -> Result<Memory, AllocError>
+    pub fn new(
+        alloc: Global,
+        image: &'a Image<'a>,
+        layout: Layout,
+    ) -> Result<Memory<'a>, AllocError>
         requires { IsLayout layout }
         ensures { IfOk result (λ memory. memory ≡ first_memory image.now layout) }
     {
@@ -158,6 +167,7 @@ impl Memory {
 
     /// From now on no page was written or given rights.
     fn forget_touched(&mut self)
+        requires { self.old ≡ first_memory self.old.image self.old.layout }
         ensures { self.new ≡ self.old }
     {
         for page in self.pages.iter_mut() {
@@ -168,7 +178,7 @@ impl Memory {
     /// Gives a load area its rights, and its bytes of the file.
     fn put_area(&mut self, image: &Image, area: Area)
         requires area { IsAreaOf image.now.file area }
-        requires known { Contains self.old.areas area }
+        requires known { Contains self.old.image.areas area }
         ensures { self.new ≡ with_area image.now self.old area }
     {
         self.give_run(area.start / PAGE, area.size / PAGE, area.rights);
@@ -179,7 +189,7 @@ impl Memory {
 
     /// Gives pages in a row their rights.
     fn give_run(&mut self, first: u64, count: u64, rights: Rights)
-        requires { (q : ℕ) → first ≤ q → q < first + count → IsKnown self.old.areas self.old.layout q }
+        requires { (q : ℕ) → first ≤ q → q < first + count → IsKnown self.old.image.areas self.old.layout q }
         ensures { self.new ≡ given first count rights self.old }
     {
         for i in 0..count {
@@ -191,7 +201,7 @@ impl Memory {
     /// Gives so many pages in a row these rights, and makes them zeros if asked for. `page` is the address of the
     /// first one.
     pub fn give(&mut self, page: Address, pages: u64, rights: Rights, zero: bool)
-        requires known { (q : ℕ) → page_of page ≤ q → q < page_of page + pages → IsKnown self.old.areas self.old.layout q }
+        requires known { (q : ℕ) → page_of page ≤ q → q < page_of page + pages → IsKnown self.old.image.areas self.old.layout q }
         requires no_execute { rights.execute ≡ false }
         ensures { self.new ≡ (if zero
             then zeroed (page_of page) pages (given (page_of page) pages rights self.old)
@@ -204,7 +214,7 @@ impl Memory {
     }
 
     fn zero_run(&mut self, first: u64, count: u64)
-        requires { (q : ℕ) → first ≤ q → q < first + count → IsKnown self.old.areas self.old.layout q }
+        requires { (q : ℕ) → first ≤ q → q < first + count → IsKnown self.old.image.areas self.old.layout q }
         ensures { self.new ≡ zeroed first count self.old }
     {
         for i in 0..count {
@@ -215,7 +225,7 @@ impl Memory {
 
     /// Makes a page one of zeros.
     fn zero_page(&mut self, page: u64)
-        requires { IsKnown self.old.areas self.old.layout page }
+        requires { IsKnown self.old.image.areas self.old.layout page }
         ensures { self.new ≡ zeroed page 1 self.old }
     {
         match find(&self.spans, page) {
@@ -258,12 +268,21 @@ impl Memory {
         }
     }
 
-    /// The pages of an image and a layout, zeros with no rights.
-    fn empty(alloc: Global, image: &Image, layout: Layout) -> Result<Memory, AllocError>
-        requires { IsLayout layout }
-        ensures { IfOk result (λ memory. memory ≡ empty_memory image.now.areas layout) }
+    /// Makes this memory equal to another one of the same image and layout, and takes no memory. A page that neither
+    /// has touched is as it was at first in both.
+    pub fn copy_from(&mut self, other: &Memory<'a>)
+        requires image { self.old.image ≡ other.now.image }
+        requires layout { self.old.layout ≡ other.now.layout }
+        ensures { self.new ≡ other.now }
     {
-        let areas = Vec::from_slice(alloc, image.areas())?;
+        copy_touched(&mut self.pages, &mut self.bytes, &other.pages, &other.bytes);
+    }
+
+    /// The pages of an image and a layout, zeros with no rights, all of them touched: none is as in a first memory yet.
+    fn empty(alloc: Global, image: &'a Image<'a>, layout: Layout) -> Result<Memory<'a>, AllocError>
+        requires { IsLayout layout }
+        ensures { IfOk result (λ memory. memory ≡ empty_memory image.now layout) }
+    {
         let mut wanted = Vec::new(alloc);
         for area in image.areas() {
             let first = area.start / PAGE;
@@ -291,16 +310,18 @@ impl Memory {
             at: 0,
         })?;
         let (spans, total) = lay(alloc, &wanted)?;
+        let code = pick(&spans, image.entry() / PAGE);
         let page = Page {
             rights: NO_RIGHTS,
-            touched: false,
+            touched: true,
         };
         let pages = vec![in alloc; page; total]?;
         let bytes = vec![in alloc; 0u8; total * 4096]?;
         Ok(Memory {
-            areas,
+            image,
             layout,
             spans,
+            code,
             pages,
             bytes,
         })
@@ -351,7 +372,7 @@ impl Memory {
     pub fn fetch(&self, address: Address) -> Result<u32, Access>
         ensures { result_ok result ≡ fetch self.now address }
     {
-        match find(&self.spans, address / PAGE) {
+        match find_from(&self.spans, self.code, address / PAGE) {
             None => Err(Access),
             Some(index) => {
                 if !self.pages[index].rights.execute {
@@ -555,7 +576,7 @@ impl Memory {
     }
 
     fn give_page(&mut self, page: u64, rights: Rights)
-        requires { IsKnown self.old.areas self.old.layout page }
+        requires { IsKnown self.old.image.areas self.old.layout page }
         ensures { self.new ≡ with_rights page rights self.old }
     {
         match find(&self.spans, page) {

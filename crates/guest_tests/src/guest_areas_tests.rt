@@ -27,9 +27,7 @@ enum Call {
     Protect(Address, u64, u64),
 }
 
-fn program(alloc: Global) -> Result<(Areas, Memory), AllocError>
-    ensures { IfOk result (λ made. SharesRegions made.0 made.1) }
-{
+fn program(alloc: Global) -> Result<Image<'static>, AllocError> {
     let rights = Rights {
         read: true,
         write: false,
@@ -43,9 +41,14 @@ fn program(alloc: Global) -> Result<(Areas, Memory), AllocError>
         offset: 0,
         filled: 4,
     };
-    let image = Image::new(&FILE, vec![in alloc; area]?, TEXT, 0x10040, 2);
-    let mut memory = Memory::new(alloc, &image, Layout::usual())?;
-    let areas = Areas::new(alloc, &mut memory, &image)?;
+    Ok(Image::new(&FILE, vec![in alloc; area]?, TEXT, 0x10040, 2))
+}
+
+fn entered<'a>(alloc: Global, image: &'a Image<'a>) -> Result<(Areas, Memory<'a>), AllocError>
+    ensures { IfOk result (λ made. SharesRegions made.0 made.1) }
+{
+    let mut memory = Memory::new(alloc, image, Layout::usual())?;
+    let areas = Areas::new(alloc, &mut memory, image)?;
     Ok((areas, memory))
 }
 
@@ -90,7 +93,8 @@ static ENTRY: [(Address, u64); 22] = [
 
 #[test]
 fn the_break_and_the_entry(rt: HostRuntime) -> Result<(), Fail> {
-    let (mut areas, mut memory) = program(rt.alloc())?;
+    let image = program(rt.alloc())?;
+    let (mut areas, mut memory) = entered(rt.alloc(), &image)?;
     let end = BRK_BASE + 16 * MIB;
     for (to, wanted) in [
         (0, BRK_BASE),
@@ -115,7 +119,8 @@ fn the_break_and_the_entry(rt: HostRuntime) -> Result<(), Fail> {
 
 #[test]
 fn mappings_take_the_lowest_run(rt: HostRuntime) -> Result<(), Fail> {
-    let (mut areas, mut memory) = program(rt.alloc())?;
+    let image = program(rt.alloc())?;
+    let (mut areas, mut memory) = entered(rt.alloc(), &image)?;
     for (call, wanted) in [
         (Call::Map(0, 3), -22),
         (Call::Map(1, 4), -13),

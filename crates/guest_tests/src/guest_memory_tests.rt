@@ -1,5 +1,4 @@
-//! Tests of `guest_memory`.
-ghost use Rattle.std.specs.Prelude.{◌≡◌, IfOk};
+ghost use Rattle.std.specs.Prelude.{◌≡◌, ◌+◌, ◌≤◌, ◌<◌, false, IfOk};
 ghost use Rattle.guest_memory.specs.Regions.{usual};
 
 use coz_types::{Address, Area, Image, Rights};
@@ -12,6 +11,10 @@ const FILE: [u8; 5] = [0x13, 0x01, 0x50, 0x00, 0x73];
 
 const BORDER: Address = 0x10FFE;
 
+const DATA: Address = 0x20000;
+
+const MAP_BASE: Address = 0x21_0000_0000;
+
 const STACK: Address = 0x3F_FFF0_0000;
 
 const STACK_TOP: Address = 0x40_0000_0000;
@@ -20,9 +23,7 @@ const BRK_BASE: Address = 0x20_0000_0000;
 
 const MIB: u64 = 1024 * 1024;
 
-fn program(alloc: Global) -> Result<Memory, AllocError>
-    ensures { IfOk result (λ memory. memory.layout ≡ usual) }
-{
+fn program(alloc: Global) -> Result<Image<'static>, AllocError> {
     let rights = Rights {
         read: true,
         write: false,
@@ -36,13 +37,19 @@ fn program(alloc: Global) -> Result<Memory, AllocError>
         offset: 0,
         filled: 5,
     };
-    let image = Image::new(&FILE, vec![in alloc; area]?, 0x10000, 0, 0);
-    Memory::new(alloc, &image, Layout::usual())
+    Ok(Image::new(&FILE, vec![in alloc; area]?, 0x10000, 0, 0))
+}
+
+fn made<'a>(alloc: Global, image: &'a Image<'a>) -> Result<Memory<'a>, AllocError>
+    ensures { IfOk result (λ memory. (memory.image ≡ image.now) × (memory.layout ≡ usual)) }
+{
+    Memory::new(alloc, image, Layout::usual())
 }
 
 #[test]
 fn a_new_memory_has_the_file_and_a_stack(rt: HostRuntime) -> Result<(), Fail> {
-    let memory = program(rt.alloc())?;
+    let image = program(rt.alloc())?;
+    let memory = made(rt.alloc(), &image)?;
     assert_eq!(rt; memory.layout(), Layout::usual());
     assert_eq!(rt; memory.load(0x10FFC, 8), Ok(0x0073_0050_0113_0000));
     for (address, wanted) in [
@@ -91,7 +98,8 @@ fn a_new_memory_has_the_file_and_a_stack(rt: HostRuntime) -> Result<(), Fail> {
 
 #[test]
 fn writes_reach_each_page_of_a_range(rt: HostRuntime) -> Result<(), Fail> {
-    let mut memory = program(rt.alloc())?;
+    let image = program(rt.alloc())?;
+    let mut memory = made(rt.alloc(), &image)?;
     let rights = Rights {
         read: true,
         write: true,
@@ -120,5 +128,151 @@ fn writes_reach_each_page_of_a_range(rt: HostRuntime) -> Result<(), Fail> {
     assert_eq!(rt; memory.read_at(BRK_BASE + 0xFFC, &mut seven), Ok(()));
     assert_eq!(rt; seven, [0x88, 1, 2, 3, 4, 5, 0x22]);
     assert_eq!(rt; memory.load(BRK_BASE + 0x1FFC, 4), Ok(0));
+    Ok(())
+}
+
+fn area(start: Address, rights: Rights) -> Area
+    ensures { result ≡ record {
+      start = start;
+      size = 4096;
+      rights = rights;
+      vaddr = start;
+      offset = 0;
+      filled = 0;
+    } }
+{
+    Area {
+        start,
+        size: 4096,
+        rights,
+        vaddr: start,
+        offset: 0,
+        filled: 0,
+    }
+}
+
+const READ_AND_WRITE: Rights = Rights {
+    read: true,
+    write: true,
+    execute: false,
+};
+
+const NO_RIGHTS: Rights = Rights {
+    read: false,
+    write: false,
+    execute: false,
+};
+
+/// A page of code and a page of data.
+fn two_areas(alloc: Global) -> Result<Image<'static>, AllocError> {
+    let code = Rights {
+        read: true,
+        write: false,
+        execute: true,
+    };
+    let areas = vec![in alloc; area(0x10000, code), area(DATA, READ_AND_WRITE)]?;
+    Ok(Image::new(&[], areas, 0x10000, 0, 0))
+}
+
+fn put(memory: &mut Memory, address: Address, value: u64)
+    ensures image { memory.new.image ≡ memory.old.image }
+    ensures layout { memory.new.layout ≡ memory.old.layout }
+{
+    let _ = memory.store(address, 8, value);
+}
+
+fn put_eight(memory: &mut Memory, address: Address)
+    ensures image { memory.new.image ≡ memory.old.image }
+    ensures layout { memory.new.layout ≡ memory.old.layout }
+{
+    let _ = memory.copy_in(address, &[1, 2, 3, 4, 5, 6, 7, 8]);
+}
+
+/// Gives pages of the map region rights, and zeros.
+fn give_map(memory: &mut Memory, first: u64, pages: u64, rights: Rights)
+    requires layout { memory.old.layout ≡ usual }
+    requires pages { first + pages ≤ 12288 }
+    requires rights { rights.execute ≡ false }
+    ensures image { memory.new.image ≡ memory.old.image }
+    ensures layout { memory.new.layout ≡ memory.old.layout }
+{
+    memory.give(MAP_BASE + first * 4096, pages, rights, true);
+}
+
+/// Gives the first page of the break region rights, and zeros.
+fn give_brk(memory: &mut Memory)
+    requires { memory.old.layout ≡ usual }
+    ensures image { memory.new.image ≡ memory.old.image }
+    ensures layout { memory.new.layout ≡ memory.old.layout }
+{
+    memory.give(BRK_BASE, 1, READ_AND_WRITE, true);
+}
+
+fn change(memory: &mut Memory)
+    requires { memory.old.layout ≡ usual }
+    ensures image { memory.new.image ≡ memory.old.image }
+    ensures layout { memory.new.layout ≡ memory.old.layout }
+{
+    put(memory, DATA, 7);
+    give_map(memory, 0, 3, READ_AND_WRITE);
+    put_eight(memory, MAP_BASE + 0xFFC);
+    give_map(memory, 2, 1, NO_RIGHTS);
+}
+
+fn change_otherwise(memory: &mut Memory)
+    requires { memory.old.layout ≡ usual }
+    ensures image { memory.new.image ≡ memory.old.image }
+    ensures layout { memory.new.layout ≡ memory.old.layout }
+{
+    give_map(memory, 0, 1, READ_AND_WRITE);
+    put(memory, MAP_BASE, 9);
+    put(memory, STACK_TOP - 8, 5);
+    give_brk(memory);
+}
+
+/// What no page here holds: the load is refused.
+const REFUSED: u64 = u64::MAX;
+
+/// An address, and what 8 bytes there hold at first, after `change` and after `change_otherwise`.
+static PLACES: [(Address, u64, u64, u64); 8] = [
+    (0x10000, 0, 0, 0),
+    (DATA, 0, 7, 0),
+    (MAP_BASE, REFUSED, 0, 9),
+    (MAP_BASE + 0xFFC, REFUSED, 0x0807_0605_0403_0201, REFUSED),
+    (MAP_BASE + 0x2000, REFUSED, REFUSED, REFUSED),
+    (BRK_BASE, REFUSED, REFUSED, 0),
+    (STACK_TOP - 8, 0, 0, 5),
+    (STACK, 0, 0, 0),
+];
+
+fn shows(memory: &Memory, column: usize) -> bool
+    requires { column < 3 }
+{
+    for &(address, at_first, changed, otherwise) in &PLACES {
+        let held = memory.load(address, 8).unwrap_or(REFUSED);
+        if held != [at_first, changed, otherwise][column] {
+            return false;
+        }
+    }
+    true
+}
+
+#[test]
+fn a_copy_is_equal_and_apart(rt: HostRuntime) -> Result<(), Fail> {
+    let image = two_areas(rt.alloc())?;
+    let first = made(rt.alloc(), &image)?;
+    let mut left = made(rt.alloc(), &image)?;
+    let mut right = made(rt.alloc(), &image)?;
+    change(&mut left);
+    change_otherwise(&mut right);
+    assert!(rt; shows(&first, 0) && shows(&left, 1) && shows(&right, 2));
+    left.copy_from(&right);
+    assert!(rt; shows(&left, 2));
+    put(&mut left, STACK, 1);
+    assert!(rt; shows(&right, 2) && !shows(&left, 2));
+    left.copy_from(&right);
+    assert!(rt; shows(&left, 2));
+    left.copy_from(&first);
+    assert!(rt; shows(&left, 0));
     Ok(())
 }

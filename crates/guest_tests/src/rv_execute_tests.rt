@@ -359,7 +359,7 @@ fn area(start: Address, size: u64, rights: Rights) -> Area
     }
 }
 
-fn memory(alloc: Global) -> Result<Memory, AllocError> {
+fn program(alloc: Global) -> Result<Image<'static>, AllocError> {
     let text = Rights {
         read: true,
         write: false,
@@ -380,13 +380,16 @@ fn memory(alloc: Global) -> Result<Memory, AllocError> {
         area(DATA, 0x2000, data),
         area(READ_ALONE, 0x1000, alone),
     ]?;
-    let image = Image::new(&[], areas, TEXT, 0, 0);
+    Ok(Image::new(&[], areas, TEXT, 0, 0))
+}
+
+fn memory<'a>(alloc: Global, image: &'a Image<'a>) -> Result<Memory<'a>, AllocError> {
     let layout = Layout {
         brk: 0,
         map: 0,
         stack: 0x1000,
     };
-    Memory::new(alloc, &image, layout)
+    Memory::new(alloc, image, layout)
 }
 
 fn fits(offset: i32) -> bool
@@ -444,7 +447,8 @@ fn has_fields(instr: Instr) -> bool
 
 #[test]
 fn instructions_by_the_manual(rt: HostRuntime) -> Result<(), Fail> {
-    let mut memory = memory(rt.alloc())?;
+    let image = program(rt.alloc())?;
+    let mut memory = memory(rt.alloc(), &image)?;
     let mut reservations = Reservations::new();
     for (at, &(number, instr, x5, x6, step, x7, pc)) in ROWS.iter().enumerate() {
         assert!(rt; number < 256 && has_fields(instr));

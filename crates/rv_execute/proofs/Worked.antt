@@ -15,7 +15,7 @@ hart address value = record { registers = set (set (replicate 32 0) 5 address) 6
 
 -- one page may be read and written: that of 0x11000
 abbrev before : Setting
-before = setting (hart 0x11000 7) (record { areas = []; layout = record { brk = 0; map = 0; stack = 4096 }; rights = (0x11, read_and_write) ∷ []; bytes = [] }) []
+before = setting (hart 0x11000 7) (record { image = record { file = []; areas = []; entry = 0x10000; headers = 0; header_count = 0 }; layout = record { brk = 0; map = 0; stack = 4096 }; rights = (0x11, read_and_write) ∷ []; bytes = [] }) []
 
 -- the setting after an instruction of a hart, with the registers that each hart here begins with
 abbrev after : ℕ → Instr → Setting → Setting

@@ -86,9 +86,13 @@ pub none_is : (o : Option Ending) (b : Bool) → is_some o ≡ not b → b ≡ t
 none_is None b some is = refl
 none_is (Some e) b some is = absurd (let no : true ≡ not b = some in cc)
 
-pub some_is : (o : Option Ending) (b : Bool) → is_some o ≡ not b → b ≡ false → (e : Ending) × (o ≡ Some e)
-some_is (Some e) b some is = (e, refl)
-some_is None b some is = absurd (let no : false ≡ not b = some in cc)
+pub none_when : (o : Option Ending) → is_some o ≡ false → o ≡ None
+none_when None is = refl
+none_when (Some e) is = absurd (let no : true ≡ false = is in cc)
+
+pub some_when : (o : Option Ending) → is_some o ≡ true → (e : Ending) × (o ≡ Some e)
+some_when (Some e) is = (e, refl)
+some_when None is = absurd (let no : false ≡ true = is in cc)
 
 -- a hart retires whose turn it is, of those that are due
 pub record IsTurn (g : Guest) (keys : Keys) (h due : ℕ) : Type 0 where

@@ -1,9 +1,10 @@
-ghost use Rattle.std.specs.Prelude.{◌≡◌, ◌+◌, ◌^◌, ◌≤◌, ◌<◌, ◌++◌, [], Some, length, nat_le, IfOk, All, if◌then◌else◌};
+ghost use Rattle.std.specs.Prelude.{◌≡◌, ◌+◌, ◌^◌, ◌≤◌, ◌<◌, ◌++◌, [], Some, length, nat_le, is_some, IfOk, All, if◌then◌else◌};
 ghost use Rattle.hart_schedule.specs.Keys.{key_of, without_key, IsEmpty, IsLeast};
 ghost use Rattle.machines.specs.Delayed.{is_any};
 ghost use Rattle.machines.specs.Guest.{goes_on};
 ghost use Rattle.machines.specs.Shortened.{runs_any};
 ghost use Rattle.progress_points.specs.Points.{point_of};
+ghost use Rattle.guest_calls.specs.Guest.{making};
 ghost use Rattle.virtual_run.specs.Begin.{started_by, many, AreIdle, AreBegun};
 ghost use Rattle.virtual_run.specs.Ending.{ending_of, runs_after};
 ghost use Rattle.virtual_run.specs.Visits.{visits_of};
@@ -199,16 +200,34 @@ impl<'a> Run<'a> {
         self.time = turn.due;
         self.retired += 1;
         leave(&mut self.schedule, turn.hart, fate);
-        self.ending = self.ending_after(&setting.choice, fate);
-        if self.ending.is_none() {
-            self.begin_started(setting, turn.hart, fate);
-        } else {
+        if self.ends_with(&setting.choice, fate) {
+            self.ending = self.ending_after(&setting.choice, fate);
             self.schedule.take(turn.hart);
+        } else {
+            self.begin_started(setting, turn.hart, fate);
         }
         Retired {
             hart: turn.hart,
             fate,
         }
+    }
+
+    /// Makes this run equal to another one whose guest was made with the same arguments, and takes no memory.
+    pub fn copy_from(&mut self, other: &Run<'a>)
+        requires guest { making self.old.guest ≡ making other.now.guest }
+        requires visits { self.old.visits.limit ≡ other.now.visits.limit }
+        requires harts { length self.old.schedule ≡ length other.now.schedule }
+        ensures { self.new ≡ other.now }
+    {
+        self.guest.copy_from(&other.guest);
+        self.schedule.copy_from(&other.schedule);
+        self.started.copy_from(&other.started);
+        self.selected.copy_from(&other.selected);
+        self.visits.copy_from(&other.visits);
+        self.time = other.time;
+        self.retired = other.retired;
+        self.starts = other.starts;
+        self.ending = other.ending;
     }
 
     /// How the run has ended, if it has.
@@ -254,6 +273,24 @@ impl<'a> Run<'a> {
         ensures few { length result.now ≤ 67108864 }
     {
         self.guest.output()
+    }
+
+    /// Whether the run ends with a retirement of this fate. Where the hart goes on only the limits are looked at.
+    fn ends_with(&self, choice: &Choice, fate: Fate) -> bool
+        ensures { result ≡ is_some (ending_of fate
+            (nat_le choice.now.output_limit (length self.now.guest.output))
+            (nat_le choice.now.visit_limit (length self.now.visits.kept))
+            (runs_after fate self.now.started self.now.schedule)
+            self.now.retired choice.now.budget) }
+    {
+        match fate {
+            Fate::Goes => {
+                choice.output_limit <= self.guest.output().len() as u64
+                    || choice.visit_limit <= self.visits.all().len() as u64
+                    || choice.budget <= self.retired
+            }
+            _ => self.ending_after(choice, fate).is_some(),
+        }
     }
 
     /// How the run ends with a retirement of this fate, if it does.

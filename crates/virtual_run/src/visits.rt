@@ -45,6 +45,17 @@ impl Visits {
         };
     }
 
+    /// Makes these visits the same as others of the same limit, and takes no memory.
+    pub fn copy_from(&mut self, other: &Visits)
+        requires { self.old.limit ≡ other.now.limit }
+        ensures { self.new ≡ other.now }
+    {
+        self.kept.clear();
+        let Ok(()) = self.kept.extend_from_slice(&other.kept) else {
+            unreachable!()
+        };
+    }
+
     /// The visits, the first of them first.
     pub fn all(&self) -> &[Visit]
         ensures kept { result.now ≡ self.now.kept }

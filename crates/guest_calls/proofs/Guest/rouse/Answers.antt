@@ -46,6 +46,6 @@ returns c =
           ∙ ap (λ (hs : List ℕ). hs ++ woken c.args.address c.self.inside.queue c.args.count) c.requires
           ∙ ap (λ (g : Guest). woken c.args.address g.waiters c.args.count) c.self.view_is;
       running =
-          roused items (take c.self.inside.harts.len (c.run_each.new.harts ++ drop (length c.run_each.new.harts) items)) c.self.inside.areas c.self.inside.memory c.self.inside.reservations c.self.inside.queue c.wake.new.self c.self.inside.input.now c.self.inside.output c.args.self.now
+          roused items (take c.self.inside.harts.len (c.run_each.new.harts ++ drop (length c.run_each.new.harts) items)) c.self.inside.areas c.self.inside.memory c.self.inside.reservations c.self.inside.queue c.wake.new.self c.self.inside.input.now c.self.inside.whole_input.now c.self.inside.output c.args.self.now
           c.args.address c.args.count c.self.view_is (whole ∙ ran) c.wake.ensures.left;
     }

@@ -2,8 +2,8 @@ use Rattle.std.proofs.Common.{refl, lit<, lit≤}
 use Rattle.coz_types.specs.Image.{one_area}
 use Rattle.guest_tests.proofs.guest_areas_tests.program.Goals as goal
 
-pub new-image-requires : goal.new-image-requires
-new-image-requires c =
+pub new-requires : goal.new-requires
+new-requires c =
     rw c.in_ok-vec.ensures.items (one_area _ _ _ _ _
     (record {
       whole_start = refl;
