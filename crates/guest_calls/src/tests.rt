@@ -1,16 +1,12 @@
-ghost use Rattle.std.specs.Prelude.{◌≡◌, IfOk, IsTrue};
-ghost use Rattle.guest_memory.specs.Regions.{usual};
-ghost use Rattle.guest_calls.specs.Guest.{is_running, making, first_guest, IsMade};
+ghost use Rattle.std.specs.Prelude.{IsTrue};
+ghost use Rattle.guest_calls.specs.Guest.{is_running, IsMade};
 
 use super::*;
 use coz_types::{Area, Rights};
 use std::process::Abort;
 use std::test::Fail;
 
-/// ecall; lr.d a0, (a1); sc.d a0, a2, (a1).
-const FILE: [u8; 12] = [
-    0x73, 0, 0, 0, 0x2F, 0xB5, 0x05, 0x10, 0x2F, 0xB5, 0xC5, 0x18,
-];
+const FILE: [u8; 4] = [0x73, 0, 0, 0];
 
 /// Three pairs, of 3 bytes on the stack, of 1 byte of the text, and of 1 byte at 0; and `hello`.
 const INPUT: [u8; 53] = [
@@ -36,16 +32,15 @@ const AREA: Area = Area {
     },
     vaddr: TEXT,
     offset: 0,
-    filled: 12,
+    filled: 4,
 };
 
-/// A hart stands at an address, before a call with these arguments.
-fn prepare(guest: &mut Guest, hart: HartId, pc: Address, number: u64, arguments: [u64; 5])
+/// A hart stands before a call with these arguments.
+fn prepare(guest: &mut Guest, hart: HartId, number: u64, arguments: [u64; 5])
     requires { IsMade guest.old hart.0 }
-    ensures { making guest.new ≡ making guest.old }
 {
     let state = &mut guest.harts[hart.0 as usize].state;
-    state.pc = pc;
+    state.pc = TEXT;
     state.registers[17] = number;
     state.registers[10] = arguments[0];
     state.registers[11] = arguments[1];
@@ -62,42 +57,25 @@ impl<'a> Guest<'a> {
         place < self.harts.len() && matches!(self.harts[place].status, HartStatus::Running)
     }
 
-    /// What becomes of a hart as it executes the instruction at an address, and its a0 then; `started` gets the harts that
-    /// it makes or wakes.
-    fn ask_at(
-        &mut self,
-        hart: HartId,
-        pc: Address,
-        number: u64,
-        arguments: [u64; 5],
-        started: &mut HartList,
-    ) -> Option<(Fate, i64)>
-        ensures { making self.new ≡ making self.old }
-    {
-        started.clear();
-        if hart.0 as usize >= self.harts.len() {
-            return None;
-        }
-        prepare(self, hart, pc, number, arguments);
-        if !self.runs(hart) {
-            return None;
-        }
-        let fate = self.retire(hart, 0, started);
-        let made = self.harts.get(hart.0 as usize)?;
-        Some((fate, made.state.registers[10].cast_signed()))
-    }
-
-    /// The same of a call.
+    /// What becomes of a hart as it makes a call, and its a0 then; `started` gets the harts that it makes or wakes.
     fn ask_as(
         &mut self,
         hart: HartId,
         number: u64,
         arguments: [u64; 5],
         started: &mut HartList,
-    ) -> Option<(Fate, i64)>
-        ensures { making self.new ≡ making self.old }
-    {
-        self.ask_at(hart, TEXT, number, arguments, started)
+    ) -> Option<(Fate, i64)> {
+        started.clear();
+        if hart.0 as usize >= self.harts.len() {
+            return None;
+        }
+        prepare(self, hart, number, arguments);
+        if !self.runs(hart) {
+            return None;
+        }
+        let fate = self.retire(hart, 0, started);
+        let made = self.harts.get(hart.0 as usize)?;
+        Some((fate, made.state.registers[10].cast_signed()))
     }
 
     /// The same of the first hart.
@@ -332,9 +310,7 @@ const EXITS: [Asked; 6] = [
 ];
 
 /// These harts make these calls one after the other.
-fn check_asked(rt: &impl Abort, guest: &mut Guest, rows: &[Asked])
-    ensures { making guest.new ≡ making guest.old }
-{
+fn check_asked(rt: &impl Abort, guest: &mut Guest, rows: &[Asked]) {
     let mut started = HartList::new();
     for &(hart, number, arguments, fate, a0, harts) in rows {
         let got = guest.ask_as(HartId(hart), number, arguments, &mut started);
@@ -359,91 +335,5 @@ fn threads_wait_and_are_woken(rt: HostRuntime) -> Result<(), Fail> {
         assert_eq!(rt; got, Some((Fate::Goes, made + 1)));
     }
     assert_eq!(rt; guest.ask(220, [0x10F00, 0, 0, 0]), Some((Fate::Goes, -11)));
-    Ok(())
-}
-
-/// A second hart waits; half of the input is read, some of it written; the break is moved and two pages are mapped.
-const FIRST_HALF: [Asked; 6] = [
-    (0, 220, [0x10F00, 0, 0, 0, 0], Fate::Goes, 2, &[HartId(1)]),
-    (1, 98, [STACK, 0, 0, 0, 0], Fate::Waits, 0, NONE),
-    (0, 63, [0, STACK + 0x100, 24, 0, 0], Fate::Goes, 24, NONE),
-    (0, 64, [1, STACK + 0x100, 3, 0, 0], Fate::Goes, 3, NONE),
-    (
-        0,
-        214,
-        [BRK + 5000, 0, 0, 0, 0],
-        Fate::Goes,
-        0x20_0000_1388,
-        NONE,
-    ),
-    (
-        0,
-        222,
-        [0, 8192, 3, 0x22, 0],
-        Fate::Goes,
-        0x21_0000_0000,
-        NONE,
-    ),
-];
-
-const SECOND_HALF: [Asked; 5] = [
-    (0, 98, [STACK, 1, 1, 0, 0], Fate::Goes, 1, &[HartId(1)]),
-    (0, 63, [0, STACK + 0x100, 100, 0, 0], Fate::Goes, 29, NONE),
-    (0, 64, [1, STACK + 0x100, 5, 0, 0], Fate::Goes, 5, NONE),
-    (0, 214, [0; 5], Fate::Goes, 0x20_0000_1388, NONE),
-    (
-        0,
-        222,
-        [0, 4096, 3, 0x22, 0],
-        Fate::Goes,
-        0x21_0000_2000,
-        NONE,
-    ),
-];
-
-/// The hart executes the `lr` or the `sc` of the text, of 8 bytes of the stack.
-fn reserve_or_store(guest: &mut Guest, pc: Address) -> Option<(Fate, i64)>
-    ensures { making guest.new ≡ making guest.old }
-{
-    let arguments = [0, STACK + 8, 7, 0, 0];
-    guest.ask_at(HartId(0), pc, 0, arguments, &mut HartList::new())
-}
-
-/// The first half, and a reservation.
-fn check_first_half(rt: &impl Abort, guest: &mut Guest)
-    ensures { making guest.new ≡ making guest.old }
-{
-    check_asked(rt, guest, &FIRST_HALF);
-    assert_eq!(rt; reserve_or_store(guest, TEXT + 4), Some((Fate::Goes, 0)));
-}
-
-fn check_second_half(rt: &impl Abort, guest: &mut Guest)
-    ensures { making guest.new ≡ making guest.old }
-{
-    check_asked(rt, guest, &SECOND_HALF);
-    assert_eq!(rt; reserve_or_store(guest, TEXT + 8), Some((Fate::Goes, 0)));
-    assert_eq!(rt; guest.output(), [0, 1, 0xFF, 1, 0].as_slice());
-}
-
-fn made<'a>(alloc: Global, image: &'a Image<'a>, input: &'a [u8]) -> Result<Guest<'a>, AllocError>
-    ensures { IfOk result (λ guest. making guest ≡ making (first_guest image.now input.now 5 usual)) }
-{
-    Guest::new(alloc, image, input, 5, Layout::usual())
-}
-
-#[test]
-fn a_copied_guest_answers_alike(rt: HostRuntime) -> Result<(), Fail> {
-    let image = image(rt.alloc())?;
-    let mut guest = made(rt.alloc(), &image, &INPUT)?;
-    let mut fresh = made(rt.alloc(), &image, &INPUT)?;
-    let mut further = made(rt.alloc(), &image, &INPUT)?;
-    check_first_half(&rt, &mut guest);
-    check_first_half(&rt, &mut further);
-    check_second_half(&rt, &mut further);
-    fresh.copy_from(&guest);
-    further.copy_from(&guest);
-    check_second_half(&rt, &mut guest);
-    check_second_half(&rt, &mut fresh);
-    check_second_half(&rt, &mut further);
     Ok(())
 }
