@@ -1,3 +1,4 @@
+//! A curve: what each speedup of a line does to a progress point.
 use coz_lists::Items;
 use coz_types::Label;
 

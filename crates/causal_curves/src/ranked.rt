@@ -1,7 +1,7 @@
 //! The curves of a profile, by rank.
-ghost use Rattle.std.specs.Prelude.{◌≡◌, ◌++◌, map, length, IfOk, OnOk};
-ghost use Rattle.std.specs.List.{All};
-ghost use Rattle.profile_book.specs.Profile.{IsProfile};
+ghost use Rattle.std.specs.Prelude.{◌≡◌, ◌≤◌, ◌++◌, map, length, IfOk, OnOk};
+ghost use Rattle.std.specs.List.{All, AllByRecursion};
+ghost use Rattle.coz_types.specs.Ranges.{IsSummary};
 ghost use Rattle.causal_curves.specs.Curves.{groups, curve_of, curves_at, curves_of, ranked, IsRanking};
 ghost use Rattle.causal_curves.specs.Measured.{IsMeasured};
 
@@ -33,7 +33,8 @@ fn push_curves(
 }
 
 fn all_curves(alloc: Global, profile: &Profile) -> Result<Vec<Curve>, AllocError>
-    requires { IsProfile profile.now }
+    requires points { length profile.now.points ≤ 64 }
+    requires summaries { AllByRecursion (IsSummary (length profile.now.points)) profile.now.summaries }
     ensures { IfOk result (λ curves. curves.items ≡ curves_of profile.now) }
 {
     let mut curves = Vec::new(alloc);
@@ -46,7 +47,8 @@ fn all_curves(alloc: Global, profile: &Profile) -> Result<Vec<Curve>, AllocError
 
 /// The curves of each progress point over each line, by rank.
 pub fn curves(alloc: Global, profile: &Profile) -> Result<Items<Curve>, AllocError>
-    requires { IsProfile profile.now }
+    requires points { length profile.now.points ≤ 64 }
+    requires summaries { AllByRecursion (IsSummary (length profile.now.points)) profile.now.summaries }
     ensures ranking { IfOk result (IsRanking (curves_of profile.now)) }
     ensures ranked { IfOk result (λ curves. curves ≡ ranked (curves_of profile.now)) }
 {

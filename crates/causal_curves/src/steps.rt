@@ -66,7 +66,7 @@ fn steps_of(
     requires group { All (IsMeasured point) group.now }
     ensures { IfOk result (λ steps. steps.items ≡ map (step_of point (option_copied base.entry)) group.now) }
 {
-    let mut steps = Vec::new(alloc);
+    let mut steps = Vec::with_capacity(alloc, group.len())?;
     for summary in group {
         steps.push(step(point, base, summary))?;
     }

@@ -1,3 +1,4 @@
+//! A hart's account and pause, as they were at one moment.
 ghost use Rattle.std.specs.Prelude.{◌≡◌, ◌≤◌, ◌<◌, ℕ, length, slice_index_or, All, IsTrue};
 ghost use Rattle.delay_credits.specs.Seats.{settled, since_of, AreIdleFrom, Fits, IsRaised, IsUnpaused};
 

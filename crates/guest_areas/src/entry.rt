@@ -1,3 +1,4 @@
+//! What a program finds on its stack at the entry (System V ABI).
 ghost use Rattle.std.specs.Prelude.{◌≡◌, ◌+◌, ◌*◌, ◌%◌, ◌≤◌, IsTrue, length};
 ghost use Rattle.guest_memory.specs.Memory.{rights_at, is_writable, with_bytes, with_number};
 ghost use Rattle.guest_areas.specs.Entry.{with_entry, with_numbers, stack_pointer};

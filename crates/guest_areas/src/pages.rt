@@ -1,3 +1,4 @@
+//! Pages and protections of the mapping calls.
 ghost use Rattle.std.specs.Prelude.{ℕ, ◌≡◌, ◌≤◌, ◌^◌};
 ghost use Rattle.guest_memory.specs.Regions.{pages_for};
 ghost use Rattle.guest_areas.specs.Space.{has, rights_of, is_in_run};

@@ -1,3 +1,4 @@
+//! Harts: registers, and whether they run, wait or have gone.
 ghost use Rattle.std.specs.Prelude.{◌≡◌, set, replicate};
 ghost use Rattle.guest_calls.specs.declared.hart.HartStatus.TheVariants.{Waiting, Gone};
 ghost use Rattle.guest_calls.specs.Answering.{after_call, with_result};

@@ -1,3 +1,4 @@
+//! The output of a guest, up to its limit.
 ghost use Rattle.std.specs.Prelude.{◌≡◌, ◌≤◌, ◌%◌, ◌^◌, [], length, take, IfOk, IsTrue};
 ghost use Rattle.guest_memory.specs.Memory.{is_readable, bytes_at};
 ghost use Rattle.guest_calls.specs.Output.{with_bytes_written};

@@ -1,3 +1,4 @@
+//! Tests of system calls on harts whose registers they set.
 ghost use Rattle.std.specs.Prelude.{IsTrue};
 ghost use Rattle.guest_calls.specs.Guest.{is_running, IsMade};
 

@@ -1,3 +1,4 @@
+//! Lists of harts, in room that is taken when they are made.
 ghost use Rattle.std.specs.Prelude.{◌≡◌, ◌<◌, [], ◌∷◌, ◌++◌, length, map};
 
 use coz_types::HartId;

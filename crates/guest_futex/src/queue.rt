@@ -1,3 +1,4 @@
+//! The harts that wait at addresses, the eldest first.
 ghost use Rattle.std.specs.Prelude.{◌≡◌, ◌≢◌, ◌+◌, ◌<◌, ◌≤◌, [], ◌++◌, length, take, All, IfOk};
 ghost use Rattle.guest_futex.specs.Waiters.{with_waiter, woken, left};
 ghost use Rattle.guest_futex.specs.Apart.{AreApart};

@@ -1,3 +1,4 @@
+//! Tests of `guest_memory`.
 ghost use Rattle.std.specs.Prelude.{◌≡◌, ◌+◌, ◌≤◌, ◌<◌, false, IfOk};
 ghost use Rattle.guest_memory.specs.Regions.{usual};
 

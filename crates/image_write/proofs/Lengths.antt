@@ -107,12 +107,18 @@ at_most_two false x le = omega arith
 length-sizes : (version : ℕ) → length (sizes version) ≤ 2
 length-sizes version = at_most_two (version == 5) (8 ∷ 0 ∷ []) (omega arith)
 
--- the first number that isn't a length of the 32-bit form
-pub body_short : (ls name : List ℕ) (version : ℕ) → length ls < 2 ^ 20 → length name < 2 ^ 20 → length (unit_body ls name version) < 0xFFFFFFF0
-body_short ls name version few short =
+body_length : (ls name : List ℕ) (version : ℕ) → length (unit_body ls name version) ≤ 23 * length ls + 2 * length name + 67
+body_length ls name version =
     let header = numbers ++ files version name in
     let front = half version ++ sizes version in
     omega (arith, length-append (front ++ counted header) (line_program ls), length-append front (counted header), length-append (half version) (sizes version), length-half version, length-sizes version, length-counted header, length-header version name, length-line_program ls)
+
+pub unit_length : (ls name : List ℕ) (version : ℕ) → length (counted (unit_body ls name version)) ≤ 23 * length ls + 2 * length name + 71
+unit_length ls name version = omega (arith, length-counted (unit_body ls name version), body_length ls name version)
+
+-- the first number that isn't a length of the 32-bit form
+pub body_short : (ls name : List ℕ) (version : ℕ) → length ls < 2 ^ 20 → length name < 2 ^ 20 → length (unit_body ls name version) < 0xFFFFFFF0
+body_short ls name version few short = omega (arith, body_length ls name version)
 
 pub body_small : (ls name : List ℕ) (version : ℕ) → length ls < 2 ^ 20 → length name < 2 ^ 20 → length (unit_body ls name version) < 2 ^ 32
 body_small ls name version few short = omega (arith, body_short ls name version few short)

@@ -3,8 +3,8 @@ mod Leb
 mod Fronts
 mod Fields
 mod FileParts
-mod Loading
-mod LineSection
+pub mod Loading
+pub mod LineSection
 mod Program
-mod Written
+pub mod Written
 mod Files

@@ -1,5 +1,5 @@
 -- The line unit is the section of that name.
-use Rattle.std.proofs.Common.{◌≡◌, ℕ, ◌+◌, ◌-◌, ◌*◌, ◌&&◌, List, [], ◌++◌, length, take, drop, replicate, Some, Option, option_map, find, refl, ap, ap₂, ◌∙◌, arith, append_assoc, length-append, nat_lt, if◌then◌else◌, Result, Ok, Err}
+use Rattle.std.proofs.Common.{◌≡◌, ℕ, ◌+◌, ◌-◌, ◌*◌, ◌&&◌, List, [], ◌++◌, length, take, drop, replicate, Some, None, Option, option_map, find, refl, ap, ap₂, ◌∙◌, arith, append_assoc, length-append, nat_lt, if◌then◌else◌, Result, Ok, Err}
 use Rattle.std.specs.Prelude.{codes, IfOk}
 use Rattle.std.proofs.lemmas.List.{take_at, drop_at}
 use Rattle.elf_load.specs.declared.tables.Section.{Section}
@@ -63,6 +63,28 @@ section_found u p is =
     let found : search_by (tables.names f) (sections f) ≡ Some (line_section u p) =
     ap₂ search_by (names_read u p f is ∙ names_bytes u p) (sections_are u p f is) ∙ line_found u p in
     ap (λ (o : Option Section). option_map (bytes_of f) o) found ∙ ap (λ (bytes : List ℕ). Some bytes) (unit_bytes u p)
+
+-- no section has one of these names
+abbrev search_for : List ℕ → List ℕ → List Section → Option Section
+search_for name ns ss = find (λ s. has_bytes s && has_name ns name s) ss
+
+absent : (u name : List ℕ) (p : Program) → search_for name names (section_headers u p) ≡ None → IsLaid u p (file_with u p) → loading.section (file_with u p) name ≡ None
+unfolding loading.section
+absent u name p none is =
+    let f = file_with u p in
+    let found : search_for name (tables.names f) (sections f) ≡ None =
+    ap₂ (search_for name) (names_read u p f is ∙ names_bytes u p) (sections_are u p f is) ∙ none in
+    ap (λ (o : Option Section). option_map (bytes_of f) o) found
+
+no_texts_laid : (u : List ℕ) (p : Program) → IsLaid u p (file_with u p)
+    → (loading.section (file_with u p) (codes ".debug_str") ≡ None) × (loading.section (file_with u p) (codes ".debug_line_str") ≡ None)
+no_texts_laid u p is = (absent u (codes ".debug_str") p refl is, absent u (codes ".debug_line_str") p refl is)
+
+-- the texts of the lines are all in their unit
+pub no_texts : (p : Program) (name : List ℕ) (version : ℕ) → IsProgram p → IsName name
+    → (loading.section (written_file p name version) (codes ".debug_str") ≡ None) × (loading.section (written_file p name version) (codes ".debug_line_str") ≡ None)
+unfolding written_file
+no_texts p name version is named = no_texts_laid (unit p.lines name version) p (laid (unit p.lines name version) p is (unit_is_small p name version is named))
 
 pub unit_found : (p : Program) (name : List ℕ) (version : ℕ) → IsProgram p → IsName name → loading.section (written_file p name version) (codes ".debug_line") ≡ Some (unit p.lines name version)
 unfolding written_file

@@ -18,9 +18,9 @@ use Rattle.rv_asm.specs.Assembled.{Program, IsProgram, up_to_multiple}
 use Rattle.image_write.specs.Unit.{unit}
 use Rattle.image_write.specs.File.{has_content, whole_pages, content_place, unit_place, names_place, headers_place, segment_count, file_with, written_file, IsName}
 use Rattle.image_write.specs.Image.{text_area, data_area, image_of}
-use Rattle.image_write.proofs.Lengths.{unit_small}
+use Rattle.image_write.proofs.Lengths.{unit_small, unit_length}
 use Rattle.image_write.proofs.Fields.{IsHeaded}
-use Rattle.image_write.proofs.FileParts.{IsLaid, laid, text_header, data_header, no_section, text_section, data_section, line_section, names_section}
+use Rattle.image_write.proofs.FileParts.{IsLaid, laid, small_room, text_header, data_header, no_section, text_section, data_section, line_section, names_section}
 
 -- ---- rows that don't hold
 
@@ -319,6 +319,14 @@ loads_laid unit p file is laid_out =
 pub unit_is_small : (p : Program) (name : List ℕ) (version : ℕ) → IsProgram p → IsName name → length (unit p.lines name version) < 2 ^ 33
 unfolding unit
 unit_is_small p name version is named = unit_small p.lines name version (omega (arith, is.whole, is.text_fits)) (omega (arith, named.1))
+
+-- far below the length of the longest program's file
+pub written_short : (p : Program) (name : List ℕ) (version : ℕ) → IsProgram p → IsName name → length (written_file p name version) ≤ 16777216
+unfolding written_file unit
+written_short p name version is named =
+    let u = unit p.lines name version in
+    let long = (laid u p is (unit_is_small p name version is named)).is_long in
+    omega (arith, long, unit_length p.lines name version, small_room p, is.text_fits, is.content_fits, is.whole, named.1)
 
 pub written_loads : (p : Program) (name : List ℕ) (version : ℕ) → IsProgram p → IsName name → loaded (written_file p name version) ≡ Ok (image_of p (written_file p name version))
 unfolding written_file

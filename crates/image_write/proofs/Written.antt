@@ -223,7 +223,7 @@ all_lines : (lines : List ℕ) → AllByRecursion (λ line. (1 ≤ line) × (lin
 all_lines [] all = tt
 all_lines (l ∷ more) all = (omega (arith, all.0), all_lines more all.1)
 
-unit_is_read : (p : Program) (name : List ℕ) (version : ℕ) → IsProgram p → IsName name → IsVersion version → reading none (unit p.lines name version) ≡ Ok (table_of p.lines name version)
+pub unit_is_read : (p : Program) (name : List ℕ) (version : ℕ) → IsProgram p → IsName name → IsVersion version → reading none (unit p.lines name version) ≡ Ok (table_of p.lines name version)
 unit_is_read p name version is named right =
     let full = without_zeros name (recursion_from_All (λ b. not (b == 0) ≡ true) name named.2) in
     let all = all_lines p.lines (recursion_from_All (λ line. (1 ≤ line) × (line ≤ 65536)) p.lines is.lines_fit) in

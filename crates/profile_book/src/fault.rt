@@ -1,3 +1,4 @@
+//! The first wrong item of a profile's text.
 ghost use Rattle.std.specs.Prelude.{◌≡◌};
 ghost use Rattle.profile_book.specs.declared.fault.BookError.TheVariants.{Memory};
 

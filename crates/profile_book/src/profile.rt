@@ -1,3 +1,4 @@
+//! A profile.
 use coz_lists::Items;
 use coz_types::{Label, Summary};
 

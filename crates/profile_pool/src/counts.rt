@@ -1,3 +1,4 @@
+//! How often each progress point was visited.
 ghost use Rattle.std.specs.Prelude.{◌≡◌, ◌≤◌, length, map, IfOk};
 ghost use Rattle.virtual_run.specs.Visits.{net_of};
 ghost use Rattle.profile_pool.specs.Summaries.{counts_of};

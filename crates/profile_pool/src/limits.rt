@@ -1,3 +1,4 @@
+//! The limits of the commands.
 ghost use Rattle.std.specs.Prelude.{◌≡◌, ◌≤◌, ◌^◌, option_map};
 ghost use Rattle.coz_types.specs.declared.LineId.{LineId};
 ghost use Rattle.virtual_run.specs.Run.{IsChoice};

@@ -1,3 +1,4 @@
+//! How a run that has ended came out, within the ranges of a summary.
 ghost use Rattle.std.specs.Prelude.{◌≡◌, ◌≤◌, true, IsSome, Some};
 ghost use Rattle.coz_types.specs.Ranges.{is_ending};
 ghost use Rattle.virtual_run.specs.DelayedRun.{outcome_of, IsOfAHart, IsSmall};

@@ -1,3 +1,4 @@
+//! What a profile keeps of a run.
 ghost use Rattle.std.specs.Prelude.{◌≡◌, ◌≤◌, ◌<◌, ◌^◌, true, length, IfOk, IsSome, Some};
 ghost use Rattle.coz_types.specs.declared.ending.Ending.{Ending};
 ghost use Rattle.coz_types.specs.Labels.{is_label};

@@ -1,3 +1,4 @@
+//! The registers of a hart, and what follows an instruction.
 ghost use Rattle.std.specs.Prelude.{◌≡◌, ◌<◌};
 ghost use Rattle.rv_execute.specs.Execution.{ChangesHart, register, with_register, address_at, next, put, jump};
 

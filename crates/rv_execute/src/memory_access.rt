@@ -1,3 +1,4 @@
+//! Loads and stores (RISC-V unprivileged manual, RV64I).
 ghost use Rattle.std.specs.Prelude.{◌≡◌, ◌<◌};
 ghost use Rattle.guest_memory.specs.Memory.{IsSize};
 ghost use Rattle.rv_execute.specs.Reservations.{Reservations as Reserved};

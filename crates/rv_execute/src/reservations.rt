@@ -1,3 +1,4 @@
+//! Reservations of lr and sc (RISC-V unprivileged manual, extension A).
 ghost use Rattle.std.specs.Prelude.{◌≡◌, ◌<◌, []};
 ghost use Rattle.rv_execute.specs.Reservations.{eight_at, without_own, with_reservation, is_touched, without_touched, is_reserved};
 

@@ -1,3 +1,4 @@
+//! The delayed machine: runs under virtual time with the delays of a selected line.
 ghost use Rattle.std.specs.Prelude.{◌≡◌, ◌+◌, ◌≤◌, ◌<◌, map, length, Some, None, IfOk, IfSome, IsSome, MatchOption, All, option_map};
 ghost use Rattle.hart_schedule.specs.Keys.{key_of};
 ghost use Rattle.delay_credits.specs.Delays.{account_as};

@@ -1,3 +1,4 @@
+//! The visits of a run, up to a limit.
 ghost use Rattle.std.specs.Prelude.{◌≡◌, ◌≤◌, ◌<◌, ◌++◌, [], ◌∷◌, length, IfOk, All};
 
 use coz_types::Visit;
