@@ -3,17 +3,14 @@ use Rattle.std.proofs.Common.{◌≡◌, ℕ, List, Option, refl, ap, ap₂, ◌
 use Rattle.std.proofs.Math.Path.{fun_ext}
 use Rattle.coz_types.specs.Image.{ImageParts}
 use Rattle.dwarf_lines.specs.Registers.{Table}
-use Rattle.line_index.specs.Lines.{Line}
 use Rattle.line_index.specs.Index.{Index, IsIndex, position_at}
 use Rattle.line_index.specs.Listed.{lines_in, position_in}
 use Rattle.line_index.proofs.Listed.{lines_are, entries_are, positions_are}
 use Rattle.progress_points.specs.Points.{Points, IsPoints, point_of, point_in}
-use Rattle.machines.specs.Guest.{Experiment}
-use Rattle.guest_calls.specs.Guest.{Guest}
 use Rattle.virtual_run.specs.Run.{experiment}
 use Rattle.virtual_run.specs.declared.choice.Choice.{Choice}
 use Rattle.coz_cli.specs.Experiment.{Runs, entries_of, experiment_of, runs_in}
-use Rattle.coz_cli.specs.Verdict.{Verdict, Judging}
+use Rattle.coz_cli.specs.Verdict.{Judging}
 
 module _ (image : ImageParts) (table : Table) (input : List ℕ) where
   -- the runs with these entries and positions

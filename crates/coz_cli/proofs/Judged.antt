@@ -1,7 +1,6 @@
 -- Which statuses a verdict of a program's runs has.
-use Rattle.std.proofs.Common.{◌≡◌, ◌≢◌, ℕ, ◌≤◌, ◌<◌, List, [], ◌∷◌, length, Bool, true, false, cond, nat_lt, Option, Some, None, IfSome, Result, Ok, Err, ◌⊎◌, inl, inr, refl, sym, ap, ◌∙◌, subst, arith}
+use Rattle.std.proofs.Common.{◌≡◌, ◌≢◌, ℕ, ◌≤◌, List, [], length, Bool, true, false, cond, nat_lt, Option, Some, None, IfSome, Result, Ok, Err, ◌⊎◌, inl, inr, refl, sym, ap, ◌∙◌, subst, arith}
 use Rattle.std.specs.List.{list_all}
-use Rattle.coz_types.specs.declared.ending.Ending.{Ending}
 use Rattle.coz_types.specs.declared.record.Summary.{Summary}
 use Rattle.elf_load.specs.declared.ElfFault.{ElfFault}
 use Rattle.elf_load.specs.Loaded.{loaded}
@@ -22,9 +21,9 @@ use Rattle.coz_cli.specs.declared.experiment.Kind.TheVariants.{Delayed, Shortene
 use Rattle.coz_files.specs.Faults.{Rose}
 use Rattle.coz_files.specs.Held.{Held, file_at}
 use Rattle.coz_cli.specs.declared.fault.Fault.{Fault}
-use Rattle.coz_cli.specs.declared.fault.Fault.TheVariants.{Usage, Program, Lines, Read, Write, NoLine, ManyPoints, Long, ManyExperiments, Memory, Source}
+use Rattle.coz_cli.specs.declared.fault.Fault.TheVariants.{Usage, Program, Lines, Read, Write, NoLine, ManyPoints, Long, ManyExperiments, Memory, Source, Profile}
 use Rattle.coz_cli.specs.LineTable.{table_in}
-use Rattle.coz_cli.specs.Experiment.{Runs, choice_of, experiment_of}
+use Rattle.coz_cli.specs.Experiment.{Runs, choice_of}
 use Rattle.coz_cli.specs.Profiled.{all_lines, pairs_of, profile_of}
 use Rattle.coz_cli.specs.Selection.{line_named, lines_named}
 use Rattle.coz_cli.specs.Kind.{judging, really_printed, run_printed}
@@ -131,6 +130,7 @@ module _ (asked : Request) (v : Verdict) (judged : Judged v) where
   suits_of (Err (ManyExperiments count)) no_read settled = tt
   suits_of (Err Memory) no_read settled = tt
   suits_of (Err (Source fault)) no_read settled = tt
+  suits_of (Err (Profile fault)) no_read settled = tt
 
 pub suits_file : (kind : Kind) (asked : Request) (file input : List ℕ) (answer : Answer) → (IsRead answer → ⊥)
     → ((IsMemory answer → ⊥) → answered answer ≡ file_verdict (judging kind asked) file input) → Suits asked answer

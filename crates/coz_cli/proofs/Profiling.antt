@@ -1,6 +1,6 @@
 -- The verdict of a profile, by what is found of its lines, points and plan.
-use Rattle.std.proofs.Common.{◌≡◌, ℕ, ◌≤◌, ◌<◌, List, [], ◌∷◌, map, length, nat_lt, nat_le, Bool, true, cond, refl, sym, subst, ap, ap₂, ◌∙◌, arith}
-use Rattle.std.specs.Prelude.{get_or, Option, Some, Ok, Err, slice_get, option_map}
+use Rattle.std.proofs.Common.{◌≡◌, ℕ, ◌≤◌, ◌<◌, List, [], ◌∷◌, map, length, nat_le, Bool, true, cond, refl, sym, subst, ap, ap₂, ◌∙◌}
+use Rattle.std.specs.Prelude.{Option, Some, Ok, Err}
 use Rattle.std.proofs.Math.Path.{fun_ext}
 use Rattle.std.specs.List.{All, list_all, slice_index_or}
 use Rattle.std.proofs.lemmas.Bool.{lt-ltb, le-ltb, leb-true}
@@ -9,11 +9,11 @@ use Rattle.coz_types.specs.Image.{ImageParts}
 use Rattle.coz_types.specs.declared.LineId.{LineId}
 use Rattle.coz_types.specs.declared.record.Summary.{Summary}
 use Rattle.line_index.specs.Index.{Index}
-use Rattle.line_index.specs.Lines.{Line, label}
+use Rattle.line_index.specs.Lines.{Line}
 use Rattle.progress_points.specs.Points.{Points, IsPoints, IsFault}
 use Rattle.progress_points.specs.declared.PointsError.{PointsError}
 use Rattle.progress_points.specs.declared.PointsError.TheVariants as pointing
-use Rattle.experiment_plan.specs.Selected.{id_of, ids}
+use Rattle.experiment_plan.specs.Selected.{ids}
 use Rattle.experiment_plan.specs.Pairs.{planned, IsPlan}
 use Rattle.experiment_plan.specs.declared.experiment.Experiment.{Experiment as Pair}
 use Rattle.experiment_plan.specs.declared.experiment.PlanError.{PlanError}
@@ -25,13 +25,12 @@ use Rattle.machines.specs.Guest.{Experiment}
 use Rattle.machines.specs.Standing.{delayed_record}
 use Rattle.guest_calls.specs.Guest.{Guest}
 use Rattle.profile_pool.specs.Choices.{choice_of}
-use Rattle.profile_pool.specs.Summaries.{summary_in}
+use Rattle.profile_pool.specs.Summaries.{summary_in, summaries_of}
 use Rattle.experiment_plan.proofs.Pairing.{speedups_few}
 use Rattle.coz_words.specs.Said.{Text}
 use Rattle.coz_words.specs.declared.request.Request.{Request}
 use Rattle.coz_cli.specs.Experiment.{Runs, runs_in}
 use Rattle.coz_cli.specs.Selection.{lines_named}
-use Rattle.coz_cli.specs.PlanRuns.{summaries_of}
 use Rattle.coz_cli.specs.Profiled.{all_lines, experiment_on, label_at, pairs_of, profile_of, summary_on}
 use Rattle.profile_book.specs.declared.profile.Profile.{Profile}
 use Rattle.coz_cli.proofs.Indexed.{experiment_is}
@@ -57,7 +56,7 @@ same_lines : (lines : List LineId) → lines ≡ map (λ (l : ℕ). record { 0 =
 same_lines [] = refl
 same_lines (line ∷ lines) = ap (λ (ls : List LineId). line ∷ ls) (same_lines lines)
 
-pairs_are : (lines : List LineId) (speedups : List ℕ) → planned lines speedups ≡ pairs_of (ids lines) speedups
+pub pairs_are : (lines : List LineId) (speedups : List ℕ) → planned lines speedups ≡ pairs_of (ids lines) speedups
 pairs_are lines speedups = ap (λ (ls : List LineId). planned ls speedups) (same_lines lines)
 
 -- a plan of at most 100,000 pairs

@@ -7,14 +7,15 @@ use Rattle.coz_files.specs.Held.{Held}
 use Rattle.coz_words.specs.declared.request.Request.{Request}
 use Rattle.coz_cli.specs.declared.answer.Printed.{Printed}
 use Rattle.coz_cli.specs.declared.fault.Fault.{Fault}
-use Rattle.coz_cli.specs.declared.fault.Fault.TheVariants.{Usage, Program, Lines, Read, Write, NoLine, ManyPoints, Long, ManyExperiments, Memory, Source}
+use Rattle.coz_cli.specs.declared.fault.Fault.TheVariants.{Usage, Program, Lines, Read, Write, NoLine, ManyPoints, Long, ManyExperiments, Memory, Source, Profile}
 use Rattle.coz_cli.specs.Words.{request_of}
 use Rattle.coz_cli.specs.Verdict.{Verdict, command_verdict, request_verdict, verdict}
 use Rattle.coz_cli.specs.Answer.{Answer, IsMemory, IsReadFault, Suits, Settles, fault_line, fault_status, printed_verdict, text_bytes}
-use Rattle.coz_cli.specs.Headline.{PrintsShortened}
+use Rattle.coz_cli.specs.Headline.{PrintsForAnyWorkers, PrintsShortened}
 use Rattle.coz_cli.specs.Serve.{IsLine}
 use Rattle.coz_cli.proofs.Printed.{prints_shortened}
 use Rattle.coz_cli.proofs.Told.{IsOf, told_line}
+use Rattle.coz_cli.proofs.Workers.{printed_alike}
 
 -- nothing is asked of a status that is above a run's
 pub no_headline : (words : List (List ℕ)) (told before after : _) (status : ℕ) → 2 ≤ status → IfSome told (λ held. status ≤ 1 → PrintsShortened words held before after)
@@ -42,6 +43,7 @@ is_read (Long path) five = absurd (omega (arith, five))
 is_read (ManyExperiments count) five = absurd (omega (arith, five))
 is_read Memory five = absurd (omega (arith, five))
 is_read (Source fault) five = absurd (omega (arith, five))
+is_read (Profile fault) five = absurd (omega (arith, five))
 
 not_memory : (fault : Fault) → fault_status fault ≡ 5 → IsMemory {A = Printed} (Err fault) → ⊥
 not_memory Usage five memory = memory
@@ -55,6 +57,7 @@ not_memory (Long path) five memory = memory
 not_memory (ManyExperiments count) five memory = memory
 not_memory Memory five memory = omega (arith, five)
 not_memory (Source fault) five memory = memory
+not_memory (Profile fault) five memory = memory
 
 module _ (words : List (List ℕ)) (faults now : ℕ) where
   -- what an answer settles of a request it settles of the words
@@ -118,5 +121,16 @@ module _ (words : List (List ℕ)) (faults now : ℕ) where
         λ low.
         elim (is (λ no. no)) [
           | inl same ↦ printed_run words held before after printed (sym same) gained low
+          | inr failed ↦ absurd failed.0
+        ]
+
+    pub any_workers : (told before after : Option _) (printed : Printed)
+        → IfSome told (λ held. (IsMemory {A = Printed} (Ok printed) → ⊥) → Settles (command_verdict asked.command asked held) faults now (Ok printed))
+        → Appends before after (text_bytes printed.text) → IfSome told (λ held. PrintsForAnyWorkers words held printed.status before after)
+    any_workers None before after printed settled gained = tt
+    any_workers (Some held) before after printed settled gained =
+        let is = subst (λ request. IsSettled (Some held) request (Ok printed)) makes settled in
+        elim (is (λ no. no)) [
+          | inl same ↦ printed_alike words held printed.status before after (subst (λ (v : Verdict). Appends before after v.text) same gained)
           | inr failed ↦ absurd failed.0
         ]

@@ -4,7 +4,7 @@ use Rattle.std.specs.Prelude.{IfNone, IsSomeAnd}
 use Rattle.coz_files.specs.Faults.{Rose}
 use Rattle.coz_files.specs.Held.{Held}
 use Rattle.coz_cli.specs.declared.fault.Fault.{Fault}
-use Rattle.coz_cli.specs.declared.fault.Fault.TheVariants.{Usage, Program, Lines, Read, Write, NoLine, ManyPoints, Long, ManyExperiments, Memory, Source}
+use Rattle.coz_cli.specs.declared.fault.Fault.TheVariants.{Usage, Program, Lines, Read, Write, NoLine, ManyPoints, Long, ManyExperiments, Memory, Source, Profile}
 use Rattle.coz_words.specs.declared.request.Request.{Request}
 use Rattle.coz_cli.specs.Words.{Names, request_of}
 use Rattle.coz_cli.specs.Verdict.{Verdict, verdict}
@@ -90,6 +90,7 @@ module _ (status : ℕ) (words : List (List ℕ)) (told : Option Held) (before n
   told_line (Long path) k = plain (Long path) k (λ is. omega (arith, is, k.status_is)) (λ is. omega (arith, is, k.status_is)) (λ is. omega (arith, is, k.status_is)) (λ is. omega (arith, is, k.status_is)) (λ no. no) (λ no. no)
   told_line (ManyExperiments count) k = plain (ManyExperiments count) k (λ is. omega (arith, is, k.status_is)) (λ is. omega (arith, is, k.status_is)) (λ is. omega (arith, is, k.status_is)) (λ is. omega (arith, is, k.status_is)) (λ no. no) (λ no. no)
   told_line (Source fault) k = plain (Source fault) k (λ is. omega (arith, is, k.status_is)) (λ is. omega (arith, is, k.status_is)) (λ is. omega (arith, is, k.status_is)) (λ is. omega (arith, is, k.status_is)) (λ no. no) (λ no. no)
+  told_line (Profile fault) k = plain (Profile fault) k (λ is. omega (arith, is, k.status_is)) (λ is. omega (arith, is, k.status_is)) (λ is. omega (arith, is, k.status_is)) (λ is. omega (arith, is, k.status_is)) (λ no. no) (λ no. no)
 
 -- no fault has the status of a run
 pub told_high : (fault : Fault) → 2 ≤ fault_status fault
@@ -104,3 +105,4 @@ told_high (Long path) = omega arith
 told_high (ManyExperiments count) = omega arith
 told_high Memory = omega arith
 told_high (Source fault) = omega arith
+told_high (Profile fault) = omega arith

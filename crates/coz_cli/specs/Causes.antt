@@ -9,8 +9,10 @@ use Rattle.experiment_plan.specs.declared.experiment.PlanError.{PlanError}
 use Rattle.experiment_plan.specs.declared.experiment.PlanError.TheVariants as planning
 use Rattle.rv_asm.specs.declared.AsmError.{AsmError}
 use Rattle.rv_asm.specs.declared.AsmError.TheVariants as assembling
+use Rattle.profile_book.specs.declared.fault.BookError.{BookError}
+use Rattle.profile_book.specs.declared.fault.BookError.TheVariants as book
 use Rattle.coz_cli.specs.declared.fault.Fault.{Fault}
-use Rattle.coz_cli.specs.declared.fault.Fault.TheVariants.{Program, Lines, ManyPoints, ManyExperiments, Memory, Source}
+use Rattle.coz_cli.specs.declared.fault.Fault.TheVariants.{Program, Lines, ManyPoints, ManyExperiments, Memory, Source, Profile}
 
 abbrev pub loading_fault : LoadError → Fault
 loading_fault (loading.Fault fault) = Program fault
@@ -31,3 +33,7 @@ planning_fault planning.Memory = Memory
 abbrev pub assembling_fault : AsmError → Fault
 assembling_fault (assembling.Fault fault) = Source fault
 assembling_fault assembling.Memory = Memory
+
+abbrev pub profile_fault : BookError → Fault
+profile_fault (book.Fault fault) = Profile fault
+profile_fault book.Memory = Memory

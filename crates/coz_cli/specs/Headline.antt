@@ -1,4 +1,4 @@
--- The headline: what is printed of a delayed run is that of the shortened run.
+-- The headline: what is printed of a delayed run is that of the shortened run, and for any number of workers the bytes are those of one.
 use Rattle.std.specs.Prelude.{◌≡◌, List, ℕ, [], Option, None, Some, Ok, All, ◌≤◌, length}
 use Rattle.std.specs.Io.KnownBytes.{Appends}
 use Rattle.coz_types.specs.Image.{ImageParts}
@@ -20,6 +20,7 @@ use Rattle.coz_cli.specs.Selection.{line_named, lines_named}
 use Rattle.coz_cli.specs.Experiment.{Runs, choice_of, experiment_of}
 use Rattle.coz_cli.specs.Profiled.{all_lines, experiment_on, pairs_of, profile_with}
 use Rattle.coz_cli.specs.Text.{run_text, really_text}
+use Rattle.coz_cli.specs.Verdict.{verdict}
 
 -- the bytes of the input that is named, and none where none is
 abbrev pub IsInput : Held → Option (List ℕ) → List ℕ → Type 0
@@ -104,3 +105,16 @@ pub record PrintsShortened (words : List (List ℕ)) (held : Held) (before now :
   pub runs : (asked : Request) → request_of words ≡ Some asked → asked.command ≡ Run → PrintsRun held asked before now
   pub profiles : (asked : Request) → request_of words ≡ Some asked → asked.command ≡ Profile → PrintsProfile held asked before now
   pub really : (asked : Request) → request_of words ≡ Some asked → asked.command ≡ Really → PrintsReally held asked before now
+
+-- words that ask for the same as others, but for the number of workers
+pub record AskAlike (words others : List (List ℕ)) : Type 0 where
+  pub asked : Request
+  pub workers : ℕ
+  pub these : request_of words ≡ Some asked
+  pub those : request_of others ≡ Some (record asked { workers = workers })
+
+-- For any number of workers the bytes are the same: words that ask for the same, but for that number, come to one verdict,
+-- in its status, its text and its line; and what is printed is the text of each of them.
+pub record PrintsForAnyWorkers (words : List (List ℕ)) (held : Held) (status : ℕ) (before now : Option (List ℕ)) : Type 0 where
+  pub same : (others : List (List ℕ)) → AskAlike words others → verdict words held ≡ verdict others held
+  pub printed : (others : List (List ℕ)) → AskAlike words others → status ≤ 1 → Appends before now (verdict others held).text

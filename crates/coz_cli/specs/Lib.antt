@@ -6,7 +6,7 @@ pub mod LineTable
 pub mod Selection
 pub mod Experiment
 pub mod Profiled
-pub mod PlanRuns
+pub mod Trial
 pub mod Verdict
 pub mod Kind
 pub mod LinesText

@@ -9,6 +9,9 @@ use Rattle.machines.specs.Records.{Record, NetRecord}
 use Rattle.dwarf_lines.specs.Registers.{Table}
 use Rattle.line_index.specs.Lines.{Line, label}
 use Rattle.line_index.specs.Listed.{lines_in, entries_in}
+use Rattle.profile_book.specs.declared.profile.Profile.{Profile}
+use Rattle.causal_curves.specs.Curves.{curves_of, ranked}
+use Rattle.causal_curves.specs.Texts.{curve_text}
 
 -- a name and a number on a line
 abbrev pub number_line : List ℕ → ℕ → List ℕ
@@ -95,3 +98,9 @@ unfoldable pub lines_text : Table → List Area → List ℕ
 lines_text table areas =
     number_line (codes "skipped ") table.skipped
     ++ flat_map (λ line. line_text line (entries_in table areas line)) (lines_in table areas)
+
+-- ---- of a profile
+
+-- what `plot` prints: the curves by rank
+unfoldable pub plot_text : Profile → List ℕ
+plot_text p = flat_map curve_text (ranked (curves_of p))

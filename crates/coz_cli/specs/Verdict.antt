@@ -11,10 +11,11 @@ use Rattle.elf_load.specs.declared.ElfFault.{ElfFault}
 use Rattle.elf_load.specs.Loaded.{loaded}
 use Rattle.coz_words.specs.declared.request.Request.{Request}
 use Rattle.coz_words.specs.declared.command.Command.{Command}
-use Rattle.coz_words.specs.declared.command.Command.TheVariants.{Run, Really, Profile, Lines, Asm}
+use Rattle.coz_words.specs.declared.command.Command.TheVariants.{Run, Really, Profile, Lines, Plot, Asm, Trial}
 use Rattle.rv_asm.specs.declared.AsmFault.{AsmFault}
 use Rattle.rv_asm.specs.Assembled.{Program, assembled}
 use Rattle.image_write.specs.File.{written_file}
+use Rattle.work_gen.specs.Text.{Source, generated}
 use Rattle.machines.specs.Guest.{Experiment}
 use Rattle.machines.specs.Records.{Record, NetRecord, shortened_record}
 use Rattle.machines.specs.Standing.{delayed_record}
@@ -23,16 +24,20 @@ use Rattle.line_index.specs.Lines.{Line}
 use Rattle.line_index.specs.Listed.{lines_in}
 use Rattle.experiment_plan.specs.declared.experiment.Experiment.{Experiment as Pair}
 use Rattle.profile_book.specs.Profile.{profile_text}
+use Rattle.profile_book.specs.Grammar.{book_fault}
+use Rattle.profile_book.specs.Told.{told}
+use Rattle.profile_book.specs.declared.fault.BookFault.{BookFault}
 use Rattle.profile_book.specs.declared.profile.Profile.{Profile as Book}
-use Rattle.coz_cli.specs.Text.{run_text, really_text, lines_text}
+use Rattle.coz_cli.specs.Text.{run_text, really_text, lines_text, plot_text}
 use Rattle.coz_words.specs.Said.{Text}
 use Rattle.coz_cli.specs.Selection.{line_named, lines_named}
 use Rattle.coz_cli.specs.Experiment.{Runs, choice_of, experiment_of}
 use Rattle.dwarf_lines.specs.declared.LineFault.{LineFault}
 use Rattle.dwarf_lines.specs.Registers.{Table}
 use Rattle.coz_cli.specs.LineTable.{table_in}
-use Rattle.coz_cli.specs.FaultLines.{program_line, table_line, source_line, no_line_line, points_line, plan_line}
+use Rattle.coz_cli.specs.FaultLines.{program_line, table_line, source_line, no_line_line, points_line, plan_line, book_line}
 use Rattle.coz_cli.specs.Profiled.{all_lines, pairs_of, profile_of}
+use Rattle.coz_cli.specs.Trial.{trial_file, trial_point, trial_profile, trial_program, trial_text}
 
 pub record Verdict : Type 0 where
   pub status : ℕ
@@ -137,17 +142,47 @@ files_verdict asked held next =
 abbrev pub lines_verdict : List ℕ → Verdict
 lines_verdict file = program_verdict file (λ image table. printed (lines_text table image.areas))
 
--- of what a source stands for, under this name
-abbrev pub source_verdict : List ℕ → Result Program AsmFault → Verdict
-source_verdict name (Err fault) = refused 11 (source_line fault)
-source_verdict name (Ok program) = printed (written_file program name 4)
+-- of a profile, if its text has no fault
+abbrev pub book_verdict : Option BookFault → Book → Verdict
+book_verdict (Some fault) p = refused 12 (book_line fault)
+book_verdict None p = printed (plot_text p)
+
+-- of a profile's text
+abbrev pub plot_verdict : List ℕ → Verdict
+plot_verdict bytes = book_verdict (book_fault bytes) (told bytes)
+
+-- of what a source stands for, under this name and with lines of this version
+abbrev pub source_verdict : List ℕ → ℕ → Result Program AsmFault → Verdict
+source_verdict name version (Err fault) = refused 11 (source_line fault)
+source_verdict name version (Ok program) = printed (written_file program name version)
+
+-- of what a source stands for, if it stands for a program, and of what follows
+abbrev pub assembled_verdict : Result Program AsmFault → (Program → Verdict) → Verdict
+assembled_verdict (Err fault) next = refused 11 (source_line fault)
+assembled_verdict (Ok program) next = next program
+
+-- of the profile of a trial
+abbrev pub trial_printed : Source → List Line → Book → Verdict
+trial_printed source lines p = record { status = (profile_verdict p).status; text = trial_text source lines p; line = [] }
+
+-- of a trial on the lines and runs of its program
+unfoldable pub trial_judging : Source → Judging
+trial_judging source lines runs = named_verdict (trial_point source.point lines) (λ point. trial_printed source lines (trial_profile runs lines point))
+
+-- of the trial of a seed and a size
+unfoldable pub trial_verdict : ℕ → ℕ → Verdict
+trial_verdict seed size =
+    let source = generated seed size in
+    assembled_verdict (trial_program source) (λ program. file_verdict (trial_judging source) (trial_file program) [])
 
 abbrev pub command_verdict : Command → Request → Held → Verdict
 command_verdict Run asked held = files_verdict asked held (asked_verdict asked (λ x. run_verdict (delayed_record x)))
 command_verdict Really asked held = files_verdict asked held (asked_verdict asked (λ x. really_verdict (shortened_record x)))
 command_verdict Profile asked held = files_verdict asked held (profiled_verdict asked)
 command_verdict Lines asked held = read_verdict 33554432 asked.target (file_at held asked.target) lines_verdict
-command_verdict Asm asked held = read_verdict 4194304 asked.target (file_at held asked.target) (λ source. source_verdict asked.target (assembled source))
+command_verdict Plot asked held = read_verdict 268435456 asked.target (file_at held asked.target) plot_verdict
+command_verdict Asm asked held = read_verdict 4194304 asked.target (file_at held asked.target) (λ source. source_verdict asked.target asked.dwarf (assembled source))
+command_verdict Trial asked held = trial_verdict asked.seed asked.size
 
 abbrev pub request_verdict : Option Request → Held → Verdict
 request_verdict None held = refused 2 (codes "coz: usage")

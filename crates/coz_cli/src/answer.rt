@@ -1,24 +1,32 @@
-ghost use Rattle.std.specs.Prelude.{◌≡◌, IfSome, IfNone};
+//! What a request comes to: a text and its status, or a fault.
+ghost use Rattle.std.specs.Prelude.{◌≡◌, IfErr, IfSome, IfNone};
 ghost use Rattle.coz_files.specs.Faults.{Rose};
 ghost use Rattle.coz_files.specs.Puts.{Puts};
 ghost use Rattle.coz_words.specs.Request.{IsFit};
+ghost use Rattle.coz_words.specs.declared.command.Command.TheVariants.{Trial};
 ghost use Rattle.coz_cli.specs.Verdict.{command_verdict};
-ghost use Rattle.coz_cli.specs.Answer.{IsMemory, IsRead, Suits, Settles, text_bytes};
+ghost use Rattle.coz_cli.specs.Answer.{IsMemory, IsMemoryFault, IsRead, Suits, Settles, text_bytes};
 
 use crate::experiment::{Kind, judge_experiment};
 use crate::fault::Fault;
 use crate::lines::judge_lines;
+use crate::plot::judge_plot;
 use crate::source::judge_source;
-use coz_files::{Files, PutAnswer, Sink};
+use crate::trial::judge_trial;
+use causal_curves::{Curve, write_curves};
+use coz_files::{Files, Gate, PutAnswer, Sink};
+use coz_lists::Items;
 use coz_words::{Command, Request};
 use profile_book::{Profile, write_profile};
 use std::alloc::Global;
+use std::thread::Threads;
 
 /// A text that is to be written.
 #[derive(Drop)]
 pub enum Text {
     Bytes(Vec<u8>),
     Profile(Profile),
+    Curves(Items<Curve>),
 }
 
 /// A text that is to be written, and the status beside it.
@@ -38,11 +46,18 @@ pub fn put_text<O: Sink>(out: &mut O, text: &Text) -> PutAnswer
     match text {
         Text::Bytes(bytes) => out.put(bytes),
         Text::Profile(profile) => write_profile(profile, out),
+        Text::Curves(curves) => write_curves(curves.as_slice(), out),
     }
 }
 
 /// What a request comes to, and the files that it names.
-pub fn judge<'r, F: Files>(alloc: Global, request: &'r Request, files: &mut F) -> Answer<'r>
+pub fn judge<'r, R: Threads + Sync, F: Files, G: Gate>(
+    rt: &R,
+    alloc: Global,
+    request: &'r Request,
+    files: &mut F,
+    gate: &G,
+) -> Answer<'r>
     requires { IsFit request.now }
     ensures same { F.held files.new ≡ F.held files.old }
     ensures suits { Suits request.now result }
@@ -50,12 +65,15 @@ pub fn judge<'r, F: Files>(alloc: Global, request: &'r Request, files: &mut F) -
         Settles (command_verdict request.now.command request.now held) (F.faults files.old) (F.faults files.new) result) }
     ensures untold { IsRead result → IfNone (F.held files.old) (Rose (F.faults files.old) (F.faults files.new)) }
     ensures no_fault { (IsRead result → ⊥) → F.faults files.new ≡ F.faults files.old }
+    ensures trial { request.now.command ≡ Trial → (files.new ≡ files.old) × IfErr result IsMemoryFault }
 {
     match request.command {
-        Command::Run => judge_experiment(alloc, request, Kind::Delayed, files),
-        Command::Really => judge_experiment(alloc, request, Kind::Shortened, files),
-        Command::Profile => judge_experiment(alloc, request, Kind::Profiled, files),
+        Command::Run => judge_experiment(rt, alloc, request, Kind::Delayed, files, gate),
+        Command::Really => judge_experiment(rt, alloc, request, Kind::Shortened, files, gate),
+        Command::Profile => judge_experiment(rt, alloc, request, Kind::Profiled, files, gate),
         Command::Lines => judge_lines(alloc, request, files),
+        Command::Plot => judge_plot(alloc, request, files),
         Command::Asm => judge_source(alloc, request, files),
+        Command::Trial => judge_trial(rt, alloc, request, gate),
     }
 }

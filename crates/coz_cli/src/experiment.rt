@@ -1,7 +1,9 @@
+//! The commands that run a program: `run`, `really` and `profile`.
 ghost use Rattle.std.specs.Prelude.{◌≡◌, ◌≤◌, length, IfSome, IfNone};
 ghost use Rattle.coz_files.specs.Faults.{Rose};
 ghost use Rattle.coz_words.specs.Request.{IsFit};
 ghost use Rattle.coz_cli.specs.Experiment.{runs_in};
+ghost use Rattle.coz_cli.specs.declared.experiment.Kind.TheVariants.{Profiled};
 ghost use Rattle.coz_cli.specs.Kind.{judging, really_printed, run_printed};
 ghost use Rattle.coz_cli.specs.Verdict.{asked_verdict, file_verdict, files_verdict};
 ghost use Rattle.coz_cli.specs.Answer.{answered, IsMemory, IsRead, Suits, Settles};
@@ -11,12 +13,13 @@ use crate::profile::profile_answer;
 use crate::program::{MAX_PROGRAM, read_file, read_program};
 use crate::runs::{really_answer, run_answer};
 use crate::selection::{bytes_of, line_named, progress_points};
-use coz_files::Files;
+use coz_files::{Files, Gate};
 use coz_types::Image;
 use coz_words::Request;
 use line_index::LineIndex;
 use profile_pool::choice;
 use std::alloc::Global;
+use std::thread::Threads;
 
 /// The most bytes of an input.
 const MAX_INPUT: u64 = 16777216;
@@ -33,14 +36,17 @@ pub enum Kind {
 }
 
 /// What is written of a run of the program and the input that the request names.
-pub fn judge_experiment<'r, F: Files>(
+pub fn judge_experiment<'r, R: Threads + Sync, F: Files, G: Gate>(
+    rt: &R,
     alloc: Global,
     request: &'r Request,
     kind: Kind,
     files: &mut F,
+    gate: &G,
 ) -> Answer<'r>
     requires fit { IsFit request.now }
     requires some_budget { 1 ≤ request.now.budget }
+    requires some_workers { kind ≡ Profiled → 1 ≤ request.now.workers }
     ensures same { F.held files.new ≡ F.held files.old }
     ensures suits { Suits request.now result }
     ensures settled { IfSome (F.held files.old) (λ held. (IsMemory result → ⊥) →
@@ -50,48 +56,63 @@ pub fn judge_experiment<'r, F: Files>(
 {
     let file = read_file(alloc, files, request.target.text(), MAX_PROGRAM)?;
     let Some(path) = &request.input else {
-        return file_answer(alloc, &file, &[], request, kind);
+        return file_answer(rt, alloc, &file, &[], request, kind, gate);
     };
     let input = read_file(alloc, files, path.text(), MAX_INPUT)?;
-    file_answer(alloc, &file, &input, request, kind)
+    file_answer(rt, alloc, &file, &input, request, kind, gate)
 }
 
 /// What is written of a run of the program that a file is, if it is one.
-fn file_answer<'r>(
+fn file_answer<'r, R: Threads + Sync, G: Gate>(
+    rt: &R,
     alloc: Global,
     file: &[u8],
     input: &[u8],
     request: &'r Request,
     kind: Kind,
+    gate: &G,
 ) -> Answer<'r>
     requires short { length file.now ≤ 33554432 }
     requires fit { IsFit request.now }
     requires some_budget { 1 ≤ request.now.budget }
+    requires some_workers { kind ≡ Profiled → 1 ≤ request.now.workers }
     ensures no_read { IsRead result → ⊥ }
     ensures settled { (IsMemory result → ⊥) → answered result ≡ file_verdict (judging kind request.now) file.now input.now }
 {
     let program = read_program(alloc, file)?;
-    index_answer(alloc, &program.image, &program.index, input, request, kind)
+    index_answer(
+        rt,
+        alloc,
+        &program.image,
+        &program.index,
+        input,
+        request,
+        kind,
+        gate,
+    )
 }
 
 /// What is written of a run of a program with these lines, if it has those that are named.
-fn index_answer<'r>(
+fn index_answer<'r, R: Threads + Sync, G: Gate>(
+    rt: &R,
     alloc: Global,
     image: &Image,
     index: &LineIndex,
     input: &[u8],
     request: &'r Request,
     kind: Kind,
+    gate: &G,
 ) -> Answer<'r>
     requires fit { IsFit request.now }
     requires some_budget { 1 ≤ request.now.budget }
+    requires some_workers { kind ≡ Profiled → 1 ≤ request.now.workers }
     ensures no_read { IsRead result → ⊥ }
     ensures settled { (IsMemory result → ⊥) → answered result ≡ judging kind request.now index.now.lines (runs_in image.now index.now input.now) }
 {
     match kind {
         Kind::Delayed => delayed_answer(alloc, image, index, input, request),
         Kind::Shortened => shortened_answer(alloc, image, index, input, request),
-        Kind::Profiled => profile_answer(alloc, image, index, input, request),
+        Kind::Profiled => profile_answer(rt, alloc, image, index, input, request, gate),
     }
 }
 

@@ -1,10 +1,12 @@
+//! Why nothing is printed, and which errors of the layers below that is.
 ghost use Rattle.std.specs.Prelude.{◌≡◌};
 ghost use Rattle.coz_cli.specs.declared.fault.Fault.TheVariants.{Memory};
-ghost use Rattle.coz_cli.specs.Causes.{assembling_fault, loading_fault, planning_fault, points_fault, reading_fault};
+ghost use Rattle.coz_cli.specs.Causes.{assembling_fault, loading_fault, planning_fault, points_fault, profile_fault, reading_fault};
 
 use dwarf_lines::{LineError, LineFault};
 use elf_load::{ElfFault, LoadError};
 use experiment_plan::PlanError;
+use profile_book::{BookError, BookFault};
 use progress_points::PointsError;
 use rv_asm::{AsmError, AsmFault};
 use std::alloc::AllocError;
@@ -24,6 +26,7 @@ pub enum Fault<'a> {
     ManyExperiments(u64),
     Memory,
     Source(AsmFault),
+    Profile(BookFault),
 }
 
 impl<'a> From<AllocError> for Fault<'a> {
@@ -85,6 +88,17 @@ impl<'a> From<AsmError> for Fault<'a> {
         match error {
             AsmError::Fault(fault) => Fault::Source(fault),
             AsmError::Memory => Fault::Memory,
+        }
+    }
+}
+
+impl<'a> From<BookError> for Fault<'a> {
+    ghost from_gives = { λ error fault. fault ≡ profile_fault error };
+
+    fn from(error: BookError) -> Fault<'a> {
+        match error {
+            BookError::Fault(fault) => Fault::Profile(fault),
+            BookError::Memory => Fault::Memory,
         }
     }
 }

@@ -1,16 +1,17 @@
 //! The lines of faults, and their statuses.
 ghost use Rattle.std.specs.Prelude.{◌≡◌, ◌++◌, codes, decimal};
 ghost use Rattle.coz_files.specs.Puts.{Puts, Continues};
-ghost use Rattle.coz_cli.specs.FaultLines.{elf_kind_name, line_kind_name, asm_kind_name, program_line, table_line, source_line, plan_line, points_line};
+ghost use Rattle.coz_cli.specs.FaultLines.{elf_kind_name, line_kind_name, asm_kind_name, book_field_name, program_line, table_line, source_line, plan_line, points_line, book_line};
 ghost use Rattle.coz_cli.specs.Answer.{fault_status, fault_line};
 ghost use Rattle.coz_cli.specs.Serve.{IsPut};
 
 use crate::fault::Fault;
-use crate::kinds::{asm_kind_name, elf_kind_name, line_kind_name};
+use crate::kinds::{asm_kind_name, book_field_name, elf_kind_name, line_kind_name};
 use coz_files::{PutAnswer, Sink, put_next};
 use dwarf_lines::{LineFault, LineKind};
 use elf_load::{ElfFault, ElfKind};
 use itoa::Buffer;
+use profile_book::{BookFault, BookField};
 use rv_asm::{AsmFault, AsmKind};
 
 fn status_of(fault: Fault) -> u8
@@ -28,6 +29,7 @@ fn status_of(fault: Fault) -> u8
         Fault::ManyExperiments(_) => 9,
         Fault::Memory => 10,
         Fault::Source(_) => 11,
+        Fault::Profile(_) => 12,
     }
 }
 
@@ -60,6 +62,12 @@ fn put_asm_kind<S: Sink>(sink: &mut S, so_far: PutAnswer, kind: AsmKind) -> PutA
     ensures { Continues S.holds S.faults sink.old sink.new so_far result (asm_kind_name kind) }
 {
     put_next(sink, so_far, asm_kind_name(kind))
+}
+
+fn put_book_field<S: Sink>(sink: &mut S, so_far: PutAnswer, field: BookField) -> PutAnswer
+    ensures { Continues S.holds S.faults sink.old sink.new so_far result (book_field_name field) }
+{
+    put_next(sink, so_far, book_field_name(field))
 }
 
 fn put_number<S: Sink>(sink: &mut S, so_far: PutAnswer, n: u64) -> PutAnswer
@@ -104,6 +112,17 @@ fn put_source<S: Sink>(sink: &mut S, fault: AsmFault) -> PutAnswer
     put_next(sink, answer, b"\n")
 }
 
+/// Puts the line of a profile's fault.
+fn put_profile<S: Sink>(sink: &mut S, fault: BookFault) -> PutAnswer
+    ensures { Puts S.holds S.faults sink.old sink.new result (book_line fault ++ codes "\n") }
+{
+    let answer = put_next(sink, PutAnswer::Done, b"coz: profile: ");
+    let answer = put_book_field(sink, answer, fault.field);
+    let answer = put_next(sink, answer, b" at ");
+    let answer = put_number(sink, answer, fault.place);
+    put_next(sink, answer, b"\n")
+}
+
 /// Puts the line of too many points.
 fn put_points<S: Sink>(sink: &mut S, count: u64) -> PutAnswer
     ensures { Puts S.holds S.faults sink.old sink.new result (points_line count ++ codes "\n") }
@@ -140,6 +159,7 @@ fn put_line<S: Sink>(sink: &mut S, fault: Fault) -> PutAnswer
         Fault::ManyExperiments(count) => put_plan(sink, count),
         Fault::Memory => put_three(sink, b"coz: memory", b"", b"\n"),
         Fault::Source(fault) => put_source(sink, fault),
+        Fault::Profile(fault) => put_profile(sink, fault),
     }
 }
 

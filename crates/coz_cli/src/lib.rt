@@ -9,7 +9,7 @@ mod kinds;
 mod line_table;
 mod lines;
 mod lines_text;
-mod plan_runs;
+mod plot;
 mod profile;
 mod program;
 mod record;
@@ -19,6 +19,8 @@ mod short_text;
 mod source;
 mod text;
 mod top;
+mod trial;
+mod trial_text;
 mod words;
 
 pub use top::serve;

@@ -1,3 +1,4 @@
+//! The command `lines`.
 ghost use Rattle.std.specs.Prelude.{◌≡◌, ◌≤◌, length, IfSome, IfNone};
 ghost use Rattle.coz_files.specs.Faults.{Rose};
 ghost use Rattle.coz_words.specs.declared.command.Command.TheVariants.{Lines};

@@ -10,16 +10,18 @@ ghost use Rattle.coz_cli.specs.Answer.{answered, printed_verdict, IsMemory, IsRe
 
 use crate::answer::{Answer, Printed, Text};
 use crate::fault::Fault;
-use crate::plan_runs::summaries;
 use crate::selection::{bytes_of, progress_points, selected_lines};
+use coz_files::Gate;
 use coz_lists::Items;
 use coz_types::{Ending, Image, Label, PointId, Summary};
 use coz_words::Request;
 use experiment_plan::plan;
 use line_index::LineIndex;
 use profile_book::Profile;
+use profile_pool::run_plan;
 use progress_points::Points;
 use std::alloc::{AllocError, Global};
+use std::thread::Threads;
 
 /// The labels of the points' lines.
 fn point_labels(
@@ -57,31 +59,41 @@ fn all_exited(summaries: &[Summary]) -> bool
         .all(|summary| has_exited(summary.outcome.ending))
 }
 
+/// The status of runs: 0 where each exited.
+pub fn profile_status(profile: &Profile) -> u8
+    ensures status { result ≡ (profile_verdict profile.now).status }
+    ensures low { result ≤ 1 }
+{
+    if all_exited(profile.summaries.as_slice()) {
+        0
+    } else {
+        1
+    }
+}
+
 /// A profile that is to be written, and its status.
 fn printed_profile(profile: Profile) -> Printed
     ensures { printed_verdict result ≡ profile_verdict profile }
 {
-    let status = if all_exited(profile.summaries.as_slice()) {
-        0
-    } else {
-        1
-    };
     Printed {
-        status,
+        status: profile_status(&profile),
         text: Text::Profile(profile),
     }
 }
 
 /// What is written of the runs of a program with these lines, if it has those that are named and the plan isn't too large.
-pub fn profile_answer<'r>(
+pub fn profile_answer<'r, R: Threads + Sync, G: Gate>(
+    rt: &R,
     alloc: Global,
     image: &Image,
     index: &LineIndex,
     input: &[u8],
     request: &'r Request,
+    gate: &G,
 ) -> Answer<'r>
     requires fit { IsFit request.now }
     requires some_budget { 1 ≤ request.now.budget }
+    requires some_workers { 1 ≤ request.now.workers }
     ensures no_read { IsRead result → ⊥ }
     ensures settled { (IsMemory result → ⊥) → answered result ≡
         profiled_verdict request.now index.now.lines (runs_in image.now index.now input.now) }
@@ -90,18 +102,21 @@ pub fn profile_answer<'r>(
     let points = progress_points(alloc, index, bytes_of(&request.progress))?;
     let plan = plan(alloc, &lines, request.speedups.as_slice())?;
     let labels = point_labels(alloc, index, &points)?;
-    let summaries = summaries(
+    let summaries = run_plan(
+        rt,
         alloc,
         image,
         index,
         &points,
         input,
-        plan.pairs(),
+        &plan,
         request.budget,
+        request.workers,
+        gate,
     )?;
     Ok(printed_profile(Profile {
         budget: request.budget,
         points: labels,
-        summaries,
+        summaries: Items::new(summaries),
     }))
 }

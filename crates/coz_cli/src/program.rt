@@ -1,10 +1,12 @@
 //! The steps that commands share: a file is read, and a program with its lines.
-ghost use Rattle.std.specs.Prelude.{◌≡◌, ◌≤◌, ℕ, List, length, IfOk, IfErr, IfSome, IfNone};
+ghost use Rattle.std.specs.Prelude.{◌≡◌, ◌≤◌, ℕ, List, length, Ok, IfOk, IfErr, IfSome, IfNone};
 ghost use Rattle.coz_types.specs.Image.{ImageParts};
 ghost use Rattle.coz_files.specs.Faults.{Rose};
 ghost use Rattle.coz_files.specs.Held.{file_at};
+ghost use Rattle.elf_load.specs.Loaded.{loaded};
 ghost use Rattle.dwarf_lines.specs.Registers.{Table, view};
 ghost use Rattle.line_index.specs.Index.{IsIndex};
+ghost use Rattle.coz_cli.specs.LineTable.{table_in};
 ghost use Rattle.coz_cli.specs.Verdict.{Verdict, program_verdict, read_verdict};
 ghost use Rattle.coz_cli.specs.Answer.{follows, IsMemory, IsOfPath, IsRead, SettlesThen};
 
@@ -58,6 +60,8 @@ pub fn read_program<'a, 'f>(alloc: Global, file: &'f [u8]) -> Result<Program<'f>
     ensures no_read { IsRead result → ⊥ }
     ensures settled { (IsMemory result → ⊥) → (next : ImageParts → Table → Verdict) →
         follows result (λ program. next program.image (view program.table)) ≡ program_verdict file.now next }
+    ensures loads { IfOk result (λ program. loaded file.now ≡ Ok program.image) }
+    ensures reads { IfOk result (λ program. table_in file.now ≡ Ok (view program.table)) }
     ensures indexed { IfOk result (λ program. IsIndex (view program.table) program.image.areas program.index) }
 {
     let image = load(alloc, file)?;

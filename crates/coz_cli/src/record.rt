@@ -1,3 +1,4 @@
+//! What a run leaves, as the texts are made of it.
 use coz_types::{Account, Ending, Outcome, Tick, Visit};
 
 /// What a delayed run comes to.

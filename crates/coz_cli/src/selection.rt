@@ -122,7 +122,11 @@ fn progress_lines<'r>(
 }
 
 /// The points of these lines, if there are not too many.
-fn points_of<'r>(alloc: Global, index: &LineIndex, lines: &[LineId]) -> Result<Points, Fault<'r>>
+pub fn points_of<'r>(
+    alloc: Global,
+    index: &LineIndex,
+    lines: &[LineId],
+) -> Result<Points, Fault<'r>>
     requires { All (λ (line : LineId). line.0 < length index.now.lines) lines.now }
     ensures no_read { IsRead result → ⊥ }
     ensures settled { (IsMemory result → ⊥) → (next : List ℕ → Verdict) →

@@ -1,6 +1,7 @@
+//! The command `asm`.
 ghost use Rattle.std.specs.Prelude.{◌≡◌, ◌≤◌, length, IfSome, IfNone};
 ghost use Rattle.coz_files.specs.Faults.{Rose};
-ghost use Rattle.image_write.specs.File.{IsName};
+ghost use Rattle.image_write.specs.File.{IsName, IsVersion};
 ghost use Rattle.coz_words.specs.declared.command.Command.TheVariants.{Asm};
 ghost use Rattle.rv_asm.specs.Assembled.{assembled};
 ghost use Rattle.coz_cli.specs.Verdict.{command_verdict, source_verdict};
@@ -20,6 +21,7 @@ const MAX_SOURCE: u64 = 4194304;
 /// What is written of the source that the request names.
 pub fn judge_source<'r, F: Files>(alloc: Global, request: &'r Request, files: &mut F) -> Answer<'r>
     requires named { IsName request.now.target }
+    requires version { IsVersion request.now.dwarf }
     ensures same { F.held files.new ≡ F.held files.old }
     ensures suits { Suits request.now result }
     ensures settled { IfSome (F.held files.old) (λ held. (IsMemory result → ⊥) →
@@ -28,21 +30,19 @@ pub fn judge_source<'r, F: Files>(alloc: Global, request: &'r Request, files: &m
     ensures no_fault { (IsRead result → ⊥) → F.faults files.new ≡ F.faults files.old }
 {
     let source = read_file(alloc, files, request.target.text(), MAX_SOURCE)?;
-    source_answer(alloc, &source, request.target.text())
+    source_answer(alloc, &source, request.target.text(), request.dwarf)
 }
 
-/// The version of the line table of the file that is written.
-const LINES_VERSION: u8 = 4;
-
-/// The file of what a source stands for, with the source's name in it.
-fn source_answer<'r>(alloc: Global, source: &[u8], name: &str) -> Answer<'r>
+/// The file of what a source stands for, with the source's name in it and a line table of this version.
+fn source_answer<'r>(alloc: Global, source: &[u8], name: &str, version: u8) -> Answer<'r>
     requires short { length source.now ≤ 4194304 }
     requires named { IsName name.now }
+    requires version { IsVersion version }
     ensures no_read { IsRead result → ⊥ }
-    ensures settled { (IsMemory result → ⊥) → answered result ≡ source_verdict name.now (assembled source.now) }
+    ensures settled { (IsMemory result → ⊥) → answered result ≡ source_verdict name.now version (assembled source.now) }
 {
     let assembled = assemble(alloc, source)?;
-    let text = write_elf(alloc, &assembled, name.as_bytes(), LINES_VERSION)?;
+    let text = write_elf(alloc, &assembled, name.as_bytes(), version)?;
     Ok(Printed {
         status: 0,
         text: Text::Bytes(text),

@@ -9,7 +9,7 @@ use Rattle.coz_words.specs.Request.{Requests, asked, are_items_of, belongs, comm
 use Rattle.coz_words.specs.declared.command.Command.{Command}
 use Rattle.coz_words.specs.declared.request.Request.{Request}
 use Rattle.coz_words.specs.Parse.{AreNames}
-use Rattle.coz_words.specs.declared.command.Command.TheVariants.{Run, Really, Profile, Lines, Asm}
+use Rattle.coz_words.specs.declared.command.Command.TheVariants.{Run, Really, Profile, Lines, Plot, Asm, Trial}
 use Rattle.coz_words.specs.Slow.{commands, command_of, items_in, request_in}
 use Rattle.coz_words.proofs.Agree.{both_true}
 use Rattle.coz_words.proofs.Meaning.{said_back, said_forth, are_names_of}
@@ -19,14 +19,18 @@ are_names Run = record { right = refl; others = refl }
 are_names Really = record { right = refl; others = refl }
 are_names Profile = record { right = refl; others = refl }
 are_names Lines = record { right = refl; others = refl }
+are_names Plot = record { right = refl; others = refl }
 are_names Asm = record { right = refl; others = refl }
+are_names Trial = record { right = refl; others = refl }
 
 named_is : (c : Command) → command_of (command_name c) ≡ Some c
 named_is Run = refl
 named_is Really = refl
 named_is Profile = refl
 named_is Lines = refl
+named_is Plot = refl
 named_is Asm = refl
+named_is Trial = refl
 
 pub find_passes : {A : Type 0} (p : A → Bool) (xs : List A) (x : A) → find p xs ≡ Some x → p x ≡ true
 find_passes p [] x e = absurd cc

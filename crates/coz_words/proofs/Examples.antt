@@ -1,14 +1,14 @@
 -- Word lists and their requests, computed.
-use Rattle.std.proofs.Common.{◌≡◌, List, [], ◌∷◌, codes, Option, Some, None, refl}
+use Rattle.std.proofs.Common.{◌≡◌, ℕ, List, [], ◌∷◌, codes, Option, Some, None, refl}
 use Rattle.coz_words.specs.Said.{Text}
-use Rattle.coz_words.specs.declared.command.Command.TheVariants.{Run, Really, Profile, Lines, Asm}
+use Rattle.coz_words.specs.declared.command.Command.TheVariants.{Run, Really, Profile, Lines, Plot, Asm, Trial}
 use Rattle.coz_words.specs.Request.{asked, speedups_in}
 use Rattle.coz_words.specs.declared.request.Request.{Request}
 use Rattle.experiment_plan.specs.Lists.{is_line, line_parts, pieces}
 use Rattle.coz_words.specs.Slow.{request_in, items_in}
 
 abbrev run_one : Request
-run_one = record { command = Run; target = codes "one"; input = None; line = None; speedup = 0; lines = None; progress = None; speedups = []; budget = 100000000; workers = 0; seed = 0; size = 0 }
+run_one = record { command = Run; target = codes "one"; input = None; line = None; speedup = 0; lines = None; progress = None; speedups = []; budget = 100000000; workers = 0; seed = 0; size = 0; dwarf = 0 }
 
 plain : request_in (codes "run" ∷ codes "one" ∷ []) ≡ Some run_one
 unfolding items_in asked
@@ -46,21 +46,39 @@ zeros : request_in (codes "run" ∷ codes "one" ∷ codes "--budget" ∷ codes "
 unfolding items_in asked
 zeros = refl
 
-asm_one : request_in (codes "asm" ∷ codes "one.s" ∷ codes "--" ∷ []) ≡ Some (record { command = Asm; target = codes "one.s"; input = None; line = None; speedup = 0; lines = None; progress = None; speedups = []; budget = 0; workers = 0; seed = 0; size = 0 })
+asm_one : request_in (codes "asm" ∷ codes "one.s" ∷ codes "--" ∷ []) ≡ Some (record { command = Asm; target = codes "one.s"; input = None; line = None; speedup = 0; lines = None; progress = None; speedups = []; budget = 0; workers = 0; seed = 0; size = 0; dwarf = 4 })
 unfolding items_in asked
 asm_one = refl
 
-lines_one : request_in (codes "lines" ∷ codes "one" ∷ []) ≡ Some (record { command = Lines; target = codes "one"; input = None; line = None; speedup = 0; lines = None; progress = None; speedups = []; budget = 0; workers = 0; seed = 0; size = 0 })
+lines_one : request_in (codes "lines" ∷ codes "one" ∷ []) ≡ Some (record { command = Lines; target = codes "one"; input = None; line = None; speedup = 0; lines = None; progress = None; speedups = []; budget = 0; workers = 0; seed = 0; size = 0; dwarf = 0 })
 unfolding items_in asked
 lines_one = refl
 
-profile_one : request_in (codes "profile" ∷ codes "one" ∷ codes "--speedups" ∷ codes "50,5,50" ∷ []) ≡ Some (record { command = Profile; target = codes "one"; input = None; line = None; speedup = 0; lines = None; progress = None; speedups = 50 ∷ 5 ∷ 50 ∷ []; budget = 100000000; workers = 0; seed = 0; size = 0 })
+plot_one : request_in (codes "plot" ∷ codes "one" ∷ []) ≡ Some (record { command = Plot; target = codes "one"; input = None; line = None; speedup = 0; lines = None; progress = None; speedups = []; budget = 0; workers = 0; seed = 0; size = 0; dwarf = 0 })
+unfolding items_in asked
+plot_one = refl
+
+profile_one : request_in (codes "profile" ∷ codes "one" ∷ codes "--speedups" ∷ codes "50,5,50" ∷ []) ≡ Some (record { command = Profile; target = codes "one"; input = None; line = None; speedup = 0; lines = None; progress = None; speedups = 50 ∷ 5 ∷ 50 ∷ []; budget = 100000000; workers = 4; seed = 0; size = 0; dwarf = 0 })
 unfolding items_in asked pieces
 profile_one = refl
 
-no_workers : request_in (codes "profile" ∷ codes "one" ∷ codes "--workers" ∷ codes "2" ∷ []) ≡ None
+abbrev asm_five : Request
+asm_five = record { command = Asm; target = codes "one.s"; input = None; line = None; speedup = 0; lines = None; progress = None; speedups = []; budget = 0; workers = 0; seed = 0; size = 0; dwarf = 5 }
+
+version_five : request_in (codes "asm" ∷ codes "--dwarf=05" ∷ codes "one.s" ∷ []) ≡ Some asm_five
 unfolding items_in asked
-no_workers = refl
+version_five = refl
+
+abbrev trial_of : ℕ → ℕ → ℕ → List ℕ → Request
+trial_of seed size workers target = record { command = Trial; target = target; input = None; line = None; speedup = 0; lines = None; progress = None; speedups = []; budget = 0; workers = workers; seed = seed; size = size; dwarf = 0 }
+
+trial_one : request_in (codes "trial" ∷ codes "001" ∷ []) ≡ Some (trial_of 1 100 4 (codes "001"))
+unfolding items_in asked
+trial_one = refl
+
+trial_last : request_in (codes "trial" ∷ codes "18446744073709551615" ∷ codes "--size=2000" ∷ codes "--workers" ∷ codes "16" ∷ []) ≡ Some (trial_of 18446744073709551615 2000 16 (codes "18446744073709551615"))
+unfolding items_in asked
+trial_last = refl
 
 -- ---- lines
 
@@ -102,7 +120,7 @@ really_all : request_in
     ∷ codes "--budget"
     ∷ codes "9"
     ∷ codes "--input=data"
-    ∷ []) ≡ Some (record { command = Really; target = codes "one"; input = Some (codes "data"); line = Some (codes "a:1"); speedup = 7; lines = None; progress = Some (codes "b:2"); speedups = []; budget = 9; workers = 0; seed = 0; size = 0 })
+    ∷ []) ≡ Some (record { command = Really; target = codes "one"; input = Some (codes "data"); line = Some (codes "a:1"); speedup = 7; lines = None; progress = Some (codes "b:2"); speedups = []; budget = 9; workers = 0; seed = 0; size = 0; dwarf = 0 })
 unfolding items_in asked is_line pieces
 really_all = refl
 
@@ -156,9 +174,18 @@ none_of =
     ∷ (codes "lines" ∷ [])
     ∷ (codes "lines" ∷ codes "one" ∷ codes "--budget" ∷ codes "3" ∷ [])
     ∷ (codes "lines" ∷ codes "one" ∷ codes "--line" ∷ codes "a:1" ∷ [])
+    ∷ (codes "plot" ∷ codes "one" ∷ codes "--budget" ∷ codes "3" ∷ [])
     ∷ (codes "asm" ∷ [])
     ∷ (codes "asm" ∷ codes "one.s" ∷ codes "--budget" ∷ codes "3" ∷ [])
     ∷ (codes "asm" ∷ codes "one.s" ∷ codes "--input=data" ∷ [])
+    ∷ (codes "asm" ∷ codes "one.s" ∷ codes "--dwarf" ∷ codes "3" ∷ [])
+    ∷ (codes "profile" ∷ codes "one" ∷ codes "--workers" ∷ codes "17" ∷ [])
+    ∷ (codes "trial" ∷ [])
+    ∷ (codes "trial" ∷ codes "x" ∷ [])
+    ∷ (codes "trial" ∷ codes "-1" ∷ [])
+    ∷ (codes "trial" ∷ codes "18446744073709551616" ∷ [])
+    ∷ (codes "trial" ∷ codes "1" ∷ codes "--size" ∷ codes "2001" ∷ [])
+    ∷ (codes "trial" ∷ codes "1" ∷ codes "--input" ∷ codes "a" ∷ [])
     ∷ []
 
 abbrev requests_of : List (List Text) → List (Option Request)

@@ -9,9 +9,9 @@ use Rattle.std.proofs.lemmas.List.Folds.{list_all-append}
 use Rattle.experiment_plan.specs.Lists.{is_number, number_in, is_line, is_list, pieces}
 use Rattle.coz_words.specs.Said.{Text, Item, option, target, dashes, SaysAll}
 use Rattle.coz_words.specs.declared.command.Command.{Command}
-use Rattle.coz_words.specs.declared.command.Command.TheVariants.{Run, Really, Profile, Lines, Asm}
+use Rattle.coz_words.specs.declared.command.Command.TheVariants.{Run, Really, Profile, Lines, Plot, Asm, Trial}
 use Rattle.coz_words.specs.declared.request.Request.{Request}
-use Rattle.coz_words.specs.Request.{IsFit, Requests, asked, are_items_of, belongs, has_option, has_text, is_once, is_word, none_or, number_or, numbers_in, speedup_in, speedups_in, all_speedups, command_name, option_names, request_with, runs, target_of, value_of, input_name, line_name, speedup_name, lines_name, progress_name, speedups_name, budget_name, workers_name, size_name}
+use Rattle.coz_words.specs.Request.{IsFit, Requests, asked, are_items_of, belongs, has_option, has_text, is_once, is_word, none_or, number_or, numbers_in, seed_in, speedup_in, speedups_in, all_speedups, command_name, option_names, request_with, runs, target_of, value_of, input_name, line_name, speedup_name, lines_name, progress_name, speedups_name, budget_name, workers_name, size_name, dwarf_name}
 use Rattle.coz_words.proofs.Agree.{both_true}
 use Rattle.coz_words.proofs.Exact.{then_some, if_some}
 
@@ -99,13 +99,18 @@ has_budget Run is = refl
 has_budget Really is = refl
 has_budget Profile is = refl
 has_budget Lines is = absurd cc
+has_budget Plot is = absurd cc
 has_budget Asm is = absurd cc
+has_budget Trial is = absurd cc
 
 passes : (test : Text → Bool) (value : Option Text) → none_or test value ≡ true → IfSome value (λ text. test text ≡ true)
 passes test None e = tt
 passes test (Some text) e = e
 
 -- ---- the request
+
+made_same : (made r : Request) → Some made ≡ Some r → made ≡ r
+made_same made r is = cc
 
 request_fits : (c : Command) (path : Option Text) (value : Text → Option Text) (r : Request) → ((t : Text) → path ≡ Some t → (nat_lt 0 (length t) ≡ true) × (is_word t ≡ true)) → request_with c path value ≡ Some r → IsFit r
 request_fits c path value r own is =
@@ -118,10 +123,15 @@ request_fits c path value r own is =
     let budget = then_some (number_or c budget_name 100000000 1 1000000000000 (value budget_name)) _ r speedups.2 in
     let workers = then_some (number_or c workers_name 4 1 16 (value workers_name)) _ r budget.2 in
     let size = then_some (number_or c size_name 100 1 2000 (value size_name)) _ r workers.2 in
-    let made : Request = record { command = c; target = target.0; input = value input_name; line = value line_name; speedup = speedup.0; lines = value lines_name; progress = value progress_name; speedups = speedups.0; budget = budget.0; workers = workers.0; seed = 0; size = size.0 } in
-    let same : made ≡ r = cc (size.2) in
+    let dwarf = then_some (number_or c dwarf_name 4 4 5 (value dwarf_name)) _ r size.2 in
+    let seed = then_some (seed_in c target.0) _ r dwarf.2 in
+    let made : Request = record { command = c; target = target.0; input = value input_name; line = value line_name; speedup = speedup.0; lines = value lines_name; progress = value progress_name; speedups = speedups.0; budget = budget.0; workers = workers.0; seed = seed.0; size = size.0; dwarf = dwarf.0 } in
+    let same : made ≡ r = made_same made r seed.2 in
     let slow = speedup_fits (value line_name) (value speedup_name) speedup.0 speedup.1 in
+    let many = number_fits c workers_name 4 1 16 (value workers_name) workers.0 (omega arith) (omega arith) workers.1 in
+    let version = number_fits c dwarf_name 4 4 5 (value dwarf_name) dwarf.0 (omega arith) (omega arith) dwarf.1 in
     let few = number_fits c budget_name 100000000 1 1000000000000 (value budget_name) budget.0 (omega arith) (omega arith) budget.1 in
+    let large = number_fits c size_name 100 1 2000 (value size_name) size.0 (omega arith) (omega arith) size.1 in
     subst IsFit same (record {
       some = (own target.0 target.1).0;
       word = (own target.0 target.1).1;
@@ -133,8 +143,13 @@ request_fits c path value r own is =
       speedups = speedups_fit c (value speedups_name) speedups.0 speedups.1;
       some_budget = λ run. few.0 (has_budget c run);
       budget = omega (arith, few.1);
-      workers = (number_fits c workers_name 4 1 16 (value workers_name) workers.0 (omega arith) (omega arith) workers.1).1;
-      size = (number_fits c size_name 100 1 2000 (value size_name) size.0 (omega arith) (omega arith) size.1).1;
+      some_workers = many.0;
+      workers = many.1;
+      some_size = large.0;
+      size = large.1;
+      seed = seed.1;
+      some_dwarf = version.0;
+      dwarf = version.1;
     })
 
 pub fit_in : (words : List Text) (r : Request) → Requests words r → IsFit r

@@ -5,7 +5,7 @@ use Rattle.std.specs.Str.{bytes_eq}
 use Rattle.coz_words.specs.Said.{Text, Item, option, target, SaysAll}
 use Rattle.experiment_plan.specs.Lists.{number_in, is_line, is_list, pieces}
 use Rattle.coz_words.specs.declared.command.Command.{Command}
-use Rattle.coz_words.specs.declared.command.Command.TheVariants.{Run, Really, Profile, Lines, Asm}
+use Rattle.coz_words.specs.declared.command.Command.TheVariants.{Run, Really, Profile, Lines, Plot, Asm, Trial}
 use Rattle.coz_words.specs.declared.request.Request.{Request}
 
 -- ---- commands
@@ -15,7 +15,9 @@ command_name Run = codes "run"
 command_name Really = codes "really"
 command_name Profile = codes "profile"
 command_name Lines = codes "lines"
+command_name Plot = codes "plot"
 command_name Asm = codes "asm"
+command_name Trial = codes "trial"
 
 -- the command runs the program
 abbrev pub runs : Command → Bool
@@ -23,7 +25,9 @@ runs Run = true
 runs Really = true
 runs Profile = true
 runs Lines = false
+runs Plot = false
 runs Asm = false
+runs Trial = false
 
 abbrev pub input_name : Text
 input_name = codes "input"
@@ -52,12 +56,15 @@ workers_name = codes "workers"
 abbrev pub size_name : Text
 size_name = codes "size"
 
+abbrev pub dwarf_name : Text
+dwarf_name = codes "dwarf"
+
 -- the options of the commands that run a program once
 abbrev pub run_options : List Text
 run_options = input_name ∷ line_name ∷ speedup_name ∷ progress_name ∷ budget_name ∷ []
 
 abbrev pub profile_options : List Text
-profile_options = input_name ∷ lines_name ∷ progress_name ∷ speedups_name ∷ budget_name ∷ []
+profile_options = input_name ∷ lines_name ∷ progress_name ∷ speedups_name ∷ budget_name ∷ workers_name ∷ []
 
 -- the options of a command
 abbrev pub option_names : Command → List Text
@@ -65,7 +72,9 @@ option_names Run = run_options
 option_names Really = run_options
 option_names Profile = profile_options
 option_names Lines = []
-option_names Asm = []
+option_names Plot = []
+option_names Asm = dwarf_name ∷ []
+option_names Trial = size_name ∷ workers_name ∷ []
 
 abbrev pub is_among : List Text → Text → Bool
 is_among names name = list_any (λ n. bytes_eq n name) names
@@ -137,6 +146,11 @@ speedup_in line None = Some 0
 speedup_in None (Some number) = None
 speedup_in (Some line) (Some number) = number_in 0 95 number
 
+-- what a source is made from is the positional of `trial`, a number; other commands make none
+abbrev pub seed_in : Command → Text → Option ℕ
+seed_in Trial text = number_in 0 18446744073709551615 text
+seed_in _ text = Some 0
+
 -- one value after the other, where all are there
 infixr 20 ◌>>=◌
 abbrev pub ◌>>=◌ : {A B : Type 0} → Option A → (A → Option B) → Option B
@@ -167,6 +181,8 @@ request_with c path value =
     number_or c budget_name 100000000 1 1000000000000 (value budget_name) >>= λ budget.
     number_or c workers_name 4 1 16 (value workers_name) >>= λ workers.
     number_or c size_name 100 1 2000 (value size_name) >>= λ size.
+    number_or c dwarf_name 4 4 5 (value dwarf_name) >>= λ dwarf.
+    seed_in c target >>= λ seed.
     Some (record {
       command = c;
       target = target;
@@ -178,8 +194,9 @@ request_with c path value =
       speedups = speedups;
       budget = budget;
       workers = workers;
-      seed = 0;
+      seed = seed;
       size = size;
+      dwarf = dwarf;
     })
     ) else None
 
@@ -208,8 +225,15 @@ pub record IsFit (request : Request) : Type 0 where
   pub speedups : list_all (λ p. nat_le p 95) request.speedups ≡ true
   pub some_budget : runs request.command ≡ true → 1 ≤ request.budget
   pub budget : request.budget ≤ 10 ^ 12
+  pub some_workers : has_option request.command workers_name ≡ true → 1 ≤ request.workers
   pub workers : request.workers ≤ 16
+  pub some_size : has_option request.command size_name ≡ true → 1 ≤ request.size
   pub size : request.size ≤ 2000
+  -- what a trial is made from is its positional
+  pub seed : seed_in request.command request.target ≡ Some request.seed
+  -- 4 or 5 where the command has a version
+  pub some_dwarf : has_option request.command dwarf_name ≡ true → 4 ≤ request.dwarf
+  pub dwarf : request.dwarf ≤ 5
 
 -- the words make this request: a command, and items that are right for it
 pub record Requests (words : List Text) (request : Request) : Type 0 where

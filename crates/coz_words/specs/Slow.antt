@@ -6,7 +6,7 @@ use Rattle.coz_words.specs.Said.{Text, Item, option, target, stands, dashes}
 use Rattle.coz_words.specs.Request.{asked, command_name, option_names, is_among, is_word, ◌>>=◌}
 use Rattle.coz_words.specs.declared.command.Command.{Command}
 use Rattle.coz_words.specs.declared.request.Request.{Request}
-use Rattle.coz_words.specs.declared.command.Command.TheVariants.{Run, Really, Profile, Lines, Asm}
+use Rattle.coz_words.specs.declared.command.Command.TheVariants.{Run, Really, Profile, Lines, Plot, Asm, Trial}
 
 -- what follows a word `--`
 abbrev pub after_dashes : List Text → Option (List Item)
@@ -44,7 +44,7 @@ items_in names None (word ∷ words) = elim (stands word) [
 ]
 
 abbrev pub commands : List Command
-commands = Run ∷ Really ∷ Profile ∷ Lines ∷ Asm ∷ []
+commands = Run ∷ Really ∷ Profile ∷ Lines ∷ Plot ∷ Asm ∷ Trial ∷ []
 
 abbrev pub command_of : Text → Option Command
 command_of word = find (λ c. bytes_eq (command_name c) word) commands

@@ -14,8 +14,12 @@ pub enum Command {
     Profile,
     /// To list a program's lines.
     Lines,
+    /// To rank the lines of a profile by what a speedup of each gains.
+    Plot,
     /// To assemble a source.
     Asm,
+    /// To make a program from a number, and to profile it.
+    Trial,
 }
 
 /// The command of that name.
@@ -27,14 +31,22 @@ pub(crate) fn command_of(word: &str) -> Option<Command>
         "really" => Some(Command::Really),
         "profile" => Some(Command::Profile),
         "lines" => Some(Command::Lines),
+        "plot" => Some(Command::Plot),
         "asm" => Some(Command::Asm),
+        "trial" => Some(Command::Trial),
         _ => None,
     }
 }
 
 static RUN_OPTIONS: [&str; 5] = ["input", "line", "speedup", "progress", "budget"];
 
-static PROFILE_OPTIONS: [&str; 5] = ["input", "lines", "progress", "speedups", "budget"];
+static PROFILE_OPTIONS: [&str; 6] = [
+    "input", "lines", "progress", "speedups", "budget", "workers",
+];
+
+static ASM_OPTIONS: [&str; 1] = ["dwarf"];
+
+static TRIAL_OPTIONS: [&str; 2] = ["size", "workers"];
 
 static NO_OPTIONS: [&str; 0] = [];
 
@@ -45,7 +57,9 @@ pub(crate) fn option_names(command: Command) -> &'static [&'static str]
     match command {
         Command::Run | Command::Really => RUN_OPTIONS.as_slice(),
         Command::Profile => PROFILE_OPTIONS.as_slice(),
-        Command::Lines | Command::Asm => NO_OPTIONS.as_slice(),
+        Command::Asm => ASM_OPTIONS.as_slice(),
+        Command::Trial => TRIAL_OPTIONS.as_slice(),
+        Command::Lines | Command::Plot => NO_OPTIONS.as_slice(),
     }
 }
 

@@ -12,7 +12,7 @@ ghost use Rattle.coz_words.specs.declared.request.WordsError.TheVariants.{Usage,
 use crate::command::{Command, has_option, option_names};
 use crate::parse::parsed;
 use crate::spelling::command_in;
-use crate::value::{are_lines, number_or, speedup_of, speedups_of};
+use crate::value::{are_lines, number_or, seed_of, speedup_of, speedups_of};
 use crate::word::{Word, copied};
 use clap::ArgMatches;
 use coz_lists::Items;
@@ -30,11 +30,15 @@ const GREATEST_SIZE: u64 = 2000;
 
 const USUAL_SIZE: u64 = 100;
 
+const GREATEST_DWARF: u64 = 5;
+
+const LEAST_DWARF: u64 = 4;
+
 /// What the words ask for. A field that the command lacks is `None`, 0 or empty.
 #[derive(Debug, Drop)]
 pub struct Request {
     pub command: Command,
-    /// The path of the program's or the source's file, which isn't empty.
+    /// The path of the program's, the profile's or the source's file, which isn't empty.
     pub target: Word,
     /// The path of the file that the program reads, if it isn't to read an empty one.
     pub input: Option<Word>,
@@ -50,12 +54,14 @@ pub struct Request {
     pub speedups: Items<u8>,
     /// The most instructions to retire: 1 to 10^12, and 0 where the command runs nothing.
     pub budget: u64,
-    /// How many workers there are: at most 16, and 0 where the command has none.
+    /// How many workers there are: 1 to 16, and 0 where the command has none.
     pub workers: u32,
     /// What a source is made from, and 0 where the command makes none.
     pub seed: u64,
-    /// The size of a source that is made: at most 2,000, and 0 where the command makes none.
+    /// The size of a source that is made: 1 to 2,000, and 0 where the command makes none.
     pub size: u32,
+    /// The version of the line table that is written: 4 or 5, and 0 where the command writes none.
+    pub dwarf: u8,
 }
 
 /// Why there is no request.
@@ -131,6 +137,15 @@ fn request_of(alloc: Global, command: Command, matches: &ArgMatches) -> Result<R
         GREATEST_SIZE,
         text_of(command, matches, "size"),
     )?;
+    let dwarf = number_or(
+        command,
+        "dwarf",
+        LEAST_DWARF,
+        LEAST_DWARF,
+        GREATEST_DWARF,
+        text_of(command, matches, "dwarf"),
+    )?;
+    let seed = seed_of(command, target)?;
     Ok(Request {
         command,
         target: Word::copy(alloc, target)?,
@@ -142,8 +157,9 @@ fn request_of(alloc: Global, command: Command, matches: &ArgMatches) -> Result<R
         speedups,
         budget,
         workers: workers as u32,
-        seed: 0,
+        seed,
         size: size as u32,
+        dwarf: dwarf as u8,
     })
 }
 
@@ -183,13 +199,15 @@ fn request_in(alloc: Global, words: &[String]) -> Result<Request, WordsError>
 ///
 /// - `run` or `really`, the program's path, and `--input FILE`, `--line LINE`, `--speedup P`, `--progress LIST` and
 ///   `--budget N` in any order, each at most once;
-/// - `profile`, the program's path, and `--input FILE`, `--lines LIST`, `--progress LIST`, `--speedups NUMBERS` and
-///   `--budget N` likewise;
+/// - `profile`, the program's path, and `--input FILE`, `--lines LIST`, `--progress LIST`, `--speedups NUMBERS`,
+///   `--budget N` and `--workers W` likewise;
 /// - `lines` and the program's path;
-/// - `asm` and the source's path.
+/// - `plot` and the profile's path;
+/// - `asm`, the source's path, and `--dwarf V`.
 ///
 /// A value may stand in the option's word behind a `=`; a word `--` ends the options.
-/// A number has 1 to 20 digits. A speedup is 0 to 95, and stands beside a line; a budget is 1 to 10^12.
+/// A number has 1 to 20 digits. A speedup is 0 to 95, and stands beside a line; a budget is 1 to 10^12; there are 1 to
+/// 16 workers, 4 where none is given; a version is 4 or 5, and 4 where none is given.
 /// A line is a path without a comma, `:` and a number from 1 to 2^32 - 1; a list is one line or more, with a comma between,
 /// and so are NUMBERS of speedups, which are 0, 5, 10 and so on to 95 where none are given.
 /// All other words are `Usage`. Want of memory can stand against any words, and is then the answer in place of either.

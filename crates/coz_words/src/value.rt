@@ -3,7 +3,7 @@ ghost use Rattle.std.specs.Prelude.{◌≡◌, ◌&&◌};
 ghost use Rattle.std.specs.Option.{option_copied};
 ghost use Rattle.experiment_plan.specs.Lists.{is_line, is_list, number_in, pieces};
 ghost use Rattle.coz_words.specs.Answers.{Answers};
-ghost use Rattle.coz_words.specs.Request.{none_or, number_or, numbers_in, speedup_in, speedups_in};
+ghost use Rattle.coz_words.specs.Request.{none_or, number_or, numbers_in, seed_in, speedup_in, speedups_in};
 
 use crate::command::{Command, has_option};
 use crate::request::WordsError;
@@ -62,6 +62,21 @@ fn speedup_in(text: &[u8]) -> Result<u8, WordsError>
     match number_in(text, 0, GREATEST_SPEEDUP) {
         Some(speedup) => Ok(speedup as u8),
         None => Err(WordsError::Usage),
+    }
+}
+
+/// What a source is made from: the positional of `trial`, a number. Other commands make none.
+pub fn seed_of(command: Command, target: &str) -> Result<u64, WordsError>
+    ensures { Answers (seed_in command target.now) result }
+{
+    match command {
+        Command::Trial => number_in(target.as_bytes(), 0, u64::MAX).ok_or(WordsError::Usage),
+        Command::Run
+        | Command::Really
+        | Command::Profile
+        | Command::Lines
+        | Command::Plot
+        | Command::Asm => Ok(0),
     }
 }
 

@@ -23,6 +23,10 @@ struct Wanted {
     progress: Option<&'static str>,
     speedups: &'static [u8],
     budget: u64,
+    workers: u32,
+    seed: u64,
+    size: u32,
+    dwarf: u8,
 }
 
 const RUN: Wanted = Wanted {
@@ -35,6 +39,10 @@ const RUN: Wanted = Wanted {
     progress: None,
     speedups: &[],
     budget: 100000000,
+    workers: 0,
+    seed: 0,
+    size: 0,
+    dwarf: 0,
 };
 
 const PROFILE: Wanted = Wanted {
@@ -42,12 +50,28 @@ const PROFILE: Wanted = Wanted {
     speedups: &[
         0, 5, 10, 15, 20, 25, 30, 35, 40, 45, 50, 55, 60, 65, 70, 75, 80, 85, 90, 95,
     ],
+    workers: 4,
     ..RUN
 };
 
 const PLAIN: Wanted = Wanted { budget: 0, ..RUN };
 
-static TAKEN: [(&[&str], Wanted); 24] = [
+const ASM: Wanted = Wanted {
+    command: Command::Asm,
+    dwarf: 4,
+    ..PLAIN
+};
+
+const TRIAL: Wanted = Wanted {
+    command: Command::Trial,
+    target: "1",
+    workers: 4,
+    seed: 1,
+    size: 100,
+    ..PLAIN
+};
+
+static TAKEN: [(&[&str], Wanted); 30] = [
     (&["run", "one"], RUN),
     (&["run", "--", "one"], RUN),
     (&["run", "one", "--"], RUN),
@@ -156,6 +180,7 @@ static TAKEN: [(&[&str], Wanted); 24] = [
             "--budget=1000",
             "--input",
             "data",
+            "--workers=16",
         ],
         Wanted {
             input: Some("data"),
@@ -163,6 +188,7 @@ static TAKEN: [(&[&str], Wanted); 24] = [
             progress: Some("c:3"),
             speedups: &[50, 5, 50],
             budget: 1000,
+            workers: 16,
             ..PROFILE
         },
     ),
@@ -189,25 +215,35 @@ static TAKEN: [(&[&str], Wanted); 24] = [
         },
     ),
     (
-        &["asm", "one"],
+        &["plot", "--", "-one"],
         Wanted {
-            command: Command::Asm,
+            command: Command::Plot,
+            target: "-one",
             ..PLAIN
         },
     ),
+    (&["asm", "one"], ASM),
+    (&["asm", "--", "one"], ASM),
+    (&["asm", "-"], Wanted { target: "-", ..ASM }),
+    (&["asm", "one", "--dwarf", "5"], Wanted { dwarf: 5, ..ASM }),
+    (&["asm", "--dwarf=05", "one"], Wanted { dwarf: 5, ..ASM }),
+    (&["trial", "1"], TRIAL),
     (
-        &["asm", "--", "one"],
+        &["trial", "00000000000000000001", "--size", "2000"],
         Wanted {
-            command: Command::Asm,
-            ..PLAIN
+            target: "00000000000000000001",
+            size: 2000,
+            ..TRIAL
         },
     ),
     (
-        &["asm", "-"],
+        &["trial", "--workers=16", "18446744073709551615", "--size=1"],
         Wanted {
-            command: Command::Asm,
-            target: "-",
-            ..PLAIN
+            target: "18446744073709551615",
+            workers: 16,
+            seed: 18446744073709551615,
+            size: 1,
+            ..TRIAL
         },
     ),
 ];
@@ -230,26 +266,32 @@ fn is_wanted(request: &Request, wanted: &Wanted) -> bool {
         && request.budget == wanted.budget
         && is_text(&request.lines, wanted.lines)
         && request.speedups.as_slice() == wanted.speedups
-        && request.workers == 0
-        && request.seed == 0
-        && request.size == 0
+        && request.workers == wanted.workers
+        && request.seed == wanted.seed
+        && request.size == wanted.size
+        && request.dwarf == wanted.dwarf
+}
+
+/// Whether the words make the request that is wanted.
+fn are_taken(alloc: Global, texts: &[&str], wanted: &Wanted) -> Result<bool, AllocError> {
+    let words = words_of(alloc, texts)?;
+    match read_words(alloc, words.as_slice()) {
+        Ok(request) => Ok(is_wanted(&request, wanted)),
+        Err(_) => Ok(false),
+    }
 }
 
 #[test]
 fn takes_words(rt: HostRuntime) -> Result<(), Fail> {
     let alloc = rt.alloc();
-    for (texts, wanted) in TAKEN {
-        let words = words_of(alloc, texts)?;
-        let is_taken = match read_words(alloc, words.as_slice()) {
-            Ok(request) => is_wanted(&request, &wanted),
-            Err(_) => false,
-        };
-        assert!(rt; is_taken, "{texts:?}");
+    for (texts, wanted) in &TAKEN {
+        let are_taken = are_taken(alloc, *texts, wanted)?;
+        assert!(rt; are_taken, "{texts:?}");
     }
     Ok(())
 }
 
-static REFUSED: [&[&str]; 55] = [
+static REFUSED: [&[&str]; 69] = [
     &[],
     &[""],
     &["walk", "one"],
@@ -296,15 +338,29 @@ static REFUSED: [&[&str]; 55] = [
     &["lines", "one", "two"],
     &["lines", "one", "--budget", "3"],
     &["asm", "one", "--input=data"],
+    &["asm", "one", "--dwarf", "3"],
+    &["asm", "one", "--dwarf", "6"],
+    &["asm", "one", "--dwarf", ""],
+    &["asm", "one", "--dwarf=5", "--dwarf=5"],
+    &["run", "one", "--dwarf", "4"],
     &["profile", "one", "--speedups", "96"],
     &["profile", "one", "--speedups", "5,"],
     &["profile", "one", "--speedups", ""],
     &["profile", "one", "--lines", ""],
     &["profile", "one", "--line", "one.s:1"],
-    &["profile", "one", "--workers", "2"],
+    &["profile", "one", "--workers", "0"],
+    &["profile", "one", "--workers", "17"],
     &["profile", "one", "--budget", "0"],
-    &["plot", "one"],
-    &["trial", "1"],
+    &["plot"],
+    &["plot", "one", "--budget", "3"],
+    &["trial"],
+    &["trial", "x"],
+    &["trial", "-1"],
+    &["trial", "18446744073709551616"],
+    &["trial", "1", "--size", "0"],
+    &["trial", "1", "--size", "2001"],
+    &["trial", "1", "--workers", "17"],
+    &["trial", "1", "--input", "a"],
 ];
 
 #[test]

@@ -1,6 +1,6 @@
 //! Tests of `coz_cli`.
 use coz_cli::serve;
-use coz_files::{FreeGate, HeldFile, MemoryFiles, MemorySink};
+use coz_files::{FreeGate, Gate, HeldFile, MemoryFiles, MemorySink};
 use std::alloc::{AllocError, Global};
 use std::process::Abort;
 use std::test::Fail;
@@ -177,6 +177,11 @@ const ACCESS: &[u8] =
 const SPENT: &[u8] =
     b"end spent\ntime 200\ndelay 0\nnet 200\nretired 2\nstarts 0\nhart 0 own 0 paused 0 credited 0\noutput 0\n\n";
 
+const TRIAL: &[u8] =
+    b"source 774 01531099276cf41046b904858abd732929f0b4ba64545ed3dba3948cb4e197d8\n\
+lines 42\nexperiments 36\n\
+profile 10734 45bdcaaa1f891c7be6e1c624763224c0d42de9442655e5a0f528f8f9f05dd3de\nbest trial.s:26 900\n";
+
 #[test]
 fn runs_are_printed(rt: HostRuntime) -> Result<(), Fail> {
     let cases = [
@@ -200,23 +205,35 @@ fn runs_are_printed(rt: HostRuntime) -> Result<(), Fail> {
             b"coz-ticks\tversion=1\tbudget=100000000\tpoints=0\n",
             b"",
         ),
+        plain_case(&["trial", "1", "--size", "1"], 0, TRIAL, b""),
     ];
     all_come_out(&rt, &cases)
 }
 
+static WRONG_WORDS: [&[&str]; 14] = [
+    &[],
+    &["run"],
+    &["run", ""],
+    &["run", "-one"],
+    &["run", "one", "other"],
+    &["walk", "one"],
+    &["run", "one", "--budget", "0"],
+    &["asm", "one.s", "--budget", "3"],
+    &["profile", "one", "--workers", "0"],
+    &["profile", "one", "--workers", "17"],
+    &["profile", "one", "--workers", "x"],
+    &["profile", "one", "--workers", ""],
+    &["profile", "one", "--workers", "2", "--workers", "2"],
+    &["run", "one", "--workers", "2"],
+];
+
 #[test]
 fn wrong_words_are_refused(rt: HostRuntime) -> Result<(), Fail> {
-    let cases = [
-        plain_case(&[], 2, b"", b"coz: usage\n"),
-        plain_case(&["run"], 2, b"", b"coz: usage\n"),
-        plain_case(&["run", ""], 2, b"", b"coz: usage\n"),
-        plain_case(&["run", "-one"], 2, b"", b"coz: usage\n"),
-        plain_case(&["run", "one", "other"], 2, b"", b"coz: usage\n"),
-        plain_case(&["walk", "one"], 2, b"", b"coz: usage\n"),
-        plain_case(&["run", "one", "--budget", "0"], 2, b"", b"coz: usage\n"),
-        plain_case(&["asm", "one.s", "--budget", "3"], 2, b"", b"coz: usage\n"),
-    ];
-    all_come_out(&rt, &cases)
+    for words in &WRONG_WORDS {
+        let case = plain_case(words, 2, b"", b"coz: usage\n");
+        assert!(rt; comes_out(&rt, &case)?, "{:?}", words);
+    }
+    Ok(())
 }
 
 #[test]
@@ -236,6 +253,7 @@ fn files_that_are_absent_or_long_are_told(rt: HostRuntime) -> Result<(), Fail> {
         ),
         plain_case(&["run", "absent"], 5, b"", b"coz: read: absent\n"),
         plain_case(&["run", "big"], 8, b"", b"coz: long: big\n"),
+        plain_case(&["plot", "absent"], 5, b"", b"coz: read: absent\n"),
         plain_case(&["asm", "absent"], 5, b"", b"coz: read: absent\n"),
         plain_case(&["asm", "big"], 8, b"", b"coz: long: big\n"),
     ];
@@ -325,6 +343,15 @@ fn writes_that_fail_are_told(rt: HostRuntime) -> Result<(), Fail> {
             ..plain_case(&["profile", "one"], 6, b"coz-ticks\t", b"coz: write\n")
         },
         Case {
+            room: 10,
+            ..plain_case(
+                &["trial", "1", "--size", "1"],
+                6,
+                b"source 774",
+                b"coz: write\n",
+            )
+        },
+        Case {
             put_fails: &[0],
             ..plain_case(&["asm", "one.s"], 6, b"", b"coz: write\n")
         },
@@ -358,10 +385,10 @@ fn faults_of_the_error_sink_change_nothing(rt: HostRuntime) -> Result<(), Fail> 
 
 /// What a call answered and left.
 #[derive(Drop)]
-struct Served {
-    status: u8,
-    out: Vec<u8>,
-    err: Vec<u8>,
+pub(crate) struct Served {
+    pub(crate) status: u8,
+    pub(crate) out: Vec<u8>,
+    pub(crate) err: Vec<u8>,
 }
 
 fn call<R: Threads + Sync + AllocGlobal>(
@@ -369,15 +396,35 @@ fn call<R: Threads + Sync + AllocGlobal>(
     words: &[&str],
     files: MemoryFiles,
 ) -> Result<Served, AllocError> {
+    let outside = Outside {
+        files,
+        room: 100000,
+    };
+    call_over(rt, words, outside, &FreeGate)
+}
+
+/// What a call meets outside: files, and a sink with so much room.
+#[derive(Drop)]
+pub(crate) struct Outside {
+    pub(crate) files: MemoryFiles,
+    pub(crate) room: u64,
+}
+
+pub(crate) fn call_over<R: Threads + Sync + AllocGlobal, G: Gate>(
+    rt: &R,
+    words: &[&str],
+    outside: Outside,
+    gate: &G,
+) -> Result<Served, AllocError> {
     let alloc = rt.alloc();
     let mut texts = Vec::new(alloc);
     for word in words {
         texts.push(String::from_str(alloc, word)?)?;
     }
-    let mut files = files;
-    let mut out = MemorySink::new(alloc, 100000, Vec::new(alloc))?;
+    let Outside { mut files, room } = outside;
+    let mut out = MemorySink::new(alloc, room, Vec::new(alloc))?;
     let mut err = MemorySink::new(alloc, 1000, Vec::new(alloc))?;
-    let status = serve(rt, alloc, &texts, &mut files, &mut out, &mut err, &FreeGate);
+    let status = serve(rt, alloc, &texts, &mut files, &mut out, &mut err, gate);
     Ok(Served {
         status,
         out: out.held().to_vec(alloc)?,
@@ -431,6 +478,93 @@ fn what_is_assembled_runs(rt: HostRuntime) -> Result<(), Fail> {
             (4, 0, *err)
         );
     }
+    Ok(())
+}
+
+/// What is done to the text of the profile of `one.s` with two speedups: so many bytes at a place give way to others.
+/// Beside it are the status and the line of the fault that `plot` tells then.
+static DAMAGES: [(usize, usize, &[u8], u8, &[u8]); 20] = [
+    (0, 558, b"", 12, b"coz: profile: Head at 0\n"),
+    (9, 549, b"", 12, b"coz: profile: Version at 9\n"),
+    (10, 548, b"", 12, b"coz: profile: Version at 9\n"),
+    (45, 513, b"", 12, b"coz: profile: Newline at 45\n"),
+    (46, 512, b"", 0, b""),
+    (60, 498, b"", 12, b"coz: profile: Selected at 56\n"),
+    (27, 0, b"0", 12, b"coz: profile: Budget at 19\n"),
+    (44, 1, b"65", 12, b"coz: profile: Points at 36\n"),
+    (44, 1, b"1", 12, b"coz: profile: Point at 46\n"),
+    (83, 0, b"0", 12, b"coz: profile: Speedup at 73\n"),
+    (95, 1, b"256", 12, b"coz: profile: End at 83\n"),
+    (102, 0, b"0", 12, b"coz: profile: Time at 96\n"),
+    (113, 1, b"4201", 12, b"coz: profile: Delay at 106\n"),
+    (157, 1, b"E", 12, b"coz: profile: Digest at 149\n"),
+    (228, 0, b" ", 12, b"coz: profile: Visits at 222\n"),
+    (82, 0, b"6", 12, b"coz: profile: Speedup at 329\n"),
+    (72, 1, b"2", 12, b"coz: profile: Selected at 311\n"),
+    (558, 0, b"x", 12, b"coz: profile: Experiment at 558\n"),
+    (69, 1, b"%2e", 12, b"coz: profile: Selected at 56\n"),
+    (72, 1, b"0", 12, b"coz: profile: Selected at 56\n"),
+];
+
+fn damaged(
+    alloc: Global,
+    text: &[u8],
+    place: usize,
+    gone: usize,
+    put: &[u8],
+) -> Result<Vec<u8>, AllocError> {
+    let mut bytes = Vec::new(alloc);
+    bytes.extend_from_slice(text.get(..place).unwrap_or(&[]))?;
+    bytes.extend_from_slice(put)?;
+    bytes.extend_from_slice(text.get(place.saturating_add(gone)..).unwrap_or(&[]))?;
+    Ok(bytes)
+}
+
+/// The text of a profile of `one.s`.
+fn profiled<R: Threads + Sync + AllocGlobal>(
+    rt: &R,
+    options: &[&str],
+) -> Result<Vec<u8>, AllocError> {
+    let alloc = rt.alloc();
+    let source = one_file(alloc, "one.s", SOURCES[0].1)?;
+    let made = call(rt, &["asm", "one.s"], source)?;
+    let mut words = Vec::new(alloc);
+    words.extend_from_slice(&["profile", "one"])?;
+    words.extend_from_slice(options)?;
+    Ok(call(rt, &words, one_file(alloc, "one", &made.out)?)?.out)
+}
+
+#[test]
+fn damaged_profiles_are_refused(rt: HostRuntime) -> Result<(), Fail> {
+    let alloc = rt.alloc();
+    let text = profiled(&rt, &["--lines=one.s:1", "--speedups=50"])?;
+    for (place, gone, put, status, err) in DAMAGES {
+        let bytes = damaged(alloc, &text, place, gone, put)?;
+        let served = call(&rt, &["plot", "p"], one_file(alloc, "p", &bytes)?)?;
+        assert_eq!(rt;
+            (served.status, served.out.len(), served.err.as_slice()),
+            (status, 0, err)
+        );
+    }
+    Ok(())
+}
+
+const CURVES: &[u8] =
+    b"curve\tpoint=0\tselected=one.s:3\tgain=9047\nstep\tspeedup=0\tvalue=0\tbar=\nstep\tspeedup=95\tvalue=9047\tbar=####################################\ncurve\tpoint=0\tselected=one.s:1\tgain=226\nstep\tspeedup=0\tvalue=0\tbar=\nstep\tspeedup=95\tvalue=226\tbar=\n";
+
+#[test]
+fn profiles_are_plotted(rt: HostRuntime) -> Result<(), Fail> {
+    let options = [
+        "--lines=one.s:1,one.s:3",
+        "--speedups=95",
+        "--progress=one.s:3",
+    ];
+    let text = profiled(&rt, &options)?;
+    let served = call(&rt, &["plot", "p"], one_file(rt.alloc(), "p", &text)?)?;
+    assert_eq!(rt;
+        (served.status, served.out.as_slice(), served.err.len()),
+        (0, CURVES, 0)
+    );
     Ok(())
 }
 
@@ -517,8 +651,9 @@ const SPENT_RUNS: &[u8] =
     b"coz-ticks\tversion=1\tbudget=2\tpoints=0\nexperiment\tselected=d/one.s:1\tspeedup=0\tend=spent\ttime=200\tdelay=0\tretired=2\tstarts=1\noutput\tlength=0\tsha256=e3b0c44298fc1c149afbf4c8996fb92427ae41e4649b934ca495991b7852b855\nvisits\tsha256=e3b0c44298fc1c149afbf4c8996fb92427ae41e4649b934ca495991b7852b855\nexperiment\tselected=d/one.s:1\tspeedup=50\tend=spent\ttime=200\tdelay=50\tretired=2\tstarts=1\noutput\tlength=0\tsha256=e3b0c44298fc1c149afbf4c8996fb92427ae41e4649b934ca495991b7852b855\nvisits\tsha256=e3b0c44298fc1c149afbf4c8996fb92427ae41e4649b934ca495991b7852b855\n";
 
 /// Words about these programs, and what they come to: the status, the output and the line of the fault.
-const NAMED: [(&[&str], u8, &[u8], &[u8]); 23] = [
+const NAMED: [(&[&str], u8, &[u8], &[u8]); 24] = [
     (&["lines", "d/one"], 0, ONE_LINES, b""),
+    (&["lines", "five"], 0, ONE_LINES, b""),
     (
         &["run", "d/one", "--line", "one.s:3", "--speedup", "95"],
         0,
@@ -670,8 +805,10 @@ const NAMED: [(&[&str], u8, &[u8], &[u8]); 23] = [
     ),
 ];
 
-/// The programs of these sources, each at its path without the ending.
-fn lined_programs<R: Threads + Sync + AllocGlobal>(rt: &R) -> Result<Vec<HeldFile>, AllocError> {
+/// The programs of these sources, each at its path without the ending, and the first with lines of version 5.
+pub(crate) fn lined_programs<R: Threads + Sync + AllocGlobal>(
+    rt: &R,
+) -> Result<Vec<HeldFile>, AllocError> {
     let alloc = rt.alloc();
     let mut programs = Vec::new(alloc);
     for (name, source) in &LINED {
@@ -679,10 +816,14 @@ fn lined_programs<R: Threads + Sync + AllocGlobal>(rt: &R) -> Result<Vec<HeldFil
         let path = name.strip_suffix(".s").unwrap_or(*name);
         programs.push(held(alloc, path, made.out)?)?;
     }
+    let (name, source) = LINED[0];
+    let words = ["asm", "--dwarf=5", name];
+    let made = call(rt, &words, one_file(alloc, name, source)?)?;
+    programs.push(held(alloc, "five", made.out)?)?;
     Ok(programs)
 }
 
-fn copies(alloc: Global, programs: &[HeldFile]) -> Result<MemoryFiles, AllocError> {
+pub(crate) fn copies(alloc: Global, programs: &[HeldFile]) -> Result<MemoryFiles, AllocError> {
     let mut files = Vec::new(alloc);
     for program in programs {
         files.push(HeldFile {

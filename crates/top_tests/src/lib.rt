@@ -3,3 +3,5 @@
 
 #[cfg(test)]
 mod coz_cli_tests;
+#[cfg(test)]
+mod workers_tests;

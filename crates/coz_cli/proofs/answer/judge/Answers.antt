@@ -1,5 +1,26 @@
-use Rattle.coz_cli.proofs.Names.{named}
+use Rattle.std.proofs.Common.{◌≡◌, true, subst, sym, refl}
+use Rattle.coz_words.specs.Request.{has_option, size_name, workers_name}
+use Rattle.coz_words.specs.declared.command.Command.{Command}
+use Rattle.coz_cli.specs.Verdict.{trial_verdict}
+use Rattle.coz_cli.proofs.Names.{named, version}
+use Rattle.coz_cli.proofs.Trials.{trial_no_read, trial_settled, trial_suits}
 use Rattle.coz_cli.proofs.answer.judge.Goals as goal
 
 pub judge_source-requires : goal.judge_source-requires
-judge_source-requires g c = record { named = named (c.args.request.now) c.requires }
+judge_source-requires g c = record { named = named c.args.request.now c.requires; version = version c.args.request.now c.requires c.in-Asm.is }
+
+pub judge_trial-requires-clause-least : goal.judge_trial-requires-clause-least
+judge_trial-requires-clause-least g c = λ lifetimes within. c.requires.some_size (subst (λ (k : Command). has_option k size_name ≡ true) (sym c.in-Trial.is) refl)
+
+pub judge_trial-requires-clause-some_workers : goal.judge_trial-requires-clause-some_workers
+judge_trial-requires-clause-some_workers g c = λ lifetimes within. c.requires.some_workers (subst (λ (k : Command). has_option k workers_name ≡ true) (sym c.in-Trial.is) refl)
+
+pub returns-in-Trial-clause-suits : goal.returns-in-Trial-clause-suits
+returns-in-Trial-clause-suits g c = trial_suits c.args.request.now (trial_verdict c.args.request.now.seed c.args.request.now.size) c.judge_trial.result c.judge_trial.ensures
+
+pub returns-in-Trial-clause-settled : goal.returns-in-Trial-clause-settled
+returns-in-Trial-clause-settled g c =
+    trial_settled (g.F.Files.held c.args.files.now) c.args.request.now c.args.request.now.command (g.F.Files.faults c.args.files.now) (g.F.Files.faults c.args.files.now) c.judge_trial.result c.in-Trial.is c.judge_trial.ensures
+
+pub returns-in-Trial-clause-untold : goal.returns-in-Trial-clause-untold
+returns-in-Trial-clause-untold g c = λ read. absurd (trial_no_read (trial_verdict c.args.request.now.seed c.args.request.now.size) c.judge_trial.result c.judge_trial.ensures read)

@@ -7,7 +7,7 @@ use Rattle.coz_cli.proofs.Indexed.{indexed}
 use Rattle.coz_cli.proofs.experiment.file_answer.Goals as goal
 
 pub returns-clause-settled : goal.returns-clause-settled
-returns-clause-settled c = λ other.
+returns-clause-settled g c = λ other.
     let next = judging c.args.kind c.args.request.now in
     let input = c.args.input.now in
     let program = c.in_ok-program.program in

@@ -1,4 +1,4 @@
-use Rattle.std.proofs.Common.{◌∙◌, ◌++◌, ◌∷◌, [], length, ap, Some}
+use Rattle.std.proofs.Common.{◌∙◌, ◌++◌, ◌∷◌, [], length, ap}
 use Rattle.coz_cli.proofs.Naming.{one_below, one_label}
 use Rattle.coz_cli.proofs.profile.point_labels.Goals as goal
 

@@ -1,4 +1,4 @@
-use Rattle.std.proofs.Common.{◌≡◌, ℕ, List, map, take}
+use Rattle.std.proofs.Common.{◌≡◌, map, take}
 use Rattle.coz_cli.specs.Profiled.{label_at}
 use Rattle.coz_cli.proofs.profile.point_labels.Given as goal
 

@@ -1,21 +1,18 @@
-use Rattle.std.proofs.Common.{◌≡◌, ◌∙◌, ℕ, List, Option, Ok, Err, length, map, ap, sym, subst}
+use Rattle.std.proofs.Common.{◌∙◌, ℕ, List, Ok, Err, ap, subst}
 use Rattle.std.proofs.lemmas.Result.{err_from_is_err_and}
 use Rattle.coz_types.specs.declared.LineId.{LineId}
-use Rattle.coz_types.specs.declared.record.Summary.{Summary}
 use Rattle.experiment_plan.specs.Selected.{ids}
 use Rattle.experiment_plan.specs.Pairs.{IsPlan}
-use Rattle.experiment_plan.specs.declared.experiment.Experiment.{Experiment as Pair}
 use Rattle.coz_cli.specs.Experiment.{runs_in}
-use Rattle.coz_cli.specs.PlanRuns.{summaries_of}
 use Rattle.coz_cli.specs.Profiled.{profile_of}
 use Rattle.coz_cli.specs.Verdict.{profile_verdict}
-use Rattle.coz_cli.specs.Answer.{answered, fault_verdict, printed_verdict}
+use Rattle.coz_cli.specs.Answer.{fault_verdict, printed_verdict}
 use Rattle.coz_cli.specs.Causes.{planning_fault}
 use Rattle.coz_cli.proofs.Profiling.{after_lines, after_selected, after_points, plan_few, plan_many, same_profile, summaries_are}
 use Rattle.coz_cli.proofs.profile.profile_answer.Goals as goal
 
 pub returns-in_err-lines-clause-settled : goal.returns-in_err-lines-clause-settled
-returns-in_err-lines-clause-settled c =
+returns-in_err-lines-clause-settled g c =
     let gives = err_from_is_err_and c.from_residual.result c.from_residual.ensures.1 in
     rw (gives.1, gives.2)
     (λ other.
@@ -23,7 +20,7 @@ returns-in_err-lines-clause-settled c =
     (c.in_err-lines.ensures.settled other))
 
 pub returns-in_err-points-clause-settled : goal.returns-in_err-points-clause-settled
-returns-in_err-points-clause-settled c =
+returns-in_err-points-clause-settled g c =
     let gives = err_from_is_err_and c.from_residual-in_err-points.result c.from_residual-in_err-points.ensures.1 in
     rw (gives.1, gives.2)
     (λ other.
@@ -32,7 +29,7 @@ returns-in_err-points-clause-settled c =
     (c.in_err-points.ensures.settled other))
 
 pub returns-in_err-plan-clause-settled : goal.returns-in_err-plan-clause-settled
-returns-in_err-plan-clause-settled c =
+returns-in_err-plan-clause-settled g c =
     let gives = err_from_is_err_and c.from_residual-in_err-plan.result c.from_residual-in_err-plan.ensures.1 in
     let lines = c.in_ok-lines.lines.items in
     let asked = c.args.request.now in
@@ -46,7 +43,7 @@ returns-in_err-plan-clause-settled c =
     (plan_many lines asked.speedups error (λ pairs. profile_verdict (profile_of (runs_in c.args.image.now c.args.index.now c.args.input.now) c.args.index.now.lines asked.budget c.in_ok-points.points.lines pairs)) planned other))
 
 pub returns-clause-settled : goal.returns-clause-settled
-returns-clause-settled c = λ _.
+returns-clause-settled g c = λ _.
     let lines = c.in_ok-lines.lines.items in
     let asked = c.args.request.now in
     let index = c.args.index.now in
@@ -54,8 +51,8 @@ returns-clause-settled c = λ _.
     let pairs = c.in_ok-plan.plan in
     let runs = runs_in c.args.image.now index c.args.input.now in
     let planned = subst (λ (ps : List ℕ). IsPlan lines ps (Ok pairs)) c.as_slice.ensures (subst (λ (ls : List LineId). IsPlan ls c.as_slice.result.now (Ok pairs)) c.deref.ensures.value c.in_ok-plan.ensures.plan) in
-    let ran = c.in_ok-summaries.ensures.summaries
-    ∙ ap (λ (ps : List Pair). summaries_of c.args.image.now index points c.args.input.now asked.budget ps) c.pairs.ensures.pairs
+    let ran = c.new.ensures
+    ∙ c.in_ok-summaries.ensures.summaries
     ∙ summaries_are c.args.image.now index points c.args.input.now asked.budget pairs c.in_ok-points.ensures.points in
     after_points asked index.lines runs (ids lines) _ c.bytes_of.ensures
     (c.in_ok-lines.ensures.settled (λ never. never)) points.lines _ c.bytes_of-2.ensures

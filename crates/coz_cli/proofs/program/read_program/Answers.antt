@@ -1,6 +1,7 @@
-use Rattle.std.proofs.Common.{◌≡◌, length, ap, arith}
+use Rattle.std.proofs.Common.{◌≡◌, ◌∙◌, length, ap, arith}
 use Rattle.std.proofs.lemmas.Result.{err_from_is_err_and}
 use Rattle.dwarf_lines.specs.Registers.{view}
+use Rattle.coz_cli.specs.LineTable.{table_in}
 use Rattle.coz_cli.proofs.Loads.{loaded_file}
 use Rattle.coz_cli.proofs.Files.{no_table, whole_program}
 use Rattle.coz_cli.proofs.program.read_program.Goals as goal
@@ -20,3 +21,6 @@ returns-in_err-table-clause-settled c =
 pub returns-clause-settled : goal.returns-clause-settled
 returns-clause-settled c = λ _ next.
     whole_program c.args.file.now next c.in_ok-image.image (view c.in_ok-table.table) c.in_ok-image.ensures.answer c.in_ok-table.ensures.exact
+
+pub returns-clause-reads : goal.returns-clause-reads
+returns-clause-reads c = ap table_in (loaded_file c.args.file.now c.in_ok-image.image c.in_ok-image.ensures.answer) ∙ c.in_ok-table.ensures.exact

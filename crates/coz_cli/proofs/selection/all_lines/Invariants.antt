@@ -1,4 +1,4 @@
-use Rattle.std.proofs.Common.{◌≡◌, ℕ, List, length}
+use Rattle.std.proofs.Common.{◌≡◌}
 use Rattle.std.specs.List.{range_with_len}
 use Rattle.experiment_plan.specs.Selected.{ids}
 use Rattle.coz_cli.proofs.selection.all_lines.Given as goal

@@ -1,5 +1,3 @@
-use Rattle.std.proofs.Common.{◌<◌, List, ℕ, length, sym, subst}
-use Rattle.std.specs.List.{All}
 use Rattle.coz_cli.proofs.Naming.{points_below}
 use Rattle.coz_cli.proofs.selection.progress_points.Goals as goal
 

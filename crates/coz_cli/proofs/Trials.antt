@@ -1,0 +1,380 @@
+-- A trial comes to no fault but want of memory.
+use Rattle.std.proofs.Common.{◌≡◌, inl, ℕ, zero, suc, ◌+◌, ◌*◌, ◌/◌, ◌<◌, ◌≤◌, not, ◌==◌, Bool, true, false, cond, List, [], ◌∷◌, ◌++◌, length, map, filter, nat_lt, Option, Some, None, Result, Ok, Err, refl, sym, ap, ap₂, ◌∙◌, subst, arith, codes}
+use Rattle.std.specs.Prelude.{Contains, IfSome, IsOk, IsSomeAnd, option_map, slice_get, unwrap_or}
+use Rattle.std.specs.List.{AllByRecursion, range_with_len}
+use Rattle.std.specs.List.Sorted.{IsStrictlySortedBy}
+use Rattle.std.specs.Ordering.{nat_cmp}
+use Rattle.std.specs.declared.cmp.Ordering.TheVariants.{Less, Equal, Greater}
+use Rattle.std.proofs.lemmas.Bool.{lt-ltb, le-ltb}
+use Rattle.std.proofs.lemmas.List.{append-nil, length-map, map-append}
+use Rattle.std.proofs.lemmas.List.FromFn.{filter_of_map_range_with_len_more}
+use Rattle.std.proofs.lemmas.Option.{get_or_from_slice_get}
+use Rattle.std.proofs.lemmas.List.Sums.{AllPass-from_list_all}
+use Rattle.coz_types.specs.Image.{ImageParts}
+use Rattle.coz_types.specs.declared.LineId.{LineId}
+use Rattle.elf_load.specs.Loaded.{loaded, section}
+use Rattle.dwarf_lines.specs.declared.LineFault.{LineFault}
+use Rattle.coz_words.specs.Said.{Text}
+use Rattle.dwarf_lines.specs.Names.{strings}
+use Rattle.dwarf_lines.specs.Reading.{reading}
+use Rattle.dwarf_lines.specs.Registers.{Table}
+use Rattle.line_index.specs.Index.{Index, IsIndex}
+use Rattle.line_index.specs.Lines.{Line, found, label}
+use Rattle.line_index.specs.Listed.{lines_in}
+use Rattle.experiment_plan.specs.Selected.{id_of, ids}
+use Rattle.experiment_plan.specs.Pairs.{IsPlan, planned}
+use Rattle.experiment_plan.specs.declared.experiment.Experiment.{Experiment as Pair}
+use Rattle.experiment_plan.specs.declared.experiment.PlanError.{PlanError}
+use Rattle.experiment_plan.specs.declared.experiment.PlanError.TheVariants as planning
+use Rattle.experiment_plan.proofs.Naming.{found_below}
+use Rattle.experiment_plan.proofs.Pairing.{many}
+use Rattle.coz_types.specs.declared.record.Summary.{Summary}
+use Rattle.machines.specs.Standing.{delayed_record}
+use Rattle.progress_points.specs.Points.{Points, IsPoints}
+use Rattle.profile_book.specs.declared.profile.Profile.{Profile}
+use Rattle.profile_pool.specs.Summaries.{summary_in}
+use Rattle.rv_asm.specs.Assembled.{Program, IsProgram, Fails, assembled}
+use Rattle.rv_asm.specs.declared.AsmFault.{AsmFault}
+use Rattle.rv_asm.specs.declared.AsmError.{AsmError}
+use Rattle.rv_asm.specs.declared.AsmError.TheVariants as assembling
+use Rattle.work_gen.specs.Text.{Source, generated}
+use Rattle.work_gen.specs.Accepted.{IsAccepted}
+use Rattle.image_write.specs.File.{IsName, written_file}
+use Rattle.image_write.specs.Image.{image_of}
+use Rattle.image_write.specs.Lines.{table_of}
+use Rattle.image_write.proofs.LineSection.{no_texts, unit_found}
+use Rattle.image_write.proofs.Loading.{written_loads, written_short}
+use Rattle.image_write.proofs.Written.{unit_is_read}
+use Rattle.coz_cli.specs.declared.fault.Fault.{Fault}
+use Rattle.coz_cli.specs.declared.fault.Fault.TheVariants.{Usage, Program as NoProgram, Lines, Read, Write, NoLine, ManyPoints, Long, ManyExperiments, Memory, Source as NoSource, Profile as NoProfile}
+use Rattle.coz_files.specs.Held.{Held}
+use Rattle.coz_words.specs.declared.command.Command.{Command}
+use Rattle.coz_words.specs.declared.command.Command.TheVariants.{Trial}
+use Rattle.coz_words.specs.declared.request.Request.{Request}
+use Rattle.coz_cli.specs.Answer.{Answer, IsMemory, IsMemoryFault, IsOfTrial, IsRead, IsReadFault, Settles, Suits, fault_status, fault_verdict}
+use Rattle.coz_cli.specs.Serve.{AskTrial}
+use Rattle.coz_cli.specs.Words.{request_of}
+use Rattle.coz_cli.specs.Causes.{assembling_fault, planning_fault}
+use Rattle.coz_cli.specs.Experiment.{Runs, experiment_of, runs_in}
+use Rattle.profile_pool.specs.Summaries.{summaries_of}
+use Rattle.coz_cli.specs.Profiled.{experiment_on, label_at, pairs_of, summary_on}
+use Rattle.coz_cli.specs.LineTable.{table_in}
+use Rattle.coz_cli.specs.Trial.{IsTrialFile, tenths, trial_file, trial_name, trial_plan, trial_point, trial_profile, trial_program, trial_text}
+use Rattle.coz_cli.specs.Verdict.{Verdict, assembled_verdict, command_verdict, file_verdict, named_verdict, printed, profile_verdict, program_verdict, trial_judging, trial_printed, trial_verdict}
+use Rattle.coz_cli.proofs.Files.{whole_program}
+use Rattle.coz_cli.proofs.Indexed.{indexed}
+use Rattle.coz_cli.proofs.PointLine.{word_found}
+use Rattle.coz_cli.proofs.Profiling.{pairs_are, same_profile, summaries_are}
+use Rattle.coz_cli.proofs.Told.{told_high}
+
+-- ---- faults
+
+never : (fault : Fault) (text : List ℕ) → fault_verdict fault ≡ printed text → ⊥
+never fault text is = let e : fault_status fault ≡ 0 = ap (λ (v : Verdict). v.status) is in omega (arith, e, told_high fault)
+
+-- where the verdict is a text, a fault is want of memory
+pub is_memory : (fault : Fault) (text : List ℕ) → ((IsMemoryFault fault → ⊥) → fault_verdict fault ≡ printed text) → IsMemoryFault fault
+is_memory Memory text settled = tt
+is_memory Usage text settled = absurd (never Usage text (settled (λ no. no)))
+is_memory (NoProgram fault) text settled = absurd (never (NoProgram fault) text (settled (λ no. no)))
+is_memory (Lines fault) text settled = absurd (never (Lines fault) text (settled (λ no. no)))
+is_memory (Read path) text settled = absurd (never (Read path) text (settled (λ no. no)))
+is_memory Write text settled = absurd (never Write text (settled (λ no. no)))
+is_memory (NoLine piece) text settled = absurd (never (NoLine piece) text (settled (λ no. no)))
+is_memory (ManyPoints count) text settled = absurd (never (ManyPoints count) text (settled (λ no. no)))
+is_memory (Long path) text settled = absurd (never (Long path) text (settled (λ no. no)))
+is_memory (ManyExperiments count) text settled = absurd (never (ManyExperiments count) text (settled (λ no. no)))
+is_memory (NoSource fault) text settled = absurd (never (NoSource fault) text (settled (λ no. no)))
+is_memory (NoProfile fault) text settled = absurd (never (NoProfile fault) text (settled (λ no. no)))
+
+same_ok : {A E : Type 0} {x y : A} → (let r : Result A E = Ok x in r ≡ Ok y) → x ≡ y
+same_ok e = cc
+
+-- ---- the file
+
+pub trial_named : IsName trial_name
+trial_named = (omega arith, omega arith, AllPass-from_list_all (λ b. not (b == 0)) trial_name refl)
+
+module _ (source : Source) (file : List ℕ) (is : IsTrialFile source file) where
+  abbrev p : Program
+  p = is.program
+
+  abbrev table : Table
+  table = table_of p.lines trial_name 4
+
+  at_file : (P : List ℕ → Type 0) → P (trial_file p) → P file
+  at_file P holds = subst P (sym is.written) holds
+
+  pub file_short : length file ≤ 16777216
+  unfolding trial_file
+  file_short = at_file (λ f. length f ≤ 16777216) (written_short p trial_name 4 is.right trial_named)
+
+  loads : loaded file ≡ Ok (image_of p file)
+  unfolding trial_file
+  loads = at_file (λ f. loaded f ≡ Ok (image_of p f)) (written_loads p trial_name 4 is.right trial_named)
+
+  abbrev with_sections : Option (List ℕ) → Option (List ℕ) → Option (List ℕ) → Result Table LineFault
+  with_sections lines general texts = reading (strings (unwrap_or general []) (unwrap_or texts [])) (unwrap_or lines [])
+
+  reads : table_in file ≡ Ok table
+  unfolding table_in trial_file
+  reads =
+      let none = no_texts p trial_name 4 is.right trial_named in
+      let lines = unit_found p trial_name 4 is.right trial_named in
+      at_file (λ f. with_sections (section f (codes ".debug_line")) (section f (codes ".debug_str")) (section f (codes ".debug_line_str")) ≡ Ok table)
+      (ap₂ (λ (general texts : Option (List ℕ)). with_sections (section (trial_file p) (codes ".debug_line")) general texts) none.0 none.1
+      ∙ ap (λ (o : Option (List ℕ)). with_sections o None None) lines
+      ∙ unit_is_read p trial_name 4 is.right trial_named (omega arith, omega arith))
+
+  same_file : (image_of p file).file ≡ file
+  unfolding image_of
+  same_file = refl
+
+  -- what follows the reading of the file
+  pub program_is : (next : ImageParts → Table → Verdict) → program_verdict file next ≡ next (image_of p file) table
+  program_is next = sym (whole_program file next (image_of p file) table loads (ap table_in same_file ∙ reads))
+
+  -- a fault of reading it is want of memory
+  pub read_memory : (fault : Fault) → ((IsMemoryFault fault → ⊥) → (next : ImageParts → Table → Verdict) → fault_verdict fault ≡ program_verdict file next) → IsMemoryFault fault
+  read_memory fault settled = is_memory fault [] (λ other. settled other (λ image table. printed []) ∙ program_is (λ image table. printed []))
+
+  -- the point's line is found
+  pub point_there : (index : Index) (image : ImageParts) (read : Table) → loaded file ≡ Ok image → table_in file ≡ Ok read → IsIndex read image.areas index → IsOk (trial_point source.point index.lines)
+  unfolding trial_point
+  point_there index image read loads_as reads_as indexed =
+      let image_is : image_of p file ≡ image = same_ok (sym loads ∙ loads_as) in
+      let table_is : table ≡ read = same_ok (sym reads ∙ reads_as) in
+      let here : IsIndex table (image_of p file).areas index =
+      subst (λ (t : Table). IsIndex t (image_of p file).areas index) (sym table_is) (subst (λ (i : ImageParts). IsIndex read i.areas index) (sym image_is) indexed) in
+      let found_at = word_found p trial_name file source.point index is.right (omega arith) refl is.has_point here in
+      subst (λ (o : Option ℕ). IsOk (elim o as (λ x. Result ℕ Text) [ Some line ↦ Ok line | None ↦ Err trial_name ])) (sym found_at.1) refl
+
+-- ---- the point
+
+pub point_found : (point : ℕ) (lines : List Line) (k : ℕ) → found trial_name point lines ≡ Some k → trial_point point lines ≡ Ok k
+unfolding trial_point
+point_found point lines k is = ap (λ (o : Option ℕ). elim o as (λ x. Result ℕ Text) [ Some line ↦ Ok line | None ↦ Err trial_name ]) is
+
+pub point_within : (point : ℕ) (lines : List Line) (k : ℕ) → found trial_name point lines ≡ Some k → k < length lines
+point_within point lines k is = found_below trial_name point lines k is
+
+pub point_absent : (point : ℕ) (lines : List Line) → found trial_name point lines ≡ None → IsOk (trial_point point lines) → ⊥
+unfolding trial_point
+point_absent point lines is ok =
+    let no : false ≡ true = subst (λ (o : Option ℕ). IsOk (elim o as (λ x. Result ℕ Text) [ Some line ↦ Ok line | None ↦ Err trial_name ])) is ok in
+    absurd cc
+
+-- what looking it up answers
+pub of_none : (o : Option ℕ) → (let none : Option LineId = None in none ≡ option_map (λ k. record { 0 = k }) o) → o ≡ None
+of_none None is = refl
+of_none (Some k) is = absurd cc
+
+pub of_some : (o : Option ℕ) (line : LineId) → Some line ≡ option_map (λ k. record { 0 = k }) o → o ≡ Some line.0
+of_some None line is = absurd cc
+of_some (Some k) line is = let same : line ≡ record { 0 = k } = cc in ap (λ (l : LineId). Some l.0) (sym same)
+
+-- ---- the lines that are selected
+
+less : (x y : ℕ) → x < y → nat_cmp x y ≡ Less
+less x y lt = ap (λ (b : Bool). cond b Less (cond (x == y) Equal Greater)) (lt-ltb x y lt)
+
+multiples_above : (x step a n : ℕ) → x < a * step → AllByRecursion (λ y. nat_cmp x y ≡ Less) (map (λ i. i * step) (range_with_len a n))
+multiples_above x step a zero lt = tt
+multiples_above x step a (suc n) lt = (less x (a * step) lt, multiples_above x step (a + 1) n (omega arith))
+
+multiples_rise : (step a n : ℕ) → 0 < step → IsStrictlySortedBy nat_cmp (map (λ i. i * step) (range_with_len a n))
+unfolding IsStrictlySortedBy
+multiples_rise step a zero some = tt
+multiples_rise step a (suc n) some = (multiples_above (a * step) step (a + 1) n (omega (arith, some)), multiples_rise step (a + 1) n some)
+
+kept_all : (P : ℕ → Type 0) (test : ℕ → Bool) (xs : List ℕ) → AllByRecursion P xs → AllByRecursion P (filter test xs)
+kept_all P test [] all = tt
+kept_all P test (x ∷ xs) all = elim (test x) as (λ b. AllByRecursion P (cond b (x ∷ filter test xs) (filter test xs))) [ true ↦ (all.0, kept_all P test xs all.1) | false ↦ kept_all P test xs all.1 ]
+
+kept_rise : (test : ℕ → Bool) (xs : List ℕ) → IsStrictlySortedBy nat_cmp xs → IsStrictlySortedBy nat_cmp (filter test xs)
+unfolding IsStrictlySortedBy
+kept_rise test [] up = tt
+kept_rise test (x ∷ xs) up = elim (test x) as (λ b. IsStrictlySortedBy nat_cmp (cond b (x ∷ filter test xs) (filter test xs))) [
+  | true ↦ (kept_all (λ y. nat_cmp x y ≡ Less) test xs up.0, kept_rise test xs up.1)
+  | false ↦ kept_rise test xs up.1
+]
+
+pub tenths_rise : (n : ℕ) → IsStrictlySortedBy nat_cmp (tenths n)
+unfolding tenths IsStrictlySortedBy
+tenths_rise zero = tt
+tenths_rise (suc n) = kept_rise (λ position. nat_lt position (suc n)) (map (λ i. i * ((suc n + 9) / 10)) (range_with_len 0 10)) (multiples_rise ((suc n + 9) / 10) 0 10 (omega arith))
+
+kept_few : (test : ℕ → Bool) (xs : List ℕ) → length (filter test xs) ≤ length xs
+kept_few test [] = omega arith
+kept_few test (x ∷ xs) = elim (test x) as (λ b. length (cond b (x ∷ filter test xs) (filter test xs)) ≤ length (x ∷ xs)) [ true ↦ omega (arith, kept_few test xs) | false ↦ omega (arith, kept_few test xs) ]
+
+pub tenths_few : (n : ℕ) → length (tenths n) ≤ 10
+unfolding tenths
+tenths_few n = kept_few (λ position. nat_lt position n) (map (λ i. i * ((n + 9) / 10)) (range_with_len 0 10))
+
+-- one multiple more
+abbrev pub so_many : ℕ → ℕ → ℕ → List ℕ
+so_many n tenth i = filter (λ position. nat_lt position n) (map (λ j. j * tenth) (range_with_len 0 i))
+
+one_more : (n tenth i : ℕ) (b : Bool) → nat_lt (i * tenth) n ≡ b → so_many n tenth (i + 1) ≡ so_many n tenth i ++ cond b (i * tenth ∷ []) []
+one_more n tenth i b is =
+    filter_of_map_range_with_len_more (λ position. nat_lt position n) (λ j. j * tenth) 0 i i (omega arith) ∙ ap (λ (kept : Bool). so_many n tenth i ++ cond kept (i * tenth ∷ []) []) is
+
+pub position_in : (n tenth i : ℕ) (lines new : List LineId) → i * tenth < n → ids lines ≡ so_many n tenth i → new ≡ lines ++ record { 0 = i * tenth } ∷ [] → ids new ≡ so_many n tenth (i + 1)
+position_in n tenth i lines new less are is =
+    ap ids is ∙ map-append id_of lines (record { 0 = i * tenth } ∷ []) ∙ ap (λ ns. ns ++ i * tenth ∷ []) are ∙ sym (one_more n tenth i true (lt-ltb (i * tenth) n less))
+
+pub position_out : (n tenth i : ℕ) (lines : List LineId) → n ≤ i * tenth → ids lines ≡ so_many n tenth i → ids lines ≡ so_many n tenth (i + 1)
+position_out n tenth i lines le are = are ∙ sym (append-nil (so_many n tenth i)) ∙ sym (one_more n tenth i false (le-ltb (i * tenth) n le))
+
+pub all_so_many : (n : ℕ) → so_many n ((n + 9) / 10) 10 ≡ tenths n
+unfolding tenths
+all_so_many n = refl
+
+pub length_ids : (lines : List LineId) → length (ids lines) ≡ length lines
+length_ids [] = refl
+length_ids (line ∷ lines) = ap suc (length_ids lines)
+
+-- ---- the source
+
+-- the assembler gives no fault on a source that is accepted
+pub assembled_memory : (text : List ℕ) (p : Program) (error : AsmError) → assembled text ≡ Ok p → Fails error (assembled text) → IsMemoryFault (assembling_fault error)
+assembled_memory text p (assembling.Fault fault) is fails = absurd (let both : Ok p ≡ Err fault = sym is ∙ fails in cc)
+assembled_memory text p assembling.Memory is fails = tt
+
+pub file_of : (source : Source) (given : Program) (file : List ℕ) → IsAccepted source → assembled source.text ≡ Ok given → IsProgram given → file ≡ written_file given trial_name 4 → IsTrialFile source file
+unfolding trial_program trial_file
+file_of source given file (p, is, has) stands right written = record {
+  program = given;
+  stands = stands;
+  right = right;
+  has_point = subst (λ (q : Program). Contains q.lines source.point) (same_ok (sym is ∙ stands)) has;
+  written = written;
+}
+
+-- ---- the plan and the profile
+
+abbrev speedups : List ℕ
+speedups = 0 ∷ 25 ∷ 50 ∷ 75 ∷ []
+
+pub plan_is : (lines : List LineId) (pairs : List Pair) (all : List Line) (count : ℕ) → IsPlan lines speedups (Ok pairs) → ids lines ≡ tenths count → count ≡ length all → pairs ≡ trial_plan all
+unfolding trial_plan
+plan_is lines pairs all count is are same = is.0 ∙ pairs_are lines speedups ∙ ap (λ (ps : List ℕ). pairs_of ps speedups) (are ∙ ap tenths same)
+
+-- ten lines make few pairs
+pub plan_memory : (lines : List LineId) (error : PlanError) → length lines ≤ 10 → IsPlan lines speedups (Err error) → IsMemoryFault (planning_fault error)
+plan_memory lines (planning.TooMany count) few is =
+    let all : length (planned lines speedups) ≡ length lines * 4 = many lines speedups in
+    absurd (omega (arith, is.0, is.1, all, few))
+plan_memory lines planning.Memory few is = tt
+
+pub label_one : (lines : List Line) (k : ℕ) (text : List ℕ) → slice_get (map label lines) k ≡ Some text → text ≡ label_at lines k
+label_one lines k text is = sym (get_or_from_slice_get (map label lines) k text [] is)
+
+module _ (image : ImageParts) (index : Index) (points : Points) (point : ℕ) (pairs : List Pair) where
+  abbrev on_points : List ℕ → List Pair → List Summary
+  on_points ps all = map (λ pair. summary_on index.lines ps pair (delayed_record (experiment_on (runs_in image index []) 100000000 ps pair))) all
+
+  pub profile_is : (labels : List (List ℕ)) (summaries : List Summary) → IsPoints index (point ∷ []) points → pairs ≡ trial_plan index.lines → labels ≡ map (label_at index.lines) (point ∷ [])
+      → summaries ≡ summaries_of image index points [] 100000000 pairs
+      → ◌≡◌ {A = Profile} (record { budget = 100000000; points = labels; summaries = summaries }) (trial_profile (runs_in image index []) index.lines point)
+  unfolding trial_profile
+  profile_is labels summaries are planned named ran =
+      let here : IsPoints index points.lines points = subst (λ (ps : List ℕ). IsPoints index ps points) (sym are.lines) are in
+      same_profile index.lines (runs_in image index []) 100000000 (point ∷ []) (trial_plan index.lines) labels summaries named
+      (ran ∙ summaries_are image index points [] 100000000 pairs here ∙ ap (λ (ps : List ℕ). on_points ps pairs) are.lines ∙ ap (on_points (point ∷ [])) planned)
+
+  pub as_many : (summaries : List Summary) → pairs ≡ trial_plan index.lines → summaries ≡ summaries_of image index points [] 100000000 pairs → length summaries ≡ length (trial_plan index.lines)
+  as_many summaries planned ran = ap length ran ∙ length-map pairs (λ (pair : Pair). summary_in image index points [] 100000000 pair.line.0 pair.speedup) ∙ ap length planned
+
+-- ---- the verdict
+
+pub file_verdict_is : (seed size : ℕ) (file : List ℕ) → IsTrialFile (generated seed size) file → file_verdict (trial_judging (generated seed size)) file [] ≡ trial_verdict seed size
+unfolding trial_verdict
+file_verdict_is seed size file is =
+    let source = generated seed size in
+    ap (λ (f : List ℕ). file_verdict (trial_judging source) f []) is.written
+    ∙ sym (ap (λ (r : Result Program AsmFault). assembled_verdict r (λ program. file_verdict (trial_judging source) (trial_file program) [])) is.stands)
+
+pub judged_as : (source : Source) (lines : List Line) (runs : Runs) (point : ℕ) → trial_point source.point lines ≡ Ok point → trial_printed source lines (trial_profile runs lines point) ≡ trial_judging source lines runs
+unfolding trial_judging
+judged_as source lines runs point is = sym (ap (λ (r : Result ℕ Text). named_verdict r (λ point. trial_printed source lines (trial_profile runs lines point))) is)
+
+-- what is printed of a profile is the verdict of the file
+pub printed_is : (source : Source) (file : List ℕ) (image : ImageParts) (table : Table) (index : Index) (point status : ℕ) (profile : Profile) (text : List ℕ)
+    → IsIndex table image.areas index → ((next : ImageParts → Table → Verdict) → next image table ≡ program_verdict file next)
+    → trial_point source.point index.lines ≡ Ok point → profile ≡ trial_profile (runs_in image index []) index.lines point
+    → status ≡ (profile_verdict profile).status → text ≡ trial_text source index.lines profile
+    → ◌≡◌ {A = Verdict} (record { status = status; text = text; line = [] }) (file_verdict (trial_judging source) file [])
+printed_is source file image table index point status profile text is_index read found_at is low written =
+    ap₂ (λ (s : ℕ) (t : List ℕ). record { status = s; text = t; line = [] }) low written
+    ∙ ap (trial_printed source index.lines) is
+    ∙ judged_as source index.lines (runs_in image index []) point found_at
+    ∙ indexed image table [] index is_index (trial_judging source)
+    ∙ read (λ (i : ImageParts) (t : Table). trial_judging source (lines_in t i.areas) (experiment_of i t []))
+
+-- ---- answers
+
+memory_suits : (asked : Request) (fault : Fault) → IsMemoryFault fault → Suits asked (Err fault)
+memory_suits asked Memory m = tt
+memory_suits asked Usage m = m
+memory_suits asked (NoProgram fault) m = tt
+memory_suits asked (Lines fault) m = tt
+memory_suits asked (Read path) m = absurd m
+memory_suits asked Write m = m
+memory_suits asked (NoLine piece) m = tt
+memory_suits asked (ManyPoints count) m = tt
+memory_suits asked (Long path) m = absurd m
+memory_suits asked (ManyExperiments count) m = tt
+memory_suits asked (NoSource fault) m = tt
+memory_suits asked (NoProfile fault) m = tt
+
+pub trial_suits : (asked : Request) (v : Verdict) (answer : Answer) → IsOfTrial v answer → Suits asked answer
+trial_suits asked v (Ok p) is = is.low
+trial_suits asked v (Err fault) is = memory_suits asked fault is.memory
+
+pub trial_settled : (told : Option Held) (asked : Request) (command : Command) (before now : ℕ) (answer : Answer) → command ≡ Trial → IsOfTrial (trial_verdict asked.seed asked.size) answer
+    → IfSome told (λ held. (IsMemory answer → ⊥) → Settles (command_verdict command asked held) before now answer)
+trial_settled None asked command before now answer is of = tt
+trial_settled (Some held) asked command before now (Ok p) is of = λ other.
+    subst (λ (c : Command). Settles (command_verdict c asked held) before now (Ok p)) (sym is) (inl of.settled)
+trial_settled (Some held) asked command before now (Err fault) is of = λ other. absurd (other of.memory)
+
+read_is_other : (fault : Fault) → IsMemoryFault fault → IsReadFault fault → ⊥
+read_is_other Memory m read = read
+read_is_other Usage m read = m
+read_is_other (NoProgram fault) m read = m
+read_is_other (Lines fault) m read = m
+read_is_other (Read path) m read = m
+read_is_other Write m read = m
+read_is_other (NoLine piece) m read = m
+read_is_other (ManyPoints count) m read = m
+read_is_other (Long path) m read = m
+read_is_other (ManyExperiments count) m read = m
+read_is_other (NoSource fault) m read = m
+read_is_other (NoProfile fault) m read = m
+
+pub trial_no_read : (v : Verdict) (answer : Answer) → IsOfTrial v answer → IsRead answer → ⊥
+trial_no_read v (Ok p) of read = read
+trial_no_read v (Err fault) of read = read_is_other fault of.memory read
+
+pub memory_status : (fault : Fault) → IsMemoryFault fault → fault_status fault ≡ 10
+memory_status Memory m = refl
+memory_status Usage m = absurd m
+memory_status (NoProgram fault) m = absurd m
+memory_status (Lines fault) m = absurd m
+memory_status (Read path) m = absurd m
+memory_status Write m = absurd m
+memory_status (NoLine piece) m = absurd m
+memory_status (ManyPoints count) m = absurd m
+memory_status (Long path) m = absurd m
+memory_status (ManyExperiments count) m = absurd m
+memory_status (NoSource fault) m = absurd m
+memory_status (NoProfile fault) m = absurd m
+
+-- the request of words that ask for a trial
+pub asks_trial : (words : List (List ℕ)) (asked : Request) → Some asked ≡ request_of words → AskTrial words → asked.command ≡ Trial
+asks_trial words asked makes ask = subst (λ (o : Option Request). IsSomeAnd o (λ asked. asked.command ≡ Trial)) (sym makes) ask
+
+pub asks_nothing : (words : List (List ℕ)) → None ≡ request_of words → AskTrial words → ⊥
+asks_nothing words none ask = subst (λ (o : Option Request). IsSomeAnd o (λ asked. asked.command ≡ Trial)) (sym none) ask

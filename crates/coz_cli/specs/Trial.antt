@@ -1,0 +1,78 @@
+-- A trial: the program that a seed and a size make, its profile over at most ten of its lines, and the five lines of that.
+use Rattle.std.specs.Prelude.{◌≡◌, ℕ, ◌+◌, ◌*◌, ◌/◌, nat_lt, List, [], ◌∷◌, ◌++◌, length, map, filter, Contains, Option, None, Some, Result, Ok, Err, codes, decimal, ℤ}
+use Rattle.std.specs.List.{range_with_len}
+use Rattle.std.specs.Fmt.{signed_decimal}
+use Rattle.sha2.specs.Sha256.{sha256}
+use Rattle.rv_asm.specs.declared.AsmFault.{AsmFault}
+use Rattle.rv_asm.specs.Assembled.{Program, IsProgram, assembled}
+use Rattle.work_gen.specs.Text.{Source}
+use Rattle.image_write.specs.File.{written_file}
+use Rattle.line_index.specs.Lines.{Line, found}
+use Rattle.experiment_plan.specs.declared.experiment.Experiment.{Experiment as Pair}
+use Rattle.profile_book.specs.declared.profile.Profile.{Profile}
+use Rattle.profile_book.specs.Profile.{hex_text, profile_text}
+use Rattle.causal_curves.specs.Curves.{curves_of, ranked}
+use Rattle.causal_curves.specs.declared.curve.Curve.{Curve}
+use Rattle.coz_words.specs.Said.{Text}
+use Rattle.coz_cli.specs.Experiment.{Runs}
+use Rattle.coz_cli.specs.Profiled.{pairs_of, profile_of}
+use Rattle.coz_cli.specs.Text.{number_line}
+
+-- the name of a trial's source
+abbrev pub trial_name : Text
+trial_name = codes "trial.s"
+
+-- what the source stands for
+unfoldable pub trial_program : Source → Result Program AsmFault
+trial_program source = assembled source.text
+
+-- its file
+unfoldable pub trial_file : Program → List ℕ
+trial_file program = written_file program trial_name 4
+
+-- a file is that of the program that the source stands for, of which a word has the line of the progress point
+pub record IsTrialFile (source : Source) (file : List ℕ) : Type 0 where
+  pub program : Program
+  pub stands : trial_program source ≡ Ok program
+  pub right : IsProgram program
+  pub has_point : Contains program.lines source.point
+  pub written : file ≡ trial_file program
+
+-- the position of the line of the progress point; or the name, where no line is found
+unfoldable pub trial_point : ℕ → List Line → Result ℕ Text
+trial_point point lines = elim (found trial_name point lines) [ Some line ↦ Ok line | None ↦ Err trial_name ]
+
+-- of n positions the multiples of a tenth of n, rounded up: ten of these are n or more
+unfoldable pub tenths : ℕ → List ℕ
+tenths n = let tenth = (n + 9) / 10 in filter (λ position. nat_lt position n) (map (λ i. i * tenth) (range_with_len 0 10))
+
+unfoldable pub trial_plan : List Line → List Pair
+trial_plan lines = pairs_of (tenths (length lines)) (0 ∷ 25 ∷ 50 ∷ 75 ∷ [])
+
+-- the profile of these runs, with one progress point
+unfoldable pub trial_profile : Runs → List Line → ℕ → Profile
+trial_profile runs lines point = profile_of runs lines 100000000 (point ∷ []) (trial_plan lines)
+
+-- ---- the text
+
+-- the length of some bytes, and their digest
+abbrev pub digest_line : Text → List ℕ → Text
+digest_line name bytes = name ++ decimal (length bytes) ++ codes " " ++ hex_text (sha256 bytes) ++ codes "\n"
+
+abbrev pub gain_line : Text → Option ℤ → Text
+gain_line label None = codes "best none\n"
+gain_line label (Some gain) = codes "best " ++ label ++ codes " " ++ signed_decimal gain ++ codes "\n"
+
+-- of the first of ranked curves
+abbrev pub best_line : List Curve → Text
+best_line [] = codes "best none\n"
+best_line (curve ∷ curves) = gain_line curve.selected curve.gain
+
+-- what `trial` prints
+unfoldable pub trial_text : Source → List Line → Profile → Text
+trial_text source lines profile =
+    digest_line (codes "source ") source.text
+    ++ number_line (codes "lines ") (length lines)
+    ++ number_line (codes "experiments ") (length (trial_plan lines))
+    ++ digest_line (codes "profile ") (profile_text profile)
+    ++ best_line (ranked (curves_of profile))
