@@ -1,14 +1,14 @@
 -- The verdict of a profile's text, by what reading it came to.
 use Rattle.std.proofs.Common.{◌≡◌, ℕ, List, Option, Some, None, flat_map, sym, ap, ◌∙◌}
-use Rattle.profile_book.specs.Grammar.{book_fault}
-use Rattle.profile_book.specs.Judging.{IsError}
+use Rattle.profile_reader.specs.Grammar.{book_fault}
+use Rattle.profile_reader.specs.Judging.{IsError}
 use Rattle.profile_book.specs.Profile.{IsTextOf}
-use Rattle.profile_book.specs.Told.{told}
+use Rattle.profile_reader.specs.Told.{told}
 use Rattle.profile_book.specs.declared.profile.Profile.{Profile}
-use Rattle.profile_book.specs.declared.fault.BookFault.{BookFault}
-use Rattle.profile_book.specs.declared.fault.BookError.{BookError}
-use Rattle.profile_book.specs.declared.fault.BookError.TheVariants as book
-use Rattle.profile_book.proofs.Only.{told_is}
+use Rattle.profile_reader.specs.declared.fault.BookFault.{BookFault}
+use Rattle.profile_reader.specs.declared.fault.BookError.{BookError}
+use Rattle.profile_reader.specs.declared.fault.BookError.TheVariants as book
+use Rattle.profile_reader.proofs.Only.{told_is}
 use Rattle.causal_curves.specs.Curves.{curves_of, ranked}
 use Rattle.causal_curves.specs.Texts.{curve_text}
 use Rattle.causal_curves.specs.declared.curve.Curve.{Curve}

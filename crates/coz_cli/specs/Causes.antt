@@ -9,8 +9,8 @@ use Rattle.experiment_plan.specs.declared.experiment.PlanError.{PlanError}
 use Rattle.experiment_plan.specs.declared.experiment.PlanError.TheVariants as planning
 use Rattle.rv_asm.specs.declared.AsmError.{AsmError}
 use Rattle.rv_asm.specs.declared.AsmError.TheVariants as assembling
-use Rattle.profile_book.specs.declared.fault.BookError.{BookError}
-use Rattle.profile_book.specs.declared.fault.BookError.TheVariants as book
+use Rattle.profile_reader.specs.declared.fault.BookError.{BookError}
+use Rattle.profile_reader.specs.declared.fault.BookError.TheVariants as book
 use Rattle.coz_cli.specs.declared.fault.Fault.{Fault}
 use Rattle.coz_cli.specs.declared.fault.Fault.TheVariants.{Program, Lines, ManyPoints, ManyExperiments, Memory, Source, Profile}
 

@@ -9,9 +9,9 @@ use Rattle.dwarf_lines.specs.declared.LineFault.{LineFault}
 use Rattle.rv_asm.specs.declared.AsmKind.{AsmKind}
 use Rattle.rv_asm.specs.declared.AsmKind.TheVariants.{Lines, Byte, Token, Twice, Name, Section, Operand, Range, Much, Missing, Far, Empty}
 use Rattle.rv_asm.specs.declared.AsmFault.{AsmFault}
-use Rattle.profile_book.specs.declared.fault.BookField.{BookField}
-use Rattle.profile_book.specs.declared.fault.BookField.TheVariants as fields
-use Rattle.profile_book.specs.declared.fault.BookFault.{BookFault}
+use Rattle.profile_reader.specs.declared.fault.BookField.{BookField}
+use Rattle.profile_reader.specs.declared.fault.BookField.TheVariants as fields
+use Rattle.profile_reader.specs.declared.fault.BookFault.{BookFault}
 
 abbrev pub elf_kind_name : ElfKind → List ℕ
 elf_kind_name NotElf = codes "NotElf"

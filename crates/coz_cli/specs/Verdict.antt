@@ -24,9 +24,9 @@ use Rattle.line_index.specs.Lines.{Line}
 use Rattle.line_index.specs.Listed.{lines_in}
 use Rattle.experiment_plan.specs.declared.experiment.Experiment.{Experiment as Pair}
 use Rattle.profile_book.specs.Profile.{profile_text}
-use Rattle.profile_book.specs.Grammar.{book_fault}
-use Rattle.profile_book.specs.Told.{told}
-use Rattle.profile_book.specs.declared.fault.BookFault.{BookFault}
+use Rattle.profile_reader.specs.Grammar.{book_fault}
+use Rattle.profile_reader.specs.Told.{told}
+use Rattle.profile_reader.specs.declared.fault.BookFault.{BookFault}
 use Rattle.profile_book.specs.declared.profile.Profile.{Profile as Book}
 use Rattle.coz_cli.specs.Text.{run_text, really_text, lines_text, plot_text}
 use Rattle.coz_words.specs.Said.{Text}

@@ -6,7 +6,7 @@ ghost use Rattle.coz_cli.specs.Causes.{assembling_fault, loading_fault, planning
 use dwarf_lines::{LineError, LineFault};
 use elf_load::{ElfFault, LoadError};
 use experiment_plan::PlanError;
-use profile_book::{BookError, BookFault};
+use profile_reader::{BookError, BookFault};
 use progress_points::PointsError;
 use rv_asm::{AsmError, AsmFault};
 use std::alloc::AllocError;

@@ -11,7 +11,7 @@ use coz_files::{PutAnswer, Sink, put_next};
 use dwarf_lines::{LineFault, LineKind};
 use elf_load::{ElfFault, ElfKind};
 use itoa::Buffer;
-use profile_book::{BookFault, BookField};
+use profile_reader::{BookFault, BookField};
 use rv_asm::{AsmFault, AsmKind};
 
 fn status_of(fault: Fault) -> u8

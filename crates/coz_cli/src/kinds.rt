@@ -4,7 +4,7 @@ ghost use Rattle.coz_cli.specs.FaultLines.{elf_kind_name, line_kind_name, asm_ki
 
 use dwarf_lines::LineKind;
 use elf_load::ElfKind;
-use profile_book::BookField;
+use profile_reader::BookField;
 use rv_asm::AsmKind;
 
 pub fn elf_kind_name(kind: ElfKind) -> &'static [u8]

@@ -9,7 +9,7 @@ use crate::program::read_file;
 use causal_curves::curves;
 use coz_files::Files;
 use coz_words::Request;
-use profile_book::read_profile;
+use profile_reader::read_profile;
 use std::alloc::Global;
 
 /// The most bytes of a profile.

@@ -1,7 +1,7 @@
 //! Tests of `causal_curves`.
 use causal_curves::{curves, write_curves};
 use coz_files::{MemorySink, PutAnswer};
-use profile_book::read_profile;
+use profile_reader::read_profile;
 use std::test::Fail;
 
 // Two points and four lines: visits that fail at the second point, a time that falls by less than a ten thousandth, no run

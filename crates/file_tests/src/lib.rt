@@ -18,6 +18,6 @@ mod line_index_tests;
 #[cfg(test)]
 mod line_names_tests;
 #[cfg(test)]
-mod profile_book_tests;
+mod profile_reader_tests;
 #[cfg(test)]
 mod progress_points_tests;

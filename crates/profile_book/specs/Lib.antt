@@ -1,10 +1,1 @@
 pub mod Profile
-pub mod Items
-pub mod EndingSpellings
-pub mod Grammar
-pub mod Judging
-pub mod Reading
-pub mod Told
-pub mod Standing
-pub mod Scanning
-pub mod Parts

@@ -1,0 +1,94 @@
+//! Tests of `profile_reader`.
+use profile_reader::BookField::*;
+use profile_reader::{BookError, BookFault, BookField, read_profile};
+use std::alloc::{AllocError, Global};
+use std::test::Fail;
+
+/// A place in the text, how many bytes go there, and the bytes that come in their place.
+type Change = (usize, usize, &'static [u8]);
+
+// Two experiments and no point, in 558 bytes.
+const GOOD: &[u8] = b"coz-ticks\tversion=1\tbudget=100000000\tpoints=0\n\
+experiment\tselected=one.s:1\tspeedup=0\tend=exited:0\ttime=4200\tdelay=0\tretired=3\tstarts=1\n\
+output\tlength=0\tsha256=e3b0c44298fc1c149afbf4c8996fb92427ae41e4649b934ca495991b7852b855\n\
+visits\tsha256=e3b0c44298fc1c149afbf4c8996fb92427ae41e4649b934ca495991b7852b855\n\
+experiment\tselected=one.s:1\tspeedup=50\tend=exited:0\ttime=4200\tdelay=50\tretired=3\tstarts=1\n\
+output\tlength=0\tsha256=e3b0c44298fc1c149afbf4c8996fb92427ae41e4649b934ca495991b7852b855\n\
+visits\tsha256=e3b0c44298fc1c149afbf4c8996fb92427ae41e4649b934ca495991b7852b855\n";
+
+const COUNT: &[u8] = b"throughput-point\tindex=0\tdelta=7\n";
+
+// Changes, and the kind and place of the first fault.
+static ROWS: [(&[Change], Option<(BookField, u64)>); 23] = [
+    (&[], None),
+    (
+        &[
+            (36, 10, b"\tpoints=1\npoint\tindex=0\tname=a%2Cb:2\n"),
+            (83, 13, b"\tend=trapped:break:3:0x10af"),
+            (222, 0, COUNT),
+            (479, 0, COUNT),
+        ],
+        None,
+    ),
+    (&[(0, 558, b"")], Some((Head, 0))),
+    (&[(9, 549, b"")], Some((Version, 9))),
+    (&[(10, 548, b"")], Some((Version, 9))),
+    (&[(45, 513, b"")], Some((Newline, 45))),
+    (&[(46, 512, b"")], None),
+    (&[(60, 498, b"")], Some((Selected, 56))),
+    (&[(72, 1, b"0")], Some((Selected, 56))),
+    (&[(19, 17, b"\tbudget=0100000000")], Some((Budget, 19))),
+    (&[(36, 9, b"\tpoints=65")], Some((Points, 36))),
+    (&[(36, 9, b"\tpoints=1")], Some((Point, 46))),
+    (&[(73, 10, b"\tspeedup=00")], Some((Speedup, 73))),
+    (&[(83, 13, b"\tend=exited:256")], Some((End, 83))),
+    (&[(96, 10, b"\ttime=04200")], Some((Time, 96))),
+    (&[(106, 8, b"\tdelay=4201")], Some((Delay, 106))),
+    (&[(157, 1, b"E")], Some((Digest, 149))),
+    (&[(222, 6, b"visits ")], Some((Visits, 222))),
+    // The two experiments in the other order.
+    (
+        &[
+            (82, 1, b"50"),
+            (113, 1, b"50"),
+            (337, 2, b"0"),
+            (369, 2, b"0"),
+        ],
+        Some((Speedup, 330)),
+    ),
+    (&[(57, 16, b"selected=one.s:2")], Some((Selected, 311))),
+    (&[(558, 0, b"x")], Some((Experiment, 558))),
+    (&[(56, 17, b"\tselected=one%2es:1")], Some((Selected, 56))),
+    (&[(557, 1, b"")], Some((Newline, 557))),
+];
+
+/// The good text with these changes.
+fn changed(alloc: Global, changes: &[Change]) -> Result<Vec<u8>, AllocError> {
+    let mut text = Vec::new(alloc);
+    let mut at = 0;
+    for &(place, length, put) in changes {
+        text.extend_from_slice(GOOD.get(at..place).unwrap_or(&[]))?;
+        text.extend_from_slice(put)?;
+        at = place.saturating_add(length);
+    }
+    text.extend_from_slice(GOOD.get(at..).unwrap_or(&[]))?;
+    Ok(text)
+}
+
+fn fault_of(alloc: Global, text: &[u8]) -> Result<Option<BookFault>, AllocError> {
+    match read_profile(alloc, text) {
+        Ok(_) => Ok(None),
+        Err(BookError::Fault(fault)) => Ok(Some(fault)),
+        Err(BookError::Memory) => Err(AllocError),
+    }
+}
+
+#[test]
+fn the_first_fault_is_told(rt: HostRuntime) -> Result<(), Fail> {
+    for &(changes, wanted) in &ROWS {
+        let text = changed(rt.alloc(), changes)?;
+        let fault = wanted.map(|(field, place)| BookFault { field, place });
+        assert_eq!(rt; fault_of(rt.alloc(), &text)?, fault);
+    }
+    Ok(())
+}

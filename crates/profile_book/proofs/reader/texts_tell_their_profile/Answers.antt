@@ -1,5 +1,0 @@
-use Rattle.profile_book.proofs.Only.{told_is}
-use Rattle.profile_book.proofs.reader.texts_tell_their_profile.Goals as goal
-
-pub returns : goal.returns
-returns c = told_is

@@ -1,0 +1,84 @@
+-- Loops over a path, a label and the digits of a digest.
+use Rattle.std.proofs.Common.{rules, ◌≡◌, ℕ, zero, suc, ◌+◌, ◌*◌, ◌<◌, ◌≤◌, Bool, true, false, ◌==◌, List, [], ◌∷◌, ◌++◌, length, take, drop, get_or, Option, Some, None, refl, sym, ap, ◌∙◌, arith, add-one, drop-cons, if◌then◌else◌}
+use Rattle.std.specs.List.{list_all}
+use Rattle.std.proofs.lemmas.List.{take_more_set}
+use Rattle.std.proofs.Math.ListN.{set}
+use Rattle.coz_types.specs.Labels.{Text, Scan, scans, step, parts_of}
+use Rattle.profile_reader.specs.Grammar.{is_lower_hex, is_digest}
+use Rattle.profile_reader.specs.Reading.{bytes_in, lower_value}
+use Rattle.profile_reader.proofs.FieldSteps.{both}
+
+-- ---- the scan of a path
+
+pub scan_on : (at : Scan) (path : Text) (i : ℕ) → i < length path → scans (Some at) (drop i path) ≡ scans (step at (get_or path i 0)) (drop (i + 1) path)
+scan_on at path i lt = rw (add-one, drop-cons path i 0) refl
+
+pub nothing_left : (text : Text) (i : ℕ) → length text ≤ i → drop i text ≡ []
+nothing_left [] zero le = refl
+nothing_left [] (suc i) le = refl
+nothing_left (b ∷ rest) zero le = absurd (omega arith)
+nothing_left (b ∷ rest) (suc i) le = nothing_left rest i (omega arith)
+
+-- ---- the last colon
+
+pub parts_at : (i : ℕ) (label : Text) → i < length label → get_or label i 0 ≡ 58 → parts_of (drop (suc i) label) ≡ None → parts_of label ≡ Some (take i label, drop (suc i) label)
+parts_at i [] lt is none = absurd (omega arith)
+parts_at zero (b ∷ rest) lt is none = by (parts_of rest) none
+  where
+    by : (p : Option (Text × Text)) → p ≡ None → elim p as (λ _. Option (Text × Text)) [ Some p ↦ Some (b ∷ p.0, p.1) | None ↦ if b == 58 then Some ([], rest) else None ] ≡ Some ([], rest)
+    by None e = rw is refl
+    by (Some p) e = absurd cc
+parts_at (suc i) (b ∷ rest) lt is none = ap (λ (p : Option (Text × Text)). elim p as (λ _. Option (Text × Text)) [ Some p ↦ Some (b ∷ p.0, p.1) | None ↦ if b == 58 then Some ([], rest) else None ]) (parts_at i rest (omega arith) is none)
+
+pub no_parts : (i : ℕ) (label : Text) → i < length label → (get_or label i 0 ≡ 58 → ⊥) → parts_of (drop (suc i) label) ≡ None → parts_of (drop i label) ≡ None
+no_parts i [] lt is none = absurd (omega arith)
+no_parts zero (b ∷ rest) lt is none = by (parts_of rest) (b == 58) refl none
+  where
+    by : (p : Option (Text × Text)) (c : Bool) → (b == 58) ≡ c → p ≡ None → elim p as (λ _. Option (Text × Text)) [ Some p ↦ Some (b ∷ p.0, p.1) | None ↦ if c then Some ([], rest) else None ] ≡ None
+    by p true d e = absurd (is (search (rules, d)))
+    by None false d e = refl
+    by (Some p) false d e = absurd cc
+no_parts (suc i) (b ∷ rest) lt is none = no_parts i rest (omega arith) is none
+
+-- ---- digits
+
+pub all_at : (p : ℕ → Bool) (xs : List ℕ) (i : ℕ) → list_all p xs ≡ true → i < length xs → p (get_or xs i 0) ≡ true
+all_at p [] i all lt = absurd (omega arith)
+all_at p (x ∷ xs) zero all lt = (both (p x) (list_all p xs) all).0
+all_at p (x ∷ xs) (suc i) all lt = all_at p xs i (both (p x) (list_all p xs) all).1 (omega arith)
+
+pub digest_long : (text : Text) → is_digest text ≡ true → length text ≡ 64
+digest_long text e = let h = (both (length text == 64) (list_all is_lower_hex text) e).0 in search (rules, h)
+
+pub digest_digit : (text : Text) (i : ℕ) → is_digest text ≡ true → i < 64 → is_lower_hex (get_or text i 0) ≡ true
+digest_digit text i e lt =
+    let long = digest_long text e in
+    all_at is_lower_hex text i (both (length text == 64) (list_all is_lower_hex text) e).1 (omega arith)
+
+abbrev pub byte_at : Text → ℕ → ℕ
+byte_at text k = 16 * lower_value (get_or text (2 * k) 0) + lower_value (get_or text (suc (2 * k)) 0)
+
+pub bytes_more : (k : ℕ) (text : Text) → 2 * k + 1 < length text → bytes_in (take (2 * (k + 1)) text) ≡ bytes_in (take (2 * k) text) ++ byte_at text k ∷ []
+bytes_more k [] lt = absurd (omega arith)
+bytes_more k (h ∷ []) lt = absurd (omega arith)
+bytes_more zero (h ∷ l ∷ rest) lt = refl
+bytes_more (suc k) (h ∷ l ∷ rest) lt =
+    let a : 2 * (suc k + 1) ≡ suc (suc (2 * (k + 1))) = omega arith in
+    let b : 2 * suc k ≡ suc (suc (2 * k)) = omega arith in
+    ap (λ (n : ℕ). bytes_in (take n (h ∷ l ∷ rest))) a
+    ∙ ap (λ (t : List ℕ). (16 * lower_value h + lower_value l) ∷ t) (bytes_more k rest (omega arith))
+    ∙ ap (λ (n : ℕ). bytes_in (take n (h ∷ l ∷ rest)) ++ (16 * lower_value (get_or (h ∷ l ∷ rest) n 0) + lower_value (get_or (h ∷ l ∷ rest) (suc n) 0)) ∷ []) (sym b)
+
+pub digest_more : (bytes text : List ℕ) (i high low : ℕ) → i < 32 → length bytes ≡ 32 → length text ≡ 64 → take i bytes ≡ bytes_in (take (2 * i) text) → high ≡ lower_value (get_or text (2 * i) 0) → low ≡ lower_value (get_or text (2 * i + 1) 0)
+    → take (i + 1) (set bytes i (16 * high + low)) ≡ bytes_in (take (2 * (i + 1)) text)
+digest_more bytes text i high low lt long whole so h l =
+    take_more_set bytes i (16 * high + low) (omega arith)
+    ∙ ap (λ (t : List ℕ). t ++ (16 * high + low) ∷ []) so
+    ∙ ap (λ (n : ℕ). bytes_in (take (2 * i) text) ++ (16 * n + low) ∷ []) h
+    ∙ ap (λ (n : ℕ). bytes_in (take (2 * i) text) ++ (16 * lower_value (get_or text (2 * i) 0) + n) ∷ []) (l ∙ ap (λ (n : ℕ). lower_value (get_or text n 0)) (add-one (2 * i)))
+    ∙ sym (bytes_more i text (omega arith))
+
+pub last_at : (j i : ℕ) (label : Text) → i ≡ j + 1 → j < length label → get_or label j 0 ≡ 58 → parts_of (drop i label) ≡ None → (j < length label) × (parts_of label ≡ Some (take j label, drop (j + 1) label))
+last_at j i label e lt is none =
+    let same : i ≡ suc j = omega arith in
+    (lt, parts_at j label lt is (ap (λ (n : ℕ). parts_of (drop n label)) (sym same) ∙ none) ∙ ap (λ (n : ℕ). let p : Option (Text × Text) = Some (take j label, drop n label) in p) (sym (add-one j)))

@@ -1,0 +1,22 @@
+//! The grammar of a profile's text, its first fault, and its reader.
+#![tactic(auto)]
+
+mod cursor;
+mod digests;
+mod endings;
+mod fault;
+mod fields;
+mod item;
+mod labels;
+mod lines;
+mod loops;
+mod moves;
+mod numbers;
+mod orders;
+mod reader;
+mod values;
+
+pub use fault::{BookError, BookFault, BookField};
+pub use reader::{
+    labels_rise_or_fall, read_profile, texts_have_no_fault, texts_tell_their_profile,
+};

@@ -1,0 +1,116 @@
+//! The lines of a profile's text.
+ghost use Rattle.std.specs.Prelude.{◌≡◌, option_copied};
+ghost use Rattle.profile_reader.specs.Reading.{Gives, head_at, name_at, count_at, outcome_at, selection_at, output_at, visits_at};
+ghost use Rattle.profile_reader.specs.Standing.{ahead};
+
+use crate::cursor::Cursor;
+use crate::fault::{BookError, BookField};
+use crate::fields::{digest, ending, index, name, number, selected, speedup, word};
+use coz_types::{Digest, Label, Outcome, Summary};
+
+/// Times, and numbers of instructions, of starts and of bytes, are at most that.
+const MOST: u64 = 100_000_000_000_000_000;
+
+const MOST_POINTS: u64 = 64;
+
+const MOST_VISITS: u64 = 1_000_000_000;
+
+/// The budget and the number of points.
+#[tactic(auto, unfolding(crate::specs::Reading::head_at, crate::specs::Reading::bind))]
+pub fn head<'a>(at: Cursor<'a>) -> Result<((u64, u64), Cursor<'a>), BookError>
+    ensures { Gives (λ x. (x.0, ahead x.1)) result (head_at (ahead at.entry)) }
+{
+    let at = word(at, BookField::Head, b"coz-ticks")?;
+    let at = word(at, BookField::Version, b"\tversion=1")?;
+    let (budget, at) = number(at, BookField::Budget, MOST)?;
+    let (points, at) = number(at, BookField::Points, MOST_POINTS)?;
+    let at = word(at, BookField::Newline, b"\n")?;
+    Ok(((budget, points), at))
+}
+
+/// The name of the point with this index, after the last one.
+#[tactic(auto, unfolding(crate::specs::Reading::name_at, crate::specs::Reading::bind))]
+pub fn name_line<'a>(
+    at: Cursor<'a>,
+    number: u64,
+    last: Option<&Label>,
+) -> Result<(&'a [u8], Cursor<'a>), BookError>
+    ensures { Gives (λ x. (x.0.now, ahead x.1)) result (name_at number (option_copied last.entry) (ahead at.entry)) }
+{
+    let at = word(at, BookField::Point, b"point")?;
+    let at = index(at, number)?;
+    let (label, at) = name(at, last)?;
+    let at = word(at, BookField::Newline, b"\n")?;
+    Ok((label, at))
+}
+
+/// How often the point with this index was visited.
+#[tactic(auto, unfolding(crate::specs::Reading::count_at, crate::specs::Reading::bind))]
+pub fn count_line<'a>(at: Cursor<'a>, place: u64) -> Result<(u64, Cursor<'a>), BookError>
+    ensures { Gives (λ x. (x.0, ahead x.1)) result (count_at place (ahead at.entry)) }
+{
+    let at = word(at, BookField::Throughput, b"throughput-point")?;
+    let at = index(at, place)?;
+    let (count, at) = number(at, BookField::Delta, MOST_VISITS)?;
+    let at = word(at, BookField::Newline, b"\n")?;
+    Ok((count, at))
+}
+
+/// How a run came out.
+#[tactic(auto, unfolding(crate::specs::Reading::outcome_at, crate::specs::Reading::bind))]
+pub fn outcome<'a>(at: Cursor<'a>) -> Result<(Outcome, Cursor<'a>), BookError>
+    ensures { Gives (λ x. (x.0, ahead x.1)) result (outcome_at (ahead at.entry)) }
+{
+    let (ending, at) = ending(at)?;
+    let (time, at) = number(at, BookField::Time, MOST)?;
+    let (delay, at) = number(at, BookField::Delay, time)?;
+    let (retired, at) = number(at, BookField::Retired, MOST)?;
+    let (starts, at) = number(at, BookField::Starts, MOST)?;
+    let at = word(at, BookField::Newline, b"\n")?;
+    let outcome = Outcome {
+        ending,
+        time,
+        delay,
+        retired,
+        starts,
+    };
+    Ok((outcome, at))
+}
+
+/// The selected line's label and the speedup, after the last block.
+#[tactic(auto, unfolding(crate::specs::Reading::selection_at, crate::specs::Reading::bind))]
+pub fn selection<'a>(
+    at: Cursor<'a>,
+    last: Option<&Summary>,
+) -> Result<((&'a [u8], u8), Cursor<'a>), BookError>
+    ensures { Gives (λ x. ((x.0.0.now, x.0.1), ahead x.1)) result
+        (selection_at (option_copied last.entry) (ahead at.entry)) }
+{
+    let at = word(at, BookField::Experiment, b"experiment")?;
+    let (label, at) = selected(at, last)?;
+    let (speedup, at) = speedup(at, last, label)?;
+    Ok(((label, speedup), at))
+}
+
+/// The output's length and digest.
+#[tactic(auto, unfolding(crate::specs::Reading::output_at, crate::specs::Reading::bind))]
+pub fn output<'a>(at: Cursor<'a>) -> Result<((u64, Digest), Cursor<'a>), BookError>
+    ensures { Gives (λ x. ((x.0.0, x.0.1.bytes), ahead x.1)) result (output_at (ahead at.entry)) }
+{
+    let at = word(at, BookField::Output, b"output")?;
+    let (length, at) = number(at, BookField::Length, MOST)?;
+    let (digest, at) = digest(at)?;
+    let at = word(at, BookField::Newline, b"\n")?;
+    Ok(((length, digest), at))
+}
+
+/// The digest of the visits.
+#[tactic(auto, unfolding(crate::specs::Reading::visits_at, crate::specs::Reading::bind))]
+pub fn visits<'a>(at: Cursor<'a>) -> Result<(Digest, Cursor<'a>), BookError>
+    ensures { Gives (λ x. (x.0.bytes, ahead x.1)) result (visits_at (ahead at.entry)) }
+{
+    let at = word(at, BookField::Visits, b"visits")?;
+    let (digest, at) = digest(at)?;
+    let at = word(at, BookField::Newline, b"\n")?;
+    Ok((digest, at))
+}

@@ -1,0 +1,99 @@
+//! The lines of a profile's text that come several times.
+ghost use Rattle.std.specs.Prelude.{◌≡◌, None, option_copied};
+ghost use Rattle.profile_reader.specs.Reading.{Gives, counts_at, names_at, block_at, blocks_at};
+ghost use Rattle.profile_reader.specs.Standing.{ahead};
+
+use crate::cursor::Cursor;
+use crate::fault::BookError;
+use crate::lines::{count_line, name_line, outcome, output, selection, visits};
+use crate::moves::is_done;
+use coz_lists::Items;
+use coz_types::{Label, Summary};
+use std::alloc::Global;
+
+/// How often each point was visited, by point.
+pub fn counts<'a>(
+    alloc: Global,
+    all: u64,
+    at: Cursor<'a>,
+) -> Result<(Vec<u64>, Cursor<'a>), BookError>
+    ensures { Gives (λ x. (x.0.items, ahead x.1)) result (counts_at all 0 (ahead at.entry)) }
+{
+    let mut counts = Vec::new(alloc);
+    let mut rest = at;
+    for place in 0..all {
+        let (count, next) = count_line(rest, place)?;
+        counts.push(count)?;
+        rest = next;
+    }
+    Ok((counts, rest))
+}
+
+/// The names of the points.
+pub fn names<'a>(
+    alloc: Global,
+    all: u64,
+    at: Cursor<'a>,
+) -> Result<(Vec<Label>, Cursor<'a>), BookError>
+    ensures { Gives (λ x. (x.0.items, ahead x.1)) result (names_at all 0 None (ahead at.entry)) }
+{
+    let mut names: Vec<Label> = Vec::new(alloc);
+    let mut rest = at;
+    for place in 0..all {
+        let (name, next) = name_line(rest, place, names.last())?;
+        names.push(Label::copy(alloc, name)?)?;
+        rest = next;
+    }
+    Ok((names, rest))
+}
+
+/// A block, after the last one.
+#[tactic(auto, unfolding(crate::specs::Reading::block_at, crate::specs::Reading::bind))]
+pub fn block<'a>(
+    alloc: Global,
+    points: u64,
+    at: Cursor<'a>,
+    last: Option<&Summary>,
+) -> Result<(Summary, Cursor<'a>), BookError>
+    ensures { Gives (λ x. (x.0, ahead x.1)) result (block_at points (option_copied last.entry) (ahead at.entry)) }
+{
+    let ((label, speedup), at) = selection(at, last)?;
+    let (outcome, at) = outcome(at)?;
+    let ((length, output), at) = output(at)?;
+    let (counts, at) = counts(alloc, points, at)?;
+    let (visits, at) = visits(at)?;
+    let selected = Label::copy(alloc, label)?;
+    let counts = Items::new(counts);
+    let summary = Summary {
+        selected,
+        speedup,
+        outcome,
+        length,
+        output,
+        counts,
+        visits,
+    };
+    Ok((summary, at))
+}
+
+/// The blocks up to the end of the text, of which there are at most so many.
+pub fn blocks(
+    alloc: Global,
+    most: usize,
+    points: u64,
+    at: Cursor<'_>,
+) -> Result<Vec<Summary>, BookError>
+    ensures { Gives (λ blocks. blocks.items) result (blocks_at most points None (ahead at.entry)) }
+{
+    let mut summaries: Vec<Summary> = Vec::new(alloc);
+    let mut rest = at;
+    for turn in 0..most {
+        if is_done(rest) {
+            return Ok(summaries);
+        }
+        let (summary, next) = block(alloc, points, rest, summaries.last())?;
+        summaries.push(summary)?;
+        rest = next;
+    }
+    Ok(summaries)
+}
