@@ -7,24 +7,17 @@ ghost use Rattle.guest_calls.specs.Calls as calls;
 ghost use Rattle.guest_calls.specs.Calls.{retirement, number, argument, replied, answered, with_filled, call_of};
 ghost use Rattle.guest_calls.specs.Retire.{next_of};
 
+use crate::linux::{
+    A0, A7, EBADF, EFAULT, EINVAL, ENOMEM, ENOTTY, ESPIPE, MAP_ANONYMOUS, MAP_FIXED, MAP_PRIVATE,
+    MAP_SHARED, SYS_BRK, SYS_CLONE, SYS_EXIT, SYS_EXIT_GROUP, SYS_FUTEX, SYS_GETPID, SYS_GETTID,
+    SYS_IOCTL, SYS_LSEEK, SYS_MADVISE, SYS_MMAP, SYS_MPROTECT, SYS_MREMAP, SYS_MUNMAP, SYS_READ,
+    SYS_READV, SYS_RT_SIGPROCMASK, SYS_SCHED_YIELD, SYS_SET_TID_ADDRESS, SYS_WRITE, SYS_WRITEV,
+};
 use crate::pieces::{PIECES, Piece, are_readable, are_writable, pieces_at};
 use crate::{Fate, Guest};
 use coz_types::{Address, Ending, HartId, Tick};
 use guest_futex::HartList;
 use guest_memory::Access;
-
-// The errors of Linux's calls.
-const BAD_FILE: i64 = -9;
-
-const NO_MEMORY: i64 = -12;
-
-pub(crate) const BAD_ADDRESS: i64 = -14;
-
-pub(crate) const INVALID: i64 = -22;
-
-const NO_TERMINAL: i64 = -25;
-
-const NO_SEEK: i64 = -29;
 
 fn is_stream(file: u64) -> bool
     ensures { result ≡ calls.is_stream file }
@@ -49,7 +42,9 @@ fn is_mapping(flags: u64) -> bool
     ensures { result ≡ calls.is_mapping flags }
 {
     let kind = flags % 4;
-    flags / 0x20 % 2 == 1 && flags / 0x10 % 2 != 1 && (kind == 1 || kind == 2)
+    flags / MAP_ANONYMOUS % 2 == 1
+        && flags / MAP_FIXED % 2 != 1
+        && (kind == MAP_SHARED || kind == MAP_PRIVATE)
 }
 
 impl<'a> Guest<'a> {
@@ -72,27 +67,27 @@ impl<'a> Guest<'a> {
         ensures { retirement self.new result started.new ≡ call_of self.old hart.0 net }
     {
         match self.number(hart) {
-            29 => self.ioctl(hart),
-            62 => self.lseek(hart),
-            63 => self.read(hart),
-            64 => self.write(hart),
-            65 => self.readv(hart),
-            66 => self.writev(hart),
-            93 => self.exit(hart, started),
-            94 => self.exit_group(hart),
-            96 => self.set_tid_address(hart),
-            98 => self.futex(hart, started),
-            124 => self.sched_yield(hart),
-            135 => self.rt_sigprocmask(hart),
-            172 => self.getpid(hart),
-            178 => self.gettid(hart),
-            214 => self.brk(hart),
-            215 => self.munmap(hart),
-            216 => self.mremap(hart),
-            220 => self.clone(hart, started),
-            222 => self.mmap(hart),
-            226 => self.mprotect(hart),
-            233 => self.madvise(hart),
+            SYS_IOCTL => self.ioctl(hart),
+            SYS_LSEEK => self.lseek(hart),
+            SYS_READ => self.read(hart),
+            SYS_WRITE => self.write(hart),
+            SYS_READV => self.readv(hart),
+            SYS_WRITEV => self.writev(hart),
+            SYS_EXIT => self.exit(hart, started),
+            SYS_EXIT_GROUP => self.exit_group(hart),
+            SYS_SET_TID_ADDRESS => self.set_tid_address(hart),
+            SYS_FUTEX => self.futex(hart, started),
+            SYS_SCHED_YIELD => self.sched_yield(hart),
+            SYS_RT_SIGPROCMASK => self.rt_sigprocmask(hart),
+            SYS_GETPID => self.getpid(hart),
+            SYS_GETTID => self.gettid(hart),
+            SYS_BRK => self.brk(hart),
+            SYS_MUNMAP => self.munmap(hart),
+            SYS_MREMAP => self.mremap(hart),
+            SYS_CLONE => self.clone(hart, started),
+            SYS_MMAP => self.mmap(hart),
+            SYS_MPROTECT => self.mprotect(hart),
+            SYS_MADVISE => self.madvise(hart),
             _ => self.unsupported(hart),
         }
     }
@@ -101,7 +96,7 @@ impl<'a> Guest<'a> {
         requires { IsMade self.now hart.0 }
         ensures { result ≡ number self.now hart.0 }
     {
-        self.hart(hart).state.registers[17]
+        self.hart(hart).state.registers[A7]
     }
 
     pub(crate) fn argument(&self, hart: HartId, index: usize) -> u64
@@ -109,7 +104,7 @@ impl<'a> Guest<'a> {
         requires index { index < 6 }
         ensures { result ≡ argument self.now hart.0 index }
     {
-        self.hart(hart).state.registers[10 + index]
+        self.hart(hart).state.registers[A0 + index]
     }
 
     /// The hart has these 64 bits as the answer, and goes on.
@@ -161,9 +156,9 @@ impl<'a> Guest<'a> {
         ensures { retirement self.new result [] ≡ calls.ioctl self.old hart.0 }
     {
         if is_stream(self.argument(hart, 0)) {
-            self.answer(hart, NO_TERMINAL)
+            self.answer(hart, -ENOTTY)
         } else {
-            self.answer(hart, BAD_FILE)
+            self.answer(hart, -EBADF)
         }
     }
 
@@ -174,9 +169,9 @@ impl<'a> Guest<'a> {
         ensures { retirement self.new result [] ≡ calls.lseek self.old hart.0 }
     {
         if is_stream(self.argument(hart, 0)) {
-            self.answer(hart, NO_SEEK)
+            self.answer(hart, -ESPIPE)
         } else {
-            self.answer(hart, BAD_FILE)
+            self.answer(hart, -EBADF)
         }
     }
 
@@ -246,11 +241,11 @@ impl<'a> Guest<'a> {
         let address = self.argument(hart, 1);
         let count = self.argument(hart, 2).min(self.input.len() as u64);
         if !is_input(self.argument(hart, 0)) {
-            return self.answer(hart, BAD_FILE);
+            return self.answer(hart, -EBADF);
         }
         match self.fill(address, count) {
             Ok(()) => self.answer_count(hart, count),
-            Err(_) => self.answer(hart, BAD_ADDRESS),
+            Err(_) => self.answer(hart, -EFAULT),
         }
     }
 
@@ -263,10 +258,10 @@ impl<'a> Guest<'a> {
         let address = self.argument(hart, 1);
         let count = self.argument(hart, 2);
         if !is_output(self.argument(hart, 0)) {
-            return self.answer(hart, BAD_FILE);
+            return self.answer(hart, -EBADF);
         }
         if !self.memory.readable(address, count) {
-            return self.answer(hart, BAD_ADDRESS);
+            return self.answer(hart, -EFAULT);
         }
         self.output.append(&self.memory, address, count);
         self.answer_count(hart, count)
@@ -282,13 +277,13 @@ impl<'a> Guest<'a> {
         let address = self.argument(hart, 1);
         let count = self.argument(hart, 2);
         if !is_input(self.argument(hart, 0)) {
-            return self.answer(hart, BAD_FILE);
+            return self.answer(hart, -EBADF);
         }
         if count > PIECES as u64 {
-            return self.answer(hart, INVALID);
+            return self.answer(hart, -EINVAL);
         }
         if !self.memory.readable(address, 16 * count) {
-            return self.answer(hart, BAD_ADDRESS);
+            return self.answer(hart, -EFAULT);
         }
         let pieces = pieces_at(&self.memory, address, count);
         self.read_pieces(hart, pieces.as_slice())
@@ -300,7 +295,7 @@ impl<'a> Guest<'a> {
         ensures { retirement self.new result [] ≡ calls.read_pieces self.old hart.0 pieces.now }
     {
         if !are_writable(&self.memory, pieces, self.input.len() as u64) {
-            return self.answer(hart, BAD_ADDRESS);
+            return self.answer(hart, -EFAULT);
         }
         let count = self.fill_each(pieces);
         self.answer_count(hart, count)
@@ -339,13 +334,13 @@ impl<'a> Guest<'a> {
         let address = self.argument(hart, 1);
         let count = self.argument(hart, 2);
         if !is_output(self.argument(hart, 0)) {
-            return self.answer(hart, BAD_FILE);
+            return self.answer(hart, -EBADF);
         }
         if count > PIECES as u64 {
-            return self.answer(hart, INVALID);
+            return self.answer(hart, -EINVAL);
         }
         if !self.memory.readable(address, 16 * count) {
-            return self.answer(hart, BAD_ADDRESS);
+            return self.answer(hart, -EFAULT);
         }
         let pieces = pieces_at(&self.memory, address, count);
         self.write_pieces(hart, pieces.as_slice())
@@ -357,7 +352,7 @@ impl<'a> Guest<'a> {
         ensures { retirement self.new result [] ≡ calls.write_pieces self.old hart.0 pieces.now }
     {
         if !are_readable(&self.memory, pieces) {
-            return self.answer(hart, BAD_ADDRESS);
+            return self.answer(hart, -EFAULT);
         }
         let total = self.output.append_each(&self.memory, pieces);
         self.reply(hart, total)
@@ -371,14 +366,14 @@ impl<'a> Guest<'a> {
     {
         let old = self.argument(hart, 2);
         if self.argument(hart, 3) != 8 {
-            return self.answer(hart, INVALID);
+            return self.answer(hart, -EINVAL);
         }
         if old == 0 {
             return self.answer(hart, 0);
         }
         match self.store(old, &[0; 8]) {
             Ok(()) => self.answer(hart, 0),
-            Err(_) => self.answer(hart, BAD_ADDRESS),
+            Err(_) => self.answer(hart, -EFAULT),
         }
     }
 
@@ -441,7 +436,7 @@ impl<'a> Guest<'a> {
         requires { IsMade self.old hart.0 }
         ensures { retirement self.new result [] ≡ calls.mremap self.old hart.0 }
     {
-        self.answer(hart, NO_MEMORY)
+        self.answer(hart, -ENOMEM)
     }
 
     /// Linux: madvise(2).
@@ -450,7 +445,7 @@ impl<'a> Guest<'a> {
         requires { IsMade self.old hart.0 }
         ensures { retirement self.new result [] ≡ calls.madvise self.old hart.0 }
     {
-        self.answer(hart, INVALID)
+        self.answer(hart, -EINVAL)
     }
 }
 

@@ -4,6 +4,7 @@ ghost use Rattle.guest_calls.specs.declared.hart.HartStatus.TheVariants.{Waiting
 ghost use Rattle.guest_calls.specs.Answering.{after_call, with_result};
 ghost use Rattle.guest_calls.specs.Guest.{hart_from, is_gone_status};
 
+use crate::linux::{A0, SP};
 use coz_types::Address;
 use rv_execute::HartState;
 
@@ -30,7 +31,7 @@ impl Hart {
         ensures { result ≡ hart_from (record { registers = set (replicate 32 0) 2 stack_pointer; pc = entry }) 0 }
     {
         let mut registers = [0; 32];
-        registers[2] = stack_pointer;
+        registers[SP] = stack_pointer;
         Hart {
             state: HartState {
                 registers,
@@ -59,7 +60,7 @@ impl Hart {
         ensures { self.new ≡ record self.old { state = with_result value self.old.state } }
     {
         self.proceed();
-        self.state.registers[10] = value;
+        self.state.registers[A0] = value;
     }
 
     /// The hart waits, behind the call, whose answer is 0.

@@ -3,6 +3,7 @@
 
 mod calls;
 mod hart;
+mod linux;
 mod output;
 mod pieces;
 #[cfg(test)]

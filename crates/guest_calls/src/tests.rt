@@ -1,13 +1,14 @@
 //! Tests of system calls on harts whose registers they set.
-ghost use Rattle.std.specs.Prelude.{IsTrue};
-ghost use Rattle.guest_calls.specs.Guest.{is_running, IsMade};
+ghost use Rattle.std.specs.Prelude.{◌≡◌, IsTrue};
+ghost use Rattle.guest_calls.specs.Guest.{is_running, making, IsMade};
 
 use super::*;
 use coz_types::{Area, Rights};
 use std::process::Abort;
 use std::test::Fail;
 
-const FILE: [u8; 4] = [0x73, 0, 0, 0];
+/// `ecall`, `lr.w a0, (a1)` and `sc.w a0, a2, (a1)`.
+const FILE: [u8; 12] = [0x73, 0, 0, 0, 0x2F, 0xA5, 5, 0x10, 0x2F, 0xA5, 0xC5, 0x18];
 
 /// Three pairs, of 3 bytes on the stack, of 1 byte of the text, and of 1 byte at 0; and `hello`.
 const INPUT: [u8; 53] = [
@@ -16,6 +17,12 @@ const INPUT: [u8; 53] = [
 ];
 
 const TEXT: Address = 0x10000;
+
+const CALL: Address = TEXT;
+
+const LOAD: Address = TEXT + 4;
+
+const STORE: Address = TEXT + 8;
 
 const BRK: Address = 0x20_0000_0000;
 
@@ -33,15 +40,16 @@ const AREA: Area = Area {
     },
     vaddr: TEXT,
     offset: 0,
-    filled: 4,
+    filled: 12,
 };
 
-/// A hart stands before a call with these arguments.
-fn prepare(guest: &mut Guest, hart: HartId, number: u64, arguments: [u64; 5])
+/// A hart stands before an instruction, with the number of a call and these arguments.
+fn prepare(guest: &mut Guest, hart: HartId, pc: Address, number: u64, arguments: [u64; 5])
     requires { IsMade guest.old hart.0 }
+    ensures { making guest.new ≡ making guest.old }
 {
     let state = &mut guest.harts[hart.0 as usize].state;
-    state.pc = TEXT;
+    state.pc = pc;
     state.registers[17] = number;
     state.registers[10] = arguments[0];
     state.registers[11] = arguments[1];
@@ -58,19 +66,23 @@ impl<'a> Guest<'a> {
         place < self.harts.len() && matches!(self.harts[place].status, HartStatus::Running)
     }
 
-    /// What becomes of a hart as it makes a call, and its a0 then; `started` gets the harts that it makes or wakes.
+    /// What becomes of a hart as it retires an instruction, and its a0 then; `started` gets the harts that it makes or
+    /// wakes.
     fn ask_as(
         &mut self,
         hart: HartId,
+        pc: Address,
         number: u64,
         arguments: [u64; 5],
         started: &mut HartList,
-    ) -> Option<(Fate, i64)> {
+    ) -> Option<(Fate, i64)>
+        ensures { making self.new ≡ making self.old }
+    {
         started.clear();
         if hart.0 as usize >= self.harts.len() {
             return None;
         }
-        prepare(self, hart, number, arguments);
+        prepare(self, hart, pc, number, arguments);
         if !self.runs(hart) {
             return None;
         }
@@ -81,11 +93,12 @@ impl<'a> Guest<'a> {
 
     /// The same of the first hart.
     fn ask(&mut self, number: u64, [a0, a1, a2, a3]: [u64; 4]) -> Option<(Fate, i64)> {
-        self.ask_as(HartId(0), number, [a0, a1, a2, a3, 0], &mut HartList::new())
+        let arguments = [a0, a1, a2, a3, 0];
+        self.ask_as(HartId(0), CALL, number, arguments, &mut HartList::new())
     }
 }
 
-/// The image of one instruction, an ecall.
+/// The image of these three instructions.
 fn image(alloc: Global) -> Result<Image<'static>, AllocError> {
     Ok(Image::new(&FILE, vec![in alloc; AREA]?, TEXT, 0, 1))
 }
@@ -310,11 +323,13 @@ const EXITS: [Asked; 6] = [
     (3, 93, [0; 5], Fate::Leaves, 0, NONE),
 ];
 
-/// These harts make these calls one after the other.
-fn check_asked(rt: &impl Abort, guest: &mut Guest, rows: &[Asked]) {
+/// These harts retire the instruction at this address one after the other.
+fn check_asked(rt: &impl Abort, guest: &mut Guest, pc: Address, rows: &[Asked])
+    ensures { making guest.new ≡ making guest.old }
+{
     let mut started = HartList::new();
     for &(hart, number, arguments, fate, a0, harts) in rows {
-        let got = guest.ask_as(HartId(hart), number, arguments, &mut started);
+        let got = guest.ask_as(HartId(hart), pc, number, arguments, &mut started);
         assert_eq!(rt;
             (got, started.harts()),
             (Some((fate, a0)), harts),
@@ -327,14 +342,96 @@ fn check_asked(rt: &impl Abort, guest: &mut Guest, rows: &[Asked]) {
 fn threads_wait_and_are_woken(rt: HostRuntime) -> Result<(), Fail> {
     let image = image(rt.alloc())?;
     let mut guest = Guest::new(rt.alloc(), &image, &INPUT, 5, Layout::usual())?;
-    check_asked(&rt, &mut guest, &CLONES);
-    check_asked(&rt, &mut guest, &WAITS);
-    check_asked(&rt, &mut guest, &WAKES);
-    check_asked(&rt, &mut guest, &EXITS);
+    check_asked(&rt, &mut guest, CALL, &CLONES);
+    check_asked(&rt, &mut guest, CALL, &WAITS);
+    check_asked(&rt, &mut guest, CALL, &WAKES);
+    check_asked(&rt, &mut guest, CALL, &EXITS);
     for made in 4..256 {
         let got = guest.ask(220, [0x10F00, 0, 0, 0]);
         assert_eq!(rt; got, Some((Fate::Goes, made + 1)));
     }
     assert_eq!(rt; guest.ask(220, [0x10F00, 0, 0, 0]), Some((Fate::Goes, -11)));
+    Ok(())
+}
+
+/// The second hart waits, half of the input is read, three bytes of it are written, the break has moved, and pages are
+/// mapped.
+const BEGUN: [Asked; 6] = [
+    (0, 220, [0x10F00, 0, 0, 0, 0], Fate::Goes, 2, &[HartId(1)]),
+    (1, 98, [STACK, 0, 0, 0, 0], Fate::Waits, 0, NONE),
+    (0, 63, [0, STACK + 0x100, 24, 0, 0], Fate::Goes, 24, NONE),
+    (0, 64, [1, STACK + 0x100, 3, 0, 0], Fate::Goes, 3, NONE),
+    (
+        0,
+        214,
+        [BRK + 5000, 0, 0, 0, 0],
+        Fate::Goes,
+        0x20_0000_1388,
+        NONE,
+    ),
+    (
+        0,
+        222,
+        [0, 8192, 3, 0x22, 0],
+        Fate::Goes,
+        0x21_0000_0000,
+        NONE,
+    ),
+];
+
+/// The first hart reserves a word.
+const RESERVED: [Asked; 1] = [(0, 0, [0, STACK + 0x40, 7, 0, 0], Fate::Goes, 0, NONE)];
+
+/// Nothing of these is left as it was.
+const WENT_ON: [Asked; 6] = [
+    (0, 98, [STACK, 1, 1, 0, 0], Fate::Goes, 1, &[HartId(1)]),
+    (1, 220, [0x10F00, 0, 0, 0, 0], Fate::Goes, 3, &[HartId(2)]),
+    (0, 63, [0, STACK + 0x3E, 100, 0, 0], Fate::Goes, 29, NONE),
+    (2, 64, [1, STACK + 0x40, 1, 0, 0], Fate::Goes, 1, NONE),
+    (
+        0,
+        214,
+        [BRK + 9000, 0, 0, 0, 0],
+        Fate::Goes,
+        0x20_0000_2328,
+        NONE,
+    ),
+    (1, 215, [MAP, 4096, 0, 0, 0], Fate::Goes, 0, NONE),
+];
+
+/// What a guest answers that stands where the rows before leave it: the store finds the word reserved, and 0.
+const STORED: [Asked; 1] = [(0, 0, [9, STACK + 0x40, 7, 0, 0], Fate::Goes, 0, NONE)];
+
+const ANSWERED: [Asked; 7] = [
+    (0, 63, [0, STACK + 0x200, 100, 0, 0], Fate::Goes, 29, NONE),
+    (0, 64, [1, STACK + 0x200, 1, 0, 0], Fate::Goes, 1, NONE),
+    (0, 214, [0; 5], Fate::Goes, 0x20_0000_1388, NONE),
+    (0, 226, [MAP, 8192, 1, 0, 0], Fate::Goes, 0, NONE),
+    (0, 98, [STACK, 1, 1, 0, 0], Fate::Goes, 1, &[HartId(1)]),
+    (1, 178, [0; 5], Fate::Goes, 2, NONE),
+    (1, 220, [0x10F00, 0, 0, 0, 0], Fate::Goes, 3, &[HartId(2)]),
+];
+
+fn check_copy(rt: &impl Abort, guest: &mut Guest) {
+    check_asked(rt, guest, STORE, &STORED);
+    check_asked(rt, guest, CALL, &ANSWERED);
+    assert_eq!(rt; guest.output(), [0, 1, 0xFF, 1].as_slice());
+}
+
+#[test]
+fn a_copied_guest_answers_as_the_other(rt: HostRuntime) -> Result<(), Fail> {
+    let image = image(rt.alloc())?;
+    let mut guest = Guest::new(rt.alloc(), &image, &INPUT, 5, Layout::usual())?;
+    let mut fresh = Guest::new(rt.alloc(), &image, &INPUT, 5, Layout::usual())?;
+    let mut further = Guest::new(rt.alloc(), &image, &INPUT, 5, Layout::usual())?;
+    check_asked(&rt, &mut guest, CALL, &BEGUN);
+    check_asked(&rt, &mut further, CALL, &BEGUN);
+    check_asked(&rt, &mut further, CALL, &WENT_ON);
+    check_asked(&rt, &mut guest, LOAD, &RESERVED);
+    fresh.copy_from(&guest);
+    further.copy_from(&guest);
+    check_copy(&rt, &mut guest);
+    check_copy(&rt, &mut fresh);
+    check_copy(&rt, &mut further);
     Ok(())
 }

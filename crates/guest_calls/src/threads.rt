@@ -8,35 +8,30 @@ ghost use Rattle.guest_calls.specs.Guest.{IsMade, is_running, is_over, with_runn
 ghost use Rattle.guest_calls.specs.Calls as calls;
 ghost use Rattle.guest_calls.specs.Calls.{retirement, with_word, with_woken};
 
-use crate::calls::{BAD_ADDRESS, INVALID, thread_id};
+use crate::calls::thread_id;
 use crate::hart::Hart;
+use crate::linux::{
+    CLONE_CHILD_CLEARTID, CLONE_CHILD_SETTID, CLONE_DETACHED, CLONE_FILES, CLONE_FS,
+    CLONE_PARENT_SETTID, CLONE_SETTLS, CLONE_SIGHAND, CLONE_SYSVSEM, CLONE_THREAD, CLONE_VM,
+    CSIGNAL, EAGAIN, EFAULT, EINVAL, FUTEX_WAIT, FUTEX_WAIT_PRIVATE, FUTEX_WAKE,
+    FUTEX_WAKE_PRIVATE, SP, TP,
+};
 use crate::{Fate, Guest, HARTS, HartStatus};
 use coz_types::{Address, Ending, HartId};
 use guest_futex::HartList;
 
-const TRY_AGAIN: i64 = -11;
-
-// The flags of clone(2).
-const SET_TLS: u64 = 0x80000;
-
-const PARENT_SET_TID: u64 = 0x100000;
-
-const CHILD_CLEAR_TID: u64 = 0x200000;
-
-const CHILD_SET_TID: u64 = 0x1000000;
-
 /// A thread shares its memory, files and handlers with its parent.
-const REQUIRED_FLAGS: u64 = 0x10F00;
+const REQUIRED_FLAGS: u64 = CLONE_VM + CLONE_FS + CLONE_FILES + CLONE_SIGHAND + CLONE_THREAD;
 
-/// A signal in the low 8 bits, SYSVSEM and DETACHED change nothing.
-const ACCEPTED_FLAGS: u64 = 0xFF
+/// A signal, CLONE_SYSVSEM and CLONE_DETACHED change nothing.
+const ACCEPTED_FLAGS: u64 = CSIGNAL
     + REQUIRED_FLAGS
-    + 0x40000
-    + 0x400000
-    + SET_TLS
-    + PARENT_SET_TID
-    + CHILD_CLEAR_TID
-    + CHILD_SET_TID;
+    + CLONE_SYSVSEM
+    + CLONE_DETACHED
+    + CLONE_SETTLS
+    + CLONE_PARENT_SETTID
+    + CLONE_CHILD_CLEARTID
+    + CLONE_CHILD_SETTID;
 
 fn is_accepted(flags: u64) -> bool
     ensures { result ≡ calls.is_accepted flags }
@@ -145,8 +140,8 @@ impl<'a> Guest<'a> {
         ensures { retirement self.new result started.new ≡ calls.futex self.old hart.0 }
     {
         match self.argument(hart, 1) {
-            0 | 128 => self.wait(hart),
-            1 | 129 => self.wake(hart, started),
+            FUTEX_WAIT | FUTEX_WAIT_PRIVATE => self.wait(hart),
+            FUTEX_WAKE | FUTEX_WAKE_PRIVATE => self.wake(hart, started),
             _ => self.unsupported(hart),
         }
     }
@@ -163,11 +158,11 @@ impl<'a> Guest<'a> {
             return self.unsupported(hart);
         }
         if address % 4 != 0 {
-            return self.answer(hart, INVALID);
+            return self.answer(hart, -EINVAL);
         }
         match self.memory.load(address, 4) {
-            Err(_) => self.answer(hart, BAD_ADDRESS),
-            Ok(word) if word != expected => self.answer(hart, TRY_AGAIN),
+            Err(_) => self.answer(hart, -EFAULT),
+            Ok(word) if word != expected => self.answer(hart, -EAGAIN),
             Ok(_) => self.suspend(hart, address),
         }
     }
@@ -192,7 +187,7 @@ impl<'a> Guest<'a> {
         let address = self.argument(hart, 0);
         let count = wake_count(self.argument(hart, 2));
         if address % 4 != 0 {
-            return self.answer(hart, INVALID);
+            return self.answer(hart, -EINVAL);
         }
         self.rouse(address, count, started);
         self.answer_count(hart, started.harts().len() as u64)
@@ -219,7 +214,7 @@ impl<'a> Guest<'a> {
             return self.unsupported(hart);
         }
         if self.harts.len() >= HARTS {
-            return self.answer(hart, TRY_AGAIN);
+            return self.answer(hart, -EAGAIN);
         }
         let child = HartId(self.harts.len() as u16);
         self.make_child(hart, child);
@@ -240,10 +235,10 @@ impl<'a> Guest<'a> {
         let thread = child.0 as u32 + 1;
         let made = self.child_of(hart);
         self.add(made);
-        if has(flags, PARENT_SET_TID) {
+        if has(flags, CLONE_PARENT_SETTID) {
             self.store_word(parent_tid, thread);
         }
-        if has(flags, CHILD_SET_TID) {
+        if has(flags, CLONE_CHILD_SETTID) {
             self.store_word(child_tid, thread);
         }
     }
@@ -258,12 +253,12 @@ impl<'a> Guest<'a> {
         child.status = HartStatus::Running;
         child.answer(0);
         if self.argument(hart, 1) != 0 {
-            child.state.registers[2] = self.argument(hart, 1);
+            child.state.registers[SP] = self.argument(hart, 1);
         }
-        if has(flags, SET_TLS) {
-            child.state.registers[4] = self.argument(hart, 3);
+        if has(flags, CLONE_SETTLS) {
+            child.state.registers[TP] = self.argument(hart, 3);
         }
-        child.clear = if has(flags, CHILD_CLEAR_TID) {
+        child.clear = if has(flags, CLONE_CHILD_CLEARTID) {
             self.argument(hart, 4)
         } else {
             0
