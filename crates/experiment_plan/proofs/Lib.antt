@@ -5,3 +5,4 @@ pub mod Among
 pub mod Rising
 pub mod Naming
 pub mod Pairing
+pub mod Lines

@@ -48,10 +48,21 @@ module _ {X : Type 0} (f : X → ℕ) where
 pub rises : (ns : List ℕ) → IsStrictlySortedBy nat_cmp (rising ns)
 rises ns = in_order_sorted nat_cmp_total ns
 
+-- no number is lost
+pub to_rising : (n : ℕ) (ns : List ℕ) → Among n ns → Among n (rising ns)
+to_rising n ns m = to_in_order nat_cmp_total nat_cmp-IsAntisymmetric n ns m
+
+not_empty : (n : ℕ) (ns : List ℕ) → Among n ns → 0 < length ns
+not_empty n [] m = absurd m
+not_empty n (k ∷ ns) m = omega arith
+
+pub some_rise : (n : ℕ) (ns : List ℕ) → 0 < length (rising (n ∷ ns))
+some_rise n ns = not_empty n (rising (n ∷ ns)) (to_rising n (n ∷ ns) (inl refl))
+
 pub of_rising : (n : ℕ) (ns : List ℕ) → Among n (rising ns) → Among n ns
 of_rising n ns m = of_in_order nat_cmp_total n ns m
 
-less : (n m : ℕ) → nat_cmp n m ≡ Less → n < m
+pub less : (n m : ℕ) → nat_cmp n m ≡ Less → n < m
 less n m e = ranked n m Less (sym e)
 
 -- rising numbers from `low` on and below `most` are no more than these

@@ -1,3 +1,4 @@
 pub mod Lists
 pub mod Selected
 pub mod Pairs
+pub mod ByLine

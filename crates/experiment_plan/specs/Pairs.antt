@@ -2,11 +2,12 @@
 use Rattle.std.specs.Prelude.{◌≡◌, ℕ, ◌≤◌, ◌<◌, List, ◌∷◌, length, map, flat_map, All, Result, Ok, Err}
 use Rattle.std.specs.declared.cmp.Ordering.{Ordering}
 use Rattle.std.specs.Ordering.{nat_cmp, ordering_then}
+use Rattle.std.specs.List.Sorted.{IsStrictlySortedBy}
 use Rattle.coz_types.specs.declared.LineId.{LineId}
 use Rattle.experiment_plan.specs.declared.experiment.Experiment.{Experiment}
 use Rattle.experiment_plan.specs.declared.experiment.PlanError.{PlanError}
 use Rattle.experiment_plan.specs.declared.experiment.PlanError.TheVariants.{TooMany, Memory}
-use Rattle.experiment_plan.specs.Selected.{rising}
+use Rattle.experiment_plan.specs.Selected.{ids, rising}
 
 abbrev pub at_speedup : LineId → ℕ → Experiment
 at_speedup line speedup = record { line = line; speedup = speedup }
@@ -23,12 +24,14 @@ planned lines speedups = pairs_of lines (rising (0 ∷ speedups))
 abbrev pub pair_cmp : Experiment → Experiment → Ordering
 pair_cmp e f = ordering_then (nat_cmp e.line.0 f.line.0) (nat_cmp e.speedup f.speedup)
 
--- the pairs of a plan: of so many speedups a line, none above 95 per cent, and at most 100,000 pairs
+-- the pairs of a plan: lines that rise, each at so many speedups, none above 95 per cent, and at most 100,000 pairs
 pub record ArePlanned (count : ℕ) (pairs : List Experiment) : Type 0 where
   pub lines : List LineId
   pub speedups : List ℕ
+  pub rise : IsStrictlySortedBy nat_cmp (ids lines)
   pub all : pairs ≡ pairs_of lines speedups
   pub as_many : count ≡ length speedups
+  pub some : 0 < count
   pub slow : All (λ (pair : Experiment). pair.speedup ≤ 95) pairs
   pub few : length pairs ≤ 100000
 

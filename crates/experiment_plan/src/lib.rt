@@ -2,6 +2,7 @@
 //! program such a list selects; and the plan of the experiments on lines at speedups.
 #![tactic(auto)]
 
+mod by_line;
 mod experiment;
 mod line;
 mod number;

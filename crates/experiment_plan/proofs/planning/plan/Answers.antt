@@ -3,7 +3,7 @@ use Rattle.std.specs.List.Sorted.{IsStrictlySortedBy}
 use Rattle.experiment_plan.specs.declared.experiment.Experiment.{Experiment}
 use Rattle.experiment_plan.specs.Selected.{rising}
 use Rattle.experiment_plan.specs.Pairs.{pair_cmp, pairs_of}
-use Rattle.experiment_plan.proofs.Rising.{rises}
+use Rattle.experiment_plan.proofs.Rising.{rises, some_rise}
 use Rattle.experiment_plan.proofs.Pairing.{few_speedups, plan_of, plan_length, sorted_pairs, lines_below, speedups_few}
 use Rattle.experiment_plan.proofs.planning.plan.Goals as goal
 
@@ -32,7 +32,9 @@ invariant_of-result c =
       lines = c.args.lines.now;
       speedups = c.in_ok-speedups.speedups.items;
       all = c.in_ok-pairs.ensures ∙ ap (λ (ps : List ℕ). pairs_of c.args.lines.now ps) c.deref-2.ensures.value;
+      rise = c.requires.rising;
       as_many = search rules;
+      some = let some = some_rise 0 c.args.speedups.now in let same = ap length c.in_ok-speedups.ensures in search (rules, some, same);
       slow = subst (All (λ (pair : Experiment). pair.speedup ≤ 95)) (sym is) (speedups_few c.args.lines.now c.args.speedups.now c.requires.speedups);
       few = omega (arith, most, count, ap length is);
     }

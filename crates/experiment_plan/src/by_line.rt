@@ -1,0 +1,27 @@
+//! A plan, line by line.
+ghost use Rattle.std.specs.Prelude.{◌≡◌, ◌<◌, ◌≤◌, Some, length, slice_get, All};
+ghost use Rattle.experiment_plan.specs.declared.experiment.Experiment.{Experiment};
+ghost use Rattle.experiment_plan.specs.ByLine.{by_line, joined, IsOfOneLine};
+
+use crate::experiment::{Experiment, Plan};
+
+impl Plan {
+    /// How many lines the plan has. The pairs of all of them, one behind the other, are the plan.
+    pub fn line_count(&self) -> u32
+        ensures count { result ≡ length (by_line self.now) }
+        ensures all { joined (by_line self.now) ≡ self.now }
+    {
+        (self.pairs.len() / self.speedups) as u32
+    }
+
+    /// The pairs of the line at that position of the plan.
+    pub fn of_line(&self, claim: u32) -> &[Experiment]
+        requires claim { claim < length (by_line self.now) }
+        ensures pairs { slice_get (by_line self.now) claim ≡ Some result.now }
+        ensures one_line { IsOfOneLine result.now }
+        ensures speedups { All (λ (pair : Experiment). pair.speedup ≤ 95) result.now }
+    {
+        let start = claim as usize * self.speedups;
+        &self.pairs[start..start + self.speedups]
+    }
+}
