@@ -17,6 +17,9 @@ use virtual_run::Machine;
 /// addi a0, x0, 0; addi a7, x0, 93; ecall: exit with the code 0.
 const FILE: [u8; 12] = [0x13, 0x05, 0, 0, 0x93, 0x08, 0xD0, 0x05, 0x73, 0, 0, 0];
 
+/// jal x0, 0: again and again.
+const AGAIN: [u8; 12] = [0x6F, 0, 0, 0, 0, 0, 0, 0, 0, 0, 0, 0];
+
 const CODE: Area = Area {
     start: 0x10000,
     size: 4096,
@@ -54,8 +57,8 @@ fn row(address: u64, line: u32) -> Row {
     }
 }
 
-fn program(alloc: Global) -> Result<Image<'static>, AllocError> {
-    Ok(Image::new(&FILE, vec![in alloc; CODE]?, 0x10000, 0, 1))
+fn program(alloc: Global, file: &'static [u8; 12]) -> Result<Image<'static>, AllocError> {
+    Ok(Image::new(file, vec![in alloc; CODE]?, 0x10000, 0, 1))
 }
 
 /// The second instruction has line 2, the others line 1.
@@ -111,7 +114,7 @@ fn run_twice(
     requires some_visits { 1 ≤ visit_limit }
     requires visits { visit_limit ≤ 100 }
 {
-    let image = program(alloc)?;
+    let image = program(alloc, &FILE)?;
     let index = lines_of(alloc, &image)?;
     if index.count() < 2 {
         return Ok(None);
@@ -184,6 +187,40 @@ fn a_run_ends_as_its_visits_are_full(rt: HostRuntime) -> Result<(), Fail> {
     Ok(())
 }
 
+/// How a delayed run comes out whose one instruction is a point, with room for three visits.
+fn fill_visits(alloc: Global) -> Result<Option<Outcome>, PointsError> {
+    let image = program(alloc, &AGAIN)?;
+    let index = lines_of(alloc, &image)?;
+    if index.count() == 0 {
+        return Ok(None);
+    }
+    let points = point_at(alloc, &index, LineId(0))?;
+    let choice = Choice {
+        selected: None,
+        speedup: 0,
+        budget: 100,
+        output_limit: 10,
+        visit_limit: 3,
+        layout: SMALL,
+    };
+    let mut machine = Machine::new(alloc, &image, &index, &points, b"", choice)?;
+    machine.run();
+    Ok(machine.outcome())
+}
+
+#[test]
+fn a_delayed_run_ends_as_its_visits_are_full(rt: HostRuntime) -> Result<(), Fail> {
+    let full = Outcome {
+        ending: Ending::VisitsFull,
+        time: 600,
+        delay: 0,
+        retired: 3,
+        starts: 0,
+    };
+    assert_eq!(rt; fill_visits(rt.alloc())?, Some(full));
+    Ok(())
+}
+
 /// How the delayed run of the same program comes out.
 #[derive(Clone, Copy, Debug, PartialEq, Eq)]
 struct Delays {
@@ -223,7 +260,7 @@ fn run_delayed(
 ) -> Result<Option<Delays>, PointsError>
     requires { speedup ≤ 95 }
 {
-    let image = program(alloc)?;
+    let image = program(alloc, &FILE)?;
     let index = lines_of(alloc, &image)?;
     if index.count() < 2 {
         return Ok(None);

@@ -26,7 +26,7 @@ fn program(alloc: Global, text: &[u8]) -> Result<Vec<u8>, AllocError> {
 }
 
 /// The texts of the programs, by path: three words each.
-const TEXTS: [(&str, [u8; 12]); 6] = [
+const TEXTS: [(&str, [u8; 12]); 7] = [
     // addi a0, x0, 0; addi a7, x0, 93; ecall
     (
         "one",
@@ -45,6 +45,8 @@ const TEXTS: [(&str, [u8; 12]); 6] = [
     ("misaligned", [0x67, 0, 0x20, 0, 0, 0, 0, 0, 0, 0, 0, 0]),
     // lw x0, 0(x0)
     ("access", [0x03, 0x20, 0, 0, 0, 0, 0, 0, 0, 0, 0, 0]),
+    // jal x0, 0
+    ("again", [0x6F, 0, 0, 0, 0, 0, 0, 0, 0, 0, 0, 0]),
 ];
 
 fn held(alloc: Global, path: &str, bytes: Vec<u8>) -> Result<HeldFile, AllocError> {
@@ -177,6 +179,9 @@ const ACCESS: &[u8] =
 const SPENT: &[u8] =
     b"end spent\ntime 200\ndelay 0\nnet 200\nretired 2\nstarts 0\nhart 0 own 0 paused 0 credited 0\noutput 0\n\n";
 
+const SPENT_AGAIN: &[u8] =
+    b"end spent\ntime 200000\ndelay 0\nnet 200000\nretired 1000\nstarts 0\nhart 0 own 0 paused 0 credited 0\noutput 0\n\n";
+
 const TRIAL: &[u8] =
     b"source 774 01531099276cf41046b904858abd732929f0b4ba64545ed3dba3948cb4e197d8\n\
 lines 42\nexperiments 36\n\
@@ -199,6 +204,7 @@ fn runs_are_printed(rt: HostRuntime) -> Result<(), Fail> {
             b"",
         ),
         plain_case(&["run", "one", "--budget", "2"], 1, SPENT, b""),
+        plain_case(&["run", "again", "--budget", "1000"], 1, SPENT_AGAIN, b""),
         plain_case(
             &["profile", "one"],
             0,
@@ -303,6 +309,8 @@ fn faults_of_programs_and_sources_are_told(rt: HostRuntime) -> Result<(), Fail> 
     all_come_out(&rt, &cases)
 }
 
+const TWO_READS: [&str; 6] = ["profile", "one", "--input", "data", "--lines", "one.s:1"];
+
 #[test]
 fn reads_that_fail_are_told(rt: HostRuntime) -> Result<(), Fail> {
     let cases = [
@@ -322,6 +330,14 @@ fn reads_that_fail_are_told(rt: HostRuntime) -> Result<(), Fail> {
         Case {
             read_fails: &[0],
             ..plain_case(&["asm", "one.s"], 5, b"", b"coz: read: one.s\n")
+        },
+        Case {
+            read_fails: &[0],
+            ..plain_case(&TWO_READS, 5, b"", b"coz: read: one\n")
+        },
+        Case {
+            read_fails: &[1],
+            ..plain_case(&TWO_READS, 5, b"", b"coz: read: data\n")
         },
     ];
     all_come_out(&rt, &cases)
@@ -366,6 +382,22 @@ fn writes_that_fail_are_told(rt: HostRuntime) -> Result<(), Fail> {
         },
     ];
     all_come_out(&rt, &cases)
+}
+
+#[test]
+fn what_is_put_of_a_profile_is_a_prefix(rt: HostRuntime) -> Result<(), Fail> {
+    let options = ["--lines=one.s:1", "--speedups=50", "--workers=1"];
+    let whole = profiled_over(&rt, &options, 1000)?;
+    assert_eq!(rt; (whole.status, whole.out.len()), (0, 558));
+    for room in [0, 1, 100, 557] {
+        let cut = profiled_over(&rt, &options, room)?;
+        let prefix = whole.out.get(..room as usize).unwrap_or(&[]);
+        assert_eq!(rt;
+            (cut.status, cut.out.as_slice(), cut.err.as_slice()),
+            (6, prefix, b"coz: write\n".as_slice())
+        );
+    }
+    Ok(())
 }
 
 #[test]
@@ -481,6 +513,30 @@ fn what_is_assembled_runs(rt: HostRuntime) -> Result<(), Fail> {
     Ok(())
 }
 
+/// It writes 1,024 bytes again and again.
+const FILL: &[u8] =
+    b"again: li a0, 1\nla a1, text\nli a2, 1024\nli a7, 64\necall\nj again\n.data\ntext: .zero 1024\n";
+
+const FULL: &[u8] =
+    b"end output-full\ntime 19251000\ndelay 0\nnet 19251000\nretired 28671\nstarts 0\nhart 0 own 0 paused 0 credited 0\noutput 4194304\n";
+
+#[test]
+fn a_run_ends_as_its_output_is_full(rt: HostRuntime) -> Result<(), Fail> {
+    let alloc = rt.alloc();
+    let made = call(&rt, &["asm", "fill.s"], one_file(alloc, "fill.s", FILL)?)?;
+    let files = one_file(alloc, "fill", &made.out)?;
+    let outside = Outside {
+        files,
+        room: 5000000,
+    };
+    let run = call_over(&rt, &["run", "fill"], outside, &FreeGate)?;
+    assert_eq!(rt;
+        (run.status, run.out.len(), run.out.get(..FULL.len())),
+        (1, 4194427, Some(FULL))
+    );
+    Ok(())
+}
+
 /// What is done to the text of the profile of `one.s` with two speedups: so many bytes at a place give way to others.
 /// Beside it are the status and the line of the fault that `plot` tells then.
 static DAMAGES: [(usize, usize, &[u8], u8, &[u8]); 20] = [
@@ -520,18 +576,28 @@ fn damaged(
     Ok(bytes)
 }
 
-/// The text of a profile of `one.s`.
-fn profiled<R: Threads + Sync + AllocGlobal>(
+/// A profile of `one.s`, over an output with so much room.
+fn profiled_over<R: Threads + Sync + AllocGlobal>(
     rt: &R,
     options: &[&str],
-) -> Result<Vec<u8>, AllocError> {
+    room: u64,
+) -> Result<Served, AllocError> {
     let alloc = rt.alloc();
     let source = one_file(alloc, "one.s", SOURCES[0].1)?;
     let made = call(rt, &["asm", "one.s"], source)?;
     let mut words = Vec::new(alloc);
     words.extend_from_slice(&["profile", "one"])?;
     words.extend_from_slice(options)?;
-    Ok(call(rt, &words, one_file(alloc, "one", &made.out)?)?.out)
+    let files = one_file(alloc, "one", &made.out)?;
+    call_over(rt, &words, Outside { files, room }, &FreeGate)
+}
+
+/// The text of a profile of `one.s`.
+fn profiled<R: Threads + Sync + AllocGlobal>(
+    rt: &R,
+    options: &[&str],
+) -> Result<Vec<u8>, AllocError> {
+    Ok(profiled_over(rt, options, 100000)?.out)
 }
 
 #[test]

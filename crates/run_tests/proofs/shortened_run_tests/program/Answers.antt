@@ -1,4 +1,4 @@
-use Rattle.std.proofs.Common.{refl, lit<, lit≤}
+use Rattle.std.proofs.Common.{refl, lit<, lit≤, arith}
 use Rattle.coz_types.specs.Image.{one_area}
 use Rattle.run_tests.proofs.shortened_run_tests.program.Goals as goal
 
@@ -13,7 +13,7 @@ new-requires c =
       fill_starts = lit≤ tt;
       fill_starts_within = lit< tt;
       fill_ends = lit≤ tt;
-      in_file = lit≤ tt;
+      in_file = omega arith;
       no_write_execute = λ write execute. let no : ⊥ = cc in no;
     })
     (lit≤ tt) refl (refl, lit≤ tt, lit< tt))
