@@ -17,14 +17,14 @@ drawn_below claim d (yes far) = let none = d.past far in absurd cc
 drawn_below claim d (no not) = let within = lt_of_not-le not in let is = d.within within in (within, cc)
 
 -- one claim more
-pub worked_drawn : {f : ℕ → Summary} {b t : ℕ} {h : Hand} {done : List Claimed} → Worked f b t 0 h done
-    → (new : Hand) (claim : ℕ) (summary : Summary) (all : List Claimed) → Draws b h new (Some claim) → summary ≡ f claim
-    → all ≡ done ++ record { claim = claim; summary = summary } ∷ [] → Worked f b t 0 new all × (length new.numbers ≤ b)
-worked_drawn {f} {b} {h} {done} before new claim summary all d gave is =
+pub worked_drawn : {f : ℕ → List Summary} {b t : ℕ} {h : Hand} {done : List Claimed} → Worked f b t 0 h done
+    → (new : Hand) (claim : ℕ) (summaries : List Summary) (all : List Claimed) → Draws b h new (Some claim) → summaries ≡ f claim
+    → all ≡ done ++ record { claim = claim; summaries = summaries } ∷ [] → Worked f b t 0 new all × (length new.numbers ≤ b)
+worked_drawn {f} {b} {h} {done} before new claim summaries all d gave is =
     let own = drawn_below claim d (dec_le b d.number) in
     let within : d.number < b = own.0 in
-    let same : ◌≡◌ {A = Claimed} (record { claim = claim; summary = summary }) (claimed f d.number) =
-    ap₂ (λ (c : ℕ) (s : Summary). record { claim = c; summary = s }) own.1 (gave ∙ ap f own.1) in
+    let same : ◌≡◌ {A = Claimed} (record { claim = claim; summaries = summaries }) (claimed f d.number) =
+    ap₂ (λ (c : ℕ) (ss : List Summary). record { claim = c; summaries = ss }) own.1 (gave ∙ ap f own.1) in
     let one : claims_in b (d.number ∷ []) ≡ d.number ∷ [] = ap (λ (t : Bool). cond t (d.number ∷ []) []) (lt-ltb d.number b within) in
     let none : cond (nat_le b d.number) 1 0 ≡ zero = grind arith in
     let spent = before.all in
@@ -46,7 +46,7 @@ worked_drawn {f} {b} {h} {done} before new claim summary all d gave is =
       omega (arith, more),
     )
 
-pub worked_joined : {f : ℕ → Summary} {b t s t' s' : ℕ} {h k : Hand} {ps qs : List Claimed} → Worked f b t s h ps → Worked f b t' s' k qs
+pub worked_joined : {f : ℕ → List Summary} {b t s t' s' : ℕ} {h k : Hand} {ps qs : List Claimed} → Worked f b t s h ps → Worked f b t' s' k qs
     → (both : Hand) (all : List Claimed) (turns stops : ℕ)
     → both.turns ≡ h.turns + k.turns → both.numbers ≡ h.numbers ++ k.numbers → all ≡ ps ++ qs → turns ≡ t + t' → stops ≡ s + s'
     → Worked f b turns stops both all

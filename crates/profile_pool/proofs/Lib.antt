@@ -5,3 +5,4 @@ pub mod Within
 pub mod Summing
 mod Joined
 mod Ordered
+mod Lines

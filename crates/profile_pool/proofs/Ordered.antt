@@ -1,18 +1,17 @@
 -- Claims that are sorted are the numbers below the bound.
-use Rattle.std.proofs.Common.{◌≡◌, ℕ, zero, suc, ◌+◌, ◌<◌, ◌≤◌, ◌==◌, ◌≢◌, ◌&&◌, Bool, cond, nat_lt, nat_le, true, false, List, [], ◌∷◌, map, length, get_or, Result, Ok, Err, IfOk, sym, refl, ap, ◌∙◌, subst, arith, lt_of_not-le}
-use Rattle.std.proofs.lemmas.List.FromFn.{fill_by_all}
+use Rattle.std.proofs.Common.{◌≡◌, ℕ, zero, suc, ◌+◌, ◌<◌, ◌≤◌, ◌==◌, ◌≢◌, ◌&&◌, Bool, cond, nat_lt, nat_le, true, false, List, [], ◌∷◌, ◌++◌, map, length, get_or, Result, Ok, Err, IfOk, sym, refl, ap, ◌∙◌, subst, arith, lt_of_not-le}
 use Rattle.std.proofs.lemmas.List.Sums.{sum_by-cons, get_or-le-sum_by}
 use Rattle.std.proofs.lemmas.List.Sorted.{IsPermutation-map, sum_by-IsPermutation, All-permutation}
 use Rattle.std.proofs.lemmas.List.{length-map}
-use Rattle.std.proofs.lemmas.List.Elements.{All-weaker, All-map, All-same, All-nil, All-cons, All-head, All-tail}
-use Rattle.std.specs.List.{All, range_with_len}
+use Rattle.std.proofs.lemmas.List.Elements.{All-weaker, All-map, All-same, All-nil, All-append, All-head, All-tail}
+use Rattle.std.specs.List.{All, flat_map, range_with_len}
 use Rattle.std.specs.List.Sorted.{IsPermutation, IsNonDecreasingBy}
 use native.Mathlib.Decide.{ℕ_discrete, dec_le}
 use Rattle.experiment_claims.specs.Drawn.{times, once_below}
 use Rattle.experiment_claims.specs.declared.hand.Hand.{Hand}
 use Rattle.profile_pool.specs.declared.claimed.Claimed.{Claimed}
 use Rattle.coz_types.specs.declared.record.Summary.{Summary}
-use Rattle.profile_pool.specs.Worked.{Worked, EachClaim, claimed, claims_in, claim_of, kept_summary, past}
+use Rattle.profile_pool.specs.Worked.{Worked, EachClaim, claimed, claims_in, claim_of, kept_summaries, past}
 
 -- once for each number from a on and below n
 abbrev within : ℕ → ℕ → ℕ → ℕ
@@ -79,20 +78,20 @@ rising (y ∷ ys) a (suc n) up each =
     omega (arith, e, here, w, same)) in
     λ i. is i ∷ rest i
 
-parts : (f : ℕ → Summary) (qs : List Claimed) → All (λ p. p ≡ claimed f p.claim) qs → qs ≡ map (claimed f) (map claim_of qs)
+parts : (f : ℕ → List Summary) (qs : List Claimed) → All (λ p. p ≡ claimed f p.claim) qs → qs ≡ map (claimed f) (map claim_of qs)
 parts f [] h = refl
 parts f (q ∷ qs) h =
     let here : q ≡ claimed f q.claim = All-head (λ p. p ≡ claimed f p.claim) q qs h in
     let rest = parts f qs (All-tail (λ p. p ≡ claimed f p.claim) q qs h) in
     λ i. here i ∷ rest i
 
-claims_back : (f : ℕ → Summary) (cs : List ℕ) → map claim_of (map (claimed f) cs) ≡ cs
+claims_back : (f : ℕ → List Summary) (cs : List ℕ) → map claim_of (map (claimed f) cs) ≡ cs
 claims_back f [] = refl
 claims_back f (c ∷ cs) = λ i. c ∷ claims_back f cs i
 
-values_back : (f : ℕ → Summary) (cs : List ℕ) → map kept_summary (map (claimed f) cs) ≡ map f cs
+values_back : (f : ℕ → List Summary) (cs : List ℕ) → flat_map kept_summaries (map (claimed f) cs) ≡ flat_map f cs
 values_back f [] = refl
-values_back f (c ∷ cs) = λ i. f c ∷ values_back f cs i
+values_back f (c ∷ cs) = ap (λ (rest : List Summary). f c ++ rest) (values_back f cs)
 
 at_map : (qs : List Claimed) (i d : ℕ) (q : Claimed) → i < length qs → get_or (map claim_of qs) i d ≡ claim_of (get_or qs i q)
 at_map [] i d q short = absurd (omega arith)
@@ -102,7 +101,7 @@ at_map (x ∷ xs) (suc i) d q short = at_map xs i d q (omega arith)
 within_zero : (x n : ℕ) → once_below x n ≡ within 0 (0 + n) x
 within_zero x n = grind arith
 
-pub ordered : (f : ℕ → Summary) (n : ℕ) (ps qs : List Claimed) → EachClaim f n ps → IsPermutation ps qs → IsNonDecreasingBy claim_of qs → qs ≡ map (claimed f) (range_with_len 0 n)
+pub ordered : (f : ℕ → List Summary) (n : ℕ) (ps qs : List Claimed) → EachClaim f n ps → IsPermutation ps qs → IsNonDecreasingBy claim_of qs → qs ≡ map (claimed f) (range_with_len 0 n)
 ordered f n ps qs e moved up =
     let P : Claimed → Type 0 = λ p. p ≡ claimed f p.claim in
     let valued : All P qs = All-permutation P ps qs moved (All-same P ps (map (claimed f) e.claims) e.each (All-map P (claimed f) e.claims (λ k d short. refl))) in
@@ -118,8 +117,8 @@ ordered f n ps qs e moved up =
     let a = at_map qs i d q (omega arith) in let b = at_map qs j d q short' in let both = up i j q le short' in omega arith in
     parts f qs valued ∙ ap (map (claimed f)) (rising cs 0 n rises each)
 
-pub ordered_summaries : (f : ℕ → Summary) (n : ℕ) (ps qs : List Claimed) → EachClaim f n ps → IsPermutation ps qs → IsNonDecreasingBy claim_of qs → map kept_summary qs ≡ map f (range_with_len 0 n)
-ordered_summaries f n ps qs e moved up = ap (map kept_summary) (ordered f n ps qs e moved up) ∙ values_back f (range_with_len 0 n)
+pub ordered_summaries : (f : ℕ → List Summary) (n : ℕ) (ps qs : List Claimed) → EachClaim f n ps → IsPermutation ps qs → IsNonDecreasingBy claim_of qs → flat_map kept_summaries qs ≡ flat_map f (range_with_len 0 n)
+ordered_summaries f n ps qs e moved up = ap (flat_map kept_summaries) (ordered f n ps qs e moved up) ∙ values_back f (range_with_len 0 n)
 
 is_below : (y w : ℕ) → 1 ≤ once_below y w → y < w
 is_below y w h = grind arith
@@ -160,7 +159,7 @@ once_claimed : (x b w : ℕ) → b ≤ w → cond (nat_lt x b) (once_below x w) 
 once_claimed x b w h = grind arith
 
 -- what is claimed of all numbers below the word, where some draw met the bound, is each claim once
-pub each_claim : (f : ℕ → Summary) (b w turns stops : ℕ) (h : Hand) (ps : List Claimed) → Worked f b turns stops h ps → 0 < stops → ((x : ℕ) → times x h.numbers ≡ once_below x w) → EachClaim f b ps
+pub each_claim : (f : ℕ → List Summary) (b w turns stops : ℕ) (h : Hand) (ps : List Claimed) → Worked f b turns stops h ps → 0 < stops → ((x : ℕ) → times x h.numbers ≡ once_below x w) → EachClaim f b ps
 each_claim f b w turns stops h ps worked some each =
     let far : b ≤ w = reached b w stops h.numbers worked.stopped some each (dec_le b w) in
     record {
@@ -169,39 +168,29 @@ each_claim f b w turns stops h ps worked some each =
       once = λ x. times_filter x b h.numbers ∙ ap (λ n. cond (nat_lt x b) n 0) (each x) ∙ once_claimed x b w far;
     }
 
-get_or-map_there : {A : Type 0} (g : A → Summary) (none : A) (xs : List A) (k : ℕ) → k < length xs → get_or (map g xs) k (g none) ≡ g (get_or xs k none)
-get_or-map_there g none [] k short = absurd (omega arith)
-get_or-map_there g none (x ∷ xs) zero short = refl
-get_or-map_there g none (x ∷ xs) (suc k) short = get_or-map_there g none xs k (omega arith)
-
--- a list is what stands at its places
-pub at_places : {A : Type 0} (g : A → Summary) (none : A) (xs : List A) → map (λ i. g (get_or xs i none)) (range_with_len 0 (length xs)) ≡ map g xs
-at_places g none xs =
-    sym (fill_by_all (λ i. g (get_or xs i none)) (map g xs) (length xs) (g none) (length-map xs g) (λ k short. get_or-map_there g none xs k short))
-
 -- ---- what is so of each summary that is kept
 
 once_counted : (x n : ℕ) → x < n → once_below x n ≡ suc 0
 once_counted x n below = grind arith
 
-claimed_at : (Q : Summary → Type 0) (f : ℕ → Summary) (claims : List ℕ) (k : ℕ) → All (λ (c : Claimed). Q c.summary) (map (claimed f) claims) → k < length claims → Q (f (get_or claims k 0))
+claimed_at : (Q : List Summary → Type 0) (f : ℕ → List Summary) (claims : List ℕ) (k : ℕ) → All (λ (c : Claimed). Q c.summaries) (map (claimed f) claims) → k < length claims → Q (f (get_or claims k 0))
 claimed_at Q f [] k all short = absurd (omega arith)
-claimed_at Q f (x ∷ xs) zero all short = All-head (λ (c : Claimed). Q c.summary) (claimed f x) (map (claimed f) xs) all
-claimed_at Q f (x ∷ xs) (suc k) all short = claimed_at Q f xs k (All-tail (λ (c : Claimed). Q c.summary) (claimed f x) (map (claimed f) xs) all) (omega arith)
+claimed_at Q f (x ∷ xs) zero all short = All-head (λ (c : Claimed). Q c.summaries) (claimed f x) (map (claimed f) xs) all
+claimed_at Q f (x ∷ xs) (suc k) all short = claimed_at Q f xs k (All-tail (λ (c : Claimed). Q c.summaries) (claimed f x) (map (claimed f) xs) all) (omega arith)
 
--- each claim below n has one
-of_claim : (Q : Summary → Type 0) (f : ℕ → Summary) (n : ℕ) (done : List Claimed) → EachClaim f n done → All (λ (c : Claimed). Q c.summary) done → (x : ℕ) → x < n → Q (f x)
+-- each claim below n has some
+of_claim : (Q : List Summary → Type 0) (f : ℕ → List Summary) (n : ℕ) (done : List Claimed) → EachClaim f n done → All (λ (c : Claimed). Q c.summaries) done → (x : ℕ) → x < n → Q (f x)
 of_claim Q f n done e all x below =
     let there = stands x e.claims (let own = once_counted x n below in let each = e.once x in omega arith) in
-    let claimed_all = All-same (λ (c : Claimed). Q c.summary) (map (claimed f) e.claims) done (sym e.each) all in
+    let claimed_all = All-same (λ (c : Claimed). Q c.summaries) (map (claimed f) e.claims) done (sym e.each) all in
     subst (λ y. Q (f y)) there.2 (claimed_at Q f e.claims there.0 claimed_all there.1)
 
-over_range : (Q : Summary → Type 0) (f : ℕ → Summary) (a n : ℕ) → ((x : ℕ) → x < a + n → Q (f x)) → All Q (map f (range_with_len a n))
+over_range : (Q : Summary → Type 0) (f : ℕ → List Summary) (a n : ℕ) → ((x : ℕ) → x < a + n → All Q (f x)) → All Q (flat_map f (range_with_len a n))
 over_range Q f a zero each = All-nil Q
-over_range Q f a (suc n) each = All-cons Q (f a) (map f (range_with_len (a + 1) n)) (each a (omega arith)) (over_range Q f (a + 1) n (λ x below. each x (omega arith)))
+over_range Q f a (suc n) each = All-append Q (f a) (flat_map f (range_with_len (a + 1) n)) (each a (omega arith)) (over_range Q f (a + 1) n (λ x below. each x (omega arith)))
 
-pub each_summary : (Q : Summary → Type 0) (f : ℕ → Summary) (n : ℕ) (done : List Claimed) → EachClaim f n done → All (λ (c : Claimed). Q c.summary) done → All Q (map f (range_with_len 0 n))
-each_summary Q f n done e all = over_range Q f 0 n (λ x below. of_claim Q f n done e all x (omega arith))
+pub each_summary : (Q : Summary → Type 0) (f : ℕ → List Summary) (n : ℕ) (done : List Claimed) → EachClaim f n done → All (λ (c : Claimed). All Q c.summaries) done → All Q (flat_map f (range_with_len 0 n))
+each_summary Q f n done e all = over_range Q f 0 n (λ x below. of_claim (All Q) f n done e all x (omega arith))
 
 -- what is so of each of some summaries is so of a list that is answered and is those
 pub each_answered : {V E : Type 0} (list : V → List Summary) (Q : Summary → Type 0) (summaries : List Summary) (result : Result V E)

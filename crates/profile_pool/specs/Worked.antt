@@ -1,4 +1,4 @@
--- What workers have: their seats, and a summary for each claim. What the work of a claim is doesn't matter here: f is any.
+-- What workers have: their seats, and the summaries of each claim. What the work of a claim is doesn't matter here: f is any.
 use Rattle.std.specs.Prelude.{◌≡◌, ℕ, ◌+◌, nat_lt, nat_le, List, map, length, All}
 use Rattle.std.specs.List.{filter, count_by}
 use Rattle.coz_types.specs.declared.record.Summary.{Summary}
@@ -7,9 +7,9 @@ use Rattle.experiment_claims.specs.declared.hand.Hand.{Hand}
 use Rattle.experiment_claims.specs.Drawn.{times, once_below}
 use Rattle.profile_pool.specs.declared.claimed.Claimed.{Claimed}
 
--- a claim with its summary by f
-abbrev pub claimed : (ℕ → Summary) → ℕ → Claimed
-claimed f claim = record { claim = claim; summary = f claim }
+-- a claim with its summaries by f
+abbrev pub claimed : (ℕ → List Summary) → ℕ → Claimed
+claimed f claim = record { claim = claim; summaries = f claim }
 
 -- the numbers that are claims
 abbrev pub claims_in : ℕ → List ℕ → List ℕ
@@ -19,25 +19,25 @@ claims_in bound numbers = filter (λ n. nat_lt n bound) numbers
 abbrev pub past : ℕ → List ℕ → ℕ
 past bound numbers = count_by (λ n. nat_le bound n) numbers
 
--- Of some turns, spent or not: each claim that was drawn has its summary, in the order of drawing, and so many draws met the bound.
+-- Of some turns, spent or not: each claim that was drawn has its summaries, in the order of drawing, and so many draws met the bound.
 -- It holds of a seat, and of seats that were joined.
-pub record Worked (f : ℕ → Summary) (bound turns stops : ℕ) (h : Hand) (done : List Claimed) : Type 0 where
+pub record Worked (f : ℕ → List Summary) (bound turns stops : ℕ) (h : Hand) (done : List Claimed) : Type 0 where
   pub all : h.turns + length h.numbers ≡ turns
   pub each : done ≡ map (claimed f) (claims_in bound h.numbers)
   pub stopped : past bound h.numbers ≡ stops
 
--- each claim below n has its summary, once
-pub record EachClaim (f : ℕ → Summary) (n : ℕ) (done : List Claimed) : Type 0 where
+-- each claim below n has its summaries, once
+pub record EachClaim (f : ℕ → List Summary) (n : ℕ) (done : List Claimed) : Type 0 where
   pub claims : List ℕ
   pub each : done ≡ map (claimed f) claims
   pub once : (x : ℕ) → times x claims ≡ once_below x n
 
-abbrev pub kept_summary : Claimed → Summary
-kept_summary c = c.summary
+abbrev pub kept_summaries : Claimed → List Summary
+kept_summaries c = c.summaries
 
 abbrev pub claim_of : Claimed → ℕ
 claim_of c = c.claim
 
 -- the summaries are of runs with so many progress points
 abbrev pub AreSummaries : ℕ → List Claimed → Type 0
-AreSummaries points done = All (λ (c : Claimed). IsSummary points c.summary) done
+AreSummaries points done = All (λ (c : Claimed). All (IsSummary points) c.summaries) done

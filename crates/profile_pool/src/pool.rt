@@ -1,17 +1,18 @@
 //! Workers that draw the claims of a plan from one word.
-ghost use Rattle.std.specs.Prelude.{◌≡◌, ℕ, ◌+◌, ◌*◌, ◌<◌, ◌≤◌, ◌^◌, map, [], IfOk, length, All, vec_len};
-ghost use Rattle.std.specs.List.{range_with_len};
+ghost use Rattle.std.specs.Prelude.{◌≡◌, ℕ, ◌+◌, ◌*◌, ◌<◌, ◌≤◌, ◌^◌, [], IfOk, List, length, All, vec_len};
+ghost use Rattle.std.specs.List.{flat_map, range_with_len};
 ghost use Rattle.coz_types.specs.declared.record.Summary.{Summary};
 ghost use Rattle.coz_types.specs.Ranges.{IsSummary};
 ghost use Rattle.experiment_claims.specs.Drawn.{hand};
 ghost use Rattle.experiment_claims.specs.Seats.{hand_of, IsSeatOf, bound_of};
 ghost use Rattle.experiment_plan.specs.declared.experiment.Experiment.{Experiment};
+ghost use Rattle.experiment_plan.specs.ByLine.{by_line};
 ghost use Rattle.profile_pool.specs.Summaries.{summaries_of};
 ghost use Rattle.profile_pool.specs.Work.{work_at, IsWork};
 ghost use Rattle.profile_pool.specs.Worked.{Worked, EachClaim, AreSummaries};
 ghost use Rattle.profile_pool.specs.Jobs.{IsJob, IsAnswer};
 
-use crate::claimed::{Claimed, summary_at};
+use crate::claimed::{Claimed, summaries_at};
 use crate::job::{Answer, Job};
 use crate::work::Work;
 use coz_files::Gate;
@@ -32,7 +33,7 @@ fn work_through<G: Gate>(
     job: Job,
     gate: &G,
 ) -> Result<Answer, AllocError>
-    requires work { IsWork work.now × (bound_of claims.now ≡ length work.now.plan.now) }
+    requires work { IsWork work.now × (bound_of claims.now ≡ length (by_line work.now.plan.now)) }
     requires job { IsJob claims.now job }
     ensures { IfOk result (IsAnswer work.now claims.now) }
 {
@@ -40,8 +41,8 @@ fn work_through<G: Gate>(
     let mut done = Vec::new(alloc);
     while let Some(claim) = claims.draw(&mut seat) {
         gate.claimed(worker, claim);
-        let summary = summary_at(alloc, work, claim)?;
-        done.push(Claimed { claim, summary })?;
+        let summaries = summaries_at(alloc, work, claim)?;
+        done.push(Claimed { claim, summaries })?;
     }
     Ok(Answer { seat, done })
 }
@@ -81,7 +82,7 @@ fn run_jobs<R: Threads + Sync, G: Gate>(
     jobs: Vec<Job>,
     gate: &G,
 ) -> Result<Vec<Result<Answer, AllocError>>, AllocError>
-    requires work { IsWork work.now × (bound_of claims.now ≡ length work.now.plan.now) }
+    requires work { IsWork work.now × (bound_of claims.now ≡ length (by_line work.now.plan.now)) }
     requires jobs { All (IsJob claims.now) jobs.items }
     ensures len { IfOk result (λ answers. vec_len answers ≡ vec_len jobs) }
     ensures each { IfOk result (λ answers. All (λ r. IfOk r (IsAnswer work.now claims.now)) answers.items) }
@@ -90,7 +91,7 @@ fn run_jobs<R: Threads + Sync, G: Gate>(
         rt,
         jobs,
         &|job: Job| -> Result<Answer, AllocError>
-            requires { IsWork work.now × (bound_of claims.now ≡ length work.now.plan.now) × IsJob claims.now job }
+            requires { IsWork work.now × (bound_of claims.now ≡ length (by_line work.now.plan.now)) × IsJob claims.now job }
             ensures { IfOk result (IsAnswer work.entry.now claims.entry.now) }
         { work_through(alloc, work, claims, job, gate) },
     )
@@ -112,7 +113,7 @@ fn gather(
     ensures ranges { IfOk result (λ a. AreSummaries (length work.now.points.now.lines) a.done.items) }
 {
     let mut seat = rest;
-    let mut done = Vec::with_capacity(alloc, work.plan.len())?;
+    let mut done = Vec::with_capacity(alloc, work.plan.line_count() as usize)?;
     for answer in answers {
         let Answer {
             seat: other,
@@ -124,16 +125,20 @@ fn gather(
     Ok(Answer { seat, done })
 }
 
-/// The summaries in the order of their claims.
+/// The summaries of all claims, in the order of the claims.
 fn in_order(alloc: Global, mut done: Vec<Claimed>) -> Result<Vec<Summary>, AllocError>
-    ensures { (f : ℕ → Summary) (n : ℕ) → EachClaim f n done.items →
-        IfOk result (λ summaries. summaries.items ≡ map f (range_with_len 0 n)) }
+    ensures { (f : ℕ → List Summary) (n : ℕ) → EachClaim f n done.items →
+        IfOk result (λ summaries. summaries.items ≡ flat_map f (range_with_len 0 n)) }
 {
     done.sort_by_key(|claimed| claimed.claim)?;
-    let mut summaries = Vec::with_capacity(alloc, done.len())?;
+    let mut summaries = Vec::new(alloc);
     for claimed in done {
-        let Claimed { claim: _, summary } = claimed;
-        summaries.push(summary)?;
+        let Claimed {
+            claim: _,
+            summaries: line,
+        } = claimed;
+        let mut more = line.into_vec();
+        summaries.append(&mut more)?;
     }
     Ok(summaries)
 }
@@ -160,16 +165,15 @@ pub fn run_plan<R: Threads + Sync, G: Gate>(
     ensures summaries { IfOk result (λ summaries. summaries.items ≡ summaries_of image.now index.now points.now input.now budget plan.now) }
     ensures ranges { IfOk result (λ summaries. All (IsSummary (length points.now.lines)) summaries.items) }
 {
-    let pairs = plan.pairs();
     let work = Work {
         image,
         index,
         points,
         input,
-        plan: pairs,
+        plan,
         budget,
     };
-    let bound = pairs.len() as u32;
+    let bound = plan.line_count();
     let (claims, first) = Claims::new(alloc, bound)?;
     let (rest, jobs) = deal(alloc, &claims, first, bound, workers)?;
     let answers = run_jobs(rt, alloc, &work, &claims, jobs, gate)?;

@@ -1,5 +1,5 @@
 use coz_types::Image;
-use experiment_plan::Experiment;
+use experiment_plan::Plan;
 use line_index::LineIndex;
 use progress_points::Points;
 
@@ -10,7 +10,6 @@ pub struct Work<'a> {
     pub index: &'a LineIndex,
     pub points: &'a Points,
     pub input: &'a [u8],
-    /// The line and the speedup of each run.
-    pub plan: &'a [Experiment],
+    pub plan: &'a Plan,
     pub budget: u64,
 }

@@ -1,5 +1,6 @@
 use Rattle.std.proofs.Common.{arith, ℕ, ◌≡◌, ◌*◌, ◌+◌, length, ◌∷◌, [], ◌++◌, length-append, sym, ap, IfOk, Result}
 use Rattle.std.proofs.lemmas.List.Elements.{All-append, All-rest, All-head, All-same}
+use Rattle.std.specs.List.{All}
 use Rattle.std.specs.declared.alloc.AllocError.{AllocError}
 use Rattle.coz_types.specs.Ranges.{IsSummary}
 use Rattle.experiment_claims.specs.Seats.{bound_of}
@@ -24,7 +25,7 @@ loop-answer-preserved c =
     let head : P c.in-Some.answer = All-head P c.in-Some.answer new (All-same P (c.in-Some.answer ∷ new) old (sym steps) before.2) in
     let b : ℕ = bound_of c.args.claims.now + 1 in
     let is : IsAnswer c.args.work.now c.args.claims.now c.in_ok-other.field-0 = rw c.in_ok-other.was at head in
-    let R : Claimed → Type 0 = λ claimed. IsSummary (length c.args.work.now.points.now.lines) claimed.summary in (
+    let R : Claimed → Type 0 = λ claimed. All (IsSummary (length c.args.work.now.points.now.lines)) claimed.summaries in (
       tt,
       tt,
       All-rest P c.in-Some.answer new old steps before.2,

@@ -1,8 +1,9 @@
-use Rattle.std.proofs.Common.{rules, ◌≡◌, ◌++◌, List, [], ◌∷◌, ◌∙◌, sym, ap, map, length, arith}
+use Rattle.std.proofs.Common.{rules, ◌≡◌, ◌++◌, List, [], ◌∷◌, ◌∙◌, sym, ap, length, arith}
+use Rattle.std.specs.List.{flat_map}
 use Rattle.std.proofs.lemmas.List.{append-nil}
 use Rattle.std.proofs.lemmas.List.Sorted.{IsNonDecreasingBy-from_sort_by_key}
 use Rattle.profile_pool.specs.declared.claimed.Claimed.{Claimed}
-use Rattle.profile_pool.specs.Worked.{claim_of, kept_summary}
+use Rattle.profile_pool.specs.Worked.{claim_of, kept_summaries}
 use Rattle.profile_pool.proofs.Ordered.{ordered_summaries}
 use Rattle.profile_pool.proofs.pool.in_order.Goals as goal
 
@@ -17,4 +18,4 @@ returns c f n each =
     let none = c.in-None.ensures.steps.0 in
     let rest : length c.loop-claimed.claimed-iterator.rest.items ≡ 0 = search rules in
     let all = nothing_left _ _ _ rest (c.loop-claimed.invariant.1 ∙ c.into_iter-claimed-iterator.ensures.into_iter_gives.0) in
-    c.loop-claimed.invariant.0 ∙ ap (map kept_summary) all ∙ same
+    c.loop-claimed.invariant.0 ∙ ap (flat_map kept_summaries) all ∙ same

@@ -1,4 +1,5 @@
 use Rattle.std.proofs.Common.{length}
+use Rattle.std.specs.List.{All}
 use Rattle.std.proofs.lemmas.List.Elements.{All-push, All-same}
 use Rattle.coz_types.specs.Ranges.{IsSummary}
 use Rattle.profile_pool.specs.declared.claimed.Claimed.{Claimed}
@@ -8,10 +9,10 @@ use Rattle.profile_pool.proofs.pool.work_through.Goals as goal
 pub loop-claim-preserved : goal.loop-claim-preserved
 loop-claim-preserved g c =
     let before = c.loop-claim.invariant in
-    let worked = worked_drawn before.1 _ _ _ _ c.in-Some.ensures.draws c.in_ok-summary.ensures.summary c.in_ok-push.ensures.items in
-    let R : Claimed → Type 0 = λ claimed. IsSummary (length c.args.work.now.points.now.lines) claimed.summary in (
+    let worked = worked_drawn before.1 _ _ _ _ c.in-Some.ensures.draws c.in_ok-summaries.ensures.summaries c.in_ok-push.ensures.items in
+    let R : Claimed → Type 0 = λ claimed. All (IsSummary (length c.args.work.now.points.now.lines)) claimed.summaries in (
       c.in-Some.ensures.seat,
       worked.0,
       worked.1,
-      All-same R _ _ c.in_ok-push.ensures.items (All-push R _ _ before.3 c.in_ok-summary.ensures.ranges),
+      All-same R _ _ c.in_ok-push.ensures.items (All-push R _ _ before.3 c.in_ok-summaries.ensures.ranges),
     )
