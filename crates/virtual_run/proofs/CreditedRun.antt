@@ -24,8 +24,10 @@ use Rattle.machines.specs.Shortened as short
 use Rattle.machines.specs.Agreement.{LoadAgrees, Agrees}
 use Rattle.machines.specs.Steps.{Steps}
 use Rattle.machines.specs.Standing.{standing, delayed_record}
+use Rattle.machines.specs.Lead.{before}
 use Rattle.machines.specs.Records.{net, record_of, IsDelayed, IsShortened, shortened_record}
 use Rattle.machines.proofs.Runs.{both}
+use Rattle.machines.proofs.LeadForks.{ended_begins, goes_begins}
 use Rattle.machines.proofs.Headline.{unique}
 use Rattle.machines.proofs.Ends.{goes_on_at, record_is}
 use Rattle.machines.proofs.Stepping.{begin_frame}
@@ -33,10 +35,10 @@ use Rattle.machines.proofs.Standing.{agrees, in_time, end_in_time, steps_is, las
 use Rattle.delay_credits.specs.Delays.{Delays, account_as, hart_at, pause_of, at, with_start, with_stop, none_raised}
 use Rattle.delay_credits.specs.Ticks.{without_work, ticked}
 use Rattle.guest_calls.specs.Calls.{retirement}
-use Rattle.guest_calls.specs.Guest.{Guest, IsMade, pc_of, first_guest, is_running as runs_in}
+use Rattle.guest_calls.specs.Guest.{Guest, making, IsMade, pc_of, first_guest, is_running as runs_in}
 use Rattle.guest_calls.specs.Orderly.{IsOrderly}
 use Rattle.guest_calls.specs.Retire.{next_of, retire}
-use Rattle.guest_calls.proofs.Law.{running_low, others_idle, own_trap}
+use Rattle.guest_calls.proofs.Law.{retire-made, running_low, others_idle, own_trap}
 use Rattle.virtual_run.specs.declared.choice.Setting.{Setting}
 use Rattle.virtual_run.specs.declared.run.Run.{Run}
 use Rattle.virtual_run.specs.Begin.{started_by, many, AreIdle}
@@ -150,7 +152,7 @@ module _ (image : ImageParts) (input : List ℕ) (setting : Setting) (run : Run)
   delay_few : d.delay ≤ 3800 * d.starts
   delay_few = standing_bounded x IsOrderly law never 3800 (cut_few x 40 95 (λ g h. cycles_few (next_of g h)) p.valid.speedup) run.retired
 
-  starts_few : run.starts ≤ 10 ^ 12 + 256
+  pub starts_few : run.starts ≤ 10 ^ 12 + 256
   starts_few =
       let most : many run.schedule ≤ length run.schedule = many_few run.schedule in
       let room : length run.schedule ≡ 256 = p.reached.room in
@@ -331,6 +333,14 @@ module _ (image : ImageParts) (input : List ℕ) (setting : Setting) (run : Run)
         let below = subst (λ (n : ℕ). h < n) p.room hart_below in
         omega (arith, own, below))
 
+    -- those that are selected began last
+    selected_new : (o : Option Ending) → new.ending ≡ o → new.selected ≡ filter (x.guest.is_selected new.guest) (before x (suc run.retired)).harts
+    selected_new (Some e) is =
+        a.none_selected (ap is_some is) ∙ sym (ap (filter (x.guest.is_selected new.guest)) (ended_begins x (suc run.retired) e (after_is ∙ is)))
+    selected_new None is =
+        let begins = goes_begins x IsOrderly law run.retired t (ending_now ∙ goes) next.turn (never.awake s.guest h) (after_is ∙ is) in
+        a.selected is ∙ sym (ap (filter (x.guest.is_selected new.guest)) (begins ∙ sym (ap (started h) retires_as)))
+
     pub paced_next : (after : Delays) → after ≡ settled_by new.ending (raise_ticks new.guest setting.choice.speedup) h fate new.started new.selected stopped → IsPaced image input setting new after later_now
     paced_next after is =
         let both = settled_holds new.ending refl in
@@ -344,6 +354,8 @@ module _ (image : ImageParts) (input : List ℕ) (setting : Setting) (run : Run)
           moment = sym (latest_is new.ending) ∙ ap (λ (c : Delays). c.latest) (sym is) ∙ holds.latest;
           soon = soon_new;
           trap = trap_new;
+          made = ap (λ (r : Retirement Guest). making r.guest) a.retires ∙ retire-made run.guest h new.time turned.orderly hart_ran ∙ p.made;
+          selected = selected_new new.ending refl ∙ ap (λ (n : ℕ). filter (x.guest.is_selected new.guest) (before x n).harts) (sym next_count);
         }
 
     -- the moves up to the retirement
@@ -600,6 +612,10 @@ module _ (image : ImageParts) (input : List ℕ) (setting : Setting) (run : Run)
       (holds_begin begun_x (0 ∷ []) (raise_ticks run.guest setting.choice.speedup) (none_raised 256) (unbegun begun_x)
       (λ h. mul_comm (cycles_of (next_of run.guest h)) setting.choice.speedup ∙ ap (λ (g : Guest). setting.choice.speedup * cycles_of (next_of g h)) (sym same)) holds_none))
 
+  first_begins : (before begun_x 0).harts ≡ 0 ∷ []
+  unfolding before
+  first_begins = refl
+
   pub first_paced : (made started raised : Delays) (hs : List ℕ) → made ≡ none_raised 256 → started ≡ with_start 0 0 made → hs ≡ run.selected → raised ≡ with_raises (raise_ticks run.guest setting.choice.speedup) hs started
       → IsPaced image input setting run raised 0
   first_paced made started raised hs is_made is_started is_selected is_raised =
@@ -617,6 +633,8 @@ module _ (image : ImageParts) (input : List ℕ) (setting : Setting) (run : Run)
         moment = sym (raises_latest ticks (filter (begun_x.guest.is_selected run.guest) (0 ∷ [])) (with_starts (0 ∷ []) (none_raised 256))) ∙ ap (λ (c : Delays). c.latest) (sym (is ∙ first_raised_is)) ∙ holds.latest;
         soon = omega arith;
         trap = λ e ended. absurd (let no : ◌≡◌ {A = Option Ending} None (Some e) = sym f.ending ∙ ended in cc);
+        made = ap making guest_first;
+        selected = f.selected ∙ ap (filter (begun_x.guest.is_selected run.guest)) (sym (ap (λ (n : ℕ). (before begun_x n).harts) f.retired ∙ first_begins));
       }
 
 -- a run between two steps: only its state changes, and it stands after as many retirements as it counts

@@ -24,7 +24,7 @@ use Rattle.virtual_run.proofs.CreditedBounds.{begin_starts, credit_starts}
 use Rattle.virtual_run.proofs.Credited.{holds_jump, holds_leave, holds_credit, holds_begin}
 
 -- a hart without its work
-runs_held : (hart : Hart) → is_running (without_work hart) ≡ is_running hart
+pub runs_held : (hart : Hart) → is_running (without_work hart) ≡ is_running hart
 runs_held hart = go hart.account hart.load
   where
     go : (a : Account) (o : Option Load) → is_running (without_work (record { account = a; load = o })) ≡ is_some o

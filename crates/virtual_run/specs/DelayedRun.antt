@@ -1,5 +1,5 @@
 -- The delayed run of a program.
-use Rattle.std.specs.Prelude.{◌≡◌, ℕ, ◌+◌, ◌-◌, ◌^◌, ◌≤◌, ◌<◌, List, map, length, slice_index_or, slice_get, Option, Some, None, option_map}
+use Rattle.std.specs.Prelude.{◌≡◌, ℕ, ◌+◌, ◌-◌, ◌^◌, ◌≤◌, ◌<◌, List, map, filter, length, slice_index_or, slice_get, Option, Some, None, option_map}
 use Rattle.coz_types.specs.declared.ending.Ending.{Ending}
 use Rattle.coz_types.specs.declared.ending.Ending.TheVariants.{Exited, Trapped, Unsupported, OutputFull, VisitsFull, Stalled, Spent}
 use Rattle.coz_types.specs.declared.record.Outcome.{Outcome}
@@ -11,8 +11,9 @@ use Rattle.machines.specs.Shortened.{shortened}
 use Rattle.machines.specs.Agreement.{Agrees}
 use Rattle.machines.specs.Records.{Record, IsDelayed}
 use Rattle.machines.specs.Standing.{standing}
+use Rattle.machines.specs.Lead.{before}
 use Rattle.delay_credits.specs.Delays.{Delays}
-use Rattle.guest_calls.specs.Guest.{Guest}
+use Rattle.guest_calls.specs.Guest.{Guest, making}
 use Rattle.virtual_run.specs.declared.choice.Setting.{Setting}
 use Rattle.virtual_run.specs.declared.run.Run.{Run}
 use Rattle.virtual_run.specs.Run.{IsChoice, IsReached}
@@ -74,3 +75,6 @@ pub record IsPaced (image : ImageParts) (input : List ℕ) (setting : Setting) (
   pub moment : now ≡ (standing (experiment_with image input setting) run.retired).now
   pub soon : now ≤ 10 ^ 17
   pub trap : (ending : Ending) → run.ending ≡ Some ending → IsOfAHart ending
+  -- what a fork copies, and what it raises the delay by
+  pub made : making run.guest ≡ making (experiment_with image input setting).first
+  pub selected : run.selected ≡ filter ((experiment_with image input setting).guest.is_selected run.guest) (before (experiment_with image input setting) run.retired).harts
