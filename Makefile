@@ -1,12 +1,15 @@
 # make         proves and builds the program, and leaves it as build/coz
 # make test    runs the merge gate, and then renders the man page
 # make try ARGS="run examples/one"    runs the program with no proof, in seconds
+# make guests  builds, with Debian's packages, what guests/coz-cc links programs with, and then the examples in C
 # make install PREFIX=DIR    puts the program and its man page below DIR; make uninstall takes them away
 
 ARGS ?= run examples/one
 PREFIX ?= /usr/local
 
-.PHONY: build test try install uninstall clean
+EXAMPLES = longer ledger
+
+.PHONY: build test try guests install uninstall clean
 
 build:
 	cd crates/coz && rt run -- run data/one > /dev/null
@@ -19,6 +22,10 @@ test:
 
 try:
 	cd crates/coz && rt try $(foreach file,$(wildcard $(ARGS)),--data $(file)=$(abspath $(file))) -- $(ARGS)
+
+guests:
+	guests/build
+	for name in $(EXAMPLES); do guests/coz-cc -O1 -o examples/$$name examples/$$name.c || exit 1; done
 
 install: build
 	install -D -m 755 build/coz $(DESTDIR)$(PREFIX)/bin/coz
