@@ -1,10 +1,11 @@
 -- Lines by the position of their path, and the positions of lines.
-use Rattle.std.specs.Prelude.{◌≡◌, ℕ, ◌<◌, ◌^◌, Bool, false, not, ◌&&◌, length, List, [], ◌∷◌, ◌++◌, map, slice_get, slice_set, get_or, Option, Some, None, option_map, option_and_then, ◌==◌, if◌then◌else◌, IfSome}
+use Rattle.std.specs.Prelude.{◌≡◌, ℕ, ◌+◌, ◌<◌, ◌^◌, Bool, false, not, ◌&&◌, length, List, [], ◌∷◌, ◌++◌, map, slice_get, slice_set, get_or, Option, Some, None, option_map, option_and_then, ◌==◌, if◌then◌else◌, IfSome}
 use Rattle.std.specs.List.{filter_map}
 use Rattle.std.specs.declared.cmp.Ordering.{Ordering}
 use Rattle.std.specs.Ordering.{nat_cmp, ordering_then}
 use Rattle.std.specs.Cmp.Lexicographic.{slice_cmp}
 use Rattle.std.specs.Global.{Vec}
+use Rattle.dwarf_lines.specs.declared.FileName.{FileName}
 use Rattle.dwarf_lines.specs.declared.Row.{Row}
 use Rattle.dwarf_lines.specs.Registers.{File}
 use Rattle.line_index.specs.declared.entry.Entry.{Entry}
@@ -101,3 +102,7 @@ entries_view entries = map entry_view entries
 -- by name, then by directory
 abbrev pub entry_cmp : Entry → Entry → Ordering
 entry_cmp entry other = ordering_then (slice_cmp nat_cmp entry.name.now other.name.now) (slice_cmp nat_cmp entry.directory.now other.directory.now)
+
+-- how many bytes a file's name and that of its directory have
+abbrev pub name_size : FileName → ℕ
+name_size file = length file.directory.now + length file.name.now

@@ -7,6 +7,7 @@ ghost use Rattle.dwarf_lines.specs.Registers.{file_view, files_view};
 ghost use Rattle.line_index.specs.Lines.{entry_path};
 ghost use Rattle.line_index.specs.Keys.{ArePlaces, entry_cmp, entries_view, path_place};
 
+use crate::room::room;
 use dwarf_lines::FileName;
 use std::alloc::{AllocError, Global};
 
@@ -37,7 +38,7 @@ fn all_entries<'a>(alloc: Global, files: &[FileName<'a>]) -> Result<Vec<Entry<'a
     Ok(entries)
 }
 
-/// The files in order, each once.
+/// The files in order, each once, if there is room for their paths.
 pub fn sorted_entries<'a>(
     alloc: Global,
     files: &[FileName<'a>],
@@ -46,6 +47,7 @@ pub fn sorted_entries<'a>(
     ensures each { IfOk result (λ entries. All (Contains (entries_view entries.items)) (files_view files.now)) }
     ensures few { IfOk result (λ entries. length entries.items ≤ length files.now) }
 {
+    room(alloc, files)?;
     let mut entries = all_entries(alloc, files)?;
     entries.sort()?;
     entries.dedup();

@@ -11,6 +11,7 @@ mod labels;
 mod lines;
 mod named;
 mod paths;
+mod room;
 mod spans;
 mod written;
 
