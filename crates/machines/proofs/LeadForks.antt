@@ -151,11 +151,12 @@ module _ {G : Type 0} (x : Experiment G) (Good : G → Type 0) (law : IsLawful x
   begun_due n k among =
       let b = beside x Good law n in
       let c : BeforeShort G = dues.before x n in
-      let here : is_among k c.harts ≡ true = ap (is_among k) (sym b.harts) ∙ among in
-      (c.moment,
-      ap (λ o. get_or o.dues k None) (shortened_begins x n)
-      ∙ change_each_at None c.harts (λ h _. Some (c.moment + cost x c.state.guest h - cut x c.state.guest h)) k c.state.dues b.apart
-      ∙ rw here (ap (λ g. Some (c.moment + cost x g k - cut x g k)) (sym b.guest)))
+      let here : is_among k c.harts ≡ true = ap (is_among k) (sym b.harts) ∙ among in (
+        c.moment,
+        ap (λ o. get_or o.dues k None) (shortened_begins x n)
+            ∙ change_each_at None c.harts (λ h _. Some (c.moment + cost x c.state.guest h - cut x c.state.guest h)) k c.state.dues b.apart
+            ∙ rw here (ap (λ g. Some (c.moment + cost x g k - cut x g k)) (sym b.guest)),
+      )
 
 module _ {G : Type 0} (x : Experiment G) (Good : G → Type 0) (q n : ℕ) (law : IsLawful (at_speedup 0 x) Good) (z : (before (at_speedup 0 x) n).state.starts ≡ 0) where
   else_all : (hs : List ℕ) (v : ℕ) (s : Shortened G) → short.begin (at_speedup q x) hs v s ≡ record (short.begin (at_speedup 0 x) hs v s) { dues = (short.begin (at_speedup q x) hs v s).dues }

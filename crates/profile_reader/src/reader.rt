@@ -13,8 +13,8 @@ use crate::fault::BookError;
 use crate::lines::head;
 use crate::loops::{blocks, names};
 use crate::moves::start;
-use profile_book::Profile;
 use coz_lists::Items;
+use profile_book::Profile;
 use std::alloc::Global;
 
 #[tactic(auto, unfolding(crate::specs::Reading::profile_at, crate::specs::Reading::bind))]
