@@ -12,7 +12,7 @@ pub run_pairs-requires-clause-lines : goal.run_pairs-requires-clause-lines
 run_pairs-requires-clause-lines c =
     let plan = c.args.work.now.plan.now in
     let P : Experiment → Type 0 = λ pair. pair.line.0 < length c.args.work.now.index.now.lines in
-    of_all P (by_line plan) c.args.claim c.of_line.result.now (All-same P (joined (by_line plan)) plan (joined_again plan) c.requires.work.lines) c.of_line.ensures.pairs
+    of_all P (by_line plan) _ c.of_line.result.now (All-same P (joined (by_line plan)) plan (joined_again plan) c.requires.work.lines) c.of_line.ensures.pairs
 
 pub returns-clause-summaries : goal.returns-clause-summaries
 returns-clause-summaries c =
