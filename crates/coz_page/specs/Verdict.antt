@@ -1,0 +1,85 @@
+-- What the words and the files that the paths hold come to: a status, a text for the output and a line for the errors.
+use Rattle.std.specs.Prelude.{ℕ, Bool, not, ◌&&◌, List, [], ◌∷◌, ◌++◌, length, map, nat_le, codes, decimal, Option, Some, None, if◌then◌else◌, string_bytes}
+use Rattle.std.specs.declared.string.String.{String}
+use Rattle.std.specs.declared.alloc.Global.{Global}
+use Rattle.coz_types.specs.Labels.{Text, is_empty}
+use Rattle.coz_files.specs.Held.{Held, file_at}
+use Rattle.profile_reader.specs.Grammar.{book_fault}
+use Rattle.profile_reader.specs.Told.{told}
+use Rattle.profile_book.specs.declared.profile.Profile.{Profile as Book}
+use Rattle.profile_reader.specs.declared.fault.BookFault.{BookFault}
+use Rattle.profile_reader.specs.declared.fault.BookField.{BookField}
+use Rattle.profile_reader.specs.declared.fault.BookField.TheVariants.{Head, Version, Budget, Points, Point, Index, Name, Experiment, Selected, Speedup, End, Time, Delay, Retired, Starts, Output, Length, Digest, Throughput, Delta, Visits, Newline}
+use Rattle.coz_page.specs.Page.{page_text}
+
+pub record Verdict : Type 0 where
+  pub status : ℕ
+  pub text : Text
+  pub line : Text
+
+abbrev pub refused : ℕ → Text → Verdict
+refused status line = record { status = status; text = []; line = line }
+
+abbrev pub printed : Text → Verdict
+printed text = record { status = 0; text = text; line = [] }
+
+-- ---- the words
+
+-- the words as bytes
+abbrev pub bytes_of : List (String Global) → List Text
+bytes_of words = map string_bytes words
+
+-- the path of the profile: the only word, if it isn't empty
+abbrev pub path_in : List Text → Option Text
+path_in (path ∷ []) = if is_empty path then None else Some path
+path_in _ = None
+
+-- ---- the profile
+
+abbrev pub field_name : BookField → Text
+field_name Head = codes "Head"
+field_name Version = codes "Version"
+field_name Budget = codes "Budget"
+field_name Points = codes "Points"
+field_name Point = codes "Point"
+field_name Index = codes "Index"
+field_name Name = codes "Name"
+field_name Experiment = codes "Experiment"
+field_name Selected = codes "Selected"
+field_name Speedup = codes "Speedup"
+field_name End = codes "End"
+field_name Time = codes "Time"
+field_name Delay = codes "Delay"
+field_name Retired = codes "Retired"
+field_name Starts = codes "Starts"
+field_name Output = codes "Output"
+field_name Length = codes "Length"
+field_name Digest = codes "Digest"
+field_name Throughput = codes "Throughput"
+field_name Delta = codes "Delta"
+field_name Visits = codes "Visits"
+field_name Newline = codes "Newline"
+
+abbrev pub profile_line : BookFault → Text
+profile_line fault = codes "coz-page: profile: " ++ field_name fault.field ++ codes " at " ++ decimal fault.place
+
+-- of the profile that is told, if the text has no fault
+abbrev pub book_verdict : Option BookFault → Book → Verdict
+book_verdict None p = printed (page_text p)
+book_verdict (Some fault) p = refused 12 (profile_line fault)
+
+abbrev pub profile_verdict : Text → Verdict
+profile_verdict bytes = book_verdict (book_fault bytes) (told bytes)
+
+-- of the file of a path, which has at most 268,435,456 bytes
+abbrev pub file_verdict : Text → Option Text → Verdict
+file_verdict path None = refused 5 (codes "coz-page: read: " ++ path)
+file_verdict path (Some bytes) =
+    if nat_le (length bytes) 268435456 then profile_verdict bytes else refused 8 (codes "coz-page: long: " ++ path)
+
+abbrev pub path_verdict : Option Text → Held → Verdict
+path_verdict None held = refused 2 (codes "coz-page: usage")
+path_verdict (Some path) held = file_verdict path (file_at held path)
+
+abbrev pub verdict : List Text → Held → Verdict
+verdict words held = path_verdict (path_in words) held

@@ -1,0 +1,65 @@
+//! The page, on its way to a sink.
+ghost use Rattle.std.specs.Prelude.{flat_map};
+ghost use Rattle.std.specs.List.{enumerate_from};
+ghost use Rattle.coz_files.specs.Gathered.{Gathers};
+ghost use Rattle.coz_files.specs.Puts.{Puts};
+ghost use Rattle.coz_page.specs.Page.{by_point, choice_text, nothing_text, point_text, curves_page};
+
+use crate::frame::{FOOT, HEAD, NOTHING};
+use crate::groups::group_length;
+use crate::label::put_label;
+use crate::tables::put_point;
+use causal_curves::Curve;
+use coz_files::{PutAnswer, PutBuffer, Sink};
+use coz_types::Label;
+use profile_book::put_number;
+
+fn put_choice<O: Sink>(to: &mut PutBuffer, out: &mut O, index: usize, label: &Label)
+    ensures { Gathers O.holds O.faults out.old out.new to.old to.new (choice_text (index, label.now)) }
+{
+    put_number(to, out, b"<li><a href=\"#p", index as u64);
+    put_label(to, out, b"\">", label.bytes());
+    to.push(out, b"</a></li>\n");
+}
+
+fn put_choices<O: Sink>(to: &mut PutBuffer, out: &mut O, points: &[Label])
+    ensures { Gathers O.holds O.faults out.old out.new to.old to.new (flat_map choice_text (enumerate_from 0 points.now)) }
+{
+    for (index, label) in points.iter().enumerate() {
+        put_choice(to, out, index, label);
+    }
+}
+
+fn put_nothing<O: Sink>(to: &mut PutBuffer, out: &mut O, curves: &[Curve])
+    ensures { Gathers O.holds O.faults out.old out.new to.old to.new (nothing_text curves.now) }
+{
+    if curves.is_empty() {
+        to.push(out, NOTHING);
+    }
+}
+
+fn put_points<O: Sink>(to: &mut PutBuffer, out: &mut O, points: &[Label], curves: &[Curve])
+    ensures { Gathers O.holds O.faults out.old out.new to.old to.new (flat_map (point_text points.now) (by_point curves.now)) }
+{
+    let mut rest = curves;
+    while !rest.is_empty() {
+        let (group, behind) = rest.split_at(group_length(rest));
+        put_point(to, out, points, group);
+        rest = behind;
+    }
+}
+
+/// Puts the page of the curves, which stand by rank. It takes no memory.
+pub fn write_page<O: Sink>(points: &[Label], curves: &[Curve], out: &mut O) -> PutAnswer
+    ensures { Puts O.holds O.faults out.old out.new result (curves_page points.now curves.now) }
+{
+    let mut buffer = PutBuffer::new();
+    buffer.push(out, HEAD);
+    buffer.push(out, b"<ul>\n");
+    put_choices(&mut buffer, out, points);
+    buffer.push(out, b"</ul>\n");
+    put_nothing(&mut buffer, out, curves);
+    put_points(&mut buffer, out, points, curves);
+    buffer.push(out, FOOT);
+    buffer.finish(out)
+}

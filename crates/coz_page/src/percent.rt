@@ -1,0 +1,48 @@
+//! Values in per cent.
+ghost use Rattle.std.specs.Prelude.{◌≡◌, ◌++◌, decimal};
+ghost use Rattle.coz_files.specs.Gathered.{Gathers};
+ghost use Rattle.coz_page.specs.Values.{sign, size_text, percent, value_text};
+
+use coz_files::{PutBuffer, Sink};
+use profile_book::{put_field, put_number};
+
+fn put_big<O: Sink>(to: &mut PutBuffer, out: &mut O, n: u128)
+    ensures { Gathers O.holds O.faults out.old out.new to.old to.new (decimal n) }
+{
+    let mut buffer = itoa::Buffer::new();
+    to.push(out, buffer.format(n).as_bytes());
+}
+
+/// So many hundredths of a per cent.
+pub fn put_size<O: Sink>(to: &mut PutBuffer, out: &mut O, n: u128)
+    ensures { Gathers O.holds O.faults out.old out.new to.old to.new (size_text n) }
+{
+    put_big(to, out, n / 100);
+    put_number(to, out, b".", (n / 10 % 10) as u64);
+    put_number(to, out, b"", (n % 10) as u64);
+    to.push(out, b"%");
+}
+
+fn sign(value: i128) -> &'static [u8]
+    ensures { result.now ≡ sign value }
+{
+    if value < 0 { b"-" } else { b"" }
+}
+
+/// A value in per cent.
+pub fn put_percent<O: Sink>(to: &mut PutBuffer, out: &mut O, value: i128)
+    ensures { Gathers O.holds O.faults out.old out.new to.old to.new (percent value) }
+{
+    to.push(out, sign(value));
+    put_size(to, out, value.unsigned_abs());
+}
+
+/// A value in per cent, or that it is absent.
+pub fn put_value<O: Sink>(to: &mut PutBuffer, out: &mut O, value: Option<i128>)
+    ensures { Gathers O.holds O.faults out.old out.new to.old to.new (value_text value) }
+{
+    match value {
+        Some(value) => put_percent(to, out, value),
+        None => to.push(out, b"absent"),
+    }
+}

@@ -1,0 +1,33 @@
+//! The program that makes the page of a profile.
+#![tactic(auto)]
+
+use coz_files::{HostFiles, HostSink};
+use coz_page::serve;
+use std::process::ExitCode;
+use std::{env, io};
+
+const MEMORY: u8 = 10;
+
+const NO_WORDS: u8 = 13;
+
+/// The words, without the program's name.
+fn words(rt: &HostRuntime) -> io::Result<Vec<String>> {
+    let mut words = Vec::new(rt.alloc());
+    for word in env::args(rt)?.skip(1) {
+        words.push(word)?;
+    }
+    Ok(words)
+}
+
+fn main(rt: HostRuntime) -> ExitCode {
+    let words = match words(&rt) {
+        Ok(words) => words,
+        Err(fault) if fault.kind() == io::ErrorKind::OutOfMemory => return ExitCode::from(MEMORY),
+        Err(_) => return ExitCode::from(NO_WORDS),
+    };
+    let mut files = HostFiles::new(&rt);
+    let mut out = HostSink::new(rt.stdout());
+    let mut err = HostSink::new(rt.stderr());
+    let status = serve(rt.alloc(), &words, &mut files, &mut out, &mut err);
+    ExitCode::from(status)
+}
