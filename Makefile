@@ -1,20 +1,26 @@
-# make         proves and builds the program, and leaves it as build/coz
-# make test    runs the merge gate, and then renders the man page
+# make         proves and builds both programs, and leaves them as build/coz and build/coz-page
+# make test    runs the merge gate, and then renders the man pages
 # make try ARGS="run examples/one"    runs the program with no proof, in seconds
 # make guests  builds, with Debian's packages, what guests/coz-cc links programs with, and then the examples in C
-# make install PREFIX=DIR    puts the program and its man page below DIR; make uninstall takes them away
+# make page    the same of build/coz-page alone
+# make install PREFIX=DIR    puts the programs and their man pages below DIR; make uninstall takes them away
 
 ARGS ?= run examples/one
 PREFIX ?= /usr/local
 
 EXAMPLES = longer ledger
 
-.PHONY: build test try guests install uninstall clean
+.PHONY: build page test try guests install uninstall clean
 
-build:
+build: page
 	cd crates/coz && rt run -- run data/one > /dev/null
 	mkdir -p build
 	cp crates/coz/out/coz build/coz
+
+page:
+	cd crates/coz_page_main && rt run -- data/profile > /dev/null
+	mkdir -p build
+	cp crates/coz_page_main/out/coz_page_main build/coz-page
 
 test:
 	bash .ci/run
@@ -29,10 +35,13 @@ guests:
 
 install: build
 	install -D -m 755 build/coz $(DESTDIR)$(PREFIX)/bin/coz
+	install -D -m 755 build/coz-page $(DESTDIR)$(PREFIX)/bin/coz-page
 	install -D -m 644 docs/coz.1 $(DESTDIR)$(PREFIX)/share/man/man1/coz.1
+	install -D -m 644 docs/coz-page.1 $(DESTDIR)$(PREFIX)/share/man/man1/coz-page.1
 
 uninstall:
 	rm -f $(DESTDIR)$(PREFIX)/bin/coz $(DESTDIR)$(PREFIX)/share/man/man1/coz.1
+	rm -f $(DESTDIR)$(PREFIX)/bin/coz-page $(DESTDIR)$(PREFIX)/share/man/man1/coz-page.1
 
 clean:
 	rm -rf build crates/*/out
