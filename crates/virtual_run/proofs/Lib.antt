@@ -14,3 +14,7 @@ pub mod Made
 pub mod CreditedBegin
 pub mod CreditedRun
 pub mod Advance
+pub mod Sooner
+pub mod Forks
+pub mod Again
+pub mod Leads

@@ -6,3 +6,4 @@ pub mod Seen
 pub mod Visits
 pub mod Credited
 pub mod DelayedRun
+pub mod Lead

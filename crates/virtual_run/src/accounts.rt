@@ -49,7 +49,7 @@ fn start_each(credits: &mut Credits, harts: &[HartId], now: Tick)
 }
 
 /// The ticks by which a hart's next instruction raises the delay where it is selected, at a speedup in per cent.
-fn raised_by(guest: &Guest, hart: HartId, speedup: u8) -> Tick
+pub fn raised_by(guest: &Guest, hart: HartId, speedup: u8) -> Tick
     requires made { IsMade guest.now hart.0 }
     requires speedup { speedup ≤ 95 }
     ensures ticks { result ≡ raise_ticks guest.now speedup hart.0 }
@@ -70,6 +70,18 @@ pub fn raise_each(credits: &mut Credits, guest: &Guest, harts: &[HartId], speedu
     for hart in harts {
         credits.raise(*hart, raised_by(guest, *hart, speedup), now);
     }
+}
+
+/// The selected harts that began last raise the delay in turn, at the latest moment.
+pub fn raise_selected(credits: &mut Credits, run: &Run, speedup: u8, now: Tick)
+    requires run { AllRun credits.old run.now.selected }
+    requires made { AllMade run.now.guest run.now.selected }
+    requires speedup { speedup ≤ 95 }
+    requires now { credits.old.latest ≡ now }
+    requires few { credits.old.raised + 3800 * length run.now.selected ≤ 10 ^ 17 }
+    ensures { credits.new ≡ with_raises (raise_ticks run.now.guest speedup) run.now.selected credits.old }
+{
+    raise_each(credits, &run.guest, run.selected.harts(), speedup, now);
 }
 
 /// What follows a retirement from which the run goes on: the harts that it made or woke are credited, all that it started

@@ -3,12 +3,14 @@
 
 mod accounts;
 mod choice;
+mod lead;
 mod machine;
 mod run;
 mod start;
 mod visits;
 
 pub use choice::{Choice, Setting};
+pub use lead::Lead;
 pub use machine::Machine;
 pub use run::{Retired, Run};
 pub use visits::Visits;

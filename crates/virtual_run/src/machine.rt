@@ -1,13 +1,14 @@
 //! The delayed machine: runs under virtual time with the delays of a selected line.
-ghost use Rattle.std.specs.Prelude.{◌≡◌, ◌+◌, ◌≤◌, ◌<◌, map, length, Some, None, IfOk, IfSome, IsSome, MatchOption, All, option_map};
+ghost use Rattle.std.specs.Prelude.{◌≡◌, ◌+◌, ◌≤◌, ◌<◌, false, map, length, Some, None, IfOk, IfSome, IsSome, MatchOption, All, option_map};
 ghost use Rattle.hart_schedule.specs.Keys.{key_of};
 ghost use Rattle.delay_credits.specs.Delays.{account_as};
 ghost use Rattle.virtual_run.specs.Seen.{experiment_of};
+ghost use Rattle.virtual_run.specs.Lead.{arguments, is_unstarted};
 ghost use Rattle.virtual_run.specs.DelayedRun.{visit_as, net_due_of, account_in, outcome_of, IsSmall, AgreesThroughout, EndsOnce};
 
-use crate::accounts::{raise_each, settle};
+use crate::accounts::{raise_each, raise_selected, settle};
 use crate::{Choice, Run, Setting};
-use coz_types::{Account, Ending, HartId, Image, Outcome, Tick, Visit};
+use coz_types::{Account, Ending, HartId, Image, LineId, Outcome, Tick, Visit};
 use delay_credits::Credits;
 use line_index::LineIndex;
 use progress_points::Points;
@@ -59,6 +60,7 @@ impl<'a> Machine<'a> {
     ghost use Rattle.machines.specs.Agreement.{Agrees};
     ghost use Rattle.machines.specs.Steps.{Steps};
     ghost use Rattle.machines.specs.Standing.{standing, delayed_record};
+    ghost use Rattle.machines.specs.Lead.{at_speedup, before};
     ghost use Rattle.machines.specs.Records.{net, record_of, IsDelayed, IsShortened, shortened_record};
     ghost use Rattle.line_index.specs.Index.{position_at};
     ghost use Rattle.progress_points.specs.Points.{point_of};
@@ -155,6 +157,81 @@ impl<'a> Machine<'a> {
             Some(ending) => ending,
             None => unreachable!(),
         }
+    }
+
+    /// Whether the run goes on with no start counted.
+    fn is_unstarted(&self) -> bool
+        ensures { result ≡ is_unstarted self.now.state }
+    {
+        self.run.is_unstarted()
+    }
+
+    /// How the run has ended, if it has.
+    fn ending(&self) -> Option<Ending>
+        ensures { result ≡ self.now.state.ending }
+    {
+        self.run.ending()
+    }
+
+    /// Runs up to the first beginning that counts a start, or to the end.
+    pub(crate) fn lead(&mut self) -> Option<Ending>
+        requires none { (before (experiment_of self.old) self.old.state.retired).state.starts ≡ 0 }
+        ensures ended { result ≡ self.new.state.ending }
+        ensures stops { is_unstarted self.new.state ≡ false }
+        ensures none { (before (experiment_of self.old) self.new.state.retired).state.starts ≡ 0 }
+        ensures stands { self.new.state ≡ standing (experiment_of self.old) self.new.state.retired }
+        ensures stays { is_unstarted self.old.state ≡ false → self.new ≡ self.old }
+        ensures rest { self.new ≡ record self.old { state = self.new.state } }
+    {
+        let mut going = self.run.is_unstarted();
+        while going {
+            self.step();
+            going = self.is_unstarted();
+        }
+        self.ending()
+    }
+
+    /// Makes this machine the run, at a speedup, of a lead: one at speedup 0 that counted no start before its last beginning.
+    /// So the selected harts that began last raise the delay now, and are due sooner by as much.
+    pub(crate) fn fork_from(&mut self, lead: &Machine<'a>, speedup: u8)
+        requires small { speedup ≤ 95 }
+        requires arguments { arguments self.old ≡ arguments lead.now }
+        requires whole { lead.now.choice.speedup ≡ 0 }
+        requires none { (before (experiment_of lead.now) lead.now.state.retired).state.starts ≡ 0 }
+        ensures { self.new ≡ record lead.now {
+          choice = record lead.now.choice { speedup = speedup };
+          state = standing (at_speedup speedup (experiment_of lead.now)) lead.now.state.retired;
+        } }
+    {
+        self.image = lead.image;
+        self.input = lead.input;
+        self.setting = lead.setting;
+        self.setting.choice.speedup = speedup;
+        self.run.copy_from(&lead.run);
+        self.credits.copy_from(&lead.credits);
+        self.moment = lead.moment;
+        raise_selected(&mut self.credits, &self.run, speedup, self.moment);
+        self.run.hasten(speedup);
+    }
+
+    /// Makes this machine another one at speedup 0 that stands where it was made, with another line selected.
+    pub(crate) fn again_from(&mut self, first: &Machine<'a>, line: LineId)
+        requires arguments { arguments self.old ≡ arguments first.now }
+        requires whole { first.now.choice.speedup ≡ 0 }
+        requires none { first.now.state.retired ≡ 0 }
+        ensures { self.new ≡ record first.now {
+          choice = record first.now.choice { selected = Some line };
+          state = standing (experiment_of self.new) 0;
+        } }
+    {
+        self.image = first.image;
+        self.input = first.input;
+        self.setting = first.setting;
+        self.setting.choice.selected = Some(line);
+        self.run.copy_from(&first.run);
+        self.run.count_first(&self.setting);
+        self.credits.copy_from(&first.credits);
+        self.moment = first.moment;
     }
 
     /// The moment of the last retirement, in ticks.

@@ -1,16 +1,18 @@
 //! The moves that both machines share.
-ghost use Rattle.std.specs.Prelude.{◌≡◌, ◌+◌, ◌^◌, ◌≤◌, ◌<◌, ◌++◌, [], Some, length, nat_le, is_some, IfOk, All, if◌then◌else◌};
+ghost use Rattle.std.specs.Prelude.{◌≡◌, ◌&&◌, ◌==◌, not, ◌+◌, ◌^◌, ◌≤◌, ◌<◌, ◌++◌, [], ◌∷◌, Some, length, nat_le, is_some, IfOk, All, if◌then◌else◌};
 ghost use Rattle.hart_schedule.specs.Keys.{key_of, without_key, IsEmpty, IsLeast};
 ghost use Rattle.machines.specs.Delayed.{is_any};
 ghost use Rattle.machines.specs.Guest.{goes_on};
 ghost use Rattle.machines.specs.Shortened.{runs_any};
 ghost use Rattle.progress_points.specs.Points.{point_of};
-ghost use Rattle.guest_calls.specs.Guest.{making};
+ghost use Rattle.guest_calls.specs.Guest.{making, IsMade};
 ghost use Rattle.virtual_run.specs.Begin.{started_by, many, AreIdle, AreBegun};
 ghost use Rattle.virtual_run.specs.Ending.{ending_of, runs_after};
 ghost use Rattle.virtual_run.specs.Visits.{visits_of};
+ghost use Rattle.virtual_run.specs.Credited.{raise_ticks, AllMade};
+ghost use Rattle.virtual_run.specs.Lead.{with_sooner};
 
-use crate::start::{begin, begin_again, begin_each};
+use crate::start::{add_if, begin, begin_again, begin_each, hasten_each};
 use crate::{Choice, Setting, Visits};
 use coz_types::{Address, Ending, HartId, Image, Tick, Visit};
 use guest_calls::{Fate, Guest};
@@ -229,6 +231,41 @@ impl<'a> Run<'a> {
         self.retired = other.retired;
         self.starts = other.starts;
         self.ending = other.ending;
+    }
+
+    /// Counts the start of the hart that a program begins with anew, as another line is selected.
+    pub(crate) fn count_first(&mut self, setting: &Setting)
+        requires made { IsMade self.old.guest 0 }
+        ensures { self.new ≡ record self.old {
+          selected = selected_of setting.now self.old.guest (0 ∷ []);
+          starts = length (selected_of setting.now self.old.guest (0 ∷ []));
+        } }
+    {
+        self.selected.clear();
+        let selected = setting.has_selected(self.guest.pc(FIRST));
+        add_if(selected, &mut self.selected, FIRST);
+        self.starts = self.selected.harts().len() as u64;
+    }
+
+    /// The selected harts that began last are due sooner, by what a speedup in per cent takes off their next instructions.
+    pub(crate) fn hasten(&mut self, speedup: u8)
+        requires made { AllMade self.old.guest self.old.selected }
+        requires speedup { speedup ≤ 95 }
+        ensures { self.new ≡ record self.old { schedule = with_sooner (raise_ticks self.old.guest speedup) self.old.selected self.old.schedule } }
+    {
+        hasten_each(
+            &mut self.schedule,
+            &self.guest,
+            self.selected.harts(),
+            speedup,
+        );
+    }
+
+    /// Whether the run goes on with no start counted.
+    pub(crate) fn is_unstarted(&self) -> bool
+        ensures { result ≡ (not (is_some self.now.ending) && (self.now.starts == 0)) }
+    {
+        self.ending.is_none() && self.starts == 0
     }
 
     /// How the run has ended, if it has.

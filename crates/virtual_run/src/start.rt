@@ -1,12 +1,15 @@
 //! How harts begin their next instructions.
 
 ghost use Rattle.std.specs.Prelude.{◌≡◌, ◌+◌, ◌^◌, ◌≤◌, ◌<◌, ◌++◌, [], ◌∷◌, length, map, if◌then◌else◌, IsTrue};
-ghost use Rattle.hart_schedule.specs.Keys.{with_key, without_key};
+ghost use Rattle.hart_schedule.specs.Keys.{key_of, with_key, without_key};
 ghost use Rattle.machines.specs.Guest.{goes_on};
 ghost use Rattle.guest_calls.specs.Guest.{IsMade, pc_of};
 ghost use Rattle.virtual_run.specs.Begin.{many, IsIdle, AreIdle, AreBegun};
+ghost use Rattle.virtual_run.specs.Credited.{raise_ticks, AllMade};
+ghost use Rattle.virtual_run.specs.Lead.{sooner_by, with_sooner};
 ghost use Rattle.virtual_run.specs.Run.{selects, selected_of, ticks_in};
 
+use crate::accounts::raised_by;
 use crate::Setting;
 use cost_table::reduced;
 use coz_types::{HartId, Tick};
@@ -44,7 +47,7 @@ fn cost_of(setting: &Setting, guest: &Guest, hart: HartId) -> Cost
 }
 
 /// Appends a hart, if it is selected.
-fn add_if(selected: bool, harts: &mut HartList, hart: HartId)
+pub fn add_if(selected: bool, harts: &mut HartList, hart: HartId)
     requires { length harts.old < 256 }
     ensures { harts.new ≡ (if selected then harts.old ++ hart.0 ∷ [] else harts.old) }
 {
@@ -141,5 +144,25 @@ pub fn begin_each(
 {
     for hart in harts {
         begin(setting, guest, schedule, selected, *hart, moment);
+    }
+}
+
+/// A hart that is due is due so many ticks sooner.
+fn hasten(schedule: &mut Schedule, hart: HartId, ticks: Tick)
+    ensures { schedule.new ≡ sooner_by (key_of schedule.old hart.0) ticks hart.0 schedule.old }
+{
+    if let Some(due) = schedule.key(hart) {
+        schedule.rekey(hart, due.saturating_sub(ticks));
+    }
+}
+
+/// Each of these harts is due sooner, by what a speedup in per cent takes off its next instruction.
+pub fn hasten_each(schedule: &mut Schedule, guest: &Guest, harts: &[HartId], speedup: u8)
+    requires made { AllMade guest.now (map (λ hart. hart.0) harts.now) }
+    requires speedup { speedup ≤ 95 }
+    ensures { schedule.new ≡ with_sooner (raise_ticks guest.now speedup) (map (λ hart. hart.0) harts.now) schedule.old }
+{
+    for hart in harts {
+        hasten(schedule, *hart, raised_by(guest, *hart, speedup));
     }
 }

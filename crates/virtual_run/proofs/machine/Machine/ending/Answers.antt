@@ -1,0 +1,11 @@
+use Rattle.std.proofs.Common.{ap, sym, ◌∙◌}
+use Rattle.machines.specs.Delayed.{Delayed}
+use Rattle.guest_calls.specs.Guest.{Guest}
+use Rattle.virtual_run.specs.Seen.{Seen}
+use Rattle.virtual_run.proofs.CreditedRun.{ending_now}
+use Rattle.virtual_run.proofs.machine.Machine.ending.Goals as goal
+
+pub returns : goal.returns
+returns c =
+    let m = c.self.inside in
+    c.ending.ensures ∙ sym (ending_now m.image.now m.input.now m.setting m.run m.credits m.moment c.self.invariant) ∙ ap (λ (v : Seen (Delayed Guest)). v.state.ending) c.self.view_is

@@ -1,0 +1,131 @@
+//! Leads: what the runs of a line have in common, whatever the speedup.
+ghost use Rattle.std.specs.Prelude.{◌≡◌, ◌≤◌, [], ◌∷◌, Some, not, is_some, IfOk, IsSome, IsTrue};
+ghost use Rattle.virtual_run.specs.Seen.{experiment_of};
+ghost use Rattle.virtual_run.specs.Lead.{arguments, starts_next, Stands, IsShared};
+
+use crate::{Choice, Machine};
+use coz_types::{Ending, Image, LineId};
+use line_index::LineIndex;
+use progress_points::Points;
+use std::alloc::{AllocError, Global};
+use std::marker::Model;
+
+/// The delayed run of a program before a beginning, while no instruction of the selected line was begun. It is the same at
+/// every speedup, so each one is forked from it.
+///
+/// Contracts see as its state what stands before the beginning, and the harts that begin next.
+#[derive(Drop)]
+pub struct Lead<'a> {
+    /// The run at speedup 0, after that beginning: its starts are counted, and raise nothing.
+    machine: Machine<'a>,
+    /// The speedup that was given. A lead has no use for it.
+    speedup: u8,
+}
+
+impl<'a> Model for Lead<'a> {
+    ghost use Rattle.machines.specs.Lead.{Before, before};
+    ghost use Rattle.guest_calls.specs.Guest.{Guest};
+    ghost use Rattle.virtual_run.specs.Seen.{Seen, experiment_of};
+    ghost use Rattle.virtual_run.specs.Lead.{IsLead};
+
+    ghost Value = { Seen (Before Guest) };
+
+    ghost view = { λ l. record {
+      image = l.machine.image;
+      index = l.machine.index;
+      points = l.machine.points;
+      input = l.machine.input;
+      choice = record l.machine.choice { speedup = l.speedup };
+      state = before (experiment_of l.machine) l.machine.state.retired;
+    } };
+
+    ghost invariant = { λ l. IsLead l.machine };
+}
+
+impl<'a> Lead<'a> {
+    ghost use Rattle.machines.specs.Delayed.{unbegun, begin};
+    ghost use Rattle.machines.specs.Standing.{standing};
+    ghost use Rattle.machines.specs.Lead.{at_speedup};
+    ghost use Rattle.line_index.specs.Index.{position_at};
+    ghost use Rattle.progress_points.specs.Points.{point_of};
+    ghost use Rattle.virtual_run.specs.Run.{experiment, IsChoice};
+
+    /// Before the first beginning, that of hart 0. The speedup isn't read.
+    pub fn new(
+        alloc: Global,
+        image: &'a Image<'a>,
+        index: &'a LineIndex,
+        points: &'a Points,
+        input: &'a [u8],
+        choice: Choice,
+    ) -> Result<Lead<'a>, AllocError>
+        requires choice { IsChoice choice }
+        requires selected { IsSome choice.selected }
+        ensures { IfOk result (λ lead. lead ≡ record {
+          image = image.now;
+          index = index.now;
+          points = points.now;
+          input = input.now;
+          choice = choice;
+          state = record {
+            state = unbegun (experiment image.now (position_at index.now) (point_of points.now) input.now choice);
+            harts = 0 ∷ [];
+          };
+        }) }
+    {
+        let whole = Choice {
+            speedup: 0,
+            ..choice
+        };
+        let machine = Machine::new(alloc, image, index, points, input, whole)?;
+        Ok(Lead {
+            machine,
+            speedup: choice.speedup,
+        })
+    }
+
+    /// Runs up to, not including, the first beginning that has a hart whose next instruction has the selected line. Gives
+    /// None there, and else how the run has ended. A further call changes nothing and gives the same.
+    pub fn run(&mut self) -> Option<Ending>
+        ensures ended { result ≡ self.new.state.state.ending }
+        ensures none { is_some result ≡ not (starts_next (experiment_of self.old) self.new.state) }
+        ensures stands { Stands (experiment_of self.old) self.new.state }
+        ensures shared { IsShared (experiment_of self.old) self.new.state }
+        ensures stays { IsTrue (starts_next (experiment_of self.old) self.old.state) → self.new ≡ self.old }
+        ensures over { IsSome self.old.state.state.ending → self.new ≡ self.old }
+        ensures rest { self.new ≡ record self.old { state = self.new.state } }
+    {
+        self.machine.lead()
+    }
+
+    /// Makes this lead the same as one that stands where it was made, with another line selected.
+    pub fn again(&mut self, first: &Lead<'a>, line: LineId)
+        requires arguments { arguments self.old ≡ arguments first.now }
+        requires unbegun { first.now.state ≡ record { state = unbegun (experiment_of first.now); harts = 0 ∷ [] } }
+        ensures { self.new ≡ record first.now { choice = record first.now.choice { selected = Some line } } }
+    {
+        self.machine.again_from(&first.machine, line);
+        self.speedup = first.speedup;
+    }
+
+    /// Makes a machine the run of this lead's line at a speedup, after the beginning that comes next. Where the lead has ended,
+    /// none comes, and the machine has ended likewise.
+    pub fn fork(&self, machine: &mut Machine<'a>, speedup: u8)
+        requires speedup { speedup ≤ 95 }
+        requires arguments { arguments machine.old ≡ arguments self.now }
+        ensures forked { machine.new ≡ record machine.old {
+          choice = record self.now.choice { speedup = speedup };
+          state = begin (at_speedup speedup (experiment_of self.now)) self.now.state.harts self.now.state.state;
+        } }
+        ensures stands { machine.new.state ≡ standing (experiment_of machine.new) machine.new.state.retired }
+    {
+        machine.fork_from(&self.machine, speedup);
+    }
+}
+
+fn is_sent_and_shared<T: Send + Sync>() {}
+
+// Workers share the first lead, and each has one of its own.
+fn lead_is_sent_and_shared() {
+    is_sent_and_shared::<Lead<'static>>()
+}
