@@ -1,5 +1,5 @@
 -- What the top call leaves, by the answer that its words came to.
-use Rattle.std.proofs.Common.{◌≡◌, ◌↔◌, ℕ, List, Option, Some, None, IfSome, Ok, Err, refl, ap, sym, subst, arith, codes, inl, inr}
+use Rattle.std.proofs.Common.{◌≡◌, ◌↔◌, ℕ, List, Option, Some, None, IfSome, Ok, Err, refl, sym, subst, arith, codes, inl, inr}
 use Rattle.std.specs.Io.KnownBytes.{Appends}
 use Rattle.coz_types.specs.Labels.{Text}
 use Rattle.coz_files.specs.Held.{Held}
@@ -7,7 +7,7 @@ use Rattle.coz_files.specs.Puts.{AppendsPrefix}
 use Rattle.coz_page.specs.declared.judge.Ranked.{Ranked}
 use Rattle.coz_page.specs.declared.fault.Fault.{Fault}
 use Rattle.coz_page.specs.declared.fault.Fault.TheVariants.{Usage, Read, Write, Long, Memory, Profile}
-use Rattle.coz_page.specs.Verdict.{Verdict, path_in, verdict}
+use Rattle.coz_page.specs.Verdict.{Verdict, verdict}
 use Rattle.coz_page.specs.Answer.{IsMemory, Settles, Suits, fault_status, ranked_page}
 use Rattle.coz_page.specs.Serve.{IsLine}
 

@@ -1,5 +1,5 @@
 -- What is known of an answer before it is written.
-use Rattle.std.specs.Prelude.{◌≡◌, ℕ, ◌⊎◌, List, [], ◌++◌, codes, Option, Some, None, Result, Ok, Err, IsErrAnd}
+use Rattle.std.specs.Prelude.{◌≡◌, ℕ, ◌⊎◌, ◌++◌, codes, Option, Some, None, Result, Ok, Err, IsErrAnd}
 use Rattle.coz_types.specs.Labels.{Text}
 use Rattle.coz_files.specs.Faults.{Rose}
 use Rattle.profile_reader.specs.declared.fault.BookError.{BookError}

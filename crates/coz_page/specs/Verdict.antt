@@ -1,5 +1,5 @@
 -- What the words and the files that the paths hold come to: a status, a text for the output and a line for the errors.
-use Rattle.std.specs.Prelude.{ℕ, Bool, not, ◌&&◌, List, [], ◌∷◌, ◌++◌, length, map, nat_le, codes, decimal, Option, Some, None, if◌then◌else◌, string_bytes}
+use Rattle.std.specs.Prelude.{ℕ, List, [], ◌∷◌, ◌++◌, length, map, nat_le, codes, decimal, Option, Some, None, if◌then◌else◌, string_bytes}
 use Rattle.std.specs.declared.string.String.{String}
 use Rattle.std.specs.declared.alloc.Global.{Global}
 use Rattle.coz_types.specs.Labels.{Text, is_empty}

@@ -1,4 +1,4 @@
-use Rattle.std.proofs.Common.{◌≡◌, ℕ, List, codes, refl, arith, subst, ap, ap₂}
+use Rattle.std.proofs.Common.{◌≡◌, List, codes, refl, arith, subst, ap₂}
 use Rattle.std.specs.Io.KnownBytes.{Appends}
 use Rattle.coz_types.specs.Labels.{Text}
 use Rattle.coz_files.specs.Puts.{AppendsPrefix}
