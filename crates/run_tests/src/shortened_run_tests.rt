@@ -15,7 +15,7 @@ use std::test::Fail;
 use virtual_run::Machine;
 
 /// addi a0, x0, 0; addi a7, x0, 93; ecall: exit with the code 0.
-pub const FILE: [u8; 12] = [0x13, 0x05, 0, 0, 0x93, 0x08, 0xD0, 0x05, 0x73, 0, 0, 0];
+const FILE: [u8; 12] = [0x13, 0x05, 0, 0, 0x93, 0x08, 0xD0, 0x05, 0x73, 0, 0, 0];
 
 /// jal x0, 0: again and again.
 const AGAIN: [u8; 12] = [0x6F, 0, 0, 0, 0, 0, 0, 0, 0, 0, 0, 0];
@@ -39,7 +39,7 @@ const FILES: [FileName<'static>; 1] = [FileName {
 }];
 
 /// A page of stack, and no more.
-pub const SMALL: Layout = Layout {
+const SMALL: Layout = Layout {
     brk: 0,
     map: 0,
     stack: 4096,
@@ -57,12 +57,12 @@ fn row(address: u64, line: u32) -> Row {
     }
 }
 
-pub fn program(alloc: Global, file: &'static [u8; 12]) -> Result<Image<'static>, AllocError> {
+fn program(alloc: Global, file: &'static [u8; 12]) -> Result<Image<'static>, AllocError> {
     Ok(Image::new(file, vec![in alloc; CODE]?, 0x10000, 0, 1))
 }
 
 /// The second instruction has line 2, the others line 1.
-pub fn lines_of(alloc: Global, image: &Image) -> Result<LineIndex, AllocError> {
+fn lines_of(alloc: Global, image: &Image) -> Result<LineIndex, AllocError> {
     let rows = [
         row(0x10000, 1),
         row(0x10004, 2),
@@ -77,7 +77,7 @@ pub fn lines_of(alloc: Global, image: &Image) -> Result<LineIndex, AllocError> {
     line_index::build(alloc, &table, image)
 }
 
-pub fn point_at(alloc: Global, index: &LineIndex, line: LineId) -> Result<Points, PointsError>
+fn point_at(alloc: Global, index: &LineIndex, line: LineId) -> Result<Points, PointsError>
     requires { line.0 < length index.now.lines }
 {
     Points::new(alloc, index, &[line])
