@@ -1,22 +1,21 @@
 -- What code knows of the harts that began last, and what of a forked state is that of the lead.
-use Rattle.std.proofs.Common.{◌≡◌, ℕ, zero, suc, ◌+◌, ◌-◌, Bool, true, false, cond, if◌then◌else◌, List, [], ◌∷◌, length, filter, fold, get_or, refl, sym, ap, ap₂, ◌∙◌, subst, arith, ne_eqb, eq-eqb, ◌==◌, Option, Some, None, ◌⊎◌, inl, inr}
+use Rattle.std.proofs.Common.{◌≡◌, ℕ, zero, suc, ◌+◌, ◌-◌, Bool, true, false, cond, if◌then◌else◌, List, [], ◌∷◌, filter, fold, get_or, refl, sym, ap, ap₂, ◌∙◌, subst, ne_eqb, eq-eqb, ◌==◌, Option, Some, None, ◌⊎◌, inl, inr}
 use Rattle.std.proofs.lemmas.Bool.{cases_eq}
 use Rattle.coz_types.specs.declared.ending.Ending.{Ending}
-use Rattle.machines.specs.Places.{first_place, change_each, is_among, AllApart}
+use Rattle.machines.specs.Places.{first_place, is_among, AllApart}
 use Rattle.machines.specs.Guest.{Experiment, IsLawful, cost, cut, started}
-use Rattle.machines.specs.Delayed.{Delayed, fresh, run, is_ready, raise, begin, retirement, leave, give_credit, ending, unbegun, after}
+use Rattle.machines.specs.Delayed.{Delayed, is_ready, raise, retirement, leave, give_credit, ending, unbegun, after}
 use Rattle.machines.specs.Shortened.{Shortened, Turn, next_turn, shortened}
 use Rattle.machines.specs.Shortened as short
 use Rattle.machines.specs.Steps.{jump}
 use Rattle.machines.specs.Standing.{ticks_left, standing}
-use Rattle.machines.specs.Agreement.{Agrees}
 use Rattle.machines.specs.Lead.{Before, at_speedup, ended_or, left, woken, turned, before_by, before_move, before, raise_counted}
 use Rattle.machines.proofs.Begin.{unchanged}
 use Rattle.machines.proofs.Maps.{change_each_at}
 use Rattle.machines.proofs.Retire.{turn}
 use Rattle.machines.proofs.Jump.{jump_is}
 use Rattle.machines.proofs.Stepping.{begin_frame}
-use Rattle.machines.proofs.Standing.{all_have, jump_goes, agrees, Comes, comes_at}
+use Rattle.machines.proofs.Standing.{all_have, jump_goes, agrees, comes_at}
 use Rattle.machines.proofs.Lead.{standing_begins, forked}
 use Rattle.machines.proofs.LeadDues.{BeforeShort, Beside, beside, shortened_begins}
 use Rattle.machines.proofs.LeadDues as dues

@@ -1,30 +1,27 @@
 -- A run that begins at speedup 0, as another line is selected.
-use Rattle.std.proofs.Common.{◌≡◌, ℕ, zero, suc, ◌+◌, ◌-◌, ◌*◌, ◌≤◌, Bool, true, false, if◌then◌else◌, List, [], ◌∷◌, map, length, get_or, filter, fold, refl, sym, ap, ap₂, ◌∙◌, subst, arith, Option, Some, None, is_some, zero-mul}
-use Rattle.coz_types.specs.declared.ending.Ending.{Ending}
+use Rattle.std.proofs.Common.{◌≡◌, ℕ, zero, suc, ◌+◌, ◌-◌, ◌*◌, ◌≤◌, Bool, true, false, if◌then◌else◌, List, [], ◌∷◌, length, get_or, filter, fold, refl, sym, ap, ◌∙◌, subst, arith, Option, Some, None, zero-mul}
 use Rattle.coz_types.specs.declared.LineId.{LineId}
 use Rattle.coz_types.specs.Image.{ImageParts}
 use Rattle.hart_schedule.specs.Keys.{Keys, key_of}
-use Rattle.machines.specs.Places.{is_among, change, change_each}
-use Rattle.machines.specs.Guest.{Experiment, IsLawful, cost, cut}
-use Rattle.machines.specs.Delayed.{Delayed, Hart, fresh, raise, begin, unbegun, delayed, after, run as run_from}
+use Rattle.machines.specs.Places.{change, change_each}
+use Rattle.machines.specs.Guest.{Experiment, cost, cut}
+use Rattle.machines.specs.Delayed.{Delayed, fresh, raise, begin, unbegun, delayed, after, run as run_from}
 use Rattle.machines.specs.Shortened.{Shortened, shortened}
 use Rattle.machines.specs.Shortened as short
 use Rattle.machines.specs.Standing.{standing}
-use Rattle.machines.specs.Lead.{Before, at_speedup, before}
+use Rattle.machines.specs.Lead.{at_speedup, before}
 use Rattle.machines.proofs.Lead.{all_count}
 use Rattle.delay_credits.specs.Delays.{Delays}
-use Rattle.guest_calls.specs.Guest.{Guest, making, IsMade, pc_of, first_guest}
-use Rattle.virtual_run.specs.declared.choice.Choice.{Choice}
+use Rattle.guest_calls.specs.Guest.{Guest, IsMade, pc_of}
 use Rattle.virtual_run.specs.declared.choice.Setting.{Setting}
 use Rattle.virtual_run.specs.declared.run.Run.{Run}
 use Rattle.virtual_run.specs.Begin.{many}
-use Rattle.virtual_run.specs.Run.{IsChoice, IsReached, IsStateOf, state_of, selects, selected_of}
+use Rattle.virtual_run.specs.Run.{IsChoice, IsReached, state_of, selects, selected_of}
 use Rattle.virtual_run.specs.Credited.{Holds}
-use Rattle.virtual_run.specs.Seen.{Seen, experiment_with, experiment_of}
-use Rattle.virtual_run.specs.DelayedRun.{visit_as, IsPaced}
+use Rattle.virtual_run.specs.Seen.{experiment_with}
+use Rattle.virtual_run.specs.DelayedRun.{IsPaced}
 use Rattle.virtual_run.proofs.Begin.{one_at_most}
 use Rattle.virtual_run.proofs.Law.{first_made}
-use Rattle.virtual_run.proofs.CreditedRun.{ending_now, retired_now, guest_now}
 
 -- some hart is due
 some_many : (keys : Keys) (k v : ℕ) → key_of keys k ≡ Some v → 1 ≤ many keys

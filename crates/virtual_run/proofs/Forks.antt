@@ -1,16 +1,13 @@
 -- A machine at another speedup, from one at speedup 0 that counted no start before the beginning it stands after.
-use Rattle.std.proofs.Common.{◌≡◌, ℕ, zero, suc, ◌+◌, ◌-◌, ◌*◌, ◌^◌, ◌≤◌, ◌<◌, Bool, true, false, if◌then◌else◌, ◌==◌, List, [], ◌∷◌, map, length, get_or, filter, fold, refl, sym, ap, ap₂, ◌∙◌, subst, arith, Option, Some, None, is_some, option_map, eq-eqb, mul_comm}
-use Rattle.std.proofs.lemmas.List.{length-map}
+use Rattle.std.proofs.Common.{◌≡◌, ℕ, ◌+◌, ◌-◌, ◌*◌, ◌^◌, ◌≤◌, ◌<◌, Bool, true, false, if◌then◌else◌, ◌==◌, List, [], ◌∷◌, length, get_or, filter, fold, refl, sym, ap, ap₂, ◌∙◌, subst, arith, Option, Some, None, is_some, eq-eqb, mul_comm}
 use Rattle.coz_types.specs.declared.ending.Ending.{Ending}
 use Rattle.coz_types.specs.Image.{ImageParts}
-use Rattle.cost_table.specs.Costs.{cycles_of, raise_of}
+use Rattle.cost_table.specs.Costs.{cycles_of}
 use Rattle.hart_schedule.specs.Keys.{Keys, key_of}
-use Rattle.machines.specs.Places.{is_among, AllApart, change_each, change_from}
-use Rattle.machines.specs.Guest.{Experiment, IsLawful, cost, cut}
-use Rattle.machines.specs.Delayed.{Delayed, Hart, fresh, is_running, raise, raise_hart, begin, unbegun, run as run_from}
+use Rattle.machines.specs.Places.{is_among, AllApart}
+use Rattle.machines.specs.Guest.{Experiment, IsLawful, cut}
+use Rattle.machines.specs.Delayed.{Delayed, Hart, fresh, is_running, raise}
 use Rattle.machines.specs.Shortened.{Shortened, shortened}
-use Rattle.machines.specs.Shortened as short
-use Rattle.machines.specs.Agreement.{Agrees}
 use Rattle.machines.specs.Standing.{standing}
 use Rattle.machines.specs.Lead.{Before, at_speedup, before, raise_counted}
 use Rattle.machines.proofs.Begin.{unchanged}
@@ -18,9 +15,8 @@ use Rattle.machines.proofs.Harts.{alike}
 use Rattle.machines.proofs.Lead.{standing_begins, begin_starts, forked, same_before}
 use Rattle.machines.proofs.LeadDues.{dues_forked}
 use Rattle.machines.proofs.LeadForks.{before_guest, ended_begins, filter_apart, begins_apart, begun_due, rest_forked, parts_forked}
-use Rattle.machines.proofs.Standing.{agrees}
-use Rattle.delay_credits.specs.Delays.{Delays, hart_at}
-use Rattle.guest_calls.specs.Guest.{Guest, making, IsMade, pc_of, first_guest}
+use Rattle.delay_credits.specs.Delays.{Delays}
+use Rattle.guest_calls.specs.Guest.{Guest}
 use Rattle.guest_calls.specs.Orderly.{IsOrderly}
 use Rattle.guest_calls.specs.Retire.{next_of}
 use Rattle.guest_calls.proofs.Law.{running_low}
@@ -28,17 +24,16 @@ use Rattle.virtual_run.specs.declared.choice.Choice.{Choice}
 use Rattle.virtual_run.specs.declared.choice.Setting.{Setting}
 use Rattle.virtual_run.specs.declared.run.Run.{Run}
 use Rattle.virtual_run.specs.Begin.{many}
-use Rattle.virtual_run.specs.Run.{IsChoice, IsReached, IsStateOf, IsSteady, state_of}
+use Rattle.virtual_run.specs.Run.{IsChoice, IsReached, IsSteady}
 use Rattle.virtual_run.specs.Credited.{raise_ticks, with_one_raise, with_raises, Holds, AllRun, AllMade}
-use Rattle.virtual_run.specs.Seen.{Seen, experiment_with, experiment_of}
-use Rattle.virtual_run.specs.DelayedRun.{visit_as, IsPaced}
+use Rattle.virtual_run.specs.Seen.{experiment_with}
+use Rattle.virtual_run.specs.DelayedRun.{IsPaced}
 use Rattle.virtual_run.specs.Lead.{with_sooner}
 use Rattle.virtual_run.proofs.Keys.{has_place}
 use Rattle.virtual_run.proofs.Credited.{among_filter, among_more, held_raise}
-use Rattle.virtual_run.proofs.CreditedLists.{raises_length, raises_latest}
-use Rattle.virtual_run.proofs.CreditedPlaces.{standing_good}
+use Rattle.virtual_run.proofs.CreditedLists.{raises_length}
 use Rattle.virtual_run.proofs.CreditedSteps.{runs_held}
-use Rattle.virtual_run.proofs.CreditedRun.{lawful_with, never_with, agree, ending_now, retired_now, starts_now, guest_now, starts_few, raised_few, is_steady}
+use Rattle.virtual_run.proofs.CreditedRun.{lawful_with, agree, ending_now, starts_now, guest_now, starts_few, raised_few, is_steady}
 use Rattle.virtual_run.proofs.Sooner.{less, sooner_length, sooner_many, sooner_key, among_filtered, ticks_by}
 
 -- raises that were counted, of the credits

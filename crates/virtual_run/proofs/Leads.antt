@@ -1,12 +1,12 @@
 -- Machines at speedup 0 up to the first start, and the leads that they are.
-use Rattle.std.proofs.Common.{◌≡◌, ℕ, zero, suc, ◌+◌, ◌-◌, ◌≤◌, ◌<◌, ◌==◌, ◌&&◌, Bool, true, false, not, List, [], ◌∷◌, length, filter, refl, sym, ap, ap₂, ◌∙◌, subst, arith, Option, Some, None, is_some, IsSome, eqb-true, zero-add}
+use Rattle.std.proofs.Common.{◌≡◌, ℕ, suc, ◌+◌, ◌-◌, ◌≤◌, ◌<◌, ◌==◌, ◌&&◌, Bool, true, false, not, List, [], ◌∷◌, length, filter, refl, sym, ap, ap₂, ◌∙◌, subst, arith, Option, Some, None, is_some, IsSome, eqb-true, zero-add}
 use Rattle.std.proofs.Math.Dec.{eqb-suc-zero}
 use Rattle.coz_types.specs.declared.ending.Ending.{Ending}
 use Rattle.coz_types.specs.declared.LineId.{LineId}
 use Rattle.coz_types.specs.Image.{ImageParts}
 use Rattle.delay_credits.specs.Delays.{Delays}
 use Rattle.machines.specs.Guest.{Experiment}
-use Rattle.machines.specs.Delayed.{Delayed, begin, unbegun, delayed, is_any}
+use Rattle.machines.specs.Delayed.{Delayed, begin, unbegun, is_any}
 use Rattle.machines.specs.Steps.{Steps}
 use Rattle.machines.specs.Standing.{standing}
 use Rattle.machines.specs.Lead.{Before, at_speedup, before}

@@ -6,7 +6,6 @@ use Rattle.machines.specs.Delayed.{Delayed, is_any, delayed}
 use Rattle.machines.specs.Standing.{standing}
 use Rattle.machines.specs.Lead.{Before, at_speedup, before}
 use Rattle.guest_calls.specs.Guest.{Guest}
-use Rattle.virtual_run.specs.declared.choice.Choice.{Choice}
 use Rattle.virtual_run.specs.Seen.{Seen, experiment_of}
 use Rattle.virtual_run.specs.Run.{IsChoice}
 

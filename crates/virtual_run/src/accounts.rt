@@ -81,7 +81,8 @@ pub fn raise_selected(credits: &mut Credits, run: &Run, speedup: u8, now: Tick)
     requires few { credits.old.raised + 3800 * length run.now.selected ≤ 10 ^ 17 }
     ensures { credits.new ≡ with_raises (raise_ticks run.now.guest speedup) run.now.selected credits.old }
 {
-    raise_each(credits, &run.guest, run.selected.harts(), speedup, now);
+    let harts = run.selected.harts();
+    raise_each(credits, &run.guest, harts, speedup, now);
 }
 
 /// What follows a retirement from which the run goes on: the harts that it made or woke are credited, all that it started

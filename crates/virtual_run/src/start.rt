@@ -9,8 +9,8 @@ ghost use Rattle.virtual_run.specs.Credited.{raise_ticks, AllMade};
 ghost use Rattle.virtual_run.specs.Lead.{sooner_by, with_sooner};
 ghost use Rattle.virtual_run.specs.Run.{selects, selected_of, ticks_in};
 
-use crate::accounts::raised_by;
 use crate::Setting;
+use crate::accounts::raised_by;
 use cost_table::reduced;
 use coz_types::{HartId, Tick};
 use guest_calls::{Fate, Guest};

@@ -1,4 +1,4 @@
-use Rattle.std.proofs.Common.{◌≡◌, ℕ, List, ◌+◌, drop, get_or, ap, sym, subst, ◌∙◌}
+use Rattle.std.proofs.Common.{ℕ, List, ◌+◌, drop, get_or, ap, sym, ◌∙◌}
 use Rattle.hart_schedule.specs.Keys.{Keys, key_of}
 use Rattle.virtual_run.specs.Credited.{raise_ticks}
 use Rattle.virtual_run.specs.Lead.{sooner_by, with_sooner}

@@ -1,4 +1,4 @@
-use Rattle.std.proofs.Common.{◌≡◌, ℕ, ◌+◌, ◌*◌, ◌^◌, ◌≤◌, length, List, ap, ap₂, subst, sym, refl, ◌∙◌}
+use Rattle.std.proofs.Common.{◌≡◌, ℕ, ◌+◌, ◌*◌, ◌^◌, ◌≤◌, length, ap, ap₂, subst, sym, refl, ◌∙◌}
 use Rattle.delay_credits.specs.Delays.{Delays}
 use Rattle.machines.specs.Lead.{before}
 use Rattle.virtual_run.specs.Credited.{raise_ticks, with_raises, AllRun, AllMade}
