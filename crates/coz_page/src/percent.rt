@@ -4,7 +4,7 @@ ghost use Rattle.coz_files.specs.Gathered.{Gathers};
 ghost use Rattle.coz_page.specs.Values.{sign, size_text, percent, value_text};
 
 use coz_files::{PutBuffer, Sink};
-use profile_book::{put_field, put_number};
+use profile_book::put_number;
 
 fn put_big<O: Sink>(to: &mut PutBuffer, out: &mut O, n: u128)
     ensures { Gathers O.holds O.faults out.old out.new to.old to.new (decimal n) }
