@@ -1,7 +1,7 @@
 -- What a worker did, one claim further, and what two workers did, joined.
-use Rattle.std.proofs.Common.{◌≡◌, ℕ, zero, ◌+◌, ◌<◌, ◌≤◌, Bool, cond, nat_lt, nat_le, Some, List, [], ◌∷◌, ◌++◌, map, length, sym, ap, ap₂, ◌∙◌, arith, length-append, lt_of_not-le}
+use Rattle.std.proofs.Common.{◌≡◌, ℕ, zero, suc, ◌+◌, ◌<◌, ◌≤◌, Bool, cond, nat_lt, nat_le, Some, None, false, List, [], ◌∷◌, ◌++◌, map, length, sym, ap, ap₂, ◌∙◌, arith, length-append, lt_of_not-le}
 use Rattle.std.proofs.lemmas.Bool.{lt-ltb}
-use Rattle.std.proofs.lemmas.List.{map-append}
+use Rattle.std.proofs.lemmas.List.{map-append, append-nil}
 use Rattle.std.proofs.lemmas.List.Sums.{sum_by-append, sum_by_push}
 use Rattle.std.proofs.lemmas.List.Elements.{filter-append}
 use Rattle.experiment_claims.specs.declared.hand.Hand.{Hand}
@@ -45,6 +45,32 @@ worked_drawn {f} {b} {h} {done} before new claim summaries all d gave is =
       },
       omega (arith, more),
     )
+
+-- what is drawn as no claim is a number from the bound on
+drawn_past : {b : ℕ} {old new : Hand} (d : Draws b old new None) → Dec (b ≤ d.number) → b ≤ d.number
+drawn_past d (yes far) = far
+drawn_past d (no not) = let within = d.within (lt_of_not-le not) in absurd cc
+
+-- a draw that met the bound
+pub worked_stopped : {f : ℕ → List Summary} {b t : ℕ} {h : Hand} {done : List Claimed} → Worked f b t 0 h done
+    → (new : Hand) → Draws b h new None → Worked f b t 1 new done
+worked_stopped {f} {b} {t} {h} {done} before new d =
+    let far : b ≤ d.number = drawn_past d (dec_le b d.number) in
+    let no : nat_lt d.number b ≡ false = grind arith in
+    let none : claims_in b (d.number ∷ []) ≡ [] = ap (λ (t : Bool). cond t (d.number ∷ []) []) no in
+    let one : cond (nat_le b d.number) 1 0 ≡ suc 0 = grind arith in
+    let spent = before.all in
+    let turn = d.turn in
+    let more : length new.numbers ≡ length h.numbers + 1 = ap length d.numbers ∙ length-append h.numbers (d.number ∷ []) in
+    record {
+      all = omega (arith, more);
+      each =
+          before.each
+          ∙ ap (map (claimed f)) (sym (append-nil (claims_in b h.numbers)) ∙ ap (λ (l : List ℕ). claims_in b h.numbers ++ l) (sym none))
+          ∙ ap (map (claimed f)) (sym (filter-append (λ n. nat_lt n b) h.numbers (d.number ∷ [])))
+          ∙ ap (λ (l : List ℕ). map (claimed f) (claims_in b l)) (sym d.numbers);
+      stopped = omega (arith, ap (past b) d.numbers, sum_by_push (λ n. cond (nat_le b n) 1 0) h.numbers d.number, before.stopped, one);
+    }
 
 pub worked_joined : {f : ℕ → List Summary} {b t s t' s' : ℕ} {h k : Hand} {ps qs : List Claimed} → Worked f b t s h ps → Worked f b t' s' k qs
     → (both : Hand) (all : List Claimed) (turns stops : ℕ)

@@ -6,3 +6,4 @@ pub mod Summing
 mod Joined
 mod Ordered
 mod Lines
+mod Making

@@ -3,12 +3,13 @@ use Rattle.std.proofs.Common.{◌≡◌, ℕ, zero, suc, ◌+◌, ◌<◌, List,
 use Rattle.std.specs.List.{All, flat_map, range_with_len}
 use Rattle.std.proofs.Math.Seq.{take-append_seam, drop-append_seam}
 use Rattle.std.proofs.lemmas.List.{length-map, map-append, take_more}
-use Rattle.std.proofs.lemmas.List.Elements.{All-take, All-drop}
+use Rattle.std.proofs.lemmas.List.Elements.{All-take, All-drop, All-head, All-weaker}
 use Rattle.std.proofs.lemmas.List.Folds.{flat_map-map}
 use Rattle.std.proofs.lemmas.List.FromFn.{fill_by_all}
+use Rattle.coz_types.specs.declared.LineId.{LineId}
 use Rattle.coz_types.specs.declared.record.Summary.{Summary}
 use Rattle.experiment_plan.specs.declared.experiment.Experiment.{Experiment}
-use Rattle.experiment_plan.specs.ByLine.{joined}
+use Rattle.experiment_plan.specs.ByLine.{joined, IsOfOneLine}
 
 -- one pair more
 pub pair_next : (s : Experiment → Summary) (pairs : List Experiment) (i : ℕ) (none : Experiment) (before new : List Summary) (summary : Summary)
@@ -53,3 +54,12 @@ of_all P (run ∷ runs) zero line all e =
     subst (All P) (take-append_seam run (joined runs) ∙ same) (All-take P (length run) (run ++ joined runs) all)
 of_all P (run ∷ runs) (suc i) line all e =
     of_all P runs i line (subst (All P) (drop-append_seam run (joined runs)) (All-drop P (length run) (run ++ joined runs) all)) e
+
+-- what is so of the line of the first pair is so of each pair's line
+pub of_one_line : (P : LineId → Type 0) (pairs : List Experiment) → IsOfOneLine pairs → (none : Experiment)
+    → P (get_or pairs 0 none).line → All (λ (pair : Experiment). P pair.line) pairs
+of_one_line P [] one none holds = absurd (let some = one.some in omega arith)
+of_one_line P (pair ∷ pairs) one none holds =
+    let own : pair.line ≡ one.line = All-head (λ (e : Experiment). e.line ≡ one.line) pair pairs one.each in
+    let of_line : P one.line = subst P own holds in
+    All-weaker (λ (e : Experiment). e.line ≡ one.line) (λ (e : Experiment). P e.line) (λ e is. subst P (sym is) of_line) (pair ∷ pairs) one.each

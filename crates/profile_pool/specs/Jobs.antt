@@ -6,12 +6,13 @@ use Rattle.experiment_claims.specs.Seats.{hand_of, IsSeatOf, bound_of}
 use Rattle.profile_pool.specs.declared.job.Job.{Job}
 use Rattle.profile_pool.specs.declared.job.Answer.{Answer}
 use Rattle.profile_pool.specs.declared.work.Work.{Work}
+use Rattle.profile_pool.specs.Made.{AreFor}
 use Rattle.profile_pool.specs.Work.{work_at}
 use Rattle.profile_pool.specs.Worked.{Worked, AreSummaries}
 
--- a seat that drew nothing, with one turn more than there are claims
-abbrev pub IsJob : Claims → Job → Type 0
-IsJob c j = IsSeatOf c j.seat × (hand_of j.seat ≡ hand (bound_of c + 1) [])
+-- a seat that drew nothing, with one turn more than there are claims, and what runs of the plan can be made by
+abbrev pub IsJob : Work → Claims → Job → Type 0
+IsJob work c j = IsSeatOf c j.seat × (hand_of j.seat ≡ hand (bound_of c + 1) []) × AreFor work j.runner
 
 -- the seat at the end, where one draw met the bound
 abbrev pub IsAnswer : Work → Claims → Answer → Type 0

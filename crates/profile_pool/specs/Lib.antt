@@ -1,5 +1,6 @@
 pub mod Choices
 pub mod Summaries
+pub mod Made
 pub mod Work
 pub mod Worked
 pub mod Jobs

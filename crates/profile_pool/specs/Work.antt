@@ -1,11 +1,14 @@
 -- What the work of a claim is: the runs of a line of a plan.
-use Rattle.std.specs.Prelude.{ℕ, ◌<◌, ◌≤◌, ◌^◌, List, [], length, map, All}
+use Rattle.std.specs.Prelude.{◌≡◌, ℕ, ◌<◌, ◌≤◌, ◌^◌, List, [], ◌∷◌, Some, length, map, All}
 use Rattle.std.specs.List.{slice_index_or}
 use Rattle.coz_types.specs.declared.record.Summary.{Summary}
 use Rattle.experiment_plan.specs.declared.experiment.Experiment.{Experiment}
 use Rattle.experiment_plan.specs.ByLine.{by_line}
 use Rattle.profile_pool.specs.declared.work.Work.{Work}
+use Rattle.machines.specs.Delayed.{unbegun}
+use Rattle.virtual_run.specs.Seen.{experiment_of}
 use Rattle.profile_pool.specs.Summaries.{summary_in}
+use Rattle.profile_pool.specs.Made.{made, made_for}
 
 -- the summary of the run of a pair
 abbrev pub summary_of_pair : Work → Experiment → Summary
@@ -15,8 +18,10 @@ summary_of_pair work pair = summary_in work.image.now work.index.now work.points
 abbrev pub work_at : Work → ℕ → List Summary
 work_at work claim = map (summary_of_pair work) (slice_index_or (by_line work.plan.now) claim [])
 
--- what the runs ask for: lines of the program and a budget
+-- what the runs ask for: lines of the program, a budget, and a lead that stands where it was made
 pub record IsWork (work : Work) : Type 0 where
   pub lines : All (λ (pair : Experiment). pair.line.0 < length work.index.now.lines) work.plan.now
   pub some_budget : 1 ≤ work.budget
   pub few : work.budget ≤ 10 ^ 12
+  pub first : made work.first.now ≡ made_for work (Some 0) 0
+  pub unbegun : work.first.now.state ≡ record { state = unbegun (experiment_of work.first.now); harts = 0 ∷ [] }

@@ -1,15 +1,18 @@
-ghost use Rattle.std.specs.Prelude.{◌≡◌, ◌<◌, ◌≤◌, ◌^◌, length, map, All, IfOk};
+ghost use Rattle.std.specs.Prelude.{◌≡◌, ◌<◌, ◌≤◌, Some, length, map, All, IfOk};
 ghost use Rattle.coz_types.specs.Ranges.{IsSummary};
 ghost use Rattle.experiment_plan.specs.ByLine.{by_line};
 ghost use Rattle.experiment_plan.specs.declared.experiment.Experiment.{Experiment};
+ghost use Rattle.profile_pool.specs.Made.{made, made_for, IsFor, AreFor};
 ghost use Rattle.profile_pool.specs.Work.{summary_of_pair, work_at, IsWork};
 
-use crate::summary::run_pair;
+use crate::job::Runner;
+use crate::summary::summarise;
 use crate::work::Work;
 use coz_lists::Items;
-use coz_types::Summary;
+use coz_types::{LineId, Summary};
 use experiment_plan::Experiment;
 use std::alloc::{AllocError, Global};
+use virtual_run::{Lead, Machine};
 
 /// A claim and the summaries that its work gave.
 #[derive(Drop)]
@@ -18,37 +21,82 @@ pub struct Claimed {
     pub summaries: Items<Summary>,
 }
 
-/// The summary of the run of each of some pairs.
-fn run_pairs(alloc: Global, work: &Work, pairs: &[Experiment]) -> Result<Vec<Summary>, AllocError>
+/// Has a lead stand before the first start of a line.
+fn take_up<'a>(work: &Work<'a>, lead: &mut Lead<'a>, line: LineId)
     requires work { IsWork work.now }
+    requires lead { IsFor work.now lead.old }
+    ensures { made lead.new ≡ made_for work.now (Some line.0) 0 }
+{
+    lead.again(work.first, line);
+    lead.run();
+}
+
+/// The summary of the run of a pair, which is forked from the lead of its line.
+fn run_pair<'a>(
+    alloc: Global,
+    work: &Work<'a>,
+    lead: &Lead<'a>,
+    machine: &mut Machine<'a>,
+    pair: Experiment,
+) -> Result<Summary, AllocError>
+    requires line { pair.line.0 < length work.now.index.now.lines }
+    requires speedup { pair.speedup ≤ 95 }
+    requires lead { made lead.now ≡ made_for work.now (Some pair.line.0) 0 }
+    requires machine { IsFor work.now machine.old }
+    ensures machine { IsFor work.now machine.new }
+    ensures summary { IfOk result (λ summary. summary ≡ summary_of_pair work.now pair) }
+    ensures ranges { IfOk result (IsSummary (length work.now.points.now.lines)) }
+{
+    lead.fork(machine, pair.speedup);
+    machine.run();
+    summarise(
+        alloc,
+        machine,
+        work.index.label(pair.line),
+        pair.speedup,
+        work.points,
+    )
+}
+
+/// The summary of the run of each of some pairs, forked from the lead of their line.
+fn run_pairs<'a>(
+    alloc: Global,
+    work: &Work<'a>,
+    lead: &Lead<'a>,
+    machine: &mut Machine<'a>,
+    pairs: &[Experiment],
+) -> Result<Vec<Summary>, AllocError>
     requires lines { All (λ (pair : Experiment). pair.line.0 < length work.now.index.now.lines) pairs.now }
     requires speedups { All (λ (pair : Experiment). pair.speedup ≤ 95) pairs.now }
+    requires lead { All (λ (pair : Experiment). made lead.now ≡ made_for work.now (Some pair.line.0) 0) pairs.now }
+    requires machine { IsFor work.now machine.old }
+    ensures machine { IsFor work.now machine.new }
     ensures summaries { IfOk result (λ summaries. summaries.items ≡ map (summary_of_pair work.now) pairs.now) }
     ensures ranges { IfOk result (λ summaries. All (IsSummary (length work.now.points.now.lines)) summaries.items) }
 {
     let mut summaries = Vec::with_capacity(alloc, pairs.len())?;
     for pair in pairs {
-        summaries.push(run_pair(
-            alloc,
-            work.image,
-            work.index,
-            work.points,
-            work.input,
-            pair.line,
-            pair.speedup,
-            work.budget,
-        )?)?;
+        summaries.push(run_pair(alloc, work, lead, machine, *pair)?)?;
     }
     Ok(summaries)
 }
 
 /// What the work of a claim gives: the summary of the run of each pair of the line at that place of the plan.
-pub fn summaries_at(alloc: Global, work: &Work, claim: u32) -> Result<Items<Summary>, AllocError>
+pub fn summaries_at<'a>(
+    alloc: Global,
+    work: &Work<'a>,
+    runner: &mut Runner<'a>,
+    claim: u32,
+) -> Result<Items<Summary>, AllocError>
     requires work { IsWork work.now }
+    requires runner { AreFor work.now runner.old }
     requires claim { claim < length (by_line work.now.plan.now) }
+    ensures runner { AreFor work.now runner.new }
     ensures summaries { IfOk result (λ summaries. summaries ≡ work_at work.now claim) }
     ensures ranges { IfOk result (All (IsSummary (length work.now.points.now.lines))) }
 {
-    let summaries = run_pairs(alloc, work, work.plan.of_line(claim))?;
+    let pairs = work.plan.of_line(claim);
+    take_up(work, &mut runner.lead, pairs[0].line);
+    let summaries = run_pairs(alloc, work, &runner.lead, &mut runner.machine, pairs)?;
     Ok(Items::new(summaries))
 }

@@ -1,11 +1,28 @@
-use crate::claimed::Claimed;
-use experiment_claims::ClaimSeat;
+ghost use Rattle.std.specs.Prelude.{◌≤◌, ◌^◌, IfOk};
+ghost use Rattle.profile_pool.specs.Work.{IsWork};
+ghost use Rattle.profile_pool.specs.Made.{AreFor};
 
-/// A worker's number and its seat.
+use crate::claimed::Claimed;
+use crate::limits::choice;
+use crate::work::Work;
+use coz_types::LineId;
+use experiment_claims::ClaimSeat;
+use std::alloc::{AllocError, Global};
+use virtual_run::{Lead, Machine};
+
+/// What a worker runs lines by: a lead, and a machine that is forked from it. They are made once.
 #[derive(Drop)]
-pub struct Job {
+pub struct Runner<'a> {
+    pub lead: Lead<'a>,
+    pub machine: Machine<'a>,
+}
+
+/// A worker's number, its seat, and what it runs lines by.
+#[derive(Drop)]
+pub struct Job<'a> {
     pub worker: u32,
     pub seat: ClaimSeat,
+    pub runner: Runner<'a>,
 }
 
 /// A worker's seat at its end, and what it did.
@@ -13,4 +30,29 @@ pub struct Job {
 pub struct Answer {
     pub seat: ClaimSeat,
     pub done: Vec<Claimed>,
+}
+
+/// A lead and a machine of a program. Which line is selected at first doesn't matter.
+pub fn make_runner<'a>(alloc: Global, work: &Work<'a>) -> Result<Runner<'a>, AllocError>
+    requires { IsWork work.now }
+    ensures { IfOk result (AreFor work.now) }
+{
+    let choice = choice(Some(LineId(0)), 0, work.budget);
+    let lead = Lead::new(
+        alloc,
+        work.image,
+        work.index,
+        work.points,
+        work.input,
+        choice,
+    )?;
+    let machine = Machine::new(
+        alloc,
+        work.image,
+        work.index,
+        work.points,
+        work.input,
+        choice,
+    )?;
+    Ok(Runner { lead, machine })
 }

@@ -13,4 +13,4 @@ mod work;
 
 pub use limits::choice;
 pub use pool::run_plan;
-pub use summary::{run_pair, summarise};
+pub use summary::summarise;

@@ -13,10 +13,11 @@ ghost use Rattle.profile_pool.specs.Worked.{Worked, EachClaim, AreSummaries};
 ghost use Rattle.profile_pool.specs.Jobs.{IsJob, IsAnswer};
 
 use crate::claimed::{Claimed, summaries_at};
-use crate::job::{Answer, Job};
+use crate::job::{Answer, Job, make_runner};
+use crate::limits::choice;
 use crate::work::Work;
 use coz_files::Gate;
-use coz_types::{Image, Summary};
+use coz_types::{Image, LineId, Summary};
 use experiment_claims::{ClaimSeat, Claims};
 use experiment_plan::Plan;
 use line_index::LineIndex;
@@ -24,43 +25,50 @@ use progress_points::Points;
 use std::alloc::{AllocError, Global};
 use std::thread;
 use std::thread::Threads;
+use virtual_run::Lead;
 
 /// Draws until there is no claim left, and does the work of each claim that it got.
-fn work_through<G: Gate>(
+fn work_through<'a, G: Gate>(
     alloc: Global,
-    work: &Work,
+    work: &Work<'a>,
     claims: &Claims,
-    job: Job,
+    job: Job<'a>,
     gate: &G,
 ) -> Result<Answer, AllocError>
     requires work { IsWork work.now × (bound_of claims.now ≡ length (by_line work.now.plan.now)) }
-    requires job { IsJob claims.now job }
+    requires job { IsJob work.now claims.now job }
     ensures { IfOk result (IsAnswer work.now claims.now) }
 {
-    let Job { worker, mut seat } = job;
+    let Job {
+        worker,
+        mut seat,
+        mut runner,
+    } = job;
     let mut done = Vec::new(alloc);
     while let Some(claim) = claims.draw(&mut seat) {
         gate.claimed(worker, claim);
-        let summaries = summaries_at(alloc, work, claim)?;
+        let summaries = summaries_at(alloc, work, &mut runner, claim)?;
         done.push(Claimed { claim, summaries })?;
     }
     Ok(Answer { seat, done })
 }
 
-/// A seat for each worker, with one turn more than there are claims, and the seat that is left.
-fn deal(
+/// A seat for each worker, with one turn more than there are claims, what it runs lines by, and the seat that is left.
+fn deal<'a>(
     alloc: Global,
+    work: &Work<'a>,
     claims: &Claims,
     first: ClaimSeat,
     bound: u32,
     workers: u32,
-) -> Result<(ClaimSeat, Vec<Job>), AllocError>
+) -> Result<(ClaimSeat, Vec<Job<'a>>), AllocError>
+    requires work { IsWork work.now }
     requires seat { IsSeatOf claims.now first × (hand_of first ≡ hand (2 ^ 40) []) }
     requires bound { bound ≡ bound_of claims.now }
     requires workers { workers ≤ 16 }
     ensures rest { IfOk result (λ dealt. IsSeatOf claims.now dealt.0 × ((hand_of dealt.0).numbers ≡ [])) }
     ensures turns { IfOk result (λ dealt. (hand_of dealt.0).turns + workers * (bound + 1) ≡ 2 ^ 40) }
-    ensures jobs { IfOk result (λ dealt. (vec_len dealt.1 ≡ workers) × All (IsJob claims.now) dealt.1.items) }
+    ensures jobs { IfOk result (λ dealt. (vec_len dealt.1 ≡ workers) × All (IsJob work.now claims.now) dealt.1.items) }
 {
     let turns = u64::from(bound) + 1;
     let mut seat = first;
@@ -68,30 +76,34 @@ fn deal(
     for worker in 0..workers {
         let (rest, part) = claims.split(seat, turns);
         seat = rest;
-        jobs.push(Job { worker, seat: part })?;
+        jobs.push(Job {
+            worker,
+            seat: part,
+            runner: make_runner(alloc, work)?,
+        })?;
     }
     Ok((seat, jobs))
 }
 
 /// Has each worker work in a thread of its own, where one can be made, and else one after another.
-fn run_jobs<R: Threads + Sync, G: Gate>(
+fn run_jobs<'a, R: Threads + Sync, G: Gate>(
     rt: &R,
     alloc: Global,
-    work: &Work,
+    work: &Work<'a>,
     claims: &Claims,
-    jobs: Vec<Job>,
+    jobs: Vec<Job<'a>>,
     gate: &G,
 ) -> Result<Vec<Result<Answer, AllocError>>, AllocError>
     requires work { IsWork work.now × (bound_of claims.now ≡ length (by_line work.now.plan.now)) }
-    requires jobs { All (IsJob claims.now) jobs.items }
-    ensures len { IfOk result (λ answers. vec_len answers ≡ vec_len jobs) }
+    requires jobs { All (IsJob work.now claims.now) jobs.items }
+    ensures len { IfOk result (λ answers. vec_len answers ≡ vec_len jobs.entry) }
     ensures each { IfOk result (λ answers. All (λ r. IfOk r (IsAnswer work.now claims.now)) answers.items) }
 {
     thread::map_vec(
         rt,
         jobs,
         &|job: Job| -> Result<Answer, AllocError>
-            requires { IsWork work.now × (bound_of claims.now ≡ length (by_line work.now.plan.now)) × IsJob claims.now job }
+            requires { IsWork work.now × (bound_of claims.now ≡ length (by_line work.now.plan.now)) × IsJob work.now claims.now job }
             ensures { IfOk result (IsAnswer work.entry.now claims.entry.now) }
         { work_through(alloc, work, claims, job, gate) },
     )
@@ -165,17 +177,20 @@ pub fn run_plan<R: Threads + Sync, G: Gate>(
     ensures summaries { IfOk result (λ summaries. summaries.items ≡ summaries_of image.now index.now points.now input.now budget plan.now) }
     ensures ranges { IfOk result (λ summaries. All (IsSummary (length points.now.lines)) summaries.items) }
 {
+    let choice = choice(Some(LineId(0)), 0, budget);
+    let lead = Lead::new(alloc, image, index, points, input, choice)?;
     let work = Work {
         image,
         index,
         points,
         input,
         plan,
+        first: &lead,
         budget,
     };
     let bound = plan.line_count();
     let (claims, first) = Claims::new(alloc, bound)?;
-    let (rest, jobs) = deal(alloc, &claims, first, bound, workers)?;
+    let (rest, jobs) = deal(alloc, &work, &claims, first, bound, workers)?;
     let answers = run_jobs(rt, alloc, &work, &claims, jobs, gate)?;
     let Answer { seat, done } = gather(alloc, &work, &claims, rest, answers)?;
     claims.finish(seat);

@@ -1,19 +1,17 @@
 //! What a profile keeps of a run.
-ghost use Rattle.std.specs.Prelude.{◌≡◌, ◌≤◌, ◌<◌, ◌^◌, true, length, IfOk, IsSome, Some};
+ghost use Rattle.std.specs.Prelude.{◌≡◌, ◌≤◌, true, length, IfOk, IsSome, Some};
 ghost use Rattle.coz_types.specs.declared.ending.Ending.{Ending};
 ghost use Rattle.coz_types.specs.Labels.{is_label};
 ghost use Rattle.coz_types.specs.Ranges.{IsSummary};
 ghost use Rattle.machines.specs.Records.{record_of};
 ghost use Rattle.virtual_run.specs.Seen.{experiment_of};
-ghost use Rattle.profile_pool.specs.Summaries.{summary_of, summary_in};
+ghost use Rattle.profile_pool.specs.Summaries.{summary_of};
 
 use crate::counts::counts;
 use crate::digests::{digest_of_bytes, digest_of_visits};
-use crate::limits::choice;
 use crate::outcomes::outcome;
 use coz_lists::Items;
-use coz_types::{Image, Label, LineId, Summary};
-use line_index::LineIndex;
+use coz_types::{Label, Summary};
 use progress_points::Points;
 use std::alloc::{AllocError, Global};
 use virtual_run::Machine;
@@ -46,28 +44,4 @@ pub fn summarise(
         counts: Items::new(counts),
         visits: digest_of_visits(visits),
     })
-}
-
-/// Runs a program with a line selected at a speedup, and summarises the run.
-pub fn run_pair(
-    alloc: Global,
-    image: &Image,
-    index: &LineIndex,
-    points: &Points,
-    input: &[u8],
-    line: LineId,
-    speedup: u8,
-    budget: u64,
-) -> Result<Summary, AllocError>
-    requires line { line.0 < length index.now.lines }
-    requires speedup { speedup ≤ 95 }
-    requires some_budget { 1 ≤ budget }
-    requires few { budget ≤ 10 ^ 12 }
-    ensures summary { IfOk result (λ summary. summary ≡ summary_in image.now index.now points.now input.now budget line.0 speedup) }
-    ensures ranges { IfOk result (IsSummary (length points.now.lines)) }
-{
-    let choice = choice(Some(line), speedup, budget);
-    let mut machine = Machine::new(alloc, image, index, points, input, choice)?;
-    machine.run();
-    summarise(alloc, &machine, index.label(line), speedup, points)
 }

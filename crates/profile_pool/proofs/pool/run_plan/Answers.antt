@@ -15,7 +15,7 @@ use Rattle.profile_pool.proofs.pool.run_plan.Goals as goal
 pub returns-clause-summaries : goal.returns-clause-summaries
 returns-clause-summaries g c =
     let plan = c.args.plan.now in
-    let work : Work = record { image = c.args.image; index = c.args.index; points = c.args.points; input = c.args.input; plan = c.args.plan; budget = c.args.budget } in
+    let work : Work = record { image = c.args.image; index = c.args.index; points = c.args.points; input = c.args.input; plan = c.args.plan; first = record { ref_ptr = c.args.plan.ref_ptr; now = c.in_ok-lead.lead }; budget = c.args.budget } in
     let lines = by_line plan in
     let bound : bound_of c.in_ok-claims.claims ≡ length lines = search rules in
     let each : EachClaim (work_at work) (length lines) c.in_ok-seat.field-0.done.items =
@@ -27,7 +27,7 @@ returns-clause-summaries g c =
 
 pub returns-clause-ranges : goal.returns-clause-ranges
 returns-clause-ranges g c =
-    let work : Work = record { image = c.args.image; index = c.args.index; points = c.args.points; input = c.args.input; plan = c.args.plan; budget = c.args.budget } in
+    let work : Work = record { image = c.args.image; index = c.args.index; points = c.args.points; input = c.args.input; plan = c.args.plan; first = record { ref_ptr = c.args.plan.ref_ptr; now = c.in_ok-lead.lead }; budget = c.args.budget } in
     let lines = by_line c.args.plan.now in
     let bound : bound_of c.in_ok-claims.claims ≡ length lines = search rules in
     let each : EachClaim (work_at work) (length lines) c.in_ok-seat.field-0.done.items =

@@ -1,9 +1,10 @@
-use Rattle.std.proofs.Common.{length}
+use Rattle.std.proofs.Common.{length, rules}
 use Rattle.std.specs.List.{All}
 use Rattle.std.proofs.lemmas.List.Elements.{All-push, All-same}
 use Rattle.coz_types.specs.Ranges.{IsSummary}
+use Rattle.experiment_claims.specs.Seats.{hand_of}
 use Rattle.profile_pool.specs.declared.claimed.Claimed.{Claimed}
-use Rattle.profile_pool.proofs.Joined.{worked_drawn}
+use Rattle.profile_pool.proofs.Joined.{worked_drawn, worked_stopped}
 use Rattle.profile_pool.proofs.pool.work_through.Goals as goal
 
 pub loop-claim-preserved : goal.loop-claim-preserved
@@ -15,4 +16,10 @@ loop-claim-preserved g c =
       worked.0,
       worked.1,
       All-same R _ _ c.in_ok-push.ensures.items (All-push R _ _ before.3 c.in_ok-summaries.ensures.ranges),
+      c.summaries_at.ensures.runner,
     )
+
+pub returns : goal.returns
+returns g c =
+    let before = c.loop-claim.invariant in
+    (c.draw.ensures.seat, worked_stopped before.1 (hand_of c.draw.new.seat) (search rules), before.3)

@@ -1,5 +1,6 @@
 use Rattle.std.proofs.Common.{◌+◌, ◌≤◌, length}
 use Rattle.experiment_claims.specs.Seats.{hand_of, IsSeatOf, bound_of}
+use Rattle.profile_pool.specs.Made.{AreFor}
 use Rattle.profile_pool.specs.Work.{work_at}
 use Rattle.profile_pool.specs.Worked.{Worked, AreSummaries}
 use Rattle.profile_pool.proofs.pool.work_through.Given as goal
@@ -11,6 +12,7 @@ invariant-loop-claim g l =
     × Worked (work_at l.work) (bound_of l.claims) (bound_of l.claims + 1) 0 (hand_of l.seat) l.done.items
     × (length (hand_of l.seat).numbers ≤ bound_of l.claims)
     × AreSummaries (length l.work.points.now.lines) l.done.items
+    × AreFor l.work l.runner
 
 abbrev pub decreases-loop-claim : goal.decreases-loop-claim
 decreases-loop-claim g l = (hand_of l.seat).turns

@@ -1,0 +1,67 @@
+-- What leads and machines are made with, taken up and forked.
+use Rattle.std.proofs.Common.{◌≡◌, ◌<◌, ◌≤◌, ◌^◌, ℕ, [], ◌∷◌, length, All, Option, Some, None, refl, sym, ap, ◌∙◌, subst}
+use Rattle.coz_types.specs.declared.LineId.{LineId}
+use Rattle.machines.specs.Delayed.{unbegun}
+use Rattle.machines.specs.Lead.{Before}
+use Rattle.guest_calls.specs.Guest.{Guest}
+use Rattle.line_index.specs.Index.{position_at}
+use Rattle.progress_points.specs.Points.{point_of}
+use Rattle.virtual_run.specs.declared.choice.Choice.{Choice}
+use Rattle.virtual_run.specs.Run.{experiment}
+use Rattle.virtual_run.specs.Seen.{Seen, experiment_of}
+use Rattle.virtual_run.specs.Lead.{arguments}
+use Rattle.experiment_plan.specs.declared.experiment.Experiment.{Experiment}
+use Rattle.profile_pool.specs.declared.work.Work.{Work}
+use Rattle.profile_pool.specs.Choices.{choice_of}
+use Rattle.profile_pool.specs.Made.{made, made_for, IsFor}
+use Rattle.profile_pool.specs.Work.{IsWork}
+
+-- what is made for some line is made for any
+pub for_any : {S : Type 0} (work : Work) (line : Option ℕ) (speedup : ℕ) (seen : Seen S) → made seen ≡ made_for work line speedup → IsFor work seen
+for_any work line speedup seen is = ap arguments is
+
+abbrev with_line : LineId → Seen (Unit {0}) → Seen (Unit {0})
+with_line line seen = record seen { choice = record seen.choice { selected = Some line } }
+
+abbrev with_choice : Choice → Seen (Unit {0}) → Seen (Unit {0})
+with_choice choice seen = record seen { choice = choice }
+
+-- a line that is taken up
+pub taken : {S : Type 0} (work : Work) (line : LineId) (first new : Seen S) → made first ≡ made_for work (Some 0) 0
+    → new ≡ record first { choice = record first.choice { selected = Some line } } → made new ≡ made_for work (Some line.0) 0
+taken work line first new are is = ap made is ∙ ap (with_line line) are
+
+-- a run that is forked
+pub forked : {S T : Type 0} (work : Work) (line speedup : ℕ) (lead : Seen S) (machine new : Seen T) (state : T) → IsFor work machine
+    → made lead ≡ made_for work (Some line) 0 → new ≡ record machine { choice = record lead.choice { speedup = speedup }; state = state }
+    → made new ≡ made_for work (Some line) speedup
+forked work line speedup lead machine new state are led is =
+    ap made is
+    ∙ ap (with_choice (record lead.choice { speedup = speedup })) are
+    ∙ ap (λ (seen : Seen (Unit {0})). with_choice (record seen.choice { speedup = speedup }) (made_for work None 0)) led
+
+-- a lead that stands where it was made
+abbrev pub made_lead : Work → Choice → Seen (Before Guest)
+made_lead work choice = record {
+  image = work.image.now;
+  index = work.index.now;
+  points = work.points.now;
+  input = work.input.now;
+  choice = choice;
+  state = record {
+    state = unbegun (experiment work.image.now (position_at work.index.now) (point_of work.points.now) work.input.now choice);
+    harts = 0 ∷ [];
+  };
+}
+
+pub work_of : (work : Work) (choice : Choice) → All (λ (pair : Experiment). pair.line.0 < length work.index.now.lines) work.plan.now
+    → 1 ≤ work.budget → work.budget ≤ 10 ^ 12 → work.first.now ≡ made_lead work choice → choice ≡ choice_of (Some 0) 0 work.budget → IsWork work
+work_of work choice lines some few led chosen =
+    let P : Seen (Before Guest) → Type 0 = λ lead. lead.state ≡ record { state = unbegun (experiment_of lead); harts = 0 ∷ [] } in
+    record {
+      lines = lines;
+      some_budget = some;
+      few = few;
+      first = ap made led ∙ ap (λ (c : Choice). made (made_lead work c)) chosen;
+      unbegun = subst P (sym led) refl;
+    }
