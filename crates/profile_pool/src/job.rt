@@ -46,13 +46,19 @@ pub fn make_runner<'a>(alloc: Global, work: &Work<'a>) -> Result<Runner<'a>, All
         work.input,
         choice,
     )?;
-    let machine = Machine::new(
+    match Machine::new(
         alloc,
         work.image,
         work.index,
         work.points,
         work.input,
         choice,
-    )?;
-    Ok(Runner { lead, machine })
+    ) {
+        Ok(machine) => Ok(Runner { lead, machine }),
+        Err(error) => {
+            // By one call, since a drop in place is proved part by part.
+            drop(lead);
+            Err(error)
+        }
+    }
 }

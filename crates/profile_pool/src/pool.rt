@@ -1,5 +1,5 @@
 //! Workers that draw the claims of a plan from one word.
-ghost use Rattle.std.specs.Prelude.{◌≡◌, ℕ, ◌+◌, ◌*◌, ◌<◌, ◌≤◌, ◌^◌, [], IfOk, List, length, All, vec_len};
+ghost use Rattle.std.specs.Prelude.{◌≡◌, ℕ, ◌+◌, ◌*◌, ◌<◌, ◌≤◌, ◌^◌, [], IfOk, List, length, map, All, vec_len};
 ghost use Rattle.std.specs.List.{flat_map, range_with_len};
 ghost use Rattle.coz_types.specs.declared.record.Summary.{Summary};
 ghost use Rattle.coz_types.specs.Ranges.{IsSummary};
@@ -8,12 +8,13 @@ ghost use Rattle.experiment_claims.specs.Seats.{hand_of, IsSeatOf, bound_of};
 ghost use Rattle.experiment_plan.specs.declared.experiment.Experiment.{Experiment};
 ghost use Rattle.experiment_plan.specs.ByLine.{by_line};
 ghost use Rattle.profile_pool.specs.Summaries.{summaries_of};
-ghost use Rattle.profile_pool.specs.Work.{work_at, IsWork};
+ghost use Rattle.profile_pool.specs.Made.{AreFor};
+ghost use Rattle.profile_pool.specs.Work.{summary_of_pair, work_at, IsWork};
 ghost use Rattle.profile_pool.specs.Worked.{Worked, EachClaim, AreSummaries};
 ghost use Rattle.profile_pool.specs.Jobs.{IsJob, IsAnswer};
 
 use crate::claimed::{Claimed, summaries_at};
-use crate::job::{Answer, Job, make_runner};
+use crate::job::{Answer, Job, Runner, make_runner};
 use crate::limits::choice;
 use crate::work::Work;
 use coz_files::Gate;
@@ -27,7 +28,31 @@ use std::thread;
 use std::thread::Threads;
 use virtual_run::Lead;
 
-/// Draws until there is no claim left, and does the work of each claim that it got.
+/// Draws by a seat until there is no claim left, and does the work of each claim that it got.
+fn draw_and_work<'a, G: Gate>(
+    alloc: Global,
+    work: &Work<'a>,
+    claims: &Claims,
+    worker: u32,
+    mut seat: ClaimSeat,
+    runner: &mut Runner<'a>,
+    gate: &G,
+) -> Result<Answer, AllocError>
+    requires work { IsWork work.now × (bound_of claims.now ≡ length (by_line work.now.plan.now)) }
+    requires seat { IsSeatOf claims.now seat × (hand_of seat ≡ hand (bound_of claims.now + 1) []) }
+    requires runner { AreFor work.now runner.old }
+    ensures { IfOk result (IsAnswer work.now claims.now) }
+{
+    let mut done = Vec::new(alloc);
+    while let Some(claim) = claims.draw(&mut seat) {
+        gate.claimed(worker, claim);
+        let summaries = summaries_at(alloc, work, runner, claim)?;
+        done.push(Claimed { claim, summaries })?;
+    }
+    Ok(Answer { seat, done })
+}
+
+/// Does a worker's job.
 fn work_through<'a, G: Gate>(
     alloc: Global,
     work: &Work<'a>,
@@ -41,16 +66,13 @@ fn work_through<'a, G: Gate>(
 {
     let Job {
         worker,
-        mut seat,
+        seat,
         mut runner,
     } = job;
-    let mut done = Vec::new(alloc);
-    while let Some(claim) = claims.draw(&mut seat) {
-        gate.claimed(worker, claim);
-        let summaries = summaries_at(alloc, work, &mut runner, claim)?;
-        done.push(Claimed { claim, summaries })?;
-    }
-    Ok(Answer { seat, done })
+    let answer = draw_and_work(alloc, work, claims, worker, seat, &mut runner, gate);
+    // By one call, since a drop in place is proved part by part.
+    drop(runner);
+    answer
 }
 
 /// A seat for each worker, with one turn more than there are claims, what it runs lines by, and the seat that is left.
@@ -155,6 +177,29 @@ fn in_order(alloc: Global, mut done: Vec<Claimed>) -> Result<Vec<Summary>, Alloc
     Ok(summaries)
 }
 
+/// The summary of the run of each pair of a plan, in the plan's order.
+fn run_lines<'a, R: Threads + Sync, G: Gate>(
+    rt: &R,
+    alloc: Global,
+    work: &Work<'a>,
+    workers: u32,
+    gate: &G,
+) -> Result<Vec<Summary>, AllocError>
+    requires work { IsWork work.now }
+    requires some_workers { 1 ≤ workers }
+    requires few_workers { workers ≤ 16 }
+    ensures summaries { IfOk result (λ summaries. summaries.items ≡ map (summary_of_pair work.now) work.now.plan.now) }
+    ensures ranges { IfOk result (λ summaries. All (IsSummary (length work.now.points.now.lines)) summaries.items) }
+{
+    let bound = work.plan.line_count();
+    let (claims, first) = Claims::new(alloc, bound)?;
+    let (rest, jobs) = deal(alloc, work, &claims, first, bound, workers)?;
+    let answers = run_jobs(rt, alloc, work, &claims, jobs, gate)?;
+    let Answer { seat, done } = gather(alloc, work, &claims, rest, answers)?;
+    claims.finish(seat);
+    in_order(alloc, done)
+}
+
 /// The summary of the run of each pair of a plan, in the plan's order, whatever the number of workers and the gate.
 /// Only want of memory stands against it, after which the workers that are left work to their end.
 pub fn run_plan<R: Threads + Sync, G: Gate>(
@@ -188,11 +233,8 @@ pub fn run_plan<R: Threads + Sync, G: Gate>(
         first: &lead,
         budget,
     };
-    let bound = plan.line_count();
-    let (claims, first) = Claims::new(alloc, bound)?;
-    let (rest, jobs) = deal(alloc, &work, &claims, first, bound, workers)?;
-    let answers = run_jobs(rt, alloc, &work, &claims, jobs, gate)?;
-    let Answer { seat, done } = gather(alloc, &work, &claims, rest, answers)?;
-    claims.finish(seat);
-    in_order(alloc, done)
+    let summaries = run_lines(rt, alloc, &work, workers, gate);
+    // By one call, since a drop in place is proved part by part.
+    drop(lead);
+    summaries
 }

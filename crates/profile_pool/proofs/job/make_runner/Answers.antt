@@ -4,9 +4,9 @@ use Rattle.profile_pool.specs.Made.{made}
 use Rattle.profile_pool.proofs.Making.{for_any}
 use Rattle.profile_pool.proofs.job.make_runner.Goals as goal
 
-pub returns : goal.returns
-returns c =
+pub returns-in-Ok : goal.returns-in-Ok
+returns-in-Ok c =
     let work = c.args.work.now in (
       for_any work (Some 0) 0 c.in_ok-lead.lead (ap made c.in_ok-lead.ensures ∙ ap (λ (choice : Choice). record { image = work.image.now; index = work.index.now; points = work.points.now; input = work.input.now; choice = choice; state = tt }) c.choice-choice.ensures.choice),
-      for_any work (Some 0) 0 c.in_ok-machine.machine (ap made c.in_ok-machine.ensures ∙ ap (λ (choice : Choice). record { image = work.image.now; index = work.index.now; points = work.points.now; input = work.input.now; choice = choice; state = tt }) c.choice-choice.ensures.choice),
+      for_any work (Some 0) 0 c.in-Ok.machine (ap made c.in-Ok.ensures ∙ ap (λ (choice : Choice). record { image = work.image.now; index = work.index.now; points = work.points.now; input = work.input.now; choice = choice; state = tt }) c.choice-choice.ensures.choice),
     )

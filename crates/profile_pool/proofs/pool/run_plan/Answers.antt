@@ -1,37 +1,6 @@
-use Rattle.std.proofs.Common.{rules, ◌≡◌, ◌∙◌, List, map, length, IfOk, ap, sym, subst}
-use Rattle.std.specs.List.{flat_map, range_with_len}
-use Rattle.coz_types.specs.Ranges.{IsSummary}
-use Rattle.coz_types.specs.declared.record.Summary.{Summary}
-use Rattle.experiment_claims.specs.Seats.{bound_of}
-use Rattle.experiment_plan.specs.declared.experiment.Experiment.{Experiment}
-use Rattle.experiment_plan.specs.ByLine.{by_line}
-use Rattle.profile_pool.specs.declared.work.Work.{Work}
-use Rattle.profile_pool.specs.Work.{work_at, summary_of_pair}
-use Rattle.profile_pool.specs.Worked.{EachClaim}
-use Rattle.profile_pool.proofs.Ordered.{each_claim, each_summary, each_answered}
-use Rattle.profile_pool.proofs.Lines.{line_by_line}
+use Rattle.profile_pool.proofs.Making.{work_of}
 use Rattle.profile_pool.proofs.pool.run_plan.Goals as goal
 
-pub returns-clause-summaries : goal.returns-clause-summaries
-returns-clause-summaries g c =
-    let plan = c.args.plan.now in
-    let work : Work = record { image = c.args.image; index = c.args.index; points = c.args.points; input = c.args.input; plan = c.args.plan; first = record { ref_ptr = c.args.plan.ref_ptr; now = c.in_ok-lead.lead }; budget = c.args.budget } in
-    let lines = by_line plan in
-    let bound : bound_of c.in_ok-claims.claims ≡ length lines = search rules in
-    let each : EachClaim (work_at work) (length lines) c.in_ok-seat.field-0.done.items =
-    rw (sym bound) (each_claim (work_at work) _ _ _ _ _ _ c.in_ok-seat.ensures.worked (search rules) c.finish.ensures.each) in
-    let P : List Summary → Type 0 = λ summaries. IfOk c.in_order.result (λ v. v.items ≡ summaries) in
-    subst P
-    (line_by_line (summary_of_pair work) lines ∙ ap (λ (ps : List Experiment). map (summary_of_pair work) ps) c.line_count-bound.ensures.all)
-    (c.in_order.ensures (work_at work) (length lines) each)
-
-pub returns-clause-ranges : goal.returns-clause-ranges
-returns-clause-ranges g c =
-    let work : Work = record { image = c.args.image; index = c.args.index; points = c.args.points; input = c.args.input; plan = c.args.plan; first = record { ref_ptr = c.args.plan.ref_ptr; now = c.in_ok-lead.lead }; budget = c.args.budget } in
-    let lines = by_line c.args.plan.now in
-    let bound : bound_of c.in_ok-claims.claims ≡ length lines = search rules in
-    let each : EachClaim (work_at work) (length lines) c.in_ok-seat.field-0.done.items =
-    rw (sym bound) (each_claim (work_at work) _ _ _ _ _ _ c.in_ok-seat.ensures.worked (search rules) c.finish.ensures.each) in
-    each_answered _ (IsSummary (length c.args.points.now.lines)) (flat_map (work_at work) (range_with_len 0 (length lines))) _
-    (c.in_order.ensures (work_at work) (length lines) each)
-    (each_summary (IsSummary (length c.args.points.now.lines)) (work_at work) (length lines) _ each c.in_ok-seat.ensures.ranges)
+pub run_lines-summaries-requires-clause-work : goal.run_lines-summaries-requires-clause-work
+run_lines-summaries-requires-clause-work g c κs = λ _.
+    work_of _ c.choice-choice.result c.requires.lines c.requires.some_budget c.requires.few c.in_ok-lead.ensures c.choice-choice.ensures.choice

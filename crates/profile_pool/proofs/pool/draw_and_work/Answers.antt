@@ -5,12 +5,12 @@ use Rattle.coz_types.specs.Ranges.{IsSummary}
 use Rattle.experiment_claims.specs.Seats.{hand_of}
 use Rattle.profile_pool.specs.declared.claimed.Claimed.{Claimed}
 use Rattle.profile_pool.proofs.Joined.{worked_drawn, worked_stopped}
-use Rattle.profile_pool.proofs.pool.work_through.Goals as goal
+use Rattle.profile_pool.proofs.pool.draw_and_work.Goals as goal
 
 pub loop-claim-preserved : goal.loop-claim-preserved
 loop-claim-preserved g c =
     let before = c.loop-claim.invariant in
-    let worked = worked_drawn before.1 _ _ _ _ c.in-Some.ensures.draws c.in_ok-summaries.ensures.summaries c.in_ok-push.ensures.items in
+    let worked = worked_drawn before.1 (hand_of c.draw.new.seat) c.in-Some.claim c.in_ok-summaries.summaries c.push.new.self.items c.in-Some.ensures.draws c.in_ok-summaries.ensures.summaries c.in_ok-push.ensures.items in
     let R : Claimed → Type 0 = λ claimed. All (IsSummary (length c.args.work.now.points.now.lines)) claimed.summaries in (
       c.in-Some.ensures.seat,
       worked.0,

@@ -3,7 +3,7 @@ use Rattle.experiment_claims.specs.Seats.{hand_of, IsSeatOf, bound_of}
 use Rattle.profile_pool.specs.Made.{AreFor}
 use Rattle.profile_pool.specs.Work.{work_at}
 use Rattle.profile_pool.specs.Worked.{Worked, AreSummaries}
-use Rattle.profile_pool.proofs.pool.work_through.Given as goal
+use Rattle.profile_pool.proofs.pool.draw_and_work.Given as goal
 
 -- no draw has met the bound so far
 abbrev pub invariant-loop-claim : goal.invariant-loop-claim
