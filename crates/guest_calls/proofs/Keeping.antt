@@ -1,5 +1,5 @@
 -- What holds of a guest's fields, as harts change.
-use Rattle.std.proofs.Common.{ℕ, zero, suc, ◌≡◌, ◌≢◌, ◌<◌, ◌≤◌, Bool, true, false, List, [], ◌∷◌, ◌++◌, length, get_or, set, refl, subst, arith, length-append}
+use Rattle.std.proofs.Common.{ℕ, zero, suc, ◌≡◌, ◌≢◌, ◌<◌, ◌≤◌, Bool, true, false, List, [], ◌∷◌, ◌++◌, length, get_or, set, refl, sym, ap, ◌∙◌, subst, arith, length-append}
 use Rattle.std.proofs.lemmas.List.{length-set}
 use Rattle.std.specs.Prelude.{All}
 use Rattle.guest_memory.specs.Memory.{MemoryMap}
@@ -9,16 +9,17 @@ use Rattle.guest_futex.specs.Apart.{AreOthers}
 use Rattle.guest_futex.proofs.WaitersLemmas.{apart-with_waiter, apart-left, length-apart, length-woken}
 use Rattle.guest_calls.specs.declared.hart.Hart.{Hart}
 use Rattle.guest_calls.specs.declared.hart.HartStatus.{HartStatus}
-use Rattle.guest_calls.specs.declared.hart.HartStatus.TheVariants.{Running, Waiting, Gone}
-use Rattle.guest_calls.specs.Guest.{Guest, no_hart, is_running_status, with_running_each}
+use Rattle.guest_calls.specs.declared.hart.HartStatus.TheVariants.{Running, Waiting, Sleeping, Gone}
+use Rattle.guest_calls.specs.Guest.{Guest, no_hart, is_running_status, is_sleeping_status, with_running_each}
 use Rattle.guest_calls.specs.Kept.{IsKept}
 use Rattle.guest_calls.specs.Orderly.{IsOrderly}
-use Rattle.guest_calls.proofs.Waiting.{waiting-set, waiting-elsewhere, waiting-append, waiting-with_waiter, waiting-woken, others-running, length-run_each}
+use Rattle.guest_calls.proofs.Waiting.{waiting-set, waiting-elsewhere, waiting-append, waiting-with_waiter, waiting-woken, others-moving, others-running, length-run_each}
 use Rattle.guest_calls.proofs.Rows.{made-running}
 
 running_is : (s : HartStatus) → is_running_status s ≡ true → s ≡ Running
 running_is Running e = refl
 running_is Waiting e = absurd (let never : false ≡ true = e in cc)
+running_is Sleeping e = absurd (let never : false ≡ true = e in cc)
 running_is Gone e = absurd (let never : false ≡ true = e in cc)
 
 pub all-others : (h : ℕ) (ws : List Waiter) → AreOthers h ws → All (λ w. w.hart ≢ h) ws
@@ -54,6 +55,18 @@ module _ (hs : List Hart) (cap : ℕ) (ws : List Waiter) (r : RegionMap) (m : Me
     few = simp length-set kept.few;
     room = kept.room;
     waiting = waiting-elsewhere hs h hart ws (others-kept h kept runs) kept.waiting;
+    apart = kept.apart;
+    shared = kept.shared;
+  }
+
+  -- nor does one that slept
+  pub kept-woken_up : (h : ℕ) (hart : Hart) → IsKept hs cap ws r m → is_sleeping_status (get_or hs h no_hart).status ≡ true → IsKept (set hs h hart) cap ws r m
+  kept-woken_up h hart kept asleep = record {
+    few = simp length-set kept.few;
+    room = kept.room;
+    waiting =
+        waiting-elsewhere hs h hart ws (others-moving hs h ws (λ waits. let never : false ≡ true = ap is_sleeping_status (sym waits) ∙ asleep in cc) kept.waiting)
+        kept.waiting;
     apart = kept.apart;
     shared = kept.shared;
   }

@@ -1,40 +1,57 @@
 -- The guest keeps the rules of a guest of the machines.
-use Rattle.std.proofs.Common.{◌≡◌, ℕ, zero, suc, ◌≤◌, ◌<◌, ◌==◌, Bool, true, false, List, Option, IsNone, refl, sym, ◌∙◌, arith}
+use Rattle.std.proofs.Common.{◌≡◌, ℕ, zero, suc, ◌+◌, ◌≤◌, ◌<◌, ◌^◌, ◌==◌, Bool, true, false, ◌||◌, if◌then◌else◌, List, Option, IsNone, refl, sym, ap, ◌∙◌, arith}
+use Rattle.std.proofs.lemmas.List.{length-set}
+use Rattle.std.proofs.lemmas.Bool.{eqb-true}
 use Rattle.std.proofs.Math.Dec.{eqb-suc-zero}
 use Rattle.coz_types.specs.declared.ending.Ending.TheVariants.{Trapped}
 use Rattle.coz_types.specs.declared.ending.Trap.{Trap}
 use Rattle.coz_types.specs.Image.{ImageParts}
-use Rattle.machines.specs.declared.Fate.TheVariants.{Ends}
+use Rattle.machines.specs.declared.Fate.TheVariants.{Sleeps, Ends}
 use Rattle.machines.specs.Places.{is_among}
 use Rattle.machines.specs.Guest.{IsLawful, started, own_ending, sleeps}
 use Rattle.machines.specs.Delayed.{fresh}
 use Rattle.machines.proofs.Wakeless.{rests}
 use Rattle.guest_memory.specs.declared.Layout.{Layout}
-use Rattle.guest_calls.specs.Guest.{Guest, making, is_running, first_guest}
+use Rattle.guest_calls.specs.Guest.{Guest, making, is_running, hart_at, is_sleeping, is_sleeping_status, is_timed, sleepers, with_wake, first_guest}
+use Rattle.guest_calls.specs.declared.hart.HartStatus.TheVariants.{Running}
 use Rattle.guest_calls.specs.Calls.{call_of}
 use Rattle.guest_calls.specs.Retire.{retire}
 use Rattle.guest_calls.specs.Plug.{plug}
 use Rattle.guest_calls.specs.Orderly.{IsOrderly}
-pub use Rattle.guest_calls.proofs.Started.{running_low}
+pub use Rattle.guest_calls.proofs.Started.{running_low, timed_low}
+use Rattle.guest_calls.proofs.Waiting.{waiting-elsewhere, others-moving}
+use Rattle.guest_calls.proofs.RunningHarts.{made_timed, runs_awake, timed_put, asleep_less, none_asleep, status_at}
 use Rattle.guest_calls.proofs.Retired.{call_started, retire_started}
 
--- a hart that a retirement starts runs after it
-pub started_runs : (g : Guest) (h v : ℕ) → IsOrderly g → is_running g h ≡ true → IsNone (own_ending (retire g h v).fate)
-    → (k : ℕ) → is_among k (started h (retire g h v)) ≡ true → is_running (retire g h v).guest k ≡ true
-started_runs g h v good runs none k among = (retire_started g h v good runs).running none k ∙ rw among refl
+-- a hart that a retirement starts has its next turn after it
+pub started_timed : (g : Guest) (h v : ℕ) → IsOrderly g → is_running g h ≡ true → IsNone (own_ending (retire g h v).fate)
+    → (k : ℕ) → is_among k (started h (retire g h v)) ≡ true → is_timed (retire g h v).guest k ≡ true
+started_timed g h v good runs none k among = (retire_started g h v good runs).timed none k ∙ rw among refl
 
 pub started_low : (g : Guest) (h v : ℕ) → IsOrderly g → is_running g h ≡ true → IsNone (own_ending (retire g h v).fate)
     → (k : ℕ) → is_among k (started h (retire g h v)) ≡ true → k < 256
 started_low g h v good runs none k among =
-    (running_low (retire g h v).guest k (retire_started g h v good runs).orderly (started_runs g h v good runs none k among)).1
+    (timed_low (retire g h v).guest k (retire_started g h v good runs).orderly (started_timed g h v good runs none k among)).1
 
--- the harts that a retirement makes or wakes didn't run before it
-pub others_idle : (g : Guest) (h v : ℕ) → IsOrderly g → is_running g h ≡ true → (k : ℕ) → is_among k (retire g h v).others ≡ true → is_running g k ≡ false
+-- the harts that a retirement makes or wakes neither ran nor slept before it
+pub others_idle : (g : Guest) (h v : ℕ) → IsOrderly g → is_running g h ≡ true → (k : ℕ) → is_among k (retire g h v).others ≡ true → is_timed g k ≡ false
 others_idle g h v good runs = (retire_started g h v good runs).idle
 
--- no hart ever sleeps
+-- no retirement puts its hart to sleep
 pub never_sleeps : (g : Guest) (h v : ℕ) → IsOrderly g → is_running g h ≡ true → sleeps (retire g h v).fate ≡ false
 never_sleeps g h v good runs = (retire_started g h v good runs).awake
+
+-- the moment of a wake is small
+pub sleeps_few : (g : Guest) (h v : ℕ) → IsOrderly g → is_running g h ≡ true → (moment : ℕ) → (retire g h v).fate ≡ Sleeps moment → moment ≤ 10 ^ 16
+sleeps_few g h v good runs moment is = absurd (let never : true ≡ false = ap sleeps (sym is) ∙ never_sleeps g h v good runs in cc)
+
+-- a running hart doesn't sleep
+pub running_awake : (g : Guest) (h : ℕ) → is_running g h ≡ true → is_sleeping g h ≡ false
+running_awake g h runs = runs_awake (status_at g.harts h) runs
+
+-- where none sleeps, no hart does
+pub none_sleeps : (g : Guest) (h : ℕ) → sleepers g ≡ 0 → is_sleeping g h ≡ false
+none_sleeps g h none = none_asleep g.harts h none
 
 -- a trap is that of the hart that retires
 pub own_trap : (g : Guest) (h v : ℕ) → IsOrderly g → is_running g h ≡ true → (t : Trap) → (retire g h v).fate ≡ Ends (Trapped t) → t.hart.0 ≡ h
@@ -51,11 +68,36 @@ first_orderly : (image : ImageParts) (input : List ℕ) (output_limit : ℕ) (la
 unfolding first_guest
 first_orderly image input output_limit layout = record { few = omega arith; waiting = tt; apart = tt }
 
--- hart 0 runs at first
-first_runs : (image : ImageParts) (input : List ℕ) (output_limit : ℕ) (layout : Layout) (k : ℕ) → is_running (first_guest image input output_limit layout) k ≡ (k == 0)
+-- hart 0 runs at first, and none sleeps
+first_timed : (image : ImageParts) (input : List ℕ) (output_limit : ℕ) (layout : Layout) (k : ℕ) → is_timed (first_guest image input output_limit layout) k ≡ (k == 0)
 unfolding first_guest
-first_runs image input output_limit layout zero = refl
-first_runs image input output_limit layout (suc k) = sym (eqb-suc-zero k)
+first_timed image input output_limit layout zero = refl
+first_timed image input output_limit layout (suc k) = sym (eqb-suc-zero k)
+
+first_asleep : (image : ImageParts) (input : List ℕ) (output_limit : ℕ) (layout : Layout) → sleepers (first_guest image input output_limit layout) ≡ 0
+unfolding first_guest
+first_asleep image input output_limit layout = refl
+
+-- a hart that is woken is no waiter
+wake_orderly : (g : Guest) (h : ℕ) → IsOrderly g → is_sleeping g h ≡ true → IsOrderly (with_wake h g)
+wake_orderly g h good asleep = record {
+  few = rw (length-set g.harts h (record (hart_at g h) { status = Running })) good.few;
+  waiting =
+      waiting-elsewhere g.harts h _ g.waiters
+      (others-moving g.harts h g.waiters (λ waits. let never : false ≡ true = ap is_sleeping_status (sym waits) ∙ asleep in cc) good.waiting)
+      good.waiting;
+  apart = good.apart;
+}
+
+same_bit : (is before : Bool) → (is ≡ true → before ≡ true) → (if is then true else before) ≡ before
+same_bit true before timed = sym (timed refl)
+same_bit false before timed = refl
+
+-- it ran or slept before, and runs then
+wake_timed : (g : Guest) (h : ℕ) → IsOrderly g → is_sleeping g h ≡ true → (k : ℕ) → is_timed (with_wake h g) k ≡ is_timed g k
+wake_timed g h good asleep k =
+    let timed : is_timed g h ≡ true = ap (λ (b : Bool). b || is_running g h) asleep in
+    timed_put g.harts h k _ (made_timed g.harts h timed) ∙ same_bit (k == h) (is_timed g k) (λ is. ap (is_timed g) (eqb-true k h is) ∙ timed)
 
 pub lawful : (has_selected : ℕ → Bool) (point_at : ℕ → Option ℕ) (image : ImageParts) (input : List ℕ) (output_limit : ℕ) (layout : Layout) (speedup budget visit_limit : ℕ) → speedup ≤ 100
     → IsLawful
@@ -70,15 +112,15 @@ pub lawful : (has_selected : ℕ → Bool) (point_at : ℕ → Option ℕ) (imag
     IsOrderly
 lawful has_selected point_at image input output_limit layout speedup budget visit_limit in_range = record {
   first_good = first_orderly image input output_limit layout;
-  first_running = first_runs image input output_limit layout;
-  first_awake = refl;
+  first_running = first_timed image input output_limit layout;
+  first_awake = first_asleep image input output_limit layout;
   stays_good = λ g h v good runs. (retire_started g h v good runs).orderly;
   apart = λ g h v good runs. (retire_started g h v good runs).apart;
-  running = λ g h v good runs none k. let started = retire_started g h v good runs in rw started.awake (started.running none k);
+  running = λ g h v good runs. (retire_started g h v good runs).timed;
   sleeps_later = λ g h v good runs. (rests (retire g h v).fate v fresh (retire_started g h v good runs).awake).2;
-  sleeps_one = λ g h v good runs. rw (retire_started g h v good runs).awake refl;
-  wakes_good = λ g h good asleep. good;
-  wakes = λ g h good asleep k. refl;
-  wakes_one = λ g h good asleep. absurd (let never : false ≡ true = asleep in cc);
+  sleeps_one = λ g h v good runs. (retire_started g h v good runs).asleep;
+  wakes_good = wake_orderly;
+  wakes = wake_timed;
+  wakes_one = λ g h good asleep. asleep_less g.harts h _ asleep refl;
   speedup_in_range = in_range;
 }

@@ -89,7 +89,7 @@ writev_started g h good runs =
 
 exit_group_started : (g : Guest) (h : ℕ) → IsOrderly g → is_running g h ≡ true → IsStarted g h (Calls.exit_group g h)
 unfolding Calls.exit_group
-exit_group_started g h good runs = ends_started g h g _ (λ t is. absurd (let no : ◌≡◌ {A = Ending} (Exited _) (Trapped t) = is in cc)) refl good
+exit_group_started g h good runs = ends_started g h g _ (λ t is. absurd (let no : ◌≡◌ {A = Ending} (Exited _) (Trapped t) = is in cc)) (unchanged g) good
 
 set_tid_address_started : (g : Guest) (h : ℕ) → IsOrderly g → is_running g h ≡ true → IsStarted g h (Calls.set_tid_address g h)
 unfolding Calls.set_tid_address
@@ -203,7 +203,7 @@ own_trap cause h pc t is = let same : ◌≡◌ {A = Trap} (record { cause = cau
 follows_started : (g after : Guest) (h v : ℕ) (s : Step) → IsAsBefore g after → (s ≡ Call → after ≡ g) → IsOrderly g → is_running g h ≡ true → IsStarted g h (follows h v (stepped after s))
 follows_started g after h v Next kept same good runs = goes_started g h [] after (none_beside g h after kept good) runs
 follows_started g after h v Call kept same good runs = subst (λ (x : Guest). IsStarted g h (call_of x h v)) (sym (same refl)) (call_started g h v good runs)
-follows_started g after h v (Fault cause) kept same good runs = ends_started g h after _ (λ t is. own_trap cause h (pc_of after h) t is) kept.made (still_orderly g after kept good)
+follows_started g after h v (Fault cause) kept same good runs = ends_started g h after _ (λ t is. own_trap cause h (pc_of after h) t is) kept good
 
 pub retire_started : (g : Guest) (h v : ℕ) → IsOrderly g → is_running g h ≡ true → IsStarted g h (retire g h v)
 unfolding retire

@@ -1,5 +1,5 @@
--- Which harts run, as harts change.
-use Rattle.std.proofs.Common.{◌≡◌, ◌≢◌, ◌<◌, ℕ, zero, suc, ◌==◌, Bool, true, false, if◌then◌else◌, List, [], ◌∷◌, ◌++◌, length, get_or, set, eqb, refl, sym, ap, ◌∙◌, ⊎_elim, arith, eqb-true}
+-- Which harts run and which sleep, as harts change.
+use Rattle.std.proofs.Common.{◌≡◌, ◌≢◌, ◌+◌, ◌<◌, ℕ, zero, suc, ◌==◌, Bool, true, false, ◌||◌, if◌then◌else◌, List, [], ◌∷◌, ◌++◌, length, get_or, set, eqb, refl, sym, ap, ap₂, ◌∙◌, ⊎_elim, arith, eqb-true}
 use Rattle.std.proofs.lemmas.Bool.{eq-eqb, ne_eqb, cases_eq, cases_Bool}
 use Rattle.std.proofs.lemmas.List.{length-set, get_or-set_same, get_or-set_other}
 use Rattle.std.proofs.Math.Seq.{get_or-append_seam}
@@ -8,8 +8,8 @@ use Rattle.guest_futex.specs.Waiters.{Waiter, woken}
 use Rattle.guest_futex.specs.Apart.{AreOthers, AreApart}
 use Rattle.guest_calls.specs.declared.hart.Hart.{Hart}
 use Rattle.guest_calls.specs.declared.hart.HartStatus.{HartStatus}
-use Rattle.guest_calls.specs.declared.hart.HartStatus.TheVariants.{Running, Waiting, Gone}
-use Rattle.guest_calls.specs.Guest.{no_hart, is_running_status, with_running_each}
+use Rattle.guest_calls.specs.declared.hart.HartStatus.TheVariants.{Running, Waiting, Sleeping, Gone}
+use Rattle.guest_calls.specs.Guest.{no_hart, is_running_status, is_sleeping_status, sleepers_of, with_running_each}
 use Rattle.guest_calls.specs.Orderly.{AreWaiting}
 use Rattle.guest_calls.proofs.Waiting.{woken-made}
 
@@ -19,26 +19,59 @@ status_at harts h = (get_or harts h no_hart).status
 abbrev pub runs_at : List Hart → ℕ → Bool
 runs_at harts h = is_running_status (status_at harts h)
 
+abbrev pub sleeps_at : List Hart → ℕ → Bool
+sleeps_at harts h = is_sleeping_status (status_at harts h)
+
+-- it runs or sleeps
+abbrev pub is_timed_status : HartStatus → Bool
+is_timed_status status = is_sleeping_status status || is_running_status status
+
+abbrev pub timed_at : List Hart → ℕ → Bool
+timed_at harts h = is_timed_status (status_at harts h)
+
 is_running : (status : HartStatus) → is_running_status status ≡ true → status ≡ Running
 is_running Running runs = refl
 is_running Waiting runs = absurd (let never : false ≡ true = runs in cc)
+is_running Sleeping runs = absurd (let never : false ≡ true = runs in cc)
 is_running Gone runs = absurd (let never : false ≡ true = runs in cc)
 
 pub runs_here : (harts : List Hart) (h : ℕ) → runs_at harts h ≡ true → status_at harts h ≡ Running
 runs_here harts h runs = is_running (status_at harts h) runs
 
+-- a running hart doesn't sleep
+pub runs_awake : (status : HartStatus) → is_running_status status ≡ true → is_sleeping_status status ≡ false
+runs_awake status runs = ap is_sleeping_status (is_running status runs)
+
+pub runs_timed : (status : HartStatus) → is_running_status status ≡ true → is_timed_status status ≡ true
+runs_timed status runs = ap is_timed_status (is_running status runs)
+
+or_false : (a b : Bool) → (a || b) ≡ false → a ≡ false
+or_false true b none = none
+or_false false b none = refl
+
+pub made_timed : (harts : List Hart) (h : ℕ) → timed_at harts h ≡ true → h < length harts
+made_timed [] h timed = absurd (let never : false ≡ true = timed in cc)
+made_timed (x ∷ xs) zero timed = omega arith
+made_timed (x ∷ xs) (suc h) timed = let below : h < length xs = made_timed xs h timed in omega arith
+
 pub made_running : (harts : List Hart) (h : ℕ) → runs_at harts h ≡ true → h < length harts
-made_running [] h runs = absurd (let never : false ≡ true = runs in cc)
-made_running (x ∷ xs) zero runs = omega arith
-made_running (x ∷ xs) (suc h) runs = let below : h < length xs = made_running xs h runs in omega arith
+made_running harts h runs = made_timed harts h (runs_timed (status_at harts h) runs)
+
+-- what holds of a choice of two statuses
+pub chosen_status : (is : HartStatus → Bool) (b : Bool) (s t : HartStatus) → is (if b then s else t) ≡ (if b then is s else is t)
+chosen_status is true s t = refl
+chosen_status is false s t = refl
 
 -- a hart in the place of one
-pub runs_set : (harts : List Hart) (h k : ℕ) (hart : Hart) → h < length harts → runs_at (set harts h hart) k ≡ (if k == h then is_running_status hart.status else runs_at harts k)
-runs_set harts h k hart below =
+pub status_put : (harts : List Hart) (h k : ℕ) (hart : Hart) → h < length harts → status_at (set harts h hart) k ≡ (if k == h then hart.status else status_at harts k)
+status_put harts h k hart below =
     ⊎_elim
-    (λ (same : k ≡ h). rw (eq-eqb k h same) (ap (runs_at (set harts h hart)) same ∙ ap (λ (x : Hart). is_running_status x.status) (get_or-set_same harts h hart no_hart below)))
-    (λ (other : k ≢ h). rw (ne_eqb k h other) (ap (λ (x : Hart). is_running_status x.status) (get_or-set_other harts h k hart no_hart other)))
+    (λ (same : k ≡ h). rw (eq-eqb k h same) (ap (status_at (set harts h hart)) same ∙ ap (λ (x : Hart). x.status) (get_or-set_same harts h hart no_hart below)))
+    (λ (other : k ≢ h). rw (ne_eqb k h other) (ap (λ (x : Hart). x.status) (get_or-set_other harts h k hart no_hart other)))
     (cases_eq k h)
+
+pub timed_put : (harts : List Hart) (h k : ℕ) (hart : Hart) → h < length harts → timed_at (set harts h hart) k ≡ (if k == h then is_timed_status hart.status else timed_at harts k)
+timed_put harts h k hart below = ap is_timed_status (status_put harts h k hart below) ∙ chosen_status is_timed_status (k == h) hart.status (status_at harts k)
 
 -- harts of the same statuses
 pub waiting_same : (old new : List Hart) (ws : List Waiter) → ((k : ℕ) → status_at new k ≡ status_at old k) → AreWaiting old ws → AreWaiting new ws
@@ -52,25 +85,25 @@ appended_other [] hart (suc k) other = refl
 appended_other (x ∷ xs) hart zero other = refl
 appended_other (x ∷ xs) hart (suc k) other = appended_other xs hart k (λ (is : k ≡ length xs). other (ap suc is))
 
-pub runs_append : (harts : List Hart) (hart : Hart) (k : ℕ) → is_running_status hart.status ≡ true → runs_at (harts ++ hart ∷ []) k ≡ (if is_among k (length harts ∷ []) then true else runs_at harts k)
-runs_append harts hart k runs =
+pub status_append : (harts : List Hart) (hart : Hart) (k : ℕ) → status_at (harts ++ hart ∷ []) k ≡ (if is_among k (length harts ∷ []) then hart.status else status_at harts k)
+status_append harts hart k =
     ⊎_elim
     (λ (same : k ≡ length harts). rw (eq-eqb k (length harts) same)
-    (ap (runs_at (harts ++ hart ∷ [])) same ∙ ap (λ (x : Hart). is_running_status x.status) (get_or-append_seam harts hart [] no_hart) ∙ runs))
-    (λ (other : k ≢ length harts). rw (ne_eqb k (length harts) other) (ap (λ (x : Hart). is_running_status x.status) (appended_other harts hart k other)))
+    (ap (status_at (harts ++ hart ∷ [])) same ∙ ap (λ (x : Hart). x.status) (get_or-append_seam harts hart [] no_hart)))
+    (λ (other : k ≢ length harts). rw (ne_eqb k (length harts) other) (ap (λ (x : Hart). x.status) (appended_other harts hart k other)))
     (cases_eq k (length harts))
 
-runs_past : (harts : List Hart) → runs_at harts (length harts) ≡ false
-runs_past [] = refl
-runs_past (x ∷ xs) = runs_past xs
+status_past : (harts : List Hart) → status_at harts (length harts) ≡ Gone
+status_past [] = refl
+status_past (x ∷ xs) = status_past xs
 
 only_one : (is : Bool) → (if is then true else false) ≡ true → is ≡ true
 only_one true e = refl
 only_one false e = e
 
--- the hart that is made next doesn't run yet
-pub next_idle : (harts : List Hart) (k : ℕ) → is_among k (length harts ∷ []) ≡ true → runs_at harts k ≡ false
-next_idle harts k among = ap (runs_at harts) (eqb-true k (length harts) (only_one (k == length harts) among)) ∙ runs_past harts
+-- the hart that is made next neither runs nor sleeps yet
+pub next_idle : (harts : List Hart) (k : ℕ) → is_among k (length harts ∷ []) ≡ true → timed_at harts k ≡ false
+next_idle harts k among = ap (timed_at harts) (eqb-true k (length harts) (only_one (k == length harts) among)) ∙ ap is_timed_status (status_past harts)
 
 -- those that are woken
 pub not_woken : (h address : ℕ) (ws : List Waiter) (count : ℕ) → AreOthers h ws → is_among h (woken address ws count) ≡ false
@@ -83,20 +116,15 @@ not_woken h address (w ∷ ws) (suc count) others =
     (λ (elsewhere : eqb w.address address ≡ false). rw elsewhere (not_woken h address ws (suc count) others.1))
     (cases_Bool (eqb w.address address))
 
--- a waiter that is woken didn't run
-waits_idle : (status : HartStatus) → status ≡ Waiting → is_running_status status ≡ false
-waits_idle Running waits = absurd (let same : Running ≡ Waiting = waits in cc)
-waits_idle Waiting waits = refl
-waits_idle Gone waits = refl
-
-idle_step : (harts : List Hart) (k h : ℕ) (among : Bool) → status_at harts h ≡ Waiting → (among ≡ true → runs_at harts k ≡ false) → (if k == h then true else among) ≡ true → runs_at harts k ≡ false
+-- a waiter that is woken neither ran nor slept
+idle_step : (harts : List Hart) (k h : ℕ) (among : Bool) → status_at harts h ≡ Waiting → (among ≡ true → timed_at harts k ≡ false) → (if k == h then true else among) ≡ true → timed_at harts k ≡ false
 idle_step harts k h among waits rest e =
     ⊎_elim
-    (λ (same : k ≡ h). ap (runs_at harts) same ∙ waits_idle (status_at harts h) waits)
+    (λ (same : k ≡ h). ap (timed_at harts) same ∙ ap is_timed_status waits)
     (λ (other : k ≢ h). rest (rw (ne_eqb k h other) at e))
     (cases_eq k h)
 
-pub woken_idle : (harts : List Hart) (k address : ℕ) (ws : List Waiter) (count : ℕ) → AreWaiting harts ws → is_among k (woken address ws count) ≡ true → runs_at harts k ≡ false
+pub woken_idle : (harts : List Hart) (k address : ℕ) (ws : List Waiter) (count : ℕ) → AreWaiting harts ws → is_among k (woken address ws count) ≡ true → timed_at harts k ≡ false
 woken_idle harts k address [] zero waiting among = absurd (let never : false ≡ true = among in cc)
 woken_idle harts k address [] (suc count) waiting among = absurd (let never : false ≡ true = among in cc)
 woken_idle harts k address (w ∷ ws) zero waiting among = absurd (let never : false ≡ true = among in cc)
@@ -116,20 +144,77 @@ apart_woken address (w ∷ ws) (suc count) apart =
     (λ (elsewhere : eqb w.address address ≡ false). rw elsewhere (apart_woken address ws (suc count) apart.2))
     (cases_Bool (eqb w.address address))
 
-runs_first : (is among before : Bool) → (if among then true else if is then true else before) ≡ (if (if is then true else among) then true else before)
+runs_first : (is among : Bool) (before : HartStatus) → (if among then Running else if is then Running else before) ≡ (if (if is then true else among) then Running else before)
 runs_first true true before = refl
 runs_first true false before = refl
 runs_first false among before = refl
 
-runs_each : (hs : List ℕ) (harts : List Hart) (k : ℕ) → ((i : ℕ) → i < length hs → get_or hs i 0 < length harts) → runs_at (with_running_each hs harts) k ≡ (if is_among k hs then true else runs_at harts k)
-runs_each [] harts k below = refl
-runs_each (h ∷ hs) harts k below =
+status_each : (hs : List ℕ) (harts : List Hart) (k : ℕ) → ((i : ℕ) → i < length hs → get_or hs i 0 < length harts) → status_at (with_running_each hs harts) k ≡ (if is_among k hs then Running else status_at harts k)
+status_each [] harts k below = refl
+status_each (h ∷ hs) harts k below =
     let run : Hart = record (get_or harts h no_hart) { status = Running } in
-    runs_each hs (set harts h run) k (λ i (within : i < length hs). rw (length-set harts h run) (below (suc i) (omega arith)))
-    ∙ ap (λ (b : Bool). if is_among k hs then true else b) (runs_set harts h k run (below 0 (omega arith)))
-    ∙ runs_first (k == h) (is_among k hs) (runs_at harts k)
+    status_each hs (set harts h run) k (λ i (within : i < length hs). rw (length-set harts h run) (below (suc i) (omega arith)))
+    ∙ ap (λ (s : HartStatus). if is_among k hs then Running else s) (status_put harts h k run (below 0 (omega arith)))
+    ∙ runs_first (k == h) (is_among k hs) (status_at harts k)
 
 -- the harts once some waiters are woken
-pub runs_woken : (harts : List Hart) (address : ℕ) (ws : List Waiter) (count k : ℕ) → AreWaiting harts ws
-    → runs_at (with_running_each (woken address ws count) harts) k ≡ (if is_among k (woken address ws count) then true else runs_at harts k)
-runs_woken harts address ws count k waiting = runs_each (woken address ws count) harts k (woken-made harts address ws count waiting)
+pub status_woken : (harts : List Hart) (address : ℕ) (ws : List Waiter) (count k : ℕ) → AreWaiting harts ws
+    → status_at (with_running_each (woken address ws count) harts) k ≡ (if is_among k (woken address ws count) then Running else status_at harts k)
+status_woken harts address ws count k waiting = status_each (woken address ws count) harts k (woken-made harts address ws count waiting)
+
+-- how many sleep: among as many harts of the same statuses as many
+pub asleep_same : (old new : List Hart) → length new ≡ length old → ((k : ℕ) → status_at new k ≡ status_at old k) → sleepers_of new ≡ sleepers_of old
+asleep_same [] [] count same = refl
+asleep_same [] (y ∷ ys) count same = absurd (omega arith)
+asleep_same (x ∷ xs) [] count same = absurd (omega arith)
+asleep_same (x ∷ xs) (y ∷ ys) count same =
+    let rest : sleepers_of ys ≡ sleepers_of xs = asleep_same xs ys (omega arith) (λ k. same (suc k)) in
+    ap₂ (λ (n : ℕ) (s : HartStatus). n + (if is_sleeping_status s then 1 else 0)) rest (same 0)
+
+-- where neither the hart nor the one in its place sleeps
+pub asleep_put : (harts : List Hart) (h : ℕ) (hart : Hart) → sleeps_at harts h ≡ false → is_sleeping_status hart.status ≡ false → sleepers_of (set harts h hart) ≡ sleepers_of harts
+asleep_put [] h hart before after = refl
+asleep_put (x ∷ xs) zero hart before after = rw (after, before) refl
+asleep_put (x ∷ xs) (suc h) hart before after = ap (λ (n : ℕ). n + (if is_sleeping_status x.status then 1 else 0)) (asleep_put xs h hart before after)
+
+-- where the hart slept
+pub asleep_less : (harts : List Hart) (h : ℕ) (hart : Hart) → sleeps_at harts h ≡ true → is_sleeping_status hart.status ≡ false → sleepers_of harts ≡ sleepers_of (set harts h hart) + 1
+asleep_less [] h hart before after = absurd (let never : false ≡ true = before in cc)
+asleep_less (x ∷ xs) zero hart before after = rw (after, before) (omega arith)
+asleep_less (x ∷ xs) (suc h) hart before after = let rest : sleepers_of xs ≡ sleepers_of (set xs h hart) + 1 = asleep_less xs h hart before after in omega arith
+
+pub asleep_append : (harts : List Hart) (hart : Hart) → is_sleeping_status hart.status ≡ false → sleepers_of (harts ++ hart ∷ []) ≡ sleepers_of harts
+asleep_append [] hart awake = rw awake refl
+asleep_append (x ∷ xs) hart awake = ap (λ (n : ℕ). n + (if is_sleeping_status x.status then 1 else 0)) (asleep_append xs hart awake)
+
+awake_put : (harts : List Hart) (h k : ℕ) (hart : Hart) → is_sleeping_status hart.status ≡ false → sleeps_at harts k ≡ false → sleeps_at (set harts h hart) k ≡ false
+awake_put [] h k hart runs awake = awake
+awake_put (x ∷ xs) zero zero hart runs awake = runs
+awake_put (x ∷ xs) zero (suc k) hart runs awake = awake
+awake_put (x ∷ xs) (suc h) zero hart runs awake = awake
+awake_put (x ∷ xs) (suc h) (suc k) hart runs awake = awake_put xs h k hart runs awake
+
+one_more : (is among : Bool) → among ≡ true → (if is then true else among) ≡ true
+one_more true among e = refl
+one_more false among e = e
+
+asleep_each : (hs : List ℕ) (harts : List Hart) → ((k : ℕ) → is_among k hs ≡ true → sleeps_at harts k ≡ false) → sleepers_of (with_running_each hs harts) ≡ sleepers_of harts
+asleep_each [] harts awake = refl
+asleep_each (h ∷ hs) harts awake =
+    let run : Hart = record (get_or harts h no_hart) { status = Running } in
+    asleep_each hs (set harts h run) (λ k among. awake_put harts h k run refl (awake k (one_more (k == h) (is_among k hs) among)))
+    ∙ asleep_put harts h run (awake h (rw (eq-eqb h h refl) refl)) refl
+
+pub asleep_woken : (harts : List Hart) (address : ℕ) (ws : List Waiter) (count : ℕ) → AreWaiting harts ws → sleepers_of (with_running_each (woken address ws count) harts) ≡ sleepers_of harts
+asleep_woken harts address ws count waiting =
+    asleep_each (woken address ws count) harts (λ k among. or_false (sleeps_at harts k) (runs_at harts k) (woken_idle harts k address ws count waiting among))
+
+-- where none sleeps, no hart does
+pub none_asleep : (harts : List Hart) (h : ℕ) → sleepers_of harts ≡ 0 → sleeps_at harts h ≡ false
+none_asleep [] h none = refl
+none_asleep (x ∷ xs) zero none =
+    ⊎_elim
+    (λ (asleep : is_sleeping_status x.status ≡ true). absurd (let one : sleepers_of xs + 1 ≡ 0 = rw asleep at none in omega arith))
+    (λ (awake : is_sleeping_status x.status ≡ false). awake)
+    (cases_Bool (is_sleeping_status x.status))
+none_asleep (x ∷ xs) (suc h) none = none_asleep xs h (omega arith)

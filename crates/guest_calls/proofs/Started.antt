@@ -1,5 +1,5 @@
--- Which harts run after a retirement of an orderly guest, that the guest stays orderly, and that what it was made with stays.
-use Rattle.std.proofs.Common.{◌≡◌, ◌<◌, ◌≤◌, ℕ, ◌==◌, Bool, true, false, cond, if◌then◌else◌, List, [], ◌∷◌, length, IsNone, ℤ, refl, sym, ap, ◌∙◌, arith, eqb-true}
+-- Which harts run or sleep after a retirement of an orderly guest, that the guest stays orderly, and that what it was made with stays.
+use Rattle.std.proofs.Common.{◌≡◌, ◌+◌, ◌<◌, ◌≤◌, ℕ, ◌==◌, Bool, true, false, cond, if◌then◌else◌, List, [], ◌∷◌, length, IsNone, ℤ, refl, sym, ap, ◌∙◌, arith, add-zero, eqb-true}
 use Rattle.std.proofs.lemmas.List.{length-set}
 use Rattle.coz_types.specs.Image.{ImageParts}
 use Rattle.coz_types.specs.declared.ending.Ending.{Ending}
@@ -17,23 +17,27 @@ use Rattle.guest_areas.specs.Space.{Space, Answered}
 use Rattle.guest_areas.proofs.Shares.{IsSteady}
 use Rattle.guest_calls.specs.declared.hart.Hart.{Hart}
 use Rattle.guest_calls.specs.Answering.{with_result}
-use Rattle.guest_calls.specs.Guest.{Guest, Making, making, memory_of, hart_at, state_of, with_hart, with_state, with_memory, with_stored, is_running, is_running_status}
+use Rattle.guest_calls.specs.Guest.{Guest, Making, making, memory_of, hart_at, state_of, with_hart, with_state, with_memory, with_stored, is_running, is_running_status, is_timed, sleepers}
 use Rattle.guest_calls.specs.Calls.{retirement, answered, of_space, unsupported}
 use Rattle.guest_calls.specs.Orderly.{IsOrderly}
 use Rattle.guest_calls.proofs.Waiting.{status-set}
-use Rattle.guest_calls.proofs.RunningHarts.{status_at, made_running, waiting_same}
+use Rattle.guest_calls.specs.declared.hart.HartStatus.{HartStatus}
+use Rattle.guest_calls.specs.declared.hart.HartStatus.TheVariants.{Running}
+use Rattle.guest_calls.proofs.RunningHarts.{status_at, is_timed_status, made_timed, runs_timed, chosen_status, waiting_same, asleep_same}
 
--- what holds after a retirement of hart h: the harts that it starts run, and the others as before, but h itself
+-- what holds after a retirement of hart h: the harts that it starts run, and the others run or sleep as before, but h itself, which may sleep now
 pub record IsStarted (g : Guest) (h : ℕ) (r : Retirement Guest) : Type 0 where
   pub orderly : IsOrderly r.guest
   pub apart : AllApart (started h r)
-  pub running : IsNone (own_ending r.fate) → (k : ℕ) → is_running r.guest k ≡ (if is_among k (started h r) then true else if k == h then false else is_running g k)
-  -- no hart sleeps
+  pub timed : IsNone (own_ending r.fate) → (k : ℕ) → is_timed r.guest k ≡ (if is_among k (started h r) then true else if k == h then sleeps r.fate else is_timed g k)
+  -- one more sleeps, if h does
+  pub asleep : sleepers r.guest ≡ sleepers g + (if sleeps r.fate then 1 else 0)
+  -- no call puts its hart to sleep
   pub awake : sleeps r.fate ≡ false
   -- a trap is its own
   pub trap : (t : Trap) → r.fate ≡ Ends (Trapped t) → t.hart.0 ≡ h
-  -- those that it makes or wakes didn't run before
-  pub idle : (k : ℕ) → is_among k r.others ≡ true → is_running g k ≡ false
+  -- those that it makes or wakes neither ran nor slept before
+  pub idle : (k : ℕ) → is_among k r.others ≡ true → is_timed g k ≡ false
   pub made : making r.guest ≡ making g
 
 -- each hart has the status that it had, and the same harts wait
@@ -43,20 +47,24 @@ pub record IsAsBefore (g after : Guest) : Type 0 where
   pub status : (k : ℕ) → status_at after.harts k ≡ status_at g.harts k
   pub made : making after ≡ making g
 
--- beside the harts that ran, of which h is one, these others run, which didn't before
+-- beside h these others run, which neither ran nor slept before, and all else has the status that it had
 pub record RunsBeside (g : Guest) (h : ℕ) (others : List ℕ) (after : Guest) : Type 0 where
   pub orderly : IsOrderly after
   pub apart : AllApart (h ∷ others)
-  pub running : (k : ℕ) → is_running after k ≡ (if is_among k others then true else is_running g k)
-  pub idle : (k : ℕ) → is_among k others ≡ true → is_running g k ≡ false
+  pub status : (k : ℕ) → status_at after.harts k ≡ (if is_among k others then Running else status_at g.harts k)
+  pub asleep : sleepers after ≡ sleepers g
+  pub idle : (k : ℕ) → is_among k others ≡ true → is_timed g k ≡ false
   pub made : making after ≡ making g
 
--- a running hart is one of those that were made
-pub running_low : (g : Guest) (h : ℕ) → IsOrderly g → is_running g h ≡ true → (h < length g.harts) × (h < 256)
-running_low g h good runs =
-    let made : h < length g.harts = made_running g.harts h runs in
+-- a hart that runs or sleeps is one of those that were made
+pub timed_low : (g : Guest) (h : ℕ) → IsOrderly g → is_timed g h ≡ true → (h < length g.harts) × (h < 256)
+timed_low g h good timed =
+    let made : h < length g.harts = made_timed g.harts h timed in
     let few : length g.harts ≤ 256 = good.few in
     (made, omega arith)
+
+pub running_low : (g : Guest) (h : ℕ) → IsOrderly g → is_running g h ≡ true → (h < length g.harts) × (h < 256)
+running_low g h good runs = timed_low g h good (runs_timed (status_at g.harts h) runs)
 
 pub either : {X : Type 0} (P : X → Type 0) (b : Bool) (x y : X) → P x → P y → P (cond b x y)
 either P true x y p q = p
@@ -109,7 +117,8 @@ pub none_beside : (g : Guest) (h : ℕ) (after : Guest) → IsAsBefore g after �
 none_beside g h after kept good = record {
   orderly = still_orderly g after kept good;
   apart = (refl, tt);
-  running = λ k. ap is_running_status (kept.status k);
+  status = kept.status;
+  asleep = asleep_same g.harts after.harts kept.count kept.status;
   idle = λ k among. absurd (let never : false ≡ true = among in cc);
   made = kept.made;
 }
@@ -118,10 +127,19 @@ pub beside_then : (g : Guest) (h : ℕ) (others : List ℕ) (after last : Guest)
 beside_then g h others after last beside kept = record {
   orderly = still_orderly after last kept beside.orderly;
   apart = beside.apart;
-  running = λ k. ap is_running_status (kept.status k) ∙ beside.running k;
+  status = λ k. kept.status k ∙ beside.status k;
+  asleep = asleep_same after.harts last.harts kept.count kept.status ∙ beside.asleep;
   idle = beside.idle;
   made = kept.made ∙ beside.made;
 }
+
+-- the others run then, and else the same harts run or sleep
+pub beside_timed : (g : Guest) (h : ℕ) (others : List ℕ) (after : Guest) → RunsBeside g h others after → (k : ℕ) → is_timed after k ≡ (if is_among k others then true else is_timed g k)
+beside_timed g h others after beside k = ap is_timed_status (beside.status k) ∙ chosen_status is_timed_status (is_among k others) Running (status_at g.harts k)
+
+-- h has the status that it had
+pub beside_still : (g : Guest) (h : ℕ) (others : List ℕ) (after : Guest) → RunsBeside g h others after → status_at after.harts h ≡ status_at g.harts h
+beside_still g h others after beside = beside.status h ∙ rw beside.apart.0 refl
 
 -- the hart goes on
 goes_bit : (is other before : Bool) → (is ≡ true → before ≡ true) → (if other then true else before) ≡ (if (if is then true else other) then true else if is then false else before)
@@ -134,7 +152,10 @@ pub goes_started : (g : Guest) (h : ℕ) (others : List ℕ) (after : Guest) →
 goes_started g h others after beside runs = record {
   orderly = beside.orderly;
   apart = beside.apart;
-  running = λ none k. beside.running k ∙ goes_bit (k == h) (is_among k others) (is_running g k) (λ is. ap (is_running g) (eqb-true k h is) ∙ runs);
+  timed = λ none k.
+      beside_timed g h others after beside k
+      ∙ goes_bit (k == h) (is_among k others) (is_timed g k) (λ is. ap (is_timed g) (eqb-true k h is) ∙ runs_timed (status_at g.harts h) runs);
+  asleep = beside.asleep ∙ sym (add-zero (sleepers g));
   awake = refl;
   trap = λ t is. absurd (let no : ◌≡◌ {A = Fate} Goes (Ends (Trapped t)) = is in cc);
   idle = beside.idle;
@@ -145,15 +166,16 @@ same_ending : (e f : Ending) → Ends e ≡ Ends f → e ≡ f
 same_ending e f is = cc
 
 -- the run ends
-pub ends_started : (g : Guest) (h : ℕ) (after : Guest) (e : Ending) → ((t : Trap) → e ≡ Trapped t → t.hart.0 ≡ h) → making after ≡ making g → IsOrderly after → IsStarted g h (retirement after (Ends e) [])
-ends_started g h after e own made good = record {
-  orderly = good;
+pub ends_started : (g : Guest) (h : ℕ) (after : Guest) (e : Ending) → ((t : Trap) → e ≡ Trapped t → t.hart.0 ≡ h) → IsAsBefore g after → IsOrderly g → IsStarted g h (retirement after (Ends e) [])
+ends_started g h after e own kept good = record {
+  orderly = still_orderly g after kept good;
   apart = tt;
-  running = λ none k. absurd (let never : true ≡ false = none in cc);
+  timed = λ none k. absurd (let never : true ≡ false = none in cc);
+  asleep = asleep_same g.harts after.harts kept.count kept.status ∙ sym (add-zero (sleepers g));
   awake = refl;
   trap = λ t is. own t (same_ending e (Trapped t) is);
   idle = λ k among. absurd (let never : false ≡ true = among in cc);
-  made = made;
+  made = kept.made;
 }
 
 -- the hart waits or leaves
@@ -163,14 +185,15 @@ stops_bit true false before out = refl
 stops_bit false other before out = refl
 
 pub stops_started : (g : Guest) (h : ℕ) (others : List ℕ) (after last : Guest) (fate : Fate) → goes_on fate ≡ false → sleeps fate ≡ false → ((t : Trap) → fate ≡ Ends (Trapped t) → t.hart.0 ≡ h) → RunsBeside g h others after → IsOrderly last → making last ≡ making after
-    → ((k : ℕ) → is_running last k ≡ (if k == h then false else is_running after k)) → IsStarted g h (retirement last fate others)
-stops_started g h others after last fate stays awake own beside orderly made stops = record {
+    → ((k : ℕ) → is_timed last k ≡ (if k == h then false else is_timed after k)) → sleepers last ≡ sleepers after → IsStarted g h (retirement last fate others)
+stops_started g h others after last fate stays awake own beside orderly made stops asleep = record {
   orderly = orderly;
   apart = rw stays beside.apart.1;
-  running = λ none k. rw stays
+  timed = λ none k. rw (stays, awake)
       (stops k
-      ∙ ap (λ (b : Bool). if k == h then false else b) (beside.running k)
-      ∙ stops_bit (k == h) (is_among k others) (is_running g k) (λ is. ap (λ (n : ℕ). is_among n others) (eqb-true k h is) ∙ beside.apart.0));
+      ∙ ap (λ (b : Bool). if k == h then false else b) (beside_timed g h others after beside k)
+      ∙ stops_bit (k == h) (is_among k others) (is_timed g k) (λ is. ap (λ (n : ℕ). is_among n others) (eqb-true k h is) ∙ beside.apart.0));
+  asleep = rw awake (asleep ∙ beside.asleep ∙ sym (add-zero (sleepers g)));
   awake = awake;
   trap = own;
   idle = beside.idle;
@@ -203,4 +226,4 @@ pub of_space_started : (g : Guest) (h : ℕ) (a : Answered) → IsSteady g.space
 of_space_started g h a steady good runs = answer_started a.answer h g (record g { space = a.space }) refl refl (space_made g a.space steady) good runs
 
 pub unsupported_started : (g : Guest) (h : ℕ) → IsOrderly g → IsStarted g h (unsupported g h)
-unsupported_started g h good = ends_started g h g _ (λ t is. absurd (let no : ◌≡◌ {A = Ending} (Unsupported _) (Trapped t) = is in cc)) refl good
+unsupported_started g h good = ends_started g h g _ (λ t is. absurd (let no : ◌≡◌ {A = Ending} (Unsupported _) (Trapped t) = is in cc)) (unchanged g) good

@@ -1,5 +1,5 @@
 -- The calls by which harts are made, wait, are woken and leave.
-use Rattle.std.proofs.Common.{◌≡◌, ◌<◌, ℕ, ◌%◌, ◌^◌, ◌==◌, nat_le, Bool, true, false, not, ◌||◌, if◌then◌else◌, List, [], ◌∷◌, length, pos, refl, ◌∙◌, arith, replicate, length-append, leb-false, ne_eqb}
+use Rattle.std.proofs.Common.{◌≡◌, ◌<◌, ℕ, ◌%◌, ◌^◌, ◌==◌, nat_le, Bool, true, false, not, ◌||◌, if◌then◌else◌, List, [], ◌∷◌, length, pos, refl, ap, ◌∙◌, arith, replicate, length-append, leb-false, ne_eqb}
 use Rattle.std.specs.Int.{w32, to_le_bytes}
 use Rattle.std.proofs.lemmas.List.{length-set}
 use Rattle.coz_types.specs.declared.ending.Ending.{Ending}
@@ -16,13 +16,14 @@ use Rattle.guest_futex.specs.Waiters.{woken}
 use Rattle.guest_futex.specs.Apart.{AreOthers}
 use Rattle.guest_futex.proofs.WaitersLemmas.{apart-with_waiter, apart-left}
 use Rattle.guest_calls.specs.declared.hart.Hart.{Hart}
-use Rattle.guest_calls.specs.Guest.{Guest, with_hart, with_stored, is_running, is_over, memory_of, thread_id}
+use Rattle.guest_calls.specs.declared.hart.HartStatus.{HartStatus}
+use Rattle.guest_calls.specs.Guest.{Guest, with_hart, with_stored, is_running, is_running_status, is_over, memory_of, thread_id}
 use Rattle.guest_calls.specs.Calls
 use Rattle.guest_calls.specs.Calls.{retirement, answered, left_by, leave, unsupported, with_word, with_woken, clear_address, woken_at_exit, cleared, is_cleared, waiting_for, most_woken, woken_here, parent_set_tid, child_set_tid, child, with_child, with_parent_tid, with_child_tid, cloned, is_accepted, hart_limit, a0, a1, a2, a3, a4}
 use Rattle.guest_calls.specs.Orderly.{IsOrderly}
 use Rattle.guest_calls.proofs.Waiting.{others-running, waiting-elsewhere, waiting-append, waiting-with_waiter, waiting-woken, length-run_each}
-use Rattle.guest_calls.proofs.RunningHarts.{made_running, runs_here, runs_set, runs_append, next_idle, not_woken, apart_woken, woken_idle, runs_woken}
-use Rattle.guest_calls.proofs.Started.{IsStarted, IsAsBefore, RunsBeside, running_low, either, same_harts, later, unchanged, still_orderly, none_beside, beside_then, stops_started, replied_started, answer_started, stored_made, checked, unsupported_started}
+use Rattle.guest_calls.proofs.RunningHarts.{made_running, runs_here, runs_awake, timed_put, status_append, next_idle, not_woken, apart_woken, woken_idle, status_woken, asleep_put, asleep_append, asleep_woken}
+use Rattle.guest_calls.proofs.Started.{IsStarted, IsAsBefore, RunsBeside, running_low, either, same_harts, later, unchanged, still_orderly, none_beside, beside_then, beside_still, stops_started, replied_started, answer_started, stored_made, checked, unsupported_started}
 
 -- waiters are woken
 woken_beside : (g : Guest) (h address count : ℕ) → IsOrderly g → is_running g h ≡ true → RunsBeside g h (woken address g.waiters count) (with_woken address count g)
@@ -33,7 +34,8 @@ woken_beside g h address count good runs = record {
     apart = apart-left address g.waiters count good.apart;
   };
   apart = (not_woken h address g.waiters count (others-running g.harts h g.waiters (runs_here g.harts h runs) good.waiting), apart_woken address g.waiters count good.apart);
-  running = λ k. runs_woken g.harts address g.waiters count k good.waiting;
+  status = λ k. status_woken g.harts address g.waiters count k good.waiting;
+  asleep = asleep_woken g.harts address g.waiters count good.waiting;
   idle = λ k among. woken_idle g.harts k address g.waiters count good.waiting among;
   made = refl;
 }
@@ -47,7 +49,7 @@ set_orderly g h hart good runs = record {
 }
 
 runs_still : (g : Guest) (h : ℕ) (others : List ℕ) (after : Guest) → RunsBeside g h others after → is_running g h ≡ true → is_running after h ≡ true
-runs_still g h others after beside runs = beside.running h ∙ rw beside.apart.0 runs
+runs_still g h others after beside runs = ap is_running_status (beside_still g h others after beside) ∙ runs
 
 never_goes : (over : Bool) (e : Ending) → goes_on (if over then Ends e else Leaves) ≡ false
 never_goes true e = refl
@@ -65,14 +67,14 @@ leave_started : (g : Guest) (h : ℕ) (others : List ℕ) (after : Guest) → Ru
 leave_started g h others after beside runs =
     let still : is_running after h ≡ true = runs_still g h others after beside runs in
     stops_started g h others after (left_by h after) _ (never_goes (is_over (left_by h after)) _) (never_sleeps (is_over (left_by h after)) _) (λ t is. absurd (never_traps (is_over (left_by h after)) _ t is)) beside (set_orderly after h _ beside.orderly still) refl
-    (λ k. runs_set after.harts h k _ (made_running after.harts h still))
+    (λ k. timed_put after.harts h k _ (made_running after.harts h still)) (asleep_put after.harts h _ (runs_awake _ still) refl)
 
 cleared_beside : (g : Guest) (h : ℕ) → IsOrderly g → is_running g h ≡ true → RunsBeside g h (woken_at_exit g h) (cleared g h)
 cleared_beside g h good runs =
     let zeroed : Guest = with_stored (clear_address g h) (replicate 4 0) g in
     let told = stored_made (clear_address g h) (replicate 4 0) g in
     let beside = woken_beside zeroed h (clear_address g h) 1 (still_orderly g zeroed (same_harts g zeroed refl refl told) good) runs in
-    record { orderly = beside.orderly; apart = beside.apart; running = beside.running; idle = beside.idle; made = beside.made ∙ told }
+    record { orderly = beside.orderly; apart = beside.apart; status = beside.status; asleep = beside.asleep; idle = beside.idle; made = beside.made ∙ told }
 
 pub exit_started : (g : Guest) (h : ℕ) → IsOrderly g → is_running g h ≡ true → IsStarted g h (Calls.exit g h)
 unfolding Calls.exit
@@ -94,7 +96,7 @@ waiting_orderly g h address good runs =
 waits_started : (g : Guest) (h address : ℕ) → IsOrderly g → is_running g h ≡ true → IsStarted g h (retirement (waiting_for g h address) Waits [])
 waits_started g h address good runs =
     stops_started g h [] g (waiting_for g h address) Waits refl refl (λ t is. absurd (let no : ◌≡◌ {A = Fate} Waits (Ends (Trapped t)) = is in cc)) (none_beside g h g (unchanged g) good) (waiting_orderly g h address good runs) refl
-    (λ k. runs_set g.harts h k _ (made_running g.harts h runs))
+    (λ k. timed_put g.harts h k _ (made_running g.harts h runs)) (asleep_put g.harts h _ (runs_awake _ runs) refl)
 
 wait_started : (g : Guest) (h : ℕ) → IsOrderly g → is_running g h ≡ true → IsStarted g h (Calls.wait g h)
 unfolding Calls.wait
@@ -137,7 +139,8 @@ child_beside g h good runs room =
     record {
       orderly = record { few = rw length-append (omega arith); waiting = waiting-append g.harts _ g.waiters good.waiting; apart = good.apart };
       apart = (rw (ne_eqb h (length g.harts) (omega arith)) refl, (refl, tt));
-      running = λ k. runs_append g.harts _ k refl;
+      status = λ k. status_append g.harts _ k;
+      asleep = asleep_append g.harts _ refl;
       idle = λ k among. next_idle g.harts k among;
       made = refl;
     }

@@ -39,11 +39,13 @@ pub waiting-set : (hs : List Hart) (h : ℕ) (hart : Hart) (ws : List Waiter) �
 waiting-set hs h hart [] e waiting = tt
 waiting-set hs h hart (w ∷ ws) e waiting = (status-set hs h w.hart hart e ∙ waiting.0, waiting-set hs h hart ws e waiting.1)
 
--- a hart that runs doesn't wait
+-- a hart that doesn't wait is no waiter
+pub others-moving : (hs : List Hart) (h : ℕ) (ws : List Waiter) → (status_at hs h ≡ Waiting → ⊥) → AreWaiting hs ws → AreOthers h ws
+others-moving hs h [] moves waiting = tt
+others-moving hs h (w ∷ ws) moves waiting = ((λ (is : w.hart ≡ h). moves (sym (ap (status_at hs) is) ∙ waiting.0)), others-moving hs h ws moves waiting.1)
+
 pub others-running : (hs : List Hart) (h : ℕ) (ws : List Waiter) → status_at hs h ≡ Running → AreWaiting hs ws → AreOthers h ws
-others-running hs h [] runs waiting = tt
-others-running hs h (w ∷ ws) runs waiting =
-    ((λ (is : w.hart ≡ h). let never : Running ≡ Waiting = sym runs ∙ sym (ap (status_at hs) is) ∙ waiting.0 in cc), others-running hs h ws runs waiting.1)
+others-running hs h ws runs waiting = others-moving hs h ws (λ waits. let never : Running ≡ Waiting = sym runs ∙ waits in cc) waiting
 
 pub waiting-elsewhere : (hs : List Hart) (h : ℕ) (hart : Hart) (ws : List Waiter) → AreOthers h ws → AreWaiting hs ws → AreWaiting (set hs h hart) ws
 waiting-elsewhere hs h hart [] others waiting = tt

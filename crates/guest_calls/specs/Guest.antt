@@ -1,5 +1,5 @@
 -- A guest: its harts, its address space, and what it reads and writes.
-use Rattle.std.specs.Prelude.{ℕ, ◌+◌, ◌<◌, Bool, true, false, List, [], ◌∷◌, ◌++◌, get_or, set, replicate, length, take}
+use Rattle.std.specs.Prelude.{ℕ, ◌+◌, ◌<◌, Bool, true, false, ◌||◌, if◌then◌else◌, List, [], ◌∷◌, ◌++◌, get_or, set, replicate, length, take}
 use Rattle.std.specs.List.{list_all}
 use Rattle.coz_types.specs.Image.{ImageParts}
 use Rattle.guest_memory.specs.declared.Layout.{Layout}
@@ -12,7 +12,7 @@ use Rattle.rv_execute.specs.Reservations.{Reservations, without_touched}
 use Rattle.rv_execute.specs.Execution.{Setting, setting}
 use Rattle.guest_calls.specs.declared.hart.Hart.{Hart}
 use Rattle.guest_calls.specs.declared.hart.HartStatus.{HartStatus}
-use Rattle.guest_calls.specs.declared.hart.HartStatus.TheVariants.{Running, Gone}
+use Rattle.guest_calls.specs.declared.hart.HartStatus.TheVariants.{Running, Sleeping, Gone}
 
 pub record Guest : Type 0 where
   -- by number
@@ -37,6 +37,10 @@ pub record Making : Type 0 where
 abbrev pub is_running_status : HartStatus → Bool
 is_running_status Running = true
 is_running_status _ = false
+
+abbrev pub is_sleeping_status : HartStatus → Bool
+is_sleeping_status Sleeping = true
+is_sleeping_status _ = false
 
 abbrev pub is_gone_status : HartStatus → Bool
 is_gone_status Gone = true
@@ -78,6 +82,25 @@ with_running hs g = record g { harts = with_running_each hs g.harts }
 
 abbrev pub is_running : Guest → ℕ → Bool
 is_running g h = is_running_status (hart_at g h).status
+
+abbrev pub is_sleeping : Guest → ℕ → Bool
+is_sleeping g h = is_sleeping_status (hart_at g h).status
+
+-- it has a moment at which its turn comes
+abbrev pub is_timed : Guest → ℕ → Bool
+is_timed g h = is_sleeping g h || is_running g h
+
+-- how many of these harts sleep
+abbrev pub sleepers_of : List Hart → ℕ
+sleepers_of [] = 0
+sleepers_of (hart ∷ harts) = sleepers_of harts + (if is_sleeping_status hart.status then 1 else 0)
+
+abbrev pub sleepers : Guest → ℕ
+sleepers g = sleepers_of g.harts
+
+-- a hart that slept runs
+abbrev pub with_wake : ℕ → Guest → Guest
+with_wake h g = with_hart h (record (hart_at g h) { status = Running }) g
 
 -- each hart is gone
 abbrev pub is_over : Guest → Bool

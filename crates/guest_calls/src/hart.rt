@@ -1,8 +1,8 @@
-//! Harts: registers, and whether they run, wait or have gone.
+//! Harts: registers, and whether they run, wait, sleep or have gone.
 ghost use Rattle.std.specs.Prelude.{◌≡◌, set, replicate};
 ghost use Rattle.guest_calls.specs.declared.hart.HartStatus.TheVariants.{Waiting, Gone};
 ghost use Rattle.guest_calls.specs.Answering.{after_call, with_result};
-ghost use Rattle.guest_calls.specs.Guest.{hart_from, is_gone_status};
+ghost use Rattle.guest_calls.specs.Guest.{hart_from, is_gone_status, is_sleeping_status};
 
 use crate::linux::{A0, SP};
 use coz_types::Address;
@@ -12,7 +12,10 @@ use rv_execute::HartState;
 #[derive(Clone, Copy, Debug, PartialEq, Eq)]
 pub enum HartStatus {
     Running,
+    /// Until another hart wakes it.
     Waiting,
+    /// Until a net moment, when it is woken.
+    Sleeping,
     Gone,
 }
 
@@ -46,6 +49,12 @@ impl Hart {
         ensures { result ≡ is_gone_status self.now.status }
     {
         matches!(self.status, HartStatus::Gone)
+    }
+
+    pub fn is_sleeping(&self) -> bool
+        ensures { result ≡ is_sleeping_status self.now.status }
+    {
+        matches!(self.status, HartStatus::Sleeping)
     }
 
     /// Moves the pc behind the call.

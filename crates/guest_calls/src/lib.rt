@@ -14,7 +14,7 @@ ghost use Rattle.std.specs.Prelude.{◌≡◌, ◌≤◌, [], length, IfOk, IsTr
 ghost use Rattle.std.specs.Result.{result_ok};
 ghost use Rattle.cost_table.specs.Costs.{cycles_of};
 ghost use Rattle.guest_memory.specs.Regions.{IsLayout};
-ghost use Rattle.guest_calls.specs.Guest.{IsMade, is_running, making, pc_of, hart_at, first_guest};
+ghost use Rattle.guest_calls.specs.Guest.{IsMade, is_running, is_sleeping, with_wake, making, pc_of, hart_at, first_guest};
 ghost use Rattle.guest_calls.specs.Calls.{retirement};
 ghost use Rattle.guest_calls.specs.Retire.{word_at, next_of, stepped, step, trap_of, retire};
 
@@ -155,6 +155,22 @@ impl<'a> Guest<'a> {
             Step::Call => self.call(hart, net, started),
             Step::Fault(cause) => self.trap(hart, cause),
         }
+    }
+
+    /// Makes a sleeping hart running.
+    pub fn wake(&mut self, hart: HartId)
+        requires { IsTrue (is_sleeping self.old hart.0) }
+        ensures { self.new ≡ with_wake hart.0 self.old }
+    {
+        self.harts[hart.0 as usize].status = HartStatus::Running;
+    }
+
+    /// Whether a hart that was made sleeps.
+    pub fn is_sleeping(&self, hart: HartId) -> bool
+        requires { IsMade self.now hart.0 }
+        ensures { result ≡ is_sleeping self.now hart.0 }
+    {
+        self.hart(hart).is_sleeping()
     }
 
     /// Makes this guest equal to another one that was made with the same image, layout, input and output limit, and takes

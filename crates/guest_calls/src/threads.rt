@@ -141,7 +141,7 @@ impl<'a> Guest<'a> {
     {
         match self.argument(hart, 1) {
             FUTEX_WAIT | FUTEX_WAIT_PRIVATE => self.wait(hart),
-            FUTEX_WAKE | FUTEX_WAKE_PRIVATE => self.wake(hart, started),
+            FUTEX_WAKE | FUTEX_WAKE_PRIVATE => self.wake_waiters(hart, started),
             _ => self.unsupported(hart),
         }
     }
@@ -179,7 +179,7 @@ impl<'a> Guest<'a> {
 
     /// Linux: futex(2), FUTEX_WAKE.
     #[tactic(auto, unfolding(crate::specs::Calls::wake))]
-    fn wake(&mut self, hart: HartId, started: &mut HartList) -> Fate
+    fn wake_waiters(&mut self, hart: HartId, started: &mut HartList) -> Fate
         requires running { IsTrue (is_running self.old hart.0) }
         requires started { started.old ≡ [] }
         ensures { retirement self.new result started.new ≡ calls.wake self.old hart.0 }

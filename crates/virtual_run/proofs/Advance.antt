@@ -9,7 +9,7 @@ use Rattle.machines.specs.Guest.{Retirement, sleeps}
 use Rattle.progress_points.specs.Points.{point_of}
 use Rattle.guest_calls.specs.Guest.{Guest, pc_of}
 use Rattle.guest_calls.specs.Retire.{retire}
-use Rattle.guest_calls.proofs.Law.{never_sleeps}
+use Rattle.guest_calls.proofs.Law.{never_sleeps, running_awake}
 use Rattle.virtual_run.specs.declared.choice.Setting.{Setting}
 use Rattle.virtual_run.specs.declared.run.Run.{Run}
 use Rattle.virtual_run.specs.Visits.{Visits, visits_of}
@@ -49,6 +49,7 @@ module _ (setting : Setting) (run : Run) (left : Keys) (h due delay : ℕ) (afte
     first = l.first;
     taken = l.taken;
     retires = l.retires;
+    was_awake = running_awake run.guest h (l.steady.running h ∙ ap is_some l.turn);
     awake = ap (λ (r : Retirement Guest). sleeps r.fate) l.retires ∙ never_sleeps run.guest h due l.steady.orderly (l.steady.running h ∙ ap is_some l.turn);
     visits =
         net_kept run.visits.kept now.kept (point_of setting.points.now (pc_of run.guest h)) h due delay

@@ -82,7 +82,7 @@ module _ {G : Type 0} (x : Experiment G) (Good : G → Type 0) (law : IsLawful x
   next_by P n before step = go (some_or_none (standing x n).ending)
     where
       go : ((standing x n).ending ≡ None) ⊎ ((a : Ending) × ((standing x n).ending ≡ Some a)) → P (standing x (suc n))
-      go (inl none) = let r = comes_at x Good law n none in subst P (sym (standing_suc x n ∙ r.1.is ∙ come_is x Good law never r.0 (jump (ticks_left (standing x n).harts) (standing x n)))) (step r.0 none r.1)
+      go (inl none) = let r = comes_at x Good law n none in subst P (sym (standing_suc x n ∙ r.1.is ∙ come_is x Good law never n (ticks_left (standing x n).harts) r.0)) (step r.0 none r.1)
       go (inr e) = subst P (sym (ap (standing x) (let one : suc n ≡ 1 + n = omega arith in one) ∙ stays x Good law n e.0 e.1 1)) before
 
   pub standing_bounded : (most : ℕ) → ((g : G) (h : ℕ) → cut x g h ≤ most) → (n : ℕ) → Bounded most (standing x n)

@@ -14,7 +14,7 @@ use Rattle.machines.proofs.Short.{turn_runs}
 use Rattle.machines.proofs.Ends.{goes_on_at}
 use Rattle.machines.proofs.Stepping.{begin_frame}
 use Rattle.machines.proofs.Standing.{Comes, agrees}
-use Rattle.machines.proofs.Wakeless.{NeverSleeps}
+use Rattle.machines.proofs.Wakeless.{NeverSleeps, short_awake}
 use Rattle.virtual_run.proofs.CreditedBounds.{standing_zero, next_by}
 
 -- how many places there are once each of these numbers has one
@@ -172,7 +172,7 @@ module _ {G : Type 0} (x : Experiment G) (Good : G → Type 0) (law : IsLawful x
           let p = jump_places x (ticks_left d.harts) d in
           let same : d.guest ≡ s.guest = (agrees x Good law n).guest in
           let lives = (goes_on_at x Good law n (sym (agrees x Good law n).ending ∙ none)).lives in
-          let runs : x.guest.is_running j.guest h ≡ true = ap (λ (g : G). x.guest.is_running g h) (p.1 ∙ same) ∙ turn_runs x Good law s (turn x h j) lives r.turn (never.awake s.guest h) in
+          let runs : x.guest.is_running j.guest h ≡ true = ap (λ (g : G). x.guest.is_running g h) (p.1 ∙ same) ∙ turn_runs x Good law s (turn x h j) lives r.turn (short_awake x Good law never n h) in
           let good : Good j.guest = subst Good (sym (p.1 ∙ same)) lives.good in
           record {
             each = p.0 ∙ has ∙ sym (ap count p.1);
@@ -211,5 +211,5 @@ module _ {G : Type 0} (x : Experiment G) (Good : G → Type 0) (law : IsLawful x
           let j : Delayed G = jump (ticks_left d.harts) d in
           let same : j.guest ≡ s.guest = (jump_places x (ticks_left d.harts) d).1 ∙ (agrees x Good law n).guest in
           let lives = (goes_on_at x Good law n (sym (agrees x Good law n).ending ∙ none)).lives in
-          let runs : x.guest.is_running j.guest h ≡ true = ap (λ (g : G). x.guest.is_running g h) same ∙ turn_runs x Good law s (turn x h j) lives r.turn (never.awake s.guest h) in
+          let runs : x.guest.is_running j.guest h ≡ true = ap (λ (g : G). x.guest.is_running g h) same ∙ turn_runs x Good law s (turn x h j) lives r.turn (short_awake x Good law never n h) in
           subst Good (sym (retire_guest h j ∙ made_by h j)) (law.stays_good j.guest h (j.now - j.delay) (subst Good (sym same) lives.good) runs)

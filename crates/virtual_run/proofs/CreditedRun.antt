@@ -52,8 +52,8 @@ use Rattle.virtual_run.specs.DelayedRun.{visit_as, net_due_of, account_in, outco
 use Rattle.virtual_run.proofs.Keys.{has_place, next_is}
 use Rattle.virtual_run.proofs.Many.{many_few}
 use Rattle.virtual_run.proofs.Begin.{cycles_few}
-use Rattle.machines.proofs.Wakeless.{NeverSleeps, at_budget}
-use Rattle.virtual_run.proofs.Law.{lawful_run, never_run, steady, reached_next, IsTurn, started_idle, none_own}
+use Rattle.machines.proofs.Wakeless.{NeverSleeps, at_budget, short_awake, long_awake}
+use Rattle.virtual_run.proofs.Law.{lawful_run, never_run, steady, reached_next, IsTurn, neither, started_idle, none_own}
 use Rattle.virtual_run.proofs.Credited.{among_filter, holds_begin}
 use Rattle.virtual_run.proofs.CreditedLists.{at_latest, change_length, raises_length, raises_latest, start_is, starts_run}
 use Rattle.virtual_run.proofs.CreditedBegin.{others_among, begun_places}
@@ -228,7 +228,7 @@ module _ (image : ImageParts) (input : List ℕ) (setting : Setting) (run : Run)
     still_idle : (k : ℕ) → is_among k new.started ≡ true → runs_in s.guest k ≡ false
     still_idle k among =
         ap (λ (g : Guest). runs_in g k) short_guest
-        ∙ others_idle run.guest h new.time turned.orderly hart_ran k (ap (λ (r : Retirement Guest). is_among k r.others) (sym a.retires) ∙ among)
+        ∙ neither _ (runs_in run.guest k) (others_idle run.guest h new.time turned.orderly hart_ran k (ap (λ (r : Retirement Guest). is_among k r.others) (sym a.retires) ∙ among))
 
     pub reached_new : IsReached x new
     reached_new = reached_next image (position_at setting.index.now) (point_of setting.points.now) input setting.choice p.valid run p.reached new goes (a.moved (first_guest image input setting.choice.output_limit setting.choice.layout) s.dues p.reached.reached.dues) a.room (ap (λ (v : Visits). v.limit) a.visits) a.unfull a.retired a.few a.within
@@ -338,7 +338,7 @@ module _ (image : ImageParts) (input : List ℕ) (setting : Setting) (run : Run)
     selected_new (Some e) is =
         a.none_selected (ap is_some is) ∙ sym (ap (filter (x.guest.is_selected new.guest)) (ended_begins x (suc run.retired) e (after_is ∙ is)))
     selected_new None is =
-        let begins = goes_begins x IsOrderly law run.retired t (ending_now ∙ goes) next.turn (never.awake s.guest h) (after_is ∙ is) in
+        let begins = goes_begins x IsOrderly law run.retired t (ending_now ∙ goes) next.turn (short_awake x IsOrderly law never run.retired h) (after_is ∙ is) in
         a.selected is ∙ sym (ap (filter (x.guest.is_selected new.guest)) (begins ∙ sym (ap (started h) retires_as)))
 
     pub paced_next : (after : Delays) → after ≡ settled_by new.ending (raise_ticks new.guest setting.choice.speedup) h fate new.started new.selected stopped → IsPaced image input setting new after later_now
@@ -362,7 +362,7 @@ module _ (image : ImageParts) (input : List ℕ) (setting : Setting) (run : Run)
     pub steps_next : Steps x d (standing x new.retired)
     steps_next =
         let by = steps_is x IsOrderly law run.retired t (ending_now ∙ goes) next.turn in
-        subst (λ (n : ℕ). Steps x d (standing x n)) (sym next_count) (by.retires (never.awake d.guest h)).1
+        subst (λ (n : ℕ). Steps x d (standing x n)) (sym next_count) (by.retires (long_awake x IsOrderly law never run.retired h)).1
 
 -- when a hart retires, of its load
 due_of : (now delay : ℕ) (a : Account) (o : Option Load) (due : Option ℕ) → LoadAgrees now delay a o due → due ≡ option_map (λ load. now + load.work + load.pause - delay) o

@@ -13,7 +13,7 @@ use Rattle.machines.proofs.Turns.{first_is, turn_has}
 use Rattle.machines.proofs.Harts.{alike}
 use Rattle.machines.proofs.Retire.{Ready, ready_is, account_at}
 use Rattle.machines.proofs.Short.{Lives, turn_runs}
-use Rattle.machines.proofs.Wakeless.{NeverSleeps}
+use Rattle.machines.proofs.Wakeless.{NeverSleeps, short_awake, long_awake}
 use Rattle.machines.proofs.Ends.{goes_on_at}
 use Rattle.machines.proofs.Stepping.{begin_frame}
 use Rattle.machines.proofs.Standing.{StepsBy, steps_is, agrees, jump_agrees, visit_of, retire_visits}
@@ -118,7 +118,7 @@ module _ {G : Type 0} (x : Experiment G) (Good : G → Type 0) (law : IsLawful x
     steps = steps_is x Good law n t next.goes next.turn
 
     is : standing x (suc n) ≡ retire x t.hart (jump k d)
-    is = (steps.retires (never.awake d.guest t.hart)).0
+    is = (steps.retires (long_awake x Good law never n t.hart)).0
 
     both : Agrees (jump k d) s
     both = jump_agrees x k d s (agrees x Good law n) next.goes steps.ticks
@@ -158,7 +158,7 @@ module _ {G : Type 0} (x : Experiment G) (Good : G → Type 0) (law : IsLawful x
     lives = (goes_on_at x Good law n (sym (agrees x Good law n).ending ∙ next.goes)).lives
 
     awake : sleeps (retirement x t.hart (jump k d)).fate ≡ false
-    awake = ap (λ (r : Retirement G). sleeps r.fate) retires ∙ never.stays s.guest t.hart t.due lives.good (turn_runs x Good law s t lives next.turn (never.awake s.guest t.hart))
+    awake = ap (λ (r : Retirement G). sleeps r.fate) retires ∙ never.stays s.guest t.hart t.due lives.good (turn_runs x Good law s t lives next.turn (short_awake x Good law never n t.hart))
 
     stopped : Holds (with_stop t.hart now c) (leave x t.hart (jump k d))
     stopped = holds_leave x t.hart (at now c) (jump k d) awake held
@@ -192,7 +192,7 @@ module _ {G : Type 0} (x : Experiment G) (Good : G → Type 0) (law : IsLawful x
         ∙ runs_held that
         ∙ alike (jump k d).now (jump k d).delay that.account that.load (get_or s.dues i None) (both.harts i)
         ∙ sym (lives.running i)
-        ∙ ap (λ b. b || x.guest.is_running s.guest i) (never.awake s.guest i)
+        ∙ ap (λ b. b || x.guest.is_running s.guest i) (short_awake x Good law never n i)
         ∙ none
 
     -- a hart that doesn't run doesn't run after it

@@ -1,5 +1,5 @@
 -- The record of a run, and what holds of its states.
-use Rattle.std.proofs.Common.{◌≡◌, ◌≢◌, ℕ, ◌+◌, ◌*◌, ◌^◌, ◌≤◌, ◌<◌, length, Bool, not, true, false, if◌then◌else◌, ◌==◌, List, [], ◌∷◌, get_or, Option, Some, None, IsNone, is_some, refl, ap, sym, subst, ◌∙◌, arith, eq-eqb, ne_eqb, ◌⊎◌, inl, inr, replicate, lit<}
+use Rattle.std.proofs.Common.{◌≡◌, ◌≢◌, ℕ, ◌+◌, ◌*◌, ◌^◌, ◌≤◌, ◌<◌, length, Bool, not, true, false, ◌||◌, if◌then◌else◌, ◌==◌, List, [], ◌∷◌, get_or, Option, Some, None, IsNone, is_some, refl, ap, sym, subst, ◌∙◌, arith, eq-eqb, ne_eqb, ◌⊎◌, inl, inr, replicate, lit<}
 use Rattle.std.proofs.lemmas.Bool.{cases_eq}
 use Rattle.std.proofs.lemmas.List.{length-set, length-replicate}
 use Rattle.coz_types.specs.declared.ending.Ending.{Ending}
@@ -12,13 +12,13 @@ use Rattle.machines.specs.Places.{is_among}
 use Rattle.machines.specs.Shortened.{Shortened, shortened, move}
 use Rattle.machines.specs.Records.{IsShortened, shortened_record, net_record_of}
 use Rattle.machines.proofs.Ends.{goes_on_at, at_last, record_is, recorded}
-use Rattle.machines.proofs.Wakeless.{NeverSleeps, at_budget}
+use Rattle.machines.proofs.Wakeless.{NeverSleeps, short_awake, at_budget}
 use Rattle.guest_memory.specs.declared.Layout.{Layout}
 use Rattle.guest_memory.specs.Regions.{usual}
-use Rattle.guest_calls.specs.Guest.{Guest, IsMade, pc_of, is_running, first_guest}
+use Rattle.guest_calls.specs.Guest.{Guest, IsMade, pc_of, is_running, is_timed, first_guest}
 use Rattle.guest_calls.specs.Retire.{retire}
 use Rattle.guest_calls.specs.Orderly.{IsOrderly}
-use Rattle.guest_calls.proofs.Law.{lawful, running_low, others_idle, never_sleeps}
+use Rattle.guest_calls.proofs.Law.{lawful, timed_low, others_idle, never_sleeps, none_sleeps}
 use Rattle.virtual_run.specs.declared.choice.Choice.{Choice}
 use Rattle.virtual_run.specs.declared.choice.Setting.{Setting}
 use Rattle.virtual_run.specs.declared.run.Run.{Run}
@@ -38,7 +38,7 @@ lawful_run image position point input choice small =
 
 -- no hart of it ever sleeps
 pub never_run : (image : ImageParts) (position point : ℕ → Option ℕ) (input : List ℕ) (choice : Choice) → NeverSleeps (experiment image position point input choice) IsOrderly
-never_run image position point input choice = record { awake = λ g h. refl; stays = never_sleeps }
+never_run image position point input choice = record { awake = none_sleeps; stays = never_sleeps }
 
 -- an image for laws that don't read it
 abbrev no_image : ImageParts
@@ -55,7 +55,7 @@ pub first_made : (image : ImageParts) (input : List ℕ) (output_limit : ℕ) (l
 first_made image input output_limit layout =
     let first : IsLawful (experiment image (λ _. None) (λ _. None) input (record plain { output_limit = output_limit; layout = layout })) IsOrderly =
     lawful_run image (λ _. None) (λ _. None) input (record plain { output_limit = output_limit; layout = layout }) (omega arith) in
-    (running_low (first_guest image input output_limit layout) 0 first.first_good (first.first_running 0)).0
+    (timed_low (first_guest image input output_limit layout) 0 first.first_good (first.first_running 0)).0
 
 first_of : (o p : Option Ending) → first_of_two o p ≡ None → o ≡ None
 first_of None p none = refl
@@ -108,11 +108,16 @@ among_others : (goes : Bool) (k h : ℕ) (others : List ℕ) → k ≢ h → is_
 among_others true k h others n e = rw (ne_eqb k h n) at e
 among_others false k h others n e = e
 
+-- a hart that neither sleeps nor runs doesn't run
+pub neither : (sleeps runs : Bool) → (sleeps || runs) ≡ false → runs ≡ false
+neither true runs none = absurd (let no : true ≡ false = none in cc)
+neither false runs none = none
+
 absent_by : (g : Guest) (keys : Keys) (h due k : ℕ) → IsTurn g keys h due → is_among k (started h (retire g h due)) ≡ true → (k ≡ h) ⊎ (k ≡ h → ⊥) → (if k == h then None else key_of keys k) ≡ None
 absent_by g keys h due k t among (inl same) = rw (same, eq-eqb h h refl) refl
 absent_by g keys h due k t among (inr n) =
     let other : is_among k (retire g h due).others ≡ true = among_others (goes_on (retire g h due).fate) k h (retire g h due).others n among in
-    rw (ne_eqb k h n) (none_key (key_of keys k) (sym (t.running k) ∙ others_idle g h due t.orderly (turn_runs g keys h due t) k other))
+    rw (ne_eqb k h n) (none_key (key_of keys k) (sym (t.running k) ∙ neither _ (is_running g k) (others_idle g h due t.orderly (turn_runs g keys h due t) k other)))
 
 idle_by : (g : Guest) (keys : Keys) (h due : ℕ) → IsTurn g keys h due → IsNone (own_ending (retire g h due).fate) → AreIdle (retire g h due).guest (without_key h keys) (started h (retire g h due))
 idle_by g keys h due t none =
@@ -122,8 +127,8 @@ idle_by g keys h due t none =
     record {
       apart = law.apart g h due t.orderly runs;
       idle = λ k among.
-          let runs_on : is_running after k ≡ true = law.running g h due t.orderly runs none k ∙ rw among refl in
-          let low = running_low after k good runs_on in
+          let timed : is_timed after k ≡ true = law.running g h due t.orderly runs none k ∙ rw among refl in
+          let low = timed_low after k good timed in
           record {
             made = low.0;
             below = rw (length-set keys h None, t.room) low.1;
@@ -174,7 +179,11 @@ module _ (image : ImageParts) (position point : ℕ → Option ℕ) (input : Lis
       record {
         goes = none;
         orderly = subst IsOrderly guest_is g.lives.good;
-        running = λ k. ap (λ (g : Guest). is_running g k) (sym guest_is) ∙ g.lives.running k ∙ ap is_some (sym (r.reached.dues k));
+        running = λ k.
+            ap (λ (g : Guest). is_running g k) (sym guest_is)
+            ∙ ap (λ b. b || is_running s.guest k) (sym (short_awake x IsOrderly is_lawful (never_run image position point input choice) run.retired k))
+            ∙ g.lives.running k
+            ∙ ap is_some (sym (r.reached.dues k));
         some_hart = not_empty g.lives.some_hart.0 g.lives.some_hart.1;
         room = r.room;
         unfull = subst (λ (n : ℕ). length run.visits.kept < n) (sym r.limit) (r.unfull none);

@@ -15,7 +15,7 @@ use Rattle.machines.proofs.Maps.{change_each_at}
 use Rattle.machines.proofs.Wakeless.{rests}
 use Rattle.cost_table.specs.Costs.{cycles_of}
 use Rattle.progress_points.specs.Points.{point_of}
-use Rattle.guest_calls.specs.Guest.{Guest, pc_of}
+use Rattle.guest_calls.specs.Guest.{Guest, pc_of, is_sleeping}
 use Rattle.guest_calls.specs.Retire.{next_of, retire}
 use Rattle.virtual_run.specs.declared.choice.Setting.{Setting}
 use Rattle.virtual_run.specs.declared.run.Run.{Run}
@@ -94,6 +94,7 @@ pub record IsMove (setting : Setting) (run : Run) (left : Keys) (h due : ℕ) (a
   pub first : IsLeast run.schedule h
   pub taken : left ≡ without_key h run.schedule
   pub retires : outcome after fate others ≡ retire run.guest h due
+  pub was_awake : is_sleeping run.guest h ≡ false
   pub awake : sleeps fate ≡ false
   pub visits : map net_of kept ≡ map net_of run.visits.kept ++ net_visits (point_of setting.points.now (pc_of run.guest h)) h due
   pub ends : e ≡ ending_of fate (nat_le setting.choice.output_limit (length after.output)) (nat_le setting.choice.visit_limit (length kept)) (runs_after fate others left) (run.retired + 1) setting.choice.budget
@@ -143,7 +144,7 @@ module _ (setting : Setting) (first : Guest) where
     moved =
         let same : runs_any left ≡ runs_any (taken h dues) = same_runs left (taken h dues) dues_left in
         ap (λ (o : Option Ending). move x (state run.time run.guest dues (map net_of run.visits.kept) run.retired run.starts o)) m.goes
-        ∙ turned x run.time run.guest dues (map net_of run.visits.kept) h due run.retired run.starts (next_is run.schedule dues h due are m.turn m.first) refl
+        ∙ turned x run.time run.guest dues (map net_of run.visits.kept) h due run.retired run.starts (next_is run.schedule dues h due are m.turn m.first) m.was_awake
         ∙ ap (λ (r : Retirement Guest). moved_by x h r (short.rest r.fate) due run.starts dues net run.retired (length net)) (sym m.retires)
         ∙ ap (λ (o : Option ℕ). moved_by x h (outcome after fate others) o due run.starts dues net run.retired (length net)) (rests fate 0 fresh m.awake).0
         ∙ ap (λ (vs : List NetVisit). moved_by x h (outcome after fate others) None due run.starts dues vs run.retired (length vs)) (sym m.visits)
