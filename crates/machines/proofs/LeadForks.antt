@@ -31,6 +31,9 @@ module _ {G : Type 0} (x : Experiment G) where
   pub before_retired : (n : ℕ) → (standing x n).retired ≡ (before x n).state.retired
   before_retired n = let b : Before G = before x n in ap (λ d. d.retired) (standing_begins x n) ∙ ap (λ d. d.retired) (begin_frame x b.harts b.state)
 
+  pub before_wakes : (n : ℕ) → (standing x n).wakes ≡ (before x n).state.wakes
+  before_wakes n = let b : Before G = before x n in ap (λ d. d.wakes) (standing_begins x n) ∙ ap (λ d. d.wakes) (begin_frame x b.harts b.state)
+
   ended_none : (o : Option Ending) (d : Delayed G) (b : Before G) (e : Ending) → b.state.ending ≡ None → (ended_or o d b).state.ending ≡ Some e → (ended_or o d b).harts ≡ []
   ended_none (Some a) d b e none over = refl
   ended_none None d b e none over = absurd (let no : ◌≡◌ {A = Option Ending} None (Some e) = sym none ∙ over in cc)

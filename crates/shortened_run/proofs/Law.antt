@@ -4,7 +4,7 @@ use Rattle.std.proofs.lemmas.List.Elements.{All-nil, All-cons, All-append}
 use Rattle.coz_types.specs.declared.ending.Ending.{Ending}
 use Rattle.coz_types.specs.declared.record.Visit.{Visit}
 use Rattle.coz_types.specs.Image.{ImageParts}
-use Rattle.machines.specs.Guest.{Experiment}
+use Rattle.machines.specs.Guest.{Experiment, enough}
 use Rattle.machines.specs.Shortened.{Shortened, shortened}
 use Rattle.machines.specs.Records.{net_record_of, IsShortened, shortened_record}
 use Rattle.line_index.specs.Index.{Index, position_at}
@@ -13,6 +13,7 @@ use Rattle.guest_calls.specs.Guest.{Guest}
 use Rattle.virtual_run.specs.declared.choice.Choice.{Choice}
 use Rattle.virtual_run.specs.declared.choice.Setting.{Setting}
 use Rattle.virtual_run.specs.declared.run.Run.{Run}
+use Rattle.virtual_run.specs.Run.{events_of}
 use Rattle.virtual_run.specs.Visits.{visits_of}
 use Rattle.virtual_run.specs.Seen.{Seen, experiment_with}
 use Rattle.virtual_run.proofs.Law.{recorded_now, last_now, shortened_is}
@@ -34,14 +35,14 @@ module _ (image : ImageParts) (input : List ℕ) (setting : Setting) (run : Run)
   x = experiment_with image input setting
 
   -- the record of a run that has ended, of what was run at first
-  pub recorded_of : (e : Ending) → run.ending ≡ Some e → net_record_of old (shortened x run.retired) e ≡ shortened_record old
+  pub recorded_of : (e : Ending) → run.ending ≡ Some e → net_record_of old (shortened x (events_of run)) e ≡ shortened_record old
   recorded_of e ended =
-      subst (λ (o : Experiment Guest). net_record_of o (shortened x run.retired) e ≡ shortened_record o) (sym same)
+      subst (λ (o : Experiment Guest). net_record_of o (shortened x (events_of run)) e ≡ shortened_record o) (sym same)
       (recorded_now image (position_at setting.index.now) (point_of setting.points.now) input setting.choice short.valid run short.reached e ended)
 
-  pub last_of : (e : Ending) → run.ending ≡ Some e → shortened x run.retired ≡ shortened old old.budget
+  pub last_of : (e : Ending) → run.ending ≡ Some e → shortened x (events_of run) ≡ shortened old (enough old)
   last_of e ended =
-      subst (λ (o : Experiment Guest). shortened x run.retired ≡ shortened o o.budget) (sym same)
+      subst (λ (o : Experiment Guest). shortened x (events_of run) ≡ shortened o (enough o)) (sym same)
       (last_now image (position_at setting.index.now) (point_of setting.points.now) input setting.choice short.valid run short.reached e ended)
 
   pub shortened_of : IsShortened old (shortened_record old)

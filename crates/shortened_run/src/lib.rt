@@ -26,6 +26,7 @@ pub struct Short<'a> {
 impl<'a> Model for Short<'a> {
     ghost use Rattle.machines.specs.Shortened.{Shortened, shortened};
     ghost use Rattle.guest_calls.specs.Guest.{Guest};
+    ghost use Rattle.virtual_run.specs.Run.{events_of};
     ghost use Rattle.virtual_run.specs.Seen.{Seen, experiment_with};
     ghost use Rattle.shortened_run.specs.ShortenedRun.{IsShort};
 
@@ -37,7 +38,7 @@ impl<'a> Model for Short<'a> {
       points = short.setting.points.now;
       input = short.input.now;
       choice = short.setting.choice;
-      state = shortened (experiment_with short.image.now short.input.now short.setting) short.run.retired;
+      state = shortened (experiment_with short.image.now short.input.now short.setting) (events_of short.run);
     } };
 
     ghost invariant = { λ short. IsShort short.image.now short.input.now short.setting short.run };
@@ -46,6 +47,7 @@ impl<'a> Model for Short<'a> {
 impl<'a> Short<'a> {
     ghost use Rattle.line_index.specs.Index.{position_at};
     ghost use Rattle.progress_points.specs.Points.{point_of};
+    ghost use Rattle.machines.specs.Guest.{enough};
     ghost use Rattle.machines.specs.Shortened.{shortened};
     ghost use Rattle.machines.specs.Records.{net_record_of, IsShortened, shortened_record};
     ghost use Rattle.virtual_run.specs.Run.{experiment, IsChoice};
@@ -88,7 +90,7 @@ impl<'a> Short<'a> {
         ensures ended { self.new.state.ending ≡ Some result }
         ensures record { let x = experiment_of self.old in net_record_of x self.new.state result ≡ shortened_record x }
         ensures shortened { let x = experiment_of self.old in IsShortened x (shortened_record x) }
-        ensures last { self.new.state ≡ shortened (experiment_of self.old) self.old.choice.budget }
+        ensures last { let x = experiment_of self.old in self.new.state ≡ shortened x (enough x) }
         ensures rest { self.new ≡ record self.old { state = self.new.state } }
     {
         while self.run.ending().is_none() {

@@ -15,7 +15,7 @@ use Rattle.virtual_run.specs.declared.run.Run.{Run}
 use Rattle.virtual_run.specs.Visits.{Visits, visits_of}
 use Rattle.virtual_run.specs.Begin.{started_by, many, AreIdle, AreBegun}
 use Rattle.virtual_run.specs.Ending.{ending_of, runs_after}
-use Rattle.virtual_run.specs.Run.{selects, selected_of, ticks_in, IsSteady}
+use Rattle.virtual_run.specs.Run.{selects, selected_of, ticks_in, events_of, IsSteady}
 use Rattle.virtual_run.specs.Advance.{IsAdvance}
 use Rattle.virtual_run.proofs.Many.{many_without}
 use Rattle.virtual_run.proofs.Begin.{ticks_few, within_begun, within_left, within_later}
@@ -82,7 +82,7 @@ module _ (setting : Setting) (run : Run) (left : Keys) (h due delay : ℕ) (afte
   -- the run goes on
   pub advance_goes : (new : Keys) (chosen : List ℕ) (starts : ℕ) → e ≡ None → setting.choice.speedup ≤ 95 → AreBegun (ticks_in setting after) due (started_by h fate others) left new
       → chosen ≡ selected_of setting after (started_by h fate others) → length new ≡ 256 → starts ≡ run.starts + length chosen → length chosen + many left ≤ many new
-      → IsAdvance setting run h fate delay (run_of due after new others chosen now (run.retired + 1) starts e)
+      → IsAdvance setting run h fate delay (run_of due after new others chosen now (run.retired + 1) run.wakes starts e)
   advance_goes new chosen starts none small begun selected room counted few = record {
     moved = λ first dues are.
         goes setting first run left h due after fate others now.kept e move_is dues are new chosen now.limit starts none small (idle_then none).apart begun
@@ -97,9 +97,10 @@ module _ (setting : Setting) (run : Run) (left : Keys) (h due delay : ℕ) (afte
     none_selected = λ some. absurd (not_some e none some);
     room = room;
     retired = refl;
+    wakes = refl;
     few =
         let less : many run.schedule ≡ many left + 1 = many_left in
-        let before : run.starts ≤ run.retired + many run.schedule = l.steady.few in
+        let before : run.starts ≤ events_of run + many run.schedule = l.steady.few in
         omega (arith, less, before, counted, few);
     within = λ moment within.
         let soon = within_left run.schedule left h moment l.taken within in
@@ -107,7 +108,7 @@ module _ (setting : Setting) (run : Run) (left : Keys) (h due delay : ℕ) (afte
   }
 
   -- the run ends with the move
-  pub advance_ended : (a : Ending) (chosen : List ℕ) → e ≡ Some a → chosen ≡ [] → IsAdvance setting run h fate delay (run_of due after left others chosen now (run.retired + 1) run.starts e)
+  pub advance_ended : (a : Ending) (chosen : List ℕ) → e ≡ Some a → chosen ≡ [] → IsAdvance setting run h fate delay (run_of due after left others chosen now (run.retired + 1) run.wakes run.starts e)
   advance_ended a chosen some empty = record {
     moved = λ first dues are. ended setting first run left h due after fate others now.kept e move_is dues are a chosen now.limit some;
     turn = l.turn;
@@ -120,9 +121,10 @@ module _ (setting : Setting) (run : Run) (left : Keys) (h due delay : ℕ) (afte
     none_selected = λ _. empty;
     room = ap length l.taken ∙ length-set run.schedule h None ∙ l.steady.room;
     retired = refl;
+    wakes = refl;
     few =
         let less : many run.schedule ≡ many left + 1 = many_left in
-        let before : run.starts ≤ run.retired + many run.schedule = l.steady.few in
+        let before : run.starts ≤ events_of run + many run.schedule = l.steady.few in
         omega (arith, less, before);
     within = λ moment within. within_later moment (moment + 4000) left (omega arith) (within_left run.schedule left h moment l.taken within);
   }

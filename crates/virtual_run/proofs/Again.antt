@@ -16,7 +16,7 @@ use Rattle.guest_calls.specs.Guest.{Guest, IsMade, pc_of}
 use Rattle.virtual_run.specs.declared.choice.Setting.{Setting}
 use Rattle.virtual_run.specs.declared.run.Run.{Run}
 use Rattle.virtual_run.specs.Begin.{many}
-use Rattle.virtual_run.specs.Run.{IsChoice, IsReached, state_of, selects, selected_of}
+use Rattle.virtual_run.specs.Run.{events_of, IsChoice, IsReached, state_of, selects, selected_of}
 use Rattle.virtual_run.specs.Credited.{Holds}
 use Rattle.virtual_run.specs.Seen.{experiment_with}
 use Rattle.virtual_run.specs.DelayedRun.{IsPaced}
@@ -73,7 +73,7 @@ module _ (x : Experiment Guest) (whole : x.speedup ≡ 0) where
       (λ (c : ℕ). record { time = 0; guest = x.first; dues = change None 0 (λ _. Some (0 + cost x x.first 0 - c)) []; visits = []; retired = 0; wakes = 0; starts = 0 + length (filter (x.guest.is_selected x.first) (0 ∷ [])); ending = None })
       (uncut x x.first 0 whole)
 
-module _ (image : ImageParts) (input : List ℕ) (setting : Setting) (run : Run) (credits : Delays) (now : ℕ) (p : IsPaced image input setting run credits now) (whole : setting.choice.speedup ≡ 0) (zeroth : run.retired ≡ 0) (line : LineId) where
+module _ (image : ImageParts) (input : List ℕ) (setting : Setting) (run : Run) (credits : Delays) (now : ℕ) (p : IsPaced image input setting run credits now) (whole : setting.choice.speedup ≡ 0) (zeroth : events_of run ≡ 0) (line : LineId) where
   abbrev x : Experiment Guest
   x = experiment_with image input setting
 
@@ -96,7 +96,7 @@ module _ (image : ImageParts) (input : List ℕ) (setting : Setting) (run : Run)
   abbrev new_run : Run
   new_run = record run { selected = chosen; starts = length chosen }
 
-  moment_zero : (standing x run.retired).now ≡ 0
+  moment_zero : (standing x (events_of run)).now ≡ 0
   moment_zero = ap (λ (n : ℕ). (standing x n).now) zeroth ∙ ap (λ (d : Delayed Guest). d.now) (first_is x whole).1
 
   -- both first states have the same harts, and the same moments
@@ -111,17 +111,17 @@ module _ (image : ImageParts) (input : List ℕ) (setting : Setting) (run : Run)
       let same : length (filter (y.guest.is_selected y.first) (0 ∷ [])) ≡ length chosen = ap (λ (g : Guest). length (filter (y.guest.is_selected g) (0 ∷ []))) (sym guest_is) in
       omega (arith, same)
 
-  state_new : shortened y run.retired ≡ state_of new_run (shortened y run.retired).dues
+  state_new : shortened y (events_of run) ≡ state_of new_run (shortened y (events_of run)).dues
   state_new =
-      let first : shortened y run.retired ≡ record (shortened x run.retired) { starts = length chosen } =
+      let first : shortened y (events_of run) ≡ record (shortened x (events_of run)) { starts = length chosen } =
       ap (shortened y) zeroth ∙ same_short
       ∙ ap (λ (n : ℕ). record (shortened x 0) { starts = n }) counted
       ∙ ap (λ (n : ℕ). record (shortened x n) { starts = length chosen }) (sym zeroth) in
-      let dues : (shortened x run.retired).dues ≡ (shortened y run.retired).dues = ap (λ (s : Shortened Guest). s.dues) (sym first) in
+      let dues : (shortened x (events_of run)).dues ≡ (shortened y (events_of run)).dues = ap (λ (s : Shortened Guest). s.dues) (sym first) in
       first ∙ ap (λ (s : Shortened Guest). record s { starts = length chosen }) p.reached.reached.state
       ∙ ap (state_of new_run) dues
 
-  dues_same : (shortened x run.retired).dues ≡ (shortened y run.retired).dues
+  dues_same : (shortened x (events_of run)).dues ≡ (shortened y (events_of run)).dues
   dues_same = ap (λ (n : ℕ). (shortened x n).dues) zeroth ∙ ap (λ (s : Shortened Guest). s.dues) (sym same_short) ∙ ap (λ (n : ℕ). (shortened y n).dues) (sym zeroth)
 
   due_first : (shortened x 0).dues ≡ Some (0 + cost x x.first 0 - 0) ∷ []
@@ -147,7 +147,7 @@ module _ (image : ImageParts) (input : List ℕ) (setting : Setting) (run : Run)
     within = p.reached.within;
   }
 
-  holds_new : Holds credits (standing y run.retired)
+  holds_new : Holds credits (standing y (events_of run))
   unfolding cost
   holds_new =
       let a = first_is x whole in
@@ -155,12 +155,12 @@ module _ (image : ImageParts) (input : List ℕ) (setting : Setting) (run : Run)
       let was : Holds credits (record (ready x whole) { starts = a.0 }) = subst (Holds credits) (ap (standing x) zeroth ∙ a.1) p.holds in
       subst (Holds credits) (sym (ap (standing y) zeroth ∙ b.1)) (record { latest = was.latest; raised = was.raised; harts = was.harts })
 
-  same_visits : (standing x run.retired).visits ≡ (standing y run.retired).visits
+  same_visits : (standing x (events_of run)).visits ≡ (standing y (events_of run)).visits
   same_visits =
       ap (λ (n : ℕ). (standing x n).visits) zeroth ∙ ap (λ (d : Delayed Guest). d.visits) (first_is x whole).1
       ∙ sym (ap (λ (n : ℕ). (standing y n).visits) zeroth ∙ ap (λ (d : Delayed Guest). d.visits) (first_is y whole).1)
 
-  same_now : (standing x run.retired).now ≡ (standing y run.retired).now
+  same_now : (standing x (events_of run)).now ≡ (standing y (events_of run)).now
   same_now =
       moment_zero ∙ sym (ap (λ (n : ℕ). (standing y n).now) zeroth ∙ ap (λ (d : Delayed Guest). d.now) (first_is y whole).1)
 

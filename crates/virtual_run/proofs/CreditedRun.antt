@@ -17,8 +17,8 @@ use Rattle.progress_points.specs.Points.{point_of}
 use Rattle.machines.specs.declared.Fate.{Fate}
 use Rattle.machines.specs.declared.Fate.TheVariants.{Goes, Waits, Leaves, Sleeps, Ends}
 use Rattle.machines.specs.Places.{is_among}
-use Rattle.machines.specs.Guest.{Experiment, Retirement, IsLawful, goes_on, own_ending, when, first_ending, started}
-use Rattle.machines.specs.Delayed.{Account, Load, Hart, Delayed, Visit, fresh, is_running, stop, run as run_from, begin, unbegun, after, delayed}
+use Rattle.machines.specs.Guest.{Experiment, Retirement, IsLawful, enough, goes_on, own_ending, when, first_ending, started}
+use Rattle.machines.specs.Delayed.{Account, Load, Hart, Delayed, Visit, fresh, is_running, stop, run as run_from, begin, unbegun, events, after, delayed}
 use Rattle.machines.specs.Shortened.{Shortened, Turn, shortened, move}
 use Rattle.machines.specs.Shortened as short
 use Rattle.machines.specs.Agreement.{LoadAgrees, Agrees}
@@ -29,9 +29,9 @@ use Rattle.machines.specs.Records.{net, record_of, IsDelayed, IsShortened, short
 use Rattle.machines.proofs.Runs.{both}
 use Rattle.machines.proofs.LeadForks.{ended_begins, goes_begins}
 use Rattle.machines.proofs.Headline.{unique}
-use Rattle.machines.proofs.Ends.{goes_on_at, record_is}
+use Rattle.machines.proofs.Ends.{goes_on_at, few, record_is}
 use Rattle.machines.proofs.Stepping.{begin_frame}
-use Rattle.machines.proofs.Standing.{agrees, in_time, end_in_time, steps_is, last, recorded_delayed, delayed_is, net_is}
+use Rattle.machines.proofs.Standing.{agrees, agrees_events, few_wakes, in_time, end_in_time, steps_is, last, recorded_delayed, delayed_is, net_is}
 use Rattle.delay_credits.specs.Delays.{Delays, account_as, hart_at, pause_of, at, with_start, with_stop, none_raised}
 use Rattle.delay_credits.specs.Ticks.{without_work, ticked}
 use Rattle.guest_calls.specs.Calls.{retirement}
@@ -44,7 +44,7 @@ use Rattle.virtual_run.specs.declared.run.Run.{Run}
 use Rattle.virtual_run.specs.Begin.{started_by, many, AreIdle}
 use Rattle.virtual_run.specs.Ending.{ending_of}
 use Rattle.virtual_run.specs.Visits.{Visits, visits_of}
-use Rattle.virtual_run.specs.Run.{IsChoice, IsReached, IsSteady, IsFirst}
+use Rattle.virtual_run.specs.Run.{events_of, IsChoice, IsReached, IsSteady, IsFirst}
 use Rattle.virtual_run.specs.Advance.{IsAdvance}
 use Rattle.virtual_run.specs.Credited.{raise_ticks, with_credits, with_starts, with_raises, with_begun, settled_by, Runs, AllRun, AllBelow, Holds, CanBegin}
 use Rattle.virtual_run.specs.Seen.{Seen, experiment_with, experiment_of}
@@ -52,8 +52,8 @@ use Rattle.virtual_run.specs.DelayedRun.{visit_as, net_due_of, account_in, outco
 use Rattle.virtual_run.proofs.Keys.{has_place, next_is}
 use Rattle.virtual_run.proofs.Many.{many_few}
 use Rattle.virtual_run.proofs.Begin.{cycles_few}
-use Rattle.machines.proofs.Wakeless.{NeverSleeps, at_budget, short_awake, long_awake}
-use Rattle.virtual_run.proofs.Law.{lawful_run, never_run, steady, reached_next, IsTurn, neither, started_idle, none_own}
+use Rattle.machines.proofs.Wakeless.{NeverSleeps, short_awake, long_awake}
+use Rattle.virtual_run.proofs.Law.{lawful_run, never_run, followed_by, steady, reached_next, IsTurn, neither, started_idle, none_own}
 use Rattle.virtual_run.proofs.Credited.{among_filter, holds_begin}
 use Rattle.virtual_run.proofs.CreditedLists.{at_latest, change_length, raises_length, raises_latest, start_is, starts_run}
 use Rattle.virtual_run.proofs.CreditedBegin.{others_among, begun_places}
@@ -113,10 +113,10 @@ module _ (image : ImageParts) (input : List ℕ) (setting : Setting) (run : Run)
   x = experiment_with image input setting
 
   abbrev d : Delayed Guest
-  d = standing x run.retired
+  d = standing x (events_of run)
 
   abbrev s : Shortened Guest
-  s = shortened x run.retired
+  s = shortened x (events_of run)
 
   law : IsLawful x IsOrderly
   law = lawful_with image input setting p.valid
@@ -125,13 +125,19 @@ module _ (image : ImageParts) (input : List ℕ) (setting : Setting) (run : Run)
   never = never_with image input setting
 
   pub agree : Agrees d s
-  agree = agrees x IsOrderly law run.retired
+  agree = agrees x IsOrderly law (events_of run)
 
   pub ending_now : d.ending ≡ run.ending
   ending_now = agree.ending ∙ ap (λ (t : Shortened Guest). t.ending) p.reached.reached.state
 
+  pub wakes_now : d.wakes ≡ run.wakes
+  wakes_now = agree.wakes ∙ ap (λ (t : Shortened Guest). t.wakes) p.reached.reached.state
+
   pub retired_now : d.retired ≡ run.retired
   retired_now = agree.retired ∙ ap (λ (t : Shortened Guest). t.retired) p.reached.reached.state
+
+  pub events_now : events d ≡ events_of run
+  events_now = ap₂ (λ (m n : ℕ). m + n) retired_now wakes_now
 
   pub starts_now : d.starts ≡ run.starts
   starts_now = agree.starts ∙ ap (λ (t : Shortened Guest). t.starts) p.reached.reached.state
@@ -146,26 +152,30 @@ module _ (image : ImageParts) (input : List ℕ) (setting : Setting) (run : Run)
   now_is = p.moment
 
   pub harts_now : length d.harts ≡ length run.guest.harts
-  harts_now = standing_has x IsOrderly law never (λ g. length g.harts) (counted_with image input setting) run.retired ∙ ap (λ (g : Guest). length g.harts) guest_now
+  harts_now = standing_has x IsOrderly law never (λ g. length g.harts) (counted_with image input setting) (events_of run) ∙ ap (λ (g : Guest). length g.harts) guest_now
 
   -- the delay is at most 3800 ticks a start
   delay_few : d.delay ≤ 3800 * d.starts
-  delay_few = standing_bounded x IsOrderly law never 3800 (cut_few x 40 95 (λ g h. cycles_few (next_of g h)) p.valid.speedup) run.retired
+  delay_few = standing_bounded x IsOrderly law never 3800 (cut_few x 40 95 (λ g h. cycles_few (next_of g h)) p.valid.speedup) (events_of run)
 
-  pub starts_few : run.starts ≤ 10 ^ 12 + 256
+  -- each wake followed a retirement
+  pub wakes_few : run.wakes ≤ run.retired
+  wakes_few = followed_by image (position_at setting.index.now) (point_of setting.points.now) input setting.choice p.valid run p.reached
+
+  pub starts_few : run.starts ≤ 2 * 10 ^ 12 + 256
   starts_few =
       let most : many run.schedule ≤ length run.schedule = many_few run.schedule in
       let room : length run.schedule ≡ 256 = p.reached.room in
-      let few : run.starts ≤ run.retired + many run.schedule = p.reached.few in
+      let few : run.starts ≤ events_of run + many run.schedule = p.reached.few in
       let below : run.retired ≤ setting.choice.budget = p.reached.retired in
       let budget : setting.choice.budget ≤ 10 ^ 12 = p.valid.few in
-      omega arith
+      omega (arith, wakes_few)
 
   pub raised_few : credits.raised ≤ 10 ^ 16
   raised_few =
       let few : d.delay ≤ 3800 * d.starts = delay_few in
       let starts : d.starts ≡ run.starts = starts_now in
-      let most : run.starts ≤ 10 ^ 12 + 256 = starts_few in
+      let most : run.starts ≤ 2 * 10 ^ 12 + 256 = starts_few in
       let is : credits.raised ≡ d.delay = p.holds.raised in
       omega arith
 
@@ -179,7 +189,7 @@ module _ (image : ImageParts) (input : List ℕ) (setting : Setting) (run : Run)
     abbrev pub later_now : ℕ
     later_now = new.time + delay
 
-    next : IsNext x IsOrderly law never run.retired t later_now credits
+    next : IsNext x IsOrderly law never (events_of run) t later_now credits
     next = record {
       goes = ending_now ∙ goes;
       turn = next_is run.schedule s.dues h new.time p.reached.reached.dues a.turn a.first;
@@ -187,24 +197,24 @@ module _ (image : ImageParts) (input : List ℕ) (setting : Setting) (run : Run)
       holds = p.holds;
     }
 
-    pub time_few : new.time ≤ 10 ^ 16
+    pub time_few : new.time ≤ 2 * 10 ^ 16
     time_few =
-        let due : new.time ≤ 4000 * (run.retired + 1) = p.reached.within h new.time a.turn in
+        let due : new.time ≤ 10 ^ 16 + 4000 * (events_of run + 1) = p.reached.within h new.time a.turn in
         let below : run.retired ≤ setting.choice.budget = p.reached.retired in
         let budget : setting.choice.budget ≤ 10 ^ 12 = p.valid.few in
-        omega arith
+        omega (arith, wakes_few)
 
     pub hart_below : h < length credits.harts
     hart_below = subst (λ (n : ℕ). h < n) (p.reached.room ∙ sym p.room) (has_place run.schedule h new.time a.turn)
 
     pub is_later : credits.latest ≤ later_now
-    is_later = steps.later x IsOrderly law never run.retired t later_now credits next
+    is_later = steps.later x IsOrderly law never (events_of run) t later_now credits next
 
     pub hart_runs : is_running (hart_at credits h) ≡ true
-    hart_runs = steps.running x IsOrderly law never run.retired t later_now credits next
+    hart_runs = steps.running x IsOrderly law never (events_of run) t later_now credits next
 
     pub hart_unpaused : pause_of (hart_at (at later_now credits) h) ≡ 0
-    hart_unpaused = steps.unpaused x IsOrderly law never run.retired t later_now credits next
+    hart_unpaused = steps.unpaused x IsOrderly law never (events_of run) t later_now credits next
 
     abbrev stopped : Delays
     stopped = with_stop h later_now credits
@@ -231,20 +241,20 @@ module _ (image : ImageParts) (input : List ℕ) (setting : Setting) (run : Run)
         ∙ neither _ (runs_in run.guest k) (others_idle run.guest h new.time turned.orderly hart_ran k (ap (λ (r : Retirement Guest). is_among k r.others) (sym a.retires) ∙ among))
 
     pub reached_new : IsReached x new
-    reached_new = reached_next image (position_at setting.index.now) (point_of setting.points.now) input setting.choice p.valid run p.reached new goes (a.moved (first_guest image input setting.choice.output_limit setting.choice.layout) s.dues p.reached.reached.dues) a.room (ap (λ (v : Visits). v.limit) a.visits) a.unfull a.retired a.few a.within
+    reached_new = reached_next image (position_at setting.index.now) (point_of setting.points.now) input setting.choice p.valid run p.reached new goes (a.moved (first_guest image input setting.choice.output_limit setting.choice.layout) s.dues p.reached.reached.dues) a.room (ap (λ (v : Visits). v.limit) a.visits) a.unfull a.retired a.wakes a.few a.within
 
-    next_count : new.retired ≡ suc run.retired
-    next_count = a.retired ∙ add-one run.retired
+    next_count : events_of new ≡ suc (events_of run)
+    next_count = omega (arith, a.retired, a.wakes)
 
-    after_is : (standing x (suc run.retired)).ending ≡ new.ending
+    after_is : (standing x (suc (events_of run))).ending ≡ new.ending
     after_is =
-        (agrees x IsOrderly law (suc run.retired)).ending
+        (agrees x IsOrderly law (suc (events_of run))).ending
         ∙ ap (λ (n : ℕ). (shortened x n).ending) (sym next_count)
         ∙ ap (λ (t : Shortened Guest). t.ending) reached_new.reached.state
 
-    after_starts : (standing x (suc run.retired)).starts ≡ new.starts
+    after_starts : (standing x (suc (events_of run))).starts ≡ new.starts
     after_starts =
-        (agrees x IsOrderly law (suc run.retired)).starts
+        (agrees x IsOrderly law (suc (events_of run))).starts
         ∙ ap (λ (n : ℕ). (shortened x n).starts) (sym next_count)
         ∙ ap (λ (t : Shortened Guest). t.starts) reached_new.reached.state
 
@@ -258,15 +268,15 @@ module _ (image : ImageParts) (input : List ℕ) (setting : Setting) (run : Run)
     raises_few none =
         let few : d.delay ≤ 3800 * d.starts = delay_few in
         let is : credits.raised ≡ d.delay = p.holds.raised in
-        let more : (standing x (suc run.retired)).starts ≡ d.starts + length (filter (x.guest.is_selected new.guest) (started_by h fate new.started)) = steps.starts_next x IsOrderly law never run.retired t later_now credits next r retires_as (after_is ∙ none) in
+        let more : (standing x (suc (events_of run))).starts ≡ d.starts + length (filter (x.guest.is_selected new.guest) (started_by h fate new.started)) = steps.starts_next x IsOrderly law never (events_of run) t later_now credits next r retires_as (after_is ∙ none) in
         let same : length new.selected ≡ length (filter (x.guest.is_selected new.guest) (started_by h fate new.started)) = ap length (a.selected none) in
-        let starts : (standing x (suc run.retired)).starts ≡ new.starts = after_starts in
+        let starts : (standing x (suc (events_of run))).starts ≡ new.starts = after_starts in
         let most : many new.schedule ≤ length new.schedule = many_few new.schedule in
         let room : length new.schedule ≡ 256 = a.room in
-        let kept : new.starts ≤ new.retired + many new.schedule = a.few in
+        let kept : new.starts ≤ events_of new + many new.schedule = a.few in
         let below : new.retired ≤ setting.choice.budget = reached_new.retired in
         let budget : setting.choice.budget ≤ 10 ^ 12 = p.valid.few in
-        omega arith
+        omega (arith, wakes_few, a.retired, a.wakes)
 
     -- where the run goes on, what it started can begin
     pub can_begin : new.ending ≡ None → CanBegin stopped new.guest h fate new.started new.selected
@@ -278,10 +288,10 @@ module _ (image : ImageParts) (input : List ℕ) (setting : Setting) (run : Run)
         λ k among. (among_filter (x.guest.is_selected new.guest) k (started_by h fate new.started) (ap (is_among k) (sym (a.selected none)) ∙ among)).1 in
         record {
           below = subst (λ (n : ℕ). h < n) (p.room ∙ sym stopped_places) hart_below;
-          whole = steps.whole_stopped x IsOrderly law never run.retired t later_now credits next;
+          whole = steps.whole_stopped x IsOrderly law never (events_of run) t later_now credits next;
           rest = λ k among. record {
             below = low k (others_among (goes_on fate) h k new.started among);
-            rests = steps.idle x IsOrderly law never run.retired t later_now credits next k (still_idle k among);
+            rests = steps.idle x IsOrderly law never (events_of run) t later_now credits next k (still_idle k among);
           };
           started = low;
           selected = chosen;
@@ -296,17 +306,17 @@ module _ (image : ImageParts) (input : List ℕ) (setting : Setting) (run : Run)
     ticks_are k = mul_comm (cycles_of (next_of new.guest k)) setting.choice.speedup
 
     settled_holds : (o : Option Ending) → new.ending ≡ o
-        → Holds (settled_by o (raise_ticks new.guest setting.choice.speedup) h fate new.started new.selected stopped) (standing x (suc run.retired))
+        → Holds (settled_by o (raise_ticks new.guest setting.choice.speedup) h fate new.started new.selected stopped) (standing x (suc (events_of run)))
         × (length (settled_by o (raise_ticks new.guest setting.choice.speedup) h fate new.started new.selected stopped).harts ≡ 256)
-    settled_holds (Some e) is = (steps.holds_ended x IsOrderly law never run.retired t later_now credits next e (after_is ∙ is), stopped_places)
+    settled_holds (Some e) is = (steps.holds_ended x IsOrderly law never (events_of run) t later_now credits next e (after_is ∙ is), stopped_places)
     settled_holds None is =
         let ticks : ℕ → ℕ = raise_ticks new.guest setting.choice.speedup in (
-          subst (λ (hs : List ℕ). Holds (with_begun ticks h fate new.started hs stopped) (standing x (suc run.retired))) (sym (a.selected is))
-              (steps.holds_goes x IsOrderly law never run.retired t later_now credits next ticks r retires_as ticks_are (after_is ∙ is)),
+          subst (λ (hs : List ℕ). Holds (with_begun ticks h fate new.started hs stopped) (standing x (suc (events_of run)))) (sym (a.selected is))
+              (steps.holds_goes x IsOrderly law never (events_of run) t later_now credits next ticks r retires_as ticks_are (after_is ∙ is)),
           begun_places stopped new.guest h fate new.started new.selected (can_begin is) ticks ∙ stopped_places,
         )
 
-    kept_next : map visit_as new.visits.kept ≡ (standing x (suc run.retired)).visits
+    kept_next : map visit_as new.visits.kept ≡ (standing x (suc (events_of run))).visits
     unfolding visit_at
     kept_next =
         let point : Option ℕ = point_of setting.points.now (pc_of run.guest h) in
@@ -314,7 +324,7 @@ module _ (image : ImageParts) (input : List ℕ) (setting : Setting) (run : Run)
         ∙ map-append visit_as run.visits.kept (visits_of point h later_now delay)
         ∙ ap₂ (λ (vs ws : List Visit). vs ++ ws) p.visits
         (visit_kept point h later_now delay ∙ ap₂ (λ (m : ℕ) (g : Guest). visit_at x h later_now m g) given (sym short_guest))
-        ∙ sym (steps.visits_next x IsOrderly law never run.retired t later_now credits next)
+        ∙ sym (steps.visits_next x IsOrderly law never (events_of run) t later_now credits next)
 
     latest_is : (o : Option Ending) → (settled_by o (raise_ticks new.guest setting.choice.speedup) h fate new.started new.selected stopped).latest ≡ later_now
     latest_is (Some e) = refl
@@ -334,17 +344,17 @@ module _ (image : ImageParts) (input : List ℕ) (setting : Setting) (run : Run)
         omega (arith, own, below))
 
     -- those that are selected began last
-    selected_new : (o : Option Ending) → new.ending ≡ o → new.selected ≡ filter (x.guest.is_selected new.guest) (before x (suc run.retired)).harts
+    selected_new : (o : Option Ending) → new.ending ≡ o → new.selected ≡ filter (x.guest.is_selected new.guest) (before x (suc (events_of run))).harts
     selected_new (Some e) is =
-        a.none_selected (ap is_some is) ∙ sym (ap (filter (x.guest.is_selected new.guest)) (ended_begins x (suc run.retired) e (after_is ∙ is)))
+        a.none_selected (ap is_some is) ∙ sym (ap (filter (x.guest.is_selected new.guest)) (ended_begins x (suc (events_of run)) e (after_is ∙ is)))
     selected_new None is =
-        let begins = goes_begins x IsOrderly law run.retired t (ending_now ∙ goes) next.turn (short_awake x IsOrderly law never run.retired h) (after_is ∙ is) in
+        let begins = goes_begins x IsOrderly law (events_of run) t (ending_now ∙ goes) next.turn (short_awake x IsOrderly law never (events_of run) h) (after_is ∙ is) in
         a.selected is ∙ sym (ap (filter (x.guest.is_selected new.guest)) (begins ∙ sym (ap (started h) retires_as)))
 
     pub paced_next : (after : Delays) → after ≡ settled_by new.ending (raise_ticks new.guest setting.choice.speedup) h fate new.started new.selected stopped → IsPaced image input setting new after later_now
     paced_next after is =
         let both = settled_holds new.ending refl in
-        let holds : Holds after (standing x new.retired) = subst (λ (n : ℕ). Holds after (standing x n)) (sym next_count) (subst (λ (c : Delays). Holds c (standing x (suc run.retired))) (sym is) both.0) in
+        let holds : Holds after (standing x (events_of new)) = subst (λ (n : ℕ). Holds after (standing x n)) (sym next_count) (subst (λ (c : Delays). Holds c (standing x (suc (events_of run)))) (sym is) both.0) in
         record {
           valid = p.valid;
           reached = reached_new;
@@ -359,10 +369,10 @@ module _ (image : ImageParts) (input : List ℕ) (setting : Setting) (run : Run)
         }
 
     -- the moves up to the retirement
-    pub steps_next : Steps x d (standing x new.retired)
+    pub steps_next : Steps x d (standing x (events_of new))
     steps_next =
-        let by = steps_is x IsOrderly law run.retired t (ending_now ∙ goes) next.turn in
-        subst (λ (n : ℕ). Steps x d (standing x n)) (sym next_count) (by.retires (long_awake x IsOrderly law never run.retired h)).1
+        let by = steps_is x IsOrderly law (events_of run) t (ending_now ∙ goes) next.turn in
+        subst (λ (n : ℕ). Steps x d (standing x n)) (sym next_count) (by.retires (long_awake x IsOrderly law never (events_of run) h)).1
 
 -- when a hart retires, of its load
 due_of : (now delay : ℕ) (a : Account) (o : Option Load) (due : Option ℕ) → LoadAgrees now delay a o due → due ≡ option_map (λ load. now + load.work + load.pause - delay) o
@@ -402,7 +412,7 @@ same_outcome e m m' g g' r r' s s' is_m is_g is_r is_s = cc
 -- what the methods that change nothing give
 module _ (image : ImageParts) (input : List ℕ) (setting : Setting) (run : Run) (credits : Delays) (now : ℕ) (p : IsPaced image input setting run credits now) where
   abbrev seen : Delayed Guest
-  seen = standing (experiment_with image input setting) run.retired
+  seen = standing (experiment_with image input setting) (events_of run)
 
   pub due_ended : (h : ℕ) (e : Ending) → run.ending ≡ Some e → None ≡ net_due_of seen h
   due_ended h e is = rw (ending_now image input setting run credits now p, is) refl
@@ -412,7 +422,7 @@ module _ (image : ImageParts) (input : List ℕ) (setting : Setting) (run : Run)
       let hart : Hart = get_or seen.harts h fresh in
       rw (ending_now image input setting run credits now p, none)
       (p.reached.reached.dues h
-      ∙ due_of seen.now seen.delay hart.account hart.load (get_or (shortened (experiment_with image input setting) run.retired).dues h None) ((agree image input setting run credits now p).harts h))
+      ∙ due_of seen.now seen.delay hart.account hart.load (get_or (shortened (experiment_with image input setting) (events_of run)).dues h None) ((agree image input setting run credits now p).harts h))
 
   pub latest_now : credits.latest ≡ now
   latest_now = p.holds.latest ∙ sym p.moment
@@ -431,11 +441,11 @@ module _ (image : ImageParts) (input : List ℕ) (setting : Setting) (run : Run)
 
   pub harts_few : length run.guest.harts ≤ 256
   harts_few =
-      let good : IsOrderly seen.guest = standing_good (experiment_with image input setting) IsOrderly (lawful_with image input setting p.valid) (never_with image input setting) run.retired in
+      let good : IsOrderly seen.guest = standing_good (experiment_with image input setting) IsOrderly (lawful_with image input setting p.valid) (never_with image input setting) (events_of run) in
       subst (λ (g : Guest). length g.harts ≤ 256) (guest_now image input setting run credits now p) good.few
 
   pub visits_in_time : All (λ (v : Visit). v.delay ≤ v.time) seen.visits
-  visits_in_time = in_time (experiment_with image input setting) IsOrderly (lawful_with image input setting p.valid) run.retired
+  visits_in_time = in_time (experiment_with image input setting) IsOrderly (lawful_with image input setting p.valid) (events_of run)
 
   pub kept_in_time : All (λ (v : GivenVisit). v.delay ≤ v.time) run.visits.kept
   kept_in_time = given_in_time run.visits.kept (subst (All (λ (v : Visit). v.delay ≤ v.time)) (sym p.visits) visits_in_time)
@@ -453,12 +463,12 @@ module _ (image : ImageParts) (input : List ℕ) (setting : Setting) (run : Run)
       let budget : setting.choice.budget ≤ 10 ^ 12 = p.valid.few in
       let most : many run.schedule ≤ length run.schedule = many_few run.schedule in
       let room : length run.schedule ≡ 256 = p.reached.room in
-      let kept : run.starts ≤ run.retired + many run.schedule = p.reached.few in
+      let kept : run.starts ≤ events_of run + many run.schedule = p.reached.few in
       record {
         ending = p.trap e is;
         time = p.soon;
         retired = omega (arith, below, budget);
-        starts = omega (arith, below, budget, most, room, kept);
+        starts = omega (arith, below, budget, most, room, kept, wakes_few image input setting run credits now p);
       }
 
   pub outcome_none : run.ending ≡ None → ◌≡◌ {A = Option Outcome} None (outcome_of seen)
@@ -472,7 +482,7 @@ seen_of image input setting run = record {
   points = setting.points.now;
   input = input;
   choice = setting.choice;
-  state = standing (experiment_with image input setting) run.retired;
+  state = standing (experiment_with image input setting) (events_of run);
 }
 
 pub none_of : (o : Option Ending) → is_some o ≡ false → o ≡ None
@@ -492,25 +502,27 @@ module _ (image : ImageParts) (input : List ℕ) (setting : Setting) (run : Run)
   not_ended v view none some = let no : false ≡ true = sym (ap is_some (sym (ap (λ (v : Seen (Delayed Guest)). v.state.ending) view) ∙ ending_now image input setting run credits now p ∙ none)) ∙ some in cc
 
   -- beside the shortened machine
-  pub agrees_seen : (v : Seen (Delayed Guest)) → seen_of image input setting run ≡ v → Agrees v.state (shortened (experiment_of v) v.state.retired)
+  pub agrees_seen : (v : Seen (Delayed Guest)) → seen_of image input setting run ≡ v → Agrees v.state (shortened (experiment_of v) (events v.state))
   agrees_seen v view =
-      subst (λ (v : Seen (Delayed Guest)). Agrees v.state (shortened (experiment_of v) v.state.retired)) view
-      (subst (λ (n : ℕ). Agrees (standing (experiment_with image input setting) run.retired) (shortened (experiment_with image input setting) n)) (sym (retired_now image input setting run credits now p)) (agree image input setting run credits now p))
+      subst (λ (v : Seen (Delayed Guest)). Agrees v.state (shortened (experiment_of v) (events v.state))) view
+      (subst (λ (n : ℕ). Agrees (standing (experiment_with image input setting) (events_of run)) (shortened (experiment_with image input setting) n)) (sym (events_now image input setting run credits now p)) (agree image input setting run credits now p))
 
-  pub next_seen : (v : Seen (Delayed Guest)) (n : ℕ) → seen_of image input setting run ≡ v → n ≡ run.retired + 1 → standing (experiment_with image input setting) n ≡ standing (experiment_of v) (v.state.retired + 1)
+  pub goes_seen : (v : Seen (Delayed Guest)) → seen_of image input setting run ≡ v → v.state.ending ≡ None → run.ending ≡ None
+  goes_seen v view none = sym (ending_now image input setting run credits now p) ∙ ap (λ (v : Seen (Delayed Guest)). v.state.ending) view ∙ none
+
+  -- one event more
+  pub count_seen : (v : Seen (Delayed Guest)) (n : ℕ) → seen_of image input setting run ≡ v → n ≡ events_of run + 1 → n ≡ events v.state + 1
+  count_seen v n view is =
+      is ∙ ap (λ (m : ℕ). m + 1) (sym (events_now image input setting run credits now p) ∙ ap (λ (v : Seen (Delayed Guest)). events v.state) view)
+
+  pub next_seen : (v : Seen (Delayed Guest)) (n : ℕ) → seen_of image input setting run ≡ v → n ≡ events_of run + 1 → standing (experiment_with image input setting) n ≡ standing (experiment_of v) (events v.state + 1)
   next_seen v n view is =
-      subst (λ (v : Seen (Delayed Guest)). standing (experiment_with image input setting) n ≡ standing (experiment_of v) (v.state.retired + 1)) view
-      (ap (standing (experiment_with image input setting)) (is ∙ ap (λ (m : ℕ). m + 1) (sym (retired_now image input setting run credits now p))))
+      subst (λ (v : Seen (Delayed Guest)). standing (experiment_with image input setting) n ≡ standing (experiment_of v) (events v.state + 1)) view
+      (ap (standing (experiment_with image input setting)) (is ∙ ap (λ (m : ℕ). m + 1) (sym (events_now image input setting run credits now p))))
 
-  pub steps_seen : (v : Seen (Delayed Guest)) (d : Delayed Guest) → seen_of image input setting run ≡ v → Steps (experiment_with image input setting) (standing (experiment_with image input setting) run.retired) d → Steps (experiment_of v) v.state d
+  pub steps_seen : (v : Seen (Delayed Guest)) (d : Delayed Guest) → seen_of image input setting run ≡ v → Steps (experiment_with image input setting) (standing (experiment_with image input setting) (events_of run)) d → Steps (experiment_of v) v.state d
   steps_seen v d view steps = subst (λ (v : Seen (Delayed Guest)). Steps (experiment_of v) v.state d) view steps
-
   -- another state of the same run beside the shortened machine
-  pub agrees_after : (v : Seen (Delayed Guest)) (n : ℕ) → seen_of image input setting run ≡ v → (standing (experiment_with image input setting) n).retired ≡ n
-      → Agrees (standing (experiment_with image input setting) n) (shortened (experiment_of v) (standing (experiment_with image input setting) n).retired)
-  agrees_after v n view count =
-      subst (λ (v : Seen (Delayed Guest)). Agrees (standing (experiment_with image input setting) n) (shortened (experiment_of v) (standing (experiment_with image input setting) n).retired)) view
-      (subst (λ (m : ℕ). Agrees (standing (experiment_with image input setting) n) (shortened (experiment_with image input setting) m)) (sym count) (agrees (experiment_with image input setting) IsOrderly (lawful_with image input setting p.valid) n))
 
 one_bit : (b : Bool) → (if b then true else false) ≡ true → b ≡ true
 one_bit true e = refl
@@ -524,17 +536,16 @@ module _ (image : ImageParts) (input : List ℕ) (setting : Setting) (run : Run)
   abbrev paced_x : Experiment Guest
   paced_x = experiment_with image input setting
 
-  pub stands_seen : (v : Seen (Delayed Guest)) → seen_of image input setting run ≡ v → v.state ≡ standing (experiment_of v) run.retired
-  stands_seen v view = subst (λ (v : Seen (Delayed Guest)). v.state ≡ standing (experiment_of v) run.retired) view refl
-
-  pub agrees_so_far : (v : Seen (Delayed Guest)) → seen_of image input setting run ≡ v → Agrees v.state (shortened (experiment_of v) run.retired)
-  agrees_so_far v view = subst (λ (v : Seen (Delayed Guest)). Agrees v.state (shortened (experiment_of v) run.retired)) view (agree image input setting run credits now p)
+  pub stands_seen : (v : Seen (Delayed Guest)) → seen_of image input setting run ≡ v → v.state ≡ standing (experiment_of v) (events v.state)
+  stands_seen v view =
+      subst (λ (v : Seen (Delayed Guest)). v.state ≡ standing (experiment_of v) (events v.state)) view
+      (ap (standing paced_x) (sym (events_now image input setting run credits now p)))
 
   -- a hart is due as in the shortened machine
-  pub due_seen : (v : Seen (Delayed Guest)) (h : ℕ) → seen_of image input setting run ≡ v → key_of run.schedule h ≡ key_of (shortened (experiment_of v) v.state.retired).dues h
+  pub due_seen : (v : Seen (Delayed Guest)) (h : ℕ) → seen_of image input setting run ≡ v → key_of run.schedule h ≡ key_of (shortened (experiment_of v) (events v.state)).dues h
   due_seen v h view =
-      subst (λ (v : Seen (Delayed Guest)). key_of run.schedule h ≡ key_of (shortened (experiment_of v) v.state.retired).dues h) view
-      (p.reached.reached.dues h ∙ ap (λ (n : ℕ). key_of (shortened paced_x n).dues h) (sym (retired_now image input setting run credits now p)))
+      subst (λ (v : Seen (Delayed Guest)). key_of run.schedule h ≡ key_of (shortened (experiment_of v) (events v.state)).dues h) view
+      (p.reached.reached.dues h ∙ ap (λ (n : ℕ). key_of (shortened paced_x n).dues h) (sym (events_now image input setting run credits now p)))
 
   pub none_seen : (v : Seen (Delayed Guest)) → seen_of image input setting run ≡ v → run.ending ≡ None → v.state.ending ≡ None
   none_seen v view none = sym (ap (λ (v : Seen (Delayed Guest)). v.state.ending) view) ∙ ending_now image input setting run credits now p ∙ none
@@ -542,10 +553,10 @@ module _ (image : ImageParts) (input : List ℕ) (setting : Setting) (run : Run)
   -- an ended run isn't before its delay
   pub delay_in_time : (e : Ending) → run.ending ≡ Some e → credits.raised ≤ now
   delay_in_time e over =
-      let d : Delayed Guest = standing paced_x run.retired in
+      let d : Delayed Guest = standing paced_x (events_of run) in
       let raised : credits.raised ≡ d.delay = p.holds.raised in
       let moment : now ≡ d.now = p.moment in
-      let in_time : d.delay ≤ d.now = end_in_time paced_x IsOrderly (lawful_with image input setting p.valid) run.retired e (ending_now image input setting run credits now p ∙ over) in
+      let in_time : d.delay ≤ d.now = end_in_time paced_x IsOrderly (lawful_with image input setting p.valid) (events_of run) e (ending_now image input setting run credits now p ∙ over) in
       omega arith
 
 -- as a run begins
@@ -557,8 +568,11 @@ module _ (image : ImageParts) (input : List ℕ) (setting : Setting) (run : Run)
   unfolding shortened short.begin short.unbegun
   short_first = refl
 
+  zeroth : events_of run ≡ 0
+  zeroth = omega (arith, f.retired, f.wakes)
+
   guest_first : run.guest ≡ begun_x.first
-  guest_first = sym (ap (λ (t : Shortened Guest). t.guest) f.reached.reached.state) ∙ ap (λ (n : ℕ). (shortened begun_x n).guest) f.retired ∙ short_first
+  guest_first = sym (ap (λ (t : Shortened Guest). t.guest) f.reached.reached.state) ∙ ap (λ (n : ℕ). (shortened begun_x n).guest) zeroth ∙ short_first
 
   pub first_made_here : (hs : List ℕ) → hs ≡ run.selected → (k : ℕ) → is_among k hs ≡ true → IsMade run.guest k
   first_made_here hs is k among =
@@ -622,72 +636,92 @@ module _ (image : ImageParts) (input : List ℕ) (setting : Setting) (run : Run)
       let ticks : ℕ → ℕ = raise_ticks run.guest setting.choice.speedup in
       let starts : started ≡ with_starts (0 ∷ []) (none_raised 256) = is_started ∙ ap (with_start 0 0) is_made ∙ start_is 0 0 (none_raised 256) refl in
       let is : raised ≡ first_raised = is_raised ∙ ap₂ (with_raises ticks) (is_selected ∙ f.selected) starts ∙ sym first_raised_is in
-      let holds : Holds raised (standing begun_x run.retired) = subst (λ (n : ℕ). Holds raised (standing begun_x n)) (sym f.retired) (subst (λ (c : Delays). Holds c (standing begun_x 0)) (sym is) first_holds) in
+      let holds : Holds raised (standing begun_x (events_of run)) = subst (λ (n : ℕ). Holds raised (standing begun_x n)) (sym zeroth) (subst (λ (c : Delays). Holds c (standing begun_x 0)) (sym is) first_holds) in
       record {
         valid = valid;
         reached = f.reached;
         holds = holds;
         room = ap (λ (c : Delays). length c.harts) (is ∙ first_raised_is) ∙ raises_length ticks (filter (begun_x.guest.is_selected run.guest) (0 ∷ [])) (with_starts (0 ∷ []) (none_raised 256))
             ∙ change_length 0 (run_from 0) (replicate 256 fresh) (rw length-replicate (lit< tt)) ∙ length-replicate {A = Hart} 256 fresh;
-        visits = ap (map visit_as) f.kept ∙ sym (ap (λ (n : ℕ). (standing begun_x n).visits) f.retired ∙ first_visits);
+        visits = ap (map visit_as) f.kept ∙ sym (ap (λ (n : ℕ). (standing begun_x n).visits) zeroth ∙ first_visits);
         moment = sym (raises_latest ticks (filter (begun_x.guest.is_selected run.guest) (0 ∷ [])) (with_starts (0 ∷ []) (none_raised 256))) ∙ ap (λ (c : Delays). c.latest) (sym (is ∙ first_raised_is)) ∙ holds.latest;
         soon = omega arith;
         trap = λ e ended. absurd (let no : ◌≡◌ {A = Option Ending} None (Some e) = sym f.ending ∙ ended in cc);
         made = ap making guest_first;
-        selected = f.selected ∙ ap (filter (begun_x.guest.is_selected run.guest)) (sym (ap (λ (n : ℕ). (before begun_x n).harts) f.retired ∙ first_begins));
+        selected = f.selected ∙ ap (filter (begun_x.guest.is_selected run.guest)) (sym (ap (λ (n : ℕ). (before begun_x n).harts) zeroth ∙ first_begins));
       }
 
--- a run between two steps: only its state changes, and it stands after as many retirements as it counts
-pub record IsGoing (old new : Seen (Delayed Guest)) : Type 0 where
+-- a run between two events: only its state changes, and it stands after as many events as it counts
+pub record IsAt (old new : Seen (Delayed Guest)) : Type 0 where
   pub valid : IsChoice old.choice
   pub rest : new ≡ record old { state = new.state }
-  pub stands : new.state ≡ standing (experiment_of old) new.state.retired
+  pub stands : new.state ≡ standing (experiment_of old) (events new.state)
+
+-- and within its budget
+pub record IsGoing (old new : Seen (Delayed Guest)) : Type 0 where
+  pub at : IsAt old new
   pub within : new.state.retired ≤ old.choice.budget
 
 pub going_first : (image : ImageParts) (input : List ℕ) (setting : Setting) (run : Run) (credits : Delays) (now : ℕ) → IsPaced image input setting run credits now → (v : Seen (Delayed Guest)) → seen_of image input setting run ≡ v → IsGoing v v
 going_first image input setting run credits now p v view =
-    let count : (standing (experiment_with image input setting) run.retired).retired ≡ run.retired = retired_now image input setting run credits now p in
     subst (λ (v : Seen (Delayed Guest)). IsGoing v v) view
     (record {
-      valid = p.valid;
-      rest = refl;
-      stands = ap (standing (experiment_with image input setting)) (sym count);
-      within = rw count p.reached.retired;
+      at = record { valid = p.valid; rest = refl; stands = ap (standing (experiment_with image input setting)) (sym (events_now image input setting run credits now p)) };
+      within = rw (retired_now image input setting run credits now p) p.reached.retired;
     })
 
 lawful_of : (v : Seen (Delayed Guest)) → IsChoice v.choice → IsLawful (experiment_of v) IsOrderly
 lawful_of v valid = lawful_run v.image (position_at v.index) (point_of v.points) v.input v.choice valid.speedup
 
-never_of : (v : Seen (Delayed Guest)) → NeverSleeps (experiment_of v) IsOrderly
-never_of v = never_run v.image (position_at v.index) (point_of v.points) v.input v.choice
-
 budget_left : (n retired budget : ℕ) → retired ≡ n → (retired ≡ 0) ⊎ (retired < budget) → 1 ≤ budget → n < budget
 budget_left n retired budget count within some = omega arith
+
+module _ (old now : Seen (Delayed Guest)) (g : IsAt old now) where
+  -- a run that goes on has come to fewer events than it can
+  events_left : now.state.ending ≡ None → events now.state < 2 * old.choice.budget
+  events_left none =
+      let x : Experiment Guest = experiment_of old in
+      let n : ℕ = events now.state in
+      let agree : Agrees (standing x n) (shortened x n) = agrees x IsOrderly (lawful_of old g.valid) n in
+      let goes : (shortened x n).ending ≡ None = sym agree.ending ∙ ap (λ (d : Delayed Guest). d.ending) (sym g.stands) ∙ none in
+      few x IsOrderly (lawful_of old g.valid) n g.valid.some_budget (goes_on_at x IsOrderly (lawful_of old g.valid) n goes)
+
+  -- an event later
+  pub at_next : (new : Seen (Delayed Guest)) → new.state ≡ standing (experiment_of now) (events now.state + 1) → events new.state ≡ events now.state + 1 → new ≡ record now { state = new.state } → IsAt old new
+  at_next new next count rest = record {
+    valid = g.valid;
+    rest = rest ∙ ap (λ (v : Seen (Delayed Guest)). record v { state = new.state }) g.rest;
+    stands = next ∙ ap₂ (λ (y : Experiment Guest) (n : ℕ). standing y n) (ap experiment_of g.rest) (sym count);
+  }
+
+  pub at_smaller : (new : Seen (Delayed Guest)) → now.state.ending ≡ None → events new.state ≡ events now.state + 1 → 2 * old.choice.budget - events new.state < 2 * old.choice.budget - events now.state
+  at_smaller new none count = let left : events now.state < 2 * old.choice.budget = events_left none in omega (arith, count)
 
 module _ (old now : Seen (Delayed Guest)) (g : IsGoing old now) where
   -- a run that goes on has budget left
   pub left_over : now.state.ending ≡ None → now.state.retired < old.choice.budget
   left_over none =
       let x : Experiment Guest = experiment_of old in
-      let n : ℕ = now.state.retired in
-      let agree : Agrees (standing x n) (shortened x n) = agrees x IsOrderly (lawful_of old g.valid) n in
-      let goes : (shortened x n).ending ≡ None = sym agree.ending ∙ ap (λ (d : Delayed Guest). d.ending) (sym g.stands) ∙ none in
-      let on = goes_on_at x IsOrderly (lawful_of old g.valid) n goes in
-      budget_left n (shortened x n).retired old.choice.budget (sym agree.retired ∙ ap (λ (d : Delayed Guest). d.retired) (sym g.stands)) on.lives.within g.valid.some_budget
+      let n : ℕ = events now.state in
+      let agree : Agrees (standing x n) (shortened x n) = agrees x IsOrderly (lawful_of old g.at.valid) n in
+      let goes : (shortened x n).ending ≡ None = sym agree.ending ∙ ap (λ (d : Delayed Guest). d.ending) (sym g.at.stands) ∙ none in
+      let on = goes_on_at x IsOrderly (lawful_of old g.at.valid) n goes in
+      budget_left now.state.retired (shortened x n).retired old.choice.budget (sym agree.retired ∙ ap (λ (d : Delayed Guest). d.retired) (sym g.at.stands)) on.lives.within g.at.valid.some_budget
 
   same_run : experiment_of now ≡ experiment_of old
-  same_run = ap experiment_of g.rest
+  same_run = ap experiment_of g.at.rest
 
-  pub going_next : (new : Seen (Delayed Guest)) → now.state.ending ≡ None → (now.state.ending ≡ None → new.state ≡ standing (experiment_of now) (now.state.retired + 1)) → (now.state.ending ≡ None → Steps (experiment_of now) now.state new.state)
+  pub going_next : (new : Seen (Delayed Guest)) → now.state.ending ≡ None → (now.state.ending ≡ None → new.state ≡ standing (experiment_of now) (events new.state)) → (now.state.ending ≡ None → Steps (experiment_of now) now.state new.state)
       → new ≡ record now { state = new.state } → IsGoing old new
   going_next new none next steps rest =
-      let x : Experiment Guest = experiment_of old in
       let count : new.state.retired ≡ now.state.retired + 1 = (steps none).retires in
       let left : now.state.retired < old.choice.budget = left_over none in
       record {
-        valid = g.valid;
-        rest = rest ∙ ap (λ (v : Seen (Delayed Guest)). record v { state = new.state }) g.rest;
-        stands = next none ∙ ap (λ (y : Experiment Guest). standing y (now.state.retired + 1)) same_run ∙ ap (standing x) (sym count);
+        at = record {
+          valid = g.at.valid;
+          rest = rest ∙ ap (λ (v : Seen (Delayed Guest)). record v { state = new.state }) g.at.rest;
+          stands = next none ∙ ap (λ (y : Experiment Guest). standing y (events new.state)) same_run;
+        };
         within = omega arith;
       }
 
@@ -701,32 +735,35 @@ module _ (old now : Seen (Delayed Guest)) (g : IsGoing old now) where
   run_x = experiment_of old
 
   module _ (e : Ending) (over : now.state.ending ≡ Some e) where
-    within_enough : now.state.retired ≤ 2 * old.choice.budget
-    within_enough = let within : now.state.retired ≤ old.choice.budget = g.within in omega arith
+    within_enough : events now.state ≤ 2 * old.choice.budget
+    within_enough =
+        let within : now.state.retired ≤ old.choice.budget = g.within in
+        let each = subst (λ (d : Delayed Guest). d.wakes + run_x.guest.sleepers d.guest ≤ d.retired) (sym g.at.stands) (few_wakes run_x IsOrderly (lawful_of old g.at.valid) (events now.state)) in
+        omega (arith, within, each)
 
-    stands_over : (standing run_x now.state.retired).ending ≡ Some e
-    stands_over = ap (λ (d : Delayed Guest). d.ending) (sym g.stands) ∙ over
+    stands_over : (standing run_x (events now.state)).ending ≡ Some e
+    stands_over = ap (λ (d : Delayed Guest). d.ending) (sym g.at.stands) ∙ over
 
     pub record_now : record_of run_x now.state e ≡ delayed_record run_x
-    record_now = ap (λ (d : Delayed Guest). record_of run_x d e) g.stands ∙ recorded_delayed run_x IsOrderly (lawful_of old g.valid) now.state.retired e within_enough stands_over
+    record_now = ap (λ (d : Delayed Guest). record_of run_x d e) g.at.stands ∙ recorded_delayed run_x IsOrderly (lawful_of old g.at.valid) (events now.state) e within_enough stands_over
 
-    pub last_now : now.state ≡ standing run_x old.choice.budget
-    last_now = g.stands ∙ last run_x IsOrderly (lawful_of old g.valid) now.state.retired e within_enough stands_over ∙ sym (at_budget run_x IsOrderly (lawful_of old g.valid) (never_of old) g.valid.some_budget).0
+    pub last_now : now.state ≡ standing run_x (enough run_x)
+    last_now = g.at.stands ∙ last run_x IsOrderly (lawful_of old g.at.valid) (events now.state) e within_enough stands_over
 
-    pub agrees_last : Agrees now.state (shortened run_x old.choice.budget)
-    agrees_last = subst (λ (d : Delayed Guest). Agrees d (shortened run_x old.choice.budget)) (sym last_now) (agrees run_x IsOrderly (lawful_of old g.valid) old.choice.budget)
+    pub agrees_last : Agrees now.state (shortened run_x (enough run_x))
+    agrees_last = subst (λ (d : Delayed Guest). Agrees d (shortened run_x (enough run_x))) (sym last_now) (agrees run_x IsOrderly (lawful_of old g.at.valid) (enough run_x))
 
   pub delayed_now : IsDelayed run_x (delayed_record run_x)
-  delayed_now = delayed_is run_x IsOrderly (lawful_of old g.valid) g.valid.some_budget
+  delayed_now = delayed_is run_x IsOrderly (lawful_of old g.at.valid) g.at.valid.some_budget
 
   pub moves_now : AgreesThroughout run_x
-  moves_now moves = (both run_x IsOrderly (lawful_of old g.valid) moves).agrees
+  moves_now moves = (both run_x IsOrderly (lawful_of old g.at.valid) moves).agrees
 
   pub once_now : EndsOnce run_x
-  once_now = (delayed_record run_x, delayed_now, λ other is. unique run_x IsOrderly (lawful_of old g.valid) other (delayed_record run_x) is delayed_now)
+  once_now = (delayed_record run_x, delayed_now, λ other is. unique run_x IsOrderly (lawful_of old g.at.valid) other (delayed_record run_x) is delayed_now)
 
   pub law_now : net (delayed_record run_x) ≡ shortened_record run_x
-  law_now = net_is run_x IsOrderly (lawful_of old g.valid) g.valid.some_budget
+  law_now = net_is run_x IsOrderly (lawful_of old g.at.valid) g.at.valid.some_budget
 
   pub shortened_now : IsShortened run_x (shortened_record run_x)
-  shortened_now = record_is run_x IsOrderly (lawful_of old g.valid) g.valid.some_budget
+  shortened_now = record_is run_x IsOrderly (lawful_of old g.at.valid) g.at.valid.some_budget

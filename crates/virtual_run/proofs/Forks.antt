@@ -24,7 +24,7 @@ use Rattle.virtual_run.specs.declared.choice.Choice.{Choice}
 use Rattle.virtual_run.specs.declared.choice.Setting.{Setting}
 use Rattle.virtual_run.specs.declared.run.Run.{Run}
 use Rattle.virtual_run.specs.Begin.{many}
-use Rattle.virtual_run.specs.Run.{IsChoice, IsReached, IsSteady}
+use Rattle.virtual_run.specs.Run.{events_of, IsChoice, IsReached, IsSteady}
 use Rattle.virtual_run.specs.Credited.{raise_ticks, with_one_raise, with_raises, Holds, AllRun, AllMade}
 use Rattle.virtual_run.specs.Seen.{experiment_with}
 use Rattle.virtual_run.specs.DelayedRun.{IsPaced}
@@ -66,19 +66,19 @@ module _ (image : ImageParts) (input : List ℕ) (setting : Setting) (run : Run)
   x = experiment_with image input setting
 
   abbrev d : Delayed Guest
-  d = standing x run.retired
+  d = standing x (events_of run)
 
   abbrev law : IsLawful x IsOrderly
   law = lawful_with image input setting p.valid
 
   -- a selected hart that began last began
-  began : (k : ℕ) → is_among k run.selected ≡ true → (x.guest.is_selected run.guest k ≡ true) × (is_among k (before x run.retired).harts ≡ true)
-  began k among = among_filter (x.guest.is_selected run.guest) k (before x run.retired).harts (ap (is_among k) (sym p.selected) ∙ among)
+  began : (k : ℕ) → is_among k run.selected ≡ true → (x.guest.is_selected run.guest k ≡ true) × (is_among k (before x (events_of run)).harts ≡ true)
+  began k among = among_filter (x.guest.is_selected run.guest) k (before x (events_of run)).harts (ap (is_among k) (sym p.selected) ∙ among)
 
   goes_by : (o : Option Ending) → run.ending ≡ o → (k : ℕ) → is_among k run.selected ≡ true → run.ending ≡ None
   goes_by None is k among = is
   goes_by (Some e) is k among =
-      let none : (before x run.retired).harts ≡ [] = ended_begins x run.retired e (ending_now image input setting run credits now p ∙ is) in
+      let none : (before x (events_of run)).harts ≡ [] = ended_begins x (events_of run) e (ending_now image input setting run credits now p ∙ is) in
       absurd (let no : false ≡ true = ap (is_among k) (sym none) ∙ (began k among).1 in cc)
 
   -- so the run goes on
@@ -87,7 +87,7 @@ module _ (image : ImageParts) (input : List ℕ) (setting : Setting) (run : Run)
 
   due_here : (k : ℕ) → is_among k run.selected ≡ true → is_some (key_of run.schedule k) ≡ true
   due_here k among =
-      let r = begun_due x IsOrderly law run.retired k (began k among).1 in
+      let r = begun_due x IsOrderly law (events_of run) k (began k among).1 in
       ap is_some (p.reached.reached.dues k ∙ r.1)
 
   key_there : (o : Option ℕ) → is_some o ≡ true → (v : ℕ) × (o ≡ Some v)
@@ -102,7 +102,7 @@ module _ (image : ImageParts) (input : List ℕ) (setting : Setting) (run : Run)
       record {
         below = subst (λ (n : ℕ). k < n) (p.reached.room ∙ sym p.room) (has_place run.schedule k due.0 due.1);
         runs = ap is_running (p.holds.harts k) ∙ runs_held hart
-            ∙ alike d.now d.delay hart.account hart.load (get_or (shortened x run.retired).dues k None) ((agree image input setting run credits now p).harts k)
+            ∙ alike d.now d.delay hart.account hart.load (get_or (shortened x (events_of run)).dues k None) ((agree image input setting run credits now p).harts k)
             ∙ ap is_some (sym (p.reached.reached.dues k)) ∙ due_here k here;
       }
 
@@ -113,18 +113,18 @@ module _ (image : ImageParts) (input : List ℕ) (setting : Setting) (run : Run)
       (running_low run.guest k st.orderly (st.running k ∙ due_here k here)).0
 
   -- each selected hart is a start
-  pub starts_are : (before x run.retired).state.starts ≡ 0 → run.starts ≡ length run.selected
+  pub starts_are : (before x (events_of run)).state.starts ≡ 0 → run.starts ≡ length run.selected
   starts_are z =
-      let b : Before Guest = before x run.retired in
-      let guest : b.state.guest ≡ run.guest = sym (before_guest x run.retired) ∙ guest_now image input setting run credits now p in
-      let count : d.starts ≡ b.state.starts + length (filter (x.guest.is_selected b.state.guest) b.harts) = ap (λ (d : Delayed Guest). d.starts) (standing_begins x run.retired) ∙ begin_starts x b.harts b.state in
+      let b : Before Guest = before x (events_of run) in
+      let guest : b.state.guest ≡ run.guest = sym (before_guest x (events_of run)) ∙ guest_now image input setting run credits now p in
+      let count : d.starts ≡ b.state.starts + length (filter (x.guest.is_selected b.state.guest) b.harts) = ap (λ (d : Delayed Guest). d.starts) (standing_begins x (events_of run)) ∙ begin_starts x b.harts b.state in
       let same : length (filter (x.guest.is_selected b.state.guest) b.harts) ≡ length run.selected = ap (λ (g : Guest). length (filter (x.guest.is_selected g) b.harts)) guest ∙ ap length (sym p.selected) in
       let starts : d.starts ≡ run.starts = starts_now image input setting run credits now p in
       omega (arith, z, count, same, starts)
 
-  pub selected_few : (hs : List ℕ) → hs ≡ run.selected → (before x run.retired).state.starts ≡ 0 → credits.raised + 3800 * length hs ≤ 10 ^ 17
+  pub selected_few : (hs : List ℕ) → hs ≡ run.selected → (before x (events_of run)).state.starts ≡ 0 → credits.raised + 3800 * length hs ≤ 10 ^ 17
   selected_few hs is z =
-      let many_starts : run.starts ≤ 10 ^ 12 + 256 = starts_few image input setting run credits now p in
+      let many_starts : run.starts ≤ 2 * 10 ^ 12 + 256 = starts_few image input setting run credits now p in
       let few : credits.raised ≤ 10 ^ 16 = raised_few image input setting run credits now p in
       let count : run.starts ≡ length run.selected = starts_are z in
       let same : length hs ≡ length run.selected = ap length is in
@@ -133,9 +133,9 @@ module _ (image : ImageParts) (input : List ℕ) (setting : Setting) (run : Run)
   pub same_moment : credits.latest ≡ now
   same_moment = p.holds.latest ∙ sym p.moment
 
-  module _ (whole : setting.choice.speedup ≡ 0) (q : ℕ) (small : q ≤ 95) (z : (before x run.retired).state.starts ≡ 0) where
+  module _ (whole : setting.choice.speedup ≡ 0) (q : ℕ) (small : q ≤ 95) (z : (before x (events_of run)).state.starts ≡ 0) where
     abbrev n : ℕ
-    n = run.retired
+    n = events_of run
 
     abbrev slow : Experiment Guest
     slow = at_speedup 0 x
@@ -239,10 +239,10 @@ module _ (image : ImageParts) (input : List ℕ) (setting : Setting) (run : Run)
       retired = p.reached.retired;
       few =
           let same : many keys ≡ many run.schedule = ap many is ∙ sooner_many ticks run.selected run.schedule in
-          let few : run.starts ≤ run.retired + many run.schedule = p.reached.few in
+          let few : run.starts ≤ events_of run + many run.schedule = p.reached.few in
           omega arith;
       within = λ k u has.
-          within_new k u (key_of run.schedule k) (if is_among k run.selected then ticks k else 0) (4000 * (run.retired + 1))
+          within_new k u (key_of run.schedule k) (if is_among k run.selected then ticks k else 0) (10 ^ 16 + 4000 * (events_of run + 1))
           (sym (sooner_key ticks run.selected run.schedule k apart_new) ∙ ap (λ (keys : Keys). key_of keys k) (sym is) ∙ has) (p.reached.within k);
     }
 

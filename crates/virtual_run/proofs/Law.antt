@@ -7,12 +7,12 @@ use Rattle.coz_types.specs.declared.ending.Ending.TheVariants.{OutputFull, Visit
 use Rattle.coz_types.specs.Image.{ImageParts}
 use Rattle.hart_schedule.specs.Keys.{Keys, key_of, with_key, without_key, IsEmpty}
 use Rattle.machines.specs.declared.Fate.{Fate}
-use Rattle.machines.specs.Guest.{Experiment, Retirement, IsLawful, goes_on, own_ending, when, first_of_two, started}
+use Rattle.machines.specs.Guest.{Experiment, Retirement, IsLawful, enough, goes_on, own_ending, when, first_of_two, started}
 use Rattle.machines.specs.Places.{is_among}
 use Rattle.machines.specs.Shortened.{Shortened, shortened, move}
 use Rattle.machines.specs.Records.{IsShortened, shortened_record, net_record_of}
-use Rattle.machines.proofs.Ends.{goes_on_at, at_last, record_is, recorded}
-use Rattle.machines.proofs.Wakeless.{NeverSleeps, short_awake, at_budget}
+use Rattle.machines.proofs.Ends.{goes_on_at, followed, at_last, record_is, recorded}
+use Rattle.machines.proofs.Wakeless.{NeverSleeps, short_awake}
 use Rattle.guest_memory.specs.declared.Layout.{Layout}
 use Rattle.guest_memory.specs.Regions.{usual}
 use Rattle.guest_calls.specs.Guest.{Guest, IsMade, pc_of, is_running, is_timed, first_guest}
@@ -25,7 +25,7 @@ use Rattle.virtual_run.specs.declared.run.Run.{Run}
 use Rattle.virtual_run.specs.Visits.{Visits}
 use Rattle.virtual_run.specs.Begin.{started_by, many, IsIdle, AreIdle}
 use Rattle.virtual_run.specs.Ending.{ending_of}
-use Rattle.virtual_run.specs.Run.{experiment, has_selected, selected_line, selects, selected_of, ticks_in, AreWithin, IsChoice, IsStateOf, IsSteady, IsReached, IsFirst, state_of}
+use Rattle.virtual_run.specs.Run.{experiment, has_selected, selected_line, selects, selected_of, ticks_in, events_of, AreWithin, IsChoice, IsStateOf, IsSteady, IsReached, IsFirst, state_of}
 use Rattle.virtual_run.proofs.Keys.{without_key_at, no_keys}
 use Rattle.virtual_run.proofs.Many.{many_with}
 use Rattle.virtual_run.proofs.Begin.{ticks_few, one_at_most, within_later, within_by}
@@ -148,7 +148,7 @@ module _ (image : ImageParts) (position point : ℕ → Option ℕ) (input : Lis
   x = experiment image position point input choice
 
   abbrev pub s : Shortened Guest
-  s = shortened x run.retired
+  s = shortened x (events_of run)
 
   abbrev is_lawful : IsLawful x IsOrderly
   is_lawful = lawful_run image position point input choice valid.speedup
@@ -162,10 +162,18 @@ module _ (image : ImageParts) (position point : ℕ → Option ℕ) (input : Lis
   retired_below : (s.retired ≡ 0) ⊎ (s.retired < choice.budget) → s.retired ≡ run.retired → run.retired < choice.budget
   retired_below within count = let some : 1 ≤ choice.budget = valid.some_budget in omega arith
 
+  -- each wake followed a retirement
+  pub followed_by : run.wakes ≤ run.retired
+  followed_by =
+      let each = followed x IsOrderly is_lawful (events_of run) in
+      let wakes : s.wakes ≡ run.wakes = ap (λ (t : Shortened Guest). t.wakes) r.reached.state in
+      let retired : s.retired ≡ run.retired = ap (λ (t : Shortened Guest). t.retired) r.reached.state in
+      omega (arith, each, wakes, retired)
+
   -- a run that goes on has budget left
   pub below_budget : run.ending ≡ None → run.retired < choice.budget
   below_budget none =
-      let g = goes_on_at x IsOrderly is_lawful run.retired (ending_is ∙ none) in
+      let g = goes_on_at x IsOrderly is_lawful (events_of run) (ending_is ∙ none) in
       retired_below g.lives.within (ap (λ (t : Shortened Guest). t.retired) r.reached.state)
 
   not_empty : (k : ℕ) → is_some (get_or s.dues k None) ≡ true → ¬ IsEmpty run.schedule
@@ -173,7 +181,7 @@ module _ (image : ImageParts) (position point : ℕ → Option ℕ) (input : Lis
 
   pub steady : run.ending ≡ None → IsSteady run
   steady none =
-      let g = goes_on_at x IsOrderly is_lawful run.retired (ending_is ∙ none) in
+      let g = goes_on_at x IsOrderly is_lawful (events_of run) (ending_is ∙ none) in
       let few : choice.budget ≤ 10 ^ 12 = valid.few in
       let below : run.retired ≤ choice.budget = r.retired in
       record {
@@ -181,46 +189,51 @@ module _ (image : ImageParts) (position point : ℕ → Option ℕ) (input : Lis
         orderly = subst IsOrderly guest_is g.lives.good;
         running = λ k.
             ap (λ (g : Guest). is_running g k) (sym guest_is)
-            ∙ ap (λ b. b || is_running s.guest k) (sym (short_awake x IsOrderly is_lawful (never_run image position point input choice) run.retired k))
+            ∙ ap (λ b. b || is_running s.guest k) (sym (short_awake x IsOrderly is_lawful (never_run image position point input choice) (events_of run) k))
             ∙ g.lives.running k
             ∙ ap is_some (sym (r.reached.dues k));
         some_hart = not_empty g.lives.some_hart.0 g.lives.some_hart.1;
         room = r.room;
         unfull = subst (λ (n : ℕ). length run.visits.kept < n) (sym r.limit) (r.unfull none);
-        within = within_later (4000 * (run.retired + 1)) (2 ^ 60) run.schedule (omega (arith, below, few)) r.within;
+        within = within_later (10 ^ 16 + 4000 * (events_of run + 1)) (2 ^ 60) run.schedule (omega (arith, below, few, followed_by)) r.within;
         retired = omega (arith, below, few);
+        wakes = omega (arith, below, few, followed_by);
         few = r.few;
       }
 
-  moved_state : (new : Run) → IsStateOf new (move x (state_of run s.dues)) → new.retired ≡ run.retired + 1 → IsStateOf new (shortened x new.retired)
+  moved_state : (new : Run) → IsStateOf new (move x (state_of run s.dues)) → events_of new ≡ events_of run + 1 → IsStateOf new (shortened x (events_of new))
   moved_state new moved next =
-      subst (IsStateOf new) (ap (move x) (sym r.reached.state) ∙ once_more x run.retired new.retired next) moved
+      subst (IsStateOf new) (ap (move x) (sym r.reached.state) ∙ once_more x (events_of run) (events_of new) next) moved
 
   -- what holds of a run holds after a move
   pub reached_next : (new : Run) → run.ending ≡ None → IsStateOf new (move x (state_of run s.dues)) → length new.schedule ≡ 256 → new.visits.limit ≡ run.visits.limit
-      → (new.ending ≡ None → length new.visits.kept < choice.visit_limit) → new.retired ≡ run.retired + 1 → new.starts ≤ new.retired + many new.schedule
+      → (new.ending ≡ None → length new.visits.kept < choice.visit_limit) → new.retired ≡ run.retired + 1 → new.wakes ≡ run.wakes → new.starts ≤ events_of new + many new.schedule
       → ((moment : ℕ) → AreWithin moment run.schedule → AreWithin (moment + 4000) new.schedule) → IsReached x new
-  reached_next new none moved room limit unfull next few within = record {
-    reached = moved_state new moved next;
+  reached_next new none moved room limit unfull next same few within = record {
+    reached = moved_state new moved (omega (arith, next, same));
     room = room;
     limit = limit ∙ r.limit;
     unfull = unfull;
     retired = let below : run.retired < choice.budget = below_budget none in omega arith;
     few = few;
-    within = within_later (4000 * (run.retired + 1) + 4000) (4000 * (new.retired + 1)) new.schedule (omega arith) (within (4000 * (run.retired + 1)) r.within);
+    within =
+        within_later (10 ^ 16 + 4000 * (events_of run + 1) + 4000) (10 ^ 16 + 4000 * (events_of new + 1)) new.schedule (omega (arith, next, same))
+        (within (10 ^ 16 + 4000 * (events_of run + 1)) r.within);
   }
 
   pub ended_now : (e : Ending) → run.ending ≡ Some e → s.ending ≡ Some e
   ended_now e ended = ending_is ∙ ended
 
-  pub last_now : (e : Ending) → run.ending ≡ Some e → s ≡ shortened x choice.budget
-  last_now e ended =
-      let below : run.retired ≤ choice.budget = r.retired in
-      at_last x IsOrderly is_lawful run.retired e (omega arith) (ending_is ∙ ended) ∙ sym (at_budget x IsOrderly is_lawful (never_run image position point input choice) valid.some_budget).1
+  -- no more than the run can come to
+  pub within_enough : events_of run ≤ 2 * choice.budget
+  within_enough = let below : run.retired ≤ choice.budget = r.retired in omega (arith, followed_by)
+
+  pub last_now : (e : Ending) → run.ending ≡ Some e → s ≡ shortened x (enough x)
+  last_now e ended = at_last x IsOrderly is_lawful (events_of run) e within_enough (ending_is ∙ ended)
 
   -- the record of a run that has ended
   pub recorded_now : (e : Ending) → run.ending ≡ Some e → net_record_of x s e ≡ shortened_record x
-  recorded_now e ended = let below : run.retired ≤ choice.budget = r.retired in recorded x IsOrderly is_lawful run.retired e (omega arith) (ending_is ∙ ended)
+  recorded_now e ended = recorded x IsOrderly is_lawful (events_of run) e within_enough (ending_is ∙ ended)
 
 -- the record of a program's run is one that it ends with
 pub shortened_is : (image : ImageParts) (position point : ℕ → Option ℕ) (input : List ℕ) (choice : Choice) → IsChoice choice
@@ -239,7 +252,7 @@ new_idle g keys empty made = record {
 none_due : (due : ℕ) → ◌≡◌ {A = Option ℕ} None (Some due) → ⊥
 none_due due clash = cc
 
-first_within : (ticks : ℕ → ℕ) (keys : Keys) → ticks 0 ≤ 4000 → keys ≡ with_key 0 (0 + ticks 0) (replicate 256 None) → AreWithin (4000 * (0 + 1)) keys
+first_within : (ticks : ℕ → ℕ) (keys : Keys) → ticks 0 ≤ 4000 → keys ≡ with_key 0 (0 + ticks 0) (replicate 256 None) → AreWithin (10 ^ 16 + 4000 * (0 + 0 + 1)) keys
 first_within ticks keys few is k due has =
     let soon : due ≤ 0 + 4000 = within_by ticks 0 0 due (k == 0) (key_of keys k) None 0 few (first_key (0 + ticks 0) keys is k) (omega arith) (λ v e. absurd (none_due v e)) has in
     omega arith
@@ -248,7 +261,7 @@ first_within ticks keys few is k due has =
 pub first_run : (setting : Setting) (image : ImageParts) (input : List ℕ) (g : Guest) (keys : Keys) (others selected : List ℕ) (visits : Visits) (starts : ℕ) → IsChoice setting.choice
     → g ≡ first_guest image input setting.choice.output_limit setting.choice.layout → keys ≡ with_key 0 (0 + ticks_in setting g 0) (replicate 256 None)
     → visits ≡ record { kept = []; limit = setting.choice.visit_limit } → selected ≡ selected_of setting g (0 ∷ []) → starts ≡ length selected
-    → IsFirst setting image input (run_of 0 g keys others selected visits 0 starts None)
+    → IsFirst setting image input (run_of 0 g keys others selected visits 0 0 starts None)
 first_run setting image input g keys others selected visits starts valid is made none chosen counted =
     let first : Guest = first_guest image input setting.choice.output_limit setting.choice.layout in
     let empty : Keys = replicate 256 None in
@@ -272,6 +285,7 @@ first_run setting image input g keys others selected visits starts valid is made
         within = first_within (ticks_in setting g) keys (ticks_few (selects setting) setting.choice.speedup g 0) made;
       };
       retired = refl;
+      wakes = refl;
       ending = refl;
       kept = kept;
       selected = chosen;

@@ -1,27 +1,26 @@
 -- Machines at speedup 0 up to the first start, and the leads that they are.
-use Rattle.std.proofs.Common.{◌≡◌, ℕ, suc, ◌+◌, ◌-◌, ◌≤◌, ◌<◌, ◌==◌, ◌&&◌, Bool, true, false, not, List, [], ◌∷◌, length, filter, refl, sym, ap, ap₂, ◌∙◌, subst, arith, Option, Some, None, is_some, IsSome, eqb-true, zero-add}
+use Rattle.std.proofs.Common.{◌≡◌, ℕ, suc, ◌+◌, ◌-◌, ◌*◌, ◌≤◌, ◌<◌, ◌==◌, ◌&&◌, Bool, true, false, not, List, [], ◌∷◌, length, filter, refl, sym, ap, ap₂, ◌∙◌, subst, arith, Option, Some, None, is_some, IsSome, eqb-true, zero-add}
 use Rattle.std.proofs.Math.Dec.{eqb-suc-zero}
 use Rattle.coz_types.specs.declared.ending.Ending.{Ending}
 use Rattle.coz_types.specs.declared.LineId.{LineId}
 use Rattle.coz_types.specs.Image.{ImageParts}
 use Rattle.delay_credits.specs.Delays.{Delays}
 use Rattle.machines.specs.Guest.{Experiment}
-use Rattle.machines.specs.Delayed.{Delayed, begin, unbegun, is_any}
-use Rattle.machines.specs.Steps.{Steps}
+use Rattle.machines.specs.Delayed.{Delayed, begin, unbegun, is_any, events}
 use Rattle.machines.specs.Standing.{standing}
 use Rattle.machines.specs.Lead.{Before, at_speedup, before}
 use Rattle.machines.proofs.Fork.{same_lead}
 use Rattle.machines.proofs.Lead.{standing_begins, begin_starts, before_starts, same_before}
-use Rattle.machines.proofs.LeadForks.{before_ending, before_retired, ended_begins}
+use Rattle.machines.proofs.LeadForks.{before_ending, before_retired, before_wakes, ended_begins}
 use Rattle.guest_calls.specs.Guest.{Guest}
 use Rattle.virtual_run.specs.declared.choice.Choice.{Choice}
 use Rattle.virtual_run.specs.declared.choice.Setting.{Setting}
 use Rattle.virtual_run.specs.declared.run.Run.{Run}
 use Rattle.virtual_run.specs.DelayedRun.{IsPaced}
 use Rattle.virtual_run.specs.Seen.{Seen, experiment_with, experiment_of}
-use Rattle.virtual_run.specs.Run.{IsChoice}
+use Rattle.virtual_run.specs.Run.{events_of, IsChoice}
 use Rattle.virtual_run.specs.Lead.{arguments, is_unstarted, starts_next, Stands, IsShared, IsLead}
-use Rattle.virtual_run.proofs.CreditedRun.{seen_of, ending_now, retired_now, starts_now, IsGoing, going_first, going_next, going_smaller}
+use Rattle.virtual_run.proofs.CreditedRun.{seen_of, ending_now, events_now, starts_now, IsAt, at_next, at_smaller, going_first}
 use Rattle.virtual_run.proofs.Forks.{sped_setting}
 use Rattle.virtual_run.proofs.Again.{lined_setting}
 
@@ -38,22 +37,22 @@ goes_unstarted d e = unstarted_goes d.ending d.starts e
 
 -- a run that is led
 pub record IsLed (old now : Seen (Delayed Guest)) : Type 0 where
-  pub going : IsGoing old now
-  pub none : started_none old now.state.retired
+  pub at : IsAt old now
+  pub none : started_none old (events now.state)
   pub stays : is_unstarted old.state ≡ false → now ≡ old
 
 module _ (old now : Seen (Delayed Guest)) (l : IsLed old now) (unstarted : is_unstarted now.state ≡ true) (new : Seen (Delayed Guest))
-    (next : now.state.ending ≡ None → new.state ≡ standing (experiment_of now) (now.state.retired + 1)) (steps : now.state.ending ≡ None → Steps (experiment_of now) now.state new.state) (rest : new ≡ record now { state = new.state }) where
+    (next : new.state ≡ standing (experiment_of now) (events now.state + 1)) (count : events new.state ≡ events now.state + 1) (rest : new ≡ record now { state = new.state }) where
   goes : now.state.ending ≡ None
   goes = (goes_unstarted now.state unstarted).0
 
-  none_next : started_none old new.state.retired
+  none_next : started_none old (events new.state)
   none_next =
       let x : Experiment Guest = experiment_of old in
-      let count : new.state.retired ≡ suc now.state.retired = let c : new.state.retired ≡ now.state.retired + 1 = (steps goes).retires in omega (arith, c) in
-      ap (λ (n : ℕ). (before x n).state.starts) count
-      ∙ before_starts x now.state.retired
-      ∙ ap (λ (d : Delayed Guest). d.starts) (sym l.going.stands)
+      let more : events new.state ≡ suc (events now.state) = omega (arith, count) in
+      ap (λ (n : ℕ). (before x n).state.starts) more
+      ∙ before_starts x (events now.state)
+      ∙ ap (λ (d : Delayed Guest). d.starts) (sym l.at.stands)
       ∙ (goes_unstarted now.state unstarted).1
 
   stays_next : is_unstarted old.state ≡ false → new ≡ old
@@ -61,10 +60,10 @@ module _ (old now : Seen (Delayed Guest)) (l : IsLed old now) (unstarted : is_un
       absurd (let no : true ≡ false = sym unstarted ∙ ap (λ (v : Seen (Delayed Guest)). is_unstarted v.state) (l.stays over) ∙ over in cc)
 
   pub led_next : IsLed old new
-  led_next = record { going = going_next old now l.going new goes next steps rest; none = none_next; stays = stays_next }
+  led_next = record { at = at_next old now l.at new next count rest; none = none_next; stays = stays_next }
 
-  pub led_smaller : old.choice.budget - new.state.retired < old.choice.budget - now.state.retired
-  led_smaller = going_smaller old now l.going new goes steps
+  pub led_smaller : 2 * old.choice.budget - events new.state < 2 * old.choice.budget - events now.state
+  led_smaller = at_smaller old now l.at new goes count
 
 -- what contracts see of a fork
 module _ (image : ImageParts) (input : List ℕ) (setting : Setting) (run : Run) (credits : Delays) (now : ℕ) (p : IsPaced image input setting run credits now) (v : Seen (Delayed Guest)) (view : seen_of image input setting run ≡ v) where
@@ -74,21 +73,21 @@ module _ (image : ImageParts) (input : List ℕ) (setting : Setting) (run : Run)
   pub whole_seen : v.choice.speedup ≡ 0 → setting.choice.speedup ≡ 0
   whole_seen whole = ap (λ (v : Seen (Delayed Guest)). v.choice.speedup) view ∙ whole
 
-  pub none_counted : (before (experiment_of v) v.state.retired).state.starts ≡ 0 → (before x run.retired).state.starts ≡ 0
+  pub none_counted : (before (experiment_of v) (events v.state)).state.starts ≡ 0 → (before x (events_of run)).state.starts ≡ 0
   none_counted z =
-      subst (λ (n : ℕ). (before x n).state.starts ≡ 0) (retired_now image input setting run credits now p)
-      (subst (λ (v : Seen (Delayed Guest)). (before (experiment_of v) v.state.retired).state.starts ≡ 0) (sym view) z)
+      subst (λ (n : ℕ). (before x n).state.starts ≡ 0) (events_now image input setting run credits now p)
+      (subst (λ (v : Seen (Delayed Guest)). (before (experiment_of v) (events v.state)).state.starts ≡ 0) (sym view) z)
 
-  pub zero_seen : v.state.retired ≡ 0 → run.retired ≡ 0
-  zero_seen zeroth = sym (retired_now image input setting run credits now p) ∙ ap (λ (v : Seen (Delayed Guest)). v.state.retired) view ∙ zeroth
+  pub zero_seen : events v.state ≡ 0 → events_of run ≡ 0
+  zero_seen zeroth = sym (events_now image input setting run credits now p) ∙ ap (λ (v : Seen (Delayed Guest)). events v.state) view ∙ zeroth
 
-  pub forked_seen : (q : ℕ) (new : Run) → new.retired ≡ run.retired
-      → seen_of image input (sped_setting q setting) new ≡ record v { choice = record v.choice { speedup = q }; state = standing (at_speedup q (experiment_of v)) v.state.retired }
+  pub forked_seen : (q : ℕ) (new : Run) → events_of new ≡ events_of run
+      → seen_of image input (sped_setting q setting) new ≡ record v { choice = record v.choice { speedup = q }; state = standing (at_speedup q (experiment_of v)) (events v.state) }
   forked_seen q new is =
-      subst (λ (v : Seen (Delayed Guest)). seen_of image input (sped_setting q setting) new ≡ record v { choice = record v.choice { speedup = q }; state = standing (at_speedup q (experiment_of v)) v.state.retired }) view
-      (ap (λ (n : ℕ). record (seen_of image input setting run) { choice = record setting.choice { speedup = q }; state = standing (at_speedup q x) n }) (is ∙ sym (retired_now image input setting run credits now p)))
+      subst (λ (v : Seen (Delayed Guest)). seen_of image input (sped_setting q setting) new ≡ record v { choice = record v.choice { speedup = q }; state = standing (at_speedup q (experiment_of v)) (events v.state) }) view
+      (ap (λ (n : ℕ). record (seen_of image input setting run) { choice = record setting.choice { speedup = q }; state = standing (at_speedup q x) n }) (is ∙ sym (events_now image input setting run credits now p)))
 
-  pub again_seen : (line : LineId) (new : Run) → new.retired ≡ run.retired → run.retired ≡ 0
+  pub again_seen : (line : LineId) (new : Run) → events_of new ≡ events_of run → events_of run ≡ 0
       → let seen : Seen (Delayed Guest) = seen_of image input (lined_setting line setting) new in seen ≡ record v { choice = record v.choice { selected = Some line }; state = standing (experiment_of seen) 0 }
   again_seen line new is zeroth =
       subst (λ (v : Seen (Delayed Guest)). seen_of image input (lined_setting line setting) new ≡ record v { choice = record v.choice { selected = Some line }; state = standing (experiment_with image input (lined_setting line setting)) 0 }) view
@@ -99,8 +98,8 @@ module _ (image : ImageParts) (input : List ℕ) (setting : Setting) (run : Run)
       ap₂ (λ (o : Option Ending) (n : ℕ). not (is_some o) && (n == 0)) (sym (ending_now image input setting run credits now p)) (sym (starts_now image input setting run credits now p))
       ∙ ap (λ (v : Seen (Delayed Guest)). is_unstarted v.state) view
 
-  pub led_first : (before (experiment_of v) v.state.retired).state.starts ≡ 0 → IsLed v v
-  led_first z = record { going = going_first image input setting run credits now p v view; none = z; stays = λ _. refl }
+  pub led_first : (before (experiment_of v) (events v.state)).state.starts ≡ 0 → IsLed v v
+  led_first z = record { at = (going_first image input setting run credits now p v view).at; none = z; stays = λ _. refl }
 
 -- as the code asks it
 pub then_unstarted : (o : Option Ending) (b c : Bool) → is_some o ≡ not b → b ≡ true → c ≡ (not (is_some o) && c)
@@ -121,18 +120,18 @@ module _ (m : Seen (Delayed Guest)) (l : IsLead m) where
   m_x = experiment_of m
 
   abbrev stood : Before Guest
-  stood = before m_x m.state.retired
+  stood = before m_x (events m.state)
 
   -- the selected harts that begin next are the starts after it
   starts_counted : m.state.starts ≡ length (filter (m_x.guest.is_selected stood.state.guest) stood.harts)
   starts_counted =
-      ap (λ (d : Delayed Guest). d.starts) (l.stands ∙ standing_begins m_x m.state.retired)
+      ap (λ (d : Delayed Guest). d.starts) (l.stands ∙ standing_begins m_x (events m.state))
       ∙ begin_starts m_x stood.harts stood.state
       ∙ ap (λ (n : ℕ). n + length (filter (m_x.guest.is_selected stood.state.guest) stood.harts)) l.none
       ∙ zero-add (length (filter (m_x.guest.is_selected stood.state.guest) stood.harts))
 
   pub lead_ending : m.state.ending ≡ stood.state.ending
-  lead_ending = ap (λ (d : Delayed Guest). d.ending) l.stands ∙ before_ending m_x m.state.retired
+  lead_ending = ap (λ (d : Delayed Guest). d.ending) l.stands ∙ before_ending m_x (events m.state)
 
   pub next_is_start : starts_next m_x stood ≡ not (m.state.starts == 0)
   next_is_start = any_of (filter (m_x.guest.is_selected stood.state.guest) stood.harts) ∙ ap (λ (n : ℕ). not (n == 0)) (sym starts_counted)
@@ -140,7 +139,7 @@ module _ (m : Seen (Delayed Guest)) (l : IsLead m) where
   -- where it has ended no start is next
   none_over : (e : Ending) → m.state.ending ≡ Some e → starts_next m_x stood ≡ false
   none_over e over =
-      ap (λ (hs : List ℕ). is_any (filter (m_x.guest.is_selected stood.state.guest) hs)) (ended_begins m_x m.state.retired e (ap (λ (d : Delayed Guest). d.ending) (sym l.stands) ∙ over))
+      ap (λ (hs : List ℕ). is_any (filter (m_x.guest.is_selected stood.state.guest) hs)) (ended_begins m_x (events m.state) e (ap (λ (d : Delayed Guest). d.ending) (sym l.stands) ∙ over))
 
   pub stops_where : is_unstarted m.state ≡ false → is_some m.state.ending ≡ not (starts_next m_x stood)
   stops_where stops = go m.state.ending refl
@@ -174,11 +173,11 @@ module _ (m : Seen (Delayed Guest)) (l : IsLead m) where
       go (Some e) is = refl
       go None is = absurd (let no : false ≡ true = is in cc)
 
-  pub lead_before : (q : ℕ) → stood ≡ before (at_speedup q m_x) m.state.retired
-  lead_before q = same_before m_x q m.state.retired l.none
+  pub lead_before : (q : ℕ) → stood ≡ before (at_speedup q m_x) (events m.state)
+  lead_before q = same_before m_x q (events m.state) l.none
 
   pub lead_stands : (q : ℕ) → Stands (at_speedup q m_x) stood
-  lead_stands q = record { events = m.state.retired; is = lead_before q; none = l.none }
+  lead_stands q = record { events = events m.state; is = lead_before q; none = l.none }
 
   -- at any speedup
   pub lead_shared : (q : ℕ) → IsShared (at_speedup q m_x) stood
@@ -191,14 +190,22 @@ module _ (m : Seen (Delayed Guest)) (l : IsLead m) where
   unfolding unbegun
   unbegun_retired y = refl
 
-  -- one that stands before the first beginning retired nothing
-  pub stands_first : (q : ℕ) → stood ≡ record { state = unbegun (at_speedup q m_x); harts = 0 ∷ [] } → m.state.retired ≡ 0
+  unbegun_wakes : (y : Experiment Guest) → (unbegun y).wakes ≡ 0
+  unfolding unbegun
+  unbegun_wakes y = refl
+
+  -- one that stands before the first beginning retired nothing, and woke no hart
+  pub stands_first : (q : ℕ) → stood ≡ record { state = unbegun (at_speedup q m_x); harts = 0 ∷ [] } → events m.state ≡ 0
   stands_first q first =
-      ap (λ (d : Delayed Guest). d.retired) l.stands ∙ before_retired m_x m.state.retired ∙ ap (λ (b : Before Guest). b.state.retired) first ∙ unbegun_retired (at_speedup q m_x)
+      let retired : m.state.retired ≡ 0 =
+      ap (λ (d : Delayed Guest). d.retired) l.stands ∙ before_retired m_x (events m.state) ∙ ap (λ (b : Before Guest). b.state.retired) first ∙ unbegun_retired (at_speedup q m_x) in
+      let wakes : m.state.wakes ≡ 0 =
+      ap (λ (d : Delayed Guest). d.wakes) l.stands ∙ before_wakes m_x (events m.state) ∙ ap (λ (b : Before Guest). b.state.wakes) first ∙ unbegun_wakes (at_speedup q m_x) in
+      omega (arith, retired, wakes)
 
   -- a beginning at a speedup
-  pub begins_at : (q : ℕ) → standing (at_speedup q m_x) m.state.retired ≡ begin (at_speedup q m_x) stood.harts stood.state
-  begins_at q = standing_begins (at_speedup q m_x) m.state.retired ∙ ap (λ (b : Before Guest). begin (at_speedup q m_x) b.harts b.state) (sym (lead_before q))
+  pub begins_at : (q : ℕ) → standing (at_speedup q m_x) (events m.state) ≡ begin (at_speedup q m_x) stood.harts stood.state
+  begins_at q = standing_begins (at_speedup q m_x) (events m.state) ∙ ap (λ (b : Before Guest). begin (at_speedup q m_x) b.harts b.state) (sym (lead_before q))
 
 pub before_first : (x : Experiment Guest) → before x 0 ≡ record { state = unbegun x; harts = 0 ∷ [] }
 unfolding before
@@ -212,18 +219,22 @@ first_starts : (x : Experiment Guest) → (unbegun x).starts ≡ 0
 unfolding unbegun
 first_starts x = refl
 
-first_retired : (x : Experiment Guest) → (unbegun x).retired ≡ 0
+first_events : (x : Experiment Guest) → events (unbegun x) ≡ 0
 unfolding unbegun
-first_retired x = refl
+first_events x = refl
 
-pub standing_retired : (x : Experiment Guest) → (standing x 0).retired ≡ 0
-standing_retired x = before_retired x 0 ∙ ap (λ (b : Before Guest). b.state.retired) (before_first x) ∙ first_retired x
+-- a state has come to as many as before the beginning
+pub events_before : (x : Experiment Guest) (n : ℕ) → events (standing x n) ≡ events (before x n).state
+events_before x n = ap₂ (λ (m k : ℕ). m + k) (before_retired x n) (before_wakes x n)
+
+pub standing_first : (x : Experiment Guest) → events (standing x 0) ≡ 0
+standing_first x = events_before x 0 ∙ ap (λ (b : Before Guest). events b.state) (before_first x) ∙ first_events x
 
 -- a machine that was just made
 pub lead_first : (m : Seen (Delayed Guest)) → IsChoice m.choice → m.choice.speedup ≡ 0 → m.state ≡ standing (experiment_of m) 0 → IsLead m
 lead_first m valid whole first =
     let x : Experiment Guest = experiment_of m in
-    let zeroth : m.state.retired ≡ 0 = ap (λ (d : Delayed Guest). d.retired) first ∙ standing_retired x in
+    let zeroth : events m.state ≡ 0 = ap (λ (d : Delayed Guest). events d) first ∙ standing_first x in
     record {
       valid = valid;
       whole = whole;
@@ -263,7 +274,7 @@ lead_view m speedup = record {
   points = m.points;
   input = m.input;
   choice = record m.choice { speedup = speedup };
-  state = before (experiment_of m) m.state.retired;
+  state = before (experiment_of m) (events m.state);
 }
 
 -- a lead that was just made
@@ -281,14 +292,14 @@ made_view v choice m made =
     let y : Experiment Guest = experiment_of (record v { choice = choice }) in
     ap (λ (m : Seen (Delayed Guest)). lead_view m choice.speedup) made
     ∙ ap (λ (b : Before Guest). record { image = v.image; index = v.index; points = v.points; input = v.input; choice = choice; state = b })
-    (ap (before x) (standing_retired x) ∙ before_first x ∙ ap (λ (d : Delayed Guest). record { state = d; harts = 0 ∷ [] }) (unbegun_at y 0))
+    (ap (before x) (standing_first x) ∙ before_first x ∙ ap (λ (d : Delayed Guest). record { state = d; harts = 0 ∷ [] }) (unbegun_at y 0))
 
 module _ (m : Seen (Delayed Guest)) (l : IsLead m) (speedup : ℕ) (w : Seen (Before Guest)) (view : lead_view m speedup ≡ w) where
   -- one that stands before the first beginning
-  first_here : w.state ≡ record { state = unbegun (experiment_of w); harts = 0 ∷ [] } → before (experiment_of m) m.state.retired ≡ record { state = unbegun (at_speedup speedup (experiment_of m)); harts = 0 ∷ [] }
+  first_here : w.state ≡ record { state = unbegun (experiment_of w); harts = 0 ∷ [] } → before (experiment_of m) (events m.state) ≡ record { state = unbegun (at_speedup speedup (experiment_of m)); harts = 0 ∷ [] }
   first_here first = subst (λ (w : Seen (Before Guest)). w.state ≡ record { state = unbegun (experiment_of w); harts = 0 ∷ [] }) (sym view) first
 
-  pub zero_again : w.state ≡ record { state = unbegun (experiment_of w); harts = 0 ∷ [] } → m.state.retired ≡ 0
+  pub zero_again : w.state ≡ record { state = unbegun (experiment_of w); harts = 0 ∷ [] } → events m.state ≡ 0
   zero_again first = stands_first m l speedup (first_here first)
 
   -- the same again with another line
@@ -310,9 +321,9 @@ module _ (m : Seen (Delayed Guest)) (l : IsLead m) (speedup : ℕ) (w : Seen (Be
     experiment_is : experiment_of new ≡ lined
     experiment_is = ap experiment_of is
 
-    again_before : before (experiment_of new) new.state.retired ≡ record { state = unbegun (at_speedup speedup (experiment_of m)); harts = 0 ∷ [] }
+    again_before : before (experiment_of new) (events new.state) ≡ record { state = unbegun (at_speedup speedup (experiment_of m)); harts = 0 ∷ [] }
     again_before =
-        ap (before (experiment_of new)) (ap (λ (v : Seen (Delayed Guest)). v.state.retired) is ∙ standing_retired (experiment_of new))
+        ap (before (experiment_of new)) (ap (λ (v : Seen (Delayed Guest)). events v.state) is ∙ standing_first (experiment_of new))
         ∙ before_first (experiment_of new)
         ∙ ap (λ (x : Experiment Guest). record { state = unbegun x; harts = 0 ∷ [] }) experiment_is
         ∙ ap (λ (d : Delayed Guest). record { state = d; harts = 0 ∷ [] }) same_unbegun
@@ -320,7 +331,7 @@ module _ (m : Seen (Delayed Guest)) (l : IsLead m) (speedup : ℕ) (w : Seen (Be
     pub again_view : w.state ≡ record { state = unbegun (experiment_of w); harts = 0 ∷ [] } → lead_view new speedup ≡ record w { choice = record w.choice { selected = Some line } }
     again_view first =
         ap
-        (λ (v : Seen (Delayed Guest)). record { image = v.image; index = v.index; points = v.points; input = v.input; choice = record v.choice { speedup = speedup }; state = before (experiment_of new) new.state.retired })
+        (λ (v : Seen (Delayed Guest)). record { image = v.image; index = v.index; points = v.points; input = v.input; choice = record v.choice { speedup = speedup }; state = before (experiment_of new) (events new.state) })
         is
         ∙ ap
         (λ (b : Before Guest). record { image = m.image; index = m.index; points = m.points; input = m.input; choice = record m.choice { selected = Some line; speedup = speedup }; state = b })
@@ -328,23 +339,23 @@ module _ (m : Seen (Delayed Guest)) (l : IsLead m) (speedup : ℕ) (w : Seen (Be
         ∙ ap (λ (w : Seen (Before Guest)). record w { choice = record w.choice { selected = Some line } }) view
 
   -- a fork
-  module _ (q : ℕ) (old new : Seen (Delayed Guest)) (same : arguments old ≡ arguments w) (is : new ≡ record m { choice = record m.choice { speedup = q }; state = standing (at_speedup q (experiment_of m)) m.state.retired }) where
-    retired_at : (standing (at_speedup q (experiment_of m)) m.state.retired).retired ≡ m.state.retired
-    retired_at =
-        before_retired (at_speedup q (experiment_of m)) m.state.retired
-        ∙ ap (λ (b : Before Guest). b.state.retired) (sym (lead_before m l q))
-        ∙ sym (before_retired (experiment_of m) m.state.retired)
-        ∙ ap (λ (d : Delayed Guest). d.retired) (sym l.stands)
+  module _ (q : ℕ) (old new : Seen (Delayed Guest)) (same : arguments old ≡ arguments w) (is : new ≡ record m { choice = record m.choice { speedup = q }; state = standing (at_speedup q (experiment_of m)) (events m.state) }) where
+    events_at : events (standing (at_speedup q (experiment_of m)) (events m.state)) ≡ events m.state
+    events_at =
+        events_before (at_speedup q (experiment_of m)) (events m.state)
+        ∙ ap (λ (b : Before Guest). events b.state) (sym (lead_before m l q))
+        ∙ sym (events_before (experiment_of m) (events m.state))
+        ∙ ap (λ (d : Delayed Guest). events d) (sym l.stands)
 
-    pub fork_stands : new.state ≡ standing (experiment_of new) new.state.retired
+    pub fork_stands : new.state ≡ standing (experiment_of new) (events new.state)
     fork_stands =
-        subst (λ (v : Seen (Delayed Guest)). v.state ≡ standing (experiment_of v) v.state.retired) (sym is)
-        (ap (standing (at_speedup q (experiment_of m))) (sym retired_at))
+        subst (λ (v : Seen (Delayed Guest)). v.state ≡ standing (experiment_of v) (events v.state)) (sym is)
+        (ap (standing (at_speedup q (experiment_of m))) (sym events_at))
 
     fork_here : (old : Seen (Delayed Guest)) → arguments old ≡ arguments (lead_view m speedup)
-        → new ≡ record old { choice = record m.choice { speedup = q }; state = begin (at_speedup q (experiment_of m)) (before (experiment_of m) m.state.retired).harts (before (experiment_of m) m.state.retired).state }
+        → new ≡ record old { choice = record m.choice { speedup = q }; state = begin (at_speedup q (experiment_of m)) (before (experiment_of m) (events m.state)).harts (before (experiment_of m) (events m.state)).state }
     fork_here old same =
-        let d : Delayed Guest = begin (at_speedup q (experiment_of m)) (before (experiment_of m) m.state.retired).harts (before (experiment_of m) m.state.retired).state in
+        let d : Delayed Guest = begin (at_speedup q (experiment_of m)) (before (experiment_of m) (events m.state)).harts (before (experiment_of m) (events m.state)).state in
         is
         ∙ ap (λ (d : Delayed Guest). record m { choice = record m.choice { speedup = q }; state = d }) (begins_at m l q)
         ∙ ap (λ (a : Seen (Unit {0})). record { image = a.image; index = a.index; points = a.points; input = a.input; choice = record m.choice { speedup = q }; state = d }) (sym same)
@@ -357,7 +368,7 @@ module _ (m : Seen (Delayed Guest)) (l : IsLead m) (speedup : ℕ) (w : Seen (Be
         (fork_here old (same ∙ ap arguments (sym view)))
 
   -- a run up to the first start
-  module _ (new : Seen (Delayed Guest)) (stops : is_unstarted new.state ≡ false) (none : (before (experiment_of m) new.state.retired).state.starts ≡ 0) (stood_is : new.state ≡ standing (experiment_of m) new.state.retired)
+  module _ (new : Seen (Delayed Guest)) (stops : is_unstarted new.state ≡ false) (none : (before (experiment_of m) (events new.state)).state.starts ≡ 0) (stood_is : new.state ≡ standing (experiment_of m) (events new.state))
       (stays : is_unstarted m.state ≡ false → new ≡ m) (rest : new ≡ record m { state = new.state }) where
     same_x : experiment_of new ≡ experiment_of m
     same_x = ap experiment_of rest
@@ -366,12 +377,12 @@ module _ (m : Seen (Delayed Guest)) (l : IsLead m) (speedup : ℕ) (w : Seen (Be
     run_led = record {
       valid = subst IsChoice (sym (ap (λ (v : Seen (Delayed Guest)). v.choice) rest)) l.valid;
       whole = ap (λ (v : Seen (Delayed Guest)). v.choice.speedup) rest ∙ l.whole;
-      stands = stood_is ∙ ap (λ (x : Experiment Guest). standing x new.state.retired) (sym same_x);
-      none = ap (λ (x : Experiment Guest). (before x new.state.retired).state.starts) same_x ∙ none;
+      stands = stood_is ∙ ap (λ (x : Experiment Guest). standing x (events new.state)) (sym same_x);
+      none = ap (λ (x : Experiment Guest). (before x (events new.state)).state.starts) same_x ∙ none;
     }
 
     abbrev after : Before Guest
-    after = before (experiment_of new) new.state.retired
+    after = before (experiment_of new) (events new.state)
 
     at_w : (P : Experiment Guest → Type 0) → P (at_speedup speedup (experiment_of new)) → P (experiment_of w)
     at_w P holds =
@@ -389,12 +400,12 @@ module _ (m : Seen (Delayed Guest)) (l : IsLead m) (speedup : ℕ) (w : Seen (Be
 
     pub run_stays : starts_next (experiment_of w) w.state ≡ true → lead_view new speedup ≡ w
     run_stays next =
-        let here : starts_next (experiment_of m) (before (experiment_of m) m.state.retired) ≡ true = subst (λ (w : Seen (Before Guest)). starts_next (experiment_of w) w.state ≡ true) (sym view) next in
+        let here : starts_next (experiment_of m) (before (experiment_of m) (events m.state)) ≡ true = subst (λ (w : Seen (Before Guest)). starts_next (experiment_of w) w.state ≡ true) (sym view) next in
         ap (λ (m : Seen (Delayed Guest)). lead_view m speedup) (stays (stays_started m l here)) ∙ view
 
     pub run_over : IsSome w.state.state.ending → lead_view new speedup ≡ w
     run_over some =
-        let here : IsSome (before (experiment_of m) m.state.retired).state.ending = subst (λ (w : Seen (Before Guest)). IsSome w.state.state.ending) (sym view) some in
+        let here : IsSome (before (experiment_of m) (events m.state)).state.ending = subst (λ (w : Seen (Before Guest)). IsSome w.state.state.ending) (sym view) some in
         ap (λ (m : Seen (Delayed Guest)). lead_view m speedup) (stays (stays_over m l here)) ∙ view
 
     pub run_rest : lead_view new speedup ≡ record w { state = after }

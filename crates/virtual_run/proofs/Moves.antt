@@ -27,8 +27,8 @@ use Rattle.virtual_run.proofs.Keys.{with_key_at, no_keys, dues_without, next_is,
 use Rattle.virtual_run.proofs.Begin.{ticks_less}
 
 -- a state of a run
-abbrev pub state : ℕ → Guest → List (Option ℕ) → List NetVisit → ℕ → ℕ → Option Ending → Shortened Guest
-state time g dues visits retired starts e = record { time = time; guest = g; dues = dues; visits = visits; retired = retired; wakes = 0; starts = starts; ending = e }
+abbrev pub state : ℕ → Guest → List (Option ℕ) → List NetVisit → ℕ → ℕ → ℕ → Option Ending → Shortened Guest
+state time g dues visits retired wakes starts e = record { time = time; guest = g; dues = dues; visits = visits; retired = retired; wakes = wakes; starts = starts; ending = e }
 
 abbrev pub outcome : Guest → Fate → List ℕ → Retirement Guest
 outcome g fate others = record { guest = g; fate = fate; others = others }
@@ -42,21 +42,21 @@ abbrev net_visits : Option ℕ → ℕ → ℕ → List NetVisit
 net_visits point h due = option_to_list (option_map (λ p. record { point = p; hart = h; time = due }) point)
 
 -- what a move comes to with a retirement, after which the hart has this moment and there are these visits
-abbrev pub moved_by : Experiment Guest → ℕ → Retirement Guest → Option ℕ → ℕ → ℕ → List (Option ℕ) → List NetVisit → ℕ → ℕ → Shortened Guest
-moved_by x h r moment due starts dues visits retired count =
-    let left : Shortened Guest = state due r.guest (change None h (λ _. moment) dues) visits (retired + 1) starts None in
+abbrev pub moved_by : Experiment Guest → ℕ → Retirement Guest → Option ℕ → ℕ → ℕ → ℕ → List (Option ℕ) → List NetVisit → ℕ → ℕ → Shortened Guest
+moved_by x h r moment due wakes starts dues visits retired count =
+    let left : Shortened Guest = state due r.guest (change None h (λ _. moment) dues) visits (retired + 1) wakes starts None in
     over_or
     (ending_after x r count (is_any (started h r) || runs_any (change None h (λ _. moment) dues)) (retired + 1))
     left
     (begin x (started h r) due left)
 
 -- a hart's turn
-turned : (x : Experiment Guest) (time : ℕ) (g : Guest) (dues : List (Option ℕ)) (visits : List NetVisit) (h due retired starts : ℕ) → next_turn dues ≡ Some (record { hart = h; due = due }) → x.guest.is_sleeping g h ≡ false
-    → move x (state time g dues visits retired starts None)
-    ≡ moved_by x h (x.guest.retire g h due) (short.rest (x.guest.retire g h due).fate) due starts dues (visits ++ net_visits (x.guest.point g h) h due) retired (length (visits ++ net_visits (x.guest.point g h) h due))
+turned : (x : Experiment Guest) (time : ℕ) (g : Guest) (dues : List (Option ℕ)) (visits : List NetVisit) (h due retired wakes starts : ℕ) → next_turn dues ≡ Some (record { hart = h; due = due }) → x.guest.is_sleeping g h ≡ false
+    → move x (state time g dues visits retired wakes starts None)
+    ≡ moved_by x h (x.guest.retire g h due) (short.rest (x.guest.retire g h due).fate) due wakes starts dues (visits ++ net_visits (x.guest.point g h) h due) retired (length (visits ++ net_visits (x.guest.point g h) h due))
 unfolding move move_by short.come short.retire ending leave retirement
-turned x time g dues visits h due retired starts turn awake =
-    let s : Shortened Guest = state time g dues visits retired starts None in
+turned x time g dues visits h due retired wakes starts turn awake =
+    let s : Shortened Guest = state time g dues visits retired wakes starts None in
     let t : Turn = record { hart = h; due = due } in
     ap (λ (o : Option Turn). move_by x None o s) turn ∙ ap (λ b. if b then short.wake x t s else short.retire x t s) awake
 
@@ -83,9 +83,9 @@ begun_by true n m o p due same = ap Some due
 begun_by false n m o p due same = same
 
 -- the code's fields after a move
-abbrev pub run_of : ℕ → Guest → Keys → List ℕ → List ℕ → Visits → ℕ → ℕ → Option Ending → Run
-run_of time g keys others selected visits retired starts e =
-    record { guest = g; schedule = keys; started = others; selected = selected; visits = visits; time = time; retired = retired; starts = starts; ending = e }
+abbrev pub run_of : ℕ → Guest → Keys → List ℕ → List ℕ → Visits → ℕ → ℕ → ℕ → Option Ending → Run
+run_of time g keys others selected visits retired wakes starts e =
+    record { guest = g; schedule = keys; started = others; selected = selected; visits = visits; time = time; retired = retired; wakes = wakes; starts = starts; ending = e }
 
 -- a move as the code makes it, which leaves these keys once the retiring hart is taken out
 pub record IsMove (setting : Setting) (run : Run) (left : Keys) (h due : ℕ) (after : Guest) (fate : Fate) (others : List ℕ) (kept : List Visit) (e : Option Ending) : Type 0 where
@@ -119,10 +119,10 @@ module _ (setting : Setting) (first : Guest) where
   abbrev begun_dues : Guest → List ℕ → ℕ → List (Option ℕ) → List (Option ℕ)
   begun_dues g hs due dues = change_each None hs (λ h _. Some (due_at g due h)) dues
 
-  begin_is : (g : Guest) (hs : List ℕ) (due : ℕ) (dues : List (Option ℕ)) (visits : List NetVisit) (retired starts : ℕ)
-      → begin x hs due (state due g dues visits retired starts None) ≡ state due g (begun_dues g hs due dues) visits retired (starts + length (selected_of setting g hs)) None
+  begin_is : (g : Guest) (hs : List ℕ) (due : ℕ) (dues : List (Option ℕ)) (visits : List NetVisit) (retired wakes starts : ℕ)
+      → begin x hs due (state due g dues visits retired wakes starts None) ≡ state due g (begun_dues g hs due dues) visits retired wakes (starts + length (selected_of setting g hs)) None
   unfolding begin cost cut
-  begin_is g hs due dues visits retired starts = refl
+  begin_is g hs due dues visits retired wakes starts = refl
 
   pub dues_begun : (g : Guest) (hs : List ℕ) (due : ℕ) (old new : Keys) (dues : List (Option ℕ)) → setting.choice.speedup ≤ 95 → AllApart hs → AreDues old dues → AreBegun (ticks_in setting g) due hs old new → AreDues new (begun_dues g hs due dues)
   dues_begun g hs due old new dues small apart are begun k =
@@ -135,7 +135,7 @@ module _ (setting : Setting) (first : Guest) where
     dues_left = subst (λ (keys : Keys). AreDues keys (taken h dues)) (sym m.taken) (dues_without run.schedule dues h are)
 
     abbrev rest : Shortened Guest
-    rest = state due after (taken h dues) (map net_of visits) (run.retired + 1) run.starts None
+    rest = state due after (taken h dues) (map net_of visits) (run.retired + 1) run.wakes run.starts None
 
     abbrev net : List NetVisit
     net = map net_of run.visits.kept ++ net_visits (point_of setting.points.now (pc_of run.guest h)) h due
@@ -143,47 +143,47 @@ module _ (setting : Setting) (first : Guest) where
     moved : move x (state_of run dues) ≡ over_or e rest (begin x (started_by h fate others) due rest)
     moved =
         let same : runs_any left ≡ runs_any (taken h dues) = same_runs left (taken h dues) dues_left in
-        ap (λ (o : Option Ending). move x (state run.time run.guest dues (map net_of run.visits.kept) run.retired run.starts o)) m.goes
-        ∙ turned x run.time run.guest dues (map net_of run.visits.kept) h due run.retired run.starts (next_is run.schedule dues h due are m.turn m.first) m.was_awake
-        ∙ ap (λ (r : Retirement Guest). moved_by x h r (short.rest r.fate) due run.starts dues net run.retired (length net)) (sym m.retires)
-        ∙ ap (λ (o : Option ℕ). moved_by x h (outcome after fate others) o due run.starts dues net run.retired (length net)) (rests fate 0 fresh m.awake).0
-        ∙ ap (λ (vs : List NetVisit). moved_by x h (outcome after fate others) None due run.starts dues vs run.retired (length vs)) (sym m.visits)
-        ∙ ap (λ (n : ℕ). moved_by x h (outcome after fate others) None due run.starts dues (map net_of visits) run.retired n) (length-map visits net_of)
+        ap (λ (o : Option Ending). move x (state run.time run.guest dues (map net_of run.visits.kept) run.retired run.wakes run.starts o)) m.goes
+        ∙ turned x run.time run.guest dues (map net_of run.visits.kept) h due run.retired run.wakes run.starts (next_is run.schedule dues h due are m.turn m.first) m.was_awake
+        ∙ ap (λ (r : Retirement Guest). moved_by x h r (short.rest r.fate) due run.wakes run.starts dues net run.retired (length net)) (sym m.retires)
+        ∙ ap (λ (o : Option ℕ). moved_by x h (outcome after fate others) o due run.wakes run.starts dues net run.retired (length net)) (rests fate 0 fresh m.awake).0
+        ∙ ap (λ (vs : List NetVisit). moved_by x h (outcome after fate others) None due run.wakes run.starts dues vs run.retired (length vs)) (sym m.visits)
+        ∙ ap (λ (n : ℕ). moved_by x h (outcome after fate others) None due run.wakes run.starts dues (map net_of visits) run.retired n) (length-map visits net_of)
         ∙ ap (λ (o : Option Ending). over_or o rest (begin x (started_by h fate others) due rest))
         (ends_as after fate others h left (taken h dues) (length visits) (run.retired + 1) same ∙ sym m.ends)
 
     -- the run ends with the move
     pub ended : (a : Ending) (selected : List ℕ) (limit : ℕ) → e ≡ Some a
-        → IsStateOf (run_of due after left others selected (record { kept = visits; limit = limit }) (run.retired + 1) run.starts e) (move x (state_of run dues))
+        → IsStateOf (run_of due after left others selected (record { kept = visits; limit = limit }) (run.retired + 1) run.wakes run.starts e) (move x (state_of run dues))
     ended a selected limit some =
-        let is : move x (state_of run dues) ≡ state due after (taken h dues) (map net_of visits) (run.retired + 1) run.starts e =
+        let is : move x (state_of run dues) ≡ state due after (taken h dues) (map net_of visits) (run.retired + 1) run.wakes run.starts e =
         moved
         ∙ ap (λ (o : Option Ending). over_or o rest (begin x (started_by h fate others) due rest)) some
-        ∙ ap (λ (o : Option Ending). state due after (taken h dues) (map net_of visits) (run.retired + 1) run.starts o) (sym some) in
-        subst (IsStateOf (run_of due after left others selected (record { kept = visits; limit = limit }) (run.retired + 1) run.starts e)) (sym is)
+        ∙ ap (λ (o : Option Ending). state due after (taken h dues) (map net_of visits) (run.retired + 1) run.wakes run.starts o) (sym some) in
+        subst (IsStateOf (run_of due after left others selected (record { kept = visits; limit = limit }) (run.retired + 1) run.wakes run.starts e)) (sym is)
         (record { state = refl; dues = dues_left })
 
     -- the run goes on
     pub goes : (new : Keys) (selected : List ℕ) (limit starts : ℕ) → e ≡ None → setting.choice.speedup ≤ 95 → AllApart (started_by h fate others) → AreBegun (ticks_in setting after) due (started_by h fate others) left new
         → starts ≡ run.starts + length (selected_of setting after (started_by h fate others))
-        → IsStateOf (run_of due after new others selected (record { kept = visits; limit = limit }) (run.retired + 1) starts e) (move x (state_of run dues))
+        → IsStateOf (run_of due after new others selected (record { kept = visits; limit = limit }) (run.retired + 1) run.wakes starts e) (move x (state_of run dues))
     goes new selected limit starts none small apart begun counted =
         let hs : List ℕ = started_by h fate others in
-        let is : move x (state_of run dues) ≡ state due after (begun_dues after hs due (taken h dues)) (map net_of visits) (run.retired + 1) starts e =
+        let is : move x (state_of run dues) ≡ state due after (begun_dues after hs due (taken h dues)) (map net_of visits) (run.retired + 1) run.wakes starts e =
         moved
         ∙ ap (λ (o : Option Ending). over_or o rest (begin x hs due rest)) none
-        ∙ begin_is after hs due (taken h dues) (map net_of visits) (run.retired + 1) run.starts
-        ∙ ap (λ (n : ℕ). state due after (begun_dues after hs due (taken h dues)) (map net_of visits) (run.retired + 1) n None) (sym counted)
-        ∙ ap (λ (o : Option Ending). state due after (begun_dues after hs due (taken h dues)) (map net_of visits) (run.retired + 1) starts o) (sym none) in
-        subst (IsStateOf (run_of due after new others selected (record { kept = visits; limit = limit }) (run.retired + 1) starts e)) (sym is)
+        ∙ begin_is after hs due (taken h dues) (map net_of visits) (run.retired + 1) run.wakes run.starts
+        ∙ ap (λ (n : ℕ). state due after (begun_dues after hs due (taken h dues)) (map net_of visits) (run.retired + 1) run.wakes n None) (sym counted)
+        ∙ ap (λ (o : Option Ending). state due after (begun_dues after hs due (taken h dues)) (map net_of visits) (run.retired + 1) run.wakes starts o) (sym none) in
+        subst (IsStateOf (run_of due after new others selected (record { kept = visits; limit = limit }) (run.retired + 1) run.wakes starts e)) (sym is)
         (record { state = refl; dues = dues_begun after hs due left new (taken h dues) small apart dues_left begun })
 
   -- before the first move
-  at_first : shortened x 0 ≡ state 0 first (Some (due_at first 0 0) ∷ []) [] 0 (length (selected_of setting first (0 ∷ []))) None
+  at_first : shortened x 0 ≡ state 0 first (Some (due_at first 0 0) ∷ []) [] 0 0 (length (selected_of setting first (0 ∷ []))) None
   unfolding shortened begin unbegun cost cut
   at_first =
       let sum : 0 + length (selected_of setting first (0 ∷ [])) ≡ length (selected_of setting first (0 ∷ [])) = omega arith in
-      ap (λ (n : ℕ). state 0 first (Some (due_at first 0 0) ∷ []) [] 0 n None) sum
+      ap (λ (n : ℕ). state 0 first (Some (due_at first 0 0) ∷ []) [] 0 0 n None) sum
 
 pub first_key : (v : ℕ) (keys : Keys) → keys ≡ with_key 0 v (replicate 256 None) → (k : ℕ) → key_of keys k ≡ (if k == 0 then Some v else None)
 first_key v keys made k =
@@ -197,18 +197,18 @@ first_due v w (suc k) keys same is = is ∙ rw (ne_eqb (suc k) 0 (λ (e : suc k 
 
 pub first_state : (setting : Setting) (first g : Guest) (keys : Keys) (others selected : List ℕ) (visits : Visits) (starts : ℕ) → setting.choice.speedup ≤ 95 → g ≡ first → keys ≡ with_key 0 (0 + ticks_in setting g 0) (replicate 256 None)
     → visits.kept ≡ [] → starts ≡ length (selected_of setting g (0 ∷ []))
-    → IsStateOf (run_of 0 g keys others selected visits 0 starts None) (shortened (experiment_in setting first) 0)
+    → IsStateOf (run_of 0 g keys others selected visits 0 0 starts None) (shortened (experiment_in setting first) 0)
 first_state setting first g keys others selected visits starts small is made none counted =
     let due_is : 0 + ticks_in setting g 0 ≡ due_at setting first first 0 0 =
     ap (λ (g : Guest). 0 + ticks_in setting g 0) is ∙ ticks_less (selects setting) setting.choice.speedup 0 first 0 (omega arith) in
     let starts_is : length (selected_of setting first (0 ∷ [])) ≡ starts = ap (λ (g : Guest). length (selected_of setting g (0 ∷ []))) (sym is) ∙ sym counted in
     let dues : List (Option ℕ) = Some (due_at setting first first 0 0) ∷ [] in
-    subst (IsStateOf (run_of 0 g keys others selected visits 0 starts None)) (sym (at_first setting first))
+    subst (IsStateOf (run_of 0 g keys others selected visits 0 0 starts None)) (sym (at_first setting first))
     (record {
       state =
-          ap (λ (g : Guest). state 0 g dues [] 0 (length (selected_of setting first (0 ∷ []))) None) (sym is)
-          ∙ ap (λ (n : ℕ). state 0 g dues [] 0 n None) starts_is
-          ∙ ap (λ (vs : List Visit). state 0 g dues (map net_of vs) 0 starts None) (sym none);
+          ap (λ (g : Guest). state 0 g dues [] 0 0 (length (selected_of setting first (0 ∷ []))) None) (sym is)
+          ∙ ap (λ (n : ℕ). state 0 g dues [] 0 0 n None) starts_is
+          ∙ ap (λ (vs : List Visit). state 0 g dues (map net_of vs) 0 0 starts None) (sym none);
       dues = λ k. first_due (0 + ticks_in setting g 0) (due_at setting first first 0 0) k keys due_is (first_key (0 + ticks_in setting g 0) keys made k);
     })
 

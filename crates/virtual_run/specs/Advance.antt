@@ -11,7 +11,7 @@ use Rattle.virtual_run.specs.declared.choice.Setting.{Setting}
 use Rattle.virtual_run.specs.declared.run.Run.{Run}
 use Rattle.virtual_run.specs.Begin.{started_by, many}
 use Rattle.virtual_run.specs.Ending.{ending_of, runs_after}
-use Rattle.virtual_run.specs.Run.{experiment_in, selected_of, state_of, AreDues, AreWithin, IsStateOf}
+use Rattle.virtual_run.specs.Run.{experiment_in, selected_of, events_of, state_of, AreDues, AreWithin, IsStateOf}
 use Rattle.virtual_run.specs.Visits.{visits_of}
 
 -- in a setting this run becomes that one as a hart retires to this fate, where a visit is kept with this delay
@@ -33,5 +33,6 @@ pub record IsAdvance (setting : Setting) (run : Run) (hart : ℕ) (fate : Fate) 
   pub none_selected : IsSome new.ending → new.selected ≡ []
   pub room : length new.schedule ≡ 256
   pub retired : new.retired ≡ run.retired + 1
-  pub few : new.starts ≤ new.retired + many new.schedule
+  pub wakes : new.wakes ≡ run.wakes
+  pub few : new.starts ≤ events_of new + many new.schedule
   pub within : (moment : ℕ) → AreWithin moment run.schedule → AreWithin (moment + 4000) new.schedule

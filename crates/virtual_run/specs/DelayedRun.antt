@@ -16,7 +16,7 @@ use Rattle.delay_credits.specs.Delays.{Delays}
 use Rattle.guest_calls.specs.Guest.{Guest, making}
 use Rattle.virtual_run.specs.declared.choice.Setting.{Setting}
 use Rattle.virtual_run.specs.declared.run.Run.{Run}
-use Rattle.virtual_run.specs.Run.{IsChoice, IsReached}
+use Rattle.virtual_run.specs.Run.{events_of, IsChoice, IsReached}
 use Rattle.virtual_run.specs.Seen.{experiment_with}
 use Rattle.virtual_run.specs.Credited.{Holds}
 
@@ -65,16 +65,16 @@ AgreesThroughout x = (moves : ℕ) → Agrees (delayed x moves) (shortened x (ev
 abbrev pub EndsOnce : Experiment Guest → Type 0
 EndsOnce x = (r : Record) × IsDelayed x r × ((other : Record) → IsDelayed x other → other ≡ r)
 
--- the choice is within the limits, and the fields stand for the state after as many retirements as the engine counts
+-- the choice is within the limits, and the fields stand for the state after as many retirements and wakes as the engine counts
 pub record IsPaced (image : ImageParts) (input : List ℕ) (setting : Setting) (run : Run) (credits : Delays) (now : ℕ) : Type 0 where
   pub valid : IsChoice setting.choice
   pub reached : IsReached (experiment_with image input setting) run
-  pub holds : Holds credits (standing (experiment_with image input setting) run.retired)
+  pub holds : Holds credits (standing (experiment_with image input setting) (events_of run))
   pub room : length credits.harts ≡ 256
-  pub visits : map visit_as run.visits.kept ≡ (standing (experiment_with image input setting) run.retired).visits
-  pub moment : now ≡ (standing (experiment_with image input setting) run.retired).now
+  pub visits : map visit_as run.visits.kept ≡ (standing (experiment_with image input setting) (events_of run)).visits
+  pub moment : now ≡ (standing (experiment_with image input setting) (events_of run)).now
   pub soon : now ≤ 10 ^ 17
   pub trap : (ending : Ending) → run.ending ≡ Some ending → IsOfAHart ending
   -- what a fork copies, and what it raises the delay by
   pub made : making run.guest ≡ making (experiment_with image input setting).first
-  pub selected : run.selected ≡ filter ((experiment_with image input setting).guest.is_selected run.guest) (before (experiment_with image input setting) run.retired).harts
+  pub selected : run.selected ≡ filter ((experiment_with image input setting).guest.is_selected run.guest) (before (experiment_with image input setting) (events_of run)).harts

@@ -2,7 +2,7 @@
 use Rattle.std.specs.Prelude.{◌≡◌, ℕ, ◌-◌, ◌&&◌, ◌==◌, Bool, not, List, [], ◌∷◌, filter, Option, Some, None, is_some}
 use Rattle.hart_schedule.specs.Keys.{Keys, key_of, with_key, without_key}
 use Rattle.machines.specs.Guest.{Experiment}
-use Rattle.machines.specs.Delayed.{Delayed, is_any, delayed}
+use Rattle.machines.specs.Delayed.{Delayed, is_any, events, delayed}
 use Rattle.machines.specs.Standing.{standing}
 use Rattle.machines.specs.Lead.{Before, at_speedup, before}
 use Rattle.guest_calls.specs.Guest.{Guest}
@@ -53,5 +53,5 @@ with_sooner ticks (h ∷ hs) keys = with_sooner ticks hs (sooner_by (key_of keys
 pub record IsLead (m : Seen (Delayed Guest)) : Type 0 where
   pub valid : IsChoice m.choice
   pub whole : m.choice.speedup ≡ 0
-  pub stands : m.state ≡ standing (experiment_of m) m.state.retired
-  pub none : (before (experiment_of m) m.state.retired).state.starts ≡ 0
+  pub stands : m.state ≡ standing (experiment_of m) (events m.state)
+  pub none : (before (experiment_of m) (events m.state)).state.starts ≡ 0

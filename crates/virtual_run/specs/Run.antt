@@ -72,6 +72,10 @@ ticks_in setting = ticks_of (selects setting) setting.choice.speedup
 abbrev pub selected_of : Setting → Guest → List ℕ → List ℕ
 selected_of setting g = filter (λ hart. selects setting (pc_of g hart))
 
+-- the retirements and wakes so far
+abbrev pub events_of : Run → ℕ
+events_of run = run.retired + run.wakes
+
 -- the state of the shortened machine that the code's fields stand for, with these moments at which harts are due
 abbrev pub state_of : Run → List (Option ℕ) → Shortened Guest
 state_of run dues = record {
@@ -80,7 +84,7 @@ state_of run dues = record {
   dues = dues;
   visits = map net_of run.visits.kept;
   retired = run.retired;
-  wakes = 0;
+  wakes = run.wakes;
   starts = run.starts;
   ending = run.ending;
 }
@@ -108,22 +112,25 @@ pub record IsSteady (run : Run) : Type 0 where
   pub unfull : length run.visits.kept < run.visits.limit
   pub within : AreWithin (2 ^ 60) run.schedule
   pub retired : run.retired ≤ 2 ^ 60
-  pub few : run.starts ≤ run.retired + many run.schedule
+  pub wakes : run.wakes ≤ 2 ^ 60
+  pub few : run.starts ≤ events_of run + many run.schedule
 
--- the fields stand for the state after as many moves as instructions were retired
+-- the fields stand for the state after as many moves as instructions were retired and harts woken
 pub record IsReached (x : Experiment Guest) (run : Run) : Type 0 where
-  pub reached : IsStateOf run (shortened x run.retired)
+  pub reached : IsStateOf run (shortened x (events_of run))
   pub room : length run.schedule ≡ 256
   pub limit : run.visits.limit ≡ x.visit_limit
   pub unfull : run.ending ≡ None → length run.visits.kept < x.visit_limit
   pub retired : run.retired ≤ x.budget
-  pub few : run.starts ≤ run.retired + many run.schedule
-  pub within : AreWithin (4000 * (run.retired + 1)) run.schedule
+  pub few : run.starts ≤ events_of run + many run.schedule
+  -- a hart sleeps to a moment of at most 10^16, and an instruction takes at most 4,000 ticks
+  pub within : AreWithin (10 ^ 16 + 4000 * (events_of run + 1)) run.schedule
 
 -- as the run of an image on an input begins
 pub record IsFirst (setting : Setting) (image : ImageParts) (input : List ℕ) (run : Run) : Type 0 where
   pub reached : IsReached (experiment_in setting (first_guest image input setting.choice.output_limit setting.choice.layout)) run
   pub retired : run.retired ≡ 0
+  pub wakes : run.wakes ≡ 0
   pub ending : run.ending ≡ None
   pub kept : run.visits.kept ≡ []
   pub selected : run.selected ≡ selected_of setting run.guest (0 ∷ [])

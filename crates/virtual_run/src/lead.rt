@@ -23,6 +23,7 @@ pub struct Lead<'a> {
 }
 
 impl<'a> Model for Lead<'a> {
+    ghost use Rattle.machines.specs.Delayed.{events};
     ghost use Rattle.machines.specs.Lead.{Before, before};
     ghost use Rattle.guest_calls.specs.Guest.{Guest};
     ghost use Rattle.virtual_run.specs.Seen.{Seen, experiment_of};
@@ -36,14 +37,14 @@ impl<'a> Model for Lead<'a> {
       points = l.machine.points;
       input = l.machine.input;
       choice = record l.machine.choice { speedup = l.speedup };
-      state = before (experiment_of l.machine) l.machine.state.retired;
+      state = before (experiment_of l.machine) (events l.machine.state);
     } };
 
     ghost invariant = { λ l. IsLead l.machine };
 }
 
 impl<'a> Lead<'a> {
-    ghost use Rattle.machines.specs.Delayed.{unbegun, begin};
+    ghost use Rattle.machines.specs.Delayed.{unbegun, begin, events};
     ghost use Rattle.machines.specs.Standing.{standing};
     ghost use Rattle.machines.specs.Lead.{at_speedup};
     ghost use Rattle.line_index.specs.Index.{position_at};
@@ -117,7 +118,7 @@ impl<'a> Lead<'a> {
           choice = record self.now.choice { speedup = speedup };
           state = begin (at_speedup speedup (experiment_of self.now)) self.now.state.harts self.now.state.state;
         } }
-        ensures stands { machine.new.state ≡ standing (experiment_of machine.new) machine.new.state.retired }
+        ensures stands { machine.new.state ≡ standing (experiment_of machine.new) (events machine.new.state) }
     {
         machine.fork_from(&self.machine, speedup);
     }

@@ -39,6 +39,7 @@ impl<'a> Model for Machine<'a> {
     ghost use Rattle.machines.specs.Standing.{standing};
     ghost use Rattle.guest_calls.specs.Guest.{Guest};
     ghost use Rattle.virtual_run.specs.Seen.{Seen, experiment_with};
+    ghost use Rattle.virtual_run.specs.Run.{events_of};
     ghost use Rattle.virtual_run.specs.DelayedRun.{IsPaced};
 
     ghost Value = { Seen (Delayed Guest) };
@@ -49,13 +50,15 @@ impl<'a> Model for Machine<'a> {
       points = m.setting.points.now;
       input = m.input.now;
       choice = m.setting.choice;
-      state = standing (experiment_with m.image.now m.input.now m.setting) m.run.retired;
+      state = standing (experiment_with m.image.now m.input.now m.setting) (events_of m.run);
     } };
 
     ghost invariant = { λ m. IsPaced m.image.now m.input.now m.setting m.run m.credits m.moment };
 }
 
 impl<'a> Machine<'a> {
+    ghost use Rattle.machines.specs.Guest.{enough};
+    ghost use Rattle.machines.specs.Delayed.{events};
     ghost use Rattle.machines.specs.Shortened.{shortened};
     ghost use Rattle.machines.specs.Agreement.{Agrees};
     ghost use Rattle.machines.specs.Steps.{Steps};
@@ -114,15 +117,27 @@ impl<'a> Machine<'a> {
     /// further step changes nothing and gives the same.
     pub fn step(&mut self) -> Option<Ending>
         ensures ended { result ≡ self.new.state.ending }
-        ensures next { self.old.state.ending ≡ None → self.new.state ≡ standing (experiment_of self.old) (self.old.state.retired + 1) }
+        ensures next { self.old.state.ending ≡ None → self.new.state ≡ standing (experiment_of self.old) (events self.new.state) }
         ensures steps { self.old.state.ending ≡ None → Steps (experiment_of self.old) self.old.state self.new.state }
         ensures over { IsSome self.old.state.ending → self.new.state ≡ self.old.state }
         ensures rest { self.new ≡ record self.old { state = self.new.state } }
-        ensures agrees { Agrees self.new.state (shortened (experiment_of self.old) self.new.state.retired) }
+        ensures agrees { Agrees self.new.state (shortened (experiment_of self.old) (events self.new.state)) }
     {
         if self.run.ending.is_some() {
             return self.run.ending;
         }
+        self.event();
+        self.run.ending
+    }
+
+    /// One event of a run that goes on: the hart that is due first retires, and what this started begins.
+    fn event(&mut self)
+        requires { self.old.state.ending ≡ None }
+        ensures next { self.new.state ≡ standing (experiment_of self.old) (events self.old.state + 1) }
+        ensures count { events self.new.state ≡ events self.old.state + 1 }
+        ensures steps { Steps (experiment_of self.old) self.old.state self.new.state }
+        ensures rest { self.new ≡ record self.old { state = self.new.state } }
+    {
         let raised = self.credits.raised();
         let retired = self.run.advance(&self.setting, raised);
         self.moment = self.run.time + raised;
@@ -133,7 +148,6 @@ impl<'a> Machine<'a> {
             self.setting.choice.speedup,
             self.moment,
         );
-        self.run.ending
     }
 
     /// Runs to the end, and gives it. A further run changes nothing and gives the same.
@@ -145,9 +159,9 @@ impl<'a> Machine<'a> {
         ensures shortened { let x = experiment_of self.old in IsShortened x (shortened_record x) }
         ensures moves { AgreesThroughout (experiment_of self.old) }
         ensures one { EndsOnce (experiment_of self.old) }
-        ensures last { self.new.state ≡ standing (experiment_of self.old) self.old.choice.budget }
+        ensures last { let x = experiment_of self.old in self.new.state ≡ standing x (enough x) }
         ensures rest { self.new ≡ record self.old { state = self.new.state } }
-        ensures agrees { Agrees self.new.state (shortened (experiment_of self.old) self.old.choice.budget) }
+        ensures agrees { let x = experiment_of self.old in Agrees self.new.state (shortened x (enough x)) }
     {
         let mut ending = self.run.ending;
         while ending.is_none() {
@@ -175,17 +189,17 @@ impl<'a> Machine<'a> {
 
     /// Runs up to the first beginning that counts a start, or to the end.
     pub(crate) fn lead(&mut self) -> Option<Ending>
-        requires none { (before (experiment_of self.old) self.old.state.retired).state.starts ≡ 0 }
+        requires none { (before (experiment_of self.old) (events self.old.state)).state.starts ≡ 0 }
         ensures ended { result ≡ self.new.state.ending }
         ensures stops { is_unstarted self.new.state ≡ false }
-        ensures none { (before (experiment_of self.old) self.new.state.retired).state.starts ≡ 0 }
-        ensures stands { self.new.state ≡ standing (experiment_of self.old) self.new.state.retired }
+        ensures none { (before (experiment_of self.old) (events self.new.state)).state.starts ≡ 0 }
+        ensures stands { self.new.state ≡ standing (experiment_of self.old) (events self.new.state) }
         ensures stays { is_unstarted self.old.state ≡ false → self.new ≡ self.old }
         ensures rest { self.new ≡ record self.old { state = self.new.state } }
     {
         let mut going = self.run.is_unstarted();
         while going {
-            self.step();
+            self.event();
             going = self.is_unstarted();
         }
         self.ending()
@@ -197,10 +211,10 @@ impl<'a> Machine<'a> {
         requires small { speedup ≤ 95 }
         requires arguments { arguments self.old ≡ arguments lead.now }
         requires whole { lead.now.choice.speedup ≡ 0 }
-        requires none { (before (experiment_of lead.now) lead.now.state.retired).state.starts ≡ 0 }
+        requires none { (before (experiment_of lead.now) (events lead.now.state)).state.starts ≡ 0 }
         ensures { self.new ≡ record lead.now {
           choice = record lead.now.choice { speedup = speedup };
-          state = standing (at_speedup speedup (experiment_of lead.now)) lead.now.state.retired;
+          state = standing (at_speedup speedup (experiment_of lead.now)) (events lead.now.state);
         } }
     {
         self.image = lead.image;
@@ -218,7 +232,7 @@ impl<'a> Machine<'a> {
     pub(crate) fn again_from(&mut self, first: &Machine<'a>, line: LineId)
         requires arguments { arguments self.old ≡ arguments first.now }
         requires whole { first.now.choice.speedup ≡ 0 }
-        requires none { first.now.state.retired ≡ 0 }
+        requires none { events first.now.state ≡ 0 }
         ensures { self.new ≡ record first.now {
           choice = record first.now.choice { selected = Some line };
           state = standing (experiment_of self.new) 0;
@@ -252,7 +266,7 @@ impl<'a> Machine<'a> {
     pub fn net_due(&self, hart: HartId) -> Option<Tick>
         ensures due { result ≡ net_due_of self.now.state hart.0 }
         ensures shortened { self.now.state.ending ≡ None →
-            result ≡ key_of (shortened (experiment_of self.now) self.now.state.retired).dues hart.0 }
+            result ≡ key_of (shortened (experiment_of self.now) (events self.now.state)).dues hart.0 }
     {
         match self.run.ending {
             Some(_) => None,
@@ -280,11 +294,12 @@ impl<'a> Machine<'a> {
         self.run.guest.harts()
     }
 
-    /// How many instructions were retired. The run stands after as many retirements, beside the shortened machine.
+    /// How many instructions were retired. The run stands after as many retirements and wakes as it counts, beside the
+    /// shortened machine.
     pub fn retired(&self) -> u64
         ensures count { result ≡ self.now.state.retired }
-        ensures stands { self.now.state ≡ standing (experiment_of self.now) result }
-        ensures agrees { Agrees self.now.state (shortened (experiment_of self.now) result) }
+        ensures stands { self.now.state ≡ standing (experiment_of self.now) (events self.now.state) }
+        ensures agrees { Agrees self.now.state (shortened (experiment_of self.now) (events self.now.state)) }
     {
         self.run.retired
     }

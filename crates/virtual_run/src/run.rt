@@ -40,6 +40,8 @@ pub struct Run<'a> {
     /// When the last retirement was, in net ticks.
     pub(crate) time: Tick,
     pub(crate) retired: u64,
+    /// How often a sleeping hart was woken.
+    pub(crate) wakes: u64,
     /// How many selected instructions were begun.
     pub(crate) starts: u64,
     pub(crate) ending: Option<Ending>,
@@ -174,6 +176,7 @@ impl<'a> Run<'a> {
             visits,
             time: 0,
             retired: 0,
+            wakes: 0,
             starts,
             ending: None,
         })
@@ -229,6 +232,7 @@ impl<'a> Run<'a> {
         self.visits.copy_from(&other.visits);
         self.time = other.time;
         self.retired = other.retired;
+        self.wakes = other.wakes;
         self.starts = other.starts;
         self.ending = other.ending;
     }

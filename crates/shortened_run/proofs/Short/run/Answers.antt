@@ -34,7 +34,7 @@ loop-self-preserved c =
         valid = short.valid;
         reached =
             reached_next now.image.now (position_at now.setting.index.now) (point_of now.setting.points.now) now.input.now now.setting.choice short.valid now.run short.reached new none
-            (did.moved first _ short.reached.reached.dues) did.room (ap (λ (vs : Visits). vs.limit) did.visits) did.unfull did.retired did.few did.within;
+            (did.moved first _ short.reached.reached.dues) did.room (ap (λ (vs : Visits). vs.limit) did.visits) did.unfull did.retired did.wakes did.few did.within;
         undelayed =
             more_undelayed now.run.visits.kept new.visits.kept (point_of now.setting.points.now (pc_of now.run.guest c.advance.result.hart.0)) c.advance.result.hart.0 (new.time + 0)
             (ap (λ (vs : Visits). vs.kept) did.visits) short.undelayed;

@@ -3,6 +3,7 @@ use Rattle.delay_credits.specs.Delays.{Delays}
 use Rattle.machines.specs.Lead.{before}
 use Rattle.virtual_run.specs.Credited.{raise_ticks, with_raises, AllRun, AllMade}
 use Rattle.virtual_run.specs.declared.run.Run.{Run}
+use Rattle.virtual_run.specs.Run.{events_of}
 use Rattle.virtual_run.specs.DelayedRun.{IsPaced}
 use Rattle.virtual_run.specs.Lead.{with_sooner}
 use Rattle.virtual_run.specs.Seen.{experiment_with}
@@ -25,7 +26,7 @@ raise_selected-requires-clause-made c =
 pub raise_selected-requires-clause-few : goal.raise_selected-requires-clause-few
 raise_selected-requires-clause-few c =
     let m = c.lead.inside in
-    let none : (before (experiment_with m.image.now m.input.now m.setting) m.run.retired).state.starts ≡ 0 =
+    let none : (before (experiment_with m.image.now m.input.now m.setting) (events_of m.run)).state.starts ≡ 0 =
     none_counted m.image.now m.input.now m.setting m.run m.credits m.moment c.lead.invariant c.args.lead.now c.lead.view_is c.requires.none in
     subst (λ (credits : Delays). credits.raised + 3800 * length c.copy_from.new.self.selected ≤ 10 ^ 17) (sym c.copy_from-2.ensures)
     (selected_few m.image.now m.input.now m.setting m.run m.credits m.moment c.lead.invariant c.copy_from.new.self.selected (ap (λ (r : Run). r.selected) c.copy_from.ensures) none)
@@ -41,7 +42,7 @@ invariant_of-self c =
     let m = c.lead.inside in
     let q : ℕ = c.args.speedup in
     let whole : m.setting.choice.speedup ≡ 0 = whole_seen m.image.now m.input.now m.setting m.run m.credits m.moment c.lead.invariant c.args.lead.now c.lead.view_is c.requires.whole in
-    let none : (before (experiment_with m.image.now m.input.now m.setting) m.run.retired).state.starts ≡ 0 =
+    let none : (before (experiment_with m.image.now m.input.now m.setting) (events_of m.run)).state.starts ≡ 0 =
     none_counted m.image.now m.input.now m.setting m.run m.credits m.moment c.lead.invariant c.args.lead.now c.lead.view_is c.requires.none in
     subst (λ (r : Run). IsPaced m.image.now m.input.now (sped_setting q m.setting) r c.raise_selected.new.credits m.moment)
     (sym (c.hasten.ensures ∙ ap (λ (r : Run). record r { schedule = with_sooner (raise_ticks r.guest q) r.selected r.schedule }) c.copy_from.ensures))
@@ -53,4 +54,4 @@ pub returns : goal.returns
 returns c =
     let m = c.lead.inside in
     forked_seen m.image.now m.input.now m.setting m.run m.credits m.moment c.lead.invariant c.args.lead.now c.lead.view_is c.args.speedup c.hasten.new.self
-    (ap (λ (r : Run). r.retired) c.hasten.ensures ∙ ap (λ (r : Run). r.retired) c.copy_from.ensures)
+    (ap events_of c.hasten.ensures ∙ ap events_of c.copy_from.ensures)

@@ -1,5 +1,5 @@
 use Rattle.std.proofs.Common.{sym, ◌∙◌}
-use Rattle.virtual_run.proofs.Leads.{unstarted_seen, led_first, led_next, led_smaller}
+use Rattle.virtual_run.proofs.Leads.{goes_unstarted, unstarted_seen, led_first, led_next, led_smaller}
 use Rattle.virtual_run.proofs.machine.Machine.lead.Goals as goal
 
 pub loop-going-init : goal.loop-going-init
@@ -11,13 +11,16 @@ loop-going-init c =
 
 pub loop-going-preserved : goal.loop-going-preserved
 loop-going-preserved c =
-    let e = c.step.ensures in
-    (led_next c.args.self.now c.loop-going.self c.loop-going.invariant.0 (sym c.loop-going.invariant.1 ∙ c.loop-going-test.true) c.step.new.self e.next e.steps e.rest, c.is_unstarted-going-in-loop-going.ensures)
+    let e = c.event.ensures in
+    (led_next c.args.self.now c.loop-going.self c.loop-going.invariant.0 (sym c.loop-going.invariant.1 ∙ c.loop-going-test.true) c.event.new.self e.next e.count e.rest, c.is_unstarted-going-in-loop-going.ensures)
+
+pub event-requires : goal.event-requires
+event-requires c = (goes_unstarted c.loop-going.self.state (sym c.loop-going.invariant.1 ∙ c.loop-going-test.true)).0
 
 pub loop-going-smaller : goal.loop-going-smaller
 loop-going-smaller c =
-    let e = c.step.ensures in
-    led_smaller c.args.self.now c.loop-going.self c.loop-going.invariant.0 (sym c.loop-going.invariant.1 ∙ c.loop-going-test.true) c.step.new.self e.next e.steps e.rest
+    let e = c.event.ensures in
+    led_smaller c.args.self.now c.loop-going.self c.loop-going.invariant.0 (sym c.loop-going.invariant.1 ∙ c.loop-going-test.true) c.event.new.self e.next e.count e.rest
 
 pub returns-clause-stops : goal.returns-clause-stops
 returns-clause-stops c = sym c.loop-going.invariant.1 ∙ c.loop-going-test.false
@@ -26,10 +29,10 @@ pub returns-clause-none : goal.returns-clause-none
 returns-clause-none c = c.loop-going.invariant.0.none
 
 pub returns-clause-stands : goal.returns-clause-stands
-returns-clause-stands c = c.loop-going.invariant.0.going.stands
+returns-clause-stands c = c.loop-going.invariant.0.at.stands
 
 pub returns-clause-stays : goal.returns-clause-stays
 returns-clause-stays c over = c.loop-going.invariant.0.stays over
 
 pub returns-clause-rest : goal.returns-clause-rest
-returns-clause-rest c = c.loop-going.invariant.0.going.rest
+returns-clause-rest c = c.loop-going.invariant.0.at.rest

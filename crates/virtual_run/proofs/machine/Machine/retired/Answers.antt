@@ -2,7 +2,7 @@ use Rattle.std.proofs.Common.{ap, sym, ◌∙◌}
 use Rattle.machines.specs.Delayed.{Delayed}
 use Rattle.guest_calls.specs.Guest.{Guest}
 use Rattle.virtual_run.specs.Seen.{Seen}
-use Rattle.virtual_run.proofs.CreditedRun.{retired_now, stands_seen, agrees_so_far}
+use Rattle.virtual_run.proofs.CreditedRun.{retired_now, stands_seen, agrees_seen}
 use Rattle.virtual_run.proofs.machine.Machine.retired.Goals as goal
 
 pub returns-clause-count : goal.returns-clause-count
@@ -18,4 +18,4 @@ returns-clause-stands c =
 pub returns-clause-agrees : goal.returns-clause-agrees
 returns-clause-agrees c =
     let m = c.self.inside in
-    agrees_so_far m.image.now m.input.now m.setting m.run m.credits m.moment c.self.invariant c.args.self.now c.self.view_is
+    agrees_seen m.image.now m.input.now m.setting m.run m.credits m.moment c.self.invariant c.args.self.now c.self.view_is

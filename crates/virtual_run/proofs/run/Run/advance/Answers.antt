@@ -49,6 +49,7 @@ begin_started-requires-clause-few c =
     let few : many c.args.self.now.schedule ≤ length c.args.self.now.schedule = many_few c.args.self.now.schedule in
     let room : length c.args.self.now.schedule ≡ 256 = c.requires.steady.room in
     let retired = c.requires.steady.retired in
+    let wakes = c.requires.steady.wakes in
     let starts = c.requires.steady.few in
     omega arith
 
@@ -91,6 +92,6 @@ returns c =
           let e : Option Ending = w.ending_after-self.result in
           let some = some_when e (ap is_some w.ending_after-self.ensures ∙ sym c.ends_with.ensures ∙ w.if-ends_with.true) in
           subst IsNext (sym w.self-is)
-          (subst (λ (keys : Keys). IsNext (run_of due after keys others c.clear-2.new.self now (s.retired + 1) s.starts e)) (sym (w.take.ensures.rest ∙ again))
+          (subst (λ (keys : Keys). IsNext (run_of due after keys others c.clear-2.new.self now (s.retired + 1) s.wakes s.starts e)) (sym (w.take.ensures.rest ∙ again))
           (advance_ended setting s left h due c.args.delay after fate others now c.pc-address.result e (l e w.ending_after-self.ensures) some.0 c.clear-2.new.self some.1 c.clear-2.ensures))
     ]
