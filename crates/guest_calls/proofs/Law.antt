@@ -6,11 +6,10 @@ use Rattle.std.proofs.Math.Dec.{eqb-suc-zero}
 use Rattle.coz_types.specs.declared.ending.Ending.TheVariants.{Trapped}
 use Rattle.coz_types.specs.declared.ending.Trap.{Trap}
 use Rattle.coz_types.specs.Image.{ImageParts}
-use Rattle.machines.specs.declared.Fate.TheVariants.{Sleeps, Ends}
+use Rattle.machines.specs.declared.Fate.{Fate}
+use Rattle.machines.specs.declared.Fate.TheVariants.{Goes, Waits, Leaves, Sleeps, Ends}
 use Rattle.machines.specs.Places.{is_among}
-use Rattle.machines.specs.Guest.{IsLawful, started, own_ending, sleeps}
-use Rattle.machines.specs.Delayed.{fresh}
-use Rattle.machines.proofs.Wakeless.{rests}
+use Rattle.machines.specs.Guest.{IsLawful, IsLater, started, own_ending, sleeps}
 use Rattle.guest_memory.specs.declared.Layout.{Layout}
 use Rattle.guest_calls.specs.Guest.{Guest, making, is_running, hart_at, is_sleeping, is_sleeping_status, is_timed, sleepers, with_wake, first_guest}
 use Rattle.guest_calls.specs.declared.hart.HartStatus.TheVariants.{Running}
@@ -20,7 +19,7 @@ use Rattle.guest_calls.specs.Plug.{plug}
 use Rattle.guest_calls.specs.Orderly.{IsOrderly}
 pub use Rattle.guest_calls.proofs.Started.{running_low, timed_low}
 use Rattle.guest_calls.proofs.Waiting.{waiting-elsewhere, others-moving}
-use Rattle.guest_calls.proofs.RunningHarts.{made_timed, runs_awake, timed_put, asleep_less, none_asleep, status_at}
+use Rattle.guest_calls.proofs.RunningHarts.{made_timed, runs_awake, timed_put, asleep_less, status_at}
 use Rattle.guest_calls.proofs.Retired.{call_started, retire_started}
 
 -- a hart that a retirement starts has its next turn after it
@@ -38,8 +37,15 @@ pub others_idle : (g : Guest) (h v : ℕ) → IsOrderly g → is_running g h ≡
 others_idle g h v good runs = (retire_started g h v good runs).idle
 
 -- no retirement puts its hart to sleep
-pub never_sleeps : (g : Guest) (h v : ℕ) → IsOrderly g → is_running g h ≡ true → sleeps (retire g h v).fate ≡ false
+never_sleeps : (g : Guest) (h v : ℕ) → IsOrderly g → is_running g h ≡ true → sleeps (retire g h v).fate ≡ false
 never_sleeps g h v good runs = (retire_started g h v good runs).awake
+
+later_by : (fate : Fate) (v : ℕ) → sleeps fate ≡ false → IsLater v fate
+later_by Goes v awake = tt
+later_by Waits v awake = tt
+later_by Leaves v awake = tt
+later_by (Sleeps moment) v awake = absurd (let no : true ≡ false = awake in cc)
+later_by (Ends ending) v awake = tt
 
 -- the moment of a wake is small
 pub sleeps_few : (g : Guest) (h v : ℕ) → IsOrderly g → is_running g h ≡ true → (moment : ℕ) → (retire g h v).fate ≡ Sleeps moment → moment ≤ 10 ^ 16
@@ -48,10 +54,6 @@ sleeps_few g h v good runs moment is = absurd (let never : true ≡ false = ap s
 -- a running hart doesn't sleep
 pub running_awake : (g : Guest) (h : ℕ) → is_running g h ≡ true → is_sleeping g h ≡ false
 running_awake g h runs = runs_awake (status_at g.harts h) runs
-
--- where none sleeps, no hart does
-pub none_sleeps : (g : Guest) (h : ℕ) → sleepers g ≡ 0 → is_sleeping g h ≡ false
-none_sleeps g h none = none_asleep g.harts h none
 
 -- a trap is that of the hart that retires
 pub own_trap : (g : Guest) (h v : ℕ) → IsOrderly g → is_running g h ≡ true → (t : Trap) → (retire g h v).fate ≡ Ends (Trapped t) → t.hart.0 ≡ h
@@ -117,7 +119,7 @@ lawful has_selected point_at image input output_limit layout speedup budget visi
   stays_good = λ g h v good runs. (retire_started g h v good runs).orderly;
   apart = λ g h v good runs. (retire_started g h v good runs).apart;
   running = λ g h v good runs. (retire_started g h v good runs).timed;
-  sleeps_later = λ g h v good runs. (rests (retire g h v).fate v fresh (retire_started g h v good runs).awake).2;
+  sleeps_later = λ g h v good runs. later_by (retire g h v).fate v (retire_started g h v good runs).awake;
   sleeps_one = λ g h v good runs. (retire_started g h v good runs).asleep;
   wakes_good = wake_orderly;
   wakes = wake_timed;

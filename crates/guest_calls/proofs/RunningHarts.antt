@@ -208,13 +208,3 @@ asleep_each (h ∷ hs) harts awake =
 pub asleep_woken : (harts : List Hart) (address : ℕ) (ws : List Waiter) (count : ℕ) → AreWaiting harts ws → sleepers_of (with_running_each (woken address ws count) harts) ≡ sleepers_of harts
 asleep_woken harts address ws count waiting =
     asleep_each (woken address ws count) harts (λ k among. or_false (sleeps_at harts k) (runs_at harts k) (woken_idle harts k address ws count waiting among))
-
--- where none sleeps, no hart does
-pub none_asleep : (harts : List Hart) (h : ℕ) → sleepers_of harts ≡ 0 → sleeps_at harts h ≡ false
-none_asleep [] h none = refl
-none_asleep (x ∷ xs) zero none =
-    ⊎_elim
-    (λ (asleep : is_sleeping_status x.status ≡ true). absurd (let one : sleepers_of xs + 1 ≡ 0 = rw asleep at none in omega arith))
-    (λ (awake : is_sleeping_status x.status ≡ false). awake)
-    (cases_Bool (is_sleeping_status x.status))
-none_asleep (x ∷ xs) (suc h) none = none_asleep xs h (omega arith)

@@ -89,6 +89,10 @@ module _ {G : Type 0} (x : Experiment G) where
   unfolding turned
   turned_awake h d awake = rw awake refl
 
+  turned_asleep : (h : ℕ) (d : Delayed G) → x.guest.is_sleeping d.guest h ≡ true → (turned x h d).harts ≡ h ∷ []
+  unfolding turned woken
+  turned_asleep h d asleep = rw asleep refl
+
   move_turns : (h : ℕ) (d : Delayed G) → d.ending ≡ None → first_place is_ready d.harts ≡ Some h → before_move x d ≡ turned x h d
   unfolding before_move before_by
   move_turns h d none ready = ap₂ (λ o r. before_by x o r d) none ready
@@ -141,6 +145,20 @@ module _ {G : Type 0} (x : Experiment G) (Good : G → Type 0) (law : IsLawful x
       ap (λ b. b.harts) is
       ∙ left_goes x c.0 j (ap (λ b. b.state.ending) (sym is) ∙ sym (before_ending x (suc n)) ∙ goes)
       ∙ ap₂ (λ g (u : Turn). started u.hart (x.guest.retire g u.hart u.due)) guest same
+
+  -- after a wake the woken hart begins
+  pub wakes_begins : (n : ℕ) (t : Turn) → (standing x n).ending ≡ None → next_turn (shortened x n).dues ≡ Some t → x.guest.is_sleeping (shortened x n).guest t.hart ≡ true → (before x (suc n)).harts ≡ t.hart ∷ []
+  wakes_begins n t none turn_is asleep =
+      let d : Delayed G = standing x n in
+      let k : ℕ = ticks_left d.harts in
+      let j : Delayed G = jump k d in
+      let c = comes_at x Good law n none in
+      let same : turn x c.0 j ≡ t = same_turn (turn x c.0 j) t (sym c.1.turn ∙ turn_is) in
+      let guest : j.guest ≡ (shortened x n).guest = jump_guest x k d ∙ (agrees x Good law n).guest in
+      let sits : x.guest.is_sleeping j.guest c.0 ≡ true = ap₂ (λ g h. x.guest.is_sleeping g h) guest (ap (λ (u : Turn). u.hart) same) ∙ asleep in
+      let is : before x (suc n) ≡ turned x c.0 j =
+      before_suc x n ∙ ap (before_move x) (jump_is x k d none (λ i. all_have d.harts i)) ∙ move_turns x c.0 j (jump_goes x k d none) c.1.ready in
+      ap (λ b. b.harts) is ∙ turned_asleep x c.0 j sits ∙ ap (λ (u : Turn). u.hart ∷ []) same
 
   -- the harts that begin are all different
   pub begins_apart : (n : ℕ) → AllApart (before x n).harts

@@ -1,5 +1,5 @@
 -- What holds of a shortened run from move to move, and at its end.
-use Rattle.std.proofs.Common.{◌≡◌, ℕ, List, [], ◌++◌, Option, Some, None, refl, sym, subst}
+use Rattle.std.proofs.Common.{◌≡◌, ℕ, ◌+◌, ◌*◌, ◌<◌, List, [], ◌++◌, Option, Some, None, refl, sym, ap, subst, arith}
 use Rattle.std.proofs.lemmas.List.Elements.{All-nil, All-cons, All-append}
 use Rattle.coz_types.specs.declared.ending.Ending.{Ending}
 use Rattle.coz_types.specs.declared.record.Visit.{Visit}
@@ -9,14 +9,17 @@ use Rattle.machines.specs.Shortened.{Shortened, shortened}
 use Rattle.machines.specs.Records.{net_record_of, IsShortened, shortened_record}
 use Rattle.line_index.specs.Index.{Index, position_at}
 use Rattle.progress_points.specs.Points.{Points, point_of}
-use Rattle.guest_calls.specs.Guest.{Guest}
+use Rattle.guest_calls.specs.Guest.{Guest, first_guest, pc_of}
 use Rattle.virtual_run.specs.declared.choice.Choice.{Choice}
 use Rattle.virtual_run.specs.declared.choice.Setting.{Setting}
+use Rattle.virtual_run.specs.declared.run.Event.{Event}
+use Rattle.virtual_run.specs.declared.run.Event.TheVariants.{Woke, Retired}
 use Rattle.virtual_run.specs.declared.run.Run.{Run}
+use Rattle.virtual_run.specs.Advance.{IsAdvance}
 use Rattle.virtual_run.specs.Run.{events_of}
-use Rattle.virtual_run.specs.Visits.{visits_of}
+use Rattle.virtual_run.specs.Visits.{Visits, visits_of}
 use Rattle.virtual_run.specs.Seen.{Seen, experiment_with}
-use Rattle.virtual_run.proofs.Law.{recorded_now, last_now, shortened_is}
+use Rattle.virtual_run.proofs.Law.{reached_next, reached_woken, events_below, recorded_now, last_now, shortened_is}
 use Rattle.shortened_run.specs.ShortenedRun.{AreUndelayed, IsShort}
 
 pub none_undelayed : AreUndelayed []
@@ -29,6 +32,35 @@ one_undelayed (Some p) h time = All-cons (λ visit. visit.delay ≡ 0) (record {
 
 pub more_undelayed : (old new : List Visit) (point : Option ℕ) (h time : ℕ) → new ≡ old ++ visits_of point h time 0 → AreUndelayed old → AreUndelayed new
 more_undelayed old new point h time is before = subst AreUndelayed (sym is) (All-append (λ visit. visit.delay ≡ 0) old (visits_of point h time 0) before (one_undelayed point h time))
+
+-- an event keeps it, and is one more
+module _ (image : ImageParts) (input : List ℕ) (setting : Setting) (run : Run) (short : IsShort image input setting run) (none : run.ending ≡ None) (new : Run) where
+  pub short_next : (event : Event) → IsAdvance setting run event 0 new → IsShort image input setting new
+  short_next (Woke turn) did =
+      let same : new.visits ≡ run.visits = ap (λ (o : Run). o.visits) did.rest in
+      record {
+        valid = short.valid;
+        reached =
+            reached_woken image (position_at setting.index.now) (point_of setting.points.now) input setting.choice short.valid run short.reached new none
+            (did.moved (first_guest image input setting.choice.output_limit setting.choice.layout) _ short.reached.reached.dues) did.room same (ap (λ (o : Run). o.retired) did.rest) did.wakes did.few did.within;
+        undelayed = subst (λ (v : Visits). AreUndelayed v.kept) (sym same) short.undelayed;
+      }
+  short_next (Retired retired) did = record {
+    valid = short.valid;
+    reached =
+        reached_next image (position_at setting.index.now) (point_of setting.points.now) input setting.choice short.valid run short.reached new none
+        (did.moved (first_guest image input setting.choice.output_limit setting.choice.layout) _ short.reached.reached.dues) did.room (ap (λ (vs : Visits). vs.limit) did.visits) did.unfull did.retired did.wakes did.few did.within;
+    undelayed =
+        more_undelayed run.visits.kept new.visits.kept (point_of setting.points.now (pc_of run.guest retired.hart.0)) retired.hart.0 (new.time + 0)
+        (ap (λ (vs : Visits). vs.kept) did.visits) short.undelayed;
+  }
+
+  pub short_count : (event : Event) → IsAdvance setting run event 0 new → events_of new ≡ events_of run + 1
+  short_count (Woke turn) did = omega (arith, ap (λ (o : Run). o.retired) did.rest, did.wakes)
+  short_count (Retired retired) did = omega (arith, did.retired, did.wakes)
+
+  pub short_below : events_of run < 2 * setting.choice.budget
+  short_below = events_below image (position_at setting.index.now) (point_of setting.points.now) input setting.choice short.valid run short.reached none
 
 module _ (image : ImageParts) (input : List ℕ) (setting : Setting) (run : Run) (short : IsShort image input setting run) (old : Experiment Guest) (same : old ≡ experiment_with image input setting) where
   abbrev x : Experiment Guest

@@ -1,33 +1,36 @@
 -- One move of the engine, from its calls.
-use Rattle.std.proofs.Common.{◌≡◌, ℕ, ◌+◌, ◌≤◌, ◌<◌, false, List, [], ◌++◌, length, nat_le, true, Option, Some, None, IsSome, is_some, refl, ap, subst, sym, ◌∙◌, arith}
+use Rattle.std.proofs.Common.{◌≡◌, ℕ, ◌+◌, ◌^◌, ◌≤◌, ◌<◌, false, List, [], ◌∷◌, ◌++◌, length, nat_le, true, Option, Some, None, IsSome, is_some, refl, ap, subst, sym, ◌∙◌, arith}
 use Rattle.std.proofs.lemmas.Bool.Decides.{nat_tests}
 use Rattle.std.proofs.lemmas.List.{length-set}
 use Rattle.coz_types.specs.declared.ending.Ending.{Ending}
-use Rattle.hart_schedule.specs.Keys.{Keys, key_of, without_key, IsLeast}
+use Rattle.hart_schedule.specs.Keys.{Keys, key_of, with_key, without_key, IsLeast}
 use Rattle.machines.specs.declared.Fate.{Fate}
-use Rattle.machines.specs.Guest.{Retirement, sleeps}
+use Rattle.machines.specs.declared.Fate.TheVariants.{Sleeps}
+use Rattle.machines.specs.Guest.{Retirement}
 use Rattle.progress_points.specs.Points.{point_of}
-use Rattle.guest_calls.specs.Guest.{Guest, pc_of}
+use Rattle.guest_calls.specs.Guest.{Guest, pc_of, is_running, is_sleeping, with_wake}
 use Rattle.guest_calls.specs.Retire.{retire}
-use Rattle.guest_calls.proofs.Law.{never_sleeps, running_awake}
+use Rattle.guest_calls.proofs.Law.{sleeps_few, running_awake}
 use Rattle.virtual_run.specs.declared.choice.Setting.{Setting}
 use Rattle.virtual_run.specs.declared.run.Run.{Run}
 use Rattle.virtual_run.specs.Visits.{Visits, visits_of}
-use Rattle.virtual_run.specs.Begin.{started_by, many, AreIdle, AreBegun}
+use Rattle.virtual_run.specs.Begin.{started_by, rested, many, AreIdle, AreBegun}
 use Rattle.virtual_run.specs.Ending.{ending_of, runs_after}
-use Rattle.virtual_run.specs.Run.{selects, selected_of, ticks_in, events_of, IsSteady}
-use Rattle.virtual_run.specs.Advance.{IsAdvance}
-use Rattle.virtual_run.proofs.Many.{many_without}
-use Rattle.virtual_run.proofs.Begin.{ticks_few, within_begun, within_left, within_later}
-use Rattle.virtual_run.proofs.Law.{IsTurn, started_idle, none_own, none_full}
-use Rattle.virtual_run.proofs.Moves.{IsMove, run_of, outcome, net_kept, ended, goes}
+use Rattle.virtual_run.specs.Run.{selects, selected_of, ticks_in, events_of, AreWithin, IsSteady}
+use Rattle.virtual_run.specs.Advance.{IsRetired, IsWoken}
+use Rattle.virtual_run.proofs.Keys.{has_place, rested_length}
+use Rattle.virtual_run.proofs.Many.{many_with, many_without}
+use Rattle.virtual_run.proofs.Begin.{ticks_few, within_begun, within_left, within_later, many_rested, woken_begun, one_at_most}
+use Rattle.virtual_run.proofs.Law.{IsTurn, started_idle, woken_idle, none_own, none_full}
+use Rattle.virtual_run.proofs.Moves.{IsMove, run_of, woken_run, outcome, net_kept, ended, goes, woken}
 
 -- the calls of a move up to the judging of its ending
 pub record IsLeft (setting : Setting) (run : Run) (left : Keys) (h due delay : ℕ) (after : Guest) (fate : Fate) (others : List ℕ) (now : Visits) (address : ℕ) (e : Option Ending) : Type 0 where
   pub steady : IsSteady run
+  pub running : is_running run.guest h ≡ true
   pub turn : key_of run.schedule h ≡ Some due
   pub first : IsLeast run.schedule h
-  pub taken : left ≡ without_key h run.schedule
+  pub taken : left ≡ rested h fate run.schedule
   pub place : address ≡ pc_of run.guest h
   pub retires : outcome after fate others ≡ retire run.guest h due
   pub keeps : now ≡ record run.visits { kept = run.visits.kept ++ visits_of (point_of setting.points.now address) h (due + delay) delay }
@@ -49,8 +52,7 @@ module _ (setting : Setting) (run : Run) (left : Keys) (h due delay : ℕ) (afte
     first = l.first;
     taken = l.taken;
     retires = l.retires;
-    was_awake = running_awake run.guest h (l.steady.running h ∙ ap is_some l.turn);
-    awake = ap (λ (r : Retirement Guest). sleeps r.fate) l.retires ∙ never_sleeps run.guest h due l.steady.orderly (l.steady.running h ∙ ap is_some l.turn);
+    was_awake = running_awake run.guest h l.running;
     visits =
         net_kept run.visits.kept now.kept (point_of setting.points.now (pc_of run.guest h)) h due delay
         (ap (λ (vs : Visits). vs.kept) l.keeps ∙ ap (λ (a : ℕ). run.visits.kept ++ visits_of (point_of setting.points.now a) h (due + delay) delay) l.place);
@@ -60,18 +62,25 @@ module _ (setting : Setting) (run : Run) (left : Keys) (h due delay : ℕ) (afte
   -- where the run goes on, the harts that the move started can begin
   pub idle_then : e ≡ None → AreIdle after left (started_by h fate others)
   idle_then none =
-      let turn : IsTurn run.guest run.schedule h due = record { orderly = l.steady.orderly; running = l.steady.running; room = l.steady.room; turn = l.turn } in
+      let turn : IsTurn run.guest run.schedule h due = record { orderly = l.steady.orderly; timed = l.steady.timed; running = l.running; room = l.steady.room; turn = l.turn } in
       let own = none_own fate (nat_le setting.choice.output_limit (length after.output)) (nat_le setting.choice.visit_limit (length now.kept)) (runs_after fate others left) (run.retired + 1) setting.choice.budget (sym l.ends ∙ none) in
       subst (λ (keys : Keys). AreIdle after keys (started_by h fate others)) (sym l.taken) (started_idle run.guest run.schedule h due after fate others turn l.retires own)
 
-  -- one hart less is due
-  many_left : many run.schedule ≡ many left + 1
-  many_left = many_without run.schedule h due l.turn ∙ ap (λ (keys : Keys). many keys + 1) (sym l.taken)
+  -- one hart less is due, or none
+  many_left : many run.schedule ≤ many left + 1
+  many_left = subst (λ (keys : Keys). many run.schedule ≤ many keys + 1) (sym l.taken) (many_rested fate run.schedule h due l.turn)
+
+  -- a wake is soon
+  soon_left : (moment : ℕ) → 10 ^ 16 ≤ moment → AreWithin moment run.schedule → AreWithin moment left
+  soon_left moment more within =
+      within_left run.schedule left h moment fate (has_place run.schedule h due l.turn) l.taken
+      (λ v sleeps. let few : v ≤ 10 ^ 16 = sleeps_few run.guest h due l.steady.orderly l.running v (ap (λ (r : Retirement Guest). r.fate) (sym l.retires) ∙ sleeps) in omega (arith, few, more))
+      within
 
   keeps_at : now ≡ record run.visits { kept = run.visits.kept ++ visits_of (point_of setting.points.now (pc_of run.guest h)) h (due + delay) delay }
   keeps_at = l.keeps ∙ ap (λ (a : ℕ). record run.visits { kept = run.visits.kept ++ visits_of (point_of setting.points.now a) h (due + delay) delay }) l.place
 
-  ends_at : e ≡ ending_of fate (nat_le setting.choice.output_limit (length after.output)) (nat_le setting.choice.visit_limit (length now.kept)) (runs_after fate others (without_key h run.schedule)) (run.retired + 1) setting.choice.budget
+  ends_at : e ≡ ending_of fate (nat_le setting.choice.output_limit (length after.output)) (nat_le setting.choice.visit_limit (length now.kept)) (runs_after fate others (rested h fate run.schedule)) (run.retired + 1) setting.choice.budget
   ends_at = l.ends ∙ ap (λ (keys : Keys). ending_of fate (nat_le setting.choice.output_limit (length after.output)) (nat_le setting.choice.visit_limit (length now.kept)) (runs_after fate others keys) (run.retired + 1) setting.choice.budget) l.taken
 
   unfull_then : e ≡ None → length now.kept < setting.choice.visit_limit
@@ -82,13 +91,14 @@ module _ (setting : Setting) (run : Run) (left : Keys) (h due delay : ℕ) (afte
   -- the run goes on
   pub advance_goes : (new : Keys) (chosen : List ℕ) (starts : ℕ) → e ≡ None → setting.choice.speedup ≤ 95 → AreBegun (ticks_in setting after) due (started_by h fate others) left new
       → chosen ≡ selected_of setting after (started_by h fate others) → length new ≡ 256 → starts ≡ run.starts + length chosen → length chosen + many left ≤ many new
-      → IsAdvance setting run h fate delay (run_of due after new others chosen now (run.retired + 1) run.wakes starts e)
+      → IsRetired setting run h fate delay (run_of due after new others chosen now (run.retired + 1) run.wakes starts e)
   advance_goes new chosen starts none small begun selected room counted few = record {
     moved = λ first dues are.
         goes setting first run left h due after fate others now.kept e move_is dues are new chosen now.limit starts none small (idle_then none).apart begun
         (counted ∙ ap (λ (hs : List ℕ). run.starts + length hs) selected);
     turn = l.turn;
     first = l.first;
+    running = l.running;
     retires = l.retires;
     visits = keeps_at;
     ending = ends_at;
@@ -99,32 +109,61 @@ module _ (setting : Setting) (run : Run) (left : Keys) (h due delay : ℕ) (afte
     retired = refl;
     wakes = refl;
     few =
-        let less : many run.schedule ≡ many left + 1 = many_left in
+        let less : many run.schedule ≤ many left + 1 = many_left in
         let before : run.starts ≤ events_of run + many run.schedule = l.steady.few in
         omega (arith, less, before, counted, few);
-    within = λ moment within.
-        let soon = within_left run.schedule left h moment l.taken within in
+    within = λ moment more within.
+        let soon = soon_left moment more within in
         within_begun (ticks_in setting after) due (started_by h fate others) left new moment (ticks_few (selects setting) setting.choice.speedup after) begun (within h due l.turn) soon;
   }
 
   -- the run ends with the move
-  pub advance_ended : (a : Ending) (chosen : List ℕ) → e ≡ Some a → chosen ≡ [] → IsAdvance setting run h fate delay (run_of due after left others chosen now (run.retired + 1) run.wakes run.starts e)
+  pub advance_ended : (a : Ending) (chosen : List ℕ) → e ≡ Some a → chosen ≡ [] → IsRetired setting run h fate delay (run_of due after left others chosen now (run.retired + 1) run.wakes run.starts e)
   advance_ended a chosen some empty = record {
     moved = λ first dues are. ended setting first run left h due after fate others now.kept e move_is dues are a chosen now.limit some;
     turn = l.turn;
     first = l.first;
+    running = l.running;
     retires = l.retires;
     visits = keeps_at;
     ending = ends_at;
     unfull = unfull_then;
     selected = λ none. let no : ◌≡◌ {A = Option Ending} (Some a) None = sym some ∙ none in let never : ⊥ = cc in absurd never;
     none_selected = λ _. empty;
-    room = ap length l.taken ∙ length-set run.schedule h None ∙ l.steady.room;
+    room = ap length l.taken ∙ rested_length fate run.schedule h ∙ l.steady.room;
     retired = refl;
     wakes = refl;
     few =
-        let less : many run.schedule ≡ many left + 1 = many_left in
+        let less : many run.schedule ≤ many left + 1 = many_left in
         let before : run.starts ≤ events_of run + many run.schedule = l.steady.few in
         omega (arith, less, before);
-    within = λ moment within. within_later moment (moment + 4000) left (omega arith) (within_left run.schedule left h moment l.taken within);
+    within = λ moment more within. within_later moment (moment + 4000) left (omega arith) (soon_left moment more within);
   }
+
+-- a sleeping hart wakes, and begins
+pub advance_woken : (setting : Setting) (run : Run) (h due : ℕ) (keys : Keys) (selected : List ℕ) (starts : ℕ) → IsSteady run → setting.choice.speedup ≤ 95 → key_of run.schedule h ≡ Some due → IsLeast run.schedule h → is_sleeping run.guest h ≡ true
+    → keys ≡ with_key h (due + ticks_in setting (with_wake h run.guest) h) (without_key h run.schedule) → selected ≡ selected_of setting (with_wake h run.guest) (h ∷ []) → starts ≡ run.starts + length selected
+    → IsWoken setting run h due (woken_run setting run.guest run (with_wake h run.guest) keys selected starts)
+advance_woken setting run h due keys selected starts steady small turn first asleep is chosen counted =
+    let g : Guest = with_wake h run.guest in
+    let below : h < length run.schedule = has_place run.schedule h due turn in
+    let begun : AreBegun (ticks_in setting g) due (h ∷ []) run.schedule keys = woken_begun (ticks_in setting g) due h run.schedule keys below is in
+    let one : length (selected_of setting g (h ∷ [])) ≤ 1 = one_at_most (λ hart. selects setting (pc_of g hart)) h in
+    let same : length selected ≡ length (selected_of setting g (h ∷ [])) = ap length chosen in
+    let left : many run.schedule ≡ many (without_key h run.schedule) + 1 = many_without run.schedule h due turn in
+    let idle = woken_idle run.guest run.schedule h due steady.orderly asleep steady.room turn in
+    let more : many keys ≡ many (without_key h run.schedule) + 1 = ap many is ∙ many_with (without_key h run.schedule) h (due + ticks_in setting g h) idle.below idle.absent in
+    record {
+      moved = λ first_guest dues are.
+          woken setting first_guest run h due keys selected starts small steady.goes turn first asleep begun (counted ∙ ap (λ (hs : List ℕ). run.starts + length hs) chosen) dues are;
+      turn = turn;
+      first = first;
+      asleep = asleep;
+      guest = refl;
+      selected = chosen;
+      wakes = refl;
+      room = ap length is ∙ length-set (without_key h run.schedule) h (Some (due + ticks_in setting g h)) ∙ length-set run.schedule h None ∙ steady.room;
+      few = let before : run.starts ≤ events_of run + many run.schedule = steady.few in omega (arith, before, one, same, left, more, counted);
+      within = λ moment within. within_begun (ticks_in setting g) due (h ∷ []) run.schedule keys moment (ticks_few (selects setting) setting.choice.speedup g) begun (within h due turn) within;
+      rest = refl;
+    }

@@ -11,14 +11,14 @@ use Rattle.hart_schedule.specs.Keys.{Keys, key_of, with_key, without_key}
 use Rattle.machines.specs.Places.{is_among}
 use Rattle.guest_calls.specs.Guest.{Guest, pc_of}
 use Rattle.guest_calls.specs.Retire.{next_of}
-use Rattle.virtual_run.specs.Begin.{ticks_of, many, IsIdle, AreIdle, AreBegun}
+use Rattle.virtual_run.specs.Begin.{ticks_of, rested, many, IsIdle, AreIdle, AreBegun}
 use Rattle.virtual_run.specs.Run.{AreWithin}
-use Rattle.virtual_run.proofs.Many.{many_with, many_below}
-use Rattle.virtual_run.proofs.Keys.{with_key_at, without_key_at}
-use Rattle.machines.specs.Delayed.{is_any}
-use Rattle.machines.specs.Shortened.{runs_any}
+use Rattle.virtual_run.proofs.Many.{many_with, many_without, many_below}
+use Rattle.virtual_run.proofs.Keys.{has_place, with_key_at, without_key_at, over_key_at, rested_at}
+use Rattle.machines.specs.Shortened.{rest}
 use Rattle.machines.specs.Guest.{goes_on}
 use Rattle.machines.specs.declared.Fate.{Fate}
+use Rattle.machines.specs.declared.Fate.TheVariants.{Goes, Waits, Leaves, Sleeps, Ends}
 use Rattle.virtual_run.specs.Ending.{runs_after}
 
 -- the first of them
@@ -121,8 +121,20 @@ one_more g ticks p m all old before h hs now chosen b =
 
 -- the retiring hart begins if it goes on, and then the others
 
-pub again_idle : (b : Bool) (g : Guest) (h : ℕ) (hs : List ℕ) (keys : Keys) → AreIdle g keys (if b then h ∷ hs else hs) → b ≡ true → IsIdle g keys h
-again_idle true g h hs keys are e = first_idle g keys h hs are
+-- the keys without the retiring hart, if it goes on, and else as they are left
+abbrev pub base : Bool → ℕ → Keys → Keys
+base b h keys = if b then without_key h keys else keys
+
+pub base_of : (b : Bool) (h v : ℕ) (old now : Keys) → now ≡ (if b then with_key h v (without_key h old) else old) → now ≡ (if b then with_key h v (base b h old) else base b h old)
+base_of true h v old now is = is
+base_of false h v old now is = is
+
+pub base_length : (b : Bool) (h : ℕ) (keys : Keys) → length (base b h keys) ≡ length keys
+base_length true h keys = length-set keys h None
+base_length false h keys = refl
+
+pub again_idle : (b : Bool) (g : Guest) (h : ℕ) (hs : List ℕ) (keys : Keys) → AreIdle g (base b h keys) (if b then h ∷ hs else hs) → b ≡ true → IsIdle g (without_key h keys) h
+again_idle true g h hs keys are e = first_idle g (without_key h keys) h hs are
 again_idle false g h hs keys are e = absurd (let no : false ≡ true = e in cc)
 
 -- what the retiring hart leaves, if it goes on: these keys, and it is chosen or isn't
@@ -217,26 +229,70 @@ within_by ticks m h due false o p moment few is soon within has = let before : d
 pub within_begun : (ticks : ℕ → ℕ) (m : ℕ) (hs : List ℕ) (old new : Keys) (moment : ℕ) → ((h : ℕ) → ticks h ≤ 4000) → AreBegun ticks m hs old new → m ≤ moment → AreWithin moment old → AreWithin (moment + 4000) new
 within_begun ticks m hs old new moment few begun soon within h due has = within_by ticks m h due (is_among h hs) (key_of new h) (key_of old h) moment (few h) (begun h) soon (within h) has
 
-left_by : (k h : ℕ) (same : Bool) (o p : Option ℕ) (moment : ℕ) → o ≡ (if same then None else p) → ((v : ℕ) → p ≡ Some v → v ≤ moment) → (due : ℕ) → o ≡ Some due → due ≤ moment
-left_by k h true o p moment is within due has = absurd (let no : ◌≡◌ {A = Option ℕ} None (Some due) = sym is ∙ has in cc)
-left_by k h false o p moment is within due has = within due (sym is ∙ has)
+left_by : (k h : ℕ) (same : Bool) (o p r : Option ℕ) (moment : ℕ) → o ≡ (if same then r else p) → ((v : ℕ) → r ≡ Some v → v ≤ moment) → ((v : ℕ) → p ≡ Some v → v ≤ moment) → (due : ℕ) → o ≡ Some due → due ≤ moment
+left_by k h true o p r moment is soon within due has = soon due (sym is ∙ has)
+left_by k h false o p r moment is soon within due has = within due (sym is ∙ has)
 
-pub within_left : (keys left : Keys) (h moment : ℕ) → left ≡ without_key h keys → AreWithin moment keys → AreWithin moment left
-within_left keys left h moment is within k due has =
-    left_by k h (k == h) (key_of left k) (key_of keys k) moment (ap (λ (ks : Keys). key_of ks k) is ∙ without_key_at keys h k) (within k) due has
+sleeps_to : (fate : Fate) (v : ℕ) → rest fate ≡ Some v → fate ≡ Sleeps v
+sleeps_to Goes v e = absurd (let no : ◌≡◌ {A = Option ℕ} None (Some v) = e in cc)
+sleeps_to Waits v e = absurd (let no : ◌≡◌ {A = Option ℕ} None (Some v) = e in cc)
+sleeps_to Leaves v e = absurd (let no : ◌≡◌ {A = Option ℕ} None (Some v) = e in cc)
+sleeps_to (Sleeps moment) v e = let same : moment ≡ v = cc in ap Sleeps same
+sleeps_to (Ends ending) v e = absurd (let no : ◌≡◌ {A = Option ℕ} None (Some v) = e in cc)
+
+-- a wake that is soon enough is due so
+pub within_left : (keys left : Keys) (h moment : ℕ) (fate : Fate) → h < length keys → left ≡ rested h fate keys → ((v : ℕ) → fate ≡ Sleeps v → v ≤ moment) → AreWithin moment keys → AreWithin moment left
+within_left keys left h moment fate below is soon within k due has =
+    left_by k h (k == h) (key_of left k) (key_of keys k) (rest fate) moment (ap (λ (ks : Keys). key_of ks k) is ∙ rested_at fate keys h k below) (λ v e. soon v (sleeps_to fate v e)) (within k) due has
 
 pub within_later : (n m : ℕ) (keys : Keys) → n ≤ m → AreWithin n keys → AreWithin m keys
 within_later n m keys less within h due has = let soon : due ≤ n = within h due has in omega arith
 
 -- a hart that was left in the schedule, as it goes on, is taken out all the same
-pub left_again : (b : Bool) (h : ℕ) (keys now : Keys) → now ≡ (if b then keys else without_key h keys) → without_key h now ≡ without_key h keys
-left_again true h keys now is = ap (without_key h) is
-left_again false h keys now is = ap (without_key h) is ∙ set-set keys h None None
-
-runs_by : (b : Bool) (others : List ℕ) (h : ℕ) (keys now : Keys) → now ≡ (if b then keys else without_key h keys) → (b || is_any others || runs_any now) ≡ (b || is_any others || runs_any (without_key h keys))
-runs_by true others h keys now is = refl
-runs_by false others h keys now is = ap (λ (ks : Keys). false || is_any others || runs_any ks) is
+pub left_again : (fate : Fate) (h : ℕ) (keys now : Keys) → now ≡ (if goes_on fate then keys else rested h fate keys) → (if goes_on fate then without_key h now else now) ≡ rested h fate keys
+left_again Goes h keys now is = ap (without_key h) is
+left_again Waits h keys now is = is
+left_again Leaves h keys now is = is
+left_again (Sleeps moment) h keys now is = is
+left_again (Ends ending) h keys now is = is
 
 -- and so runs some hart after it
-pub left_runs : (fate : Fate) (others : List ℕ) (h : ℕ) (keys now : Keys) → now ≡ (if goes_on fate then keys else without_key h keys) → runs_after fate others now ≡ runs_after fate others (without_key h keys)
-left_runs fate others h keys now is = runs_by (goes_on fate) others h keys now is
+pub left_runs : (fate : Fate) (others : List ℕ) (h : ℕ) (keys now : Keys) → now ≡ (if goes_on fate then keys else rested h fate keys) → runs_after fate others now ≡ runs_after fate others (rested h fate keys)
+left_runs Goes others h keys now is = refl
+left_runs Waits others h keys now is = ap (runs_after Waits others) is
+left_runs Leaves others h keys now is = ap (runs_after Leaves others) is
+left_runs (Sleeps moment) others h keys now is = ap (runs_after (Sleeps moment) others) is
+left_runs (Ends ending) others h keys now is = ap (runs_after (Ends ending) others) is
+
+-- one hart less is due, or none
+pub many_rested : (fate : Fate) (keys : Keys) (h due : ℕ) → key_of keys h ≡ Some due → many keys ≤ many (rested h fate keys) + 1
+many_rested fate keys h due turn = go fate
+  where
+    one : many keys ≡ many (without_key h keys) + 1
+    one = many_without keys h due turn
+
+    go : (f : Fate) → many keys ≤ many (rested h f keys) + 1
+    go Goes = omega (arith, one)
+    go Waits = omega (arith, one)
+    go Leaves = omega (arith, one)
+    go (Sleeps moment) =
+        let below : h < length (without_key h keys) = rw (length-set keys h None) (has_place keys h due turn) in
+        let more : many (with_key h moment (without_key h keys)) ≡ many (without_key h keys) + 1 = many_with (without_key h keys) h moment below (without_key_at keys h h ∙ rw (eq-eqb h h refl) refl) in
+        omega (arith, one, more)
+    go (Ends ending) = omega (arith, one)
+
+one_bit : (b : Bool) (o p : Option ℕ) → (if (if b then true else false) then o else p) ≡ (if b then o else p)
+one_bit true o p = refl
+one_bit false o p = refl
+
+same_ticks : (ticks : ℕ → ℕ) (m h k : ℕ) (o : Option ℕ) → (k ≡ h) ⊎ (k ≡ h → ⊥) → (if k == h then Some (m + ticks h) else o) ≡ (if k == h then Some (m + ticks k) else o)
+same_ticks ticks m h k o (inl same) = rw (eq-eqb k h same) (ap (λ (n : ℕ). Some (m + ticks n)) (sym same))
+same_ticks ticks m h k o (inr n) = rw (ne_eqb k h n) refl
+
+-- a hart that was due and has woken has begun
+pub woken_begun : (ticks : ℕ → ℕ) (m h : ℕ) (keys new : Keys) → h < length keys → new ≡ with_key h (m + ticks h) (without_key h keys) → AreBegun ticks m (h ∷ []) keys new
+woken_begun ticks m h keys new below is k =
+    ap (λ (ks : Keys). key_of ks k) is
+    ∙ over_key_at keys h (m + ticks h) k below
+    ∙ same_ticks ticks m h k (key_of keys k) (cases_eq k h)
+    ∙ sym (one_bit (k == h) (Some (m + ticks k)) (key_of keys k))

@@ -3,15 +3,16 @@ use Rattle.std.proofs.Common.{◌≡◌, ℕ, ◌+◌, ◌-◌, ◌*◌, Bool, t
 use Rattle.std.proofs.lemmas.Bool.{cases_eq}
 use Rattle.std.proofs.Math.ListN.{get_or-map}
 use Rattle.machines.specs.Places.{change, change_each, change_from, with_places, is_among}
+use Rattle.machines.specs.declared.Fate.{Fate}
+use Rattle.machines.specs.declared.Fate.TheVariants.{Goes, Waits, Leaves, Sleeps, Ends}
 use Rattle.machines.specs.Guest.{Experiment, cost, cut, sleeps}
 use Rattle.machines.specs.Delayed.{Hart, Delayed, total, fresh, stop, rest, run, credit, raise_hart, account_of, raise, begin, retirement, leave, give_credit}
 use Rattle.machines.specs.Steps.{sit_hart, jump}
 use Rattle.machines.proofs.Maps.{change_same, change_other, change_all_at, with_places_at}
-use Rattle.machines.proofs.Wakeless.{rests}
-use Rattle.delay_credits.specs.Delays.{Delays, at}
+use Rattle.delay_credits.specs.Delays.{Delays, at, with_start, with_stop}
 use Rattle.delay_credits.specs.Ticks.{without_work}
 use Rattle.delay_credits.proofs.TicksLemmas.{without_work-sit, without_work-run, without_work-stop, without_work-credit, without_work-raise, all_ticked}
-use Rattle.virtual_run.specs.Credited.{AreHeld, Holds, with_credits, with_starts, with_one_raise, with_raises}
+use Rattle.virtual_run.specs.Credited.{AreHeld, Holds, with_credits, with_starts, with_one_raise, with_raises, with_rest}
 
 -- maps of harts, and the same harts without their work
 held_by : (h k : ℕ) (f f' : Hart → Hart) (held harts : List Hart) → ((hart : Hart) → without_work (f hart) ≡ f' (without_work hart)) → AreHeld held harts → (h ≡ k) ⊎ (h ≡ k → ⊥)
@@ -76,16 +77,38 @@ among_filter test k (h ∷ hs) e = go (among_by (test h) k h (filter test hs) e)
     go (inl s) below = (ap test s.0 ∙ s.1, rw (eq-eqb k h s.0) refl)
     go (inr i) below = let b = below i in (b.0, among_more (k == h) (is_among k hs) b.1)
 
+-- what retiring to this fate makes of a hart, without its work
+abbrev pub rest_of : Fate → Hart → Hart
+rest_of fate = if sleeps fate then run 0 else stop
+
+without_rest : (fate : Fate) (net : ℕ) (hart : Hart) → without_work (rest fate net hart) ≡ rest_of fate (without_work hart)
+without_rest Goes net hart = without_work-stop hart
+without_rest Waits net hart = without_work-stop hart
+without_rest Leaves net hart = without_work-stop hart
+without_rest (Sleeps moment) net hart = without_work-run (moment - net) hart
+without_rest (Ends ending) net hart = without_work-stop hart
+
+pub with_rest_is : (h : ℕ) (fate : Fate) (now : ℕ) (c : Delays) → with_rest h fate now c ≡ record (at now c) { harts = change fresh h (rest_of fate) (at now c).harts }
+with_rest_is h Goes now c = refl
+with_rest_is h Waits now c = refl
+with_rest_is h Leaves now c = refl
+with_rest_is h (Sleeps moment) now c = refl
+with_rest_is h (Ends ending) now c = refl
+
 module _ {G : Type 0} (x : Experiment G) where
   -- a hart retires
-  pub holds_leave : (h : ℕ) (c : Delays) (d : Delayed G) → sleeps (retirement x h d).fate ≡ false → Holds c d → Holds (record c { harts = change fresh h stop c.harts }) (leave x h d)
+  pub holds_leave : (h now : ℕ) (c : Delays) (d : Delayed G) → Holds (at now c) d → Holds (with_rest h (retirement x h d).fate now c) (leave x h d)
   unfolding leave
-  holds_leave h c d awake holds = record {
-    latest = holds.latest;
-    raised = holds.raised;
-    harts = held_places (retirement x h d).others (change fresh h stop c.harts) (change fresh h (rest (retirement x h d).fate (d.now - d.delay)) d.harts)
-        (held_change h (rest (retirement x h d).fate (d.now - d.delay)) stop c.harts d.harts (λ hart. ap without_work (rests (retirement x h d).fate (d.now - d.delay) hart awake).1 ∙ without_work-stop hart) holds.harts);
-  }
+  holds_leave h now c d holds =
+      let fate : Fate = (retirement x h d).fate in
+      let stopped : List Hart = change fresh h (rest_of fate) (at now c).harts in
+      rw (with_rest_is h fate now c)
+      (record {
+        latest = holds.latest;
+        raised = holds.raised;
+        harts = held_places (retirement x h d).others stopped (change fresh h (rest fate (d.now - d.delay)) d.harts)
+            (held_change h (rest fate (d.now - d.delay)) (rest_of fate) (at now c).harts d.harts (λ hart. without_rest fate (d.now - d.delay) hart) holds.harts);
+      })
 
   -- those that it made or woke are credited
   pub holds_credit : (h : ℕ) (c : Delays) (d : Delayed G) → total (account_of d.harts h) ≡ d.delay → Holds c (leave x h d) → Holds (with_credits (retirement x h d).others c) (give_credit x h d)

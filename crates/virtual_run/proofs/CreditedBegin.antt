@@ -1,14 +1,20 @@
 -- The credits after a retirement from which the run goes on.
-use Rattle.std.proofs.Common.{◌≡◌, ℕ, zero, suc, ◌<◌, ◌==◌, eqb-true, Bool, true, false, if◌then◌else◌, List, [], ◌∷◌, length, refl, ap, ◌∙◌, Option}
+use Rattle.std.proofs.Common.{◌≡◌, ℕ, zero, suc, ◌<◌, ◌==◌, eqb-true, Bool, true, false, if◌then◌else◌, List, [], ◌∷◌, length, refl, ap, subst, ◌∙◌, Option}
 use Rattle.machines.specs.declared.Fate.{Fate}
-use Rattle.machines.specs.Guest.{goes_on}
+use Rattle.machines.specs.declared.Fate.TheVariants.{Goes, Waits, Leaves, Sleeps, Ends}
+use Rattle.machines.specs.Guest.{goes_on, sleeps}
 use Rattle.coz_types.specs.declared.ending.Ending.{Ending}
 use Rattle.machines.specs.Places.{change, is_among}
 use Rattle.machines.specs.Delayed.{Hart, fresh, is_any, run, stop, credit}
 use Rattle.delay_credits.specs.Delays.{Delays, at, with_start, with_stop}
 use Rattle.guest_calls.specs.Guest.{Guest}
+use Rattle.virtual_run.specs.declared.run.Event.{Event}
+use Rattle.virtual_run.specs.declared.run.Event.TheVariants.{Woke, Retired}
+use Rattle.virtual_run.specs.declared.run.Turn.{Turn}
+use Rattle.virtual_run.specs.declared.run.Retired.{Retired as RetiredHart}
+use Rattle.virtual_run.specs.declared.run.Run.{Run}
 use Rattle.virtual_run.specs.Begin.{started_by}
-use Rattle.virtual_run.specs.Credited.{with_credits, with_starts, with_begun, AllBelow, AllRun, CanBegin, IsAlone}
+use Rattle.virtual_run.specs.Credited.{with_credits, with_starts, with_rest, with_begun, AllBelow, AllRun, CanBegin, CanWake, CanSettle, CanFollow, IsAlone}
 use Rattle.virtual_run.proofs.CreditedLists.{among_first, among_rest, credits_length, raises_length, starts_run}
 
 -- the retiring hart, if it goes on, and then the others
@@ -74,11 +80,25 @@ stop-start zero (hart ∷ harts) = refl
 stop-start (suc h) [] = ap (λ (hs : List Hart). fresh ∷ hs) (stop-start h [])
 stop-start (suc h) (hart ∷ harts) = ap (λ (hs : List Hart). hart ∷ hs) (stop-start h harts)
 
+goes_awake : (fate : Fate) → goes_on fate ≡ true → sleeps fate ≡ false
+goes_awake Goes goes = refl
+goes_awake Waits goes = refl
+goes_awake Leaves goes = refl
+goes_awake (Sleeps moment) goes = absurd (let no : false ≡ true = goes in cc)
+goes_awake (Ends ending) goes = refl
+
 pub goes-on-alone : (h now : ℕ) (ending : Option Ending) (fate : Fate) (others : List ℕ) (c : Delays) → IsAlone ending fate others
-    → with_start h now c ≡ with_starts (started_by h fate others) (with_credits others (with_stop h now c))
+    → with_start h now c ≡ with_starts (started_by h fate others) (with_credits others (with_rest h fate now c))
 goes-on-alone h now ending fate others c alone =
-    rw (alone.none, alone.goes) (ap (λ (hs : List Hart). record { latest = now; raised = c.raised; harts = hs }) (stop-start h (at now c).harts))
+    rw (alone.none, alone.goes, goes_awake fate alone.goes) (ap (λ (hs : List Hart). record { latest = now; raised = c.raised; harts = hs }) (stop-start h (at now c).harts))
 
 pub none-any : (hs : List ℕ) → is_any hs ≡ false → hs ≡ []
 none-any [] e = refl
 none-any (h ∷ hs) e = absurd (let no : true ≡ false = e in cc)
+
+-- what follows an event, by the event
+pub can_wake : (event : Event) (turn : Turn) (c : Delays) (run : Run) (now : ℕ) → event ≡ Woke turn → CanFollow event c run now → CanWake c run turn.hart.0 now
+can_wake event turn c run now is can = subst (λ (e : Event). CanFollow e c run now) is can
+
+pub can_settle : (event : Event) (retired : RetiredHart) (c : Delays) (run : Run) (now : ℕ) → event ≡ Retired retired → CanFollow event c run now → CanSettle c run retired.hart.0 retired.fate now
+can_settle event retired c run now is can = subst (λ (e : Event). CanFollow e c run now) is can

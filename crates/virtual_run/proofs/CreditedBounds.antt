@@ -4,12 +4,12 @@ use Rattle.std.proofs.Math.Nat.{mul-le-mul}
 use Rattle.coz_types.specs.declared.ending.Ending.{Ending}
 use Rattle.machines.specs.Places.{change_each}
 use Rattle.machines.specs.Guest.{Experiment, IsLawful, cost, cut, started}
-use Rattle.machines.specs.Delayed.{Delayed, fresh, run, over_or, raise, begin, retirement, leave, give_credit, ending, retire, unbegun, after, delayed}
+use Rattle.machines.specs.Delayed.{Delayed, fresh, run, over_or, raise, begin, retirement, leave, give_credit, ending, retire, wake, unbegun, after, delayed}
 use Rattle.machines.specs.Shortened.{shortened}
 use Rattle.machines.specs.Steps.{jump}
 use Rattle.machines.specs.Standing.{ticks_left, next, standing}
 use Rattle.machines.proofs.Standing.{Comes, comes_at, stays}
-use Rattle.machines.proofs.Wakeless.{NeverSleeps, come_is}
+use Rattle.machines.proofs.Runs.{come_by}
 
 -- each selected start raised at most so many ticks
 abbrev pub Bounded : {G : Type 0} → ℕ → Delayed G → Type 0
@@ -66,6 +66,10 @@ module _ {G : Type 0} (x : Experiment G) where
         over_bounded (ending x h d) (leave x h d) (begin x (started h (retirement x h d)) (give_credit x h d))
         (rw (c.2, c.3) b) (begin_bounded (started h (retirement x h d)) (give_credit x h d) (rw (c.0, c.1) b))
 
+    wake_bounded : (h : ℕ) (d : Delayed G) → Bounded most d → Bounded most (wake x h d)
+    unfolding wake
+    wake_bounded h d b = begin_bounded (h ∷ []) (record d { guest = x.guest.wake d.guest h; wakes = d.wakes + 1 }) b
+
     jump_bounded : (k : ℕ) (d : Delayed G) → Bounded most d → Bounded most (jump k d)
     unfolding jump
     jump_bounded k d b = b
@@ -74,22 +78,29 @@ module _ {G : Type 0} (x : Experiment G) where
     unfolding delayed after unbegun
     first_bounded = begin_bounded (0 ∷ []) (unbegun x) (omega arith)
 
-module _ {G : Type 0} (x : Experiment G) (Good : G → Type 0) (law : IsLawful x Good) (never : NeverSleeps x Good) where
-  -- what holds of a state holds of the next one, if it holds after each retirement that may come
+module _ {G : Type 0} (x : Experiment G) (Good : G → Type 0) (law : IsLawful x Good) where
+  -- hart h has its turn at the end of the ticks that are left
+  abbrev pub turned : ℕ → Delayed G
+  turned n = jump (ticks_left (standing x n).harts) (standing x n)
+
+  -- what holds of a state holds of the next one, if it holds after each wake and each retirement that may come
   pub next_by : (P : Delayed G → Type 0) (n : ℕ) → P (standing x n)
-      → ((h : ℕ) → (standing x n).ending ≡ None → Comes x Good law (standing x n) (shortened x n) h → P (retire x h (jump (ticks_left (standing x n).harts) (standing x n))))
+      → ((h : ℕ) → (standing x n).ending ≡ None → Comes x Good law (standing x n) (shortened x n) h → x.guest.is_sleeping (turned n).guest h ≡ true → P (wake x h (turned n)))
+      → ((h : ℕ) → (standing x n).ending ≡ None → Comes x Good law (standing x n) (shortened x n) h → x.guest.is_sleeping (turned n).guest h ≡ false → P (retire x h (turned n)))
       → P (standing x (suc n))
-  next_by P n before step = go (some_or_none (standing x n).ending)
+  next_by P n before wakes retires = go (some_or_none (standing x n).ending)
     where
       go : ((standing x n).ending ≡ None) ⊎ ((a : Ending) × ((standing x n).ending ≡ Some a)) → P (standing x (suc n))
-      go (inl none) = let r = comes_at x Good law n none in subst P (sym (standing_suc x n ∙ r.1.is ∙ come_is x Good law never n (ticks_left (standing x n).harts) r.0)) (step r.0 none r.1)
+      go (inl none) =
+          let r = comes_at x Good law n none in
+          subst P (sym (standing_suc x n ∙ r.1.is)) (come_by x P (turned n) r.0 (λ asleep. wakes r.0 none r.1 asleep) (λ awake. retires r.0 none r.1 awake))
       go (inr e) = subst P (sym (ap (standing x) (let one : suc n ≡ 1 + n = omega arith in one) ∙ stays x Good law n e.0 e.1 1)) before
 
   pub standing_bounded : (most : ℕ) → ((g : G) (h : ℕ) → cut x g h ≤ most) → (n : ℕ) → Bounded most (standing x n)
   standing_bounded most few zero = subst (Bounded most) (sym (standing_zero x)) (first_bounded x most few)
   standing_bounded most few (suc n) =
-      next_by (Bounded most) n (standing_bounded most few n)
-      (λ h none r. retire_bounded x most few h (jump (ticks_left (standing x n).harts) (standing x n)) (jump_bounded x most few (ticks_left (standing x n).harts) (standing x n) (standing_bounded most few n)))
+      let before : Bounded most (turned n) = jump_bounded x most few (ticks_left (standing x n).harts) (standing x n) (standing_bounded most few n) in
+      next_by (Bounded most) n (standing_bounded most few n) (λ h none r asleep. wake_bounded x most few h (turned n) before) (λ h none r awake. retire_bounded x most few h (turned n) before)
 
 -- where instructions have at most so many cycles, and the speedup is at most so many per cent
 pub cut_few : {G : Type 0} (x : Experiment G) (cycles speedup : ℕ) → ((g : G) (h : ℕ) → x.guest.cycles g h ≤ cycles) → x.speedup ≤ speedup → (g : G) (h : ℕ) → cut x g h ≤ speedup * cycles

@@ -1,21 +1,20 @@
 -- Each account of a delayed state is of a hart that was made.
-use Rattle.std.proofs.Common.{◌≡◌, ℕ, zero, suc, ◌-◌, ◌≤◌, ◌<◌, max, Bool, true, false, if◌then◌else◌, ◌==◌, List, [], ◌∷◌, length, filter, fold, refl, sym, ap, ◌∙◌, subst, arith, eq-eqb, ne_eqb, Option, Some, None, ◌⊎◌, inl, inr}
+use Rattle.std.proofs.Common.{◌≡◌, ℕ, zero, suc, ◌+◌, ◌-◌, ◌≤◌, ◌<◌, max, Bool, true, false, if◌then◌else◌, ◌==◌, List, [], ◌∷◌, length, filter, fold, refl, sym, ap, ◌∙◌, subst, arith, eq-eqb, ne_eqb, Option, Some, None, ◌⊎◌, inl, inr}
 use Rattle.std.proofs.lemmas.Bool.{cases_eq}
 use Rattle.std.proofs.lemmas.List.{length-map}
 use Rattle.coz_types.specs.declared.ending.Ending.{Ending}
 use Rattle.machines.specs.Places.{change, change_each, change_from, is_among}
 use Rattle.machines.specs.Guest.{Experiment, IsLawful, goes_on, cost, cut, started}
-use Rattle.machines.specs.Delayed.{Hart, Delayed, total, fresh, rest, run, credit, raise_hart, account_of, over_or, raise, begin, retirement, leave, give_credit, ending, retire, unbegun, after, delayed}
+use Rattle.machines.specs.Delayed.{Hart, Delayed, total, fresh, rest, run, credit, raise_hart, account_of, over_or, raise, begin, retirement, leave, give_credit, ending, retire, wake, unbegun, after, delayed}
 use Rattle.machines.specs.Shortened.{Shortened, shortened}
 use Rattle.machines.specs.Steps.{sit_hart, jump}
 use Rattle.machines.specs.Standing.{ticks_left, standing}
 use Rattle.machines.proofs.Retire.{turn}
-use Rattle.machines.proofs.Short.{turn_runs}
+use Rattle.machines.proofs.Short.{Lives, turn_runs}
 use Rattle.machines.proofs.Ends.{goes_on_at}
-use Rattle.machines.proofs.Stepping.{begin_frame}
+use Rattle.machines.proofs.Stepping.{begin_frame, wake_frame}
 use Rattle.machines.proofs.Standing.{Comes, agrees}
-use Rattle.machines.proofs.Wakeless.{NeverSleeps, short_awake}
-use Rattle.virtual_run.proofs.CreditedBounds.{standing_zero, next_by}
+use Rattle.virtual_run.proofs.CreditedBounds.{standing_zero, turned, next_by}
 
 -- how many places there are once each of these numbers has one
 abbrev pub places : List ℕ → ℕ → ℕ
@@ -105,8 +104,9 @@ pub record IsCounted {G : Type 0} (x : Experiment G) (Good : G → Type 0) (coun
   pub first : count x.first ≡ 1
   pub made : (g : G) (h : ℕ) → Good g → x.guest.is_running g h ≡ true → h < count g
   pub grows : (g : G) (h v : ℕ) → Good g → x.guest.is_running g h ≡ true → count (x.guest.retire g h v).guest ≡ places (x.guest.retire g h v).others (count g)
+  pub woken : (g : G) (h : ℕ) → Good g → x.guest.is_sleeping g h ≡ true → (h < count g) × (count (x.guest.wake g h) ≡ count g)
 
-module _ {G : Type 0} (x : Experiment G) (Good : G → Type 0) (law : IsLawful x Good) (never : NeverSleeps x Good) (count : G → ℕ) (counted : IsCounted x Good count) where
+module _ {G : Type 0} (x : Experiment G) (Good : G → Type 0) (law : IsLawful x Good) (count : G → ℕ) (counted : IsCounted x Good count) where
   -- as many accounts as harts that were made
   abbrev pub HasEach : Delayed G → Type 0
   HasEach d = length d.harts ≡ count d.guest
@@ -152,6 +152,22 @@ module _ {G : Type 0} (x : Experiment G) (Good : G → Type 0) (law : IsLawful x
   unfolding retire
   retire_has h d r = over_has (ending x h d) (leave x h d) (begin x (started h (retirement x h d)) (give_credit x h d)) (leave_has h d r) (begin_has h d r)
 
+  just : (k h n : ℕ) → is_among k (h ∷ []) ≡ true → h < n → k < n
+  just k h n among below = go (cases_eq k h) among
+    where
+      go : (k ≡ h) ⊎ (k ≡ h → ⊥) → (if k == h then true else false) ≡ true → k < n
+      go (inl same) e = rw same below
+      go (inr n) e = absurd (let no : false ≡ true = rw (ne_eqb k h n) at e in cc)
+
+  -- a wake makes no hart
+  wake_has : (h : ℕ) (d : Delayed G) → HasEach d → (h < count d.guest) × (count (x.guest.wake d.guest h) ≡ count d.guest) → HasEach (wake x h d)
+  unfolding wake
+  wake_has h d each made =
+      let woken : Delayed G = record d { guest = x.guest.wake d.guest h; wakes = d.wakes + 1 } in
+      let below : h < length d.harts = rw each made.0 in
+      begin_places x (h ∷ []) woken ∙ places_kept (h ∷ []) (length d.harts) (λ k among. just k h (length d.harts) among below)
+      ∙ each ∙ sym made.1 ∙ sym (ap count (begin_guest (h ∷ []) woken))
+
   unfold_retirement : (h : ℕ) (d : Delayed G) → retirement x h d ≡ x.guest.retire d.guest h (d.now - d.delay)
   unfolding retirement
   unfold_retirement h d = refl
@@ -160,31 +176,44 @@ module _ {G : Type 0} (x : Experiment G) (Good : G → Type 0) (law : IsLawful x
   unfolding delayed after unbegun
   first_has = begin_places x (0 ∷ []) (unbegun x) ∙ sym counted.first ∙ sym (ap count (begin_guest (0 ∷ []) (unbegun x)))
 
+  lives_at : (n : ℕ) → (standing x n).ending ≡ None → Lives x Good (shortened x n)
+  lives_at n none = (goes_on_at x Good law n (sym (agrees x Good law n).ending ∙ none)).lives
+
+  turned_guest : (n : ℕ) → (turned x Good law n).guest ≡ (shortened x n).guest
+  turned_guest n = (jump_places x (ticks_left (standing x n).harts) (standing x n)).1 ∙ (agrees x Good law n).guest
+
+  turned_has : (n : ℕ) → HasEach (standing x n) → HasEach (turned x Good law n)
+  turned_has n has = let p = jump_places x (ticks_left (standing x n).harts) (standing x n) in p.0 ∙ has ∙ sym (ap count p.1)
+
+  waking : (n h : ℕ) → (standing x n).ending ≡ None → x.guest.is_sleeping (turned x Good law n).guest h ≡ true → HasEach (standing x n) → HasEach (wake x h (turned x Good law n))
+  waking n h none asleep has =
+      let j : Delayed G = turned x Good law n in
+      wake_has h j (turned_has n has) (counted.woken j.guest h (subst Good (sym (turned_guest n)) (lives_at n none).good) asleep)
+
+  retiring : (n h : ℕ) → (standing x n).ending ≡ None → Comes x Good law (standing x n) (shortened x n) h → x.guest.is_sleeping (turned x Good law n).guest h ≡ false → HasEach (standing x n)
+      → Retiring h (turned x Good law n)
+  retiring n h none r awake has =
+      let s : Shortened G = shortened x n in
+      let j : Delayed G = turned x Good law n in
+      let runs : x.guest.is_running j.guest h ≡ true =
+      ap (λ (g : G). x.guest.is_running g h) (turned_guest n) ∙ turn_runs x Good law s (turn x h j) (lives_at n none) r.turn (ap (λ (g : G). x.guest.is_sleeping g h) (sym (turned_guest n)) ∙ awake) in
+      let good : Good j.guest = subst Good (sym (turned_guest n)) (lives_at n none).good in
+      record {
+        each = turned_has n has;
+        made = counted.made j.guest h good runs;
+        grows = rw (unfold_retirement h j) (counted.grows j.guest h (j.now - j.delay) good runs);
+      }
+
   pub standing_has : (n : ℕ) → HasEach (standing x n)
   standing_has zero = subst HasEach (sym (standing_zero x)) first_has
-  standing_has (suc n) = next_by x Good law never HasEach n (standing_has n) (λ h none r. retire_has h (jump (ticks_left (standing x n).harts) (standing x n)) (retiring h none r (standing_has n)))
-    where
-      retiring : (h : ℕ) → (standing x n).ending ≡ None → Comes x Good law (standing x n) (shortened x n) h → HasEach (standing x n) → Retiring h (jump (ticks_left (standing x n).harts) (standing x n))
-      retiring h none r has =
-          let d : Delayed G = standing x n in
-          let s : Shortened G = shortened x n in
-          let j : Delayed G = jump (ticks_left d.harts) d in
-          let p = jump_places x (ticks_left d.harts) d in
-          let same : d.guest ≡ s.guest = (agrees x Good law n).guest in
-          let lives = (goes_on_at x Good law n (sym (agrees x Good law n).ending ∙ none)).lives in
-          let runs : x.guest.is_running j.guest h ≡ true = ap (λ (g : G). x.guest.is_running g h) (p.1 ∙ same) ∙ turn_runs x Good law s (turn x h j) lives r.turn (short_awake x Good law never n h) in
-          let good : Good j.guest = subst Good (sym (p.1 ∙ same)) lives.good in
-          record {
-            each = p.0 ∙ has ∙ sym (ap count p.1);
-            made = counted.made j.guest h good runs;
-            grows = rw (unfold_retirement h j) (counted.grows j.guest h (j.now - j.delay) good runs);
-          }
+  standing_has (suc n) =
+      next_by x Good law HasEach n (standing_has n) (λ h none r asleep. waking n h none asleep (standing_has n)) (λ h none r awake. retire_has h (turned x Good law n) (retiring n h none r awake (standing_has n)))
 
 over_guest : {G : Type 0} (o : Option Ending) (d next : Delayed G) (g : G) → d.guest ≡ g → next.guest ≡ g → (over_or o d next).guest ≡ g
 over_guest None d next g a b = b
 over_guest (Some e) d next g a b = a
 
-module _ {G : Type 0} (x : Experiment G) (Good : G → Type 0) (law : IsLawful x Good) (never : NeverSleeps x Good) where
+module _ {G : Type 0} (x : Experiment G) (Good : G → Type 0) (law : IsLawful x Good) where
   retire_guest : (h : ℕ) (d : Delayed G) → (retire x h d).guest ≡ (retirement x h d).guest
   unfolding retire
   retire_guest h d =
@@ -199,17 +228,26 @@ module _ {G : Type 0} (x : Experiment G) (Good : G → Type 0) (law : IsLawful x
   unfolding delayed after unbegun
   first_guest = ap (λ o. o.guest) (begin_frame x (0 ∷ []) (unbegun x))
 
+  turned_good : (n : ℕ) → (standing x n).ending ≡ None → Good (turned x Good law n).guest
+  turned_good n none =
+      let same : (turned x Good law n).guest ≡ (shortened x n).guest = (jump_places x (ticks_left (standing x n).harts) (standing x n)).1 ∙ (agrees x Good law n).guest in
+      subst Good (sym same) (goes_on_at x Good law n (sym (agrees x Good law n).ending ∙ none)).lives.good
+
+  woken_good : (n h : ℕ) → (standing x n).ending ≡ None → x.guest.is_sleeping (turned x Good law n).guest h ≡ true → Good (wake x h (turned x Good law n)).guest
+  woken_good n h none asleep =
+      let j : Delayed G = turned x Good law n in
+      subst Good (sym (ap (λ o. o.guest) (wake_frame x h j))) (law.wakes_good j.guest h (turned_good n none) asleep)
+
+  still_good : (n h : ℕ) → (standing x n).ending ≡ None → Comes x Good law (standing x n) (shortened x n) h → x.guest.is_sleeping (turned x Good law n).guest h ≡ false → Good (retire x h (turned x Good law n)).guest
+  still_good n h none r awake =
+      let s : Shortened G = shortened x n in
+      let j : Delayed G = turned x Good law n in
+      let same : j.guest ≡ s.guest = (jump_places x (ticks_left (standing x n).harts) (standing x n)).1 ∙ (agrees x Good law n).guest in
+      let lives = (goes_on_at x Good law n (sym (agrees x Good law n).ending ∙ none)).lives in
+      let runs : x.guest.is_running j.guest h ≡ true = ap (λ (g : G). x.guest.is_running g h) same ∙ turn_runs x Good law s (turn x h j) lives r.turn (ap (λ (g : G). x.guest.is_sleeping g h) (sym same) ∙ awake) in
+      subst Good (sym (retire_guest h j ∙ made_by h j)) (law.stays_good j.guest h (j.now - j.delay) (turned_good n none) runs)
+
   -- the guest is always Good, also once the run has ended
   pub standing_good : (n : ℕ) → Good (standing x n).guest
   standing_good zero = subst Good (sym (ap (λ (d : Delayed G). d.guest) (standing_zero x) ∙ first_guest)) law.first_good
-  standing_good (suc n) = next_by x Good law never (λ d. Good d.guest) n (standing_good n) (λ h none r. still h none r)
-    where
-      still : (h : ℕ) → (standing x n).ending ≡ None → Comes x Good law (standing x n) (shortened x n) h → Good (retire x h (jump (ticks_left (standing x n).harts) (standing x n))).guest
-      still h none r =
-          let d : Delayed G = standing x n in
-          let s : Shortened G = shortened x n in
-          let j : Delayed G = jump (ticks_left d.harts) d in
-          let same : j.guest ≡ s.guest = (jump_places x (ticks_left d.harts) d).1 ∙ (agrees x Good law n).guest in
-          let lives = (goes_on_at x Good law n (sym (agrees x Good law n).ending ∙ none)).lives in
-          let runs : x.guest.is_running j.guest h ≡ true = ap (λ (g : G). x.guest.is_running g h) same ∙ turn_runs x Good law s (turn x h j) lives r.turn (short_awake x Good law never n h) in
-          subst Good (sym (retire_guest h j ∙ made_by h j)) (law.stays_good j.guest h (j.now - j.delay) (subst Good (sym same) lives.good) runs)
+  standing_good (suc n) = next_by x Good law (λ d. Good d.guest) n (standing_good n) (λ h none r asleep. woken_good n h none asleep) (λ h none r awake. still_good n h none r awake)

@@ -1,5 +1,5 @@
 -- The delayed run of a program, step by step in code.
-use Rattle.std.proofs.Common.{◌≡◌, ℕ, zero, suc, ◌+◌, ◌-◌, ◌*◌, ◌^◌, ◌≤◌, ◌<◌, Bool, true, false, not, if◌then◌else◌, ◌==◌, List, [], ◌∷◌, ◌++◌, map, length, get_or, slice_get, filter, nat_le, refl, sym, ap, ap₂, ◌∙◌, subst, arith, Option, Some, None, is_some, option_map, option_to_list, IsSome, eqb-true, replicate, lit<, add-one, mul_comm, ◌⊎◌}
+use Rattle.std.proofs.Common.{◌≡◌, ℕ, zero, suc, ◌+◌, ◌-◌, ◌*◌, ◌^◌, ◌≤◌, ◌<◌, Bool, true, false, not, ◌||◌, if◌then◌else◌, ◌==◌, List, [], ◌∷◌, ◌++◌, map, length, get_or, slice_get, filter, nat_le, refl, sym, ap, ap₂, ◌∙◌, subst, arith, Option, Some, None, is_some, option_map, option_to_list, IsSome, eq-eqb, eqb-true, replicate, lit<, mul_comm, ◌⊎◌}
 use Rattle.std.proofs.lemmas.List.{length-map, length-replicate, length-set, map-append}
 use Rattle.std.specs.List.{All}
 use Rattle.std.proofs.lemmas.List.Elements.{All-nil, All-cons, All-head, All-tail}
@@ -11,50 +11,52 @@ use Rattle.coz_types.specs.declared.record.Outcome.{Outcome}
 use Rattle.coz_types.specs.declared.record.Visit.{Visit as GivenVisit}
 use Rattle.coz_types.specs.Image.{ImageParts}
 use Rattle.cost_table.specs.Costs.{cycles_of}
-use Rattle.hart_schedule.specs.Keys.{key_of, without_key}
+use Rattle.hart_schedule.specs.Keys.{key_of}
 use Rattle.line_index.specs.Index.{position_at}
 use Rattle.progress_points.specs.Points.{point_of}
 use Rattle.machines.specs.declared.Fate.{Fate}
 use Rattle.machines.specs.declared.Fate.TheVariants.{Goes, Waits, Leaves, Sleeps, Ends}
 use Rattle.machines.specs.Places.{is_among}
-use Rattle.machines.specs.Guest.{Experiment, Retirement, IsLawful, enough, goes_on, own_ending, when, first_ending, started}
+use Rattle.machines.specs.Guest.{Experiment, Retirement, IsLawful, enough, goes_on, own_ending, when, first_ending, started, is_timed}
 use Rattle.machines.specs.Delayed.{Account, Load, Hart, Delayed, Visit, fresh, is_running, stop, run as run_from, begin, unbegun, events, after, delayed}
 use Rattle.machines.specs.Shortened.{Shortened, Turn, shortened, move}
 use Rattle.machines.specs.Shortened as short
 use Rattle.machines.specs.Agreement.{LoadAgrees, Agrees}
-use Rattle.machines.specs.Steps.{Steps}
+use Rattle.machines.specs.Steps.{Steps, Passes}
 use Rattle.machines.specs.Standing.{standing, delayed_record}
 use Rattle.machines.specs.Lead.{before}
 use Rattle.machines.specs.Records.{net, record_of, IsDelayed, IsShortened, shortened_record}
 use Rattle.machines.proofs.Runs.{both}
-use Rattle.machines.proofs.LeadForks.{ended_begins, goes_begins}
+use Rattle.machines.proofs.LeadForks.{ended_begins, goes_begins, wakes_begins}
 use Rattle.machines.proofs.Headline.{unique}
 use Rattle.machines.proofs.Ends.{goes_on_at, few, record_is}
 use Rattle.machines.proofs.Stepping.{begin_frame}
 use Rattle.machines.proofs.Standing.{agrees, agrees_events, few_wakes, in_time, end_in_time, steps_is, last, recorded_delayed, delayed_is, net_is}
-use Rattle.delay_credits.specs.Delays.{Delays, account_as, hart_at, pause_of, at, with_start, with_stop, none_raised}
+use Rattle.delay_credits.specs.Delays.{Delays, account_as, hart_at, pause_of, at, with_start, none_raised}
 use Rattle.delay_credits.specs.Ticks.{without_work, ticked}
 use Rattle.guest_calls.specs.Calls.{retirement}
-use Rattle.guest_calls.specs.Guest.{Guest, making, IsMade, pc_of, first_guest, is_running as runs_in}
+use Rattle.guest_calls.specs.Guest.{Guest, making, IsMade, pc_of, with_wake, first_guest, is_running as runs_in}
 use Rattle.guest_calls.specs.Orderly.{IsOrderly}
 use Rattle.guest_calls.specs.Retire.{next_of, retire}
-use Rattle.guest_calls.proofs.Law.{retire-made, running_low, others_idle, own_trap}
+use Rattle.guest_calls.proofs.Law.{retire-made, running_low, timed_low, running_awake, others_idle, own_trap}
 use Rattle.virtual_run.specs.declared.choice.Setting.{Setting}
+use Rattle.virtual_run.specs.declared.run.Event.{Event}
+use Rattle.virtual_run.specs.declared.run.Event.TheVariants.{Woke, Retired}
 use Rattle.virtual_run.specs.declared.run.Run.{Run}
-use Rattle.virtual_run.specs.Begin.{started_by, many, AreIdle}
+use Rattle.virtual_run.specs.Begin.{started_by, rested, many, AreIdle}
 use Rattle.virtual_run.specs.Ending.{ending_of}
 use Rattle.virtual_run.specs.Visits.{Visits, visits_of}
 use Rattle.virtual_run.specs.Run.{events_of, IsChoice, IsReached, IsSteady, IsFirst}
-use Rattle.virtual_run.specs.Advance.{IsAdvance}
-use Rattle.virtual_run.specs.Credited.{raise_ticks, with_credits, with_starts, with_raises, with_begun, settled_by, Runs, AllRun, AllBelow, Holds, CanBegin}
+use Rattle.virtual_run.specs.Advance.{IsRetired, IsWoken, IsAdvance}
+use Rattle.virtual_run.specs.Credited.{raise_ticks, with_credits, with_starts, with_raises, with_rest, with_begun, settled_by, moment_of, credited_by, Runs, AllRun, AllBelow, Holds, CanBegin, CanWake, CanSettle, CanFollow}
+use Rattle.virtual_run.specs.Credited as credited
 use Rattle.virtual_run.specs.Seen.{Seen, experiment_with, experiment_of}
-use Rattle.virtual_run.specs.DelayedRun.{visit_as, net_due_of, account_in, outcome_of, IsOfAHart, IsSmall, AgreesThroughout, EndsOnce, IsPaced}
-use Rattle.virtual_run.proofs.Keys.{has_place, next_is}
+use Rattle.virtual_run.specs.DelayedRun.{visit_as, net_due_of, account_in, outcome_of, IsOfAHart, IsSmall, Happens, AgreesThroughout, EndsOnce, IsPaced}
+use Rattle.virtual_run.proofs.Keys.{has_place, rested_length, next_is}
 use Rattle.virtual_run.proofs.Many.{many_few}
-use Rattle.virtual_run.proofs.Begin.{cycles_few}
-use Rattle.machines.proofs.Wakeless.{NeverSleeps, short_awake, long_awake}
-use Rattle.virtual_run.proofs.Law.{lawful_run, never_run, followed_by, steady, reached_next, IsTurn, neither, started_idle, none_own}
-use Rattle.virtual_run.proofs.Credited.{among_filter, holds_begin}
+use Rattle.virtual_run.proofs.Begin.{cycles_few, one_at_most}
+use Rattle.virtual_run.proofs.Law.{lawful_run, followed_by, steady, reached_next, reached_woken, IsTurn, started_idle, none_own}
+use Rattle.virtual_run.proofs.Credited.{among_filter, rest_of, with_rest_is, holds_begin}
 use Rattle.virtual_run.proofs.CreditedLists.{at_latest, change_length, raises_length, raises_latest, start_is, starts_run}
 use Rattle.virtual_run.proofs.CreditedBegin.{others_among, begun_places}
 use Rattle.virtual_run.proofs.CreditedBounds.{standing_bounded, cut_few}
@@ -67,15 +69,17 @@ use Rattle.virtual_run.proofs.Made.{retire_grows, first_count}
 pub lawful_with : (image : ImageParts) (input : List ℕ) (setting : Setting) → IsChoice setting.choice → IsLawful (experiment_with image input setting) IsOrderly
 lawful_with image input setting valid = lawful_run image (position_at setting.index.now) (point_of setting.points.now) input setting.choice valid.speedup
 
-pub never_with : (image : ImageParts) (input : List ℕ) (setting : Setting) → NeverSleeps (experiment_with image input setting) IsOrderly
-never_with image input setting = never_run image (position_at setting.index.now) (point_of setting.points.now) input setting.choice
-
 counted_with : (image : ImageParts) (input : List ℕ) (setting : Setting) → IsCounted (experiment_with image input setting) IsOrderly (λ g. length g.harts)
 counted_with image input setting = record {
   first = first_count image input setting.choice.output_limit setting.choice.layout;
   made = λ g h good runs. (running_low g h good runs).0;
   grows = λ g h v good runs. retire_grows g h v good;
+  woken = λ g h good asleep. ((timed_low g h good (ap (λ (b : Bool). b || runs_in g h) asleep)).0, length-set g.harts h _);
 }
+
+one_bit : (b : Bool) → (if b then true else false) ≡ true → b ≡ true
+one_bit true e = refl
+one_bit false e = e
 
 -- visits as the machine keeps them
 visit_kept : (o : Option ℕ) (h time delay : ℕ) → map visit_as (visits_of o h time delay) ≡ option_to_list (option_map (λ p. record { point = p; hart = h; time = time; delay = delay }) o)
@@ -121,9 +125,6 @@ module _ (image : ImageParts) (input : List ℕ) (setting : Setting) (run : Run)
   law : IsLawful x IsOrderly
   law = lawful_with image input setting p.valid
 
-  never : NeverSleeps x IsOrderly
-  never = never_with image input setting
-
   pub agree : Agrees d s
   agree = agrees x IsOrderly law (events_of run)
 
@@ -152,11 +153,11 @@ module _ (image : ImageParts) (input : List ℕ) (setting : Setting) (run : Run)
   now_is = p.moment
 
   pub harts_now : length d.harts ≡ length run.guest.harts
-  harts_now = standing_has x IsOrderly law never (λ g. length g.harts) (counted_with image input setting) (events_of run) ∙ ap (λ (g : Guest). length g.harts) guest_now
+  harts_now = standing_has x IsOrderly law (λ g. length g.harts) (counted_with image input setting) (events_of run) ∙ ap (λ (g : Guest). length g.harts) guest_now
 
   -- the delay is at most 3800 ticks a start
   delay_few : d.delay ≤ 3800 * d.starts
-  delay_few = standing_bounded x IsOrderly law never 3800 (cut_few x 40 95 (λ g h. cycles_few (next_of g h)) p.valid.speedup) (events_of run)
+  delay_few = standing_bounded x IsOrderly law 3800 (cut_few x 40 95 (λ g h. cycles_few (next_of g h)) p.valid.speedup) (events_of run)
 
   -- each wake followed a retirement
   pub wakes_few : run.wakes ≤ run.retired
@@ -182,14 +183,14 @@ module _ (image : ImageParts) (input : List ℕ) (setting : Setting) (run : Run)
   pub is_steady : run.ending ≡ None → IsSteady run
   is_steady none = steady image (position_at setting.index.now) (point_of setting.points.now) input setting.choice p.valid run p.reached none
 
-  module _ (new : Run) (h : ℕ) (fate : Fate) (delay : ℕ) (given : delay ≡ credits.raised) (goes : run.ending ≡ None) (a : IsAdvance setting run h fate delay new) where
+  module _ (new : Run) (h : ℕ) (fate : Fate) (delay : ℕ) (given : delay ≡ credits.raised) (goes : run.ending ≡ None) (a : IsRetired setting run h fate delay new) where
     abbrev t : Turn
     t = record { hart = h; due = new.time }
 
     abbrev pub later_now : ℕ
     later_now = new.time + delay
 
-    next : IsNext x IsOrderly law never (events_of run) t later_now credits
+    next : IsNext x IsOrderly law (events_of run) t later_now credits
     next = record {
       goes = ending_now ∙ goes;
       turn = next_is run.schedule s.dues h new.time p.reached.reached.dues a.turn a.first;
@@ -208,37 +209,41 @@ module _ (image : ImageParts) (input : List ℕ) (setting : Setting) (run : Run)
     hart_below = subst (λ (n : ℕ). h < n) (p.reached.room ∙ sym p.room) (has_place run.schedule h new.time a.turn)
 
     pub is_later : credits.latest ≤ later_now
-    is_later = steps.later x IsOrderly law never (events_of run) t later_now credits next
+    is_later = steps.later x IsOrderly law (events_of run) t later_now credits next
 
     pub hart_runs : is_running (hart_at credits h) ≡ true
-    hart_runs = steps.running x IsOrderly law never (events_of run) t later_now credits next
+    hart_runs = steps.running x IsOrderly law (events_of run) t later_now credits next
 
     pub hart_unpaused : pause_of (hart_at (at later_now credits) h) ≡ 0
-    hart_unpaused = steps.unpaused x IsOrderly law never (events_of run) t later_now credits next
+    hart_unpaused = steps.unpaused x IsOrderly law (events_of run) t later_now credits next
 
     abbrev stopped : Delays
-    stopped = with_stop h later_now credits
+    stopped = with_rest h fate later_now credits
 
     stopped_places : length stopped.harts ≡ 256
     stopped_places =
         let same : length (at later_now credits).harts ≡ length credits.harts = length-map credits.harts (ticked (later_now - credits.latest)) in
-        change_length h stop (at later_now credits).harts (subst (λ (n : ℕ). h < n) (sym same) hart_below) ∙ same ∙ p.room
+        ap (λ (c : Delays). length c.harts) (with_rest_is h fate later_now credits)
+        ∙ change_length h (rest_of fate) (at later_now credits).harts (subst (λ (n : ℕ). h < n) (sym same) hart_below) ∙ same ∙ p.room
+
+    stopped_raised : stopped.raised ≡ credits.raised
+    stopped_raised = ap (λ (c : Delays). c.raised) (with_rest_is h fate later_now credits)
+
+    was_awake : x.guest.is_sleeping s.guest h ≡ false
+    was_awake = ap (λ (g : Guest). x.guest.is_sleeping g h) short_guest ∙ running_awake run.guest h a.running
 
     turned : IsTurn run.guest run.schedule h new.time
-    turned = let st : IsSteady run = is_steady goes in record { orderly = st.orderly; running = st.running; room = st.room; turn = a.turn }
+    turned = let st : IsSteady run = is_steady goes in record { orderly = st.orderly; timed = st.timed; running = a.running; room = st.room; turn = a.turn }
 
-    begin_idle : new.ending ≡ None → AreIdle new.guest (without_key h run.schedule) (started_by h fate new.started)
+    begin_idle : new.ending ≡ None → AreIdle new.guest (rested h fate run.schedule) (started_by h fate new.started)
     begin_idle none =
         let own : own_ending fate ≡ None = none_own fate _ _ _ new.retired setting.choice.budget (sym a.ending ∙ none) in
         started_idle run.guest run.schedule h new.time new.guest fate new.started turned a.retires own
 
-    hart_ran : runs_in run.guest h ≡ true
-    hart_ran = turned.running h ∙ ap is_some a.turn
-
-    still_idle : (k : ℕ) → is_among k new.started ≡ true → runs_in s.guest k ≡ false
+    still_idle : (k : ℕ) → is_among k new.started ≡ true → is_timed x.guest s.guest k ≡ false
     still_idle k among =
-        ap (λ (g : Guest). runs_in g k) short_guest
-        ∙ neither _ (runs_in run.guest k) (others_idle run.guest h new.time turned.orderly hart_ran k (ap (λ (r : Retirement Guest). is_among k r.others) (sym a.retires) ∙ among))
+        ap (λ (g : Guest). is_timed x.guest g k) short_guest
+        ∙ others_idle run.guest h new.time turned.orderly a.running k (ap (λ (r : Retirement Guest). is_among k r.others) (sym a.retires) ∙ among)
 
     pub reached_new : IsReached x new
     reached_new = reached_next image (position_at setting.index.now) (point_of setting.points.now) input setting.choice p.valid run p.reached new goes (a.moved (first_guest image input setting.choice.output_limit setting.choice.layout) s.dues p.reached.reached.dues) a.room (ap (λ (v : Visits). v.limit) a.visits) a.unfull a.retired a.wakes a.few a.within
@@ -268,7 +273,7 @@ module _ (image : ImageParts) (input : List ℕ) (setting : Setting) (run : Run)
     raises_few none =
         let few : d.delay ≤ 3800 * d.starts = delay_few in
         let is : credits.raised ≡ d.delay = p.holds.raised in
-        let more : (standing x (suc (events_of run))).starts ≡ d.starts + length (filter (x.guest.is_selected new.guest) (started_by h fate new.started)) = steps.starts_next x IsOrderly law never (events_of run) t later_now credits next r retires_as (after_is ∙ none) in
+        let more : (standing x (suc (events_of run))).starts ≡ d.starts + length (filter (x.guest.is_selected new.guest) (started_by h fate new.started)) = steps.starts_next x IsOrderly law (events_of run) t later_now credits next was_awake r retires_as (after_is ∙ none) in
         let same : length new.selected ≡ length (filter (x.guest.is_selected new.guest) (started_by h fate new.started)) = ap length (a.selected none) in
         let starts : (standing x (suc (events_of run))).starts ≡ new.starts = after_starts in
         let most : many new.schedule ≤ length new.schedule = many_few new.schedule in
@@ -282,21 +287,21 @@ module _ (image : ImageParts) (input : List ℕ) (setting : Setting) (run : Run)
     pub can_begin : new.ending ≡ None → CanBegin stopped new.guest h fate new.started new.selected
     can_begin none =
         let idle = begin_idle none in
-        let many_harts : length (without_key h run.schedule) ≡ 256 = length-set run.schedule h None ∙ p.reached.room in
+        let many_harts : length (rested h fate run.schedule) ≡ 256 = rested_length fate run.schedule h ∙ p.reached.room in
         let low : (k : ℕ) → is_among k (started_by h fate new.started) ≡ true → k < length stopped.harts = λ k among. subst (λ (n : ℕ). k < n) (many_harts ∙ sym stopped_places) (idle.idle k among).below in
         let chosen : (k : ℕ) → is_among k new.selected ≡ true → is_among k (started_by h fate new.started) ≡ true =
         λ k among. (among_filter (x.guest.is_selected new.guest) k (started_by h fate new.started) (ap (is_among k) (sym (a.selected none)) ∙ among)).1 in
         record {
           below = subst (λ (n : ℕ). h < n) (p.room ∙ sym stopped_places) hart_below;
-          whole = steps.whole_stopped x IsOrderly law never (events_of run) t later_now credits next;
+          whole = steps.whole_stopped x IsOrderly law (events_of run) t later_now credits next fate ∙ sym stopped_raised;
           rest = λ k among. record {
             below = low k (others_among (goes_on fate) h k new.started among);
-            rests = steps.idle x IsOrderly law never (events_of run) t later_now credits next k (still_idle k among);
+            rests = steps.idle x IsOrderly law (events_of run) t later_now credits next fate k (still_idle k among);
           };
           started = low;
           selected = chosen;
           made = λ k among. (idle.idle k (chosen k among)).made;
-          few = raises_few none;
+          few = rw stopped_raised (raises_few none);
         }
 
     settled : Delays
@@ -308,11 +313,11 @@ module _ (image : ImageParts) (input : List ℕ) (setting : Setting) (run : Run)
     settled_holds : (o : Option Ending) → new.ending ≡ o
         → Holds (settled_by o (raise_ticks new.guest setting.choice.speedup) h fate new.started new.selected stopped) (standing x (suc (events_of run)))
         × (length (settled_by o (raise_ticks new.guest setting.choice.speedup) h fate new.started new.selected stopped).harts ≡ 256)
-    settled_holds (Some e) is = (steps.holds_ended x IsOrderly law never (events_of run) t later_now credits next e (after_is ∙ is), stopped_places)
+    settled_holds (Some e) is = (steps.holds_ended x IsOrderly law (events_of run) t later_now credits next was_awake e fate (ap (λ (r : Retirement Guest). r.fate) retires_as) (after_is ∙ is), stopped_places)
     settled_holds None is =
         let ticks : ℕ → ℕ = raise_ticks new.guest setting.choice.speedup in (
           subst (λ (hs : List ℕ). Holds (with_begun ticks h fate new.started hs stopped) (standing x (suc (events_of run)))) (sym (a.selected is))
-              (steps.holds_goes x IsOrderly law never (events_of run) t later_now credits next ticks r retires_as ticks_are (after_is ∙ is)),
+              (steps.holds_goes x IsOrderly law (events_of run) t later_now credits next was_awake ticks r retires_as ticks_are (after_is ∙ is)),
           begun_places stopped new.guest h fate new.started new.selected (can_begin is) ticks ∙ stopped_places,
         )
 
@@ -324,11 +329,13 @@ module _ (image : ImageParts) (input : List ℕ) (setting : Setting) (run : Run)
         ∙ map-append visit_as run.visits.kept (visits_of point h later_now delay)
         ∙ ap₂ (λ (vs ws : List Visit). vs ++ ws) p.visits
         (visit_kept point h later_now delay ∙ ap₂ (λ (m : ℕ) (g : Guest). visit_at x h later_now m g) given (sym short_guest))
-        ∙ sym (steps.visits_next x IsOrderly law never (events_of run) t later_now credits next)
+        ∙ sym (steps.visits_next x IsOrderly law (events_of run) t later_now credits next was_awake)
 
     latest_is : (o : Option Ending) → (settled_by o (raise_ticks new.guest setting.choice.speedup) h fate new.started new.selected stopped).latest ≡ later_now
-    latest_is (Some e) = refl
-    latest_is None = raises_latest (raise_ticks new.guest setting.choice.speedup) new.selected (with_starts (started_by h fate new.started) (with_credits new.started stopped))
+    latest_is (Some e) = ap (λ (c : Delays). c.latest) (with_rest_is h fate later_now credits)
+    latest_is None =
+        raises_latest (raise_ticks new.guest setting.choice.speedup) new.selected (with_starts (started_by h fate new.started) (with_credits new.started stopped))
+        ∙ ap (λ (c : Delays). c.latest) (with_rest_is h fate later_now credits)
 
     -- the fields stand for the state after the retirement
     soon_new : later_now ≤ 10 ^ 17
@@ -339,7 +346,7 @@ module _ (image : ImageParts) (input : List ℕ) (setting : Setting) (run : Run)
     trap_new e is =
         of_a_hart e (λ trap trapped.
         let fate_is : fate ≡ Ends (Trapped trap) = trap_fate fate _ _ _ new.retired setting.choice.budget trap (sym a.ending ∙ is ∙ ap Some trapped) in
-        let own : trap.hart.0 ≡ h = own_trap run.guest h new.time turned.orderly hart_ran trap (ap (λ (r : Retirement Guest). r.fate) (sym a.retires) ∙ fate_is) in
+        let own : trap.hart.0 ≡ h = own_trap run.guest h new.time turned.orderly a.running trap (ap (λ (r : Retirement Guest). r.fate) (sym a.retires) ∙ fate_is) in
         let below = subst (λ (n : ℕ). h < n) p.room hart_below in
         omega (arith, own, below))
 
@@ -348,7 +355,7 @@ module _ (image : ImageParts) (input : List ℕ) (setting : Setting) (run : Run)
     selected_new (Some e) is =
         a.none_selected (ap is_some is) ∙ sym (ap (filter (x.guest.is_selected new.guest)) (ended_begins x (suc (events_of run)) e (after_is ∙ is)))
     selected_new None is =
-        let begins = goes_begins x IsOrderly law (events_of run) t (ending_now ∙ goes) next.turn (short_awake x IsOrderly law never (events_of run) h) (after_is ∙ is) in
+        let begins = goes_begins x IsOrderly law (events_of run) t (ending_now ∙ goes) next.turn was_awake (after_is ∙ is) in
         a.selected is ∙ sym (ap (filter (x.guest.is_selected new.guest)) (begins ∙ sym (ap (started h) retires_as)))
 
     pub paced_next : (after : Delays) → after ≡ settled_by new.ending (raise_ticks new.guest setting.choice.speedup) h fate new.started new.selected stopped → IsPaced image input setting new after later_now
@@ -364,7 +371,7 @@ module _ (image : ImageParts) (input : List ℕ) (setting : Setting) (run : Run)
           moment = sym (latest_is new.ending) ∙ ap (λ (c : Delays). c.latest) (sym is) ∙ holds.latest;
           soon = soon_new;
           trap = trap_new;
-          made = ap (λ (r : Retirement Guest). making r.guest) a.retires ∙ retire-made run.guest h new.time turned.orderly hart_ran ∙ p.made;
+          made = ap (λ (r : Retirement Guest). making r.guest) a.retires ∙ retire-made run.guest h new.time turned.orderly a.running ∙ p.made;
           selected = selected_new new.ending refl ∙ ap (λ (n : ℕ). filter (x.guest.is_selected new.guest) (before x n).harts) (sym next_count);
         }
 
@@ -372,7 +379,154 @@ module _ (image : ImageParts) (input : List ℕ) (setting : Setting) (run : Run)
     pub steps_next : Steps x d (standing x (events_of new))
     steps_next =
         let by = steps_is x IsOrderly law (events_of run) t (ending_now ∙ goes) next.turn in
-        subst (λ (n : ℕ). Steps x d (standing x n)) (sym next_count) (by.retires (long_awake x IsOrderly law never (events_of run) h)).1
+        subst (λ (n : ℕ). Steps x d (standing x n)) (sym next_count) (by.retires (ap (λ (g : Guest). x.guest.is_sleeping g h) agree.guest ∙ was_awake)).1
+
+    pub can_settle : CanSettle credits new h fate later_now
+    can_settle = record { below = hart_below; later = is_later; running = hart_runs; unpaused = hart_unpaused; can = can_begin }
+
+  -- a wake
+  module _ (new : Run) (h due : ℕ) (delay : ℕ) (given : delay ≡ credits.raised) (goes : run.ending ≡ None) (a : IsWoken setting run h due new) where
+    abbrev wake_turn : Turn
+    wake_turn = record { hart = h; due = due }
+
+    abbrev wake_now : ℕ
+    wake_now = due + delay
+
+    next_wake : IsNext x IsOrderly law (events_of run) wake_turn wake_now credits
+    next_wake = record {
+      goes = ending_now ∙ goes;
+      turn = next_is run.schedule s.dues h due p.reached.reached.dues a.turn a.first;
+      moment = ap (λ (m : ℕ). due + m) given;
+      holds = p.holds;
+    }
+
+    was_asleep : x.guest.is_sleeping s.guest h ≡ true
+    was_asleep = ap (λ (g : Guest). x.guest.is_sleeping g h) short_guest ∙ a.asleep
+
+    pub wake_few : due ≤ 2 * 10 ^ 16
+    wake_few =
+        let soon : due ≤ 10 ^ 16 + 4000 * (events_of run + 1) = p.reached.within h due a.turn in
+        let below : run.retired ≤ setting.choice.budget = p.reached.retired in
+        let budget : setting.choice.budget ≤ 10 ^ 12 = p.valid.few in
+        omega (arith, wakes_few)
+
+    wake_below : h < length credits.harts
+    wake_below = subst (λ (n : ℕ). h < n) (p.reached.room ∙ sym p.room) (has_place run.schedule h due a.turn)
+
+    same_visits : new.visits ≡ run.visits
+    same_visits = ap (λ (o : Run). o.visits) a.rest
+
+    same_retired : new.retired ≡ run.retired
+    same_retired = ap (λ (o : Run). o.retired) a.rest
+
+    still_goes : new.ending ≡ None
+    still_goes = ap (λ (o : Run). o.ending) a.rest ∙ goes
+
+    reached_wake : IsReached x new
+    reached_wake =
+        reached_woken image (position_at setting.index.now) (point_of setting.points.now) input setting.choice p.valid run p.reached new goes
+        (a.moved (first_guest image input setting.choice.output_limit setting.choice.layout) s.dues p.reached.reached.dues) a.room same_visits same_retired a.wakes a.few a.within
+
+    pub count_wake : events_of new ≡ events_of run + 1
+    count_wake = omega (arith, same_retired, a.wakes)
+
+    wake_count : events_of new ≡ suc (events_of run)
+    wake_count = omega (arith, count_wake)
+
+    wake_guest : new.guest ≡ x.guest.wake s.guest h
+    wake_guest = a.guest ∙ ap (λ (g : Guest). with_wake h g) (sym short_guest)
+
+    wake_selected : new.selected ≡ filter (x.guest.is_selected new.guest) (h ∷ [])
+    wake_selected = a.selected
+
+    only_here : (k : ℕ) → is_among k new.selected ≡ true → k ≡ h
+    only_here k among = let there = among_filter (x.guest.is_selected new.guest) k (h ∷ []) (ap (is_among k) (sym wake_selected) ∙ among) in eqb-true k h (one_bit (k == h) there.1)
+
+    pub can_wake : CanWake credits new h wake_now
+    can_wake =
+        let same : length (at wake_now credits).harts ≡ length credits.harts = length-map credits.harts (ticked (wake_now - credits.latest)) in
+        let here : AllBelow (at wake_now credits) (h ∷ []) = λ k among. let is : k ≡ h = eqb-true k h (one_bit (k == h) among) in omega (arith, is, same, wake_below) in
+        let st : IsSteady run = is_steady goes in
+        let low = timed_low run.guest h st.orderly (st.timed h ∙ ap is_some a.turn) in
+        let made : length new.guest.harts ≡ length run.guest.harts = ap (λ (g : Guest). length g.harts) a.guest ∙ length-set run.guest.harts h _ in
+        let raised : credits.raised ≤ 10 ^ 16 = raised_few in
+        let one : length new.selected ≤ 1 = subst (λ (hs : List ℕ). length hs ≤ 1) (sym wake_selected) (one_at_most (x.guest.is_selected new.guest) h) in
+        record {
+          below = wake_below;
+          later = steps.later x IsOrderly law (events_of run) wake_turn wake_now credits next_wake;
+          runs = λ k among. starts_run (h ∷ []) (at wake_now credits) here k (rw (only_here k among, eq-eqb h h refl) refl);
+          made = λ k among. let is : k ≡ h = only_here k among in omega (arith, is, low.0, made);
+          few = omega (arith, raised, one);
+        }
+
+    ticks_wake : (k : ℕ) → raise_ticks new.guest setting.choice.speedup k ≡ x.speedup * x.guest.cycles new.guest k
+    ticks_wake k = mul_comm (cycles_of (next_of new.guest k)) setting.choice.speedup
+
+    abbrev waked : Delays
+    waked = credited.with_wake (raise_ticks new.guest setting.choice.speedup) h new.selected (at wake_now credits)
+
+    holds_waked : Holds waked (standing x (suc (events_of run)))
+    holds_waked =
+        subst (λ (hs : List ℕ). Holds (credited.with_wake (raise_ticks new.guest setting.choice.speedup) h hs (at wake_now credits)) (standing x (suc (events_of run)))) (sym wake_selected)
+        (steps.holds_wake x IsOrderly law (events_of run) wake_turn wake_now credits next_wake was_asleep (raise_ticks new.guest setting.choice.speedup) new.guest wake_guest ticks_wake)
+
+    waked_places : length waked.harts ≡ 256
+    waked_places =
+        let same : length (at wake_now credits).harts ≡ length credits.harts = length-map credits.harts (ticked (wake_now - credits.latest)) in
+        raises_length (raise_ticks new.guest setting.choice.speedup) new.selected (with_starts (h ∷ []) (at wake_now credits))
+        ∙ change_length h (run_from 0) (at wake_now credits).harts (subst (λ (n : ℕ). h < n) (sym same) wake_below) ∙ same ∙ p.room
+
+    pub paced_wake : (after : Delays) → after ≡ waked → IsPaced image input setting new after wake_now
+    paced_wake after is =
+        let holds : Holds after (standing x (events_of new)) = subst (λ (n : ℕ). Holds after (standing x n)) (sym wake_count) (subst (λ (c : Delays). Holds c (standing x (suc (events_of run)))) (sym is) holds_waked) in
+        let few : credits.raised ≤ 10 ^ 16 = raised_few in
+        record {
+          valid = p.valid;
+          reached = reached_wake;
+          holds = holds;
+          room = ap (λ (c : Delays). length c.harts) is ∙ waked_places;
+          visits =
+              ap (λ (v : Visits). map visit_as v.kept) same_visits ∙ p.visits
+              ∙ sym (steps.visits_wake x IsOrderly law (events_of run) wake_turn wake_now credits next_wake was_asleep)
+              ∙ ap (λ (n : ℕ). (standing x n).visits) (sym wake_count);
+          moment =
+              sym (raises_latest (raise_ticks new.guest setting.choice.speedup) new.selected (with_starts (h ∷ []) (at wake_now credits)))
+              ∙ ap (λ (c : Delays). c.latest) (sym is) ∙ holds.latest;
+          soon = omega (arith, few, wake_few, given);
+          trap = λ e ended. absurd (let no : ◌≡◌ {A = Option Ending} None (Some e) = sym still_goes ∙ ended in cc);
+          made = ap making a.guest ∙ p.made;
+          selected =
+              wake_selected
+              ∙ ap (filter (x.guest.is_selected new.guest)) (sym (wakes_begins x IsOrderly law (events_of run) wake_turn (ending_now ∙ goes) next_wake.turn was_asleep))
+              ∙ ap (λ (n : ℕ). filter (x.guest.is_selected new.guest) (before x n).harts) (sym wake_count);
+        }
+
+    pub happens_wake : Passes x d (standing x (events_of new)) × ((standing x (events_of new)).ending ≡ None)
+    happens_wake =
+        subst (λ (n : ℕ). Passes x d (standing x n) × ((standing x n).ending ≡ None)) (sym wake_count)
+        (steps.passes_wake x IsOrderly law (events_of run) wake_turn wake_now credits next_wake was_asleep, steps.goes_wake x IsOrderly law (events_of run) wake_turn wake_now credits next_wake was_asleep)
+
+  -- an event
+  pub event_few : (new : Run) (event : Event) (delay : ℕ) → delay ≡ credits.raised → run.ending ≡ None → IsAdvance setting run event delay new → moment_of event new ≤ 2 * 10 ^ 16
+  event_few new (Woke turn) delay given goes a = wake_few new turn.hart.0 turn.due delay given goes a
+  event_few new (Retired retired) delay given goes a = time_few new retired.hart.0 retired.fate delay given goes a
+
+  pub event_count : (new : Run) (event : Event) (delay : ℕ) → delay ≡ credits.raised → run.ending ≡ None → IsAdvance setting run event delay new → events_of new ≡ events_of run + 1
+  event_count new (Woke turn) delay given goes a = count_wake new turn.hart.0 turn.due delay given goes a
+  event_count new (Retired retired) delay given goes a = omega (arith, a.retired, a.wakes)
+
+  pub can_follow : (new : Run) (event : Event) (delay : ℕ) → delay ≡ credits.raised → run.ending ≡ None → IsAdvance setting run event delay new → CanFollow event credits new (moment_of event new + delay)
+  can_follow new (Woke turn) delay given goes a = can_wake new turn.hart.0 turn.due delay given goes a
+  can_follow new (Retired retired) delay given goes a = can_settle new retired.hart.0 retired.fate delay given goes a
+
+  pub paced_event : (new : Run) (event : Event) (delay : ℕ) → delay ≡ credits.raised → run.ending ≡ None → IsAdvance setting run event delay new
+      → (after : Delays) → after ≡ credited_by event new (raise_ticks new.guest setting.choice.speedup) (moment_of event new + delay) credits → IsPaced image input setting new after (moment_of event new + delay)
+  paced_event new (Woke turn) delay given goes a after is = paced_wake new turn.hart.0 turn.due delay given goes a after is
+  paced_event new (Retired retired) delay given goes a after is = paced_next new retired.hart.0 retired.fate delay given goes a after is
+
+  pub happens_event : (new : Run) (event : Event) (delay : ℕ) → delay ≡ credits.raised → run.ending ≡ None → IsAdvance setting run event delay new → Happens x event d (standing x (events_of new))
+  happens_event new (Woke turn) delay given goes a = happens_wake new turn.hart.0 turn.due delay given goes a
+  happens_event new (Retired retired) delay given goes a = steps_next new retired.hart.0 retired.fate delay given goes a
 
 -- when a hart retires, of its load
 due_of : (now delay : ℕ) (a : Account) (o : Option Load) (due : Option ℕ) → LoadAgrees now delay a o due → due ≡ option_map (λ load. now + load.work + load.pause - delay) o
@@ -441,7 +595,7 @@ module _ (image : ImageParts) (input : List ℕ) (setting : Setting) (run : Run)
 
   pub harts_few : length run.guest.harts ≤ 256
   harts_few =
-      let good : IsOrderly seen.guest = standing_good (experiment_with image input setting) IsOrderly (lawful_with image input setting p.valid) (never_with image input setting) (events_of run) in
+      let good : IsOrderly seen.guest = standing_good (experiment_with image input setting) IsOrderly (lawful_with image input setting p.valid) (events_of run) in
       subst (λ (g : Guest). length g.harts ≤ 256) (guest_now image input setting run credits now p) good.few
 
   pub visits_in_time : All (λ (v : Visit). v.delay ≤ v.time) seen.visits
@@ -520,13 +674,9 @@ module _ (image : ImageParts) (input : List ℕ) (setting : Setting) (run : Run)
       subst (λ (v : Seen (Delayed Guest)). standing (experiment_with image input setting) n ≡ standing (experiment_of v) (events v.state + 1)) view
       (ap (standing (experiment_with image input setting)) (is ∙ ap (λ (m : ℕ). m + 1) (sym (events_now image input setting run credits now p))))
 
-  pub steps_seen : (v : Seen (Delayed Guest)) (d : Delayed Guest) → seen_of image input setting run ≡ v → Steps (experiment_with image input setting) (standing (experiment_with image input setting) (events_of run)) d → Steps (experiment_of v) v.state d
-  steps_seen v d view steps = subst (λ (v : Seen (Delayed Guest)). Steps (experiment_of v) v.state d) view steps
-  -- another state of the same run beside the shortened machine
-
-one_bit : (b : Bool) → (if b then true else false) ≡ true → b ≡ true
-one_bit true e = refl
-one_bit false e = e
+  pub happens_seen : (v : Seen (Delayed Guest)) (event : Event) (d : Delayed Guest) → seen_of image input setting run ≡ v → Happens (experiment_with image input setting) event (standing (experiment_with image input setting) (events_of run)) d
+      → Happens (experiment_of v) event v.state d
+  happens_seen v event d view happens = subst (λ (v : Seen (Delayed Guest)). Happens (experiment_of v) event v.state d) view happens
 
 only_first : (k : ℕ) → is_among k (0 ∷ []) ≡ true → k ≡ 0
 only_first k e = eqb-true k 0 (one_bit (k == 0) e)

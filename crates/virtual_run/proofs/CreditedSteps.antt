@@ -1,27 +1,29 @@
 -- A step of the delayed machine, on the credits that hold its accounts and pauses.
-use Rattle.std.proofs.Common.{◌≡◌, ℕ, suc, ◌+◌, ◌-◌, ◌*◌, ◌≤◌, ◌||◌, true, false, List, ◌++◌, length, get_or, filter, refl, sym, ap, ap₂, ◌∙◌, subst, arith, eqb-true, Option, Some, None, is_some, option_map, option_to_list, ◌⊎◌, inl, inr}
+use Rattle.std.proofs.Common.{◌≡◌, ℕ, suc, ◌+◌, ◌-◌, ◌*◌, ◌≤◌, ◌||◌, true, false, List, [], ◌∷◌, ◌++◌, length, get_or, filter, refl, sym, ap, ap₂, ◌∙◌, subst, arith, eqb-true, Option, Some, None, is_some, option_map, option_to_list, ◌⊎◌, inl, inr}
 use Rattle.std.proofs.lemmas.Bool.{cases_eq}
 use Rattle.coz_types.specs.declared.ending.Ending.{Ending}
-use Rattle.machines.specs.Guest.{Experiment, Retirement, IsLawful, started, sleeps}
-use Rattle.machines.specs.Delayed.{Account, Load, Hart, Visit, Delayed, total, fresh, is_ready, is_running, stop, account_of, over_or, begin, retirement, leave, give_credit, ending, retire}
+use Rattle.machines.specs.declared.Fate.{Fate}
+use Rattle.machines.specs.declared.Fate.TheVariants.{Goes, Waits, Leaves, Sleeps, Ends}
+use Rattle.machines.specs.Guest.{Experiment, Retirement, IsLawful, started, is_timed}
+use Rattle.machines.specs.Delayed.{Account, Load, Hart, Visit, Delayed, total, fresh, is_ready, is_running, stop, account_of, over_or, begin, retirement, leave, give_credit, ending, retire, wake}
 use Rattle.machines.specs.Shortened.{Shortened, Turn, next_turn, shortened}
 use Rattle.machines.specs.Agreement.{Agrees}
-use Rattle.machines.specs.Steps.{sit_hart, jump}
+use Rattle.machines.specs.Steps.{Passes, sit_hart, jump}
 use Rattle.machines.specs.Standing.{standing}
 use Rattle.machines.proofs.Maps.{change_same, change_other}
 use Rattle.machines.proofs.Turns.{first_is, turn_has}
 use Rattle.machines.proofs.Harts.{alike}
 use Rattle.machines.proofs.Retire.{Ready, ready_is, account_at}
 use Rattle.machines.proofs.Short.{Lives, turn_runs}
-use Rattle.machines.proofs.Wakeless.{NeverSleeps, short_awake, long_awake}
 use Rattle.machines.proofs.Ends.{goes_on_at}
+use Rattle.machines.proofs.Begin.{unchanged}
 use Rattle.machines.proofs.Stepping.{begin_frame}
 use Rattle.machines.proofs.Standing.{StepsBy, steps_is, agrees, jump_agrees, visit_of, retire_visits}
-use Rattle.delay_credits.specs.Delays.{Delays, hart_at, pause_of, at, with_stop}
+use Rattle.delay_credits.specs.Delays.{Delays, hart_at, pause_of, at}
 use Rattle.delay_credits.specs.Ticks.{without_work}
-use Rattle.virtual_run.specs.Credited.{Holds, with_credits, with_starts, with_raises}
+use Rattle.virtual_run.specs.Credited.{Holds, with_credits, with_starts, with_raises, with_rest, with_wake}
 use Rattle.virtual_run.proofs.CreditedBounds.{begin_starts, credit_starts}
-use Rattle.virtual_run.proofs.Credited.{holds_jump, holds_leave, holds_credit, holds_begin}
+use Rattle.virtual_run.proofs.Credited.{rest_of, with_rest_is, holds_jump, holds_leave, holds_credit, holds_begin}
 
 -- a hart without its work
 pub runs_held : (hart : Hart) → is_running (without_work hart) ≡ is_running hart
@@ -96,8 +98,8 @@ module _ {G : Type 0} (x : Experiment G) where
   unfoldable pub visit_at : (h : ℕ) (now delay : ℕ) (g : G) → List Visit
   visit_at h now delay g = option_to_list (option_map (λ p. record { point = p; hart = h; time = now; delay = delay }) (x.guest.point g h))
 
-module _ {G : Type 0} (x : Experiment G) (Good : G → Type 0) (law : IsLawful x Good) (never : NeverSleeps x Good) where
-  -- hart t.hart retires next, at the real time now, from the state after n retirements, which the credits hold
+module _ {G : Type 0} (x : Experiment G) (Good : G → Type 0) (law : IsLawful x Good) where
+  -- hart t.hart has the next turn, at the real time now, from the state after n events, which the credits hold
   pub record IsNext (n : ℕ) (t : Turn) (now : ℕ) (c : Delays) : Type 0 where
     pub goes : (standing x n).ending ≡ None
     pub turn : next_turn (shortened x n).dues ≡ Some t
@@ -116,9 +118,6 @@ module _ {G : Type 0} (x : Experiment G) (Good : G → Type 0) (law : IsLawful x
 
     steps : StepsBy x Good law n t k
     steps = steps_is x Good law n t next.goes next.turn
-
-    is : standing x (suc n) ≡ retire x t.hart (jump k d)
-    is = (steps.retires (long_awake x Good law never n t.hart)).0
 
     both : Agrees (jump k d) s
     both = jump_agrees x k d s (agrees x Good law n) next.goes steps.ticks
@@ -151,19 +150,10 @@ module _ {G : Type 0} (x : Experiment G) (Good : G → Type 0) (law : IsLawful x
         let due : d.now + k - d.delay ≡ t.due = omega arith in
         ap₂ (λ m n. m - n) (jump_parts x k d).0 (jump_parts x k d).1 ∙ due
 
-    retires : retirement x t.hart (jump k d) ≡ x.guest.retire s.guest t.hart t.due
-    retires = retirement_is x t.hart t.due (jump k d) s.guest both.guest due_is
-
     lives : Lives x Good s
     lives = (goes_on_at x Good law n (sym (agrees x Good law n).ending ∙ next.goes)).lives
 
-    awake : sleeps (retirement x t.hart (jump k d)).fate ≡ false
-    awake = ap (λ (r : Retirement G). sleeps r.fate) retires ∙ never.stays s.guest t.hart t.due lives.good (turn_runs x Good law s t lives next.turn (short_awake x Good law never n t.hart))
-
-    stopped : Holds (with_stop t.hart now c) (leave x t.hart (jump k d))
-    stopped = holds_leave x t.hart (at now c) (jump k d) awake held
-
-    -- the hart runs
+    -- the hart counts as running, if it sleeps too
     pub running : is_running (hart_at c t.hart) ≡ true
     running =
         let this : Hart = get_or d.harts t.hart fresh in
@@ -181,85 +171,157 @@ module _ {G : Type 0} (x : Experiment G) (Good : G → Type 0) (law : IsLawful x
         let this : Hart = get_or (jump k d).harts t.hart fresh in
         ap (λ (o : Hart). total o.account) (held.harts t.hart) ∙ ap total (account_held this) ∙ ready.has_all ∙ sym raised_is
 
-    pub whole_stopped : total (hart_at (with_stop t.hart now c) t.hart).account ≡ c.raised
-    whole_stopped = ap (λ (o : Hart). total o.account) (change_same fresh t.hart stop (at now c).harts) ∙ whole
+    account_rested : (fate : Fate) (hart : Hart) → (rest_of fate hart).account ≡ hart.account
+    account_rested Goes hart = refl
+    account_rested Waits hart = refl
+    account_rested Leaves hart = refl
+    account_rested (Sleeps moment) hart = refl
+    account_rested (Ends ending) hart = refl
 
-    idle_by : (i : ℕ) → x.guest.is_running s.guest i ≡ false → (t.hart ≡ i) ⊎ (t.hart ≡ i → ⊥) → is_running (hart_at (with_stop t.hart now c) i) ≡ false
-    idle_by i none (inl same) = subst (λ (j : ℕ). is_running (hart_at (with_stop t.hart now c) j) ≡ false) same (ap is_running (change_same fresh t.hart stop (at now c).harts))
-    idle_by i none (inr other) =
+    -- also once it stops, or sleeps
+    pub whole_stopped : (fate : Fate) → total (hart_at (with_rest t.hart fate now c) t.hart).account ≡ c.raised
+    whole_stopped fate =
+        ap (λ (o : Delays). total (hart_at o t.hart).account) (with_rest_is t.hart fate now c)
+        ∙ ap (λ (o : Hart). total o.account) (change_same fresh t.hart (rest_of fate) (at now c).harts)
+        ∙ ap total (account_rested fate (hart_at (at now c) t.hart))
+        ∙ whole
+
+    timed_here : is_timed x.guest s.guest t.hart ≡ true
+    timed_here = lives.running t.hart ∙ ap is_some (turn_has s.dues t next.turn)
+
+    idle_by : (fate : Fate) (i : ℕ) → is_timed x.guest s.guest i ≡ false → (t.hart ≡ i) ⊎ (t.hart ≡ i → ⊥) → is_running (hart_at (with_rest t.hart fate now c) i) ≡ false
+    idle_by fate i none (inl same) = absurd (let no : true ≡ false = sym timed_here ∙ ap (is_timed x.guest s.guest) same ∙ none in cc)
+    idle_by fate i none (inr other) =
         let that : Hart = get_or (jump k d).harts i fresh in
-        ap is_running (change_other fresh t.hart i stop (at now c).harts other ∙ held.harts i)
+        ap (λ (o : Delays). is_running (hart_at o i)) (with_rest_is t.hart fate now c)
+        ∙ ap is_running (change_other fresh t.hart i (rest_of fate) (at now c).harts other ∙ held.harts i)
         ∙ runs_held that
         ∙ alike (jump k d).now (jump k d).delay that.account that.load (get_or s.dues i None) (both.harts i)
         ∙ sym (lives.running i)
-        ∙ ap (λ b. b || x.guest.is_running s.guest i) (short_awake x Good law never n i)
         ∙ none
 
-    -- a hart that doesn't run doesn't run after it
-    pub idle : (i : ℕ) → x.guest.is_running s.guest i ≡ false → is_running (hart_at (with_stop t.hart now c) i) ≡ false
-    idle i none = idle_by i none (cases_eq t.hart i)
+    -- a hart that neither runs nor sleeps doesn't run after it
+    pub idle : (fate : Fate) (i : ℕ) → is_timed x.guest s.guest i ≡ false → is_running (hart_at (with_rest t.hart fate now c) i) ≡ false
+    idle fate i none = idle_by fate i none (cases_eq t.hart i)
 
     jump_goes : (jump k d).ending ≡ None
     jump_goes = (jump_parts x k d).3 ∙ next.goes
 
-    -- the run ends
-    pub holds_ended : (a : Ending) → (standing x (suc n)).ending ≡ Some a → Holds (with_stop t.hart now c) (standing x (suc n))
-    holds_ended a e =
-        let j : Delayed G = jump k d in
-        let ends_as : standing x (suc n) ≡ record (leave x t.hart j) { ending = Some a } = is ∙ retire_ended x t.hart j a jump_goes (ap (λ (o : Delayed G). o.ending) (sym is) ∙ e) in
-        subst (Holds (with_stop t.hart now c)) (sym ends_as) (record { latest = stopped.latest; raised = stopped.raised; harts = stopped.harts })
+    same_guest : d.guest ≡ s.guest
+    same_guest = (agrees x Good law n).guest
 
-    -- the credits after a retirement from which the run goes on
-    abbrev pub begun : (ℕ → ℕ) → Retirement G → Delays
-    begun ticks r = with_raises ticks (filter (x.guest.is_selected r.guest) (started t.hart r)) (with_starts (started t.hart r) (with_credits r.others (with_stop t.hart now c)))
+    -- it runs, and retires
+    module _ (awake : x.guest.is_sleeping s.guest t.hart ≡ false) where
+      is : standing x (suc n) ≡ retire x t.hart (jump k d)
+      is = (steps.retires (ap (λ g. x.guest.is_sleeping g t.hart) same_guest ∙ awake)).0
 
-    begins : (ticks : ℕ → ℕ) → let r : Retirement G = retirement x t.hart (jump k d) in
-        ((h : ℕ) → ticks h ≡ x.speedup * x.guest.cycles r.guest h) → Holds (begun ticks r) (begin x (started t.hart r) (give_credit x t.hart (jump k d)))
-    begins ticks are =
-        let j : Delayed G = jump k d in
-        let r : Retirement G = retirement x t.hart j in
-        let all : total (account_of j.harts t.hart) ≡ j.delay = ap total (account_at t.hart j.harts) ∙ ready.has_all in
-        let credits : Holds (with_credits r.others (with_stop t.hart now c)) (give_credit x t.hart j) = holds_credit x t.hart (with_stop t.hart now c) j all stopped in
-        subst
-        (λ (g : G). ((h : ℕ) → ticks h ≡ x.speedup * x.guest.cycles g h)
-        → Holds (with_raises ticks (filter (x.guest.is_selected g) (started t.hart r)) (with_starts (started t.hart r) (with_credits r.others (with_stop t.hart now c)))) (begin x (started t.hart r) (give_credit x t.hart j)))
-        (credit_guest x t.hart j)
-        (λ are. holds_begin x (started t.hart r) ticks (with_credits r.others (with_stop t.hart now c)) (give_credit x t.hart j) are credits)
-        are
+      retires : retirement x t.hart (jump k d) ≡ x.guest.retire s.guest t.hart t.due
+      retires = retirement_is x t.hart t.due (jump k d) s.guest both.guest due_is
 
-    pub holds_goes : (ticks : ℕ → ℕ) (r : Retirement G) → r ≡ x.guest.retire s.guest t.hart t.due → ((h : ℕ) → ticks h ≡ x.speedup * x.guest.cycles r.guest h) → (standing x (suc n)).ending ≡ None
-        → Holds (begun ticks r) (standing x (suc n))
-    holds_goes ticks r given are none =
-        let j : Delayed G = jump k d in
-        let same : retirement x t.hart j ≡ r = retires ∙ sym given in
-        let begun_is : standing x (suc n) ≡ begin x (started t.hart (retirement x t.hart j)) (give_credit x t.hart j) = is ∙ retire_goes x t.hart j (ap (λ (o : Delayed G). o.ending) (sym is) ∙ none) in
-        subst (Holds (begun ticks r)) (sym begun_is)
-        (subst (λ (q : Retirement G). Holds (begun ticks q) (begin x (started t.hart (retirement x t.hart j)) (give_credit x t.hart j))) same
-        (begins ticks (λ h. are h ∙ ap (λ (q : Retirement G). x.speedup * x.guest.cycles q.guest h) (sym same))))
+      stopped : Holds (with_rest t.hart (retirement x t.hart (jump k d)).fate now c) (leave x t.hart (jump k d))
+      stopped = holds_leave x t.hart now c (jump k d) held
 
-    -- the visit of the hart, if there is one
-    pub visits_next : (standing x (suc n)).visits ≡ d.visits ++ visit_at x t.hart now c.raised s.guest
-    unfolding visit_at
-    visits_next =
-        let j : Delayed G = jump k d in
-        let p = jump_parts x k d in
-        ap (λ (o : Delayed G). o.visits) is
-        ∙ retire_visits x t.hart j
-        ∙ ap (λ (vs : List Visit). vs ++ visit_of x t.hart j) p.4
-        ∙ ap (λ (vs : List Visit). d.visits ++ vs) (visit_is j.now j.delay j.guest (p.0 ∙ sym now_is) (sym raised_is) both.guest)
-      where
-        visit_is : (m e : ℕ) (g : G) → m ≡ now → e ≡ c.raised → g ≡ s.guest → visit_at x t.hart m e g ≡ visit_at x t.hart now c.raised s.guest
-        visit_is m e g is_now is_raised is_guest = rw (is_now, is_raised, is_guest) refl
+      -- the run ends
+      pub holds_ended : (a : Ending) (fate : Fate) → fate ≡ (x.guest.retire s.guest t.hart t.due).fate → (standing x (suc n)).ending ≡ Some a → Holds (with_rest t.hart fate now c) (standing x (suc n))
+      holds_ended a fate given e =
+          let j : Delayed G = jump k d in
+          let ends_as : standing x (suc n) ≡ record (leave x t.hart j) { ending = Some a } = is ∙ retire_ended x t.hart j a jump_goes (ap (λ (o : Delayed G). o.ending) (sym is) ∙ e) in
+          let same : (retirement x t.hart j).fate ≡ fate = ap (λ (r : Retirement G). r.fate) retires ∙ sym given in
+          subst (λ (f : Fate). Holds (with_rest t.hart f now c) (standing x (suc n))) same
+          (subst (Holds (with_rest t.hart (retirement x t.hart j).fate now c)) (sym ends_as) (record { latest = stopped.latest; raised = stopped.raised; harts = stopped.harts }))
 
-    -- each selected hart that begins is a start
-    pub starts_next : (r : Retirement G) → r ≡ x.guest.retire s.guest t.hart t.due → (standing x (suc n)).ending ≡ None
-        → (standing x (suc n)).starts ≡ d.starts + length (filter (x.guest.is_selected r.guest) (started t.hart r))
-    starts_next r given none =
-        let j : Delayed G = jump k d in
-        let q : Retirement G = retirement x t.hart j in
-        let same : q ≡ r = retires ∙ sym given in
-        let begun_is : standing x (suc n) ≡ begin x (started t.hart q) (give_credit x t.hart j) = is ∙ retire_goes x t.hart j (ap (λ (o : Delayed G). o.ending) (sym is) ∙ none) in
-        ap (λ (o : Delayed G). o.starts) begun_is
-        ∙ begin_starts x (started t.hart q) (give_credit x t.hart j)
-        ∙ ap₂ (λ (m : ℕ) (g : G). m + length (filter (x.guest.is_selected g) (started t.hart q))) ((credit_starts x t.hart j).0 ∙ (jump_parts x k d).5) (credit_guest x t.hart j)
-        ∙ ap (λ (o : Retirement G). d.starts + length (filter (x.guest.is_selected o.guest) (started t.hart o))) same
+      -- the credits after a retirement from which the run goes on
+      abbrev pub begun : (ℕ → ℕ) → Retirement G → Delays
+      begun ticks r = with_raises ticks (filter (x.guest.is_selected r.guest) (started t.hart r)) (with_starts (started t.hart r) (with_credits r.others (with_rest t.hart r.fate now c)))
+
+      begins : (ticks : ℕ → ℕ) → let r : Retirement G = retirement x t.hart (jump k d) in
+          ((h : ℕ) → ticks h ≡ x.speedup * x.guest.cycles r.guest h) → Holds (begun ticks r) (begin x (started t.hart r) (give_credit x t.hart (jump k d)))
+      begins ticks are =
+          let j : Delayed G = jump k d in
+          let r : Retirement G = retirement x t.hart j in
+          let all : total (account_of j.harts t.hart) ≡ j.delay = ap total (account_at t.hart j.harts) ∙ ready.has_all in
+          let credits : Holds (with_credits r.others (with_rest t.hart r.fate now c)) (give_credit x t.hart j) = holds_credit x t.hart (with_rest t.hart r.fate now c) j all stopped in
+          subst
+          (λ (g : G). ((h : ℕ) → ticks h ≡ x.speedup * x.guest.cycles g h)
+          → Holds (with_raises ticks (filter (x.guest.is_selected g) (started t.hart r)) (with_starts (started t.hart r) (with_credits r.others (with_rest t.hart r.fate now c)))) (begin x (started t.hart r) (give_credit x t.hart j)))
+          (credit_guest x t.hart j)
+          (λ are. holds_begin x (started t.hart r) ticks (with_credits r.others (with_rest t.hart r.fate now c)) (give_credit x t.hart j) are credits)
+          are
+
+      pub holds_goes : (ticks : ℕ → ℕ) (r : Retirement G) → r ≡ x.guest.retire s.guest t.hart t.due → ((h : ℕ) → ticks h ≡ x.speedup * x.guest.cycles r.guest h) → (standing x (suc n)).ending ≡ None
+          → Holds (begun ticks r) (standing x (suc n))
+      holds_goes ticks r given are none =
+          let j : Delayed G = jump k d in
+          let same : retirement x t.hart j ≡ r = retires ∙ sym given in
+          let begun_is : standing x (suc n) ≡ begin x (started t.hart (retirement x t.hart j)) (give_credit x t.hart j) = is ∙ retire_goes x t.hart j (ap (λ (o : Delayed G). o.ending) (sym is) ∙ none) in
+          subst (Holds (begun ticks r)) (sym begun_is)
+          (subst (λ (q : Retirement G). Holds (begun ticks q) (begin x (started t.hart (retirement x t.hart j)) (give_credit x t.hart j))) same
+          (begins ticks (λ h. are h ∙ ap (λ (q : Retirement G). x.speedup * x.guest.cycles q.guest h) (sym same))))
+
+      -- the visit of the hart, if there is one
+      pub visits_next : (standing x (suc n)).visits ≡ d.visits ++ visit_at x t.hart now c.raised s.guest
+      unfolding visit_at
+      visits_next =
+          let j : Delayed G = jump k d in
+          let p = jump_parts x k d in
+          ap (λ (o : Delayed G). o.visits) is
+          ∙ retire_visits x t.hart j
+          ∙ ap (λ (vs : List Visit). vs ++ visit_of x t.hart j) p.4
+          ∙ ap (λ (vs : List Visit). d.visits ++ vs) (visit_is j.now j.delay j.guest (p.0 ∙ sym now_is) (sym raised_is) both.guest)
+        where
+          visit_is : (m e : ℕ) (g : G) → m ≡ now → e ≡ c.raised → g ≡ s.guest → visit_at x t.hart m e g ≡ visit_at x t.hart now c.raised s.guest
+          visit_is m e g is_now is_raised is_guest = rw (is_now, is_raised, is_guest) refl
+
+      -- each selected hart that begins is a start
+      pub starts_next : (r : Retirement G) → r ≡ x.guest.retire s.guest t.hart t.due → (standing x (suc n)).ending ≡ None
+          → (standing x (suc n)).starts ≡ d.starts + length (filter (x.guest.is_selected r.guest) (started t.hart r))
+      starts_next r given none =
+          let j : Delayed G = jump k d in
+          let q : Retirement G = retirement x t.hart j in
+          let same : q ≡ r = retires ∙ sym given in
+          let begun_is : standing x (suc n) ≡ begin x (started t.hart q) (give_credit x t.hart j) = is ∙ retire_goes x t.hart j (ap (λ (o : Delayed G). o.ending) (sym is) ∙ none) in
+          ap (λ (o : Delayed G). o.starts) begun_is
+          ∙ begin_starts x (started t.hart q) (give_credit x t.hart j)
+          ∙ ap₂ (λ (m : ℕ) (g : G). m + length (filter (x.guest.is_selected g) (started t.hart q))) ((credit_starts x t.hart j).0 ∙ (jump_parts x k d).5) (credit_guest x t.hart j)
+          ∙ ap (λ (o : Retirement G). d.starts + length (filter (x.guest.is_selected o.guest) (started t.hart o))) same
+
+    -- it sleeps, and wakes
+    module _ (asleep : x.guest.is_sleeping s.guest t.hart ≡ true) where
+      slept : x.guest.is_sleeping d.guest t.hart ≡ true
+      slept = ap (λ g. x.guest.is_sleeping g t.hart) same_guest ∙ asleep
+
+      abbrev unbegun_wake : Delayed G
+      unbegun_wake = record (jump k d) { guest = x.guest.wake (jump k d).guest t.hart; wakes = (jump k d).wakes + 1 }
+
+      is_begun : standing x (suc n) ≡ begin x (t.hart ∷ []) unbegun_wake
+      unfolding wake
+      is_begun = (steps.wakes slept).0
+
+      pub passes_wake : Passes x d (standing x (suc n))
+      passes_wake = (steps.wakes slept).1
+
+      wake_guest : unbegun_wake.guest ≡ x.guest.wake s.guest t.hart
+      wake_guest = ap (λ g. x.guest.wake g t.hart) both.guest
+
+      frame : unchanged unbegun_wake (standing x (suc n)) ≡ unbegun_wake
+      frame = ap (unchanged unbegun_wake) is_begun ∙ begin_frame x (t.hart ∷ []) unbegun_wake
+
+      pub goes_wake : (standing x (suc n)).ending ≡ None
+      goes_wake = ap (λ o. o.ending) frame ∙ jump_goes
+
+      pub visits_wake : (standing x (suc n)).visits ≡ d.visits
+      visits_wake = ap (λ o. o.visits) frame ∙ (jump_parts x k d).4
+
+      pub starts_wake : (standing x (suc n)).starts ≡ d.starts + length (filter (x.guest.is_selected (x.guest.wake s.guest t.hart)) (t.hart ∷ []))
+      starts_wake =
+          ap (λ o. o.starts) is_begun ∙ begin_starts x (t.hart ∷ []) unbegun_wake
+          ∙ ap₂ (λ (m : ℕ) (g : G). m + length (filter (x.guest.is_selected g) (t.hart ∷ []))) (jump_parts x k d).5 wake_guest
+
+      pub holds_wake : (ticks : ℕ → ℕ) (g : G) → g ≡ x.guest.wake s.guest t.hart → ((h : ℕ) → ticks h ≡ x.speedup * x.guest.cycles g h)
+          → Holds (with_wake ticks t.hart (filter (x.guest.is_selected g) (t.hart ∷ [])) (at now c)) (standing x (suc n))
+      holds_wake ticks g given are =
+          let same : unbegun_wake.guest ≡ g = wake_guest ∙ sym given in
+          subst (Holds (with_wake ticks t.hart (filter (x.guest.is_selected g) (t.hart ∷ [])) (at now c))) (sym is_begun)
+          (subst (λ (o : G). Holds (with_wake ticks t.hart (filter (x.guest.is_selected o) (t.hart ∷ [])) (at now c)) (begin x (t.hart ∷ []) unbegun_wake)) same
+          (holds_begin x (t.hart ∷ []) ticks (at now c) unbegun_wake (λ h. are h ∙ ap (λ (o : G). x.speedup * x.guest.cycles o h) (sym same))
+          (record { latest = held.latest; raised = held.raised; harts = held.harts })))

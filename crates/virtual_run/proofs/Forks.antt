@@ -19,7 +19,7 @@ use Rattle.delay_credits.specs.Delays.{Delays}
 use Rattle.guest_calls.specs.Guest.{Guest}
 use Rattle.guest_calls.specs.Orderly.{IsOrderly}
 use Rattle.guest_calls.specs.Retire.{next_of}
-use Rattle.guest_calls.proofs.Law.{running_low}
+use Rattle.guest_calls.proofs.Law.{timed_low}
 use Rattle.virtual_run.specs.declared.choice.Choice.{Choice}
 use Rattle.virtual_run.specs.declared.choice.Setting.{Setting}
 use Rattle.virtual_run.specs.declared.run.Run.{Run}
@@ -110,7 +110,7 @@ module _ (image : ImageParts) (input : List ℕ) (setting : Setting) (run : Run)
   selected_made hs is k among =
       let here : is_among k run.selected ≡ true = ap (is_among k) (sym is) ∙ among in
       let st : IsSteady run = is_steady image input setting run credits now p (goes_here k here) in
-      (running_low run.guest k st.orderly (st.running k ∙ due_here k here)).0
+      (timed_low run.guest k st.orderly (st.timed k ∙ due_here k here)).0
 
   -- each selected hart is a start
   pub starts_are : (before x (events_of run)).state.starts ≡ 0 → run.starts ≡ length run.selected

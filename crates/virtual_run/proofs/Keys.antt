@@ -1,13 +1,16 @@
 -- The keys of a schedule, beside the moments of the shortened machine.
 use Rattle.std.proofs.Common.{◌≡◌, ℕ, zero, suc, ◌<◌, ◌≤◌, Bool, true, false, if◌then◌else◌, ◌==◌, List, [], ◌∷◌, get_or, length, set, replicate, refl, sym, ap, subst, ◌∙◌, arith, eq-eqb, ne_eqb, Option, Some, None, is_some, MatchOption, ◌⊎◌, inl, inr}
 use Rattle.std.proofs.lemmas.Bool.{cases_eq}
-use Rattle.std.proofs.lemmas.List.{get_or-set_same, get_or-set_other}
+use Rattle.std.proofs.lemmas.List.{length-set, get_or-set_same, get_or-set_other}
 use Rattle.coz_types.specs.declared.HartId.{HartId}
 use Rattle.hart_schedule.specs.Keys.{Keys, key_of, with_key, without_key, IsEmpty, IsLeast}
 use Rattle.machines.specs.Places.{change}
-use Rattle.machines.specs.Shortened.{next_turn, runs_any}
+use Rattle.machines.specs.declared.Fate.{Fate}
+use Rattle.machines.specs.declared.Fate.TheVariants.{Goes, Waits, Leaves, Sleeps, Ends}
+use Rattle.machines.specs.Shortened.{next_turn, runs_any, rest}
 use Rattle.machines.proofs.Maps.{change_same, change_other}
 use Rattle.machines.proofs.Turns.{IsNext, turn_is}
+use Rattle.virtual_run.specs.Begin.{rested}
 use Rattle.virtual_run.specs.Run.{AreDues}
 
 -- a number with a key has a place
@@ -41,16 +44,39 @@ no_keys zero k = refl
 no_keys (suc n) zero = refl
 no_keys (suc n) (suc k) = no_keys n k
 
-change_by : (dues : List (Option ℕ)) (h k : ℕ) → (k ≡ h) ⊎ (k ≡ h → ⊥) → get_or (change None h (λ _. None) dues) k None ≡ (if k == h then None else get_or dues k None)
-change_by dues h k (inl same) = rw (same, eq-eqb h h refl) (change_same None h (λ _. None) dues)
-change_by dues h k (inr n) = rw (ne_eqb k h n) (change_other None h k (λ _. None) dues (λ e. n (sym e)))
+-- a key in the place of one
+over_by : (keys : Keys) (h v k : ℕ) → h < length keys → (k ≡ h) ⊎ (k ≡ h → ⊥) → key_of (with_key h v (without_key h keys)) k ≡ (if k == h then Some v else key_of keys k)
+over_by keys h v k below (inl same) = with_key_at (without_key h keys) h v k (rw (length-set keys h None) below) ∙ rw (eq-eqb k h same) refl
+over_by keys h v k below (inr n) = with_key_at (without_key h keys) h v k (rw (length-set keys h None) below) ∙ rw (ne_eqb k h n) (without_key_at keys h k ∙ rw (ne_eqb k h n) refl)
 
--- a hart is taken out of both
-pub dues_without : (keys : Keys) (dues : List (Option ℕ)) (h : ℕ) → AreDues keys dues → AreDues (without_key h keys) (change None h (λ _. None) dues)
-dues_without keys dues h are k =
-    without_key_at keys h k
-    ∙ ap (λ (o : Option ℕ). if k == h then None else o) (are k)
-    ∙ sym (change_by dues h k (cases_eq k h))
+pub over_key_at : (keys : Keys) (h v k : ℕ) → h < length keys → key_of (with_key h v (without_key h keys)) k ≡ (if k == h then Some v else key_of keys k)
+over_key_at keys h v k below = over_by keys h v k below (cases_eq k h)
+
+-- the keys after a retirement
+pub rested_at : (fate : Fate) (keys : Keys) (h k : ℕ) → h < length keys → key_of (rested h fate keys) k ≡ (if k == h then rest fate else key_of keys k)
+rested_at Goes keys h k below = without_key_at keys h k
+rested_at Waits keys h k below = without_key_at keys h k
+rested_at Leaves keys h k below = without_key_at keys h k
+rested_at (Sleeps moment) keys h k below = over_key_at keys h moment k below
+rested_at (Ends ending) keys h k below = without_key_at keys h k
+
+pub rested_length : (fate : Fate) (keys : Keys) (h : ℕ) → length (rested h fate keys) ≡ length keys
+rested_length Goes keys h = length-set keys h None
+rested_length Waits keys h = length-set keys h None
+rested_length Leaves keys h = length-set keys h None
+rested_length (Sleeps moment) keys h = length-set (without_key h keys) h (Some moment) ∙ length-set keys h None
+rested_length (Ends ending) keys h = length-set keys h None
+
+change_by : (dues : List (Option ℕ)) (o : Option ℕ) (h k : ℕ) → (k ≡ h) ⊎ (k ≡ h → ⊥) → get_or (change None h (λ _. o) dues) k None ≡ (if k == h then o else get_or dues k None)
+change_by dues o h k (inl same) = rw (same, eq-eqb h h refl) (change_same None h (λ _. o) dues)
+change_by dues o h k (inr n) = rw (ne_eqb k h n) (change_other None h k (λ _. o) dues (λ e. n (sym e)))
+
+-- a hart is taken out of both, or put to the moment of its wake
+pub dues_rested : (fate : Fate) (keys : Keys) (dues : List (Option ℕ)) (h : ℕ) → h < length keys → AreDues keys dues → AreDues (rested h fate keys) (change None h (λ _. rest fate) dues)
+dues_rested fate keys dues h below are k =
+    rested_at fate keys h k below
+    ∙ ap (λ (o : Option ℕ). if k == h then rest fate else o) (are k)
+    ∙ sym (change_by dues (rest fate) h k (cases_eq k h))
 
 same_key : (keys : Keys) (h v : ℕ) (first : IsLeast keys h) → key_of keys h ≡ Some v → first.key ≡ v
 same_key keys h v first due = let same : Some first.key ≡ Some v = sym first.has ∙ due in cc

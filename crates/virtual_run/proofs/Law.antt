@@ -7,26 +7,27 @@ use Rattle.coz_types.specs.declared.ending.Ending.TheVariants.{OutputFull, Visit
 use Rattle.coz_types.specs.Image.{ImageParts}
 use Rattle.hart_schedule.specs.Keys.{Keys, key_of, with_key, without_key, IsEmpty}
 use Rattle.machines.specs.declared.Fate.{Fate}
+use Rattle.machines.specs.declared.Fate.TheVariants.{Goes, Waits, Leaves, Sleeps, Ends}
 use Rattle.machines.specs.Guest.{Experiment, Retirement, IsLawful, enough, goes_on, own_ending, when, first_of_two, started}
 use Rattle.machines.specs.Places.{is_among}
-use Rattle.machines.specs.Shortened.{Shortened, shortened, move}
+use Rattle.machines.specs.Shortened.{Shortened, shortened, move, rest}
 use Rattle.machines.specs.Records.{IsShortened, shortened_record, net_record_of}
-use Rattle.machines.proofs.Ends.{goes_on_at, followed, at_last, record_is, recorded}
-use Rattle.machines.proofs.Wakeless.{NeverSleeps, short_awake}
+use Rattle.machines.proofs.Ends.{goes_on_at, followed, at_last, record_is, recorded, few as few_events}
 use Rattle.guest_memory.specs.declared.Layout.{Layout}
 use Rattle.guest_memory.specs.Regions.{usual}
-use Rattle.guest_calls.specs.Guest.{Guest, IsMade, pc_of, is_running, is_timed, first_guest}
+use Rattle.guest_calls.specs.declared.hart.HartStatus.TheVariants.{Running}
+use Rattle.guest_calls.specs.Guest.{Guest, IsMade, pc_of, hart_at, is_running, is_sleeping, is_timed, with_wake, first_guest}
 use Rattle.guest_calls.specs.Retire.{retire}
 use Rattle.guest_calls.specs.Orderly.{IsOrderly}
-use Rattle.guest_calls.proofs.Law.{lawful, timed_low, others_idle, never_sleeps, none_sleeps}
+use Rattle.guest_calls.proofs.Law.{lawful, timed_low, others_idle}
 use Rattle.virtual_run.specs.declared.choice.Choice.{Choice}
 use Rattle.virtual_run.specs.declared.choice.Setting.{Setting}
 use Rattle.virtual_run.specs.declared.run.Run.{Run}
 use Rattle.virtual_run.specs.Visits.{Visits}
-use Rattle.virtual_run.specs.Begin.{started_by, many, IsIdle, AreIdle}
+use Rattle.virtual_run.specs.Begin.{started_by, rested, many, IsIdle, AreIdle}
 use Rattle.virtual_run.specs.Ending.{ending_of}
 use Rattle.virtual_run.specs.Run.{experiment, has_selected, selected_line, selects, selected_of, ticks_in, events_of, AreWithin, IsChoice, IsStateOf, IsSteady, IsReached, IsFirst, state_of}
-use Rattle.virtual_run.proofs.Keys.{without_key_at, no_keys}
+use Rattle.virtual_run.proofs.Keys.{has_place, without_key_at, rested_at, rested_length, no_keys}
 use Rattle.virtual_run.proofs.Many.{many_with}
 use Rattle.virtual_run.proofs.Begin.{ticks_few, one_at_most, within_later, within_by}
 use Rattle.virtual_run.proofs.Moves.{outcome, run_of, once_more, first_key, first_state}
@@ -35,10 +36,6 @@ use Rattle.virtual_run.proofs.Moves.{outcome, run_of, once_more, first_key, firs
 pub lawful_run : (image : ImageParts) (position point : ℕ → Option ℕ) (input : List ℕ) (choice : Choice) → choice.speedup ≤ 95 → IsLawful (experiment image position point input choice) IsOrderly
 lawful_run image position point input choice small =
     lawful (has_selected (selected_line choice) position) point image input choice.output_limit choice.layout choice.speedup choice.budget choice.visit_limit (omega arith)
-
--- no hart of it ever sleeps
-pub never_run : (image : ImageParts) (position point : ℕ → Option ℕ) (input : List ℕ) (choice : Choice) → NeverSleeps (experiment image position point input choice) IsOrderly
-never_run image position point input choice = record { awake = none_sleeps; stays = never_sleeps }
 
 -- an image for laws that don't read it
 abbrev no_image : ImageParts
@@ -94,54 +91,89 @@ pub some_when : (o : Option Ending) → is_some o ≡ true → (e : Ending) × (
 some_when (Some e) is = (e, refl)
 some_when None is = absurd (let no : false ≡ true = is in cc)
 
--- a hart retires whose turn it is, of those that are due
+-- a running hart whose turn it is retires, of those that are due
 pub record IsTurn (g : Guest) (keys : Keys) (h due : ℕ) : Type 0 where
   pub orderly : IsOrderly g
-  pub running : (hart : ℕ) → is_running g hart ≡ is_some (key_of keys hart)
+  pub timed : (hart : ℕ) → is_timed g hart ≡ is_some (key_of keys hart)
+  pub running : is_running g h ≡ true
   pub room : length keys ≡ 256
   pub turn : key_of keys h ≡ Some due
 
-pub turn_runs : (g : Guest) (keys : Keys) (h due : ℕ) → IsTurn g keys h due → is_running g h ≡ true
-turn_runs g keys h due t = t.running h ∙ ap is_some t.turn
+-- a hart that is due and doesn't sleep runs
+pub turn_runs : (g : Guest) (h : ℕ) → is_timed g h ≡ true → is_sleeping g h ≡ false → is_running g h ≡ true
+turn_runs g h timed awake = or_other (is_sleeping g h) (is_running g h) timed awake
+  where
+    or_other : (a b : Bool) → (a || b) ≡ true → a ≡ false → b ≡ true
+    or_other true b e f = absurd (let no : true ≡ false = f in cc)
+    or_other false b e f = e
 
 among_others : (goes : Bool) (k h : ℕ) (others : List ℕ) → k ≢ h → is_among k (if goes then h ∷ others else others) ≡ true → is_among k others ≡ true
 among_others true k h others n e = rw (ne_eqb k h n) at e
 among_others false k h others n e = e
 
--- a hart that neither sleeps nor runs doesn't run
-pub neither : (sleeps runs : Bool) → (sleeps || runs) ≡ false → runs ≡ false
-neither true runs none = absurd (let no : true ≡ false = none in cc)
-neither false runs none = none
+among_self : (goes : Bool) (h : ℕ) (others : List ℕ) → is_among h (if goes then h ∷ others else others) ≡ true → (goes ≡ true) ⊎ (is_among h others ≡ true)
+among_self true h others e = inl refl
+among_self false h others e = inr e
 
-absent_by : (g : Guest) (keys : Keys) (h due k : ℕ) → IsTurn g keys h due → is_among k (started h (retire g h due)) ≡ true → (k ≡ h) ⊎ (k ≡ h → ⊥) → (if k == h then None else key_of keys k) ≡ None
-absent_by g keys h due k t among (inl same) = rw (same, eq-eqb h h refl) refl
+rest_goes : (fate : Fate) → goes_on fate ≡ true → rest fate ≡ None
+rest_goes Goes e = refl
+rest_goes Waits e = refl
+rest_goes Leaves e = refl
+rest_goes (Sleeps moment) e = absurd (let no : false ≡ true = e in cc)
+rest_goes (Ends ending) e = refl
+
+-- the harts that a retirement makes or wakes aren't due before it
+idle_other : (g : Guest) (keys : Keys) (h due k : ℕ) → IsTurn g keys h due → is_among k (retire g h due).others ≡ true → is_some (key_of keys k) ≡ false
+idle_other g keys h due k t other = sym (t.timed k) ∙ others_idle g h due t.orderly t.running k other
+
+absent_self : (g : Guest) (keys : Keys) (h due : ℕ) → IsTurn g keys h due → (goes_on (retire g h due).fate ≡ true) ⊎ (is_among h (retire g h due).others ≡ true) → rest (retire g h due).fate ≡ None
+absent_self g keys h due t (inl goes) = rest_goes (retire g h due).fate goes
+absent_self g keys h due t (inr other) = absurd (let no : true ≡ false = ap is_some (sym t.turn) ∙ idle_other g keys h due h t other in cc)
+
+absent_by : (g : Guest) (keys : Keys) (h due k : ℕ) → IsTurn g keys h due → is_among k (started h (retire g h due)) ≡ true → (k ≡ h) ⊎ (k ≡ h → ⊥)
+    → (if k == h then rest (retire g h due).fate else key_of keys k) ≡ None
+absent_by g keys h due k t among (inl same) =
+    rw (eq-eqb k h same)
+    (absent_self g keys h due t
+    (among_self (goes_on (retire g h due).fate) h (retire g h due).others (ap (λ (n : ℕ). is_among n (started h (retire g h due))) (sym same) ∙ among)))
 absent_by g keys h due k t among (inr n) =
     let other : is_among k (retire g h due).others ≡ true = among_others (goes_on (retire g h due).fate) k h (retire g h due).others n among in
-    rw (ne_eqb k h n) (none_key (key_of keys k) (sym (t.running k) ∙ neither _ (is_running g k) (others_idle g h due t.orderly (turn_runs g keys h due t) k other)))
+    rw (ne_eqb k h n) (none_key (key_of keys k) (idle_other g keys h due k t other))
 
-idle_by : (g : Guest) (keys : Keys) (h due : ℕ) → IsTurn g keys h due → IsNone (own_ending (retire g h due).fate) → AreIdle (retire g h due).guest (without_key h keys) (started h (retire g h due))
+idle_by : (g : Guest) (keys : Keys) (h due : ℕ) → IsTurn g keys h due → IsNone (own_ending (retire g h due).fate) → AreIdle (retire g h due).guest (rested h (retire g h due).fate keys) (started h (retire g h due))
 idle_by g keys h due t none =
-    let runs : is_running g h ≡ true = turn_runs g keys h due t in
     let after : Guest = (retire g h due).guest in
-    let good : IsOrderly after = law.stays_good g h due t.orderly runs in
+    let fate : Fate = (retire g h due).fate in
+    let good : IsOrderly after = law.stays_good g h due t.orderly t.running in
     record {
-      apart = law.apart g h due t.orderly runs;
+      apart = law.apart g h due t.orderly t.running;
       idle = λ k among.
-          let timed : is_timed after k ≡ true = law.running g h due t.orderly runs none k ∙ rw among refl in
+          let timed : is_timed after k ≡ true = law.running g h due t.orderly t.running none k ∙ rw among refl in
           let low = timed_low after k good timed in
           record {
             made = low.0;
-            below = rw (length-set keys h None, t.room) low.1;
-            absent = without_key_at keys h k ∙ absent_by g keys h due k t among (cases_eq k h);
+            below = rw (rested_length fate keys h, t.room) low.1;
+            absent = rested_at fate keys h k (has_place keys h due t.turn) ∙ absent_by g keys h due k t among (cases_eq k h);
           };
     }
 
 -- the harts that a retirement started can begin
 pub started_idle : (g : Guest) (keys : Keys) (h due : ℕ) (after : Guest) (fate : Fate) (others : List ℕ) → IsTurn g keys h due → outcome after fate others ≡ retire g h due → own_ending fate ≡ None
-    → AreIdle after (without_key h keys) (started_by h fate others)
+    → AreIdle after (rested h fate keys) (started_by h fate others)
 started_idle g keys h due after fate others t retires own =
     let none : IsNone (own_ending (retire g h due).fate) = ap is_some (ap (λ (r : Retirement Guest). own_ending r.fate) (sym retires) ∙ own) in
-    subst (λ (r : Retirement Guest). AreIdle r.guest (without_key h keys) (started h r)) (sym retires) (idle_by g keys h due t none)
+    subst (λ (r : Retirement Guest). AreIdle r.guest (rested h r.fate keys) (started h r)) (sym retires) (idle_by g keys h due t none)
+
+-- a hart that sleeps can begin
+pub woken_idle : (g : Guest) (keys : Keys) (h due : ℕ) → IsOrderly g → is_sleeping g h ≡ true → length keys ≡ 256 → key_of keys h ≡ Some due → IsIdle (with_wake h g) (without_key h keys) h
+woken_idle g keys h due good asleep room turn =
+    let timed : is_timed g h ≡ true = ap (λ (b : Bool). b || is_running g h) asleep in
+    let low = timed_low g h good timed in
+    record {
+      made = rw (length-set g.harts h (record (hart_at g h) { status = Running })) low.0;
+      below = rw (length-set keys h None, room) low.1;
+      absent = without_key_at keys h h ∙ rw (eq-eqb h h refl) refl;
+    }
 
 module _ (image : ImageParts) (position point : ℕ → Option ℕ) (input : List ℕ) (choice : Choice) (valid : IsChoice choice) (run : Run) (r : IsReached (experiment image position point input choice) run) where
   abbrev pub x : Experiment Guest
@@ -187,11 +219,7 @@ module _ (image : ImageParts) (position point : ℕ → Option ℕ) (input : Lis
       record {
         goes = none;
         orderly = subst IsOrderly guest_is g.lives.good;
-        running = λ k.
-            ap (λ (g : Guest). is_running g k) (sym guest_is)
-            ∙ ap (λ b. b || is_running s.guest k) (sym (short_awake x IsOrderly is_lawful (never_run image position point input choice) (events_of run) k))
-            ∙ g.lives.running k
-            ∙ ap is_some (sym (r.reached.dues k));
+        timed = λ k. ap (λ (g : Guest). is_timed g k) (sym guest_is) ∙ g.lives.running k ∙ ap is_some (sym (r.reached.dues k));
         some_hart = not_empty g.lives.some_hart.0 g.lives.some_hart.1;
         room = r.room;
         unfull = subst (λ (n : ℕ). length run.visits.kept < n) (sym r.limit) (r.unfull none);
@@ -208,7 +236,7 @@ module _ (image : ImageParts) (position point : ℕ → Option ℕ) (input : Lis
   -- what holds of a run holds after a move
   pub reached_next : (new : Run) → run.ending ≡ None → IsStateOf new (move x (state_of run s.dues)) → length new.schedule ≡ 256 → new.visits.limit ≡ run.visits.limit
       → (new.ending ≡ None → length new.visits.kept < choice.visit_limit) → new.retired ≡ run.retired + 1 → new.wakes ≡ run.wakes → new.starts ≤ events_of new + many new.schedule
-      → ((moment : ℕ) → AreWithin moment run.schedule → AreWithin (moment + 4000) new.schedule) → IsReached x new
+      → ((moment : ℕ) → 10 ^ 16 ≤ moment → AreWithin moment run.schedule → AreWithin (moment + 4000) new.schedule) → IsReached x new
   reached_next new none moved room limit unfull next same few within = record {
     reached = moved_state new moved (omega (arith, next, same));
     room = room;
@@ -218,8 +246,27 @@ module _ (image : ImageParts) (position point : ℕ → Option ℕ) (input : Lis
     few = few;
     within =
         within_later (10 ^ 16 + 4000 * (events_of run + 1) + 4000) (10 ^ 16 + 4000 * (events_of new + 1)) new.schedule (omega (arith, next, same))
+        (within (10 ^ 16 + 4000 * (events_of run + 1)) (omega arith) r.within);
+  }
+
+  -- and after a wake
+  pub reached_woken : (new : Run) → run.ending ≡ None → IsStateOf new (move x (state_of run s.dues)) → length new.schedule ≡ 256 → new.visits ≡ run.visits → new.retired ≡ run.retired → new.wakes ≡ run.wakes + 1
+      → new.starts ≤ events_of new + many new.schedule → ((moment : ℕ) → AreWithin moment run.schedule → AreWithin (moment + 4000) new.schedule) → IsReached x new
+  reached_woken new none moved room visits same next few within = record {
+    reached = moved_state new moved (omega (arith, next, same));
+    room = room;
+    limit = ap (λ (v : Visits). v.limit) visits ∙ r.limit;
+    unfull = λ _. subst (λ (v : Visits). length v.kept < choice.visit_limit) (sym visits) (r.unfull none);
+    retired = let below : run.retired ≤ choice.budget = r.retired in omega (arith, below, same);
+    few = few;
+    within =
+        within_later (10 ^ 16 + 4000 * (events_of run + 1) + 4000) (10 ^ 16 + 4000 * (events_of new + 1)) new.schedule (omega (arith, next, same))
         (within (10 ^ 16 + 4000 * (events_of run + 1)) r.within);
   }
+
+  -- a run that goes on has come to fewer events than it can
+  pub events_below : run.ending ≡ None → events_of run < 2 * choice.budget
+  events_below none = few_events x IsOrderly is_lawful (events_of run) valid.some_budget (goes_on_at x IsOrderly is_lawful (events_of run) (ending_is ∙ none))
 
   pub ended_now : (e : Ending) → run.ending ≡ Some e → s.ending ≡ Some e
   ended_now e ended = ending_is ∙ ended

@@ -18,3 +18,4 @@ pub mod Sooner
 pub mod Forks
 pub mod Again
 pub mod Leads
+mod Stepped

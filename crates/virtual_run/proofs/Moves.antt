@@ -12,18 +12,17 @@ use Rattle.machines.specs.Delayed.{is_any, fresh}
 use Rattle.machines.specs.Shortened as short
 use Rattle.machines.specs.Shortened.{Shortened, NetVisit, Turn, next_turn, move, move_by, retirement, leave, ending, begin, over_or, runs_any, unbegun, shortened}
 use Rattle.machines.proofs.Maps.{change_each_at}
-use Rattle.machines.proofs.Wakeless.{rests}
 use Rattle.cost_table.specs.Costs.{cycles_of}
 use Rattle.progress_points.specs.Points.{point_of}
-use Rattle.guest_calls.specs.Guest.{Guest, pc_of, is_sleeping}
+use Rattle.guest_calls.specs.Guest.{Guest, pc_of, is_sleeping, with_wake}
 use Rattle.guest_calls.specs.Retire.{next_of, retire}
 use Rattle.virtual_run.specs.declared.choice.Setting.{Setting}
 use Rattle.virtual_run.specs.declared.run.Run.{Run}
 use Rattle.virtual_run.specs.Visits.{Visits, visits_of, net_of}
-use Rattle.virtual_run.specs.Begin.{started_by, AreBegun}
+use Rattle.virtual_run.specs.Begin.{started_by, rested, AreBegun}
 use Rattle.virtual_run.specs.Ending.{ending_of, runs_after}
 use Rattle.virtual_run.specs.Run.{experiment_in, selects, selected_of, ticks_in, AreDues, state_of, IsStateOf}
-use Rattle.virtual_run.proofs.Keys.{with_key_at, no_keys, dues_without, next_is, same_runs}
+use Rattle.virtual_run.proofs.Keys.{with_key_at, no_keys, has_place, dues_rested, next_is, same_runs}
 use Rattle.virtual_run.proofs.Begin.{ticks_less}
 
 -- a state of a run
@@ -33,9 +32,9 @@ state time g dues visits retired wakes starts e = record { time = time; guest = 
 abbrev pub outcome : Guest → Fate → List ℕ → Retirement Guest
 outcome g fate others = record { guest = g; fate = fate; others = others }
 
--- the moments without the retiring hart
-abbrev taken : ℕ → List (Option ℕ) → List (Option ℕ)
-taken h dues = change None h (λ _. None) dues
+-- the moments once the retiring hart stops, or sleeps
+abbrev taken : ℕ → Fate → List (Option ℕ) → List (Option ℕ)
+taken h fate dues = change None h (λ _. short.rest fate) dues
 
 -- the visit of a point, if there is one, at a net time
 abbrev net_visits : Option ℕ → ℕ → ℕ → List NetVisit
@@ -92,10 +91,9 @@ pub record IsMove (setting : Setting) (run : Run) (left : Keys) (h due : ℕ) (a
   pub goes : run.ending ≡ None
   pub turn : key_of run.schedule h ≡ Some due
   pub first : IsLeast run.schedule h
-  pub taken : left ≡ without_key h run.schedule
+  pub taken : left ≡ rested h fate run.schedule
   pub retires : outcome after fate others ≡ retire run.guest h due
   pub was_awake : is_sleeping run.guest h ≡ false
-  pub awake : sleeps fate ≡ false
   pub visits : map net_of kept ≡ map net_of run.visits.kept ++ net_visits (point_of setting.points.now (pc_of run.guest h)) h due
   pub ends : e ≡ ending_of fate (nat_le setting.choice.output_limit (length after.output)) (nat_le setting.choice.visit_limit (length kept)) (runs_after fate others left) (run.retired + 1) setting.choice.budget
 
@@ -119,10 +117,10 @@ module _ (setting : Setting) (first : Guest) where
   abbrev begun_dues : Guest → List ℕ → ℕ → List (Option ℕ) → List (Option ℕ)
   begun_dues g hs due dues = change_each None hs (λ h _. Some (due_at g due h)) dues
 
-  begin_is : (g : Guest) (hs : List ℕ) (due : ℕ) (dues : List (Option ℕ)) (visits : List NetVisit) (retired wakes starts : ℕ)
-      → begin x hs due (state due g dues visits retired wakes starts None) ≡ state due g (begun_dues g hs due dues) visits retired wakes (starts + length (selected_of setting g hs)) None
+  begin_is : (time : ℕ) (g : Guest) (hs : List ℕ) (due : ℕ) (dues : List (Option ℕ)) (visits : List NetVisit) (retired wakes starts : ℕ)
+      → begin x hs due (state time g dues visits retired wakes starts None) ≡ state time g (begun_dues g hs due dues) visits retired wakes (starts + length (selected_of setting g hs)) None
   unfolding begin cost cut
-  begin_is g hs due dues visits retired wakes starts = refl
+  begin_is time g hs due dues visits retired wakes starts = refl
 
   pub dues_begun : (g : Guest) (hs : List ℕ) (due : ℕ) (old new : Keys) (dues : List (Option ℕ)) → setting.choice.speedup ≤ 95 → AllApart hs → AreDues old dues → AreBegun (ticks_in setting g) due hs old new → AreDues new (begun_dues g hs due dues)
   dues_begun g hs due old new dues small apart are begun k =
@@ -131,35 +129,34 @@ module _ (setting : Setting) (first : Guest) where
       ∙ sym (change_each_at None hs (λ h _. Some (due_at g due h)) k dues apart)
 
   module _ (run : Run) (left : Keys) (h due : ℕ) (after : Guest) (fate : Fate) (others : List ℕ) (visits : List Visit) (e : Option Ending) (m : IsMove setting run left h due after fate others visits e) (dues : List (Option ℕ)) (are : AreDues run.schedule dues) where
-    dues_left : AreDues left (taken h dues)
-    dues_left = subst (λ (keys : Keys). AreDues keys (taken h dues)) (sym m.taken) (dues_without run.schedule dues h are)
+    dues_left : AreDues left (taken h fate dues)
+    dues_left = subst (λ (keys : Keys). AreDues keys (taken h fate dues)) (sym m.taken) (dues_rested fate run.schedule dues h (has_place run.schedule h due m.turn) are)
 
     abbrev rest : Shortened Guest
-    rest = state due after (taken h dues) (map net_of visits) (run.retired + 1) run.wakes run.starts None
+    rest = state due after (taken h fate dues) (map net_of visits) (run.retired + 1) run.wakes run.starts None
 
     abbrev net : List NetVisit
     net = map net_of run.visits.kept ++ net_visits (point_of setting.points.now (pc_of run.guest h)) h due
 
     moved : move x (state_of run dues) ≡ over_or e rest (begin x (started_by h fate others) due rest)
     moved =
-        let same : runs_any left ≡ runs_any (taken h dues) = same_runs left (taken h dues) dues_left in
+        let same : runs_any left ≡ runs_any (taken h fate dues) = same_runs left (taken h fate dues) dues_left in
         ap (λ (o : Option Ending). move x (state run.time run.guest dues (map net_of run.visits.kept) run.retired run.wakes run.starts o)) m.goes
         ∙ turned x run.time run.guest dues (map net_of run.visits.kept) h due run.retired run.wakes run.starts (next_is run.schedule dues h due are m.turn m.first) m.was_awake
         ∙ ap (λ (r : Retirement Guest). moved_by x h r (short.rest r.fate) due run.wakes run.starts dues net run.retired (length net)) (sym m.retires)
-        ∙ ap (λ (o : Option ℕ). moved_by x h (outcome after fate others) o due run.wakes run.starts dues net run.retired (length net)) (rests fate 0 fresh m.awake).0
-        ∙ ap (λ (vs : List NetVisit). moved_by x h (outcome after fate others) None due run.wakes run.starts dues vs run.retired (length vs)) (sym m.visits)
-        ∙ ap (λ (n : ℕ). moved_by x h (outcome after fate others) None due run.wakes run.starts dues (map net_of visits) run.retired n) (length-map visits net_of)
+        ∙ ap (λ (vs : List NetVisit). moved_by x h (outcome after fate others) (short.rest fate) due run.wakes run.starts dues vs run.retired (length vs)) (sym m.visits)
+        ∙ ap (λ (n : ℕ). moved_by x h (outcome after fate others) (short.rest fate) due run.wakes run.starts dues (map net_of visits) run.retired n) (length-map visits net_of)
         ∙ ap (λ (o : Option Ending). over_or o rest (begin x (started_by h fate others) due rest))
-        (ends_as after fate others h left (taken h dues) (length visits) (run.retired + 1) same ∙ sym m.ends)
+        (ends_as after fate others h left (taken h fate dues) (length visits) (run.retired + 1) same ∙ sym m.ends)
 
     -- the run ends with the move
     pub ended : (a : Ending) (selected : List ℕ) (limit : ℕ) → e ≡ Some a
         → IsStateOf (run_of due after left others selected (record { kept = visits; limit = limit }) (run.retired + 1) run.wakes run.starts e) (move x (state_of run dues))
     ended a selected limit some =
-        let is : move x (state_of run dues) ≡ state due after (taken h dues) (map net_of visits) (run.retired + 1) run.wakes run.starts e =
+        let is : move x (state_of run dues) ≡ state due after (taken h fate dues) (map net_of visits) (run.retired + 1) run.wakes run.starts e =
         moved
         ∙ ap (λ (o : Option Ending). over_or o rest (begin x (started_by h fate others) due rest)) some
-        ∙ ap (λ (o : Option Ending). state due after (taken h dues) (map net_of visits) (run.retired + 1) run.wakes run.starts o) (sym some) in
+        ∙ ap (λ (o : Option Ending). state due after (taken h fate dues) (map net_of visits) (run.retired + 1) run.wakes run.starts o) (sym some) in
         subst (IsStateOf (run_of due after left others selected (record { kept = visits; limit = limit }) (run.retired + 1) run.wakes run.starts e)) (sym is)
         (record { state = refl; dues = dues_left })
 
@@ -169,14 +166,41 @@ module _ (setting : Setting) (first : Guest) where
         → IsStateOf (run_of due after new others selected (record { kept = visits; limit = limit }) (run.retired + 1) run.wakes starts e) (move x (state_of run dues))
     goes new selected limit starts none small apart begun counted =
         let hs : List ℕ = started_by h fate others in
-        let is : move x (state_of run dues) ≡ state due after (begun_dues after hs due (taken h dues)) (map net_of visits) (run.retired + 1) run.wakes starts e =
+        let is : move x (state_of run dues) ≡ state due after (begun_dues after hs due (taken h fate dues)) (map net_of visits) (run.retired + 1) run.wakes starts e =
         moved
         ∙ ap (λ (o : Option Ending). over_or o rest (begin x hs due rest)) none
-        ∙ begin_is after hs due (taken h dues) (map net_of visits) (run.retired + 1) run.wakes run.starts
-        ∙ ap (λ (n : ℕ). state due after (begun_dues after hs due (taken h dues)) (map net_of visits) (run.retired + 1) run.wakes n None) (sym counted)
-        ∙ ap (λ (o : Option Ending). state due after (begun_dues after hs due (taken h dues)) (map net_of visits) (run.retired + 1) run.wakes starts o) (sym none) in
+        ∙ begin_is due after hs due (taken h fate dues) (map net_of visits) (run.retired + 1) run.wakes run.starts
+        ∙ ap (λ (n : ℕ). state due after (begun_dues after hs due (taken h fate dues)) (map net_of visits) (run.retired + 1) run.wakes n None) (sym counted)
+        ∙ ap (λ (o : Option Ending). state due after (begun_dues after hs due (taken h fate dues)) (map net_of visits) (run.retired + 1) run.wakes starts o) (sym none) in
         subst (IsStateOf (run_of due after new others selected (record { kept = visits; limit = limit }) (run.retired + 1) run.wakes starts e)) (sym is)
-        (record { state = refl; dues = dues_begun after hs due left new (taken h dues) small apart dues_left begun })
+        (record { state = refl; dues = dues_begun after hs due left new (taken h fate dues) small apart dues_left begun })
+
+  -- a sleeping hart's turn
+  wakes_turn : (time : ℕ) (g : Guest) (dues : List (Option ℕ)) (visits : List NetVisit) (h due retired wakes starts : ℕ) → next_turn dues ≡ Some (record { hart = h; due = due }) → is_sleeping g h ≡ true
+      → move x (state time g dues visits retired wakes starts None) ≡ begin x (h ∷ []) due (state time (with_wake h g) dues visits retired (wakes + 1) starts None)
+  unfolding move move_by short.come short.wake
+  wakes_turn time g dues visits h due retired wakes starts turn asleep =
+      let s : Shortened Guest = state time g dues visits retired wakes starts None in
+      let t : Turn = record { hart = h; due = due } in
+      ap (λ (o : Option Turn). move_by x None o s) turn ∙ ap (λ b. if b then short.wake x t s else short.retire x t s) asleep
+
+  -- the code's fields after a wake
+  abbrev pub woken_run : Run → Guest → Keys → List ℕ → ℕ → Run
+  woken_run run g keys selected starts = record run { guest = g; schedule = keys; selected = selected; wakes = run.wakes + 1; starts = starts }
+
+  pub woken : (run : Run) (h due : ℕ) (keys : Keys) (selected : List ℕ) (starts : ℕ) → setting.choice.speedup ≤ 95 → run.ending ≡ None → key_of run.schedule h ≡ Some due → IsLeast run.schedule h → is_sleeping run.guest h ≡ true
+      → AreBegun (ticks_in setting (with_wake h run.guest)) due (h ∷ []) run.schedule keys → starts ≡ run.starts + length (selected_of setting (with_wake h run.guest) (h ∷ []))
+      → (dues : List (Option ℕ)) → AreDues run.schedule dues → IsStateOf (woken_run run (with_wake h run.guest) keys selected starts) (move x (state_of run dues))
+  woken run h due keys selected starts small goes turn first asleep begun counted dues are =
+      let g : Guest = with_wake h run.guest in
+      let is : move x (state_of run dues) ≡ state run.time g (begun_dues g (h ∷ []) due dues) (map net_of run.visits.kept) run.retired (run.wakes + 1) starts run.ending =
+      ap (λ (o : Option Ending). move x (state run.time run.guest dues (map net_of run.visits.kept) run.retired run.wakes run.starts o)) goes
+      ∙ wakes_turn run.time run.guest dues (map net_of run.visits.kept) h due run.retired run.wakes run.starts (next_is run.schedule dues h due are turn first) asleep
+      ∙ begin_is run.time g (h ∷ []) due dues (map net_of run.visits.kept) run.retired (run.wakes + 1) run.starts
+      ∙ ap (λ (n : ℕ). state run.time g (begun_dues g (h ∷ []) due dues) (map net_of run.visits.kept) run.retired (run.wakes + 1) n None) (sym counted)
+      ∙ ap (λ (o : Option Ending). state run.time g (begun_dues g (h ∷ []) due dues) (map net_of run.visits.kept) run.retired (run.wakes + 1) starts o) (sym goes) in
+      subst (IsStateOf (woken_run run g keys selected starts)) (sym is)
+      (record { state = refl; dues = dues_begun g (h ∷ []) due run.schedule keys dues small (refl, tt) are begun })
 
   -- before the first move
   at_first : shortened x 0 ≡ state 0 first (Some (due_at first 0 0) ∷ []) [] 0 0 (length (selected_of setting first (0 ∷ []))) None

@@ -1,32 +1,35 @@
 -- One move of the engine of both machines.
-use Rattle.std.specs.Prelude.{◌≡◌, ℕ, ◌+◌, ◌≤◌, ◌<◌, ◌++◌, List, [], length, nat_le, Option, Some, None, IsSome}
-use Rattle.hart_schedule.specs.Keys.{key_of, without_key, IsLeast}
+use Rattle.std.specs.Prelude.{◌≡◌, ℕ, ◌+◌, ◌^◌, ◌≤◌, ◌<◌, ◌++◌, Bool, true, false, List, [], ◌∷◌, length, nat_le, Option, Some, None, IsSome}
+use Rattle.hart_schedule.specs.Keys.{key_of, IsLeast}
 use Rattle.machines.specs.declared.Fate.{Fate}
 use Rattle.machines.specs.Shortened.{move}
 use Rattle.progress_points.specs.Points.{point_of}
 use Rattle.guest_calls.specs.Calls.{retirement}
-use Rattle.guest_calls.specs.Guest.{Guest, pc_of}
+use Rattle.guest_calls.specs.Guest.{Guest, pc_of, is_running, is_sleeping, with_wake}
 use Rattle.guest_calls.specs.Retire.{retire}
 use Rattle.virtual_run.specs.declared.choice.Setting.{Setting}
+use Rattle.virtual_run.specs.declared.run.Event.{Event}
+use Rattle.virtual_run.specs.declared.run.Event.TheVariants.{Woke, Retired}
 use Rattle.virtual_run.specs.declared.run.Run.{Run}
-use Rattle.virtual_run.specs.Begin.{started_by, many}
+use Rattle.virtual_run.specs.Begin.{started_by, rested, many}
 use Rattle.virtual_run.specs.Ending.{ending_of, runs_after}
 use Rattle.virtual_run.specs.Run.{experiment_in, selected_of, events_of, state_of, AreDues, AreWithin, IsStateOf}
 use Rattle.virtual_run.specs.Visits.{visits_of}
 
 -- in a setting this run becomes that one as a hart retires to this fate, where a visit is kept with this delay
-pub record IsAdvance (setting : Setting) (run : Run) (hart : ℕ) (fate : Fate) (delay : ℕ) (new : Run) : Type 0 where
+pub record IsRetired (setting : Setting) (run : Run) (hart : ℕ) (fate : Fate) (delay : ℕ) (new : Run) : Type 0 where
   -- a move of the shortened machine, whatever its guest began as
   pub moved : (first : Guest) (dues : List (Option ℕ)) → AreDues run.schedule dues → IsStateOf new (move (experiment_in setting first) (state_of run dues))
   -- the hart is the one that is due first
   pub turn : key_of run.schedule hart ≡ Some new.time
   pub first : IsLeast run.schedule hart
+  pub running : is_running run.guest hart ≡ true
   pub retires : retirement new.guest fate new.started ≡ retire run.guest hart new.time
   pub visits : new.visits ≡ record run.visits { kept = run.visits.kept ++ visits_of (point_of setting.points.now (pc_of run.guest hart)) hart (new.time + delay) delay }
   pub ending : new.ending ≡ ending_of fate
       (nat_le setting.choice.output_limit (length new.guest.output))
       (nat_le setting.choice.visit_limit (length new.visits.kept))
-      (runs_after fate new.started (without_key hart run.schedule))
+      (runs_after fate new.started (rested hart fate run.schedule))
       new.retired setting.choice.budget
   pub unfull : new.ending ≡ None → length new.visits.kept < setting.choice.visit_limit
   pub selected : new.ending ≡ None → new.selected ≡ selected_of setting new.guest (started_by hart fate new.started)
@@ -35,4 +38,29 @@ pub record IsAdvance (setting : Setting) (run : Run) (hart : ℕ) (fate : Fate) 
   pub retired : new.retired ≡ run.retired + 1
   pub wakes : new.wakes ≡ run.wakes
   pub few : new.starts ≤ events_of new + many new.schedule
+  -- no wake is later than at 10^16
+  pub within : (moment : ℕ) → 10 ^ 16 ≤ moment → AreWithin moment run.schedule → AreWithin (moment + 4000) new.schedule
+
+-- it becomes that one as a sleeping hart wakes at this moment, and its next instruction begins
+pub record IsWoken (setting : Setting) (run : Run) (hart moment : ℕ) (new : Run) : Type 0 where
+  pub moved : (first : Guest) (dues : List (Option ℕ)) → AreDues run.schedule dues → IsStateOf new (move (experiment_in setting first) (state_of run dues))
+  pub turn : key_of run.schedule hart ≡ Some moment
+  pub first : IsLeast run.schedule hart
+  pub asleep : is_sleeping run.guest hart ≡ true
+  pub guest : new.guest ≡ with_wake hart run.guest
+  pub selected : new.selected ≡ selected_of setting new.guest (hart ∷ [])
+  pub wakes : new.wakes ≡ run.wakes + 1
+  pub room : length new.schedule ≡ 256
+  pub few : new.starts ≤ events_of new + many new.schedule
   pub within : (moment : ℕ) → AreWithin moment run.schedule → AreWithin (moment + 4000) new.schedule
+  -- nothing is visited, nor retired, nor ended
+  pub rest : new ≡ record run { guest = new.guest; schedule = new.schedule; selected = new.selected; wakes = new.wakes; starts = new.starts }
+
+abbrev pub is_wake : Event → Bool
+is_wake (Woke turn) = true
+is_wake (Retired retired) = false
+
+-- one event: the hart that is due first wakes or retires
+abbrev pub IsAdvance : Setting → Run → Event → ℕ → Run → Type 0
+IsAdvance setting run (Woke turn) delay new = IsWoken setting run turn.hart.0 turn.due new
+IsAdvance setting run (Retired retired) delay new = IsRetired setting run retired.hart.0 retired.fate delay new

@@ -1,8 +1,9 @@
 -- How harts begin their next instructions.
 use Rattle.std.specs.Prelude.{◌≡◌, ℕ, suc, ◌+◌, ◌*◌, ◌<◌, Bool, true, if◌then◌else◌, List, [], ◌∷◌, length, Some, None}
 use Rattle.cost_table.specs.Costs.{cycles_of, reduced_cost}
-use Rattle.hart_schedule.specs.Keys.{Keys, key_of}
+use Rattle.hart_schedule.specs.Keys.{Keys, key_of, with_key, without_key}
 use Rattle.machines.specs.declared.Fate.{Fate}
+use Rattle.machines.specs.declared.Fate.TheVariants.{Goes, Waits, Leaves, Sleeps, Ends}
 use Rattle.machines.specs.Guest.{goes_on}
 use Rattle.machines.specs.Places.{is_among, AllApart}
 use Rattle.guest_calls.specs.Guest.{Guest, IsMade, pc_of}
@@ -16,6 +17,14 @@ ticks_of is_selected speedup g hart =
 -- the harts that a retirement of this fate starts: the retiring one if it goes on, and those that it made or woke
 abbrev pub started_by : ℕ → Fate → List ℕ → List ℕ
 started_by hart fate others = if goes_on fate then hart ∷ others else others
+
+-- the schedule once a hart has retired to this fate: it is in it no more, but if it sleeps it is due at its wake
+abbrev pub rested : ℕ → Fate → Keys → Keys
+rested hart Goes keys = without_key hart keys
+rested hart Waits keys = without_key hart keys
+rested hart Leaves keys = without_key hart keys
+rested hart (Sleeps moment) keys = with_key hart moment (without_key hart keys)
+rested hart (Ends ending) keys = without_key hart keys
 
 -- a hart was made, and isn't in the schedule
 pub record IsIdle (g : Guest) (keys : Keys) (hart : ℕ) : Type 0 where

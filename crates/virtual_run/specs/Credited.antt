@@ -1,15 +1,18 @@
 -- The accounts and pauses of a delayed state, as credits hold them.
-use Rattle.std.specs.Prelude.{◌≡◌, ℕ, ◌+◌, ◌*◌, ◌^◌, ◌≤◌, ◌<◌, true, false, List, [], ◌∷◌, length, slice_index_or, Option, Some, None}
+use Rattle.std.specs.Prelude.{◌≡◌, ℕ, ◌+◌, ◌*◌, ◌^◌, ◌≤◌, ◌<◌, true, false, if◌then◌else◌, List, [], ◌∷◌, length, slice_index_or, Option, Some, None}
 use Rattle.coz_types.specs.declared.ending.Ending.{Ending}
 use Rattle.cost_table.specs.Costs.{cycles_of, raise_of}
 use Rattle.machines.specs.declared.Fate.{Fate}
-use Rattle.machines.specs.Guest.{goes_on}
+use Rattle.machines.specs.Guest.{goes_on, sleeps}
 use Rattle.machines.specs.Places.{change_each, change_from, is_among}
 use Rattle.machines.specs.Delayed.{Delayed, Hart, fresh, is_running, total, run, credit, raise_hart}
-use Rattle.delay_credits.specs.Delays.{Delays, hart_at}
+use Rattle.delay_credits.specs.Delays.{Delays, hart_at, pause_of, at, with_start, with_stop}
 use Rattle.delay_credits.specs.Ticks.{without_work}
 use Rattle.guest_calls.specs.Guest.{Guest, IsMade}
 use Rattle.guest_calls.specs.Retire.{next_of}
+use Rattle.virtual_run.specs.declared.run.Event.{Event}
+use Rattle.virtual_run.specs.declared.run.Event.TheVariants.{Woke, Retired}
+use Rattle.virtual_run.specs.declared.run.Run.{Run}
 use Rattle.virtual_run.specs.Begin.{started_by}
 
 -- each of these harts is held without its work
@@ -69,6 +72,14 @@ raise_ticks g speedup hart = raise_of (cycles_of (next_of g hart)) speedup
 abbrev pub with_begun : (ℕ → ℕ) → ℕ → Fate → List ℕ → List ℕ → Delays → Delays
 with_begun ticks hart fate others selected c = with_raises ticks selected (with_starts (started_by hart fate others) (with_credits others c))
 
+-- after a hart has retired to this fate at a moment it doesn't run, but if it sleeps it has no pause before it
+abbrev pub with_rest : ℕ → Fate → ℕ → Delays → Delays
+with_rest hart fate now c = if sleeps fate then with_start hart now c else with_stop hart now c
+
+-- after a wake: the hart runs, and raises the delay if it is selected
+abbrev pub with_wake : (ℕ → ℕ) → ℕ → List ℕ → Delays → Delays
+with_wake ticks hart selected c = with_raises ticks selected (with_starts (hart ∷ []) c)
+
 -- after a retirement with which a run ends or goes on
 abbrev pub settled_by : Option Ending → (ℕ → ℕ) → ℕ → Fate → List ℕ → List ℕ → Delays → Delays
 settled_by None ticks hart fate others selected c = with_begun ticks hart fate others selected c
@@ -91,3 +102,33 @@ pub record IsAlone (ending : Option Ending) (fate : Fate) (others : List ℕ) : 
   pub goes-on : ending ≡ None
   pub goes : goes_on fate ≡ true
   pub none : others ≡ []
+
+-- what the harts and the credits must be at a moment for a hart to wake
+pub record CanWake (c : Delays) (run : Run) (hart now : ℕ) : Type 0 where
+  pub below : hart < length c.harts
+  pub later : c.latest ≤ now
+  pub runs : AllRun (with_starts (hart ∷ []) (at now c)) run.selected
+  pub made : AllMade run.guest run.selected
+  pub few : c.raised + 3800 * length run.selected ≤ 10 ^ 17
+
+-- and for one to have retired
+pub record CanSettle (c : Delays) (run : Run) (hart : ℕ) (fate : Fate) (now : ℕ) : Type 0 where
+  pub below : hart < length c.harts
+  pub later : c.latest ≤ now
+  pub running : is_running (hart_at c hart) ≡ true
+  pub unpaused : pause_of (hart_at (at now c) hart) ≡ 0
+  pub can : run.ending ≡ None → CanBegin (with_rest hart fate now c) run.guest hart fate run.started run.selected
+
+abbrev pub CanFollow : Event → Delays → Run → ℕ → Type 0
+CanFollow (Woke turn) c run now = CanWake c run turn.hart.0 now
+CanFollow (Retired retired) c run now = CanSettle c run retired.hart.0 retired.fate now
+
+-- the net moment of an event, after which the engine is so
+abbrev pub moment_of : Event → Run → ℕ
+moment_of (Woke turn) run = turn.due
+moment_of (Retired retired) run = run.time
+
+-- the credits after it
+abbrev pub credited_by : Event → Run → (ℕ → ℕ) → ℕ → Delays → Delays
+credited_by (Woke turn) run ticks now c = with_wake ticks turn.hart.0 run.selected (at now c)
+credited_by (Retired retired) run ticks now c = settled_by run.ending ticks retired.hart.0 retired.fate run.started run.selected (with_rest retired.hart.0 retired.fate now c)

@@ -10,11 +10,14 @@ use Rattle.machines.specs.Delayed.{Account, Visit, Delayed, fresh, events, delay
 use Rattle.machines.specs.Shortened.{shortened}
 use Rattle.machines.specs.Agreement.{Agrees}
 use Rattle.machines.specs.Records.{Record, IsDelayed}
+use Rattle.machines.specs.Steps.{Steps, Passes}
 use Rattle.machines.specs.Standing.{standing}
 use Rattle.machines.specs.Lead.{before}
 use Rattle.delay_credits.specs.Delays.{Delays}
 use Rattle.guest_calls.specs.Guest.{Guest, making}
 use Rattle.virtual_run.specs.declared.choice.Setting.{Setting}
+use Rattle.virtual_run.specs.declared.run.Event.{Event}
+use Rattle.virtual_run.specs.declared.run.Event.TheVariants.{Woke, Retired}
 use Rattle.virtual_run.specs.declared.run.Run.{Run}
 use Rattle.virtual_run.specs.Run.{events_of, IsChoice, IsReached}
 use Rattle.virtual_run.specs.Seen.{experiment_with}
@@ -56,6 +59,11 @@ pub record IsSmall (o : Outcome) : Type 0 where
   pub time : o.time ≤ 10 ^ 17
   pub retired : o.retired ≤ 10 ^ 17
   pub starts : o.starts ≤ 10 ^ 17
+
+-- what an event takes the machine through: moves that end with a wake, without a retirement, or those that end with the next retirement
+abbrev pub Happens : Experiment Guest → Event → Delayed Guest → Delayed Guest → Type 0
+Happens x (Woke turn) old new = Passes x old new × (new.ending ≡ None)
+Happens x (Retired retired) old new = Steps x old new
 
 -- before each move of the delayed run it agrees with the shortened one after as many retirements and wakes
 abbrev pub AgreesThroughout : Experiment Guest → Type 0

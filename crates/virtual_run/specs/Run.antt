@@ -7,7 +7,7 @@ use Rattle.machines.specs.Shortened.{Shortened, shortened}
 use Rattle.line_index.specs.Index.{position_at}
 use Rattle.progress_points.specs.Points.{point_of}
 use Rattle.guest_memory.specs.Regions.{IsLayout}
-use Rattle.guest_calls.specs.Guest.{Guest, pc_of, is_running, first_guest}
+use Rattle.guest_calls.specs.Guest.{Guest, pc_of, is_timed, first_guest}
 use Rattle.guest_calls.specs.Plug.{plug}
 use Rattle.guest_calls.specs.Orderly.{IsOrderly}
 use Rattle.virtual_run.specs.declared.choice.Choice.{Choice}
@@ -102,11 +102,11 @@ pub record IsStateOf (run : Run) (s : Shortened Guest) : Type 0 where
 abbrev pub AreWithin : ℕ → Keys → Type 0
 AreWithin moment keys = (hart due : ℕ) → key_of keys hart ≡ Some due → due ≤ moment
 
--- between the moves of a run that goes on: the harts that run are those that are due
+-- between the moves of a run that goes on: the harts that run or sleep are those that are due
 pub record IsSteady (run : Run) : Type 0 where
   pub goes : run.ending ≡ None
   pub orderly : IsOrderly run.guest
-  pub running : (hart : ℕ) → is_running run.guest hart ≡ is_some (key_of run.schedule hart)
+  pub timed : (hart : ℕ) → is_timed run.guest hart ≡ is_some (key_of run.schedule hart)
   pub some_hart : ¬ IsEmpty run.schedule
   pub room : length run.schedule ≡ 256
   pub unfull : length run.visits.kept < run.visits.limit

@@ -5,10 +5,10 @@ ghost use Rattle.machines.specs.Delayed.{is_running, total};
 ghost use Rattle.machines.specs.Guest.{goes_on};
 ghost use Rattle.delay_credits.specs.Delays.{hart_at, pause_of, at, with_stop};
 ghost use Rattle.guest_calls.specs.Guest.{IsMade};
-ghost use Rattle.virtual_run.specs.Credited.{raise_ticks, with_credits, with_starts, with_raises, with_begun, settled_by, AllRest, AllBelow, AllRun, AllMade, CanBegin, IsAlone};
+ghost use Rattle.virtual_run.specs.Credited.{raise_ticks, with_credits, with_starts, with_raises, with_begun, with_rest, with_wake, settled_by, moment_of, credited_by, CanFollow, AllRest, AllBelow, AllRun, AllMade, CanBegin, IsAlone};
 
 use crate::run::has_any;
-use crate::{Retired, Run};
+use crate::{Event, Retired, Run};
 use cost_table::raise;
 use coz_types::{HartId, Tick};
 use delay_credits::Credits;
@@ -114,10 +114,10 @@ fn go_on(credits: &mut Credits, run: &Run, retired: Retired, speedup: u8, now: T
     requires alone { IsAlone run.now.ending retired.fate run.now.started }
     requires below { retired.hart.0 < length credits.old.harts }
     requires later { credits.old.latest ≤ now }
-    requires can { CanBegin (with_stop retired.hart.0 now credits.old) run.now.guest retired.hart.0 retired.fate run.now.started run.now.selected }
+    requires can { CanBegin (with_rest retired.hart.0 retired.fate now credits.old) run.now.guest retired.hart.0 retired.fate run.now.started run.now.selected }
     requires speedup { speedup ≤ 95 }
     ensures { credits.new ≡ with_begun (raise_ticks run.now.guest speedup) retired.hart.0 retired.fate run.now.started run.now.selected
-        (with_stop retired.hart.0 now credits.old) }
+        (with_rest retired.hart.0 retired.fate now credits.old) }
 {
     credits.start(retired.hart, now);
     if has_any(&run.selected) {
@@ -126,25 +126,76 @@ fn go_on(credits: &mut Credits, run: &Run, retired: Retired, speedup: u8, now: T
     }
 }
 
+/// The hart that retired stops at a moment. One that sleeps counts as one that runs, so it starts again at once.
+fn rest(credits: &mut Credits, hart: HartId, fate: Fate, now: Tick)
+    requires below { hart.0 < length credits.old.harts }
+    requires later { credits.old.latest ≤ now }
+    requires running { IsTrue (is_running (hart_at credits.old hart.0)) }
+    requires unpaused { pause_of (hart_at (at now credits.old) hart.0) ≡ 0 }
+    ensures { credits.new ≡ with_rest hart.0 fate now credits.old }
+{
+    match fate {
+        Fate::Sleeps(_) => credits.start(hart, now),
+        _ => credits.stop(hart, now),
+    }
+}
+
+/// What a wake makes of the accounts and pauses: the hart starts again at its moment, and raises the delay if it is
+/// selected.
+fn wake_up(credits: &mut Credits, run: &Run, hart: HartId, speedup: u8, now: Tick)
+    requires below { hart.0 < length credits.old.harts }
+    requires later { credits.old.latest ≤ now }
+    requires run { AllRun (with_starts (hart.0 ∷ []) (at now credits.old)) run.now.selected }
+    requires made { AllMade run.now.guest run.now.selected }
+    requires speedup { speedup ≤ 95 }
+    requires few { credits.old.raised + 3800 * length run.now.selected ≤ 10 ^ 17 }
+    ensures { credits.new ≡ with_wake (raise_ticks run.now.guest speedup) hart.0 run.now.selected (at now credits.old) }
+{
+    credits.start(hart, now);
+    raise_selected(credits, run, speedup, now);
+}
+
 /// What a retirement at a moment and the starts after it make of the accounts and pauses: the hart stops, and where the run
 /// goes on what it started begins.
-pub fn settle(credits: &mut Credits, run: &Run, retired: Retired, speedup: u8, now: Tick)
+fn settle(credits: &mut Credits, run: &Run, retired: Retired, speedup: u8, now: Tick)
     requires below { retired.hart.0 < length credits.old.harts }
     requires later { credits.old.latest ≤ now }
     requires running { IsTrue (is_running (hart_at credits.old retired.hart.0)) }
     requires unpaused { pause_of (hart_at (at now credits.old) retired.hart.0) ≡ 0 }
     requires can { run.now.ending ≡ None →
-        CanBegin (with_stop retired.hart.0 now credits.old) run.now.guest retired.hart.0 retired.fate run.now.started run.now.selected }
+        CanBegin (with_rest retired.hart.0 retired.fate now credits.old) run.now.guest retired.hart.0 retired.fate run.now.started run.now.selected }
     requires speedup { speedup ≤ 95 }
     ensures { credits.new ≡ settled_by run.now.ending (raise_ticks run.now.guest speedup) retired.hart.0 retired.fate run.now.started run.now.selected
-        (with_stop retired.hart.0 now credits.old) }
+        (with_rest retired.hart.0 retired.fate now credits.old) }
 {
     if is_alone(run, retired.fate) {
         go_on(credits, run, retired, speedup, now);
         return;
     }
-    credits.stop(retired.hart, now);
+    rest(credits, retired.hart, retired.fate, now);
     if run.ending.is_none() {
         begin_started(credits, run, retired, speedup, now);
+    }
+}
+
+/// The net moment of an event.
+pub fn moment_of(event: Event, run: &Run) -> Tick
+    ensures { result ≡ moment_of event run.now }
+{
+    match event {
+        Event::Woke(turn) => turn.due,
+        Event::Retired(_) => run.time,
+    }
+}
+
+/// What an event and the starts after it make of the accounts and pauses.
+pub fn follow(credits: &mut Credits, run: &Run, event: Event, speedup: u8, now: Tick)
+    requires can { CanFollow event credits.old run.now now }
+    requires speedup { speedup ≤ 95 }
+    ensures { credits.new ≡ credited_by event run.now (raise_ticks run.now.guest speedup) now credits.old }
+{
+    match event {
+        Event::Woke(turn) => wake_up(credits, run, turn.hart, speedup, now),
+        Event::Retired(retired) => settle(credits, run, retired, speedup, now),
     }
 }

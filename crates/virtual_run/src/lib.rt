@@ -12,5 +12,5 @@ mod visits;
 pub use choice::{Choice, Setting};
 pub use lead::Lead;
 pub use machine::Machine;
-pub use run::{Retired, Run};
+pub use run::{Event, Retired, Run, Turn};
 pub use visits::Visits;

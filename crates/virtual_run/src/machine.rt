@@ -4,10 +4,11 @@ ghost use Rattle.hart_schedule.specs.Keys.{key_of};
 ghost use Rattle.delay_credits.specs.Delays.{account_as};
 ghost use Rattle.virtual_run.specs.Seen.{experiment_of};
 ghost use Rattle.virtual_run.specs.Lead.{arguments, is_unstarted};
-ghost use Rattle.virtual_run.specs.DelayedRun.{visit_as, net_due_of, account_in, outcome_of, IsSmall, AgreesThroughout, EndsOnce};
+ghost use Rattle.virtual_run.specs.DelayedRun.{visit_as, net_due_of, account_in, outcome_of, IsSmall, Happens, AgreesThroughout, EndsOnce};
 
-use crate::accounts::{raise_each, raise_selected, settle};
-use crate::{Choice, Run, Setting};
+use crate::accounts::{follow, moment_of, raise_each, raise_selected};
+use crate::run::is_wake;
+use crate::{Choice, Event, Run, Setting};
 use coz_types::{Account, Ending, HartId, Image, LineId, Outcome, Tick, Visit};
 use delay_credits::Credits;
 use line_index::LineIndex;
@@ -21,8 +22,8 @@ const HARTS: u32 = 256;
 /// The hart that a program begins with.
 const FIRST: HartId = HartId(0);
 
-/// The delayed run of a program: as an instruction of the selected line starts, every other running hart is made to pause
-/// for what that instruction is to be spared.
+/// The delayed run of a program: as an instruction of the selected line starts, every other hart that runs or sleeps is made
+/// to pause for what that instruction is to be spared.
 #[derive(Drop)]
 pub struct Machine<'a> {
     image: &'a Image<'a>,
@@ -30,7 +31,7 @@ pub struct Machine<'a> {
     setting: Setting<'a>,
     run: Run<'a>,
     credits: Credits,
-    /// The real moment of the last retirement, in ticks.
+    /// The real moment of the last event, in ticks.
     moment: Tick,
 }
 
@@ -113,7 +114,7 @@ impl<'a> Machine<'a> {
         })
     }
 
-    /// Runs up to and including the next retirement, with what begins after it. Gives the ending once the run has ended; a
+    /// Runs up to and including the next retirement, through all wakes before it, with what begins after it. Gives the ending once the run has ended; a
     /// further step changes nothing and gives the same.
     pub fn step(&mut self) -> Option<Ending>
         ensures ended { result ≡ self.new.state.ending }
@@ -123,31 +124,32 @@ impl<'a> Machine<'a> {
         ensures rest { self.new ≡ record self.old { state = self.new.state } }
         ensures agrees { Agrees self.new.state (shortened (experiment_of self.old) (events self.new.state)) }
     {
-        if self.run.ending.is_some() {
-            return self.run.ending;
+        let mut going = self.run.ending.is_none();
+        while going {
+            going = is_wake(self.event());
         }
-        self.event();
         self.run.ending
     }
 
-    /// One event of a run that goes on: the hart that is due first retires, and what this started begins.
-    fn event(&mut self)
+    /// One event of a run that goes on: the hart that is due first wakes or retires, and what this started begins.
+    fn event(&mut self) -> Event
         requires { self.old.state.ending ≡ None }
         ensures next { self.new.state ≡ standing (experiment_of self.old) (events self.old.state + 1) }
         ensures count { events self.new.state ≡ events self.old.state + 1 }
-        ensures steps { Steps (experiment_of self.old) self.old.state self.new.state }
+        ensures happens { Happens (experiment_of self.old) result self.old.state self.new.state }
         ensures rest { self.new ≡ record self.old { state = self.new.state } }
     {
         let raised = self.credits.raised();
-        let retired = self.run.advance(&self.setting, raised);
-        self.moment = self.run.time + raised;
-        settle(
+        let event = self.run.advance(&self.setting, raised);
+        self.moment = moment_of(event, &self.run) + raised;
+        follow(
             &mut self.credits,
             &self.run,
-            retired,
+            event,
             self.setting.choice.speedup,
             self.moment,
         );
+        event
     }
 
     /// Runs to the end, and gives it. A further run changes nothing and gives the same.
@@ -248,7 +250,7 @@ impl<'a> Machine<'a> {
         self.moment = first.moment;
     }
 
-    /// The moment of the last retirement, in ticks.
+    /// The moment of the last event, in ticks.
     pub fn now(&self) -> Tick
         ensures { result ≡ self.now.state.now }
     {
@@ -262,7 +264,7 @@ impl<'a> Machine<'a> {
         self.credits.raised()
     }
 
-    /// When a hart retires next, in net ticks; None where it isn't running or the run has ended.
+    /// When a hart retires or wakes next, in net ticks; None exactly where it neither runs nor sleeps, or the run has ended.
     pub fn net_due(&self, hart: HartId) -> Option<Tick>
         ensures due { result ≡ net_due_of self.now.state hart.0 }
         ensures shortened { self.now.state.ending ≡ None →

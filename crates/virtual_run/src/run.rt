@@ -1,18 +1,19 @@
 //! The moves that both machines share.
-ghost use Rattle.std.specs.Prelude.{◌≡◌, ◌&&◌, ◌==◌, not, ◌+◌, ◌^◌, ◌≤◌, ◌<◌, ◌++◌, [], ◌∷◌, Some, length, nat_le, is_some, IfOk, All, if◌then◌else◌};
+ghost use Rattle.std.specs.Prelude.{◌≡◌, true, ◌&&◌, ◌==◌, not, ◌+◌, ◌^◌, ◌≤◌, ◌<◌, ◌++◌, [], ◌∷◌, Some, length, nat_le, is_some, IfOk, All, if◌then◌else◌};
 ghost use Rattle.hart_schedule.specs.Keys.{key_of, without_key, IsEmpty, IsLeast};
 ghost use Rattle.machines.specs.Delayed.{is_any};
 ghost use Rattle.machines.specs.Guest.{goes_on};
 ghost use Rattle.machines.specs.Shortened.{runs_any};
 ghost use Rattle.progress_points.specs.Points.{point_of};
-ghost use Rattle.guest_calls.specs.Guest.{making, IsMade};
-ghost use Rattle.virtual_run.specs.Begin.{started_by, many, AreIdle, AreBegun};
+ghost use Rattle.guest_calls.specs.Guest.{making, is_running, is_sleeping, IsMade};
+ghost use Rattle.virtual_run.specs.Begin.{started_by, rested, many, AreIdle, AreBegun};
 ghost use Rattle.virtual_run.specs.Ending.{ending_of, runs_after};
 ghost use Rattle.virtual_run.specs.Visits.{visits_of};
 ghost use Rattle.virtual_run.specs.Credited.{raise_ticks, AllMade};
+ghost use Rattle.virtual_run.specs.Advance.{is_wake};
 ghost use Rattle.virtual_run.specs.Lead.{with_sooner};
 
-use crate::start::{add_if, begin, begin_again, begin_each, hasten_each};
+use crate::start::{add_if, begin, begin_again, begin_each, begin_next, hasten_each};
 use crate::{Choice, Setting, Visits};
 use coz_types::{Address, Ending, HartId, Image, Tick, Visit};
 use guest_calls::{Fate, Guest};
@@ -30,7 +31,7 @@ const FIRST: HartId = HartId(0);
 #[derive(Drop)]
 pub struct Run<'a> {
     pub(crate) guest: Guest<'a>,
-    /// When each running hart retires, in net ticks. A raise changes none of these moments, so it touches no key.
+    /// When each running hart retires and each sleeping one wakes, in net ticks. A raise changes none of these moments, so it touches no key.
     pub(crate) schedule: Schedule,
     /// The harts that the last retirement made or woke, in order.
     pub(crate) started: HartList,
@@ -54,11 +55,26 @@ pub struct Retired {
     pub fate: Fate,
 }
 
-/// A hart, and when it retires.
-#[derive(Clone, Copy, Drop)]
-struct Turn {
-    hart: HartId,
-    due: Tick,
+/// A hart, and when it retires or wakes, in net ticks.
+#[derive(Clone, Copy, Debug)]
+pub struct Turn {
+    pub hart: HartId,
+    pub due: Tick,
+}
+
+/// What the hart that was due first has done.
+#[derive(Clone, Copy, Debug)]
+pub enum Event {
+    /// It slept, and runs from its moment on.
+    Woke(Turn),
+    Retired(Retired),
+}
+
+/// Whether an event was a wake.
+pub(crate) fn is_wake(event: Event) -> bool
+    ensures { result ≡ is_wake event }
+{
+    matches!(event, Event::Woke(_))
 }
 
 /// The hart that is due first. It stays in the schedule.
@@ -76,15 +92,26 @@ fn first_turn(schedule: &Schedule) -> Turn
     Turn { hart, due }
 }
 
-/// The hart that retired is taken out, unless it goes on.
+/// The hart that retired is taken out, or is due at its wake, unless it goes on.
 fn leave(schedule: &mut Schedule, hart: HartId, fate: Fate)
-    ensures { schedule.new ≡ (if goes_on fate then schedule.old else without_key hart.0 schedule.old) }
+    requires { hart.0 < length schedule.old }
+    ensures { schedule.new ≡ (if goes_on fate then schedule.old else rested hart.0 fate schedule.old) }
 {
     match fate {
         Fate::Goes => {}
+        Fate::Sleeps(moment) => schedule.rekey(hart, moment),
         _ => {
             schedule.take(hart);
         }
+    }
+}
+
+/// One that would go on is taken out, as the run ends.
+fn leave_ended(schedule: &mut Schedule, hart: HartId, fate: Fate)
+    ensures { schedule.new ≡ (if goes_on fate then without_key hart.0 schedule.old else schedule.old) }
+{
+    if let Fate::Goes = fate {
+        schedule.take(hart);
     }
 }
 
@@ -149,7 +176,7 @@ fn ending_after(
 
 impl<'a> Run<'a> {
     ghost use Rattle.virtual_run.specs.Run.{selected_of, ticks_in, IsChoice, IsSteady, IsFirst};
-    ghost use Rattle.virtual_run.specs.Advance.{IsAdvance};
+    ghost use Rattle.virtual_run.specs.Advance.{IsAdvance, IsRetired, IsWoken};
 
     /// A run that is about to begin.
     pub fn new(
@@ -182,15 +209,58 @@ impl<'a> Run<'a> {
         })
     }
 
-    /// One move: the hart that is due first retires, and where the run goes on the harts that this started begin. A visit
-    /// is kept with the delay that is given, at a time that is later by it.
-    pub fn advance(&mut self, setting: &Setting, delay: Tick) -> Retired
+    /// One move: the hart that is due first wakes if it sleeps, and else retires.
+    pub fn advance(&mut self, setting: &Setting, delay: Tick) -> Event
         requires steady { IsSteady self.old }
         requires speedup { setting.now.choice.speedup ≤ 95 }
         requires delay { delay ≤ 10 ^ 17 }
-        ensures { IsAdvance setting.now self.old result.hart.0 result.fate delay self.new }
+        ensures { IsAdvance setting.now self.old result delay self.new }
     {
         let turn = first_turn(&self.schedule);
+        if self.guest.is_sleeping(turn.hart) {
+            self.wake(setting, turn);
+            Event::Woke(turn)
+        } else {
+            Event::Retired(self.retire(setting, turn, delay))
+        }
+    }
+
+    /// A sleeping hart whose turn it is wakes, and its next instruction begins.
+    fn wake(&mut self, setting: &Setting, turn: Turn)
+        requires steady { IsSteady self.old }
+        requires speedup { setting.now.choice.speedup ≤ 95 }
+        requires turn { key_of self.old.schedule turn.hart.0 ≡ Some turn.due }
+        requires first { IsLeast self.old.schedule turn.hart.0 }
+        requires asleep { is_sleeping self.old.guest turn.hart.0 ≡ true }
+        ensures { IsWoken setting.now self.old turn.hart.0 turn.due self.new }
+    {
+        self.guest.wake(turn.hart);
+        self.wakes += 1;
+        self.selected.clear();
+        begin_next(
+            setting,
+            &self.guest,
+            &mut self.schedule,
+            &mut self.selected,
+            turn.hart,
+            turn.due,
+        );
+        let begun = self.selected.harts().len() as u64;
+        self.starts += begun;
+    }
+
+    /// A running hart whose turn it is retires, and where the run goes on the harts that this started begin. A visit is
+    /// kept with the delay that is given, at a time that is later by it.
+    fn retire(&mut self, setting: &Setting, turn: Turn, delay: Tick) -> Retired
+        requires steady { IsSteady self.old }
+        requires speedup { setting.now.choice.speedup ≤ 95 }
+        requires delay { delay ≤ 10 ^ 17 }
+        requires turn { key_of self.old.schedule turn.hart.0 ≡ Some turn.due }
+        requires first { IsLeast self.old.schedule turn.hart.0 }
+        requires running { is_running self.old.guest turn.hart.0 ≡ true }
+        ensures retired { IsRetired setting.now self.old turn.hart.0 result.fate delay self.new }
+        ensures hart { result.hart.0 ≡ turn.hart.0 }
+    {
         let address = self.guest.pc(turn.hart);
         keep_visit(
             setting,
@@ -208,7 +278,7 @@ impl<'a> Run<'a> {
         leave(&mut self.schedule, turn.hart, fate);
         if self.ends_with(&setting.choice, fate) {
             self.ending = self.ending_after(&setting.choice, fate);
-            self.schedule.take(turn.hart);
+            leave_ended(&mut self.schedule, turn.hart, fate);
         } else {
             self.begin_started(setting, turn.hart, fate);
         }
@@ -368,17 +438,17 @@ impl<'a> Run<'a> {
 
     /// The harts that a retirement of this fate started begin at its moment.
     fn begin_started(&mut self, setting: &Setting, hart: HartId, fate: Fate)
-        requires idle { AreIdle self.old.guest (without_key hart.0 self.old.schedule) (started_by hart.0 fate self.old.started) }
+        requires idle { AreIdle self.old.guest (if goes_on fate then without_key hart.0 self.old.schedule else self.old.schedule) (started_by hart.0 fate self.old.started) }
         requires moment { self.old.time ≤ 2 ^ 60 }
         requires speedup { setting.now.choice.speedup ≤ 95 }
         requires room { length self.old.schedule ≡ 256 }
         requires selected { self.old.selected ≡ [] }
         requires few { self.old.starts ≤ 2 ^ 62 }
-        ensures begun { AreBegun (ticks_in setting.now self.old.guest) self.old.time (started_by hart.0 fate self.old.started) (without_key hart.0 self.old.schedule) self.new.schedule }
+        ensures begun { AreBegun (ticks_in setting.now self.old.guest) self.old.time (started_by hart.0 fate self.old.started) (if goes_on fate then without_key hart.0 self.old.schedule else self.old.schedule) self.new.schedule }
         ensures selected { self.new.selected ≡ selected_of setting.now self.old.guest (started_by hart.0 fate self.old.started) }
         ensures room { length self.new.schedule ≡ 256 }
         ensures starts { self.new.starts ≡ self.old.starts + length self.new.selected }
-        ensures few { length self.new.selected + many (without_key hart.0 self.old.schedule) ≤ many self.new.schedule }
+        ensures few { length self.new.selected + many (if goes_on fate then without_key hart.0 self.old.schedule else self.old.schedule) ≤ many self.new.schedule }
         ensures rest { self.new ≡ record self.old { schedule = self.new.schedule; selected = self.new.selected; starts = self.new.starts } }
     {
         begin_again(

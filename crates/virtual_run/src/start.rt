@@ -77,8 +77,8 @@ pub fn begin(
     schedule.put(hart, moment + cost.ticks);
 }
 
-/// The next instruction of the hart that retired begins at a moment: the hart gets another place in the schedule.
-fn begin_next(
+/// The next instruction of the hart that retired or woke begins at a moment: the hart gets another place in the schedule.
+pub fn begin_next(
     setting: &Setting,
     guest: &Guest,
     schedule: &mut Schedule,
@@ -98,7 +98,7 @@ fn begin_next(
     schedule.rekey(hart, moment + cost.ticks);
 }
 
-/// The next instruction of the hart that retired begins at that moment, if the hart goes on; else it leaves the schedule.
+/// The next instruction of the hart that retired begins at that moment, if the hart goes on.
 pub fn begin_again(
     setting: &Setting,
     guest: &Guest,
@@ -112,14 +112,12 @@ pub fn begin_again(
     requires moment { moment ≤ 2 ^ 60 }
     requires speedup { setting.now.choice.speedup ≤ 95 }
     requires selected { selected.old ≡ [] }
-    ensures due { schedule.new ≡ (if goes_on fate then with_key hart.0 (moment + ticks_in setting.now guest.now hart.0) (without_key hart.0 schedule.old) else without_key hart.0 schedule.old) }
+    ensures due { schedule.new ≡ (if goes_on fate then with_key hart.0 (moment + ticks_in setting.now guest.now hart.0) (without_key hart.0 schedule.old) else schedule.old) }
     ensures selected { selected.new ≡ (if goes_on fate then selected_of setting.now guest.now (hart.0 ∷ []) else []) }
 {
     match fate {
         Fate::Goes => begin_next(setting, guest, schedule, selected, hart, moment),
-        _ => {
-            schedule.take(hart);
-        }
+        _ => {}
     }
 }
 

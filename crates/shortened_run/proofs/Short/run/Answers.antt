@@ -1,13 +1,13 @@
-use Rattle.std.proofs.Common.{◌≡◌, ◌<◌, ◌+◌, ◌∙◌, ap, sym, arith}
+use Rattle.std.proofs.Common.{◌≡◌, ◌<◌, ◌+◌, ◌*◌, ◌∙◌, ap, sym, arith}
 use Rattle.line_index.specs.Index.{position_at}
 use Rattle.progress_points.specs.Points.{point_of}
 use Rattle.machines.specs.Shortened.{Shortened}
-use Rattle.guest_calls.specs.Guest.{Guest, first_guest, pc_of}
+use Rattle.guest_calls.specs.Guest.{Guest}
 use Rattle.virtual_run.specs.declared.choice.Setting.{Setting}
-use Rattle.virtual_run.specs.Visits.{Visits}
 use Rattle.virtual_run.specs.Seen.{Seen, experiment_of, experiment_with}
-use Rattle.virtual_run.proofs.Law.{steady, below_budget, reached_next, none_is, ended_now}
-use Rattle.shortened_run.proofs.Law.{more_undelayed, recorded_of, last_of, shortened_of, seen, same_seen}
+use Rattle.virtual_run.specs.Run.{events_of}
+use Rattle.virtual_run.proofs.Law.{steady, none_is, ended_now}
+use Rattle.shortened_run.proofs.Law.{short_next, short_count, short_below, recorded_of, last_of, shortened_of, seen, same_seen}
 use Rattle.shortened_run.proofs.Short.run.Goals as goal
 use Rattle.shortened_run.proofs.Short.run.Goals.{In-Some}
 
@@ -25,20 +25,8 @@ pub loop-self-preserved : goal.loop-self-preserved
 loop-self-preserved c =
     let now = c.loop-self.self-inside in
     let before = c.loop-self.invariant in
-    let short = before.0 in
-    let new = c.advance.new.self in
-    let did = c.advance.ensures in
-    let first : Guest = first_guest now.image.now now.input.now now.setting.choice.output_limit now.setting.choice.layout in
     let none = sym c.ending.ensures ∙ none_is c.ending.result c.is_none.result c.is_none.ensures c.loop-self-test.true in (
-      record {
-        valid = short.valid;
-        reached =
-            reached_next now.image.now (position_at now.setting.index.now) (point_of now.setting.points.now) now.input.now now.setting.choice short.valid now.run short.reached new none
-            (did.moved first _ short.reached.reached.dues) did.room (ap (λ (vs : Visits). vs.limit) did.visits) did.unfull did.retired did.wakes did.few did.within;
-        undelayed =
-            more_undelayed now.run.visits.kept new.visits.kept (point_of now.setting.points.now (pc_of now.run.guest c.advance.result.hart.0)) c.advance.result.hart.0 (new.time + 0)
-            (ap (λ (vs : Visits). vs.kept) did.visits) short.undelayed;
-      },
+      short_next now.image.now now.input.now now.setting now.run before.0 none c.advance.new.self c.advance.result c.advance.ensures,
       before.1,
       before.2,
       before.3,
@@ -48,9 +36,10 @@ pub loop-self-smaller : goal.loop-self-smaller
 loop-self-smaller c =
     let now = c.loop-self.self-inside in
     let short = c.loop-self.invariant.0 in
-    let below : now.run.retired < now.setting.choice.budget = below_budget now.image.now (position_at now.setting.index.now) (point_of now.setting.points.now) now.input.now now.setting.choice short.valid now.run short.reached
-    (sym c.ending.ensures ∙ none_is c.ending.result c.is_none.result c.is_none.ensures c.loop-self-test.true) in
-    omega (arith, below, c.advance.ensures.retired)
+    let none = sym c.ending.ensures ∙ none_is c.ending.result c.is_none.result c.is_none.ensures c.loop-self-test.true in
+    let below : events_of now.run < 2 * now.setting.choice.budget = short_below now.image.now now.input.now now.setting now.run short none c.advance.new.self in
+    let count : events_of c.advance.new.self ≡ events_of now.run + 1 = short_count now.image.now now.input.now now.setting now.run short none c.advance.new.self c.advance.result c.advance.ensures in
+    omega (arith, below, count)
 
 pub returns-clause-ended : goal.returns-clause-ended
 returns-clause-ended c =

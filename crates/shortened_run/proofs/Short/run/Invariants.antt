@@ -1,4 +1,5 @@
-use Rattle.std.proofs.Common.{◌≡◌, ◌-◌}
+use Rattle.std.proofs.Common.{◌≡◌, ◌*◌, ◌-◌}
+use Rattle.virtual_run.specs.Run.{events_of}
 use Rattle.shortened_run.specs.ShortenedRun.{IsShort}
 use Rattle.shortened_run.proofs.Short.run.Given as goal
 
@@ -11,4 +12,4 @@ invariant-loop-self l =
     × (l.self-inside.setting ≡ l.initial.self-inside.setting)
 
 abbrev pub decreases-loop-self : goal.decreases-loop-self
-decreases-loop-self l = l.self-inside.setting.choice.budget - l.self-inside.run.retired
+decreases-loop-self l = 2 * l.self-inside.setting.choice.budget - events_of l.self-inside.run

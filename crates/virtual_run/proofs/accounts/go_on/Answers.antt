@@ -1,6 +1,6 @@
 use Rattle.std.proofs.Common.{◌≡◌, ℕ, List, [], ap, sym, subst, ◌∙◌}
-use Rattle.delay_credits.specs.Delays.{Delays, with_stop}
-use Rattle.virtual_run.specs.Credited.{with_raises, raise_ticks, AllRun}
+use Rattle.delay_credits.specs.Delays.{Delays}
+use Rattle.virtual_run.specs.Credited.{with_raises, with_rest, raise_ticks, AllRun}
 use Rattle.virtual_run.proofs.CreditedBegin.{raisers_run, goes-on-alone, none-any}
 use Rattle.virtual_run.proofs.accounts.go_on.Goals as goal
 
@@ -8,7 +8,7 @@ pub raise_each-requires-clause-run : goal.raise_each-requires-clause-run
 raise_each-requires-clause-run c =
     let r = c.args.run.now in
     let h : ℕ = c.args.retired.hart.0 in
-    let before : Delays = with_stop h c.args.now c.args.credits.now in
+    let before : Delays = with_rest h c.args.retired.fate c.args.now c.args.credits.now in
     let started = c.start.ensures ∙ goes-on-alone h c.args.now r.ending c.args.retired.fate r.started c.args.credits.now c.requires.alone in
     subst (AllRun c.start.new.self) (sym c.harts-raisers.ensures)
     (raisers_run before r.guest h c.args.retired.fate r.started r.selected c.requires.can c.start.new.self started)

@@ -1,54 +1,54 @@
-use Rattle.std.proofs.Common.{ap, subst, sym, ◌∙◌}
+use Rattle.std.proofs.Common.{ap, subst, sym, is_some, ◌∙◌}
 use Rattle.machines.specs.Guest.{Experiment}
 use Rattle.machines.specs.Delayed.{Delayed, events}
 use Rattle.machines.specs.Shortened.{shortened}
 use Rattle.machines.specs.Agreement.{Agrees}
-use Rattle.machines.specs.Standing.{standing}
 use Rattle.guest_calls.specs.Guest.{Guest}
 use Rattle.virtual_run.specs.Seen.{Seen, experiment_of}
-use Rattle.virtual_run.proofs.CreditedRun.{none_of, none_seen, not_over, not_ended, agrees_seen, ending_now}
+use Rattle.virtual_run.proofs.CreditedRun.{going_first, ending_now, agrees_seen}
+use Rattle.virtual_run.proofs.Stepped.{IsStepped, stepped_first, goes_here, stepped_next, stepped_smaller, step_next, step_steps, step_over, step_rest}
 use Rattle.virtual_run.proofs.machine.Machine.step.Goals as goal
 
-pub returns-then-is_some-clause-ended : goal.returns-then-is_some-clause-ended
-returns-then-is_some-clause-ended c =
-    let m = c.self.inside in
-    sym (ending_now m.image.now m.input.now m.setting m.run m.credits m.moment c.self.invariant) ∙ ap (λ (v : Seen (Delayed Guest)). v.state.ending) c.self.view_is
-
-pub returns-then-is_some-clause-next : goal.returns-then-is_some-clause-next
-returns-then-is_some-clause-next c none =
-    let m = c.self.inside in
-    absurd (not_over m.image.now m.input.now m.setting m.run m.credits m.moment c.self.invariant c.args.self.now c.self.view_is (sym c.is_some.ensures ∙ c.if-is_some.true) none)
-
-pub returns-then-is_some-clause-steps : goal.returns-then-is_some-clause-steps
-returns-then-is_some-clause-steps c none =
-    let m = c.self.inside in
-    absurd (not_over m.image.now m.input.now m.setting m.run m.credits m.moment c.self.invariant c.args.self.now c.self.view_is (sym c.is_some.ensures ∙ c.if-is_some.true) none)
-
-pub returns-then-is_some-clause-agrees : goal.returns-then-is_some-clause-agrees
-returns-then-is_some-clause-agrees c =
-    let m = c.self.inside in
-    agrees_seen m.image.now m.input.now m.setting m.run m.credits m.moment c.self.invariant c.args.self.now c.self.view_is
-
 pub event-requires : goal.event-requires
-event-requires c =
+event-requires c = goes_here c.args.self.now c.loop-going.self c.loop-going.going c.loop-going-test.true c.loop-going.invariant
+
+pub returns-clause-next : goal.returns-clause-next
+returns-clause-next c none = step_next c.args.self.now c.loop-going.self c.loop-going.going c.loop-going-test.false c.loop-going.invariant
+
+pub returns-clause-steps : goal.returns-clause-steps
+returns-clause-steps c = step_steps c.args.self.now c.loop-going.self c.loop-going.going c.loop-going-test.false c.loop-going.invariant
+
+pub returns-clause-over : goal.returns-clause-over
+returns-clause-over c = step_over c.args.self.now c.loop-going.self c.loop-going.going c.loop-going-test.false c.loop-going.invariant
+
+pub returns-clause-rest : goal.returns-clause-rest
+returns-clause-rest c = step_rest c.args.self.now c.loop-going.self c.loop-going.going c.loop-going-test.false c.loop-going.invariant
+
+pub loop-going-smaller : goal.loop-going-smaller
+loop-going-smaller c =
+    let e = c.event.ensures in
+    stepped_smaller c.args.self.now c.loop-going.self c.loop-going.going c.loop-going-test.true c.loop-going.invariant c.event.new.self c.event.result e.next e.count e.happens e.rest
+
+pub loop-going-init : goal.loop-going-init
+loop-going-init c =
     let m = c.self.inside in
-    none_seen m.image.now m.input.now m.setting m.run m.credits m.moment c.self.invariant c.args.self.now c.self.view_is (none_of m.run.ending (sym c.is_some.ensures ∙ c.if-is_some.false))
+    stepped_first c.args.self.now c.is_none-going.result (going_first m.image.now m.input.now m.setting m.run m.credits m.moment c.self.invariant c.args.self.now c.self.view_is).at
+    (ap (λ (v : Seen (Delayed Guest)). is_some v.state.ending) (sym c.self.view_is) ∙ ap is_some (ending_now m.image.now m.input.now m.setting m.run m.credits m.moment c.self.invariant) ∙ c.is_none-going.ensures)
+
+pub loop-going-preserved : goal.loop-going-preserved
+loop-going-preserved c =
+    let e = c.event.ensures in
+    subst (IsStepped c.args.self.now c.event.new.self) (sym c.is_wake-going.ensures)
+    (stepped_next c.args.self.now c.loop-going.self c.loop-going.going c.loop-going-test.true c.loop-going.invariant c.event.new.self c.event.result e.next e.count e.happens e.rest)
 
 pub returns-clause-ended : goal.returns-clause-ended
 returns-clause-ended c =
     let m = c.self-2.inside in
     sym (ending_now m.image.now m.input.now m.setting m.run m.credits m.moment c.self-2.invariant) ∙ ap (λ (v : Seen (Delayed Guest)). v.state.ending) c.self-2.view_is
 
-pub returns-clause-next : goal.returns-clause-next
-returns-clause-next c none = c.event.ensures.next ∙ ap (standing (experiment_of c.args.self.now)) (sym c.event.ensures.count)
-
-pub returns-clause-over : goal.returns-clause-over
-returns-clause-over c some =
-    let m = c.self.inside in
-    absurd (not_ended m.image.now m.input.now m.setting m.run m.credits m.moment c.self.invariant c.args.self.now c.self.view_is (none_of m.run.ending (sym c.is_some.ensures ∙ c.if-is_some.false)) some)
-
 pub returns-clause-agrees : goal.returns-clause-agrees
 returns-clause-agrees c =
     let m = c.self-2.inside in
-    subst (λ (x : Experiment Guest). Agrees c.event.new.self.state (shortened x (events c.event.new.self.state))) (ap experiment_of c.event.ensures.rest)
-    (agrees_seen m.image.now m.input.now m.setting m.run m.credits m.moment c.self-2.invariant c.event.new.self c.self-2.view_is)
+    subst (λ (x : Experiment Guest). Agrees c.loop-going.self.state (shortened x (events c.loop-going.self.state)))
+    (ap experiment_of (step_rest c.args.self.now c.loop-going.self c.loop-going.going c.loop-going-test.false c.loop-going.invariant))
+    (agrees_seen m.image.now m.input.now m.setting m.run m.credits m.moment c.self-2.invariant c.loop-going.self c.self-2.view_is)
