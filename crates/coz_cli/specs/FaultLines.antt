@@ -9,9 +9,8 @@ use Rattle.dwarf_lines.specs.declared.LineFault.{LineFault}
 use Rattle.rv_asm.specs.declared.AsmKind.{AsmKind}
 use Rattle.rv_asm.specs.declared.AsmKind.TheVariants.{Lines, Byte, Token, Twice, Name, Section, Operand, Range, Much, Missing, Far, Empty}
 use Rattle.rv_asm.specs.declared.AsmFault.{AsmFault}
-use Rattle.profile_reader.specs.declared.fault.BookField.{BookField}
-use Rattle.profile_reader.specs.declared.fault.BookField.TheVariants as fields
 use Rattle.profile_reader.specs.declared.fault.BookFault.{BookFault}
+use Rattle.profile_reader.specs.ItemNames.{item_name}
 
 abbrev pub elf_kind_name : ElfKind → List ℕ
 elf_kind_name NotElf = codes "NotElf"
@@ -78,29 +77,5 @@ points_line count = codes "coz: selection: " ++ decimal count ++ codes " points"
 abbrev pub plan_line : ℕ → List ℕ
 plan_line count = codes "coz: plan: " ++ decimal count ++ codes " experiments"
 
-abbrev pub book_field_name : BookField → List ℕ
-book_field_name fields.Head = codes "Head"
-book_field_name fields.Version = codes "Version"
-book_field_name fields.Budget = codes "Budget"
-book_field_name fields.Points = codes "Points"
-book_field_name fields.Point = codes "Point"
-book_field_name fields.Index = codes "Index"
-book_field_name fields.Name = codes "Name"
-book_field_name fields.Experiment = codes "Experiment"
-book_field_name fields.Selected = codes "Selected"
-book_field_name fields.Speedup = codes "Speedup"
-book_field_name fields.End = codes "End"
-book_field_name fields.Time = codes "Time"
-book_field_name fields.Delay = codes "Delay"
-book_field_name fields.Retired = codes "Retired"
-book_field_name fields.Starts = codes "Starts"
-book_field_name fields.Output = codes "Output"
-book_field_name fields.Length = codes "Length"
-book_field_name fields.Digest = codes "Digest"
-book_field_name fields.Throughput = codes "Throughput"
-book_field_name fields.Delta = codes "Delta"
-book_field_name fields.Visits = codes "Visits"
-book_field_name fields.Newline = codes "Newline"
-
 abbrev pub book_line : BookFault → List ℕ
-book_line fault = codes "coz: profile: " ++ book_field_name fault.field ++ codes " at " ++ decimal fault.place
+book_line fault = codes "coz: profile: " ++ item_name fault.field ++ codes " at " ++ decimal fault.place

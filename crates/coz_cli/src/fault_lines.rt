@@ -1,12 +1,13 @@
 //! The lines of faults, and their statuses.
 ghost use Rattle.std.specs.Prelude.{◌≡◌, ◌++◌, codes, decimal};
 ghost use Rattle.coz_files.specs.Puts.{Puts, Continues};
-ghost use Rattle.coz_cli.specs.FaultLines.{elf_kind_name, line_kind_name, asm_kind_name, book_field_name, program_line, table_line, source_line, plan_line, points_line, book_line};
+ghost use Rattle.profile_reader.specs.ItemNames.{item_name};
+ghost use Rattle.coz_cli.specs.FaultLines.{elf_kind_name, line_kind_name, asm_kind_name, program_line, table_line, source_line, plan_line, points_line, book_line};
 ghost use Rattle.coz_cli.specs.Answer.{fault_status, fault_line};
 ghost use Rattle.coz_cli.specs.Serve.{IsPut};
 
 use crate::fault::Fault;
-use crate::kinds::{asm_kind_name, book_field_name, elf_kind_name, line_kind_name};
+use crate::kinds::{asm_kind_name, elf_kind_name, line_kind_name};
 use coz_files::{PutAnswer, Sink, put_next};
 use dwarf_lines::{LineFault, LineKind};
 use elf_load::{ElfFault, ElfKind};
@@ -65,9 +66,9 @@ fn put_asm_kind<S: Sink>(sink: &mut S, so_far: PutAnswer, kind: AsmKind) -> PutA
 }
 
 fn put_book_field<S: Sink>(sink: &mut S, so_far: PutAnswer, field: BookField) -> PutAnswer
-    ensures { Continues S.holds S.faults sink.old sink.new so_far result (book_field_name field) }
+    ensures { Continues S.holds S.faults sink.old sink.new so_far result (item_name field) }
 {
-    put_next(sink, so_far, book_field_name(field))
+    put_next(sink, so_far, field.name())
 }
 
 fn put_number<S: Sink>(sink: &mut S, so_far: PutAnswer, n: u64) -> PutAnswer

@@ -1,10 +1,9 @@
 //! The names of the kinds of faults.
 ghost use Rattle.std.specs.Prelude.{◌≡◌};
-ghost use Rattle.coz_cli.specs.FaultLines.{elf_kind_name, line_kind_name, asm_kind_name, book_field_name};
+ghost use Rattle.coz_cli.specs.FaultLines.{elf_kind_name, line_kind_name, asm_kind_name};
 
 use dwarf_lines::LineKind;
 use elf_load::ElfKind;
-use profile_reader::BookField;
 use rv_asm::AsmKind;
 
 pub fn elf_kind_name(kind: ElfKind) -> &'static [u8]
@@ -66,34 +65,5 @@ pub fn asm_kind_name(kind: AsmKind) -> &'static [u8]
         AsmKind::Missing => b"Missing",
         AsmKind::Far => b"Far",
         AsmKind::Empty => b"Empty",
-    }
-}
-
-pub fn book_field_name(field: BookField) -> &'static [u8]
-    ensures { result.now ≡ book_field_name field }
-{
-    match field {
-        BookField::Head => b"Head",
-        BookField::Version => b"Version",
-        BookField::Budget => b"Budget",
-        BookField::Points => b"Points",
-        BookField::Point => b"Point",
-        BookField::Index => b"Index",
-        BookField::Name => b"Name",
-        BookField::Experiment => b"Experiment",
-        BookField::Selected => b"Selected",
-        BookField::Speedup => b"Speedup",
-        BookField::End => b"End",
-        BookField::Time => b"Time",
-        BookField::Delay => b"Delay",
-        BookField::Retired => b"Retired",
-        BookField::Starts => b"Starts",
-        BookField::Output => b"Output",
-        BookField::Length => b"Length",
-        BookField::Digest => b"Digest",
-        BookField::Throughput => b"Throughput",
-        BookField::Delta => b"Delta",
-        BookField::Visits => b"Visits",
-        BookField::Newline => b"Newline",
     }
 }

@@ -8,8 +8,7 @@ use Rattle.profile_reader.specs.Grammar.{book_fault}
 use Rattle.profile_reader.specs.Told.{told}
 use Rattle.profile_book.specs.declared.profile.Profile.{Profile as Book}
 use Rattle.profile_reader.specs.declared.fault.BookFault.{BookFault}
-use Rattle.profile_reader.specs.declared.fault.BookField.{BookField}
-use Rattle.profile_reader.specs.declared.fault.BookField.TheVariants.{Head, Version, Budget, Points, Point, Index, Name, Experiment, Selected, Speedup, End, Time, Delay, Retired, Starts, Output, Length, Digest, Throughput, Delta, Visits, Newline}
+use Rattle.profile_reader.specs.ItemNames.{item_name}
 use Rattle.coz_page.specs.Page.{page_text}
 
 pub record Verdict : Type 0 where
@@ -36,32 +35,8 @@ path_in _ = None
 
 -- ---- the profile
 
-abbrev pub field_name : BookField → Text
-field_name Head = codes "Head"
-field_name Version = codes "Version"
-field_name Budget = codes "Budget"
-field_name Points = codes "Points"
-field_name Point = codes "Point"
-field_name Index = codes "Index"
-field_name Name = codes "Name"
-field_name Experiment = codes "Experiment"
-field_name Selected = codes "Selected"
-field_name Speedup = codes "Speedup"
-field_name End = codes "End"
-field_name Time = codes "Time"
-field_name Delay = codes "Delay"
-field_name Retired = codes "Retired"
-field_name Starts = codes "Starts"
-field_name Output = codes "Output"
-field_name Length = codes "Length"
-field_name Digest = codes "Digest"
-field_name Throughput = codes "Throughput"
-field_name Delta = codes "Delta"
-field_name Visits = codes "Visits"
-field_name Newline = codes "Newline"
-
 abbrev pub profile_line : BookFault → Text
-profile_line fault = codes "coz-page: profile: " ++ field_name fault.field ++ codes " at " ++ decimal fault.place
+profile_line fault = codes "coz-page: profile: " ++ item_name fault.field ++ codes " at " ++ decimal fault.place
 
 -- of the profile that is told, if the text has no fault
 abbrev pub book_verdict : Option BookFault → Book → Verdict

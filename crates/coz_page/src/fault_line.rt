@@ -1,8 +1,9 @@
 //! The lines of faults, and their statuses.
 ghost use Rattle.std.specs.Prelude.{◌≡◌, ◌++◌, codes, decimal};
 ghost use Rattle.coz_files.specs.Puts.{Puts, Continues};
+ghost use Rattle.profile_reader.specs.ItemNames.{item_name};
 ghost use Rattle.coz_page.specs.Answer.{fault_status, fault_line};
-ghost use Rattle.coz_page.specs.Verdict.{field_name, profile_line};
+ghost use Rattle.coz_page.specs.Verdict.{profile_line};
 ghost use Rattle.coz_page.specs.Serve.{IsPut};
 
 use crate::fault::Fault;
@@ -23,39 +24,10 @@ fn status_of(fault: Fault) -> u8
     }
 }
 
-fn field_name(field: BookField) -> &'static [u8]
-    ensures { result.now ≡ field_name field }
-{
-    match field {
-        BookField::Head => b"Head",
-        BookField::Version => b"Version",
-        BookField::Budget => b"Budget",
-        BookField::Points => b"Points",
-        BookField::Point => b"Point",
-        BookField::Index => b"Index",
-        BookField::Name => b"Name",
-        BookField::Experiment => b"Experiment",
-        BookField::Selected => b"Selected",
-        BookField::Speedup => b"Speedup",
-        BookField::End => b"End",
-        BookField::Time => b"Time",
-        BookField::Delay => b"Delay",
-        BookField::Retired => b"Retired",
-        BookField::Starts => b"Starts",
-        BookField::Output => b"Output",
-        BookField::Length => b"Length",
-        BookField::Digest => b"Digest",
-        BookField::Throughput => b"Throughput",
-        BookField::Delta => b"Delta",
-        BookField::Visits => b"Visits",
-        BookField::Newline => b"Newline",
-    }
-}
-
 fn put_field_name<S: Sink>(sink: &mut S, so_far: PutAnswer, field: BookField) -> PutAnswer
-    ensures { Continues S.holds S.faults sink.old sink.new so_far result (field_name field) }
+    ensures { Continues S.holds S.faults sink.old sink.new so_far result (item_name field) }
 {
-    put_next(sink, so_far, field_name(field))
+    put_next(sink, so_far, field.name())
 }
 
 fn put_number<S: Sink>(sink: &mut S, so_far: PutAnswer, n: u64) -> PutAnswer

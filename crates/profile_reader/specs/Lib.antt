@@ -7,3 +7,4 @@ pub mod Told
 pub mod Standing
 pub mod Scanning
 pub mod Parts
+pub mod ItemNames

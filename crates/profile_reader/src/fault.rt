@@ -1,6 +1,7 @@
 //! The first wrong item of a profile's text.
 ghost use Rattle.std.specs.Prelude.{◌≡◌};
 ghost use Rattle.profile_reader.specs.declared.fault.BookError.TheVariants.{Memory};
+ghost use Rattle.profile_reader.specs.ItemNames.{item_name};
 
 use std::alloc::{AllocError, AllocFailed};
 
@@ -29,6 +30,38 @@ pub enum BookField {
     Delta,
     Visits,
     Newline,
+}
+
+impl BookField {
+    /// The name of such items in the line of a fault.
+    pub fn name(self) -> &'static [u8]
+        ensures { result.now ≡ item_name self }
+    {
+        match self {
+            BookField::Head => b"Head",
+            BookField::Version => b"Version",
+            BookField::Budget => b"Budget",
+            BookField::Points => b"Points",
+            BookField::Point => b"Point",
+            BookField::Index => b"Index",
+            BookField::Name => b"Name",
+            BookField::Experiment => b"Experiment",
+            BookField::Selected => b"Selected",
+            BookField::Speedup => b"Speedup",
+            BookField::End => b"End",
+            BookField::Time => b"Time",
+            BookField::Delay => b"Delay",
+            BookField::Retired => b"Retired",
+            BookField::Starts => b"Starts",
+            BookField::Output => b"Output",
+            BookField::Length => b"Length",
+            BookField::Digest => b"Digest",
+            BookField::Throughput => b"Throughput",
+            BookField::Delta => b"Delta",
+            BookField::Visits => b"Visits",
+            BookField::Newline => b"Newline",
+        }
+    }
 }
 
 /// The first item that isn't right, or the end of the text where one is missing.
