@@ -8,4 +8,6 @@ mod experiment_claims_tests;
 #[cfg(test)]
 mod hart_schedule_tests;
 #[cfg(test)]
+mod lead_tests;
+#[cfg(test)]
 mod shortened_run_tests;

@@ -39,7 +39,7 @@ const FILES: [FileName<'static>; 1] = [FileName {
 }];
 
 /// A page of stack, and no more.
-const SMALL: Layout = Layout {
+pub const SMALL: Layout = Layout {
     brk: 0,
     map: 0,
     stack: 4096,
