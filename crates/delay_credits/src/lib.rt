@@ -12,7 +12,8 @@ use coz_types::{Account, HartId, Tick};
 use std::alloc::{AllocError, Global};
 use std::marker::Model;
 
-/// The accounts and pauses of harts of a number given at making, and the delay that they raised.
+/// The accounts and pauses of harts of a number given at making, and the delay that they raised. A hart that sleeps counts
+/// as one that runs.
 ///
 /// Contracts see each hart as it is at the latest moment that `start`, `stop` or `raise` got. The code keeps a hart as it
 /// was at an earlier moment, and works out a later one when it is asked for. Beside its making no call takes memory.
@@ -60,7 +61,7 @@ impl Credits {
         })
     }
 
-    /// A hart runs from a moment on, with no pause. One that runs with no pause owed is only looked at.
+    /// A hart runs, or sleeps, from a moment on, with no pause. One that runs with no pause owed is only looked at.
     pub fn start(&mut self, hart: HartId, now: Tick)
         requires below { hart.0 < length self.old.harts }
         requires later { self.old.latest ≤ now }

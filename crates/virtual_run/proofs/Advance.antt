@@ -1,11 +1,10 @@
 -- One move of the engine, from its calls.
-use Rattle.std.proofs.Common.{◌≡◌, ℕ, ◌+◌, ◌^◌, ◌≤◌, ◌<◌, false, List, [], ◌∷◌, ◌++◌, length, nat_le, true, Option, Some, None, IsSome, is_some, refl, ap, subst, sym, ◌∙◌, arith}
+use Rattle.std.proofs.Common.{◌≡◌, ℕ, ◌+◌, ◌^◌, ◌≤◌, ◌<◌, false, List, [], ◌∷◌, ◌++◌, length, nat_le, true, Option, Some, None, IsSome, refl, ap, subst, sym, ◌∙◌, arith}
 use Rattle.std.proofs.lemmas.Bool.Decides.{nat_tests}
 use Rattle.std.proofs.lemmas.List.{length-set}
 use Rattle.coz_types.specs.declared.ending.Ending.{Ending}
 use Rattle.hart_schedule.specs.Keys.{Keys, key_of, with_key, without_key, IsLeast}
 use Rattle.machines.specs.declared.Fate.{Fate}
-use Rattle.machines.specs.declared.Fate.TheVariants.{Sleeps}
 use Rattle.machines.specs.Guest.{Retirement}
 use Rattle.progress_points.specs.Points.{point_of}
 use Rattle.guest_calls.specs.Guest.{Guest, pc_of, is_running, is_sleeping, with_wake}

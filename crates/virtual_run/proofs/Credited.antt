@@ -9,7 +9,7 @@ use Rattle.machines.specs.Guest.{Experiment, cost, cut, sleeps}
 use Rattle.machines.specs.Delayed.{Hart, Delayed, total, fresh, stop, rest, run, credit, raise_hart, account_of, raise, begin, retirement, leave, give_credit}
 use Rattle.machines.specs.Steps.{sit_hart, jump}
 use Rattle.machines.proofs.Maps.{change_same, change_other, change_all_at, with_places_at}
-use Rattle.delay_credits.specs.Delays.{Delays, at, with_start, with_stop}
+use Rattle.delay_credits.specs.Delays.{Delays, at}
 use Rattle.delay_credits.specs.Ticks.{without_work}
 use Rattle.delay_credits.proofs.TicksLemmas.{without_work-sit, without_work-run, without_work-stop, without_work-credit, without_work-raise, all_ticked}
 use Rattle.virtual_run.specs.Credited.{AreHeld, Holds, with_credits, with_starts, with_one_raise, with_raises, with_rest}

@@ -6,7 +6,7 @@ use Rattle.machines.specs.Guest.{goes_on, sleeps}
 use Rattle.coz_types.specs.declared.ending.Ending.{Ending}
 use Rattle.machines.specs.Places.{change, is_among}
 use Rattle.machines.specs.Delayed.{Hart, fresh, is_any, run, stop, credit}
-use Rattle.delay_credits.specs.Delays.{Delays, at, with_start, with_stop}
+use Rattle.delay_credits.specs.Delays.{Delays, at, with_start}
 use Rattle.guest_calls.specs.Guest.{Guest}
 use Rattle.virtual_run.specs.declared.run.Event.{Event}
 use Rattle.virtual_run.specs.declared.run.Event.TheVariants.{Woke, Retired}

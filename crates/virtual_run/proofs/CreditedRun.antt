@@ -18,7 +18,7 @@ use Rattle.machines.specs.declared.Fate.{Fate}
 use Rattle.machines.specs.declared.Fate.TheVariants.{Goes, Waits, Leaves, Sleeps, Ends}
 use Rattle.machines.specs.Places.{is_among}
 use Rattle.machines.specs.Guest.{Experiment, Retirement, IsLawful, enough, goes_on, own_ending, when, first_ending, started, is_timed}
-use Rattle.machines.specs.Delayed.{Account, Load, Hart, Delayed, Visit, fresh, is_running, stop, run as run_from, begin, unbegun, events, after, delayed}
+use Rattle.machines.specs.Delayed.{Account, Load, Hart, Delayed, Visit, fresh, is_running, run as run_from, begin, unbegun, events, after, delayed}
 use Rattle.machines.specs.Shortened.{Shortened, Turn, shortened, move}
 use Rattle.machines.specs.Shortened as short
 use Rattle.machines.specs.Agreement.{LoadAgrees, Agrees}
@@ -31,7 +31,7 @@ use Rattle.machines.proofs.LeadForks.{ended_begins, goes_begins, wakes_begins}
 use Rattle.machines.proofs.Headline.{unique}
 use Rattle.machines.proofs.Ends.{goes_on_at, few, record_is}
 use Rattle.machines.proofs.Stepping.{begin_frame}
-use Rattle.machines.proofs.Standing.{agrees, agrees_events, few_wakes, in_time, end_in_time, steps_is, last, recorded_delayed, delayed_is, net_is}
+use Rattle.machines.proofs.Standing.{agrees, few_wakes, in_time, end_in_time, steps_is, last, recorded_delayed, delayed_is, net_is}
 use Rattle.delay_credits.specs.Delays.{Delays, account_as, hart_at, pause_of, at, with_start, none_raised}
 use Rattle.delay_credits.specs.Ticks.{without_work, ticked}
 use Rattle.guest_calls.specs.Calls.{retirement}

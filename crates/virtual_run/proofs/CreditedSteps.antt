@@ -1,11 +1,11 @@
 -- A step of the delayed machine, on the credits that hold its accounts and pauses.
-use Rattle.std.proofs.Common.{◌≡◌, ℕ, suc, ◌+◌, ◌-◌, ◌*◌, ◌≤◌, ◌||◌, true, false, List, [], ◌∷◌, ◌++◌, length, get_or, filter, refl, sym, ap, ap₂, ◌∙◌, subst, arith, eqb-true, Option, Some, None, is_some, option_map, option_to_list, ◌⊎◌, inl, inr}
+use Rattle.std.proofs.Common.{◌≡◌, ℕ, suc, ◌+◌, ◌-◌, ◌*◌, ◌≤◌, true, false, List, [], ◌∷◌, ◌++◌, length, get_or, filter, refl, sym, ap, ap₂, ◌∙◌, subst, arith, eqb-true, Option, Some, None, is_some, option_map, option_to_list, ◌⊎◌, inl, inr}
 use Rattle.std.proofs.lemmas.Bool.{cases_eq}
 use Rattle.coz_types.specs.declared.ending.Ending.{Ending}
 use Rattle.machines.specs.declared.Fate.{Fate}
 use Rattle.machines.specs.declared.Fate.TheVariants.{Goes, Waits, Leaves, Sleeps, Ends}
 use Rattle.machines.specs.Guest.{Experiment, Retirement, IsLawful, started, is_timed}
-use Rattle.machines.specs.Delayed.{Account, Load, Hart, Visit, Delayed, total, fresh, is_ready, is_running, stop, account_of, over_or, begin, retirement, leave, give_credit, ending, retire, wake}
+use Rattle.machines.specs.Delayed.{Account, Load, Hart, Visit, Delayed, total, fresh, is_ready, is_running, account_of, over_or, begin, retirement, leave, give_credit, ending, retire, wake}
 use Rattle.machines.specs.Shortened.{Shortened, Turn, next_turn, shortened}
 use Rattle.machines.specs.Agreement.{Agrees}
 use Rattle.machines.specs.Steps.{Passes, sit_hart, jump}
@@ -14,7 +14,7 @@ use Rattle.machines.proofs.Maps.{change_same, change_other}
 use Rattle.machines.proofs.Turns.{first_is, turn_has}
 use Rattle.machines.proofs.Harts.{alike}
 use Rattle.machines.proofs.Retire.{Ready, ready_is, account_at}
-use Rattle.machines.proofs.Short.{Lives, turn_runs}
+use Rattle.machines.proofs.Short.{Lives}
 use Rattle.machines.proofs.Ends.{goes_on_at}
 use Rattle.machines.proofs.Begin.{unchanged}
 use Rattle.machines.proofs.Stepping.{begin_frame}

@@ -4,11 +4,11 @@ use Rattle.std.specs.Option.{option_to_list}
 use Rattle.std.proofs.lemmas.List.{length-map, map-append}
 use Rattle.coz_types.specs.declared.ending.Ending.{Ending}
 use Rattle.coz_types.specs.declared.record.Visit.{Visit}
-use Rattle.hart_schedule.specs.Keys.{Keys, key_of, with_key, without_key, IsLeast}
+use Rattle.hart_schedule.specs.Keys.{Keys, key_of, with_key, IsLeast}
 use Rattle.machines.specs.declared.Fate.{Fate}
-use Rattle.machines.specs.Guest.{Experiment, Retirement, cost, cut, goes_on, sleeps, started, ending_after}
+use Rattle.machines.specs.Guest.{Experiment, Retirement, cost, cut, goes_on, started, ending_after}
 use Rattle.machines.specs.Places.{change, change_each, is_among, AllApart}
-use Rattle.machines.specs.Delayed.{is_any, fresh}
+use Rattle.machines.specs.Delayed.{is_any}
 use Rattle.machines.specs.Shortened as short
 use Rattle.machines.specs.Shortened.{Shortened, NetVisit, Turn, next_turn, move, move_by, retirement, leave, ending, begin, over_or, runs_any, unbegun, shortened}
 use Rattle.machines.proofs.Maps.{change_each_at}

@@ -1,10 +1,8 @@
 -- A step of a machine, event by event.
-use Rattle.std.proofs.Common.{◌≡◌, ℕ, ◌+◌, ◌-◌, ◌*◌, ◌<◌, Bool, true, false, not, refl, sym, ap, subst, ◌∙◌, Option, Some, None, is_some, IsSome}
+use Rattle.std.proofs.Common.{◌≡◌, ◌+◌, ◌-◌, ◌*◌, ◌<◌, Bool, true, false, not, refl, sym, ap, subst, ◌∙◌, Option, Some, None, is_some, IsSome}
 use Rattle.coz_types.specs.declared.ending.Ending.{Ending}
 use Rattle.machines.specs.Guest.{Experiment}
 use Rattle.machines.specs.Delayed.{Delayed, events}
-use Rattle.machines.specs.Shortened.{shortened}
-use Rattle.machines.specs.Agreement.{Agrees}
 use Rattle.machines.specs.Steps.{Steps, Passes}
 use Rattle.machines.specs.Standing.{standing}
 use Rattle.machines.proofs.Stepping.{passes_none, passes_then, wakes_then}

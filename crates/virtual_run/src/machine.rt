@@ -22,8 +22,8 @@ const HARTS: u32 = 256;
 /// The hart that a program begins with.
 const FIRST: HartId = HartId(0);
 
-/// The delayed run of a program: as an instruction of the selected line starts, every other hart that runs or sleeps is made
-/// to pause for what that instruction is to be spared.
+/// The delayed run of a program: as an instruction of the selected line starts, every other hart that runs or sleeps is
+/// made to pause for what that instruction is to be spared.
 #[derive(Drop)]
 pub struct Machine<'a> {
     image: &'a Image<'a>,
@@ -114,8 +114,8 @@ impl<'a> Machine<'a> {
         })
     }
 
-    /// Runs up to and including the next retirement, through all wakes before it, with what begins after it. Gives the ending once the run has ended; a
-    /// further step changes nothing and gives the same.
+    /// Runs through all wakes before the next retirement and up to and including that, with what begins after it. Gives the
+    /// ending once the run has ended; a further step changes nothing and gives the same.
     pub fn step(&mut self) -> Option<Ending>
         ensures ended { result ≡ self.new.state.ending }
         ensures next { self.old.state.ending ≡ None → self.new.state ≡ standing (experiment_of self.old) (events self.new.state) }
@@ -264,7 +264,8 @@ impl<'a> Machine<'a> {
         self.credits.raised()
     }
 
-    /// When a hart retires or wakes next, in net ticks; None exactly where it neither runs nor sleeps, or the run has ended.
+    /// When a hart retires or wakes next, in net ticks; None exactly where it neither runs nor sleeps, or the run has
+    /// ended.
     pub fn net_due(&self, hart: HartId) -> Option<Tick>
         ensures due { result ≡ net_due_of self.now.state hart.0 }
         ensures shortened { self.now.state.ending ≡ None →

@@ -31,7 +31,8 @@ const FIRST: HartId = HartId(0);
 #[derive(Drop)]
 pub struct Run<'a> {
     pub(crate) guest: Guest<'a>,
-    /// When each running hart retires and each sleeping one wakes, in net ticks. A raise changes none of these moments, so it touches no key.
+    /// When each running hart retires and each sleeping one wakes, in net ticks. A raise changes none of these moments, so
+    /// it touches no key.
     pub(crate) schedule: Schedule,
     /// The harts that the last retirement made or woke, in order.
     pub(crate) started: HartList,

@@ -1,5 +1,4 @@
 use Rattle.std.proofs.Common.{◌≡◌, ℕ, ◌+◌, ◌*◌, ◌^◌, ◌≤◌, None, subst, sym, ◌∙◌, arith}
-use Rattle.delay_credits.specs.Delays.{Delays}
 use Rattle.machines.specs.Standing.{standing}
 use Rattle.virtual_run.specs.Credited.{raise_ticks, moment_of, credited_by, CanFollow}
 use Rattle.virtual_run.specs.Seen.{experiment_with}

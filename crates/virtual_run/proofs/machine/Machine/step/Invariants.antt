@@ -1,4 +1,4 @@
-use Rattle.std.proofs.Common.{◌≡◌, ◌*◌, ◌-◌}
+use Rattle.std.proofs.Common.{◌*◌, ◌-◌}
 use Rattle.machines.specs.Delayed.{events}
 use Rattle.virtual_run.proofs.Stepped.{IsStepped}
 use Rattle.virtual_run.proofs.machine.Machine.step.Given as goal

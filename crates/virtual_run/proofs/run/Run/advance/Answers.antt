@@ -1,6 +1,5 @@
-use Rattle.std.proofs.Common.{sym, ap, is_some, ◌∙◌}
+use Rattle.std.proofs.Common.{ap, is_some, ◌∙◌}
 use Rattle.guest_calls.proofs.Law.{timed_low}
-use Rattle.virtual_run.proofs.Law.{turn_runs}
 use Rattle.virtual_run.proofs.run.Run.advance.Goals as goal
 
 pub is_sleeping-requires : goal.is_sleeping-requires

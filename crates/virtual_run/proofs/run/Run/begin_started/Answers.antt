@@ -1,4 +1,4 @@
-use Rattle.std.proofs.Common.{ℕ, ◌+◌, ◌≤◌, List, length, None, subst, sym, ◌∙◌, arith}
+use Rattle.std.proofs.Common.{ℕ, ◌+◌, ◌≤◌, List, length, subst, sym, ◌∙◌, arith}
 use Rattle.machines.specs.Guest.{goes_on}
 use Rattle.guest_calls.specs.Guest.{pc_of}
 use Rattle.virtual_run.specs.Begin.{many, AreIdle, AreBegun}
