@@ -54,6 +54,7 @@ pub fn push_ending(text: &mut Vec<u8>, ending: Ending) -> Result<(), AllocError>
             text.extend_from_slice(b"unsupported:")?;
             push_number(text, number)
         }
+        Ending::Clock => text.extend_from_slice(b"clock"),
         Ending::OutputFull => text.extend_from_slice(b"output-full"),
         Ending::VisitsFull => text.extend_from_slice(b"visits-full"),
         Ending::Stalled => text.extend_from_slice(b"stalled"),

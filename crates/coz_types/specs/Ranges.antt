@@ -3,7 +3,7 @@ use Rattle.std.specs.Prelude.{◌≡◌, ◌≤◌, ℕ, Bool, ◌&&◌, nat_lt,
 use Rattle.std.specs.List.{list_all}
 use Rattle.coz_types.specs.Labels.{is_label}
 use Rattle.coz_types.specs.declared.ending.Ending.{Ending}
-use Rattle.coz_types.specs.declared.ending.Ending.TheVariants.{Exited, Trapped, Unsupported, OutputFull, VisitsFull, Stalled, Spent}
+use Rattle.coz_types.specs.declared.ending.Ending.TheVariants.{Exited, Trapped, Unsupported, Clock, OutputFull, VisitsFull, Stalled, Spent}
 use Rattle.coz_types.specs.declared.record.Summary.{Summary}
 
 -- 10^17: times, and numbers of instructions, of starts and of bytes, are at most that
@@ -23,6 +23,7 @@ abbrev pub is_ending : Ending → Bool
 is_ending (Exited code) = nat_le code 255
 is_ending (Trapped trap) = nat_le trap.hart.0 255 && nat_le trap.pc last_word
 is_ending (Unsupported number) = nat_le number last_word
+is_ending Clock = true
 is_ending OutputFull = true
 is_ending VisitsFull = true
 is_ending Stalled = true

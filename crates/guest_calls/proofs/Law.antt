@@ -36,20 +36,9 @@ started_low g h v good runs none k among =
 pub others_idle : (g : Guest) (h v : ℕ) → IsOrderly g → is_running g h ≡ true → (k : ℕ) → is_among k (retire g h v).others ≡ true → is_timed g k ≡ false
 others_idle g h v good runs = (retire_started g h v good runs).idle
 
--- no retirement puts its hart to sleep
-never_sleeps : (g : Guest) (h v : ℕ) → IsOrderly g → is_running g h ≡ true → sleeps (retire g h v).fate ≡ false
-never_sleeps g h v good runs = (retire_started g h v good runs).awake
-
-later_by : (fate : Fate) (v : ℕ) → sleeps fate ≡ false → IsLater v fate
-later_by Goes v awake = tt
-later_by Waits v awake = tt
-later_by Leaves v awake = tt
-later_by (Sleeps moment) v awake = absurd (let no : true ≡ false = awake in cc)
-later_by (Ends ending) v awake = tt
-
 -- the moment of a wake is small
 pub sleeps_few : (g : Guest) (h v : ℕ) → IsOrderly g → is_running g h ≡ true → (moment : ℕ) → (retire g h v).fate ≡ Sleeps moment → moment ≤ 10 ^ 16
-sleeps_few g h v good runs moment is = absurd (let never : true ≡ false = ap sleeps (sym is) ∙ never_sleeps g h v good runs in cc)
+sleeps_few g h v good runs moment is = (retire_started g h v good runs).fate.1 moment is
 
 -- a running hart doesn't sleep
 pub running_awake : (g : Guest) (h : ℕ) → is_running g h ≡ true → is_sleeping g h ≡ false
@@ -119,7 +108,7 @@ lawful has_selected point_at image input output_limit layout speedup budget visi
   stays_good = λ g h v good runs. (retire_started g h v good runs).orderly;
   apart = λ g h v good runs. (retire_started g h v good runs).apart;
   running = λ g h v good runs. (retire_started g h v good runs).timed;
-  sleeps_later = λ g h v good runs. later_by (retire g h v).fate v (retire_started g h v good runs).awake;
+  sleeps_later = λ g h v good runs. (retire_started g h v good runs).fate.0;
   sleeps_one = λ g h v good runs. (retire_started g h v good runs).asleep;
   wakes_good = wake_orderly;
   wakes = wake_timed;

@@ -8,5 +8,7 @@ pub mod Vectors
 pub mod RunningHarts
 pub mod Started
 pub mod ThreadRows
+mod Clocks
+pub mod TimeRows
 pub mod Retired
 pub mod Law

@@ -19,13 +19,14 @@ use Rattle.rv_execute.specs.Execution.{Setting, execute}
 use Rattle.guest_calls.specs.declared.pieces.Piece.{Piece}
 use Rattle.guest_calls.specs.Guest.{Guest, making, hart_at, pc_of, with_hart, with_state, with_setting, with_stored, with_written, is_running, memory_of, setting_of, thread_id}
 use Rattle.guest_calls.specs.Calls
-use Rattle.guest_calls.specs.Calls.{of_space, unsupported, a0, a1, a2, a3, with_filled, with_read, filled, total, is_each_writable, is_each_readable, bytes_of, pieces_at, are_few, is_named, read_length, is_stream, is_input, is_output, is_mapping, calls, call_of}
+use Rattle.guest_calls.specs.Calls.{of_space, unsupported, a0, a1, a2, a3, with_filled, with_read, filled, total, is_each_writable, is_each_readable, bytes_of, pieces_at, are_few, is_named, read_length, is_stream, is_input, is_output, is_mapping, at_any_time, calls, call_of}
 use Rattle.guest_calls.specs.Retire.{word_at, Stepped, stepped, stepped_by, step, follows, retire}
 use Rattle.guest_calls.specs.Orderly.{IsOrderly}
 use Rattle.guest_calls.proofs.Steady.{regions-kept}
 use Rattle.guest_calls.proofs.Steps.{step-call}
-use Rattle.guest_calls.proofs.Started.{IsStarted, IsAsBefore, either, memory_made, stored_made, space_made, same_harts, later, hart_kept, unchanged, still_orderly, none_beside, goes_started, ends_started, kept_started, answer_started, checked, of_space_started, unsupported_started}
+use Rattle.guest_calls.proofs.Started.{IsStarted, IsStartedAt, at_any_net, IsAsBefore, either, memory_made, stored_made, space_made, same_harts, later, hart_kept, unchanged, still_orderly, none_beside, goes_started, ends_started, kept_started, answer_started, checked, of_space_started, unsupported_started}
 use Rattle.guest_calls.proofs.ThreadRows.{exit_started, futex_started, clone_started}
+use Rattle.guest_calls.proofs.TimeRows.{nanosleep_started, clock_gettime_started}
 
 -- each call
 ioctl_started : (g : Guest) (h : ℕ) → IsOrderly g → is_running g h ≡ true → IsStarted g h (Calls.ioctl g h)
@@ -147,7 +148,10 @@ abbrev Row : Type 0
 Row = Guest → ℕ → ℕ → Retirement Guest
 
 abbrev IsRow : Row → Type 0
-IsRow call = (g : Guest) (h v : ℕ) → IsOrderly g → is_running g h ≡ true → IsStarted g h (call g h v)
+IsRow call = (g : Guest) (h v : ℕ) → IsOrderly g → is_running g h ≡ true → IsStartedAt v g h (call g h v)
+
+any_time : (call : Guest → ℕ → Retirement Guest) → ((g : Guest) (h : ℕ) → IsOrderly g → is_running g h ≡ true → IsStarted g h (call g h)) → IsRow (at_any_time call)
+any_time call row g h v good runs = at_any_net g h v (call g h) (row g h good runs)
 
 abbrev AreRows : Map Row → Type 0
 AreRows [] = Unit {0}
@@ -167,13 +171,13 @@ row_at (e ∷ es) n rows = first_or (e.0 == n) e.1 (value_at es n) rows.0 (row_a
 
 all_rows : AreRows calls
 all_rows =
-    ((λ g h v good runs. ioctl_started g h good runs), ((λ g h v good runs. lseek_started g h good runs), ((λ g h v good runs. read_started g h good runs), ((λ g h v good runs. write_started g h good runs), ((λ g h v good runs. readv_started g h good runs), ((λ g h v good runs. writev_started g h good runs), ((λ g h v good runs. exit_started g h good runs), ((λ g h v good runs. exit_group_started g h good runs), ((λ g h v good runs. set_tid_address_started g h good runs), ((λ g h v good runs. futex_started g h good runs), ((λ g h v good runs. sched_yield_started g h good runs), ((λ g h v good runs. rt_sigprocmask_started g h good runs), ((λ g h v good runs. getpid_started g h good runs), ((λ g h v good runs. gettid_started g h good runs), ((λ g h v good runs. brk_started g h good runs), ((λ g h v good runs. munmap_started g h good runs), ((λ g h v good runs. mremap_started g h good runs), ((λ g h v good runs. clone_started g h good runs), ((λ g h v good runs. mmap_started g h good runs), ((λ g h v good runs. mprotect_started g h good runs), ((λ g h v good runs. madvise_started g h good runs), tt)))))))))))))))))))))
+    (any_time Calls.ioctl (λ g h good runs. ioctl_started g h good runs), (any_time Calls.lseek (λ g h good runs. lseek_started g h good runs), (any_time Calls.read (λ g h good runs. read_started g h good runs), (any_time Calls.write (λ g h good runs. write_started g h good runs), (any_time Calls.readv (λ g h good runs. readv_started g h good runs), (any_time Calls.writev (λ g h good runs. writev_started g h good runs), (any_time Calls.exit (λ g h good runs. exit_started g h good runs), (any_time Calls.exit_group (λ g h good runs. exit_group_started g h good runs), (any_time Calls.set_tid_address (λ g h good runs. set_tid_address_started g h good runs), (any_time Calls.futex (λ g h good runs. futex_started g h good runs), ((λ g h v good runs. nanosleep_started g h v good runs), ((λ g h v good runs. clock_gettime_started g h v good runs), (any_time Calls.sched_yield (λ g h good runs. sched_yield_started g h good runs), (any_time Calls.rt_sigprocmask (λ g h good runs. rt_sigprocmask_started g h good runs), (any_time Calls.getpid (λ g h good runs. getpid_started g h good runs), (any_time Calls.gettid (λ g h good runs. gettid_started g h good runs), (any_time Calls.brk (λ g h good runs. brk_started g h good runs), (any_time Calls.munmap (λ g h good runs. munmap_started g h good runs), (any_time Calls.mremap (λ g h good runs. mremap_started g h good runs), (any_time Calls.clone (λ g h good runs. clone_started g h good runs), (any_time Calls.mmap (λ g h good runs. mmap_started g h good runs), (any_time Calls.mprotect (λ g h good runs. mprotect_started g h good runs), (any_time Calls.madvise (λ g h good runs. madvise_started g h good runs), tt)))))))))))))))))))))))
 
-known_started : (o : Option Row) (g : Guest) (h v : ℕ) → IsRowIfSome o → IsOrderly g → is_running g h ≡ true → IsStarted g h (elim o [ None ↦ unsupported g h | Some call ↦ call g h v ])
-known_started None g h v row good runs = unsupported_started g h good
+known_started : (o : Option Row) (g : Guest) (h v : ℕ) → IsRowIfSome o → IsOrderly g → is_running g h ≡ true → IsStartedAt v g h (elim o [ None ↦ unsupported g h | Some call ↦ call g h v ])
+known_started None g h v row good runs = at_any_net g h v (unsupported g h) (unsupported_started g h good)
 known_started (Some call) g h v row good runs = row g h v good runs
 
-pub call_started : (g : Guest) (h v : ℕ) → IsOrderly g → is_running g h ≡ true → IsStarted g h (call_of g h v)
+pub call_started : (g : Guest) (h v : ℕ) → IsOrderly g → is_running g h ≡ true → IsStartedAt v g h (call_of g h v)
 unfolding call_of
 call_started g h v good runs = known_started (value_at calls (Calls.number g h)) g h v (row_at calls (Calls.number g h) all_rows) good runs
 
@@ -200,11 +204,11 @@ own_trap : (cause : TrapCause) (h pc : ℕ) (t : Trap) → ◌≡◌ {A = Ending
 own_trap cause h pc t is = let same : ◌≡◌ {A = Trap} (record { cause = cause; hart = record { 0 = h }; pc = pc }) t = cc in ap (λ (u : Trap). u.hart.0) (sym same)
 
 -- what follows a step, which leaves the guest as it is at a call
-follows_started : (g after : Guest) (h v : ℕ) (s : Step) → IsAsBefore g after → (s ≡ Call → after ≡ g) → IsOrderly g → is_running g h ≡ true → IsStarted g h (follows h v (stepped after s))
-follows_started g after h v Next kept same good runs = goes_started g h [] after (none_beside g h after kept good) runs
-follows_started g after h v Call kept same good runs = subst (λ (x : Guest). IsStarted g h (call_of x h v)) (sym (same refl)) (call_started g h v good runs)
-follows_started g after h v (Fault cause) kept same good runs = ends_started g h after _ (λ t is. own_trap cause h (pc_of after h) t is) kept good
+follows_started : (g after : Guest) (h v : ℕ) (s : Step) → IsAsBefore g after → (s ≡ Call → after ≡ g) → IsOrderly g → is_running g h ≡ true → IsStartedAt v g h (follows h v (stepped after s))
+follows_started g after h v Next kept same good runs = at_any_net g h v _ (goes_started g h [] after (none_beside g h after kept good) runs)
+follows_started g after h v Call kept same good runs = subst (λ (x : Guest). IsStartedAt v g h (call_of x h v)) (sym (same refl)) (call_started g h v good runs)
+follows_started g after h v (Fault cause) kept same good runs = at_any_net g h v _ (ends_started g h after _ (λ t is. own_trap cause h (pc_of after h) t is) kept good)
 
-pub retire_started : (g : Guest) (h v : ℕ) → IsOrderly g → is_running g h ≡ true → IsStarted g h (retire g h v)
+pub retire_started : (g : Guest) (h v : ℕ) → IsOrderly g → is_running g h ≡ true → IsStartedAt v g h (retire g h v)
 unfolding retire
 retire_started g h v good runs = follows_started g (step g h).guest h v (step g h).step (step_kept g h) (λ is. (step-call g h is).same) good runs

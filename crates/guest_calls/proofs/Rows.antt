@@ -89,8 +89,8 @@ absent : {X : Type 0} (m : Map X) (n : ℕ) → HasNo m n → value_at m n ≡ N
 absent [] n no_key = refl
 absent (e ∷ es) n no_key = skipped e.0 n e.1 es no_key.0 ∙ absent es n no_key.1
 
-pub unknown : (n : ℕ) → n ≢ 29 → n ≢ 62 → n ≢ 63 → n ≢ 64 → n ≢ 65 → n ≢ 66 → n ≢ 93 → n ≢ 94 → n ≢ 96 → n ≢ 98 → n ≢ 124 → n ≢ 135 → n ≢ 172 → n ≢ 178 → n ≢ 214 → n ≢ 215 → n ≢ 216 → n ≢ 220 → n ≢ 222 → n ≢ 226 → n ≢ 233 → value_at calls n ≡ None
-unknown n n29 n62 n63 n64 n65 n66 n93 n94 n96 n98 n124 n135 n172 n178 n214 n215 n216 n220 n222 n226 n233 = absent calls n (n29, (n62, (n63, (n64, (n65, (n66, (n93, (n94, (n96, (n98, (n124, (n135, (n172, (n178, (n214, (n215, (n216, (n220, (n222, (n226, (n233, tt)))))))))))))))))))))
+pub unknown : (n : ℕ) → n ≢ 29 → n ≢ 62 → n ≢ 63 → n ≢ 64 → n ≢ 65 → n ≢ 66 → n ≢ 93 → n ≢ 94 → n ≢ 96 → n ≢ 98 → n ≢ 101 → n ≢ 113 → n ≢ 124 → n ≢ 135 → n ≢ 172 → n ≢ 178 → n ≢ 214 → n ≢ 215 → n ≢ 216 → n ≢ 220 → n ≢ 222 → n ≢ 226 → n ≢ 233 → value_at calls n ≡ None
+unknown n n29 n62 n63 n64 n65 n66 n93 n94 n96 n98 n101 n113 n124 n135 n172 n178 n214 n215 n216 n220 n222 n226 n233 = absent calls n (n29, (n62, (n63, (n64, (n65, (n66, (n93, (n94, (n96, (n98, (n101, (n113, (n124, (n135, (n172, (n178, (n214, (n215, (n216, (n220, (n222, (n226, (n233, tt)))))))))))))))))))))))
 
 -- a running hart was made
 pub made-running : (hs : List Hart) (h : ℕ) → is_running_status (get_or hs h no_hart).status ≡ true → h < length hs

@@ -183,6 +183,12 @@ asleep_less [] h hart before after = absurd (let never : false ≡ true = before
 asleep_less (x ∷ xs) zero hart before after = rw (after, before) (omega arith)
 asleep_less (x ∷ xs) (suc h) hart before after = let rest : sleepers_of xs ≡ sleepers_of (set xs h hart) + 1 = asleep_less xs h hart before after in omega arith
 
+-- where a hart that didn't sleep does now
+pub asleep_more : (harts : List Hart) (h : ℕ) (hart : Hart) → h < length harts → sleeps_at harts h ≡ false → is_sleeping_status hart.status ≡ true → sleepers_of (set harts h hart) ≡ sleepers_of harts + 1
+asleep_more [] h hart made before after = absurd (omega arith)
+asleep_more (x ∷ xs) zero hart made before after = rw (after, before) (omega arith)
+asleep_more (x ∷ xs) (suc h) hart made before after = let rest : sleepers_of (set xs h hart) ≡ sleepers_of xs + 1 = asleep_more xs h hart (omega arith) before after in omega arith
+
 pub asleep_append : (harts : List Hart) (hart : Hart) → is_sleeping_status hart.status ≡ false → sleepers_of (harts ++ hart ∷ []) ≡ sleepers_of harts
 asleep_append [] hart awake = rw awake refl
 asleep_append (x ∷ xs) hart awake = ap (λ (n : ℕ). n + (if is_sleeping_status x.status then 1 else 0)) (asleep_append xs hart awake)

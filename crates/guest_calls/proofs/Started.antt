@@ -1,13 +1,13 @@
 -- Which harts run or sleep after a retirement of an orderly guest, that the guest stays orderly, and that what it was made with stays.
-use Rattle.std.proofs.Common.{◌≡◌, ◌+◌, ◌<◌, ◌≤◌, ℕ, ◌==◌, Bool, true, false, cond, if◌then◌else◌, List, [], ◌∷◌, length, IsNone, ℤ, refl, sym, ap, ◌∙◌, arith, add-zero, eqb-true}
+use Rattle.std.proofs.Common.{◌≡◌, ◌+◌, ◌<◌, ◌≤◌, ◌^◌, ℕ, ◌==◌, Bool, true, false, cond, if◌then◌else◌, List, [], ◌∷◌, length, IsNone, ℤ, refl, sym, ap, ◌∙◌, arith, add-zero, eqb-true}
 use Rattle.std.proofs.lemmas.List.{length-set}
 use Rattle.coz_types.specs.Image.{ImageParts}
 use Rattle.coz_types.specs.declared.ending.Ending.{Ending}
 use Rattle.coz_types.specs.declared.ending.Ending.TheVariants.{Trapped, Unsupported}
 use Rattle.coz_types.specs.declared.ending.Trap.{Trap}
 use Rattle.machines.specs.declared.Fate.{Fate}
-use Rattle.machines.specs.declared.Fate.TheVariants.{Goes, Ends}
-use Rattle.machines.specs.Guest.{Retirement, goes_on, sleeps, started, own_ending}
+use Rattle.machines.specs.declared.Fate.TheVariants.{Goes, Waits, Leaves, Sleeps, Ends}
+use Rattle.machines.specs.Guest.{Retirement, IsLater, goes_on, sleeps, started, own_ending}
 use Rattle.machines.specs.Places.{is_among, AllApart}
 use Rattle.rv_decode.specs.Fields.{twos}
 use Rattle.guest_memory.specs.declared.Layout.{Layout}
@@ -25,20 +25,53 @@ use Rattle.guest_calls.specs.declared.hart.HartStatus.{HartStatus}
 use Rattle.guest_calls.specs.declared.hart.HartStatus.TheVariants.{Running}
 use Rattle.guest_calls.proofs.RunningHarts.{status_at, is_timed_status, made_timed, runs_timed, chosen_status, waiting_same, asleep_same}
 
--- what holds after a retirement of hart h: the harts that it starts run, and the others run or sleep as before, but h itself, which may sleep now
-pub record IsStarted (g : Guest) (h : ℕ) (r : Retirement Guest) : Type 0 where
+-- what holds after a retirement of hart h whose fate is one of these: the harts that it starts run, and the others run or sleep as before, but h itself, which may sleep now
+pub record IsStartedWith (Fits : Fate → Type 0) (g : Guest) (h : ℕ) (r : Retirement Guest) : Type 0 where
   pub orderly : IsOrderly r.guest
   pub apart : AllApart (started h r)
   pub timed : IsNone (own_ending r.fate) → (k : ℕ) → is_timed r.guest k ≡ (if is_among k (started h r) then true else if k == h then sleeps r.fate else is_timed g k)
   -- one more sleeps, if h does
   pub asleep : sleepers r.guest ≡ sleepers g + (if sleeps r.fate then 1 else 0)
-  -- no call puts its hart to sleep
-  pub awake : sleeps r.fate ≡ false
+  pub fate : Fits r.fate
   -- a trap is its own
   pub trap : (t : Trap) → r.fate ≡ Ends (Trapped t) → t.hart.0 ≡ h
   -- those that it makes or wakes neither ran nor slept before
   pub idle : (k : ℕ) → is_among k r.others ≡ true → is_timed g k ≡ false
   pub made : making r.guest ≡ making g
+
+-- the hart is not put to sleep
+abbrev pub IsAwake : Fate → Type 0
+IsAwake fate = sleeps fate ≡ false
+
+-- if it sleeps from net time v on, then until a moment that is not before v, and soon
+abbrev pub IsTimely : ℕ → Fate → Type 0
+IsTimely v fate = IsLater v fate × ((moment : ℕ) → fate ≡ Sleeps moment → moment ≤ 10 ^ 16)
+
+abbrev pub IsStarted : Guest → ℕ → Retirement Guest → Type 0
+IsStarted g h r = IsStartedWith IsAwake g h r
+
+abbrev pub IsStartedAt : ℕ → Guest → ℕ → Retirement Guest → Type 0
+IsStartedAt v g h r = IsStartedWith (IsTimely v) g h r
+
+later_awake : (fate : Fate) (v : ℕ) → sleeps fate ≡ false → IsLater v fate
+later_awake Goes v awake = tt
+later_awake Waits v awake = tt
+later_awake Leaves v awake = tt
+later_awake (Sleeps moment) v awake = absurd (let no : true ≡ false = awake in cc)
+later_awake (Ends ending) v awake = tt
+
+-- a hart that isn't put to sleep is not at any net time
+pub at_any_net : (g : Guest) (h v : ℕ) (r : Retirement Guest) → IsStarted g h r → IsStartedAt v g h r
+at_any_net g h v r s = record {
+  orderly = s.orderly;
+  apart = s.apart;
+  timed = s.timed;
+  asleep = s.asleep;
+  fate = (later_awake r.fate v s.fate, λ moment is. absurd (let never : true ≡ false = ap sleeps (sym is) ∙ s.fate in cc));
+  trap = s.trap;
+  idle = s.idle;
+  made = s.made;
+}
 
 -- each hart has the status that it had, and the same harts wait
 pub record IsAsBefore (g after : Guest) : Type 0 where
@@ -156,7 +189,7 @@ goes_started g h others after beside runs = record {
       beside_timed g h others after beside k
       ∙ goes_bit (k == h) (is_among k others) (is_timed g k) (λ is. ap (is_timed g) (eqb-true k h is) ∙ runs_timed (status_at g.harts h) runs);
   asleep = beside.asleep ∙ sym (add-zero (sleepers g));
-  awake = refl;
+  fate = refl;
   trap = λ t is. absurd (let no : ◌≡◌ {A = Fate} Goes (Ends (Trapped t)) = is in cc);
   idle = beside.idle;
   made = beside.made;
@@ -172,7 +205,7 @@ ends_started g h after e own kept good = record {
   apart = tt;
   timed = λ none k. absurd (let never : true ≡ false = none in cc);
   asleep = asleep_same g.harts after.harts kept.count kept.status ∙ sym (add-zero (sleepers g));
-  awake = refl;
+  fate = refl;
   trap = λ t is. own t (same_ending e (Trapped t) is);
   idle = λ k among. absurd (let never : false ≡ true = among in cc);
   made = kept.made;
@@ -194,7 +227,7 @@ stops_started g h others after last fate stays awake own beside orderly made sto
       ∙ ap (λ (b : Bool). if k == h then false else b) (beside_timed g h others after beside k)
       ∙ stops_bit (k == h) (is_among k others) (is_timed g k) (λ is. ap (λ (n : ℕ). is_among n others) (eqb-true k h is) ∙ beside.apart.0));
   asleep = rw awake (asleep ∙ beside.asleep ∙ sym (add-zero (sleepers g)));
-  awake = awake;
+  fate = awake;
   trap = own;
   idle = beside.idle;
   made = made ∙ beside.made;

@@ -41,7 +41,7 @@ woken_beside g h address count good runs = record {
 }
 
 -- a running hart is no waiter, whatever becomes of it
-set_orderly : (g : Guest) (h : ℕ) (hart : Hart) → IsOrderly g → is_running g h ≡ true → IsOrderly (with_hart h hart g)
+pub set_orderly : (g : Guest) (h : ℕ) (hart : Hart) → IsOrderly g → is_running g h ≡ true → IsOrderly (with_hart h hart g)
 set_orderly g h hart good runs = record {
   few = rw (length-set g.harts h hart) good.few;
   waiting = waiting-elsewhere g.harts h hart g.waiters (others-running g.harts h g.waiters (runs_here g.harts h runs) good.waiting) good.waiting;

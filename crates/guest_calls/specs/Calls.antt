@@ -3,10 +3,10 @@ use Rattle.std.specs.Prelude.{ℕ, zero, suc, ◌+◌, ◌-◌, ◌*◌, ◌%◌
 use Rattle.std.specs.Int.{w32, to_le_bytes}
 use Rattle.std.specs.Int.RustNames.{bit_and, bit_or}
 use Rattle.std.specs.List.{list_all}
-use Rattle.coz_types.specs.declared.ending.Ending.TheVariants.{Exited, Unsupported}
+use Rattle.coz_types.specs.declared.ending.Ending.TheVariants.{Exited, Unsupported, Clock}
 use Rattle.coz_types.specs.Maps.{Map, value_at}
 use Rattle.machines.specs.declared.Fate.{Fate}
-use Rattle.machines.specs.declared.Fate.TheVariants.{Goes, Waits, Leaves, Ends}
+use Rattle.machines.specs.declared.Fate.TheVariants.{Goes, Waits, Leaves, Sleeps, Ends}
 use Rattle.machines.specs.Guest.{Retirement}
 use Rattle.rv_decode.specs.Fields.{twos, signed}
 use Rattle.guest_memory.specs.Memory.{MemoryMap, is_readable, is_writable, number_at, bytes_at}
@@ -16,9 +16,10 @@ use Rattle.guest_futex.specs.Waiters.{with_waiter, woken, left}
 use Rattle.rv_execute.specs.declared.hart.HartState.{HartState}
 use Rattle.rv_execute.specs.Execution.{with_register}
 use Rattle.guest_calls.specs.declared.hart.Hart.{Hart}
-use Rattle.guest_calls.specs.declared.hart.HartStatus.TheVariants.{Waiting, Gone}
+use Rattle.guest_calls.specs.declared.hart.HartStatus.TheVariants.{Waiting, Sleeping, Gone}
 use Rattle.guest_calls.specs.declared.pieces.Piece.{Piece}
 use Rattle.guest_calls.specs.Answering.{after_call, with_result}
+use Rattle.guest_calls.specs.Times.{span_at, span_bytes, wake_moment, last_moment, clock_at}
 use Rattle.guest_calls.specs.Guest.{Guest, hart_from, hart_at, state_of, with_hart, with_state, with_running, is_over, thread_id, memory_of, with_stored, with_written}
 
 abbrev pub retirement : Guest → Fate → List ℕ → Retirement Guest
@@ -271,6 +272,26 @@ module _ (g : Guest) (h : ℕ) where
   unfoldable pub futex : Retirement Guest
   futex = if a1 == 0 || a1 == 128 then wait else if a1 == 1 || a1 == 129 then wake else unsupported
 
+  -- the hart sleeps, and has 0 as its answer
+  abbrev pub asleep : Guest
+  asleep = with_hart h (record (hart_at g h) { state = with_result 0 (state_of g h); status = Sleeping }) g
+
+  abbrev pub sleep_until : ℕ → Retirement Guest
+  sleep_until moment = if nat_lt last_moment moment then retirement g (Ends Clock) [] else retirement asleep (Sleeps moment) []
+
+  -- at net time v
+  unfoldable pub nanosleep : ℕ → Retirement Guest
+  nanosleep v =
+      if not (is_readable (memory_of g) a0 16) then answer bad_address
+      else elim (span_at (memory_of g) a0) [ None ↦ answer invalid | Some span ↦ sleep_until (wake_moment v span) ]
+
+  -- at net time v
+  unfoldable pub clock_gettime : ℕ → Retirement Guest
+  clock_gettime v =
+      if not (a0 == 0 || a0 == 1) then unsupported
+      else if not (is_writable (memory_of g) a1 16) then answer bad_address
+      else answered (pos 0) h (with_stored a1 (span_bytes (clock_at v)) g)
+
   -- the number of the hart that is made next
   abbrev pub child : ℕ
   child = length g.harts
@@ -356,6 +377,8 @@ calls =
     ∷ (94, at_any_time exit_group)
     ∷ (96, at_any_time set_tid_address)
     ∷ (98, at_any_time futex)
+    ∷ (101, nanosleep)
+    ∷ (113, clock_gettime)
     ∷ (124, at_any_time sched_yield)
     ∷ (135, at_any_time rt_sigprocmask)
     ∷ (172, at_any_time getpid)

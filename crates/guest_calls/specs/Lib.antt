@@ -2,6 +2,7 @@ pub mod Answering
 pub mod Output
 pub mod Guest
 pub mod Kept
+pub mod Times
 pub mod Calls
 pub mod Retire
 pub mod Plug

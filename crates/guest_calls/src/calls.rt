@@ -9,9 +9,10 @@ ghost use Rattle.guest_calls.specs.Retire.{next_of};
 
 use crate::linux::{
     A0, A7, EBADF, EFAULT, EINVAL, ENOMEM, ENOTTY, ESPIPE, MAP_ANONYMOUS, MAP_FIXED, MAP_PRIVATE,
-    MAP_SHARED, SYS_BRK, SYS_CLONE, SYS_EXIT, SYS_EXIT_GROUP, SYS_FUTEX, SYS_GETPID, SYS_GETTID,
-    SYS_IOCTL, SYS_LSEEK, SYS_MADVISE, SYS_MMAP, SYS_MPROTECT, SYS_MREMAP, SYS_MUNMAP, SYS_READ,
-    SYS_READV, SYS_RT_SIGPROCMASK, SYS_SCHED_YIELD, SYS_SET_TID_ADDRESS, SYS_WRITE, SYS_WRITEV,
+    MAP_SHARED, SYS_BRK, SYS_CLOCK_GETTIME, SYS_CLONE, SYS_EXIT, SYS_EXIT_GROUP, SYS_FUTEX,
+    SYS_GETPID, SYS_GETTID, SYS_IOCTL, SYS_LSEEK, SYS_MADVISE, SYS_MMAP, SYS_MPROTECT, SYS_MREMAP,
+    SYS_MUNMAP, SYS_NANOSLEEP, SYS_READ, SYS_READV, SYS_RT_SIGPROCMASK, SYS_SCHED_YIELD,
+    SYS_SET_TID_ADDRESS, SYS_WRITE, SYS_WRITEV,
 };
 use crate::pieces::{PIECES, Piece, are_readable, are_writable, pieces_at};
 use crate::{Fate, Guest};
@@ -77,6 +78,8 @@ impl<'a> Guest<'a> {
             SYS_EXIT_GROUP => self.exit_group(hart),
             SYS_SET_TID_ADDRESS => self.set_tid_address(hart),
             SYS_FUTEX => self.futex(hart, started),
+            SYS_NANOSLEEP => self.nanosleep(hart, net),
+            SYS_CLOCK_GETTIME => self.clock_gettime(hart, net),
             SYS_SCHED_YIELD => self.sched_yield(hart),
             SYS_RT_SIGPROCMASK => self.rt_sigprocmask(hart),
             SYS_GETPID => self.getpid(hart),

@@ -1,6 +1,6 @@
 //! Harts: registers, and whether they run, wait, sleep or have gone.
 ghost use Rattle.std.specs.Prelude.{◌≡◌, set, replicate};
-ghost use Rattle.guest_calls.specs.declared.hart.HartStatus.TheVariants.{Waiting, Gone};
+ghost use Rattle.guest_calls.specs.declared.hart.HartStatus.TheVariants.{Waiting, Sleeping, Gone};
 ghost use Rattle.guest_calls.specs.Answering.{after_call, with_result};
 ghost use Rattle.guest_calls.specs.Guest.{hart_from, is_gone_status, is_sleeping_status};
 
@@ -78,6 +78,14 @@ impl Hart {
     {
         self.answer(0);
         self.status = HartStatus::Waiting;
+    }
+
+    /// The hart sleeps, behind the call, whose answer is 0.
+    pub fn sleep(&mut self)
+        ensures { self.new ≡ record self.old { state = with_result 0 self.old.state; status = Sleeping } }
+    {
+        self.answer(0);
+        self.status = HartStatus::Sleeping;
     }
 
     /// The hart is gone, behind the call.

@@ -9,6 +9,7 @@ mod pieces;
 #[cfg(test)]
 mod tests;
 mod threads;
+mod times;
 
 ghost use Rattle.std.specs.Prelude.{◌≡◌, ◌≤◌, [], length, IfOk, IsTrue};
 ghost use Rattle.std.specs.Result.{result_ok};

@@ -1,5 +1,5 @@
 //! Codes of Linux on riscv64, and the registers by which a call is made: asm-generic/unistd.h, linux/sched.h,
-//! linux/futex.h, asm-generic/mman-common.h, asm-generic/errno-base.h, and the RISC-V calling convention.
+//! linux/futex.h, linux/time.h, asm-generic/mman-common.h, asm-generic/errno-base.h, and the RISC-V calling convention.
 
 // The numbers of the calls.
 pub const SYS_IOCTL: u64 = 29;
@@ -21,6 +21,10 @@ pub const SYS_EXIT_GROUP: u64 = 94;
 pub const SYS_SET_TID_ADDRESS: u64 = 96;
 
 pub const SYS_FUTEX: u64 = 98;
+
+pub const SYS_NANOSLEEP: u64 = 101;
+
+pub const SYS_CLOCK_GETTIME: u64 = 113;
 
 pub const SYS_SCHED_YIELD: u64 = 124;
 
@@ -77,6 +81,9 @@ pub const FUTEX_WAKE: u64 = 1;
 pub const FUTEX_WAIT_PRIVATE: u64 = 128;
 
 pub const FUTEX_WAKE_PRIVATE: u64 = 129;
+
+// A clock of clock_gettime(2). The one before it is CLOCK_REALTIME.
+pub const CLOCK_MONOTONIC: u64 = 1;
 
 // The flags of mmap(2). The sort of a mapping stands in their low 2 bits.
 pub const MAP_SHARED: u64 = 1;

@@ -17,7 +17,8 @@ pub struct Piece {
     pub length: u64,
 }
 
-fn number(memory: &Memory, address: Address) -> u64
+/// The number of 8 bytes that stands at an address.
+pub fn number(memory: &Memory, address: Address) -> u64
     requires { IsTrue (is_readable memory.now address 8) }
     ensures { result ≡ number_at memory.now address 8 }
 {

@@ -30,6 +30,8 @@ const MAP: Address = 0x21_0000_0000;
 
 const STACK: Address = 0x3F_FFFF_0000;
 
+const STACK_TOP: Address = 0x40_0000_0000;
+
 const AREA: Area = Area {
     start: TEXT,
     size: 4096,
@@ -66,10 +68,11 @@ impl<'a> Guest<'a> {
         place < self.harts.len() && matches!(self.harts[place].status, HartStatus::Running)
     }
 
-    /// What becomes of a hart as it retires an instruction, and its a0 then; `started` gets the harts that it makes or
-    /// wakes.
-    fn ask_as(
+    /// What becomes of a hart as it retires an instruction at a net time, and its a0 then; `started` gets the harts that
+    /// it makes or wakes.
+    fn ask_at(
         &mut self,
+        net: Tick,
         hart: HartId,
         pc: Address,
         number: u64,
@@ -86,9 +89,47 @@ impl<'a> Guest<'a> {
         if !self.runs(hart) {
             return None;
         }
-        let fate = self.retire(hart, 0, started);
+        let fate = self.retire(hart, net, started);
         let made = self.harts.get(hart.0 as usize)?;
         Some((fate, made.state.registers[10].cast_signed()))
+    }
+
+    /// The same at net time 0.
+    fn ask_as(
+        &mut self,
+        hart: HartId,
+        pc: Address,
+        number: u64,
+        arguments: [u64; 5],
+        started: &mut HartList,
+    ) -> Option<(Fate, i64)>
+        ensures { making self.new ≡ making self.old }
+    {
+        self.ask_at(0, hart, pc, number, arguments, started)
+    }
+
+    /// The first hart wakes, if it sleeps.
+    fn wake_first(&mut self) {
+        if self.harts() > 0 && self.is_sleeping(HartId(0)) {
+            self.wake(HartId(0));
+        }
+    }
+
+    /// Stores two numbers on the stack.
+    fn put_numbers(&mut self, [seconds, nanoseconds]: [u64; 2]) {
+        let _ = self.store(STACK, &seconds.to_le_bytes());
+        let _ = self.store(STACK + 8, &nanoseconds.to_le_bytes());
+    }
+
+    /// The two numbers on the stack.
+    fn numbers(&self) -> Option<[u64; 2]> {
+        let Ok(seconds) = self.memory.load(STACK, 8) else {
+            return None;
+        };
+        let Ok(nanoseconds) = self.memory.load(STACK + 8, 8) else {
+            return None;
+        };
+        Some([seconds, nanoseconds])
     }
 
     /// The same of the first hart.
@@ -433,5 +474,260 @@ fn a_copied_guest_answers_as_the_other(rt: HostRuntime) -> Result<(), Fail> {
     check_copy(&rt, &mut guest);
     check_copy(&rt, &mut fresh);
     check_copy(&rt, &mut further);
+    Ok(())
+}
+
+/// The numbers that are stored on the stack, if any are; the net time, the pc, the number and the first two arguments of
+/// a retirement of the first hart; and what becomes of the hart, its a0 then, and the numbers on the stack.
+type Timed = (
+    Option<[u64; 2]>,
+    Tick,
+    Address,
+    u64,
+    [u64; 2],
+    Fate,
+    i64,
+    [u64; 2],
+);
+
+const OTHER_CLOCK: Fate = Fate::Ends(Ending::Unsupported(113));
+
+const TOO_LATE: Fate = Fate::Ends(Ending::Clock);
+
+const TIMES: [Timed; 27] = [
+    // the clock's seconds and nanoseconds, both rounded down
+    (
+        None,
+        123_456_789_012_345,
+        CALL,
+        113,
+        [0, STACK],
+        Fate::Goes,
+        0,
+        [1234, 567_890_123],
+    ),
+    (
+        Some([7, 7]),
+        0,
+        CALL,
+        113,
+        [1, STACK],
+        Fate::Goes,
+        0,
+        [0, 0],
+    ),
+    (
+        Some([7, 7]),
+        99,
+        CALL,
+        113,
+        [0, STACK],
+        Fate::Goes,
+        0,
+        [0, 0],
+    ),
+    (
+        Some([7, 7]),
+        100,
+        CALL,
+        113,
+        [0, STACK],
+        Fate::Goes,
+        0,
+        [0, 1],
+    ),
+    // there are two clocks, whose numbers have 64 bits
+    (
+        Some([7, 7]),
+        100,
+        CALL,
+        113,
+        [2, TEXT],
+        OTHER_CLOCK,
+        2,
+        [7, 7],
+    ),
+    (
+        None,
+        100,
+        CALL,
+        113,
+        [0x1_0000_0000, STACK],
+        OTHER_CLOCK,
+        0x1_0000_0000,
+        [7, 7],
+    ),
+    (None, 100, CALL, 113, [0, TEXT], Fate::Goes, -14, [7, 7]),
+    (
+        None,
+        100,
+        CALL,
+        113,
+        [0, STACK_TOP - 15],
+        Fate::Goes,
+        -14,
+        [7, 7],
+    ),
+    (None, 100, CALL, 113, [0, u64::MAX], Fate::Goes, -14, [7, 7]),
+    // a reservation of the second number ends
+    (None, 0, LOAD, 0, [0, STACK + 8], Fate::Goes, 7, [7, 7]),
+    (None, 100, CALL, 113, [0, STACK], Fate::Goes, 0, [0, 1]),
+    (None, 0, STORE, 0, [9, STACK + 8], Fate::Goes, 1, [0, 1]),
+    // a sleep's 16 bytes, and the ranges of its numbers
+    (
+        None,
+        0,
+        CALL,
+        101,
+        [TEXT + 4088, 0],
+        Fate::Goes,
+        -14,
+        [0, 1],
+    ),
+    (None, 0, CALL, 101, [u64::MAX, 0], Fate::Goes, -14, [0, 1]),
+    (
+        Some([u64::MAX, 0]),
+        0,
+        CALL,
+        101,
+        [STACK, 0],
+        Fate::Goes,
+        -22,
+        [u64::MAX, 0],
+    ),
+    (
+        Some([0x8000_0000_0000_0000, 0]),
+        0,
+        CALL,
+        101,
+        [STACK, 0],
+        Fate::Goes,
+        -22,
+        [0x8000_0000_0000_0000, 0],
+    ),
+    (
+        Some([0, u64::MAX]),
+        0,
+        CALL,
+        101,
+        [STACK, 0],
+        Fate::Goes,
+        -22,
+        [0, u64::MAX],
+    ),
+    (
+        Some([0, 1_000_000_000]),
+        0,
+        CALL,
+        101,
+        [STACK, 0],
+        Fate::Goes,
+        -22,
+        [0, 1_000_000_000],
+    ),
+    // the moment of the wake, which is at most 10^16; the time left isn't stored
+    (
+        Some([1, 999_999_999]),
+        5,
+        CALL,
+        101,
+        [STACK, STACK],
+        Fate::Sleeps(199_999_999_905),
+        0,
+        [1, 999_999_999],
+    ),
+    (
+        Some([0, 0]),
+        12_345,
+        CALL,
+        101,
+        [STACK, 0],
+        Fate::Sleeps(12_345),
+        0,
+        [0, 0],
+    ),
+    (
+        Some([100_000, 0]),
+        0,
+        CALL,
+        101,
+        [STACK, 0],
+        Fate::Sleeps(10_000_000_000_000_000),
+        0,
+        [100_000, 0],
+    ),
+    (
+        Some([100_000, 1]),
+        0,
+        CALL,
+        101,
+        [STACK, 0],
+        TOO_LATE,
+        0x3F_FFFF_0000,
+        [100_000, 1],
+    ),
+    (
+        Some([99_999, 999_999_999]),
+        100,
+        CALL,
+        101,
+        [STACK, 0],
+        Fate::Sleeps(10_000_000_000_000_000),
+        0,
+        [99_999, 999_999_999],
+    ),
+    (
+        None,
+        101,
+        CALL,
+        101,
+        [STACK, 0],
+        TOO_LATE,
+        0x3F_FFFF_0000,
+        [99_999, 999_999_999],
+    ),
+    (
+        Some([0x7FFF_FFFF_FFFF_FFFF, 999_999_999]),
+        0,
+        CALL,
+        101,
+        [STACK, 0],
+        TOO_LATE,
+        0x3F_FFFF_0000,
+        [0x7FFF_FFFF_FFFF_FFFF, 999_999_999],
+    ),
+    // the numbers are judged before the moment
+    (
+        Some([0x7FFF_FFFF_FFFF_FFFF, 1_000_000_000]),
+        0,
+        CALL,
+        101,
+        [STACK, 0],
+        Fate::Goes,
+        -22,
+        [0x7FFF_FFFF_FFFF_FFFF, 1_000_000_000],
+    ),
+    // a hart that slept goes on
+    (None, 200, CALL, 113, [0, STACK], Fate::Goes, 0, [0, 2]),
+];
+
+#[test]
+fn clocks_and_sleeps_know_net_time(rt: HostRuntime) -> Result<(), Fail> {
+    let image = image(rt.alloc())?;
+    let mut guest = Guest::new(rt.alloc(), &image, &INPUT, 5, Layout::usual())?;
+    let mut started = HartList::new();
+    for (stored, net, pc, number, [a0, a1], fate, answer, left) in TIMES {
+        if let Some(numbers) = stored {
+            guest.put_numbers(numbers);
+        }
+        let arguments = [a0, a1, 0, 0, 0];
+        let got = guest.ask_at(net, HartId(0), pc, number, arguments, &mut started);
+        guest.wake_first();
+        assert_eq!(rt;
+            (got, guest.numbers()),
+            (Some((fate, answer)), Some(left)),
+            "{number} of {arguments:?} at {net}"
+        );
+    }
     Ok(())
 }

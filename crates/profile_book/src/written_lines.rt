@@ -51,6 +51,7 @@ fn put_ending<O: Sink>(to: &mut PutBuffer, out: &mut O, ending: Ending)
         Ending::Exited(code) => put_number(to, out, b"exited:", u64::from(code)),
         Ending::Trapped(trap) => put_trap(to, out, trap),
         Ending::Unsupported(number) => put_number(to, out, b"unsupported:", number),
+        Ending::Clock => to.push(out, b"clock"),
         Ending::OutputFull => to.push(out, b"output-full"),
         Ending::VisitsFull => to.push(out, b"visits-full"),
         Ending::Stalled => to.push(out, b"stalled"),

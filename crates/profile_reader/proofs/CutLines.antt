@@ -11,7 +11,7 @@ use Rattle.coz_types.specs.Labels.{Text, Scan, scans, step, parts_of, line_numbe
 use Rattle.coz_types.specs.Endings.{ending_text, address_text, cause_text}
 use Rattle.coz_types.specs.Ranges.{most, is_ending, last_word}
 use Rattle.coz_types.specs.declared.ending.Ending.{Ending}
-use Rattle.coz_types.specs.declared.ending.Ending.TheVariants.{Exited, Trapped, Unsupported, OutputFull, VisitsFull, Stalled, Spent}
+use Rattle.coz_types.specs.declared.ending.Ending.TheVariants.{Exited, Trapped, Unsupported, Clock, OutputFull, VisitsFull, Stalled, Spent}
 use Rattle.coz_types.specs.declared.ending.TrapCause.{TrapCause}
 use Rattle.coz_types.specs.declared.ending.TrapCause.TheVariants.{Fetch, Illegal, Misaligned, Access, Break}
 use Rattle.coz_types.specs.declared.record.Summary.{Summary}
@@ -193,6 +193,7 @@ cause_plain Break = refl
 ending_plain : (ending : Ending) → is_ending ending ≡ true → plain (ending_text ending) ≡ true
 ending_plain (Exited code) e = let le : code ≤ 255 = leb-true _ _ e in decimal_plain code (omega arith)
 ending_plain (Unsupported number) e = let le : number ≤ last_word = leb-true _ _ e in decimal_plain number (omega arith)
+ending_plain Clock e = refl
 ending_plain OutputFull e = refl
 ending_plain VisitsFull e = refl
 ending_plain Stalled e = refl

@@ -9,7 +9,7 @@ use Rattle.coz_types.specs.Endings.{ending_text, address_text, cause_text}
 use Rattle.coz_types.specs.Ranges.{is_ending, last_word}
 use Rattle.profile_reader.specs.EndingSpellings.{is_ending_text, ending_parts, is_one_of, causes, is_address}
 use Rattle.coz_types.specs.declared.ending.Ending.{Ending}
-use Rattle.coz_types.specs.declared.ending.Ending.TheVariants.{Exited, Trapped, Unsupported, OutputFull, VisitsFull, Stalled, Spent}
+use Rattle.coz_types.specs.declared.ending.Ending.TheVariants.{Exited, Trapped, Unsupported, Clock, OutputFull, VisitsFull, Stalled, Spent}
 use Rattle.coz_types.specs.declared.ending.TrapCause.{TrapCause}
 use Rattle.coz_types.specs.declared.ending.TrapCause.TheVariants.{Fetch, Illegal, Misaligned, Access, Break}
 use Rattle.profile_reader.specs.Reading.{Ahead, ending_at, ending_in, ending_in_parts, cause_in}
@@ -23,13 +23,14 @@ pub record IsEndingOf (text : Text) (ending : Ending) : Type 0 where
   pub spelled : text ≡ ending_text ending
   pub range : is_ending ending ≡ true
 
-one_word : (word : Text) (a b c d : Bool) → (a ≡ true → word ≡ codes "stalled") → (b ≡ true → word ≡ codes "spent") → (c ≡ true → word ≡ codes "output-full") → (d ≡ true → word ≡ codes "visits-full")
-    → (a || (b || (c || (d || false)))) ≡ true → IsEndingOf word (if a then Stalled else (if b then Spent else (if c then OutputFull else VisitsFull)))
-one_word word true b c d p q r s e = record { spelled = p refl; range = refl }
-one_word word false true c d p q r s e = record { spelled = q refl; range = refl }
-one_word word false false true d p q r s e = record { spelled = r refl; range = refl }
-one_word word false false false true p q r s e = record { spelled = s refl; range = refl }
-one_word word false false false false p q r s e = absurd cc
+one_word : (word : Text) (a b c d f : Bool) → (a ≡ true → word ≡ codes "stalled") → (b ≡ true → word ≡ codes "spent") → (c ≡ true → word ≡ codes "output-full") → (d ≡ true → word ≡ codes "visits-full") → (f ≡ true → word ≡ codes "clock")
+    → (a || (b || (c || (d || (f || false))))) ≡ true → IsEndingOf word (if a then Stalled else (if b then Spent else (if c then OutputFull else (if d then VisitsFull else Clock))))
+one_word word true b c d f p q r s t e = record { spelled = p refl; range = refl }
+one_word word false true c d f p q r s t e = record { spelled = q refl; range = refl }
+one_word word false false true d f p q r s t e = record { spelled = r refl; range = refl }
+one_word word false false false true f p q r s t e = record { spelled = s refl; range = refl }
+one_word word false false false false true p q r s t e = record { spelled = t refl; range = refl }
+one_word word false false false false false p q r s t e = absurd cc
 
 number_is : (top : ℕ) (text : Text) → is_decimal top text ≡ true → (text ≡ decimal (digits_value 10 text)) × (nat_le (digits_value 10 text) top ≡ true)
 number_is top text e = let h = both (bytes_eq text (decimal (digits_value 10 text))) (nat_le (digits_value 10 text) top) e in (same_bytes _ _ h.0, h.1)
@@ -87,7 +88,7 @@ trapped_is word cause hart pc e =
 
 parts_are : (parts : List Text) → ending_parts parts ≡ true → IsEndingOf (join_with_byte 58 parts) (ending_in_parts parts)
 parts_are [] e = absurd cc
-parts_are (word ∷ []) e = one_word word (bytes_eq word (codes "stalled")) (bytes_eq word (codes "spent")) (bytes_eq word (codes "output-full")) (bytes_eq word (codes "visits-full")) (same_bytes _ _) (same_bytes _ _) (same_bytes _ _) (same_bytes _ _) e
+parts_are (word ∷ []) e = one_word word (bytes_eq word (codes "stalled")) (bytes_eq word (codes "spent")) (bytes_eq word (codes "output-full")) (bytes_eq word (codes "visits-full")) (bytes_eq word (codes "clock")) (same_bytes _ _) (same_bytes _ _) (same_bytes _ _) (same_bytes _ _) (same_bytes _ _) e
 parts_are (word ∷ n ∷ []) e = two_words word n (bytes_eq word (codes "exited")) (bytes_eq word (codes "unsupported")) (is_decimal 255 n) (is_decimal last_word n) (same_bytes _ _) (same_bytes _ _) refl refl e
 parts_are (word ∷ cause ∷ hart ∷ []) e = absurd cc
 parts_are (word ∷ cause ∷ hart ∷ pc ∷ []) e = trapped_is word cause hart pc e

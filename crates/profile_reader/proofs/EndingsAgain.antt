@@ -12,7 +12,7 @@ use Rattle.coz_types.specs.Endings.{ending_text, address_text, cause_text}
 use Rattle.coz_types.specs.Ranges.{is_ending, last_word}
 use Rattle.profile_reader.specs.EndingSpellings.{is_ending_text, ending_parts, is_address, is_one_of, causes}
 use Rattle.coz_types.specs.declared.ending.Ending.{Ending}
-use Rattle.coz_types.specs.declared.ending.Ending.TheVariants.{Exited, Trapped, Unsupported, OutputFull, VisitsFull, Stalled, Spent}
+use Rattle.coz_types.specs.declared.ending.Ending.TheVariants.{Exited, Trapped, Unsupported, Clock, OutputFull, VisitsFull, Stalled, Spent}
 use Rattle.coz_types.specs.declared.ending.TrapCause.{TrapCause}
 use Rattle.coz_types.specs.declared.ending.TrapCause.TheVariants.{Fetch, Illegal, Misaligned, Access, Break}
 use Rattle.profile_reader.specs.Parts.{parts}
@@ -91,6 +91,7 @@ ending_read (Unsupported number) e =
     let le : number ≤ last_word = leb-true _ _ e in
     let w = is_written last_word (decimal number) number (omega arith) refl le in
     by_parts (Unsupported number) (codes "unsupported" ∷ decimal number ∷ []) (part_then (codes "unsupported") (decimal number) refl ∙ ap (λ (ts : List Text). codes "unsupported" ∷ ts) (last_part (decimal number) (decimal_plain number (omega arith)))) w.0 (ap (λ (n : ℕ). Unsupported n) (sym w.1))
+ending_read Clock e = by_parts Clock (codes "clock" ∷ []) (last_part (codes "clock") refl) refl refl
 ending_read OutputFull e = by_parts OutputFull (codes "output-full" ∷ []) (last_part (codes "output-full") refl) refl refl
 ending_read VisitsFull e = by_parts VisitsFull (codes "visits-full" ∷ []) (last_part (codes "visits-full") refl) refl refl
 ending_read Stalled e = by_parts Stalled (codes "stalled" ∷ []) (last_part (codes "stalled") refl) refl refl

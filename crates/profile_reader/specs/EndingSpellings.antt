@@ -18,7 +18,7 @@ abbrev pub causes : List Text
 causes = codes "fetch" ∷ codes "illegal" ∷ codes "misaligned" ∷ codes "access" ∷ codes "break" ∷ []
 
 abbrev pub plain_endings : List Text
-plain_endings = codes "stalled" ∷ codes "spent" ∷ codes "output-full" ∷ codes "visits-full" ∷ []
+plain_endings = codes "stalled" ∷ codes "spent" ∷ codes "output-full" ∷ codes "visits-full" ∷ codes "clock" ∷ []
 
 -- what stands between the colons of an ending's text
 abbrev pub ending_parts : List Text → Bool

@@ -9,7 +9,7 @@ use Rattle.profile_reader.specs.EndingSpellings.{is_ending_text}
 use Rattle.coz_types.specs.declared.record.Summary.{Summary}
 use Rattle.coz_types.specs.declared.record.Outcome.{Outcome}
 use Rattle.coz_types.specs.declared.ending.Ending.{Ending}
-use Rattle.coz_types.specs.declared.ending.Ending.TheVariants.{Exited, Trapped, Unsupported, OutputFull, VisitsFull, Stalled, Spent}
+use Rattle.coz_types.specs.declared.ending.Ending.TheVariants.{Exited, Trapped, Unsupported, Clock, OutputFull, VisitsFull, Stalled, Spent}
 use Rattle.coz_types.specs.declared.ending.TrapCause.{TrapCause}
 use Rattle.coz_types.specs.declared.ending.TrapCause.TheVariants.{Fetch, Illegal, Misaligned, Access, Break}
 use Rattle.profile_book.specs.declared.profile.Profile.{Profile}
@@ -93,7 +93,8 @@ abbrev pub ending_in_parts : List Text → Ending
 ending_in_parts (word ∷ []) =
     if bytes_eq word (codes "stalled") then Stalled
     else (if bytes_eq word (codes "spent") then Spent
-    else (if bytes_eq word (codes "output-full") then OutputFull else VisitsFull))
+    else (if bytes_eq word (codes "output-full") then OutputFull
+    else (if bytes_eq word (codes "visits-full") then VisitsFull else Clock)))
 ending_in_parts (word ∷ n ∷ []) =
     if bytes_eq word (codes "exited") then Exited (digits_value 10 n) else Unsupported (digits_value 10 n)
 ending_in_parts (word ∷ cause ∷ hart ∷ pc ∷ []) =

@@ -34,6 +34,8 @@ fn plain(word: &[u8]) -> Option<Ending>
         Some(Ending::OutputFull)
     } else if word == b"visits-full".as_slice() {
         Some(Ending::VisitsFull)
+    } else if word == b"clock".as_slice() {
+        Some(Ending::Clock)
     } else {
         None
     }

@@ -4,7 +4,7 @@ use Rattle.std.proofs.lemmas.List.{length-map, length-replicate, length-set, map
 use Rattle.std.specs.List.{All}
 use Rattle.std.proofs.lemmas.List.Elements.{All-nil, All-cons, All-head, All-tail}
 use Rattle.coz_types.specs.declared.ending.Ending.{Ending}
-use Rattle.coz_types.specs.declared.ending.Ending.TheVariants.{Exited, Trapped, Unsupported, OutputFull, VisitsFull, Stalled, Spent}
+use Rattle.coz_types.specs.declared.ending.Ending.TheVariants.{Exited, Trapped, Unsupported, Clock, OutputFull, VisitsFull, Stalled, Spent}
 use Rattle.coz_types.specs.declared.ending.Trap.{Trap}
 use Rattle.coz_types.specs.declared.record.Account.{Account as GivenAccount}
 use Rattle.coz_types.specs.declared.record.Outcome.{Outcome}
@@ -91,6 +91,7 @@ of_a_hart : (e : Ending) → ((trap : Trap) → e ≡ Trapped trap → trap.hart
 of_a_hart (Exited code) low = tt
 of_a_hart (Trapped trap) low = low trap refl
 of_a_hart (Unsupported number) low = tt
+of_a_hart Clock low = tt
 of_a_hart OutputFull low = tt
 of_a_hart VisitsFull low = tt
 of_a_hart Stalled low = tt

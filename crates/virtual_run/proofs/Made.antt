@@ -1,12 +1,14 @@
 -- The harts that a retirement of the guest makes or wakes are among those that were made by then, and each hart that it makes is one of them.
-use Rattle.std.proofs.Common.{◌≡◌, ℕ, zero, suc, ◌+◌, ◌%◌, ◌^◌, ◌<◌, ◌==◌, max, nat_le, Bool, true, false, not, ◌||◌, if◌then◌else◌, List, [], ◌∷◌, length, get_or, set, eqb, pos, ℤ, Option, Some, None, refl, sym, ap, ◌∙◌, subst, arith, replicate, length-append, ⊎_elim}
+use Rattle.std.proofs.Common.{◌≡◌, ℕ, zero, suc, ◌+◌, ◌%◌, ◌^◌, ◌<◌, ◌==◌, max, nat_le, nat_lt, Bool, true, false, not, ◌||◌, if◌then◌else◌, List, [], ◌∷◌, length, get_or, set, eqb, pos, ℤ, Option, Some, None, refl, sym, ap, ◌∙◌, subst, arith, replicate, length-append, ⊎_elim}
 use Rattle.std.specs.Int.{w32, to_le_bytes}
 use Rattle.std.proofs.lemmas.Bool.{cases_Bool}
 use Rattle.std.proofs.lemmas.List.{length-set}
+use Rattle.coz_types.specs.declared.ending.Ending.TheVariants.{Clock}
 use Rattle.coz_types.specs.declared.ending.TrapCause.TheVariants.{Fetch, Illegal}
 use Rattle.coz_types.specs.Image.{ImageParts}
 use Rattle.coz_types.specs.Maps.{Map, value_at}
 use Rattle.machines.specs.declared.Fate.{Fate}
+use Rattle.machines.specs.declared.Fate.TheVariants.{Sleeps, Ends}
 use Rattle.machines.specs.Guest.{Retirement}
 use Rattle.rv_decode.specs.declared.Instr.{Instr}
 use Rattle.rv_decode.specs.Instructions.{instruction_of}
@@ -21,9 +23,11 @@ use Rattle.rv_execute.specs.Execution.{execute}
 use Rattle.guest_calls.specs.declared.hart.Hart.{Hart}
 use Rattle.guest_calls.specs.declared.hart.HartStatus.TheVariants.{Running, Waiting, Gone}
 use Rattle.guest_calls.specs.declared.pieces.Piece.{Piece}
+use Rattle.guest_calls.specs.declared.times.Span.{Span}
+use Rattle.guest_calls.specs.Times.{span_at, span_bytes, wake_moment, last_moment, clock_at}
 use Rattle.guest_calls.specs.Guest.{Guest, hart_at, no_hart, with_hart, with_stored, with_written, with_running_each, memory_of, setting_of, thread_id, first_guest}
 use Rattle.guest_calls.specs.Calls
-use Rattle.guest_calls.specs.Calls.{retirement, answered, of_space, unsupported, left_by, leave, with_word, with_woken, clear_address, woken_at_exit, cleared, is_cleared, waiting_for, most_woken, woken_here, parent_set_tid, child_set_tid, child, with_child, with_parent_tid, with_child_tid, cloned, is_accepted, hart_limit, a0, a1, a2, a3, a4, with_filled, with_read, filled, total, is_each_writable, is_each_readable, bytes_of, pieces_at, are_few, is_named, read_length, is_stream, is_input, is_output, is_mapping, calls, call_of}
+use Rattle.guest_calls.specs.Calls.{retirement, answered, of_space, unsupported, left_by, leave, with_word, with_woken, clear_address, woken_at_exit, cleared, is_cleared, waiting_for, asleep, sleep_until, most_woken, woken_here, parent_set_tid, child_set_tid, child, with_child, with_parent_tid, with_child_tid, cloned, is_accepted, hart_limit, a0, a1, a2, a3, a4, with_filled, with_read, filled, total, is_each_writable, is_each_readable, bytes_of, pieces_at, are_few, is_named, read_length, is_stream, is_input, is_output, is_mapping, calls, call_of}
 use Rattle.guest_calls.specs.Retire.{word_at, Stepped, stepped, stepped_by, step, follows, retire}
 use Rattle.guest_calls.specs.Orderly.{AreWaiting, IsOrderly}
 use Rattle.guest_calls.proofs.Steps.{step-call}
@@ -106,6 +110,24 @@ unfolding Calls.futex
 futex_grows g h good =
     either (Grows (length g.harts)) (a1 g h == 0 || a1 g h == 128) (Calls.wait g h) _ (wait_grows g h)
     (either (Grows (length g.harts)) (a1 g h == 1 || a1 g h == 129) (Calls.wake g h) (unsupported g h) (wake_grows g h good) refl)
+
+-- a hart sleeps, or reads a clock
+span_grows : (o : Option Span) (g : Guest) (h v : ℕ) → Grows (length g.harts) (elim o as (λ _. Retirement Guest) [ None ↦ answered invalid h g | Some span ↦ sleep_until g h (wake_moment v span) ])
+span_grows None g h v = answer_grows invalid h (length g.harts) g refl
+span_grows (Some span) g h v =
+    either (Grows (length g.harts)) (nat_lt last_moment (wake_moment v span)) (retirement g (Ends Clock) []) (retirement (asleep g h) (Sleeps (wake_moment v span)) []) refl
+    (length-set g.harts h _)
+
+nanosleep_grows : (g : Guest) (h v : ℕ) → Grows (length g.harts) (Calls.nanosleep g h v)
+unfolding Calls.nanosleep
+nanosleep_grows g h v = checked (not (is_readable (memory_of g) (a0 g h) 16)) bad_address h g _ (span_grows (span_at (memory_of g) (a0 g h)) g h v)
+
+clock_gettime_grows : (g : Guest) (h v : ℕ) → Grows (length g.harts) (Calls.clock_gettime g h v)
+unfolding Calls.clock_gettime
+clock_gettime_grows g h v =
+    either (Grows (length g.harts)) (not (a0 g h == 0 || a0 g h == 1)) (unsupported g h) _ refl
+    (checked (not (is_writable (memory_of g) (a1 g h) 16)) bad_address h g _
+    (answer_grows (pos 0) h (length g.harts) (with_stored (a1 g h) (span_bytes (clock_at v)) g) refl))
 
 -- a hart is made
 SameCount : Guest → Guest → Type 0
@@ -269,7 +291,7 @@ row_at (e ∷ es) n rows = first_or (e.0 == n) e.1 (value_at es n) rows.0 (row_a
 
 all_rows : AreRows calls
 all_rows =
-    ((λ g h v good. ioctl_grows g h), ((λ g h v good. lseek_grows g h), ((λ g h v good. read_grows g h), ((λ g h v good. write_grows g h), ((λ g h v good. readv_grows g h), ((λ g h v good. writev_grows g h), ((λ g h v good. exit_grows g h good), ((λ g h v good. exit_group_grows g h), ((λ g h v good. set_tid_address_grows g h), ((λ g h v good. futex_grows g h good), ((λ g h v good. sched_yield_grows g h), ((λ g h v good. rt_sigprocmask_grows g h), ((λ g h v good. getpid_grows g h), ((λ g h v good. gettid_grows g h), ((λ g h v good. brk_grows g h), ((λ g h v good. munmap_grows g h), ((λ g h v good. mremap_grows g h), ((λ g h v good. clone_grows g h), ((λ g h v good. mmap_grows g h), ((λ g h v good. mprotect_grows g h), ((λ g h v good. madvise_grows g h), tt)))))))))))))))))))))
+    ((λ g h v good. ioctl_grows g h), ((λ g h v good. lseek_grows g h), ((λ g h v good. read_grows g h), ((λ g h v good. write_grows g h), ((λ g h v good. readv_grows g h), ((λ g h v good. writev_grows g h), ((λ g h v good. exit_grows g h good), ((λ g h v good. exit_group_grows g h), ((λ g h v good. set_tid_address_grows g h), ((λ g h v good. futex_grows g h good), ((λ g h v good. nanosleep_grows g h v), ((λ g h v good. clock_gettime_grows g h v), ((λ g h v good. sched_yield_grows g h), ((λ g h v good. rt_sigprocmask_grows g h), ((λ g h v good. getpid_grows g h), ((λ g h v good. gettid_grows g h), ((λ g h v good. brk_grows g h), ((λ g h v good. munmap_grows g h), ((λ g h v good. mremap_grows g h), ((λ g h v good. clone_grows g h), ((λ g h v good. mmap_grows g h), ((λ g h v good. mprotect_grows g h), ((λ g h v good. madvise_grows g h), tt)))))))))))))))))))))))
 
 known_grows : (o : Option Row) (g : Guest) (h v : ℕ) → IsRowIfSome o → IsOrderly g → Grows (length g.harts) (elim o [ None ↦ unsupported g h | Some call ↦ call g h v ])
 known_grows None g h v row good = refl

@@ -1,7 +1,7 @@
 -- The delayed run of a program.
 use Rattle.std.specs.Prelude.{◌≡◌, ℕ, ◌+◌, ◌-◌, ◌^◌, ◌≤◌, ◌<◌, List, map, filter, length, slice_index_or, slice_get, Option, Some, None, option_map}
 use Rattle.coz_types.specs.declared.ending.Ending.{Ending}
-use Rattle.coz_types.specs.declared.ending.Ending.TheVariants.{Exited, Trapped, Unsupported, OutputFull, VisitsFull, Stalled, Spent}
+use Rattle.coz_types.specs.declared.ending.Ending.TheVariants.{Exited, Trapped, Unsupported, Clock, OutputFull, VisitsFull, Stalled, Spent}
 use Rattle.coz_types.specs.declared.record.Outcome.{Outcome}
 use Rattle.coz_types.specs.declared.record.Visit.{Visit as GivenVisit}
 use Rattle.coz_types.specs.Image.{ImageParts}
@@ -48,6 +48,7 @@ abbrev pub IsOfAHart : Ending → Type 0
 IsOfAHart (Exited code) = Unit {0}
 IsOfAHart (Trapped trap) = trap.hart.0 < 256
 IsOfAHart (Unsupported number) = Unit {0}
+IsOfAHart Clock = Unit {0}
 IsOfAHart OutputFull = Unit {0}
 IsOfAHart VisitsFull = Unit {0}
 IsOfAHart Stalled = Unit {0}

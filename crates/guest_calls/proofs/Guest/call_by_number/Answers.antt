@@ -1,5 +1,5 @@
 use Rattle.std.proofs.Common.{sym, ◌∙◌, refl, arith}
-use Rattle.guest_calls.specs.Calls.{at_any_time, ioctl, lseek, read, write, readv, writev, exit, exit_group, set_tid_address, futex, sched_yield, rt_sigprocmask, getpid, gettid, brk, munmap, mremap, clone, mmap, mprotect, madvise}
+use Rattle.guest_calls.specs.Calls.{at_any_time, ioctl, lseek, read, write, readv, writev, exit, exit_group, set_tid_address, futex, nanosleep, clock_gettime, sched_yield, rt_sigprocmask, getpid, gettid, brk, munmap, mremap, clone, mmap, mprotect, madvise}
 use Rattle.guest_calls.proofs.Rows.{call-known, call-unknown, unknown}
 use Rattle.guest_calls.proofs.Guest.call_by_number.Goals as goal
 
@@ -42,6 +42,14 @@ returns-in-96 c =
 pub returns-in-98 : goal.returns-in-98
 returns-in-98 c =
     c.futex.ensures ∙ call-known _ _ _ 98 (at_any_time futex) (sym c.in-98.is ∙ c.number.ensures) refl
+
+pub returns-in-101 : goal.returns-in-101
+returns-in-101 c =
+    rw c.requires.started (c.nanosleep.ensures ∙ call-known _ _ _ 101 nanosleep (sym c.in-101.is ∙ c.number.ensures) refl)
+
+pub returns-in-113 : goal.returns-in-113
+returns-in-113 c =
+    rw c.requires.started (c.clock_gettime.ensures ∙ call-known _ _ _ 113 clock_gettime (sym c.in-113.is ∙ c.number.ensures) refl)
 
 pub returns-in-124 : goal.returns-in-124
 returns-in-124 c =
@@ -92,4 +100,4 @@ returns-in_default c =
     rw c.requires.started
     (c.unsupported.ensures
     ∙ call-unknown _ _ _ c.number.result c.number.ensures
-    (unknown c.number.result (omega arith) (omega arith) (omega arith) (omega arith) (omega arith) (omega arith) (omega arith) (omega arith) (omega arith) (omega arith) (omega arith) (omega arith) (omega arith) (omega arith) (omega arith) (omega arith) (omega arith) (omega arith) (omega arith) (omega arith) (omega arith)))
+    (unknown c.number.result (omega arith) (omega arith) (omega arith) (omega arith) (omega arith) (omega arith) (omega arith) (omega arith) (omega arith) (omega arith) (omega arith) (omega arith) (omega arith) (omega arith) (omega arith) (omega arith) (omega arith) (omega arith) (omega arith) (omega arith) (omega arith) (omega arith) (omega arith)))
