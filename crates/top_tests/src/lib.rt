@@ -1,7 +1,5 @@
-//! Tests of the top call, and nothing else.
+//! Tests of the top call over files of programs and sources, and nothing else.
 #![tactic(auto)]
 
 #[cfg(test)]
 mod coz_cli_tests;
-#[cfg(test)]
-mod workers_tests;

@@ -1,5 +1,6 @@
 //! Tests of `workers`.
-use crate::coz_cli_tests::{Outside, call_over, copies, lined_programs};
+use crate::calls::{Outside, call_over, copies};
+use crate::program_tests::lined_programs;
 use coz_files::{FreeGate, Gate};
 use sha2::{Digest, Sha256};
 use std::sync::atomic::{AtomicBool, AtomicU64, Ordering};

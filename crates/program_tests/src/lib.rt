@@ -1,0 +1,13 @@
+//! Tests of the top call over programs that it assembles, and nothing else.
+#![tactic(auto)]
+
+#[cfg(test)]
+mod calls;
+#[cfg(test)]
+mod profile_tests;
+#[cfg(test)]
+mod program_tests;
+#[cfg(test)]
+mod sleep_tests;
+#[cfg(test)]
+mod workers_tests;
