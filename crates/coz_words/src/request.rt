@@ -12,7 +12,7 @@ ghost use Rattle.coz_words.specs.declared.request.WordsError.TheVariants.{Usage,
 use crate::command::{Command, has_option, option_names};
 use crate::parse::parsed;
 use crate::spelling::command_in;
-use crate::value::{are_lines, number_or, seed_of, speedup_of, speedups_of};
+use crate::value::{are_lines, number_or, seed_of, speedup_of, speedups_of, version_of};
 use crate::word::{Word, copied};
 use clap::ArgMatches;
 use coz_lists::Items;
@@ -29,10 +29,6 @@ const USUAL_WORKERS: u64 = 4;
 const GREATEST_SIZE: u64 = 2000;
 
 const USUAL_SIZE: u64 = 100;
-
-const GREATEST_DWARF: u64 = 5;
-
-const LEAST_DWARF: u64 = 4;
 
 /// What the words ask for. A field that the command lacks is `None`, 0 or empty.
 #[derive(Debug, Drop)]
@@ -137,14 +133,7 @@ fn request_of(alloc: Global, command: Command, matches: &ArgMatches) -> Result<R
         GREATEST_SIZE,
         text_of(command, matches, "size"),
     )?;
-    let dwarf = number_or(
-        command,
-        "dwarf",
-        LEAST_DWARF,
-        LEAST_DWARF,
-        GREATEST_DWARF,
-        text_of(command, matches, "dwarf"),
-    )?;
+    let dwarf = version_of(command, text_of(command, matches, "dwarf"))?;
     let seed = seed_of(command, target)?;
     Ok(Request {
         command,
@@ -159,7 +148,7 @@ fn request_of(alloc: Global, command: Command, matches: &ArgMatches) -> Result<R
         workers: workers as u32,
         seed,
         size: size as u32,
-        dwarf: dwarf as u8,
+        dwarf,
     })
 }
 

@@ -3,7 +3,7 @@ ghost use Rattle.std.specs.Prelude.{◌≡◌, ◌&&◌};
 ghost use Rattle.std.specs.Option.{option_copied};
 ghost use Rattle.experiment_plan.specs.Lists.{is_line, is_list, number_in, pieces};
 ghost use Rattle.coz_words.specs.Answers.{Answers};
-ghost use Rattle.coz_words.specs.Request.{none_or, number_or, numbers_in, seed_in, speedup_in, speedups_in};
+ghost use Rattle.coz_words.specs.Request.{dwarf_name, none_or, number_or, numbers_in, seed_in, speedup_in, speedups_in};
 
 use crate::command::{Command, has_option};
 use crate::request::WordsError;
@@ -13,6 +13,10 @@ use std::alloc::Global;
 
 /// In percent.
 const GREATEST_SPEEDUP: u64 = 95;
+
+const LEAST_VERSION: u8 = 4;
+
+const GREATEST_VERSION: u8 = 5;
 
 /// The speedups, in percent, where the words give none.
 static ALL_SPEEDUPS: [u8; 20] = [
@@ -61,6 +65,29 @@ fn speedup_in(text: &[u8]) -> Result<u8, WordsError>
 {
     match number_in(text, 0, GREATEST_SPEEDUP) {
         Some(speedup) => Ok(speedup as u8),
+        None => Err(WordsError::Usage),
+    }
+}
+
+/// The version of a line table. Where no text is given, it is the least, or 0 where the command lacks the option.
+pub fn version_of(command: Command, text: Option<&str>) -> Result<u8, WordsError>
+    ensures { Answers (number_or command dwarf_name 4 4 5 (option_copied text.entry)) result }
+{
+    match text {
+        Some(number) => version_in(number.as_bytes()),
+        None => Ok(if has_option(command, "dwarf") {
+            LEAST_VERSION
+        } else {
+            0
+        }),
+    }
+}
+
+fn version_in(text: &[u8]) -> Result<u8, WordsError>
+    ensures { Answers (number_in 4 5 text.now) result }
+{
+    match number_in(text, u64::from(LEAST_VERSION), u64::from(GREATEST_VERSION)) {
+        Some(version) => Ok(version as u8),
         None => Err(WordsError::Usage),
     }
 }

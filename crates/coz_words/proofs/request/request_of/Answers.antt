@@ -1,7 +1,7 @@
 use Rattle.std.proofs.Common.{arith}
 use Rattle.coz_words.proofs.Fit.{number_fits}
 use Rattle.std.specs.Option.{option_copied}
-use Rattle.coz_words.specs.Request.{workers_name, size_name, dwarf_name}
+use Rattle.coz_words.specs.Request.{workers_name, size_name}
 use Rattle.coz_words.proofs.request.request_of.Goals as goal
 
 pub overflow_cast-result : goal.overflow_cast-result
@@ -12,9 +12,4 @@ overflow_cast-result c =
 pub overflow_cast-result-2 : goal.overflow_cast-result-2
 overflow_cast-result-2 c =
     let small = (number_fits c.args.command size_name 100 1 2000 (option_copied c.text_of-5.result) c.in_ok-size.size (omega arith) (omega arith) c.in_ok-size.ensures).1 in
-    omega (arith, small)
-
-pub overflow_cast-result-3 : goal.overflow_cast-result-3
-overflow_cast-result-3 c =
-    let small = (number_fits c.args.command dwarf_name 4 4 5 (option_copied c.text_of-6.result) c.in_ok-dwarf.dwarf (omega arith) (omega arith) c.in_ok-dwarf.ensures).1 in
     omega (arith, small)
