@@ -67,6 +67,20 @@ fn machine_text(alloc: Global, machine: &Machine) -> Result<Vec<u8>, AllocError>
     run_text(alloc, record)
 }
 
+/// What is written of a machine's run.
+fn machine_answer<'r>(alloc: Global, machine: &mut Machine) -> Answer<'r>
+    ensures no_read { IsRead result → ⊥ }
+    ensures settled { (IsMemory result → ⊥) → answered result ≡
+        run_verdict (delayed_record (experiment_of machine.old)) }
+{
+    let ending = machine.run();
+    let text = machine_text(alloc, machine)?;
+    Ok(Printed {
+        status: ending_status(ending),
+        text: Text::Bytes(text),
+    })
+}
+
 /// What is written of a program's delayed run.
 pub fn run_answer<'r>(
     alloc: Global,
@@ -82,12 +96,10 @@ pub fn run_answer<'r>(
         run_verdict (delayed_record (experiment image.now (position_at index.now) (point_of points.now) input.now choice)) }
 {
     let mut machine = Machine::new(alloc, image, index, points, input, choice)?;
-    let ending = machine.run();
-    let text = machine_text(alloc, &machine)?;
-    Ok(Printed {
-        status: ending_status(ending),
-        text: Text::Bytes(text),
-    })
+    let answer = machine_answer(alloc, &mut machine);
+    // By one call, since a drop in place is proved part by part.
+    drop(machine);
+    answer
 }
 
 /// What `really` prints of a run that came to this end.
@@ -106,6 +118,20 @@ fn short_text(alloc: Global, short: &Short, ending: Ending) -> Result<Vec<u8>, A
     really_text(alloc, record)
 }
 
+/// What is written of a shortened run.
+fn short_answer<'r>(alloc: Global, short: &mut Short) -> Answer<'r>
+    ensures no_read { IsRead result → ⊥ }
+    ensures settled { (IsMemory result → ⊥) → answered result ≡
+        really_verdict (shortened_record (experiment_of short.old)) }
+{
+    let ending = short.run();
+    let text = short_text(alloc, short, ending)?;
+    Ok(Printed {
+        status: ending_status(ending),
+        text: Text::Bytes(text),
+    })
+}
+
 /// What is written of a program's shortened run.
 pub fn really_answer<'r>(
     alloc: Global,
@@ -121,10 +147,8 @@ pub fn really_answer<'r>(
         really_verdict (shortened_record (experiment image.now (position_at index.now) (point_of points.now) input.now choice)) }
 {
     let mut short = Short::new(alloc, image, index, points, input, choice)?;
-    let ending = short.run();
-    let text = short_text(alloc, &short, ending)?;
-    Ok(Printed {
-        status: ending_status(ending),
-        text: Text::Bytes(text),
-    })
+    let answer = short_answer(alloc, &mut short);
+    // By one call, since a drop in place is proved part by part.
+    drop(short);
+    answer
 }

@@ -1,12 +1,9 @@
 use Rattle.std.proofs.Common.{◌∙◌, ap}
-use Rattle.machines.specs.Records.{net_record_of, shortened_record}
+use Rattle.machines.specs.Records.{shortened_record}
 use Rattle.virtual_run.specs.Seen.{experiment_of}
-use Rattle.coz_cli.proofs.Written.{really_written}
+use Rattle.coz_cli.specs.Verdict.{really_verdict}
 use Rattle.coz_cli.proofs.runs.really_answer.Goals as goal
 
 pub returns-clause-settled : goal.returns-clause-settled
 returns-clause-settled c = λ other.
-    let run = c.run-ending in
-    let made = net_record_of (experiment_of run.new.self) run.new.self.state run.result in
-    really_written c.ending_status.result c.in_ok-text.text.items made _ c.ending_status.ensures c.in_ok-text.ensures
-    (run.ensures.record ∙ ap (λ short. shortened_record (experiment_of short)) c.in_ok-short.ensures)
+    c.short_answer-answer.ensures.settled other ∙ ap (λ short. really_verdict (shortened_record (experiment_of short))) c.in_ok-short.ensures
