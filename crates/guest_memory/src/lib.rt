@@ -8,6 +8,7 @@ mod copies;
 mod find;
 mod lay;
 mod numbers;
+mod pages;
 
 ghost use Rattle.std.specs.Prelude.{ℕ, ◌≡◌, ◌%◌, if◌then◌else◌, length, false, ◌≤◌, ◌+◌, ◌-◌, ◌<◌, ◌^◌, IfOk, MatchOption, MatchResult, IsTrue};
 ghost use Rattle.std.specs.Result.{result_ok};
@@ -18,10 +19,10 @@ ghost use Rattle.guest_memory.specs.Regions.{IsLayout, IsKnown, usual, page_of};
 ghost use Rattle.std.specs.List.{Contains};
 ghost use Rattle.coz_types.specs.Image.{IsAreaOf};
 
-use crate::copies::copy_touched;
 use crate::find::{find, find_from, pick};
 use crate::lay::lay;
 use crate::numbers::{number_of, put_number, zero_from};
+use crate::pages::Pages;
 use coz_types::{Address, Area, Image, Rights};
 use std::alloc::{AllocError, Global};
 use std::marker::Model;
@@ -103,7 +104,7 @@ pub struct Memory<'a> {
     spans: Vec<Span>,
     /// The place of the span that the entry is in, where a fetch looks first.
     code: usize,
-    pages: Vec<Page>,
+    pages: Pages,
     bytes: Vec<u8>,
 }
 
@@ -114,9 +115,9 @@ impl<'a> Model for Memory<'a> {
 
     ghost Value = { MemoryMap };
 
-    ghost view = { λ m. shown m.image.now m.layout m.spans.items m.pages.items m.bytes.items };
+    ghost view = { λ m. shown m.image.now m.layout m.spans.items m.pages.each.items m.bytes.items };
 
-    ghost invariant = { λ m. IsMemory m.image.now m.layout m.spans.items m.pages.items m.bytes.items × (m.code < length m.spans.items) };
+    ghost invariant = { λ m. IsMemory m.image.now m.layout m.spans.items m.pages.each.items m.bytes.items × (m.code < length m.spans.items) };
 }
 
 fn has(rights: Rights, right: Right) -> bool
@@ -170,9 +171,7 @@ impl<'a> Memory<'a> {
         requires { self.old ≡ first_memory self.old.image self.old.layout }
         ensures { self.new ≡ self.old }
     {
-        for page in self.pages.iter_mut() {
-            page.touched = false;
-        }
+        self.pages.forget_touched();
     }
 
     /// Gives a load area its rights, and its bytes of the file.
@@ -231,7 +230,7 @@ impl<'a> Memory<'a> {
         match find(&self.spans, page) {
             None => unreachable!(),
             Some(index) => {
-                self.pages[index].touched = true;
+                self.pages.touch(index);
                 zero_from(&mut self.bytes, index * 4096);
             }
         }
@@ -261,7 +260,7 @@ impl<'a> Memory<'a> {
         match find(&self.spans, address / PAGE) {
             None => unreachable!(),
             Some(index) => {
-                self.pages[index].touched = true;
+                self.pages.touch(index);
                 let place = index * 4096 + (address % PAGE) as usize;
                 self.bytes[place..place + bytes.len()].copy_from_slice(bytes);
             }
@@ -275,7 +274,8 @@ impl<'a> Memory<'a> {
         requires layout { self.old.layout ≡ other.now.layout }
         ensures { self.new ≡ other.now }
     {
-        copy_touched(&mut self.pages, &mut self.bytes, &other.pages, &other.bytes);
+        self.pages
+            .copy_from(&mut self.bytes, &other.pages, &other.bytes);
     }
 
     /// The pages of an image and a layout, zeros with no rights, all of them touched: none is as in a first memory yet.
@@ -310,12 +310,8 @@ impl<'a> Memory<'a> {
             at: 0,
         })?;
         let (spans, total) = lay(alloc, &wanted)?;
-        let code = pick(&spans, image.entry() / PAGE);
-        let page = Page {
-            rights: NO_RIGHTS,
-            touched: true,
-        };
-        let pages = vec![in alloc; page; total]?;
+        let code = pick(&spans, image.entry() / PAGE).unwrap_or(0);
+        let pages = Pages::new(alloc, total)?;
         let bytes = vec![in alloc; 0u8; total * 4096]?;
         Ok(Memory {
             image,
@@ -343,7 +339,7 @@ impl<'a> Memory<'a> {
         match find(&self.spans, address / PAGE) {
             None => Err(Access),
             Some(index) => {
-                if !self.pages[index].rights.read {
+                if !self.pages.each[index].rights.read {
                     return Err(Access);
                 }
                 let within = (address % PAGE) as usize;
@@ -375,7 +371,7 @@ impl<'a> Memory<'a> {
         match find_from(&self.spans, self.code, address / PAGE) {
             None => Err(Access),
             Some(index) => {
-                if !self.pages[index].rights.execute {
+                if !self.pages.each[index].rights.execute {
                     return Err(Access);
                 }
                 let within = (address % PAGE) as usize;
@@ -460,7 +456,7 @@ impl<'a> Memory<'a> {
     {
         match find(&self.spans, page) {
             None => NO_RIGHTS,
-            Some(index) => self.pages[index].rights,
+            Some(index) => self.pages.each[index].rights,
         }
     }
 
@@ -483,23 +479,25 @@ impl<'a> Memory<'a> {
         match find(&self.spans, address / PAGE) {
             None => Err(Access),
             Some(index) => {
-                if !self.pages[index].rights.write {
-                    return Err(Access);
+                // One test for what most stores find: a page that may be written and was before.
+                let page = self.pages.each[index];
+                if !(page.rights.write & page.touched) {
+                    return self.store_by_bytes(address, size, value);
                 }
                 let within = (address % PAGE) as usize;
                 if within + size as usize <= 4096 {
-                    self.pages[index].touched = true;
                     put_number(&mut self.bytes, index * 4096 + within, size, value);
                     Ok(())
                 } else {
-                    self.store_across(address, size, value)
+                    self.store_by_bytes(address, size, value)
                 }
             }
         }
     }
 
+    /// The same, byte by byte: also across pages, and for a page's first store.
     #[inline(never)]
-    fn store_across(&mut self, address: Address, size: u8, value: u64) -> Result<(), Access>
+    fn store_by_bytes(&mut self, address: Address, size: u8, value: u64) -> Result<(), Access>
         requires { IsSize size }
         ensures { MatchResult result (λ _. Some self.new ≡ store address size value self.old)
             (λ _. (None ≡ store address size value self.old) × (self.new ≡ self.old)) }
@@ -523,7 +521,7 @@ impl<'a> Memory<'a> {
         match find(&self.spans, address / PAGE) {
             None => unreachable!(),
             Some(index) => {
-                self.pages[index].touched = true;
+                self.pages.touch(index);
                 self.bytes[index * 4096 + (address % PAGE) as usize] = byte;
             }
         }
@@ -581,12 +579,7 @@ impl<'a> Memory<'a> {
     {
         match find(&self.spans, page) {
             None => unreachable!(),
-            Some(index) => {
-                self.pages[index] = Page {
-                    rights,
-                    touched: true,
-                };
-            }
+            Some(index) => self.pages.give(index, rights),
         }
     }
 }

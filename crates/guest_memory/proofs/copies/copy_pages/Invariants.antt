@@ -1,0 +1,5 @@
+use Rattle.guest_memory.specs.Copies.{AreCopiedOn}
+use Rattle.guest_memory.proofs.copies.copy_pages.Given as goal
+
+abbrev pub invariant-loop-index : goal.invariant-loop-index
+invariant-loop-index l = AreCopiedOn l.start l.index l.others l.from l.initial.pages l.initial.bytes l.pages l.bytes

@@ -1,0 +1,81 @@
+//! The pages of a memory, and which of them were touched.
+ghost use Rattle.std.specs.Prelude.{◌≡◌, ◌*◌, ◌<◌, length, get_or, set, replicate, IfOk};
+ghost use Rattle.guest_memory.specs.Copies.{AreCopied};
+ghost use Rattle.guest_memory.specs.Marks.{AreMarked, touched_with, rights_of};
+ghost use Rattle.guest_memory.specs.Memory.{no_rights};
+ghost use Rattle.guest_memory.specs.declared.Page.{Page};
+
+use crate::copies::copy_touched;
+use crate::{NO_RIGHTS, Page};
+use coz_types::Rights;
+use std::alloc::{AllocError, Global};
+
+/// The pages that share a mark.
+pub const CHUNK: usize = 64;
+
+/// The pages of a memory, with a mark for each chunk of them that has a touched page: a copy looks at no others.
+#[derive(Drop)]
+pub struct Pages {
+    pub each: Vec<Page>,
+    pub marks: Vec<bool>,
+    ghost marked: { AreMarked each.items marks.items },
+}
+
+impl Pages {
+    /// So many pages with no rights, all of them touched.
+    pub fn new(alloc: Global, total: usize) -> Result<Pages, AllocError>
+        ensures { IfOk result (λ pages. pages.each.items ≡ replicate total (touched_with no_rights)) }
+    {
+        let page = Page {
+            rights: NO_RIGHTS,
+            touched: true,
+        };
+        let each = vec![in alloc; page; total]?;
+        let marks = vec![in alloc; true; total / CHUNK + 1]?;
+        Ok(Pages { each, marks })
+    }
+
+    /// Makes a page a touched one.
+    pub fn touch(&mut self, index: usize)
+        requires { index < length self.old.each.items }
+        ensures { (d : Page) → self.new.each.items ≡ set self.old.each.items index (touched_with (get_or self.old.each.items index d).rights) }
+    {
+        if !self.each[index].touched {
+            self.each[index].touched = true;
+            self.marks[index / CHUNK] = true;
+        }
+    }
+
+    /// Gives a page its rights.
+    pub fn give(&mut self, index: usize, rights: Rights)
+        requires { index < length self.old.each.items }
+        ensures { self.new.each.items ≡ set self.old.each.items index (touched_with rights) }
+    {
+        self.each[index] = Page {
+            rights,
+            touched: true,
+        };
+        self.marks[index / CHUNK] = true;
+    }
+
+    /// From now on no page is a touched one.
+    pub fn forget_touched(&mut self)
+        ensures { rights_of self.new.each.items ≡ rights_of self.old.each.items }
+    {
+        for page in self.each.iter_mut() {
+            page.touched = false;
+        }
+        self.marks.fill(false);
+    }
+
+    /// Copies each page that either has touched, with its bytes.
+    pub fn copy_from(&mut self, bytes: &mut [u8], other: &Pages, from: &[u8])
+        requires same_pages { length other.now.each.items ≡ length self.old.each.items }
+        requires same_bytes { length from.now ≡ length bytes.old }
+        requires each_byte { length bytes.old ≡ 4096 * length self.old.each.items }
+        ensures { AreCopied (length self.old.each.items) self.old.each.items other.now.each.items self.new.each.items bytes.old from.now bytes.new }
+    {
+        copy_touched(&mut self.each, bytes, &self.marks, other, from);
+        self.marks.copy_from_slice(&other.marks);
+    }
+}
