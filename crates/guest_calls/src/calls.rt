@@ -50,6 +50,7 @@ fn is_mapping(flags: u64) -> bool
 
 impl<'a> Guest<'a> {
     /// Retires the `ecall` at the pc of a running hart, at a net time.
+    #[inline(never)]
     pub fn call(&mut self, hart: HartId, net: Tick, started: &mut HartList) -> Fate
         requires running { IsTrue (is_running self.old hart.0) }
         requires started { started.old ≡ [] }

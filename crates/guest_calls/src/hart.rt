@@ -51,6 +51,7 @@ impl Hart {
         matches!(self.status, HartStatus::Gone)
     }
 
+    #[inline]
     pub fn is_sleeping(&self) -> bool
         ensures { result ≡ is_sleeping_status self.now.status }
     {

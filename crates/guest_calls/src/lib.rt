@@ -108,6 +108,7 @@ impl<'a> Guest<'a> {
     }
 
     /// The cycles of that instruction, which are 1 for none.
+    #[inline(always)]
     pub fn next_cycles(&self, hart: HartId) -> u64
         requires { IsMade self.now hart.0 }
         ensures cycles { result ≡ cycles_of (next_of self.now hart.0) }
@@ -120,6 +121,7 @@ impl<'a> Guest<'a> {
     }
 
     /// The address of that instruction.
+    #[inline]
     pub fn pc(&self, hart: HartId) -> Address
         requires { IsMade self.now hart.0 }
         ensures { result ≡ pc_of self.now hart.0 }
@@ -144,6 +146,7 @@ impl<'a> Guest<'a> {
 
     /// Retires the next instruction of a running hart, at a net time. `started` gets the harts that it makes or wakes,
     /// in order.
+    #[inline(always)]
     pub fn retire(&mut self, hart: HartId, net: Tick, started: &mut HartList) -> Fate
         requires running { IsTrue (is_running self.old hart.0) }
         requires started { started.old ≡ [] }
@@ -167,6 +170,7 @@ impl<'a> Guest<'a> {
     }
 
     /// Whether a hart that was made sleeps.
+    #[inline]
     pub fn is_sleeping(&self, hart: HartId) -> bool
         requires { IsMade self.now hart.0 }
         ensures { result ≡ is_sleeping self.now hart.0 }
@@ -192,6 +196,7 @@ impl<'a> Guest<'a> {
         self.output.copy_from(&other.output);
     }
 
+    #[inline]
     fn hart(&self, hart: HartId) -> &Hart
         requires { IsMade self.now hart.0 }
         ensures { result.now ≡ hart_at self.now hart.0 }
@@ -200,6 +205,7 @@ impl<'a> Guest<'a> {
     }
 
     /// Executes a hart's next instruction.
+    #[inline(never)]
     fn step(&mut self, hart: HartId) -> Step
         requires { IsMade self.old hart.0 }
         ensures { stepped self.new result ≡ step self.old hart.0 }
@@ -215,6 +221,7 @@ impl<'a> Guest<'a> {
     }
 
     /// The word at a hart's pc.
+    #[inline(always)]
     fn word(&self, hart: HartId) -> Result<u32, Access>
         requires { IsMade self.now hart.0 }
         ensures { result_ok result ≡ word_at self.now hart.0 }

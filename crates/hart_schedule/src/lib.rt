@@ -6,8 +6,9 @@ mod heap;
 ghost use Rattle.std.specs.Prelude.{◌≡◌, ◌<◌, ◌≤◌, length, replicate, IfOk, MatchOption};
 ghost use Rattle.hart_schedule.specs.Keys.{key_of, with_key, without_key, IsEmpty, IsLeast};
 
-use crate::heap::{Contender, refill, rise};
+use crate::heap::{refill, rise};
 use coz_types::{HartId, Tick};
+pub use heap::Contender;
 use std::alloc::{AllocError, Global};
 use std::marker::Model;
 
@@ -72,6 +73,7 @@ impl Schedule {
     }
 
     /// The hart with the least key, among equal keys the least-numbered one; None exactly where the schedule is empty.
+    #[inline]
     pub fn least(&self) -> Option<HartId>
         ensures { MatchOption result (IsEmpty self.now) (λ hart. IsLeast self.now hart.0) }
     {
@@ -79,6 +81,18 @@ impl Schedule {
             None
         } else {
             Some(self.entries[1].hart)
+        }
+    }
+
+    /// The same hart, with its key.
+    #[inline]
+    pub fn first(&self) -> Option<Contender>
+        ensures { MatchOption result (IsEmpty self.now) (λ first. IsLeast self.now first.hart.0 × (key_of self.now first.hart.0 ≡ Some first.key)) }
+    {
+        if self.count == 0 {
+            None
+        } else {
+            Some(self.entries[1])
         }
     }
 
@@ -102,6 +116,7 @@ impl Schedule {
     }
 
     /// Gives a hart a key in place of the one that it has, if it has one: what `take` and then `put` would leave, by one walk.
+    #[inline(always)]
     pub fn rekey(&mut self, hart: HartId, key: Tick)
         requires below { hart.0 < length self.old }
         ensures { self.new ≡ with_key hart.0 key (without_key hart.0 self.old) }
@@ -123,6 +138,7 @@ impl Schedule {
     }
 
     /// A hart's key; None exactly where it isn't in the schedule.
+    #[inline]
     pub fn key(&self, hart: HartId) -> Option<Tick>
         ensures { result ≡ key_of self.now hart.0 }
     {

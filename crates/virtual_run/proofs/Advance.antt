@@ -1,5 +1,5 @@
 -- One move of the engine, from its calls.
-use Rattle.std.proofs.Common.{◌≡◌, ℕ, ◌+◌, ◌^◌, ◌≤◌, ◌<◌, false, List, [], ◌∷◌, ◌++◌, length, nat_le, true, Option, Some, None, IsSome, refl, ap, subst, sym, ◌∙◌, arith}
+use Rattle.std.proofs.Common.{◌≡◌, ℕ, ◌+◌, ◌^◌, ◌≤◌, ◌<◌, false, List, [], ◌∷◌, ◌++◌, length, nat_le, true, Option, Some, None, IsSome, is_some, refl, ap, subst, sym, ◌∙◌, arith}
 use Rattle.std.proofs.lemmas.Bool.Decides.{nat_tests}
 use Rattle.std.proofs.lemmas.List.{length-set}
 use Rattle.coz_types.specs.declared.ending.Ending.{Ending}
@@ -16,7 +16,7 @@ use Rattle.virtual_run.specs.Visits.{Visits, visits_of}
 use Rattle.virtual_run.specs.Begin.{started_by, rested, many, AreIdle, AreBegun}
 use Rattle.virtual_run.specs.Ending.{ending_of, runs_after}
 use Rattle.virtual_run.specs.Run.{selects, selected_of, ticks_in, events_of, AreWithin, IsSteady}
-use Rattle.virtual_run.specs.Advance.{IsRetired, IsWoken}
+use Rattle.virtual_run.specs.Advance.{told_in, IsRetired, IsSettled, IsWoken}
 use Rattle.virtual_run.proofs.Keys.{has_place, rested_length}
 use Rattle.virtual_run.proofs.Many.{many_with, many_without}
 use Rattle.virtual_run.proofs.Begin.{ticks_few, within_begun, within_left, within_later, many_rested, woken_begun, one_at_most}
@@ -39,7 +39,7 @@ pub record IsLeft (setting : Setting) (run : Run) (left : Keys) (h due delay : �
 below_limit : (limit count : ℕ) → nat_le limit count ≡ false → count < limit
 below_limit limit count e = grind (arith, nat_tests)
 
-not_some : (e : Option Ending) → e ≡ None → IsSome e → ⊥
+pub not_some : (e : Option Ending) → e ≡ None → IsSome e → ⊥
 not_some None is some = let no : false ≡ true = some in let never : ⊥ = cc in never
 not_some (Some a) is some = let no : ⊥ = cc in no
 
@@ -138,6 +138,23 @@ module _ (setting : Setting) (run : Run) (left : Keys) (h due delay : ℕ) (afte
         omega (arith, less, before);
     within = λ moment more within. within_later moment (moment + 4000) left (omega arith) (soon_left moment more within);
   }
+
+-- a retirement, from what its calls leave and what it then ends or begins
+pub settled : (setting : Setting) (run : Run) (h due delay : ℕ) (after : Guest) (fate : Fate) (others chosen : List ℕ) (now : Visits) (address : ℕ) (new : Run) → setting.choice.speedup ≤ 95 → chosen ≡ []
+    → ((e : Option Ending) → e ≡ told_in setting fate (run_of due after run.schedule others chosen now (run.retired + 1) run.wakes run.starts run.ending) (rested h fate run.schedule) → IsLeft setting run (rested h fate run.schedule) h due delay after fate others now address e)
+    → IsSettled setting (run_of due after run.schedule others chosen now (run.retired + 1) run.wakes run.starts run.ending) h fate new → IsRetired setting run h fate delay new
+settled setting run h due delay after fate others chosen now address new small empty left s = go new.ending refl
+  where
+    go : (e : Option Ending) → new.ending ≡ e → IsRetired setting run h fate delay new
+    go None is =
+        let none : told_in setting fate (run_of due after run.schedule others chosen now (run.retired + 1) run.wakes run.starts run.ending) (rested h fate run.schedule) ≡ None = sym s.ending ∙ is in
+        let goes = (left _ refl).steady.goes in
+        let b = s.begun is in
+        subst (λ (run' : Run). IsRetired setting run h fate delay run') (sym b.rest)
+        (advance_goes setting run (rested h fate run.schedule) h due delay after fate others now address run.ending (left run.ending (goes ∙ sym none)) new.schedule new.selected new.starts goes small b.begun b.selected b.room b.starts b.few)
+    go (Some a) is =
+        subst (λ (run' : Run). IsRetired setting run h fate delay run') (sym (s.ended (ap is_some is)))
+        (advance_ended setting run (rested h fate run.schedule) h due delay after fate others now address new.ending (left new.ending s.ending) a chosen is empty)
 
 -- a sleeping hart wakes, and begins
 pub advance_woken : (setting : Setting) (run : Run) (h due : ℕ) (keys : Keys) (selected : List ℕ) (starts : ℕ) → IsSteady run → setting.choice.speedup ≤ 95 → key_of run.schedule h ≡ Some due → IsLeast run.schedule h → is_sleeping run.guest h ≡ true

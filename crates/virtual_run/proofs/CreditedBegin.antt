@@ -1,5 +1,5 @@
 -- The credits after a retirement from which the run goes on.
-use Rattle.std.proofs.Common.{◌≡◌, ℕ, zero, suc, ◌<◌, ◌==◌, eqb-true, Bool, true, false, if◌then◌else◌, List, [], ◌∷◌, length, refl, ap, subst, ◌∙◌, Option}
+use Rattle.std.proofs.Common.{◌≡◌, ℕ, zero, suc, ◌+◌, ◌<◌, ◌==◌, eqb-true, Bool, true, false, if◌then◌else◌, List, [], ◌∷◌, length, refl, ap, subst, ◌∙◌, Option}
 use Rattle.machines.specs.declared.Fate.{Fate}
 use Rattle.machines.specs.declared.Fate.TheVariants.{Goes, Waits, Leaves, Sleeps, Ends}
 use Rattle.machines.specs.Guest.{goes_on, sleeps}
@@ -14,7 +14,7 @@ use Rattle.virtual_run.specs.declared.run.Turn.{Turn}
 use Rattle.virtual_run.specs.declared.run.Retired.{Retired as RetiredHart}
 use Rattle.virtual_run.specs.declared.run.Run.{Run}
 use Rattle.virtual_run.specs.Begin.{started_by}
-use Rattle.virtual_run.specs.Credited.{with_credits, with_starts, with_rest, with_begun, AllBelow, AllRun, CanBegin, CanWake, CanSettle, CanFollow, IsAlone}
+use Rattle.virtual_run.specs.Credited.{with_credits, with_starts, with_rest, with_begun, moment_of, AllBelow, AllRun, CanBegin, CanWake, CanSettle, CanFollow, IsAlone}
 use Rattle.virtual_run.proofs.CreditedLists.{among_first, among_rest, credits_length, raises_length, starts_run}
 
 -- the retiring hart, if it goes on, and then the others
@@ -97,8 +97,8 @@ none-any [] e = refl
 none-any (h ∷ hs) e = absurd (let no : true ≡ false = e in cc)
 
 -- what follows an event, by the event
-pub can_wake : (event : Event) (turn : Turn) (c : Delays) (run : Run) (now : ℕ) → event ≡ Woke turn → CanFollow event c run now → CanWake c run turn.hart.0 now
-can_wake event turn c run now is can = subst (λ (e : Event). CanFollow e c run now) is can
+pub can_wake : (event : Event) (turn : Turn) (c : Delays) (run : Run) (raised : ℕ) → event ≡ Woke turn → CanFollow event c run (moment_of event run + raised) → CanWake c run turn.hart.0 (turn.due + raised)
+can_wake event turn c run raised is can = subst (λ (e : Event). CanFollow e c run (moment_of e run + raised)) is can
 
-pub can_settle : (event : Event) (retired : RetiredHart) (c : Delays) (run : Run) (now : ℕ) → event ≡ Retired retired → CanFollow event c run now → CanSettle c run retired.hart.0 retired.fate now
-can_settle event retired c run now is can = subst (λ (e : Event). CanFollow e c run now) is can
+pub can_settle : (event : Event) (retired : RetiredHart) (c : Delays) (run : Run) (raised : ℕ) → event ≡ Retired retired → CanFollow event c run (moment_of event run + raised) → CanSettle c run retired.hart.0 retired.fate (run.time + raised)
+can_settle event retired c run raised is can = subst (λ (e : Event). CanFollow e c run (moment_of e run + raised)) is can

@@ -1,6 +1,7 @@
 -- One move of the engine of both machines.
 use Rattle.std.specs.Prelude.{◌≡◌, ℕ, ◌+◌, ◌^◌, ◌≤◌, ◌<◌, ◌++◌, Bool, true, false, List, [], ◌∷◌, length, nat_le, Option, Some, None, IsSome}
-use Rattle.hart_schedule.specs.Keys.{key_of, IsLeast}
+use Rattle.coz_types.specs.declared.ending.Ending.{Ending}
+use Rattle.hart_schedule.specs.Keys.{Keys, key_of, IsLeast}
 use Rattle.machines.specs.declared.Fate.{Fate}
 use Rattle.machines.specs.Shortened.{move}
 use Rattle.progress_points.specs.Points.{point_of}
@@ -11,9 +12,9 @@ use Rattle.virtual_run.specs.declared.choice.Setting.{Setting}
 use Rattle.virtual_run.specs.declared.run.Event.{Event}
 use Rattle.virtual_run.specs.declared.run.Event.TheVariants.{Woke, Retired}
 use Rattle.virtual_run.specs.declared.run.Run.{Run}
-use Rattle.virtual_run.specs.Begin.{started_by, rested, many}
+use Rattle.virtual_run.specs.Begin.{started_by, rested, many, AreBegun}
 use Rattle.virtual_run.specs.Ending.{ending_of, runs_after}
-use Rattle.virtual_run.specs.Run.{experiment_in, selected_of, events_of, state_of, AreDues, AreWithin, IsStateOf}
+use Rattle.virtual_run.specs.Run.{experiment_in, selected_of, ticks_in, events_of, state_of, AreDues, AreWithin, IsStateOf}
 use Rattle.virtual_run.specs.Visits.{visits_of}
 
 -- in a setting this run becomes that one as a hart retires to this fate, where a visit is kept with this delay
@@ -40,6 +41,30 @@ pub record IsRetired (setting : Setting) (run : Run) (hart : ℕ) (fate : Fate) 
   pub few : new.starts ≤ events_of new + many new.schedule
   -- no wake is later than at 10^16
   pub within : (moment : ℕ) → 10 ^ 16 ≤ moment → AreWithin moment run.schedule → AreWithin (moment + 4000) new.schedule
+
+-- how this run ends with a retirement to this fate, where those are the keys of the harts that stay in the schedule
+abbrev pub told_in : Setting → Fate → Run → Keys → Option Ending
+told_in setting fate run keys =
+    ending_of fate
+    (nat_le setting.choice.output_limit (length run.guest.output))
+    (nat_le setting.choice.visit_limit (length run.visits.kept))
+    (runs_after fate run.started keys)
+    run.retired setting.choice.budget
+
+-- what a retirement to this fate started has begun, at its moment
+pub record HasBegun (setting : Setting) (run : Run) (hart : ℕ) (fate : Fate) (new : Run) : Type 0 where
+  pub begun : AreBegun (ticks_in setting run.guest) run.time (started_by hart fate run.started) (rested hart fate run.schedule) new.schedule
+  pub selected : new.selected ≡ selected_of setting run.guest (started_by hart fate run.started)
+  pub room : length new.schedule ≡ 256
+  pub starts : new.starts ≡ run.starts + length new.selected
+  pub few : length new.selected + many (rested hart fate run.schedule) ≤ many new.schedule
+  pub rest : new ≡ record run { schedule = new.schedule; selected = new.selected; starts = new.starts }
+
+-- a run whose guest, visits and counts are those after a retirement to this fate becomes that one: it ends, or what was started begins
+pub record IsSettled (setting : Setting) (run : Run) (hart : ℕ) (fate : Fate) (new : Run) : Type 0 where
+  pub ending : new.ending ≡ told_in setting fate run (rested hart fate run.schedule)
+  pub ended : IsSome new.ending → new ≡ record run { schedule = rested hart fate run.schedule; ending = new.ending }
+  pub begun : new.ending ≡ None → HasBegun setting run hart fate new
 
 -- it becomes that one as a sleeping hart wakes at this moment, and its next instruction begins
 pub record IsWoken (setting : Setting) (run : Run) (hart moment : ℕ) (new : Run) : Type 0 where

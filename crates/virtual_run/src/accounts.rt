@@ -59,6 +59,7 @@ pub fn raised_by(guest: &Guest, hart: HartId, speedup: u8) -> Tick
 }
 
 /// These harts raise the delay in turn at the latest moment, each by its next instruction.
+#[inline(never)]
 pub fn raise_each(credits: &mut Credits, guest: &Guest, harts: &[HartId], speedup: u8, now: Tick)
     requires run { AllRun credits.old (map (λ hart. hart.0) harts.now) }
     requires made { AllMade guest.now (map (λ hart. hart.0) harts.now) }
@@ -87,6 +88,7 @@ pub fn raise_selected(credits: &mut Credits, run: &Run, speedup: u8, now: Tick)
 
 /// What follows a retirement from which the run goes on: the harts that it made or woke are credited, all that it started
 /// run, and only then those of them that are selected raise the delay in turn.
+#[inline(never)]
 fn begin_started(credits: &mut Credits, run: &Run, retired: Retired, speedup: u8, now: Tick)
     requires can { CanBegin credits.old run.now.guest retired.hart.0 retired.fate run.now.started run.now.selected }
     requires speedup { speedup ≤ 95 }
@@ -99,27 +101,26 @@ fn begin_started(credits: &mut Credits, run: &Run, retired: Retired, speedup: u8
     raise_each(credits, &run.guest, run.selected.harts(), speedup, now);
 }
 
-/// Whether a retirement leaves the hart that retired to go on, and starts no other.
-fn is_alone(run: &Run, fate: Fate) -> bool
-    ensures { IsTrue result → IsAlone run.now.ending fate run.now.started }
+/// Whether a run goes on after a retirement that started no hart.
+#[inline(always)]
+fn is_alone(run: &Run) -> bool
+    ensures { IsTrue result → IsAlone run.now.ending Fate.Goes run.now.started }
 {
-    match fate {
-        Fate::Goes => run.ending.is_none() && run.started.harts().is_empty(),
-        _ => false,
-    }
+    run.ending.is_none() && run.started.harts().is_empty()
 }
 
 /// The hart that retired goes on, and nothing else begins: it still runs, and raises the delay if it is selected.
-fn go_on(credits: &mut Credits, run: &Run, retired: Retired, speedup: u8, now: Tick)
-    requires alone { IsAlone run.now.ending retired.fate run.now.started }
-    requires below { retired.hart.0 < length credits.old.harts }
+#[inline(always)]
+fn go_on(credits: &mut Credits, run: &Run, hart: HartId, speedup: u8, now: Tick)
+    requires alone { IsAlone run.now.ending Fate.Goes run.now.started }
+    requires below { hart.0 < length credits.old.harts }
     requires later { credits.old.latest ≤ now }
-    requires can { CanBegin (with_rest retired.hart.0 retired.fate now credits.old) run.now.guest retired.hart.0 retired.fate run.now.started run.now.selected }
+    requires can { CanBegin (with_rest hart.0 Fate.Goes now credits.old) run.now.guest hart.0 Fate.Goes run.now.started run.now.selected }
     requires speedup { speedup ≤ 95 }
-    ensures { credits.new ≡ with_begun (raise_ticks run.now.guest speedup) retired.hart.0 retired.fate run.now.started run.now.selected
-        (with_rest retired.hart.0 retired.fate now credits.old) }
+    ensures { credits.new ≡ with_begun (raise_ticks run.now.guest speedup) hart.0 Fate.Goes run.now.started run.now.selected
+        (with_rest hart.0 Fate.Goes now credits.old) }
 {
-    credits.start(retired.hart, now);
+    credits.start(hart, now);
     if has_any(&run.selected) {
         let raisers = run.selected.harts();
         raise_each(credits, &run.guest, raisers, speedup, now);
@@ -127,6 +128,7 @@ fn go_on(credits: &mut Credits, run: &Run, retired: Retired, speedup: u8, now: T
 }
 
 /// The hart that retired stops at a moment. One that sleeps counts as one that runs, so it starts again at once.
+#[inline(never)]
 fn rest(credits: &mut Credits, hart: HartId, fate: Fate, now: Tick)
     requires below { hart.0 < length credits.old.harts }
     requires later { credits.old.latest ≤ now }
@@ -142,6 +144,7 @@ fn rest(credits: &mut Credits, hart: HartId, fate: Fate, now: Tick)
 
 /// What a wake makes of the accounts and pauses: the hart starts again at its moment, and raises the delay if it is
 /// selected.
+#[inline(never)]
 fn wake_up(credits: &mut Credits, run: &Run, hart: HartId, speedup: u8, now: Tick)
     requires below { hart.0 < length credits.old.harts }
     requires later { credits.old.latest ≤ now }
@@ -157,6 +160,7 @@ fn wake_up(credits: &mut Credits, run: &Run, hart: HartId, speedup: u8, now: Tic
 
 /// What a retirement at a moment and the starts after it make of the accounts and pauses: the hart stops, and where the run
 /// goes on what it started begins.
+#[inline(never)]
 fn settle(credits: &mut Credits, run: &Run, retired: Retired, speedup: u8, now: Tick)
     requires below { retired.hart.0 < length credits.old.harts }
     requires later { credits.old.latest ≤ now }
@@ -168,34 +172,82 @@ fn settle(credits: &mut Credits, run: &Run, retired: Retired, speedup: u8, now: 
     ensures { credits.new ≡ settled_by run.now.ending (raise_ticks run.now.guest speedup) retired.hart.0 retired.fate run.now.started run.now.selected
         (with_rest retired.hart.0 retired.fate now credits.old) }
 {
-    if is_alone(run, retired.fate) {
-        go_on(credits, run, retired, speedup, now);
-        return;
-    }
     rest(credits, retired.hart, retired.fate, now);
     if run.ending.is_none() {
         begin_started(credits, run, retired, speedup, now);
     }
 }
 
-/// The net moment of an event.
-pub fn moment_of(event: Event, run: &Run) -> Tick
-    ensures { result ≡ moment_of event run.now }
+/// The same for a hart that goes on.
+#[inline(never)]
+fn settle_going(credits: &mut Credits, run: &Run, hart: HartId, speedup: u8, now: Tick)
+    requires below { hart.0 < length credits.old.harts }
+    requires later { credits.old.latest ≤ now }
+    requires running { IsTrue (is_running (hart_at credits.old hart.0)) }
+    requires unpaused { pause_of (hart_at (at now credits.old) hart.0) ≡ 0 }
+    requires can { run.now.ending ≡ None →
+        CanBegin (with_rest hart.0 Fate.Goes now credits.old) run.now.guest hart.0 Fate.Goes run.now.started run.now.selected }
+    requires speedup { speedup ≤ 95 }
+    ensures { credits.new ≡ settled_by run.now.ending (raise_ticks run.now.guest speedup) hart.0 Fate.Goes run.now.started run.now.selected
+        (with_rest hart.0 Fate.Goes now credits.old) }
 {
-    match event {
-        Event::Woke(turn) => turn.due,
-        Event::Retired(_) => run.time,
+    let retired = Retired {
+        hart,
+        fate: Fate::Goes,
+    };
+    settle(credits, run, retired, speedup, now);
+}
+
+/// The same, with a shorter way where nothing else begins, as after most retirements.
+#[inline(always)]
+fn settle_plain(credits: &mut Credits, run: &Run, hart: HartId, speedup: u8, now: Tick)
+    requires below { hart.0 < length credits.old.harts }
+    requires later { credits.old.latest ≤ now }
+    requires running { IsTrue (is_running (hart_at credits.old hart.0)) }
+    requires unpaused { pause_of (hart_at (at now credits.old) hart.0) ≡ 0 }
+    requires can { run.now.ending ≡ None →
+        CanBegin (with_rest hart.0 Fate.Goes now credits.old) run.now.guest hart.0 Fate.Goes run.now.started run.now.selected }
+    requires speedup { speedup ≤ 95 }
+    ensures { credits.new ≡ settled_by run.now.ending (raise_ticks run.now.guest speedup) hart.0 Fate.Goes run.now.started run.now.selected
+        (with_rest hart.0 Fate.Goes now credits.old) }
+{
+    if is_alone(run) {
+        go_on(credits, run, hart, speedup, now);
+    } else {
+        settle_going(credits, run, hart, speedup, now);
     }
 }
 
-/// What an event and the starts after it make of the accounts and pauses.
-pub fn follow(credits: &mut Credits, run: &Run, event: Event, speedup: u8, now: Tick)
-    requires can { CanFollow event credits.old run.now now }
+/// What an event and the starts after it make of the accounts and pauses, where so much was raised before it. Gives its real
+/// moment.
+#[inline(always)]
+pub fn follow(credits: &mut Credits, run: &Run, event: Event, speedup: u8, raised: Tick) -> Tick
+    requires can { CanFollow event credits.old run.now (moment_of event run.now + raised) }
+    requires few { moment_of event run.now + raised ≤ 10 ^ 17 }
     requires speedup { speedup ≤ 95 }
-    ensures { credits.new ≡ credited_by event run.now (raise_ticks run.now.guest speedup) now credits.old }
+    ensures moment { result ≡ moment_of event run.now + raised }
+    ensures credits { credits.new ≡ credited_by event run.now (raise_ticks run.now.guest speedup) (moment_of event run.now + raised) credits.old }
 {
     match event {
-        Event::Woke(turn) => wake_up(credits, run, turn.hart, speedup, now),
-        Event::Retired(retired) => settle(credits, run, retired, speedup, now),
+        Event::Retired(
+            Retired {
+                hart,
+                fate: Fate::Goes,
+            },
+        ) => {
+            let now = run.time + raised;
+            settle_plain(credits, run, hart, speedup, now);
+            now
+        }
+        Event::Retired(retired) => {
+            let now = run.time + raised;
+            settle(credits, run, retired, speedup, now);
+            now
+        }
+        Event::Woke(turn) => {
+            let now = turn.due + raised;
+            wake_up(credits, run, turn.hart, speedup, now);
+            now
+        }
     }
 }

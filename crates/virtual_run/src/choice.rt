@@ -34,6 +34,7 @@ pub struct Setting<'a> {
 
 impl<'a> Setting<'a> {
     /// The address has the selected line. Where none is selected the index is not asked.
+    #[inline]
     pub fn has_selected(&self, address: Address) -> bool
         ensures { result ≡ selects self.now address }
     {

@@ -6,8 +6,8 @@ ghost use Rattle.virtual_run.specs.Seen.{experiment_of};
 ghost use Rattle.virtual_run.specs.Lead.{arguments, is_unstarted};
 ghost use Rattle.virtual_run.specs.DelayedRun.{visit_as, net_due_of, account_in, outcome_of, IsSmall, Happens, AgreesThroughout, EndsOnce};
 
-use crate::accounts::{follow, moment_of, raise_each, raise_selected};
-use crate::run::is_wake;
+use crate::accounts::{follow, raise_each, raise_selected};
+use crate::run::{FIRST, HARTS, is_wake};
 use crate::{Choice, Event, Run, Setting};
 use coz_types::{Account, Ending, HartId, Image, LineId, Outcome, Tick, Visit};
 use delay_credits::Credits;
@@ -15,12 +15,6 @@ use line_index::LineIndex;
 use progress_points::Points;
 use std::alloc::{AllocError, Global};
 use std::marker::Model;
-
-/// The harts that may be made in a run.
-const HARTS: u32 = 256;
-
-/// The hart that a program begins with.
-const FIRST: HartId = HartId(0);
 
 /// The delayed run of a program: as an instruction of the selected line starts, every other hart that runs or sleeps is
 /// made to pause for what that instruction is to be spared.
@@ -116,6 +110,7 @@ impl<'a> Machine<'a> {
 
     /// Runs through all wakes before the next retirement and up to and including that, with what begins after it. Gives the
     /// ending once the run has ended; a further step changes nothing and gives the same.
+    #[inline]
     pub fn step(&mut self) -> Option<Ending>
         ensures ended { result ≡ self.new.state.ending }
         ensures next { self.old.state.ending ≡ None → self.new.state ≡ standing (experiment_of self.old) (events self.new.state) }
@@ -132,6 +127,7 @@ impl<'a> Machine<'a> {
     }
 
     /// One event of a run that goes on: the hart that is due first wakes or retires, and what this started begins.
+    #[inline(always)]
     fn event(&mut self) -> Event
         requires { self.old.state.ending ≡ None }
         ensures next { self.new.state ≡ standing (experiment_of self.old) (events self.old.state + 1) }
@@ -141,13 +137,12 @@ impl<'a> Machine<'a> {
     {
         let raised = self.credits.raised();
         let event = self.run.advance(&self.setting, raised);
-        self.moment = moment_of(event, &self.run) + raised;
-        follow(
+        self.moment = follow(
             &mut self.credits,
             &self.run,
             event,
             self.setting.choice.speedup,
-            self.moment,
+            raised,
         );
         event
     }

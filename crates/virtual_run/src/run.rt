@@ -22,10 +22,10 @@ use hart_schedule::Schedule;
 use std::alloc::{AllocError, Global};
 
 /// The harts that may be made in a run.
-const HARTS: u32 = 256;
+pub(crate) const HARTS: u32 = 256;
 
 /// The hart that a program begins with.
-const FIRST: HartId = HartId(0);
+pub(crate) const FIRST: HartId = HartId(0);
 
 /// The engine of both machines: a run in which a selected line really costs less. Its moves alone change it.
 #[derive(Drop)]
@@ -72,6 +72,7 @@ pub enum Event {
 }
 
 /// Whether an event was a wake.
+#[inline]
 pub(crate) fn is_wake(event: Event) -> bool
     ensures { result ≡ is_wake event }
 {
@@ -79,21 +80,23 @@ pub(crate) fn is_wake(event: Event) -> bool
 }
 
 /// The hart that is due first. It stays in the schedule.
+#[inline]
 fn first_turn(schedule: &Schedule) -> Turn
     requires { ¬ IsEmpty schedule.now }
     ensures due { key_of schedule.now result.hart.0 ≡ Some result.due }
     ensures first { IsLeast schedule.now result.hart.0 }
 {
-    let Some(hart) = schedule.least() else {
+    let Some(first) = schedule.first() else {
         unreachable!()
     };
-    let Some(due) = schedule.key(hart) else {
-        unreachable!()
-    };
-    Turn { hart, due }
+    Turn {
+        hart: first.hart,
+        due: first.key,
+    }
 }
 
 /// The hart that retired is taken out, or is due at its wake, unless it goes on.
+#[inline(always)]
 fn leave(schedule: &mut Schedule, hart: HartId, fate: Fate)
     requires { hart.0 < length schedule.old }
     ensures { schedule.new ≡ (if goes_on fate then schedule.old else rested hart.0 fate schedule.old) }
@@ -108,6 +111,7 @@ fn leave(schedule: &mut Schedule, hart: HartId, fate: Fate)
 }
 
 /// One that would go on is taken out, as the run ends.
+#[inline]
 fn leave_ended(schedule: &mut Schedule, hart: HartId, fate: Fate)
     ensures { schedule.new ≡ (if goes_on fate then without_key hart.0 schedule.old else schedule.old) }
 {
@@ -117,6 +121,7 @@ fn leave_ended(schedule: &mut Schedule, hart: HartId, fate: Fate)
 }
 
 /// Keeps the visit of the point at an address, if there is one.
+#[inline]
 fn keep_visit(
     setting: &Setting,
     visits: &mut Visits,
@@ -140,6 +145,7 @@ fn keep_visit(
 }
 
 /// Some hart is in the list.
+#[inline]
 pub fn has_any(started: &HartList) -> bool
     ensures { result ≡ is_any started.now }
 {
@@ -155,6 +161,7 @@ fn runs_any(schedule: &Schedule) -> bool
 
 /// How a run ends with a retirement: as the hart's fate says, or as the output or the visits are full, no hart runs or
 /// the budget is spent.
+#[inline(never)]
 fn ending_after(
     fate: Fate,
     output_full: bool,
@@ -177,7 +184,7 @@ fn ending_after(
 
 impl<'a> Run<'a> {
     ghost use Rattle.virtual_run.specs.Run.{selected_of, ticks_in, IsChoice, IsSteady, IsFirst};
-    ghost use Rattle.virtual_run.specs.Advance.{IsAdvance, IsRetired, IsWoken};
+    ghost use Rattle.virtual_run.specs.Advance.{told_in, IsAdvance, IsRetired, IsSettled, IsWoken};
 
     /// A run that is about to begin.
     pub fn new(
@@ -211,6 +218,7 @@ impl<'a> Run<'a> {
     }
 
     /// One move: the hart that is due first wakes if it sleeps, and else retires.
+    #[inline(always)]
     pub fn advance(&mut self, setting: &Setting, delay: Tick) -> Event
         requires steady { IsSteady self.old }
         requires speedup { setting.now.choice.speedup ≤ 95 }
@@ -227,6 +235,7 @@ impl<'a> Run<'a> {
     }
 
     /// A sleeping hart whose turn it is wakes, and its next instruction begins.
+    #[inline(never)]
     fn wake(&mut self, setting: &Setting, turn: Turn)
         requires steady { IsSteady self.old }
         requires speedup { setting.now.choice.speedup ≤ 95 }
@@ -252,6 +261,7 @@ impl<'a> Run<'a> {
 
     /// A running hart whose turn it is retires, and where the run goes on the harts that this started begin. A visit is
     /// kept with the delay that is given, at a time that is later by it.
+    #[inline(always)]
     fn retire(&mut self, setting: &Setting, turn: Turn, delay: Tick) -> Retired
         requires steady { IsSteady self.old }
         requires speedup { setting.now.choice.speedup ≤ 95 }
@@ -276,16 +286,71 @@ impl<'a> Run<'a> {
         let fate = self.guest.retire(turn.hart, turn.due, &mut self.started);
         self.time = turn.due;
         self.retired += 1;
-        leave(&mut self.schedule, turn.hart, fate);
-        if self.ends_with(&setting.choice, fate) {
-            self.ending = self.ending_after(&setting.choice, fate);
-            leave_ended(&mut self.schedule, turn.hart, fate);
-        } else {
-            self.begin_started(setting, turn.hart, fate);
-        }
+        self.settle(setting, turn.hart, fate);
         Retired {
             hart: turn.hart,
             fate,
+        }
+    }
+
+    /// After a retirement of this fate the run ends, or what was started begins. A hart that goes on has a way of its own,
+    /// on which no fate is handed on.
+    #[inline(always)]
+    fn settle(&mut self, setting: &Setting, hart: HartId, fate: Fate)
+        requires goes { self.old.ending ≡ None }
+        requires below { hart.0 < length self.old.schedule }
+        requires idle { told_in setting.now fate self.old (rested hart.0 fate self.old.schedule) ≡ None →
+            AreIdle self.old.guest (rested hart.0 fate self.old.schedule) (started_by hart.0 fate self.old.started) }
+        requires moment { self.old.time ≤ 2 ^ 60 }
+        requires speedup { setting.now.choice.speedup ≤ 95 }
+        requires room { length self.old.schedule ≡ 256 }
+        requires selected { self.old.selected ≡ [] }
+        requires few { self.old.starts ≤ 2 ^ 62 }
+        ensures { IsSettled setting.now self.old hart.0 fate self.new }
+    {
+        match fate {
+            Fate::Goes => self.end_or_begin(setting, hart, Fate::Goes),
+            other => self.end_or_begin_apart(setting, hart, other),
+        }
+    }
+
+    /// The same, apart from the way of most retirements.
+    #[inline(never)]
+    fn end_or_begin_apart(&mut self, setting: &Setting, hart: HartId, fate: Fate)
+        requires goes { self.old.ending ≡ None }
+        requires below { hart.0 < length self.old.schedule }
+        requires idle { told_in setting.now fate self.old (rested hart.0 fate self.old.schedule) ≡ None →
+            AreIdle self.old.guest (rested hart.0 fate self.old.schedule) (started_by hart.0 fate self.old.started) }
+        requires moment { self.old.time ≤ 2 ^ 60 }
+        requires speedup { setting.now.choice.speedup ≤ 95 }
+        requires room { length self.old.schedule ≡ 256 }
+        requires selected { self.old.selected ≡ [] }
+        requires few { self.old.starts ≤ 2 ^ 62 }
+        ensures { IsSettled setting.now self.old hart.0 fate self.new }
+    {
+        self.end_or_begin(setting, hart, fate);
+    }
+
+    /// The run ends with a retirement of this fate, or what was started begins.
+    #[inline(always)]
+    fn end_or_begin(&mut self, setting: &Setting, hart: HartId, fate: Fate)
+        requires goes { self.old.ending ≡ None }
+        requires below { hart.0 < length self.old.schedule }
+        requires idle { told_in setting.now fate self.old (rested hart.0 fate self.old.schedule) ≡ None →
+            AreIdle self.old.guest (rested hart.0 fate self.old.schedule) (started_by hart.0 fate self.old.started) }
+        requires moment { self.old.time ≤ 2 ^ 60 }
+        requires speedup { setting.now.choice.speedup ≤ 95 }
+        requires room { length self.old.schedule ≡ 256 }
+        requires selected { self.old.selected ≡ [] }
+        requires few { self.old.starts ≤ 2 ^ 62 }
+        ensures { IsSettled setting.now self.old hart.0 fate self.new }
+    {
+        leave(&mut self.schedule, hart, fate);
+        if self.ends_with(&setting.choice, fate) {
+            self.ending = self.ending_after(&setting.choice, fate);
+            leave_ended(&mut self.schedule, hart, fate);
+        } else {
+            self.begin_started(setting, hart, fate);
         }
     }
 
@@ -389,6 +454,7 @@ impl<'a> Run<'a> {
     }
 
     /// Whether the run ends with a retirement of this fate. Where the hart goes on only the limits are looked at.
+    #[inline(always)]
     fn ends_with(&self, choice: &Choice, fate: Fate) -> bool
         ensures { result ≡ is_some (ending_of fate
             (nat_le choice.now.output_limit (length self.now.guest.output))
@@ -407,6 +473,7 @@ impl<'a> Run<'a> {
     }
 
     /// How the run ends with a retirement of this fate, if it does.
+    #[inline(never)]
     fn ending_after(&self, choice: &Choice, fate: Fate) -> Option<Ending>
         ensures { result ≡ ending_of fate
             (nat_le choice.now.output_limit (length self.now.guest.output))
@@ -438,6 +505,7 @@ impl<'a> Run<'a> {
     }
 
     /// The harts that a retirement of this fate started begin at its moment.
+    #[inline(always)]
     fn begin_started(&mut self, setting: &Setting, hart: HartId, fate: Fate)
         requires idle { AreIdle self.old.guest (if goes_on fate then without_key hart.0 self.old.schedule else self.old.schedule) (started_by hart.0 fate self.old.started) }
         requires moment { self.old.time ≤ 2 ^ 60 }

@@ -25,6 +25,7 @@ struct Cost {
 }
 
 /// The cost of a hart's next instruction.
+#[inline(always)]
 fn cost_of(setting: &Setting, guest: &Guest, hart: HartId) -> Cost
     requires made { IsMade guest.now hart.0 }
     requires speedup { setting.now.choice.speedup ≤ 95 }
@@ -47,6 +48,7 @@ fn cost_of(setting: &Setting, guest: &Guest, hart: HartId) -> Cost
 }
 
 /// Appends a hart, if it is selected.
+#[inline]
 pub fn add_if(selected: bool, harts: &mut HartList, hart: HartId)
     requires { length harts.old < 256 }
     ensures { harts.new ≡ (if selected then harts.old ++ hart.0 ∷ [] else harts.old) }
@@ -57,6 +59,7 @@ pub fn add_if(selected: bool, harts: &mut HartList, hart: HartId)
 }
 
 /// A hart's next instruction begins at a moment. Where it has the selected line the hart is put to the selected ones.
+#[inline(never)]
 pub fn begin(
     setting: &Setting,
     guest: &Guest,
@@ -78,6 +81,7 @@ pub fn begin(
 }
 
 /// The next instruction of the hart that retired or woke begins at a moment: the hart gets another place in the schedule.
+#[inline(always)]
 pub fn begin_next(
     setting: &Setting,
     guest: &Guest,
@@ -99,6 +103,7 @@ pub fn begin_next(
 }
 
 /// The next instruction of the hart that retired begins at that moment, if the hart goes on.
+#[inline(always)]
 pub fn begin_again(
     setting: &Setting,
     guest: &Guest,

@@ -1,6 +1,6 @@
 use Rattle.std.proofs.Common.{◌≡◌, ℕ, ◌+◌, ◌*◌, ◌^◌, ◌≤◌, None, subst, sym, ◌∙◌, arith}
 use Rattle.machines.specs.Standing.{standing}
-use Rattle.virtual_run.specs.Credited.{raise_ticks, moment_of, credited_by, CanFollow}
+use Rattle.virtual_run.specs.Credited.{moment_of}
 use Rattle.virtual_run.specs.Seen.{experiment_with}
 use Rattle.virtual_run.specs.Run.{events_of}
 use Rattle.virtual_run.specs.DelayedRun.{IsPaced}
@@ -18,8 +18,8 @@ advance-event-requires-clause-delay c =
     let few : m.credits.raised ≤ 10 ^ 16 = raised_few m.image.now m.input.now m.setting m.run m.credits m.moment c.self.invariant in
     omega (arith, c.raised-raised.ensures)
 
-pub overflow_add-self : goal.overflow_add-self
-overflow_add-self c =
+pub follow-self-inside-requires-clause-few : goal.follow-self-inside-requires-clause-few
+follow-self-inside-requires-clause-few c =
     let m = c.self.inside in
     let new = c.advance-event.new.self in
     let event = c.advance-event.result in
@@ -27,16 +27,16 @@ overflow_add-self c =
     let none : m.run.ending ≡ None = goes_seen m.image.now m.input.now m.setting m.run m.credits m.moment c.self.invariant c.args.self.now c.self.view_is c.requires in
     let few : m.credits.raised ≤ 10 ^ 16 = raised_few m.image.now m.input.now m.setting m.run m.credits m.moment c.self.invariant in
     let time : moment_of event new ≤ 2 * 10 ^ 16 = event_few m.image.now m.input.now m.setting m.run m.credits m.moment c.self.invariant new event delay c.raised-raised.ensures none c.advance-event.ensures in
-    omega (arith, c.raised-raised.ensures, c.moment_of.ensures)
+    omega (arith, c.raised-raised.ensures)
 
-pub follow-requires-clause-can : goal.follow-requires-clause-can
-follow-requires-clause-can c =
+pub follow-self-inside-requires-clause-can : goal.follow-self-inside-requires-clause-can
+follow-self-inside-requires-clause-can c =
     let m = c.self.inside in
     let new = c.advance-event.new.self in
     let event = c.advance-event.result in
     let delay : ℕ = c.raised-raised.result in
     let none : m.run.ending ≡ None = goes_seen m.image.now m.input.now m.setting m.run m.credits m.moment c.self.invariant c.args.self.now c.self.view_is c.requires in
-    subst (λ (now : ℕ). CanFollow event m.credits new (now + delay)) (sym c.moment_of.ensures) (can_follow m.image.now m.input.now m.setting m.run m.credits m.moment c.self.invariant new event delay c.raised-raised.ensures none c.advance-event.ensures)
+    (can_follow m.image.now m.input.now m.setting m.run m.credits m.moment c.self.invariant new event delay c.raised-raised.ensures none c.advance-event.ensures)
 
 pub invariant_of-self : goal.invariant_of-self
 invariant_of-self c =
@@ -45,9 +45,9 @@ invariant_of-self c =
     let event = c.advance-event.result in
     let delay : ℕ = c.raised-raised.result in
     let none : m.run.ending ≡ None = goes_seen m.image.now m.input.now m.setting m.run m.credits m.moment c.self.invariant c.args.self.now c.self.view_is c.requires in
-    subst (λ (now : ℕ). IsPaced m.image.now m.input.now m.setting new c.follow.new.credits (now + delay)) (sym c.moment_of.ensures)
-    (paced_event m.image.now m.input.now m.setting m.run m.credits m.moment c.self.invariant new event delay c.raised-raised.ensures none c.advance-event.ensures c.follow.new.credits
-    (subst (λ (now : ℕ). c.follow.new.credits ≡ credited_by event new (raise_ticks new.guest m.setting.choice.speedup) (now + delay) m.credits) c.moment_of.ensures c.follow.ensures))
+    subst (λ (now : ℕ). IsPaced m.image.now m.input.now m.setting new c.follow-self-inside.new.credits now) (sym c.follow-self-inside.ensures.moment)
+    (paced_event m.image.now m.input.now m.setting m.run m.credits m.moment c.self.invariant new event delay c.raised-raised.ensures none c.advance-event.ensures c.follow-self-inside.new.credits
+    c.follow-self-inside.ensures.credits)
 
 pub returns-clause-next : goal.returns-clause-next
 returns-clause-next c =
@@ -65,10 +65,10 @@ returns-clause-count c =
     let event = c.advance-event.result in
     let delay : ℕ = c.raised-raised.result in
     let none : m.run.ending ≡ None = goes_seen m.image.now m.input.now m.setting m.run m.credits m.moment c.self.invariant c.args.self.now c.self.view_is c.requires in
-    let after : IsPaced m.image.now m.input.now m.setting new c.follow.new.credits (moment_of event new + delay) =
-    paced_event m.image.now m.input.now m.setting m.run m.credits m.moment c.self.invariant new event delay c.raised-raised.ensures none c.advance-event.ensures c.follow.new.credits
-    (subst (λ (now : ℕ). c.follow.new.credits ≡ credited_by event new (raise_ticks new.guest m.setting.choice.speedup) (now + delay) m.credits) c.moment_of.ensures c.follow.ensures) in
-    events_now m.image.now m.input.now m.setting new c.follow.new.credits (moment_of event new + delay) after
+    let after : IsPaced m.image.now m.input.now m.setting new c.follow-self-inside.new.credits (moment_of event new + delay) =
+    paced_event m.image.now m.input.now m.setting m.run m.credits m.moment c.self.invariant new event delay c.raised-raised.ensures none c.advance-event.ensures c.follow-self-inside.new.credits
+    c.follow-self-inside.ensures.credits in
+    events_now m.image.now m.input.now m.setting new c.follow-self-inside.new.credits (moment_of event new + delay) after
     ∙ count_seen m.image.now m.input.now m.setting m.run m.credits m.moment c.self.invariant c.args.self.now (events_of new) c.self.view_is (event_count m.image.now m.input.now m.setting m.run m.credits m.moment c.self.invariant new event delay c.raised-raised.ensures none c.advance-event.ensures)
 
 pub returns-clause-happens : goal.returns-clause-happens
