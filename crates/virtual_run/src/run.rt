@@ -1,11 +1,13 @@
 //! The moves that both machines share.
-ghost use Rattle.std.specs.Prelude.{◌≡◌, true, ◌&&◌, ◌==◌, not, ◌+◌, ◌^◌, ◌≤◌, ◌<◌, ◌++◌, [], ◌∷◌, Some, length, nat_le, is_some, IfOk, All, if◌then◌else◌};
+ghost use Rattle.std.specs.Prelude.{◌≡◌, true, ◌&&◌, ◌==◌, not, ◌+◌, ◌^◌, ◌≤◌, ◌<◌, ◌++◌, [], ◌∷◌, Some, length, nat_le, is_some, IfOk, All, if◌then◌else◌, IsTrue};
 ghost use Rattle.hart_schedule.specs.Keys.{key_of, without_key, IsEmpty, IsLeast};
 ghost use Rattle.machines.specs.Delayed.{is_any};
 ghost use Rattle.machines.specs.Guest.{goes_on};
 ghost use Rattle.machines.specs.Shortened.{runs_any};
 ghost use Rattle.progress_points.specs.Points.{point_of};
+ghost use Rattle.guest_calls.specs.Calls.{retirement};
 ghost use Rattle.guest_calls.specs.Guest.{making, is_running, is_sleeping, IsMade};
+ghost use Rattle.guest_calls.specs.Retire.{retire};
 ghost use Rattle.virtual_run.specs.Begin.{started_by, rested, many, AreIdle, AreBegun};
 ghost use Rattle.virtual_run.specs.Ending.{ending_of, runs_after};
 ghost use Rattle.virtual_run.specs.Visits.{visits_of};
@@ -93,6 +95,17 @@ fn first_turn(schedule: &Schedule) -> Turn
         hart: first.hart,
         due: first.key,
     }
+}
+
+/// What becomes of a running hart whose turn it is. The guest knows net time alone.
+#[inline(always)]
+fn retire_due(guest: &mut Guest, turn: Turn, started: &mut HartList) -> Fate
+    requires running { IsTrue (is_running guest.old turn.hart.0) }
+    requires started { started.old ≡ [] }
+    ensures effect { retirement guest.new result started.new ≡ retire guest.old turn.hart.0 turn.due }
+    ensures made { making guest.new ≡ making guest.old }
+{
+    guest.retire(turn.hart, turn.due, started)
 }
 
 /// The hart that retired is taken out, or is due at its wake, unless it goes on.
@@ -283,7 +296,7 @@ impl<'a> Run<'a> {
         );
         self.started.clear();
         self.selected.clear();
-        let fate = self.guest.retire(turn.hart, turn.due, &mut self.started);
+        let fate = retire_due(&mut self.guest, turn, &mut self.started);
         self.time = turn.due;
         self.retired += 1;
         self.settle(setting, turn.hart, fate);

@@ -17,8 +17,8 @@ pub settle-requires-clause-idle : goal.settle-requires-clause-idle
 settle-requires-clause-idle c none =
     let h : ℕ = c.args.turn.hart.0 in
     let keys : Keys = c.args.self.now.schedule in
-    let fate : Fate = c.retire-fate.result in
-    idle_then c.args.setting.now c.args.self.now (rested h fate keys) h c.args.turn.due c.args.delay c.retire-fate.new.self fate c.retire-fate.new.started c.keep_visit.new.visits c.pc-address.result _
+    let fate : Fate = c.retire_due-fate.result in
+    idle_then c.args.setting.now c.args.self.now (rested h fate keys) h c.args.turn.due c.args.delay c.retire_due-fate.new.guest fate c.retire_due-fate.new.started c.keep_visit.new.visits c.pc-address.result _
     (record {
       steady = c.requires.steady;
       running = c.requires.running;
@@ -26,7 +26,7 @@ settle-requires-clause-idle c none =
       first = c.requires.first;
       taken = refl;
       place = c.pc-address.ensures;
-      retires = c.retire-fate.ensures.effect;
+      retires = c.retire_due-fate.ensures.effect;
       keeps = c.keep_visit.ensures;
       ends = refl;
     })
@@ -43,7 +43,7 @@ settle-requires-clause-few c =
 
 pub returns-clause-retired : goal.returns-clause-retired
 returns-clause-retired c =
-    settled c.args.setting.now c.args.self.now c.args.turn.hart.0 c.args.turn.due c.args.delay c.retire-fate.new.self c.retire-fate.result c.retire-fate.new.started c.clear-2.new.self c.keep_visit.new.visits c.pc-address.result c.settle.new.self c.requires.speedup c.clear-2.ensures
+    settled c.args.setting.now c.args.self.now c.args.turn.hart.0 c.args.turn.due c.args.delay c.retire_due-fate.new.guest c.retire_due-fate.result c.retire_due-fate.new.started c.clear-2.new.self c.keep_visit.new.visits c.pc-address.result c.settle.new.self c.requires.speedup c.clear-2.ensures
     (λ e is. record {
       steady = c.requires.steady;
       running = c.requires.running;
@@ -51,7 +51,7 @@ returns-clause-retired c =
       first = c.requires.first;
       taken = refl;
       place = c.pc-address.ensures;
-      retires = c.retire-fate.ensures.effect;
+      retires = c.retire_due-fate.ensures.effect;
       keeps = c.keep_visit.ensures;
       ends = is;
     })
