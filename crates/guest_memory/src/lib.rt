@@ -365,6 +365,7 @@ impl<'a> Memory<'a> {
     }
 
     /// The word that stands at an address, to be executed.
+    #[inline(always)]
     pub fn fetch(&self, address: Address) -> Result<u32, Access>
         ensures { result_ok result ≡ fetch self.now address }
     {
