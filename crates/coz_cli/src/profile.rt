@@ -1,21 +1,27 @@
 //! The profile that a request asks for.
-ghost use Rattle.std.specs.Prelude.{◌≡◌, ◌<◌, ◌≤◌, length, map, All, IfOk};
+ghost use Rattle.std.specs.Prelude.{◌≡◌, ◌<◌, ◌≤◌, ℕ, List, length, map, All, IfOk};
 ghost use Rattle.std.specs.List.{list_all};
+ghost use Rattle.std.specs.List.Sorted.{IsStrictlySortedBy};
+ghost use Rattle.std.specs.Ordering.{nat_cmp};
+ghost use Rattle.coz_types.specs.declared.LineId.{LineId};
 ghost use Rattle.coz_types.specs.declared.record.Summary.{Summary};
+ghost use Rattle.progress_points.specs.Points.{IsPoints};
+ghost use Rattle.experiment_plan.specs.declared.experiment.Experiment.{Experiment};
+ghost use Rattle.experiment_plan.specs.Selected.{ids};
 ghost use Rattle.coz_words.specs.Request.{IsFit};
 ghost use Rattle.coz_cli.specs.Experiment.{runs_in};
-ghost use Rattle.coz_cli.specs.Profiled.{label_at};
-ghost use Rattle.coz_cli.specs.Verdict.{has_exited, profile_verdict, profiled_verdict};
-ghost use Rattle.coz_cli.specs.Answer.{answered, printed_verdict, IsMemory, IsRead};
+ghost use Rattle.coz_cli.specs.Profiled.{label_at, pairs_of, profile_of};
+ghost use Rattle.coz_cli.specs.Verdict.{Verdict, has_exited, plan_verdict, profile_verdict, profiled_verdict};
+ghost use Rattle.coz_cli.specs.Answer.{answered, follows, printed_verdict, IsMemory, IsRead};
 
 use crate::answer::{Answer, Printed, Text};
 use crate::fault::Fault;
 use crate::selection::{bytes_of, progress_points, selected_lines};
 use coz_files::Gate;
 use coz_lists::Items;
-use coz_types::{Ending, Image, Label, PointId, Summary};
+use coz_types::{Ending, Image, Label, LineId, PointId, Summary};
 use coz_words::Request;
-use experiment_plan::plan;
+use experiment_plan::{Plan, plan};
 use line_index::LineIndex;
 use profile_book::Profile;
 use profile_pool::run_plan;
@@ -81,6 +87,63 @@ fn printed_profile(profile: Profile) -> Printed
     }
 }
 
+/// The plan of these lines and speedups, if it isn't too large.
+fn planned<'r>(alloc: Global, lines: &[LineId], speedups: &[u8]) -> Result<Plan, Fault<'r>>
+    requires rising { IsStrictlySortedBy nat_cmp (ids lines.now) }
+    requires small { All (λ speedup. speedup ≤ 95) speedups.now }
+    ensures no_read { IsRead result → ⊥ }
+    ensures settled { (IsMemory result → ⊥) → (next : List Experiment → Verdict) →
+        follows result next ≡ plan_verdict (pairs_of (ids lines.now) speedups.now) next }
+    ensures below { (count : ℕ) → All (λ (line : LineId). line.0 < count) lines.now →
+        IfOk result (All (λ (pair : Experiment). pair.line.0 < count)) }
+{
+    let plan = plan(alloc, lines, speedups)?;
+    Ok(plan)
+}
+
+/// What is written of the runs of a plan.
+fn plan_answer<'r, R: Threads + Sync, G: Gate>(
+    rt: &R,
+    alloc: Global,
+    image: &Image,
+    index: &LineIndex,
+    points: &Points,
+    input: &[u8],
+    plan: &Plan,
+    request: &'r Request,
+    gate: &G,
+) -> Answer<'r>
+    requires fit { IsFit request.now }
+    requires some_budget { 1 ≤ request.now.budget }
+    requires some_workers { 1 ≤ request.now.workers }
+    requires points { IsPoints index.now points.now.lines points.now }
+    requires few { length points.now.lines ≤ 64 }
+    requires below { All (λ line. line < length index.now.lines) points.now.lines }
+    requires lines { All (λ (pair : Experiment). pair.line.0 < length index.now.lines) plan.now }
+    ensures no_read { IsRead result → ⊥ }
+    ensures settled { (IsMemory result → ⊥) → answered result ≡ profile_verdict
+        (profile_of (runs_in image.now index.now input.now) index.now.lines request.now.budget points.now.lines plan.now) }
+{
+    let labels = point_labels(alloc, index, points)?;
+    let summaries = run_plan(
+        rt,
+        alloc,
+        image,
+        index,
+        points,
+        input,
+        plan,
+        request.budget,
+        request.workers,
+        gate,
+    )?;
+    Ok(printed_profile(Profile {
+        budget: request.budget,
+        points: labels,
+        summaries: Items::new(summaries),
+    }))
+}
+
 /// What is written of the runs of a program with these lines, if it has those that are named and the plan isn't too large.
 pub fn profile_answer<'r, R: Threads + Sync, G: Gate>(
     rt: &R,
@@ -100,23 +163,8 @@ pub fn profile_answer<'r, R: Threads + Sync, G: Gate>(
 {
     let lines = selected_lines(alloc, index, bytes_of(&request.lines))?;
     let points = progress_points(alloc, index, bytes_of(&request.progress))?;
-    let plan = plan(alloc, &lines, request.speedups.as_slice())?;
-    let labels = point_labels(alloc, index, &points)?;
-    let summaries = run_plan(
-        rt,
-        alloc,
-        image,
-        index,
-        &points,
-        input,
-        &plan,
-        request.budget,
-        request.workers,
-        gate,
-    )?;
-    Ok(printed_profile(Profile {
-        budget: request.budget,
-        points: labels,
-        summaries: Items::new(summaries),
-    }))
+    let plan = planned(alloc, &lines, request.speedups.as_slice())?;
+    plan_answer(
+        rt, alloc, image, index, &points, input, &plan, request, gate,
+    )
 }
