@@ -148,7 +148,7 @@ fn image(alloc: Global) -> Result<Image<'static>, AllocError> {
 type Answer = (u64, [u64; 4], i64);
 
 /// Calls on files that answer without a byte.
-const STREAMS: [Answer; 4] = [
+static STREAMS: [Answer; 4] = [
     // ioctl and lseek
     (29, [0, 0, 0, 0], -25),
     (29, [3, 0, 0, 0], -9),
@@ -157,7 +157,7 @@ const STREAMS: [Answer; 4] = [
 ];
 
 /// All of the input is read. The pairs that come first are the parts of a readv.
-const READS: [Answer; 13] = [
+static READS: [Answer; 13] = [
     // read: its file, its rights, and no bytes
     (63, [1, STACK, 1, 0], -9),
     (63, [0, TEXT, 1, 0], -14),
@@ -176,7 +176,7 @@ const READS: [Answer; 13] = [
 ];
 
 /// What was read is written.
-const WRITES: [Answer; 11] = [
+static WRITES: [Answer; 11] = [
     // write and writev: the limit is 5
     (64, [0, STACK, 1, 0], -9),
     (64, [1, 0, 1, 0], -14),
@@ -192,7 +192,7 @@ const WRITES: [Answer; 11] = [
 ];
 
 /// Calls of a hart about itself.
-const OWN: [Answer; 8] = [
+static OWN: [Answer; 8] = [
     // set_tid_address, sched_yield, getpid and gettid
     (96, [STACK, 0, 0, 0], 1),
     (124, [0, 0, 0, 0], 0),
@@ -206,7 +206,7 @@ const OWN: [Answer; 8] = [
 ];
 
 /// Calls that change what a guest may read and write.
-const AREAS: [Answer; 13] = [
+static AREAS: [Answer; 13] = [
     // brk
     (214, [0, 0, 0, 0], 0x20_0000_0000),
     (214, [BRK + 5000, 0, 0, 0], 0x20_0000_1388),
@@ -258,7 +258,7 @@ fn a_hart_asks_about_itself_and_its_memory(rt: HostRuntime) -> Result<(), Fail> 
 type End = (u64, [u64; 4], Ending);
 
 /// What is not supported leaves the guest as it is; the last hart's exit ends the run.
-const ENDS: [End; 15] = [
+static ENDS: [End; 15] = [
     (98, [STACK, 2, 0, 0], Ending::Unsupported(98)),
     (98, [STACK, 0x1_0000_0000, 0, 0], Ending::Unsupported(98)),
     (98, [STACK, 128, 0, STACK], Ending::Unsupported(98)),
@@ -280,7 +280,7 @@ const ENDS: [End; 15] = [
 fn calls_end_the_run(rt: HostRuntime) -> Result<(), Fail> {
     let image = image(rt.alloc())?;
     let mut guest = Guest::new(rt.alloc(), &image, &INPUT, 5, Layout::usual())?;
-    for (number, arguments, ending) in ENDS {
+    for &(number, arguments, ending) in &ENDS {
         let got = guest.ask(number, arguments);
         let first = arguments[0].cast_signed();
         assert_eq!(rt;
@@ -299,7 +299,7 @@ type Asked = (u16, u64, [u64; 5], Fate, i64, &'static [HartId]);
 const NONE: &[HartId] = &[];
 
 /// Thread ids are stored where they may be, and the child's clear address is a4.
-const CLONES: [Asked; 4] = [
+static CLONES: [Asked; 4] = [
     (
         0,
         220,
@@ -321,7 +321,7 @@ const CLONES: [Asked; 4] = [
 ];
 
 /// A wait looks at the address and at a value of 32 bits.
-const WAITS: [Asked; 6] = [
+static WAITS: [Asked; 6] = [
     (0, 98, [STACK + 2, 0, 2, 0, 0], Fate::Goes, -22, NONE),
     (0, 98, [MAP, 0, 2, 0, 0], Fate::Goes, -14, NONE),
     (0, 98, [STACK, 0, 4, 0, 0], Fate::Goes, -11, NONE),
@@ -338,7 +338,7 @@ const WAITS: [Asked; 6] = [
 ];
 
 /// A wake starts at least one hart, the eldest first, of those that wait at that address.
-const WAKES: [Asked; 6] = [
+static WAKES: [Asked; 6] = [
     (1, 98, [STACK + 2, 1, 1, 0, 0], Fate::Goes, -22, NONE),
     (1, 98, [STACK + 8, 1, 9, 0, 0], Fate::Goes, 0, NONE),
     (1, 98, [STACK, 129, 0, 0, 0], Fate::Goes, 1, &[HartId(3)]),
@@ -355,7 +355,7 @@ const WAKES: [Asked; 6] = [
 ];
 
 /// An exit clears the address and wakes one hart.
-const EXITS: [Asked; 6] = [
+static EXITS: [Asked; 6] = [
     (3, 98, [STACK + 4, 0, 2, 0, 0], Fate::Waits, 0, NONE),
     (1, 93, [5, 0, 0, 0, 0], Fate::Leaves, 5, &[HartId(2)]),
     (0, 98, [STACK + 4, 0, 2, 0, 0], Fate::Goes, -11, NONE),
@@ -397,7 +397,7 @@ fn threads_wait_and_are_woken(rt: HostRuntime) -> Result<(), Fail> {
 
 /// The second hart waits, half of the input is read, three bytes of it are written, the break has moved, and pages are
 /// mapped.
-const BEGUN: [Asked; 6] = [
+static BEGUN: [Asked; 6] = [
     (0, 220, [0x10F00, 0, 0, 0, 0], Fate::Goes, 2, &[HartId(1)]),
     (1, 98, [STACK, 0, 0, 0, 0], Fate::Waits, 0, NONE),
     (0, 63, [0, STACK + 0x100, 24, 0, 0], Fate::Goes, 24, NONE),
@@ -421,7 +421,7 @@ const BEGUN: [Asked; 6] = [
 ];
 
 /// The first hart reserves a word.
-const RESERVED: [Asked; 1] = [(0, 0, [0, STACK + 0x40, 7, 0, 0], Fate::Goes, 0, NONE)];
+static RESERVED: [Asked; 1] = [(0, 0, [0, STACK + 0x40, 7, 0, 0], Fate::Goes, 0, NONE)];
 
 /// Nothing of these is left as it was.
 const WENT_ON: [Asked; 6] = [
@@ -441,9 +441,9 @@ const WENT_ON: [Asked; 6] = [
 ];
 
 /// What a guest answers that stands where the rows before leave it: the store finds the word reserved, and 0.
-const STORED: [Asked; 1] = [(0, 0, [9, STACK + 0x40, 7, 0, 0], Fate::Goes, 0, NONE)];
+static STORED: [Asked; 1] = [(0, 0, [9, STACK + 0x40, 7, 0, 0], Fate::Goes, 0, NONE)];
 
-const ANSWERED: [Asked; 7] = [
+static ANSWERED: [Asked; 7] = [
     (0, 63, [0, STACK + 0x200, 100, 0, 0], Fate::Goes, 29, NONE),
     (0, 64, [1, STACK + 0x200, 1, 0, 0], Fate::Goes, 1, NONE),
     (0, 214, [0; 5], Fate::Goes, 0x20_0000_1388, NONE),
@@ -494,7 +494,7 @@ const OTHER_CLOCK: Fate = Fate::Ends(Ending::Unsupported(113));
 
 const TOO_LATE: Fate = Fate::Ends(Ending::Clock);
 
-const TIMES: [Timed; 27] = [
+static TIMES: [Timed; 27] = [
     // the clock's seconds and nanoseconds, both rounded down
     (
         None,
@@ -716,7 +716,7 @@ fn clocks_and_sleeps_know_net_time(rt: HostRuntime) -> Result<(), Fail> {
     let image = image(rt.alloc())?;
     let mut guest = Guest::new(rt.alloc(), &image, &INPUT, 5, Layout::usual())?;
     let mut started = HartList::new();
-    for (stored, net, pc, number, [a0, a1], fate, answer, left) in TIMES {
+    for &(stored, net, pc, number, [a0, a1], fate, answer, left) in &TIMES {
         if let Some(numbers) = stored {
             guest.put_numbers(numbers);
         }

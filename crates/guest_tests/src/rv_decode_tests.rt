@@ -13,7 +13,7 @@ use rv_decode::{
 };
 use std::process::Abort;
 
-const UPPER: [(u32, UpperOp, u8, u32); 6] = [
+static UPPER: [(u32, UpperOp, u8, u32); 6] = [
     (0x00000FB7, Lui, 31, 0),
     (0xFFFFFDB7, Lui, 27, 1048575),
     (0xFFFFFEB7, Lui, 29, 1048575),
@@ -22,7 +22,7 @@ const UPPER: [(u32, UpperOp, u8, u32); 6] = [
     (0x00001217, Auipc, 4, 1),
 ];
 
-const JUMPS: [(u32, u8, i32); 6] = [
+static JUMPS: [(u32, u8, i32); 6] = [
     (0x800002EF, 5, -1048576),
     (0x7FFFF5EF, 11, 1048574),
     (0x618C9BEF, 23, 824856),
@@ -31,13 +31,13 @@ const JUMPS: [(u32, u8, i32); 6] = [
     (0xBD5F92EF, 5, -25644),
 ];
 
-const REGISTER_JUMPS: [(u32, u8, u8, i32); 3] = [
+static REGISTER_JUMPS: [(u32, u8, u8, i32); 3] = [
     (0x800A0DE7, 27, 20, -2048),
     (0x001583E7, 7, 11, 1),
     (0x000F8B67, 22, 31, 0),
 ];
 
-const BRANCHES: [(u32, BranchOp, u8, u8, i32); 14] = [
+static BRANCHES: [(u32, BranchOp, u8, u8, i32); 14] = [
     (0x80A38063, Beq, 7, 10, -4096),
     (0x7F328FE3, Beq, 5, 19, 4094),
     (0x80461063, Bne, 12, 4, -4096),
@@ -54,7 +54,7 @@ const BRANCHES: [(u32, BranchOp, u8, u8, i32); 14] = [
     (0xD9C99FE3, Bne, 19, 28, -610),
 ];
 
-const LOADS: [(u32, LoadOp, u8, u8, i32); 14] = [
+static LOADS: [(u32, LoadOp, u8, u8, i32); 14] = [
     (0x80070A83, Lb, 21, 14, -2048),
     (0x7FF98783, Lb, 15, 19, 2047),
     (0x9BCD9C03, Lh, 24, 27, -1604),
@@ -71,7 +71,7 @@ const LOADS: [(u32, LoadOp, u8, u8, i32); 14] = [
     (0x518F6703, Lwu, 14, 30, 1304),
 ];
 
-const STORES: [(u32, StoreOp, u8, u8, i32); 8] = [
+static STORES: [(u32, StoreOp, u8, u8, i32); 8] = [
     (0x80F28023, Sb, 5, 15, -2048),
     (0x7F688FA3, Sb, 17, 22, 2047),
     (0x81109023, Sh, 1, 17, -2048),
@@ -82,7 +82,7 @@ const STORES: [(u32, StoreOp, u8, u8, i32); 8] = [
     (0x008FB0A3, Sd, 31, 8, 1),
 ];
 
-const IMMEDIATES: [(u32, ImmOp, u8, u8, i32); 14] = [
+static IMMEDIATES: [(u32, ImmOp, u8, u8, i32); 14] = [
     (0x80088B93, Addi, 23, 17, -2048),
     (0x7FFC8093, Addi, 1, 25, 2047),
     (0xFFF22813, Slti, 16, 4, -1),
@@ -99,7 +99,7 @@ const IMMEDIATES: [(u32, ImmOp, u8, u8, i32); 14] = [
     (0x7FF4019B, Addiw, 3, 8, 2047),
 ];
 
-const SHIFTS: [(u32, ShiftOp, u8, u8, u8); 12] = [
+static SHIFTS: [(u32, ShiftOp, u8, u8, u8); 12] = [
     (0x000E1113, Slli, 2, 28, 0),
     (0x03F31093, Slli, 1, 6, 63),
     (0x0002DB13, Srli, 22, 5, 0),
@@ -114,7 +114,7 @@ const SHIFTS: [(u32, ShiftOp, u8, u8, u8); 12] = [
     (0x41FF551B, Sraiw, 10, 30, 31),
 ];
 
-const REGISTERS: [(u32, RegOp, u8, u8, u8); 56] = [
+static REGISTERS: [(u32, RegOp, u8, u8, u8); 56] = [
     (0x01568BB3, Add, 23, 13, 21),
     (0x013182B3, Add, 5, 3, 19),
     (0x01701AB3, Sll, 21, 0, 23),
@@ -173,7 +173,7 @@ const REGISTERS: [(u32, RegOp, u8, u8, u8); 56] = [
     (0x0321F5BB, Remuw, 11, 3, 18),
 ];
 
-const ATOMICS: [(u32, AtomicOp, bool, bool, bool, u8, u8, u8); 22] = [
+static ATOMICS: [(u32, AtomicOp, bool, bool, bool, u8, u8, u8); 22] = [
     (0x002C2EAF, Amoadd, false, false, false, 29, 24, 2),
     (0x07353D2F, Amoadd, true, true, true, 26, 10, 19),
     (0x0DBA23AF, Amoswap, false, true, false, 7, 20, 27),
@@ -199,7 +199,7 @@ const ATOMICS: [(u32, AtomicOp, bool, bool, bool, u8, u8, u8); 22] = [
 ];
 
 /// The last has fields that are reserved: a fence whatever they are.
-const FENCES: [(u32, u8, u8, u16); 4] = [
+static FENCES: [(u32, u8, u8, u16); 4] = [
     (0x0FF0000F, 0, 0, 0x0FF),
     (0x0210000F, 0, 0, 0x021),
     (0x8330000F, 0, 0, 0x833),
@@ -207,7 +207,7 @@ const FENCES: [(u32, u8, u8, u16); 4] = [
 ];
 
 /// Words without an instruction.
-const OTHERS: [u32; 62] = [
+static OTHERS: [u32; 62] = [
     // all bits 0, all bits 1, and two compressed instructions
     0x0000_0000,
     0xFFFF_FFFF,
@@ -296,7 +296,7 @@ fn check(rt: &impl Abort, word: u32, instr: Instr) {
 
 #[test]
 fn upper_immediates(rt: HostRuntime) {
-    for (word, op, rd, value) in UPPER {
+    for &(word, op, rd, value) in &UPPER {
         let instr = Instr::Upper { op, rd, value };
         check(&rt, word, instr);
     }
@@ -304,7 +304,7 @@ fn upper_immediates(rt: HostRuntime) {
 
 #[test]
 fn jumps(rt: HostRuntime) {
-    for (word, rd, offset) in JUMPS {
+    for &(word, rd, offset) in &JUMPS {
         let instr = Instr::Jal { rd, offset };
         check(&rt, word, instr);
     }
@@ -312,7 +312,7 @@ fn jumps(rt: HostRuntime) {
 
 #[test]
 fn register_jumps(rt: HostRuntime) {
-    for (word, rd, rs1, offset) in REGISTER_JUMPS {
+    for &(word, rd, rs1, offset) in &REGISTER_JUMPS {
         let instr = Instr::Jalr { rd, rs1, offset };
         check(&rt, word, instr);
     }
@@ -320,7 +320,7 @@ fn register_jumps(rt: HostRuntime) {
 
 #[test]
 fn branches(rt: HostRuntime) {
-    for (word, op, rs1, rs2, offset) in BRANCHES {
+    for &(word, op, rs1, rs2, offset) in &BRANCHES {
         let instr = Instr::Branch {
             op,
             rs1,
@@ -333,7 +333,7 @@ fn branches(rt: HostRuntime) {
 
 #[test]
 fn loads(rt: HostRuntime) {
-    for (word, op, rd, rs1, offset) in LOADS {
+    for &(word, op, rd, rs1, offset) in &LOADS {
         let instr = Instr::Load {
             op,
             rd,
@@ -346,7 +346,7 @@ fn loads(rt: HostRuntime) {
 
 #[test]
 fn stores(rt: HostRuntime) {
-    for (word, op, rs1, rs2, offset) in STORES {
+    for &(word, op, rs1, rs2, offset) in &STORES {
         let instr = Instr::Store {
             op,
             rs1,
@@ -359,7 +359,7 @@ fn stores(rt: HostRuntime) {
 
 #[test]
 fn operations_of_immediates(rt: HostRuntime) {
-    for (word, op, rd, rs1, value) in IMMEDIATES {
+    for &(word, op, rd, rs1, value) in &IMMEDIATES {
         let instr = Instr::Imm { op, rd, rs1, value };
         check(&rt, word, instr);
     }
@@ -367,7 +367,7 @@ fn operations_of_immediates(rt: HostRuntime) {
 
 #[test]
 fn shifts(rt: HostRuntime) {
-    for (word, op, rd, rs1, amount) in SHIFTS {
+    for &(word, op, rd, rs1, amount) in &SHIFTS {
         let instr = Instr::Shift {
             op,
             rd,
@@ -380,7 +380,7 @@ fn shifts(rt: HostRuntime) {
 
 #[test]
 fn operations_of_registers(rt: HostRuntime) {
-    for (word, op, rd, rs1, rs2) in REGISTERS {
+    for &(word, op, rd, rs1, rs2) in &REGISTERS {
         let instr = Instr::Reg { op, rd, rs1, rs2 };
         check(&rt, word, instr);
     }
@@ -388,7 +388,7 @@ fn operations_of_registers(rt: HostRuntime) {
 
 #[test]
 fn atomic_operations(rt: HostRuntime) {
-    for (word, op, wide, aq, rl, rd, rs1, rs2) in ATOMICS {
+    for &(word, op, wide, aq, rl, rd, rs1, rs2) in &ATOMICS {
         let instr = Instr::Atomic {
             op,
             wide,
@@ -404,7 +404,7 @@ fn atomic_operations(rt: HostRuntime) {
 
 #[test]
 fn fences(rt: HostRuntime) {
-    for (word, rd, rs1, bits) in FENCES {
+    for &(word, rd, rs1, bits) in &FENCES {
         let instr = Instr::Fence { rd, rs1, bits };
         check(&rt, word, instr);
     }
@@ -418,7 +418,7 @@ fn calls_and_breaks(rt: HostRuntime) {
 
 #[test]
 fn words_of_no_instruction(rt: HostRuntime) {
-    for word in OTHERS {
+    for &word in &OTHERS {
         assert!(rt; decode(word).is_none(), "{word:#010x}");
     }
 }

@@ -30,7 +30,7 @@ fn word_of(alloc: Global, source: &[u8]) -> Option<u32> {
 
 /// Sources, and the kind, line and column of their first fault. The places were told by an implementation that was
 /// written apart from this one.
-const FAULTS: [(&[u8], AsmKind, u32, u32); 22] = [
+static FAULTS: [(&[u8], AsmKind, u32, u32); 22] = [
     (b"    addi a0, x0, 2048", AsmKind::Range, 1, 18),
     (b"", AsmKind::Empty, 1, 1),
     (b"addi a0 x0, 0", AsmKind::Operand, 1, 9),
@@ -69,7 +69,7 @@ const FAULTS: [(&[u8], AsmKind, u32, u32); 22] = [
 
 #[test]
 fn the_first_fault_is_told(rt: HostRuntime) {
-    for (source, kind, line, column) in FAULTS {
+    for &(source, kind, line, column) in &FAULTS {
         assert_eq!(rt; fault_of(rt.alloc(), source), Some((kind, line, column)));
     }
 }
@@ -85,7 +85,7 @@ fn lines_are_counted(rt: HostRuntime) -> Result<(), Fail> {
 }
 
 /// Statements, and the words that the GNU assembler makes of them. The last fills a section up to its limit.
-const WORDS: [(&[u8], u32); 16] = [
+static WORDS: [(&[u8], u32); 16] = [
     (b"add x23, x13, x21", 0x0156_8bb3),
     (b"ld x4, 1406(x24)", 0x57ec_3203),
     (b"sd x31, -1(x26)", 0xfffd_3fa3),
@@ -106,7 +106,7 @@ const WORDS: [(&[u8], u32); 16] = [
 
 #[test]
 fn statements_have_their_words(rt: HostRuntime) {
-    for (source, word) in WORDS {
+    for &(source, word) in &WORDS {
         assert_eq!(rt; word_of(rt.alloc(), source), Some(word));
     }
 }

@@ -26,7 +26,7 @@ fn program(alloc: Global, text: &[u8]) -> Result<Vec<u8>, AllocError> {
 }
 
 /// The texts of the programs, by path: three words each.
-const TEXTS: [(&str, [u8; 12]); 7] = [
+static TEXTS: [(&str, [u8; 12]); 7] = [
     // addi a0, x0, 0; addi a7, x0, 93; ecall
     (
         "one",
@@ -79,7 +79,7 @@ fn doubled(alloc: Global) -> Result<Vec<u8>, AllocError> {
 }
 
 /// A source of the program `one`, and three that have a fault.
-const SOURCES: [(&str, &[u8]); 4] = [
+static SOURCES: [(&str, &[u8]); 4] = [
     (
         "one.s",
         b"    addi a0, x0, 0\n    addi a7, x0, 93\n    ecall\n",
