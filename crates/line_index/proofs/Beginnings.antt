@@ -6,16 +6,9 @@ use Rattle.std.proofs.lemmas.Bool.Decides.{nat_tests}
 use Rattle.line_index.specs.declared.changes.Change.{Change}
 use Rattle.line_index.specs.Changes.{value_at, IsRising}
 use Rattle.line_index.specs.Keys.{is_at, starts}
+use Rattle.line_index.specs.Turns.{Rises}
 use Rattle.line_index.proofs.Pieces.{Among, head_value}
-
--- each number is greater than the one before it
-abbrev Rises : ℕ → List ℕ → Type 0
-Rises low [] = Unit {0}
-Rises low (x ∷ xs) = (low ≤ x) × Rises (suc x) xs
-
-rises_lower : (low high : ℕ) (xs : List ℕ) → low ≤ high → Rises high xs → Rises low xs
-rises_lower low high [] le up = tt
-rises_lower low high (x ∷ xs) le up = (omega (arith, up.0), up.1)
+use Rattle.line_index.proofs.Turning.{rises_step}
 
 rises_by_place : (low : ℕ) (xs : List ℕ) → Rises low xs → IsStrictlyIncreasing xs
 rises_by_place low [] up k lt = absurd (omega arith)
@@ -25,10 +18,6 @@ rises_by_place low (x ∷ y ∷ ys) up (suc k) lt =
     let e : suc k + 1 ≡ suc (k + 1) = omega arith in
     let less : slice_index (y ∷ ys) k < slice_index (y ∷ ys) (k + 1) = rises_by_place (suc x) (y ∷ ys) up.1 k (omega arith) in
     subst (λ n. slice_index (y ∷ ys) k < slice_index (x ∷ y ∷ ys) n) (sym e) less
-
-rises_step : (t : Bool) (low a : ℕ) (xs : List ℕ) → low ≤ a → Rises (suc a) xs → Rises low (cond t (a ∷ []) [] ++ xs)
-rises_step true low a xs le up = (le, up)
-rises_step false low a xs le up = rises_lower low (suc a) xs (omega arith) up
 
 starts_rise : (k low : ℕ) (x : Option ℕ) (cs : List Change) → IsRising low cs → Rises low (starts k x cs)
 starts_rise k low x [] up = tt

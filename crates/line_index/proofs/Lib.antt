@@ -7,6 +7,7 @@ pub mod Order
 pub mod Whole
 pub mod Examples
 pub mod Starting
+pub mod Turning
 pub mod Distinct
 pub mod Found
 pub mod Names

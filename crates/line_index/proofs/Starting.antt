@@ -72,7 +72,7 @@ noted count changes lists after before i d lt below is so_far =
     subst (λ ls. Starting count changes ls (get_or changes i d).position (drop (i + 1) changes)) (sym is)
     (noted_by count changes lists before (get_or changes i d).address (get_or changes i d).position (drop (i + 1) changes) here (subst (Starting count changes lists before) front so_far))
 
-nothing_ahead : (cs : List Change) (i : ℕ) → length cs ≤ i → drop i cs ≡ []
+pub nothing_ahead : (cs : List Change) (i : ℕ) → length cs ≤ i → drop i cs ≡ []
 nothing_ahead [] zero le = refl
 nothing_ahead [] (suc i) le = refl
 nothing_ahead (c ∷ cs) zero le = absurd (omega arith)

@@ -2,6 +2,7 @@ pub mod Changes
 pub mod Lines
 pub mod Spans
 pub mod Keys
+pub mod Turns
 pub mod Index
 pub mod Backwards
 pub mod Listed

@@ -1,11 +1,12 @@
 -- What callers see of an index, and what it keeps beside.
-use Rattle.std.specs.Prelude.{◌≡◌, ◌<◌, ◌^◌, length, map, All}
+use Rattle.std.specs.Prelude.{◌≡◌, ℕ, ◌<◌, ◌^◌, [], None, length, map, get_or, All}
 use Rattle.std.specs.List.Sorted.{IsStrictlySortedBy}
 use Rattle.line_index.specs.declared.LineIndex.TheInside.{Inside}
 use Rattle.line_index.specs.Changes.{IsRising}
 use Rattle.line_index.specs.Lines.{IsRight, label}
 use Rattle.line_index.specs.Keys.{HasPath, key_cmp, path_cmp, texts}
 use Rattle.line_index.specs.Backwards.{AreBackwards}
+use Rattle.line_index.specs.Turns.{turns}
 use Rattle.line_index.specs.Index.{Index, line_at}
 
 abbrev pub index_view : Inside → Index
@@ -26,3 +27,4 @@ pub record IsWhole (inside : Inside) : Type 0 where
   pub labels : inside.labels.items ≡ map label (map (line_at (texts inside.paths.items)) inside.lines.items)
   pub as_many : length inside.entries.items ≡ length inside.lines.items
   pub rising : IsRising 0 inside.changes.items
+  pub turns : (k : ℕ) → get_or (texts inside.turns.items) k [] ≡ turns k None inside.changes.items

@@ -8,7 +8,7 @@ use coz_types::Address;
 use std::alloc::{AllocError, Global};
 
 /// So many empty lists.
-fn empty_lists(alloc: Global, count: usize) -> Result<Vec<Vec<Address>>, AllocError>
+pub fn empty_lists(alloc: Global, count: usize) -> Result<Vec<Vec<Address>>, AllocError>
     ensures as_many { IfOk result (λ lists. length lists.items ≡ count) }
     ensures empty { IfOk result (λ lists. All (λ (list : List ℕ). list ≡ []) (texts lists.items)) }
 {

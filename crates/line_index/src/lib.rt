@@ -13,13 +13,14 @@ mod named;
 mod paths;
 mod room;
 mod spans;
+mod turns;
 mod written;
 
 ghost use Rattle.std.specs.Prelude.{◌≡◌, ◌≤◌, ◌<◌, ℕ, true, length, IfOk, Some, option_map, map, slice_get};
 ghost use Rattle.coz_types.specs.Labels.{Text, is_label, label_before};
 ghost use Rattle.dwarf_lines.specs.Registers.{view};
 ghost use Rattle.line_index.specs.Lines.{label, found};
-ghost use Rattle.line_index.specs.Index.{Index, IsIndex, position_at};
+ghost use Rattle.line_index.specs.Index.{Index, IsIndex, has_line, position_at};
 ghost use Rattle.line_index.specs.Listed.{IsListed};
 
 use crate::backwards::{Backward, backwards};
@@ -31,6 +32,7 @@ use crate::lines::{Key, line_changes, sorted_keys};
 use crate::named::named_files;
 use crate::paths::{path_positions, sorted_paths};
 use crate::spans::covering_rows;
+use crate::turns::{is_within, turns};
 use coz_types::{Address, Image, Label, LineId};
 use dwarf_lines::LineTable;
 use std::alloc::{AllocError, Global};
@@ -45,6 +47,7 @@ pub struct LineIndex {
     labels: Vec<Label>,
     entries: Vec<Vec<Address>>,
     changes: Vec<Change>,
+    turns: Vec<Vec<Address>>,
 }
 
 impl Model for LineIndex {
@@ -72,6 +75,17 @@ impl LineIndex {
         ensures { result ≡ option_map (λ k. record { 0 = k }) (position_at self.now address) }
     {
         changes::position_at(&self.changes, address).map(LineId)
+    }
+
+    /// Whether an address has this line. Its own turns alone are asked, and not those of all lines.
+    #[inline]
+    pub fn has_line(&self, line: LineId, address: Address) -> bool
+        ensures { result ≡ has_line self.now line.0 address }
+    {
+        match self.turns.get(line.0 as usize) {
+            Some(turns) => is_within(turns, address),
+            None => false,
+        }
     }
 
     /// The addresses at which runs of addresses with this line begin, rising.
@@ -120,6 +134,7 @@ pub fn build(alloc: Global, table: &LineTable, image: &Image) -> Result<LineInde
     let entries = entries(alloc, &changes, lines.len())?;
     let labels = labels(alloc, &paths, &lines)?;
     let backwards = backwards(alloc, &paths)?;
+    let turns = turns(alloc, &changes, lines.len())?;
     Ok(LineIndex {
         paths,
         backwards,
@@ -127,6 +142,7 @@ pub fn build(alloc: Global, table: &LineTable, image: &Image) -> Result<LineInde
         labels,
         entries,
         changes,
+        turns,
     })
 }
 

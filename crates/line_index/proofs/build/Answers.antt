@@ -1,4 +1,4 @@
-use Rattle.std.proofs.Common.{◌≡◌, ◌≤◌, ℕ, Option, List, map, length, All, Contains, sym, ap, ◌∙◌, subst, arith}
+use Rattle.std.proofs.Common.{◌≡◌, ◌≤◌, ℕ, Option, None, List, map, length, All, Contains, sym, ap, ◌∙◌, subst, arith}
 use Rattle.std.specs.Global.{Vec}
 use Rattle.coz_types.specs.declared.image.Area.{Area}
 use Rattle.dwarf_lines.specs.declared.FileName.{FileName}
@@ -12,6 +12,7 @@ use Rattle.line_index.specs.Keys.{ArePlaces, entries_view, texts, change_keys, I
 use Rattle.line_index.proofs.Areas.{few_areas}
 use Rattle.line_index.proofs.Found.{all_below}
 use Rattle.line_index.specs.Backwards.{AreBackwards}
+use Rattle.line_index.specs.Turns.{turns}
 use Rattle.line_index.specs.Index.{IsIndex, line_at}
 use Rattle.line_index.proofs.Whole.{Built, is_index}
 use Rattle.line_index.proofs.Righted.{have_paths, right_lines}
@@ -60,16 +61,16 @@ entries-requires c =
     let below = all_below c.as_slice-rows.result.now c.deref-11.result.now c.deref-12.result.now c.deref-13.result.now c.in_ok-changes.changes.items c.in_ok-changes.ensures in
     subst (λ n. All (IsBelow n) c.deref-14.result.now) count (subst (λ (changes : List Change). All (IsBelow (length c.deref-12.result.now)) changes) (sym c.deref-14.ensures.value) below)
 
-abbrev needed : (c : goal.In_ok-backwards) → Table
+abbrev needed : (c : goal.In_ok-turns) → Table
 needed c = record (view c.args.table.now) { files = files_view c.in_ok-named.named.items }
 
-placed : (c : goal.In_ok-backwards) → ArePlaces c.deref-4.result.now c.in_ok-positions.positions.items (files_view c.deref-8.result.now)
+placed : (c : goal.In_ok-turns) → ArePlaces c.deref-4.result.now c.in_ok-positions.positions.items (files_view c.deref-8.result.now)
 placed c =
     c.in_ok-positions.ensures c.deref-4.result.now
     (subst (λ (positions : List (Option ℕ)). ArePlaces c.deref-4.result.now positions (entries_view c.deref-6.result.now)) (sym c.deref-7.ensures.value)
     (subst (λ (entries : List Entry). ArePlaces c.deref-4.result.now c.in_ok-ranks.ranks.items (entries_view entries)) (c.deref-5.ensures.value ∙ sym c.deref-6.ensures.value) c.in_ok-ranks.ensures))
 
-built : (c : goal.In_ok-backwards) → Built (needed c).files (needed c).rows c.args.image.now.areas (texts c.in_ok-paths.paths.items) c.in_ok-positions.positions.items c.in_ok-lines.lines.items c.in_ok-covering.covering.items c.in_ok-changes.changes.items
+built : (c : goal.In_ok-turns) → Built (needed c).files (needed c).rows c.args.image.now.areas (texts c.in_ok-paths.paths.items) c.in_ok-positions.positions.items c.in_ok-lines.lines.items c.in_ok-covering.covering.items c.in_ok-changes.changes.items
 built c = is_built (needed c) c.args.image.now.areas c.areas.result.now c.as_slice-rows.result.now (files_view c.deref-8.result.now) c.in_ok-paths.paths.items c.deref-4.result.now c.in_ok-positions.positions.items c.deref-9.result.now c.deref-11.result.now c.in_ok-lines.lines.items c.deref-12.result.now c.in_ok-covering.covering.items c.deref-10.result.now c.deref-13.result.now c.in_ok-changes.changes.items
     c.areas.ensures.areas c.as_slice-rows.ensures (ap files_view c.deref-8.ensures.value) c.deref-4.ensures.value c.deref-9.ensures.value c.deref-11.ensures.value c.deref-12.ensures.value c.deref-10.ensures.value c.deref-13.ensures.value
     c.in_ok-paths.ensures.in_order (placed c) c.in_ok-covering.ensures.values c.in_ok-covering.ensures.rises c.in_ok-lines.ensures.in_order c.in_ok-lines.ensures.each c.in_ok-changes.ensures
@@ -93,15 +94,16 @@ invariant_of-result c =
       labels = labels_are c.in_ok-labels.labels.items c.deref-15.result.now c.in_ok-paths.paths.items c.deref-16.result.now c.in_ok-lines.lines.items c.deref-15.ensures.value c.deref-16.ensures.value c.in_ok-labels.ensures;
       as_many = entries_many c.in_ok-entries.entries.items c.deref-14.result.now c.len.result (length c.in_ok-lines.lines.items) (c.len.ensures ∙ c.in_ok-lines.lines.ok.0) c.in_ok-entries.ensures;
       rising = rise_of c.as_slice-rows.result.now c.deref-11.result.now c.deref-12.result.now c.deref-13.result.now c.in_ok-covering.covering.items c.in_ok-changes.changes.items c.deref-13.ensures.value c.in_ok-covering.ensures.rises c.in_ok-changes.ensures;
+      turns = λ k. c.in_ok-turns.ensures k ∙ ap (turns k None) c.deref-18.ensures.value;
     }
 
-the_lines : (c : goal.In_ok-backwards) → (a : ℕ) → line_of (needed c) c.args.image.now.areas a ≡ line_of (view c.args.table.now) c.args.image.now.areas a
+the_lines : (c : goal.In_ok-turns) → (a : ℕ) → line_of (needed c) c.args.image.now.areas a ≡ line_of (view c.args.table.now) c.args.image.now.areas a
 the_lines c =
     same_line (view c.args.table.now) c.args.image.now.areas c.in_ok-named.named.items c.as_slice-files.result.now c.in_ok-covering.covering.items (ap files_view (sym c.as_slice-files.ensures)) (built c).values
     (subst (λ (rows : List Row). All (λ (change : Change). Names rows c.in_ok-named.named.items c.as_slice-files.result.now change.position) c.in_ok-covering.covering.items) c.as_slice-rows.ensures
     (subst (λ (changes : List Change). All (λ (change : Change). Names c.as_slice-rows.result.now c.in_ok-named.named.items c.as_slice-files.result.now change.position) changes) c.deref.ensures.value c.in_ok-named.ensures.named))
 
-the_index : (c : goal.In_ok-backwards) → IsIndex (view c.args.table.now) c.args.image.now.areas (record { lines = map (line_at (texts c.in_ok-paths.paths.items)) c.in_ok-lines.lines.items; entries = texts c.in_ok-entries.entries.items; changes = c.in_ok-changes.changes.items })
+the_index : (c : goal.In_ok-turns) → IsIndex (view c.args.table.now) c.args.image.now.areas (record { lines = map (line_at (texts c.in_ok-paths.paths.items)) c.in_ok-lines.lines.items; entries = texts c.in_ok-entries.entries.items; changes = c.in_ok-changes.changes.items })
 the_index c =
     same_index (needed c) (view c.args.table.now) c.args.image.now.areas _ (the_lines c)
     (is_index (needed c) c.args.image.now.areas (texts c.in_ok-paths.paths.items) c.in_ok-positions.positions.items c.in_ok-lines.lines.items c.in_ok-covering.covering.items c.in_ok-changes.changes.items (texts c.in_ok-entries.entries.items) (built c)
@@ -112,3 +114,9 @@ returns-clause-index c = the_index c.before.before.before.before.before
 
 pub returns-clause-listed : goal.returns-clause-listed
 returns-clause-listed c = is_listed (the_index c.before.before.before.before.before)
+
+pub turns-requires : goal.turns-requires
+turns-requires c =
+    let count : length c.deref-12.result.now ≡ c.len-2.result = ap length c.deref-12.ensures.value ∙ sym (c.len-2.ensures ∙ c.in_ok-lines.lines.ok.0) in
+    let below = all_below c.as_slice-rows.result.now c.deref-11.result.now c.deref-12.result.now c.deref-13.result.now c.in_ok-changes.changes.items c.in_ok-changes.ensures in
+    subst (λ n. All (IsBelow n) c.deref-18.result.now) count (subst (λ (changes : List Change). All (IsBelow (length c.deref-12.result.now)) changes) (sym c.deref-18.ensures.value) below)
