@@ -1,11 +1,11 @@
 -- One move of the engine, from its calls.
-use Rattle.std.proofs.Common.{◌≡◌, ℕ, ◌+◌, ◌^◌, ◌≤◌, ◌<◌, false, List, [], ◌∷◌, ◌++◌, length, nat_le, true, Option, Some, None, IsSome, is_some, refl, ap, subst, sym, ◌∙◌, arith}
+use Rattle.std.proofs.Common.{◌≡◌, ℕ, ◌+◌, ◌^◌, ◌≤◌, ◌<◌, false, List, [], ◌∷◌, ◌++◌, length, nat_le, true, Option, Some, None, IsSome, is_some, if◌then◌else◌, refl, ap, subst, sym, ◌∙◌, arith}
 use Rattle.std.proofs.lemmas.Bool.Decides.{nat_tests}
 use Rattle.std.proofs.lemmas.List.{length-set}
 use Rattle.coz_types.specs.declared.ending.Ending.{Ending}
 use Rattle.hart_schedule.specs.Keys.{Keys, key_of, with_key, without_key, IsLeast}
 use Rattle.machines.specs.declared.Fate.{Fate}
-use Rattle.machines.specs.Guest.{Retirement}
+use Rattle.machines.specs.Guest.{Retirement, goes_on}
 use Rattle.progress_points.specs.Points.{point_of}
 use Rattle.guest_calls.specs.Guest.{Guest, pc_of, is_running, is_sleeping, with_wake}
 use Rattle.guest_calls.specs.Retire.{retire}
@@ -19,7 +19,7 @@ use Rattle.virtual_run.specs.Run.{selects, selected_of, ticks_in, events_of, Are
 use Rattle.virtual_run.specs.Advance.{told_in, IsRetired, IsSettled, IsWoken}
 use Rattle.virtual_run.proofs.Keys.{has_place, rested_length}
 use Rattle.virtual_run.proofs.Many.{many_with, many_without}
-use Rattle.virtual_run.proofs.Begin.{ticks_few, within_begun, within_left, within_later, many_rested, woken_begun, one_at_most}
+use Rattle.virtual_run.proofs.Begin.{ticks_few, within_begun, within_left, within_later, left_runs, many_rested, woken_begun, one_at_most}
 use Rattle.virtual_run.proofs.Law.{IsTurn, started_idle, woken_idle, none_own, none_full}
 use Rattle.virtual_run.proofs.Moves.{IsMove, run_of, woken_run, outcome, net_kept, ended, goes, woken}
 
@@ -42,6 +42,11 @@ below_limit limit count e = grind (arith, nat_tests)
 pub not_some : (e : Option Ending) → e ≡ None → IsSome e → ⊥
 not_some None is some = let no : false ≡ true = some in let never : ⊥ = cc in never
 not_some (Some a) is some = let no : ⊥ = cc in no
+
+-- how the run ends, by the schedule that the hart has left, if it does
+pub told_left : (setting : Setting) (run : Run) (fate : Fate) (h : ℕ) (left : Keys) → left ≡ (if goes_on fate then run.schedule else rested h fate run.schedule) → told_in setting fate run left ≡ told_in setting fate run (rested h fate run.schedule)
+told_left setting run fate h left is =
+    ap (λ runs. ending_of fate (nat_le setting.choice.output_limit (length run.guest.output)) (nat_le setting.choice.visit_limit (length run.visits.kept)) runs run.retired setting.choice.budget) (left_runs fate run.started h run.schedule left is)
 
 module _ (setting : Setting) (run : Run) (left : Keys) (h due delay : ℕ) (after : Guest) (fate : Fate) (others : List ℕ) (now : Visits) (address : ℕ) (e : Option Ending) (l : IsLeft setting run left h due delay after fate others now address e) where
   move_is : IsMove setting run left h due after fate others now.kept e

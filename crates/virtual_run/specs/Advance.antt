@@ -12,7 +12,7 @@ use Rattle.virtual_run.specs.declared.choice.Setting.{Setting}
 use Rattle.virtual_run.specs.declared.run.Event.{Event}
 use Rattle.virtual_run.specs.declared.run.Event.TheVariants.{Woke, Retired}
 use Rattle.virtual_run.specs.declared.run.Run.{Run}
-use Rattle.virtual_run.specs.Begin.{started_by, rested, many, AreBegun}
+use Rattle.virtual_run.specs.Begin.{started_by, rested, many, AreIdle, AreBegun}
 use Rattle.virtual_run.specs.Ending.{ending_of, runs_after}
 use Rattle.virtual_run.specs.Run.{experiment_in, selected_of, ticks_in, events_of, state_of, AreDues, AreWithin, IsStateOf}
 use Rattle.virtual_run.specs.Visits.{visits_of}
@@ -50,6 +50,17 @@ told_in setting fate run keys =
     (nat_le setting.choice.visit_limit (length run.visits.kept))
     (runs_after fate run.started keys)
     run.retired setting.choice.budget
+
+-- a hart of this run has retired to this fate, and the run has not yet settled it: where it doesn't end with that, each hart that was started may begin
+pub record CanSettle (setting : Setting) (run : Run) (hart : ℕ) (fate : Fate) : Type 0 where
+  pub goes : run.ending ≡ None
+  pub below : hart < length run.schedule
+  pub idle : told_in setting fate run (rested hart fate run.schedule) ≡ None → AreIdle run.guest (rested hart fate run.schedule) (started_by hart fate run.started)
+  pub moment : run.time ≤ 2 ^ 60
+  pub speedup : setting.choice.speedup ≤ 95
+  pub room : length run.schedule ≡ 256
+  pub selected : run.selected ≡ []
+  pub few : run.starts ≤ 2 ^ 62
 
 -- what a retirement to this fate started has begun, at its moment
 pub record HasBegun (setting : Setting) (run : Run) (hart : ℕ) (fate : Fate) (new : Run) : Type 0 where

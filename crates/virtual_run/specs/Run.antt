@@ -1,10 +1,11 @@
 -- The run of a program: the machines over its guest, with a selected line and progress points.
-use Rattle.std.specs.Prelude.{◌≡◌, ℕ, ◌+◌, ◌*◌, ◌^◌, ◌≤◌, ◌<◌, ◌==◌, Bool, false, List, [], ◌∷◌, map, filter, length, get_or, Option, Some, None, is_some, option_map}
+use Rattle.std.specs.Prelude.{◌≡◌, ℕ, ◌+◌, ◌*◌, ◌^◌, ◌≤◌, ◌<◌, Bool, false, List, [], ◌∷◌, map, filter, length, get_or, Option, Some, None, is_some, option_map}
 use Rattle.coz_types.specs.Image.{ImageParts}
 use Rattle.hart_schedule.specs.Keys.{Keys, key_of, IsEmpty}
 use Rattle.machines.specs.Guest.{Experiment}
 use Rattle.machines.specs.Shortened.{Shortened, shortened}
 use Rattle.line_index.specs.Index.{position_at}
+use Rattle.line_index.specs.Keys.{is_at}
 use Rattle.progress_points.specs.Points.{point_of}
 use Rattle.guest_memory.specs.Regions.{IsLayout}
 use Rattle.guest_calls.specs.Guest.{Guest, pc_of, is_timed, first_guest}
@@ -31,14 +32,10 @@ pub record IsChoice (c : Choice) : Type 0 where
 abbrev pub selected_line : Choice → Option ℕ
 selected_line choice = option_map (λ line. line.0) choice.selected
 
-abbrev pub is_line : ℕ → Option ℕ → Bool
-is_line line None = false
-is_line line (Some other) = other == line
-
 -- the address has the selected line; `position` gives the line of an address
 abbrev pub has_selected : Option ℕ → (ℕ → Option ℕ) → ℕ → Bool
 has_selected None position a = false
-has_selected (Some line) position a = is_line line (position a)
+has_selected (Some line) position a = is_at line (position a)
 
 -- the guest of a run: what lines and points addresses have, and what is chosen
 abbrev pub experiment_from : Guest → (ℕ → Option ℕ) → (ℕ → Option ℕ) → Choice → Experiment Guest

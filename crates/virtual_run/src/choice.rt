@@ -38,11 +38,8 @@ impl<'a> Setting<'a> {
     pub fn has_selected(&self, address: Address) -> bool
         ensures { result ≡ selects self.now address }
     {
-        let Some(selected) = self.choice.selected else {
-            return false;
-        };
-        match self.index.line_of(address) {
-            Some(line) => line.0 == selected.0,
+        match self.choice.selected {
+            Some(line) => self.index.has_line(line, address),
             None => false,
         }
     }

@@ -197,7 +197,7 @@ fn ending_after(
 
 impl<'a> Run<'a> {
     ghost use Rattle.virtual_run.specs.Run.{selected_of, ticks_in, IsChoice, IsSteady, IsFirst};
-    ghost use Rattle.virtual_run.specs.Advance.{told_in, IsAdvance, IsRetired, IsSettled, IsWoken};
+    ghost use Rattle.virtual_run.specs.Advance.{CanSettle, IsAdvance, IsRetired, IsSettled, IsWoken};
 
     /// A run that is about to begin.
     pub fn new(
@@ -310,15 +310,7 @@ impl<'a> Run<'a> {
     /// on which no fate is handed on.
     #[inline(always)]
     fn settle(&mut self, setting: &Setting, hart: HartId, fate: Fate)
-        requires goes { self.old.ending ≡ None }
-        requires below { hart.0 < length self.old.schedule }
-        requires idle { told_in setting.now fate self.old (rested hart.0 fate self.old.schedule) ≡ None →
-            AreIdle self.old.guest (rested hart.0 fate self.old.schedule) (started_by hart.0 fate self.old.started) }
-        requires moment { self.old.time ≤ 2 ^ 60 }
-        requires speedup { setting.now.choice.speedup ≤ 95 }
-        requires room { length self.old.schedule ≡ 256 }
-        requires selected { self.old.selected ≡ [] }
-        requires few { self.old.starts ≤ 2 ^ 62 }
+        requires { CanSettle setting.now self.old hart.0 fate }
         ensures { IsSettled setting.now self.old hart.0 fate self.new }
     {
         match fate {
@@ -330,15 +322,7 @@ impl<'a> Run<'a> {
     /// The same, apart from the way of most retirements.
     #[inline(never)]
     fn end_or_begin_apart(&mut self, setting: &Setting, hart: HartId, fate: Fate)
-        requires goes { self.old.ending ≡ None }
-        requires below { hart.0 < length self.old.schedule }
-        requires idle { told_in setting.now fate self.old (rested hart.0 fate self.old.schedule) ≡ None →
-            AreIdle self.old.guest (rested hart.0 fate self.old.schedule) (started_by hart.0 fate self.old.started) }
-        requires moment { self.old.time ≤ 2 ^ 60 }
-        requires speedup { setting.now.choice.speedup ≤ 95 }
-        requires room { length self.old.schedule ≡ 256 }
-        requires selected { self.old.selected ≡ [] }
-        requires few { self.old.starts ≤ 2 ^ 62 }
+        requires { CanSettle setting.now self.old hart.0 fate }
         ensures { IsSettled setting.now self.old hart.0 fate self.new }
     {
         self.end_or_begin(setting, hart, fate);
@@ -347,15 +331,7 @@ impl<'a> Run<'a> {
     /// The run ends with a retirement of this fate, or what was started begins.
     #[inline(always)]
     fn end_or_begin(&mut self, setting: &Setting, hart: HartId, fate: Fate)
-        requires goes { self.old.ending ≡ None }
-        requires below { hart.0 < length self.old.schedule }
-        requires idle { told_in setting.now fate self.old (rested hart.0 fate self.old.schedule) ≡ None →
-            AreIdle self.old.guest (rested hart.0 fate self.old.schedule) (started_by hart.0 fate self.old.started) }
-        requires moment { self.old.time ≤ 2 ^ 60 }
-        requires speedup { setting.now.choice.speedup ≤ 95 }
-        requires room { length self.old.schedule ≡ 256 }
-        requires selected { self.old.selected ≡ [] }
-        requires few { self.old.starts ≤ 2 ^ 62 }
+        requires { CanSettle setting.now self.old hart.0 fate }
         ensures { IsSettled setting.now self.old hart.0 fate self.new }
     {
         leave(&mut self.schedule, hart, fate);

@@ -1,16 +1,15 @@
-use Rattle.std.proofs.Common.{ℕ, ◌+◌, ◌≤◌, Option, Bool, is_some, length, nat_le, refl, ap, subst, sym, ◌∙◌}
+use Rattle.std.proofs.Common.{ℕ, ◌+◌, ◌≤◌, Option, is_some, length, refl, ap, subst, sym, ◌∙◌}
 use Rattle.coz_types.specs.declared.ending.Ending.{Ending}
 use Rattle.hart_schedule.specs.Keys.{Keys}
 use Rattle.machines.specs.declared.Fate.{Fate}
 use Rattle.virtual_run.specs.declared.choice.Setting.{Setting}
 use Rattle.virtual_run.specs.declared.run.Run.{Run}
 use Rattle.virtual_run.specs.Begin.{started_by, many, AreIdle, AreBegun}
-use Rattle.virtual_run.specs.Ending.{ending_of}
 use Rattle.virtual_run.specs.Run.{ticks_in}
 use Rattle.virtual_run.specs.Advance.{IsSettled}
-use Rattle.virtual_run.proofs.Begin.{left_again, left_runs}
+use Rattle.virtual_run.proofs.Begin.{left_again}
 use Rattle.virtual_run.proofs.Law.{none_when, some_when}
-use Rattle.virtual_run.proofs.Advance.{not_some}
+use Rattle.virtual_run.proofs.Advance.{not_some, told_left}
 use Rattle.virtual_run.proofs.run.Run.end_or_begin.Goals as goal
 
 pub begin_started-requires-clause-idle : goal.begin_started-requires-clause-idle
@@ -19,8 +18,7 @@ begin_started-requires-clause-idle c =
     let h : ℕ = c.args.hart.0 in
     let fate : Fate = c.args.fate in
     let setting : Setting = c.args.setting.now in
-    let told : Bool → Option Ending = λ runs. ending_of fate (nat_le setting.choice.output_limit (length s.guest.output)) (nat_le setting.choice.visit_limit (length s.visits.kept)) runs s.retired setting.choice.budget in
-    let same = ap told (left_runs fate s.started h s.schedule c.leave.new.schedule c.leave.ensures) in
+    let same = told_left setting s fate h c.leave.new.schedule c.leave.ensures in
     let none = sym same ∙ none_when _ (sym c.ends_with.ensures ∙ c.if-ends_with.false) in
     subst (λ (keys : Keys). AreIdle s.guest keys (started_by h fate s.started)) (sym (left_again fate h s.schedule c.leave.new.schedule c.leave.ensures)) (c.requires.idle none)
 
@@ -30,8 +28,7 @@ returns-else-ends_with c =
     let h : ℕ = c.args.hart.0 in
     let fate : Fate = c.args.fate in
     let setting : Setting = c.args.setting.now in
-    let told : Bool → Option Ending = λ runs. ending_of fate (nat_le setting.choice.output_limit (length s.guest.output)) (nat_le setting.choice.visit_limit (length s.visits.kept)) runs s.retired setting.choice.budget in
-    let same = ap told (left_runs fate s.started h s.schedule c.leave.new.schedule c.leave.ensures) in
+    let same = told_left setting s fate h c.leave.new.schedule c.leave.ensures in
     let again = left_again fate h s.schedule c.leave.new.schedule c.leave.ensures in
     let IsNext : Run → Type 0 = λ run. IsSettled setting s h fate run in
     let b = c.begin_started in
@@ -56,8 +53,7 @@ returns-then-ends_with c =
     let h : ℕ = c.args.hart.0 in
     let fate : Fate = c.args.fate in
     let setting : Setting = c.args.setting.now in
-    let told : Bool → Option Ending = λ runs. ending_of fate (nat_le setting.choice.output_limit (length s.guest.output)) (nat_le setting.choice.visit_limit (length s.visits.kept)) runs s.retired setting.choice.budget in
-    let same = ap told (left_runs fate s.started h s.schedule c.leave.new.schedule c.leave.ensures) in
+    let same = told_left setting s fate h c.leave.new.schedule c.leave.ensures in
     let again = left_again fate h s.schedule c.leave.new.schedule c.leave.ensures in
     let IsNext : Run → Type 0 = λ run. IsSettled setting s h fate run in
     let e : Option Ending = c.ending_after-self.result in

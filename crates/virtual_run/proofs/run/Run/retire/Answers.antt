@@ -1,4 +1,4 @@
-use Rattle.std.proofs.Common.{◌≡◌, ℕ, ◌≤◌, ◌<◌, length, refl, arith, subst}
+use Rattle.std.proofs.Common.{◌≡◌, ℕ, ◌≤◌, ◌<◌, length, refl, arith, rules, subst}
 use Rattle.hart_schedule.specs.Keys.{Keys}
 use Rattle.machines.specs.declared.Fate.{Fate}
 use Rattle.virtual_run.specs.Begin.{rested, many}
@@ -10,36 +10,38 @@ use Rattle.virtual_run.proofs.run.Run.retire.Goals as goal
 pub keep_visit-requires-clause-hart : goal.keep_visit-requires-clause-hart
 keep_visit-requires-clause-hart c = subst (λ (n : ℕ). c.args.turn.hart.0 < n) c.requires.steady.room (has_place c.args.self.now.schedule c.args.turn.hart.0 c.args.turn.due c.requires.turn)
 
-pub settle-requires-clause-below : goal.settle-requires-clause-below
-settle-requires-clause-below c = has_place c.args.self.now.schedule c.args.turn.hart.0 c.args.turn.due c.requires.turn
-
-pub settle-requires-clause-idle : goal.settle-requires-clause-idle
-settle-requires-clause-idle c none =
+pub settle-requires : goal.settle-requires
+settle-requires c =
     let h : ℕ = c.args.turn.hart.0 in
     let keys : Keys = c.args.self.now.schedule in
     let fate : Fate = c.retire_due-fate.result in
-    idle_then c.args.setting.now c.args.self.now (rested h fate keys) h c.args.turn.due c.args.delay c.retire_due-fate.new.guest fate c.retire_due-fate.new.started c.keep_visit.new.visits c.pc-address.result _
-    (record {
-      steady = c.requires.steady;
-      running = c.requires.running;
-      turn = c.requires.turn;
-      first = c.requires.first;
-      taken = refl;
-      place = c.pc-address.ensures;
-      retires = c.retire_due-fate.ensures.effect;
-      keeps = c.keep_visit.ensures;
-      ends = refl;
-    })
-    none
-
-pub settle-requires-clause-few : goal.settle-requires-clause-few
-settle-requires-clause-few c =
-    let few : many c.args.self.now.schedule ≤ length c.args.self.now.schedule = many_few c.args.self.now.schedule in
-    let room : length c.args.self.now.schedule ≡ 256 = c.requires.steady.room in
+    let few : many keys ≤ length keys = many_few keys in
+    let room : length keys ≡ 256 = c.requires.steady.room in
     let retired = c.requires.steady.retired in
     let wakes = c.requires.steady.wakes in
     let starts = c.requires.steady.few in
-    omega arith
+    record {
+      goes = c.requires.steady.goes;
+      below = has_place keys h c.args.turn.due c.requires.turn;
+      idle = λ none. idle_then c.args.setting.now c.args.self.now (rested h fate keys) h c.args.turn.due c.args.delay c.retire_due-fate.new.guest fate c.retire_due-fate.new.started c.keep_visit.new.visits c.pc-address.result _
+          (record {
+            steady = c.requires.steady;
+            running = c.requires.running;
+            turn = c.requires.turn;
+            first = c.requires.first;
+            taken = refl;
+            place = c.pc-address.ensures;
+            retires = c.retire_due-fate.ensures.effect;
+            keeps = c.keep_visit.ensures;
+            ends = refl;
+          })
+          none;
+      moment = search rules;
+      speedup = c.requires.speedup;
+      room = room;
+      selected = c.clear-2.ensures;
+      few = omega arith;
+    }
 
 pub returns-clause-retired : goal.returns-clause-retired
 returns-clause-retired c =
