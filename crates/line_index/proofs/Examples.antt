@@ -7,8 +7,10 @@ use Rattle.leb_cursor.specs.Ahead.{◌>>=◌}
 use Rattle.dwarf_lines.specs.Names.{strings, form_for}
 use Rattle.dwarf_lines.specs.Reading.{texts, files, pass, header, operation, program, unit_body, unit, units, reading, formats, values, entries, listed}
 use Rattle.dwarf_lines.specs.Registers.{File, Table}
+use Rattle.line_index.specs.declared.changes.Change.{Change}
 use Rattle.line_index.specs.Lines.{Line, line_of, label, found, path}
 use Rattle.line_index.specs.Listed.{lines_in, entries_in, position_in}
+use Rattle.line_index.specs.Turns.{turns, is_within}
 
 abbrev code : Area
 code = record { start = 0x10000; size = 4096; rights = record { read = true; write = false; execute = true }; vaddr = 0x10000; offset = 0; filled = 100 }
@@ -64,6 +66,18 @@ entries_of_two = refl
 positions_of_two : map (position_in two (code ∷ [])) (0x10003 ∷ 0x10004 ∷ 0x10008 ∷ 0x1000C ∷ []) ≡ Some 1 ∷ Some 0 ∷ Some 1 ∷ None ∷ []
 unfolding position_in lines_in line_of
 positions_of_two = refl
+
+-- where each of these two lines begins and, in turn with that, ends, and which addresses stand between
+abbrev changes_of_two : List Change
+changes_of_two = record { address = 0x10000; position = Some 1 } ∷ record { address = 0x10004; position = Some 0 } ∷ record { address = 0x10008; position = Some 1 } ∷ record { address = 0x1000C; position = None } ∷ []
+
+turns_of_two : map (λ k. turns k None changes_of_two) (0 ∷ 1 ∷ 2 ∷ [])
+    ≡ (0x10004 ∷ 0x10008 ∷ []) ∷ (0x10000 ∷ 0x10004 ∷ 0x10008 ∷ 0x1000C ∷ []) ∷ [] ∷ []
+turns_of_two = refl
+
+between_turns : map (λ a. is_within a (0x10000 ∷ 0x10004 ∷ 0x10008 ∷ 0x1000C ∷ [])) (0xFFFF ∷ 0x10000 ∷ 0x10003 ∷ 0x10004 ∷ 0x10007 ∷ 0x10008 ∷ 0x1000B ∷ 0x1000C ∷ [])
+    ≡ false ∷ true ∷ true ∷ false ∷ false ∷ true ∷ true ∷ false ∷ []
+between_turns = refl
 
 -- a row whose next address is not greater covers nothing
 going_back : map (line_of (table (a_s ∷ []) (row 0 0x10008 (Some 0) 1 ∷ row 0 0x10004 (Some 0) 2 ∷ last 0 0x1000C ∷ [])) (code ∷ [])) (0x10003 ∷ 0x10004 ∷ 0x10008 ∷ 0x1000B ∷ 0x1000C ∷ [])
