@@ -6,8 +6,8 @@ use Rattle.elf_load.specs.declared.ElfFault.{ElfFault}
 use Rattle.dwarf_lines.specs.declared.LineKind.{LineKind}
 use Rattle.dwarf_lines.specs.declared.LineKind.TheVariants.{Short, Wide, LongForm, ManyOps, ZeroRange, OpcodeBaseZero, LineOut, AddressLength, Unended, AddressSize, SegmentSize, FormOut, EmptyEntries, TextOut}
 use Rattle.dwarf_lines.specs.declared.LineFault.{LineFault}
-use Rattle.rv_asm.specs.declared.AsmKind.{AsmKind}
-use Rattle.rv_asm.specs.declared.AsmKind.TheVariants.{Lines, Byte, Token, Twice, Name, Section, Operand, Range, Much, Missing, Far, Empty}
+use Rattle.asm_tokens.specs.declared.AsmKind.{AsmKind}
+use Rattle.asm_tokens.specs.declared.AsmKind.TheVariants.{Lines, Byte, Token, Twice, Name, Section, Operand, Range, Much, Missing, Far, Empty}
 use Rattle.rv_asm.specs.declared.AsmFault.{AsmFault}
 use Rattle.profile_reader.specs.declared.fault.BookFault.{BookFault}
 use Rattle.profile_reader.specs.ItemNames.{item_name}

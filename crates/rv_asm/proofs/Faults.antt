@@ -1,11 +1,11 @@
 -- Sources that are refused, each with its first fault.
 use Rattle.std.proofs.Common.{◌≡◌, ℕ, [], ◌∷◌, refl, Err}
 use Rattle.std.specs.Prelude.{Result, codes}
-use Rattle.rv_asm.specs.declared.AsmKind.{AsmKind}
-use Rattle.rv_asm.specs.declared.AsmKind.TheVariants as kinds
+use Rattle.asm_tokens.specs.declared.AsmKind.{AsmKind}
+use Rattle.asm_tokens.specs.declared.AsmKind.TheVariants as kinds
 use Rattle.rv_asm.specs.declared.AsmFault.{AsmFault}
-use Rattle.rv_asm.specs.Tokens.{tokens}
-use Rattle.rv_asm.specs.Table.{rows, form_of, register_of}
+use Rattle.asm_tokens.specs.Tokens.{tokens}
+use Rattle.asm_tokens.specs.Table.{rows, form_of, register_of}
 use Rattle.rv_asm.specs.Statements.{statement}
 use Rattle.rv_asm.specs.Assembled.{Program, assembled, take_lines, take_tokens, with_pieces, load_address, all_filled}
 

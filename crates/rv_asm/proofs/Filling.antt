@@ -4,10 +4,10 @@ use Rattle.std.proofs.lemmas.List.{append_assoc, append-nil, drop_more}
 use Rattle.rv_asm.specs.declared.AsmFault.{AsmFault}
 use Rattle.rv_asm.specs.declared.AsmError.{AsmError}
 use Rattle.rv_asm.specs.declared.AsmError.TheVariants as faults
-use Rattle.rv_asm.specs.declared.form.Section.{Section}
-use Rattle.rv_asm.specs.declared.form.Section.TheVariants as sections
+use Rattle.asm_tokens.specs.declared.form.Section.{Section}
+use Rattle.asm_tokens.specs.declared.form.Section.TheVariants as sections
 use Rattle.rv_asm.specs.declared.state.Put.{Put as CodePut}
-use Rattle.rv_asm.specs.Tokens.{◌>>=◌}
+use Rattle.asm_tokens.specs.Tokens.{◌>>=◌}
 use Rattle.rv_asm.specs.Assembled.{State, Filled, Fails, filled, all_filled, joined, text_of, content_of, lines_of}
 use Rattle.rv_asm.specs.Views.{Parts, no_parts, with_filled, then_filled, all_parts, filled_on, put_of}
 

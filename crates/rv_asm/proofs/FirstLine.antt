@@ -4,7 +4,7 @@ use Rattle.std.specs.Prelude.{not, ◌==◌}
 use Rattle.std.specs.Str.{byte}
 use Rattle.std.specs.List.{prefix_len}
 use Rattle.std.proofs.lemmas.List.Folds.{length-prefix_len}
-use Rattle.rv_asm.specs.Tokens.{lines, before}
+use Rattle.asm_tokens.specs.Tokens.{lines, before}
 
 -- so many bytes are before the first newline
 abbrev pub line_bytes : List ℕ → ℕ

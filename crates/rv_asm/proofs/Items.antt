@@ -3,14 +3,14 @@ use Rattle.std.proofs.Common.{◌≡◌, ◌≤◌, ◌<◌, length, ℕ, ◌+�
 use Rattle.std.specs.Prelude.{◌==◌}
 use Rattle.std.specs.Str.{byte}
 use Rattle.std.proofs.lemmas.List.{drop-drop, append_assoc, length-drop, drop_more, drop-map, length-map}
-use Rattle.rv_asm.specs.declared.AsmKind.TheVariants as kinds
-use Rattle.rv_asm.specs.declared.tokens.Placed.{Placed as CodePlaced}
-use Rattle.rv_asm.specs.declared.tokens.LineError.{LineError}
-use Rattle.rv_asm.specs.declared.tokens.LineError.TheVariants as errors
-use Rattle.rv_asm.specs.declared.form.Size.{Size}
-use Rattle.rv_asm.specs.Tokens.{Read, Spot, wrong, Token, Name, Number, Text, Mark, Placed}
+use Rattle.asm_tokens.specs.declared.AsmKind.TheVariants as kinds
+use Rattle.asm_tokens.specs.declared.line.Placed.{Placed as CodePlaced}
+use Rattle.asm_tokens.specs.declared.line.LineError.{LineError}
+use Rattle.asm_tokens.specs.declared.line.LineError.TheVariants as errors
+use Rattle.asm_tokens.specs.declared.form.Size.{Size}
+use Rattle.asm_tokens.specs.Tokens.{Read, Spot, wrong, Token, Name, Number, Text, Mark, Placed}
 use Rattle.rv_asm.specs.Statements.{Piece, mark, item, items}
-use Rattle.rv_asm.specs.Views.{placed_of, with_front, FailsLine}
+use Rattle.asm_tokens.specs.Views.{placed_of, with_front, FailsLine}
 
 chosen : (b : Bool) (ts ms : List Placed) (column : ℕ) → (if b then Ok ts else wrong kinds.Operand column) ≡ Ok ms → (if b then Ok [] else wrong {A = List Placed} kinds.Operand column) ≡ Ok []
 chosen true ts ms column e = refl

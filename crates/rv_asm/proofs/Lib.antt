@@ -1,5 +1,3 @@
-mod Skips
-mod Tables
 mod Items
 mod Labels
 mod FirstLine

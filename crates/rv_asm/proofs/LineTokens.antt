@@ -1,11 +1,12 @@
 -- The labels of a line, one by one, and the statement behind them.
 use Rattle.std.proofs.Common.{◌≡◌, ◌≤◌, length, ℕ, List, [], ◌∷◌, drop, refl, Option, Some, None, option_map, Ok, ap, ◌∙◌, arith}
-use Rattle.rv_asm.specs.declared.tokens.LineError.{LineError}
-use Rattle.rv_asm.specs.declared.tokens.LineError.TheVariants as errors
-use Rattle.rv_asm.specs.Tokens.{Read, ◌>>=◌, Placed}
+use Rattle.asm_tokens.specs.declared.line.LineError.{LineError}
+use Rattle.asm_tokens.specs.declared.line.LineError.TheVariants as errors
+use Rattle.asm_tokens.specs.Tokens.{Read, ◌>>=◌, Placed}
 use Rattle.rv_asm.specs.Statements.{Use}
 use Rattle.rv_asm.specs.Assembled.{State, with_label, stated, label_in, take_tokens}
-use Rattle.rv_asm.specs.Views.{label_front, FailsLine}
+use Rattle.asm_tokens.specs.Views.{FailsLine}
+use Rattle.rv_asm.specs.Views.{label_front}
 
 module _ (line end : ℕ) where
   pick : (t c : Placed) (ts : List Placed) (s : State) → Option (List ℕ) → Read State

@@ -5,12 +5,12 @@ use Rattle.std.specs.List.{AllByRecursion}
 use Rattle.std.proofs.lemmas.Bool.{ltb-true, eqb-false}
 use Rattle.std.proofs.lemmas.List.{length-replicate}
 use Rattle.std.proofs.lemmas.List.Elements.{All-from_recursion}
-use Rattle.rv_asm.specs.declared.AsmKind.TheVariants as kinds
+use Rattle.asm_tokens.specs.declared.AsmKind.TheVariants as kinds
 use Rattle.rv_asm.specs.declared.AsmFault.{AsmFault}
-use Rattle.rv_asm.specs.declared.form.Section.{Section}
-use Rattle.rv_asm.specs.declared.form.Section.TheVariants as sections
+use Rattle.asm_tokens.specs.declared.form.Section.{Section}
+use Rattle.asm_tokens.specs.declared.form.Section.TheVariants as sections
 use Rattle.rv_asm.specs.declared.state.Place.{Place}
-use Rattle.rv_asm.specs.Tokens.{lines}
+use Rattle.asm_tokens.specs.Tokens.{lines}
 use Rattle.rv_asm.specs.Statements.{Piece, Encoded, BranchTo, JumpTo, AddressTo, AddressOf, Bytes, Zeros, size}
 use Rattle.rv_asm.specs.Assembled.{Put, State, start, take_lines, target, reach, load_address, bytes_at, Filled, at_line, address, filled, all_filled, Program, IsProgram, text_of, content_of, joined, lines_of, begin_of, entry, program, assembled}
 use Rattle.rv_asm.proofs.WholeWords.{then_ok, and_ok}

@@ -1,8 +1,8 @@
 -- Small sources, and what they stand for.
 use Rattle.std.proofs.Common.{◌≡◌, [], ◌∷◌, refl, Ok}
 use Rattle.std.specs.Prelude.{codes}
-use Rattle.rv_asm.specs.Tokens.{tokens}
-use Rattle.rv_asm.specs.Table.{rows, form_of, register_of}
+use Rattle.asm_tokens.specs.Tokens.{tokens}
+use Rattle.asm_tokens.specs.Table.{rows, form_of, register_of}
 use Rattle.rv_asm.specs.Statements.{statement}
 use Rattle.rv_asm.specs.Assembled.{assembled, take_lines, take_tokens, with_pieces, load_address, all_filled}
 

@@ -4,12 +4,12 @@ use Rattle.std.specs.Prelude.{IfOk, bytes_eq, is_some, not, position}
 use Rattle.std.specs.Map.{update}
 use Rattle.std.specs.List.{AllByRecursion}
 use Rattle.std.proofs.lemmas.Bool.{ltb-false, leb-true}
-use Rattle.rv_asm.specs.declared.AsmKind.TheVariants as kinds
-use Rattle.rv_asm.specs.declared.form.Form.{Form}
-use Rattle.rv_asm.specs.declared.form.Section.{Section}
-use Rattle.rv_asm.specs.declared.form.Section.TheVariants as sections
+use Rattle.asm_tokens.specs.declared.AsmKind.TheVariants as kinds
+use Rattle.asm_tokens.specs.declared.form.Form.{Form}
+use Rattle.asm_tokens.specs.declared.form.Section.{Section}
+use Rattle.asm_tokens.specs.declared.form.Section.TheVariants as sections
 use Rattle.rv_asm.specs.declared.state.Place.{Place}
-use Rattle.rv_asm.specs.Tokens.{Read, wrong, ◌>>=◌, Placed, tokens, is_allowed}
+use Rattle.asm_tokens.specs.Tokens.{Read, wrong, ◌>>=◌, Placed, tokens, is_allowed}
 use Rattle.rv_asm.specs.Statements.{Piece, Zeros, Statement, Puts, Aligns, Enters, size, belongs, statement}
 use Rattle.rv_asm.specs.Assembled.{Put, State, start, here, next_place, with_label, grown, with_piece, with_pieces, up_to_multiple, done, may_stand, formed, name_in, label_in, stated, take_tokens, wanted, bytes_wanted, take_line, at_line, take_lines}
 use Rattle.rv_asm.proofs.WholeWords.{then_ok, and_ok, IsWhole, IsCode, code_stands}

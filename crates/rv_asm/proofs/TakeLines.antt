@@ -1,11 +1,12 @@
 -- The lines of a source, one by one.
 use Rattle.std.proofs.Common.{◌≡◌, ◌≤◌, length, ℕ, ◌+◌, List, ◌∷◌, drop, Ok, ap}
 use Rattle.std.proofs.Math.ListN.{drop_of_length-le}
-use Rattle.rv_asm.specs.declared.tokens.LineError.{LineError}
-use Rattle.rv_asm.specs.declared.tokens.LineError.TheVariants as errors
-use Rattle.rv_asm.specs.Tokens.{◌>>=◌, lines}
+use Rattle.asm_tokens.specs.declared.line.LineError.{LineError}
+use Rattle.asm_tokens.specs.declared.line.LineError.TheVariants as errors
+use Rattle.asm_tokens.specs.Tokens.{◌>>=◌, lines}
 use Rattle.rv_asm.specs.Assembled.{State, take_line, take_lines, at_line, Fails}
-use Rattle.rv_asm.specs.Views.{FailsLine, error_at}
+use Rattle.asm_tokens.specs.Views.{FailsLine}
+use Rattle.rv_asm.specs.Views.{error_at}
 
 -- a line that is taken
 pub over_line : (n : ℕ) (line : List ℕ) (more : List (List ℕ)) (s t : State) → take_line n line s ≡ Ok t → take_lines n (line ∷ more) s ≡ take_lines (n + 1) more t

@@ -6,10 +6,10 @@ use Rattle.rv_decode.specs.declared.Instr.TheVariants as instr
 use Rattle.rv_decode.specs.declared.UpperOp.TheVariants.{Lui}
 use Rattle.rv_decode.specs.declared.ImmOp.TheVariants.{Addi, Addiw}
 use Rattle.rv_decode.specs.Fields.{is_signed}
-use Rattle.rv_asm.specs.declared.form.Form.{Form}
-use Rattle.rv_asm.specs.declared.form.Form.TheVariants as forms
-use Rattle.rv_asm.specs.declared.form.Section.TheVariants as sections
-use Rattle.rv_asm.specs.Tokens.{◌>>=◌, Placed}
+use Rattle.asm_tokens.specs.declared.form.Form.{Form}
+use Rattle.asm_tokens.specs.declared.form.Form.TheVariants as forms
+use Rattle.asm_tokens.specs.declared.form.Section.TheVariants as sections
+use Rattle.asm_tokens.specs.Tokens.{◌>>=◌, Placed}
 use Rattle.rv_asm.specs.Statements.{Piece, Statement, Puts, Aligns, Enters, size, belongs, load_number, encoded, upper, lower, name, number, register, mark, base, then_name, then_register, then_immediate, then_up_to, then_base, then_second, whole, statement}
 use Rattle.rv_asm.specs.Assembled.{may_stand}
 

@@ -9,18 +9,18 @@ use Rattle.rv_decode.specs.declared.UpperOp.TheVariants.{Auipc}
 use Rattle.rv_decode.specs.declared.ImmOp.TheVariants.{Addi}
 use Rattle.rv_decode.specs.Fields.{is_signed, is_even}
 use Rattle.rv_decode.specs.Instructions.{word_of}
-use Rattle.rv_asm.specs.declared.AsmKind.{AsmKind}
-use Rattle.rv_asm.specs.declared.AsmKind.TheVariants as kinds
+use Rattle.asm_tokens.specs.declared.AsmKind.{AsmKind}
+use Rattle.asm_tokens.specs.declared.AsmKind.TheVariants as kinds
 use Rattle.rv_asm.specs.declared.AsmFault.{AsmFault}
 use Rattle.rv_asm.specs.declared.AsmError.{AsmError}
 use Rattle.rv_asm.specs.declared.AsmError.TheVariants as errors
 use Rattle.rv_asm.specs.declared.Assembled.{Assembled}
 use Rattle.rv_asm.specs.declared.state.Place.{Place}
-use Rattle.rv_asm.specs.declared.form.Form.{Form}
-use Rattle.rv_asm.specs.declared.form.Section.{Section}
-use Rattle.rv_asm.specs.declared.form.Section.TheVariants as sections
-use Rattle.rv_asm.specs.Tokens.{Read, wrong, ◌>>=◌, is_allowed, lines, Token, Name, Number, Text, Mark, Placed, tokens}
-use Rattle.rv_asm.specs.Table.{form_of}
+use Rattle.asm_tokens.specs.declared.form.Form.{Form}
+use Rattle.asm_tokens.specs.declared.form.Section.{Section}
+use Rattle.asm_tokens.specs.declared.form.Section.TheVariants as sections
+use Rattle.asm_tokens.specs.Tokens.{Read, wrong, ◌>>=◌, is_allowed, lines, Token, Name, Number, Text, Mark, Placed, tokens}
+use Rattle.asm_tokens.specs.Table.{form_of}
 use Rattle.rv_asm.specs.Statements.{Use, Piece, Encoded, BranchTo, JumpTo, AddressTo, AddressOf, Bytes, Zeros, size, Statement, Puts, Aligns, Enters, belongs, statement, upper, lower}
 
 -- ---- the lines so far

@@ -11,21 +11,21 @@ use Rattle.rv_decode.specs.declared.AtomicOp.{AtomicOp}
 use Rattle.rv_decode.specs.declared.AtomicOp.TheVariants.{Lr}
 use Rattle.rv_decode.specs.Fields.{part, twos, signed, is_signed}
 use Rattle.rv_decode.specs.Instructions.{amount_bits, word_of}
-use Rattle.rv_asm.specs.declared.AsmKind.TheVariants as kinds
-use Rattle.rv_asm.specs.declared.form.Form.{Form}
-use Rattle.rv_asm.specs.declared.form.Form.TheVariants as forms
-use Rattle.rv_asm.specs.declared.form.Section.{Section}
-use Rattle.rv_asm.specs.declared.form.Section.TheVariants as sections
-use Rattle.rv_asm.specs.declared.form.Size.{Size}
-use Rattle.rv_asm.specs.declared.form.Size.TheVariants as sizes
-use Rattle.rv_asm.specs.declared.form.Width.{Width}
-use Rattle.rv_asm.specs.declared.form.Width.TheVariants as widths
-use Rattle.rv_asm.specs.declared.form.Order.{Order}
-use Rattle.rv_asm.specs.declared.form.Order.TheVariants as orders
-use Rattle.rv_asm.specs.declared.form.Alone.{Alone}
-use Rattle.rv_asm.specs.declared.form.Alone.TheVariants as alone
-use Rattle.rv_asm.specs.Tokens.{Read, wrong, ◌>>=◌, Name, Number, Text, Mark, Placed}
-use Rattle.rv_asm.specs.Table.{register_of}
+use Rattle.asm_tokens.specs.declared.AsmKind.TheVariants as kinds
+use Rattle.asm_tokens.specs.declared.form.Form.{Form}
+use Rattle.asm_tokens.specs.declared.form.Form.TheVariants as forms
+use Rattle.asm_tokens.specs.declared.form.Section.{Section}
+use Rattle.asm_tokens.specs.declared.form.Section.TheVariants as sections
+use Rattle.asm_tokens.specs.declared.form.Size.{Size}
+use Rattle.asm_tokens.specs.declared.form.Size.TheVariants as sizes
+use Rattle.asm_tokens.specs.declared.form.Width.{Width}
+use Rattle.asm_tokens.specs.declared.form.Width.TheVariants as widths
+use Rattle.asm_tokens.specs.declared.form.Order.{Order}
+use Rattle.asm_tokens.specs.declared.form.Order.TheVariants as orders
+use Rattle.asm_tokens.specs.declared.form.Alone.{Alone}
+use Rattle.asm_tokens.specs.declared.form.Alone.TheVariants as alone
+use Rattle.asm_tokens.specs.Tokens.{Read, wrong, ◌>>=◌, Name, Number, Text, Mark, Placed}
+use Rattle.asm_tokens.specs.Table.{register_of}
 
 -- a label where it is used
 pub record Use : Type 0 where

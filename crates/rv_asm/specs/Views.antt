@@ -1,18 +1,12 @@
 -- What contracts see of the code's values.
 use Rattle.std.specs.Prelude.{◌≡◌, ℕ, ◌≤◌, List, [], ◌∷◌, ◌++◌, Option, None, Result, Ok, Err, option_map, map, length, replicate, ◌/◌}
 use denote.Ref.{Bor}
-use Rattle.std.specs.declared.alloc.AllocError.{AllocError}
-use Rattle.rv_asm.specs.declared.tokens.Token.{Token as CodeToken}
-use Rattle.rv_asm.specs.declared.tokens.Token.TheVariants as code
-use Rattle.rv_asm.specs.declared.tokens.Placed.{Placed as CodePlaced}
-use Rattle.rv_asm.specs.declared.tokens.LineError.{LineError}
-use Rattle.rv_asm.specs.declared.tokens.LineError.TheVariants as errors
-use Rattle.rv_asm.specs.declared.tokens.Found.{Found}
-use Rattle.rv_asm.specs.declared.tokens.Found.TheVariants as ahead
-use Rattle.rv_asm.specs.Tokens.{Spelling, Token, Name, Number, Text, Mark, Placed, Read, ◌>>=◌, Front, Blank, Comment, Begins, Wrong}
-use Rattle.rv_asm.specs.Table.{Named}
+use Rattle.asm_tokens.specs.declared.line.LineError.{LineError}
+use Rattle.asm_tokens.specs.declared.line.LineError.TheVariants as errors
+use Rattle.asm_tokens.specs.Tokens.{Placed, Read, ◌>>=◌}
+use Rattle.asm_tokens.specs.Views.{FailsLine}
 use Rattle.rv_asm.specs.Statements.{Use, Piece, Encoded, BranchTo, JumpTo, AddressTo, AddressOf, Bytes, Zeros, Statement, Puts, Aligns, Enters}
-use Rattle.rv_asm.specs.Registers.{number_of}
+use Rattle.asm_tokens.specs.Registers.{number_of}
 use Rattle.rv_asm.specs.declared.pieces.Piece.{Piece as CodePiece}
 use Rattle.rv_asm.specs.declared.pieces.Piece.TheVariants as puts
 use Rattle.rv_asm.specs.declared.pieces.Statement.{Statement as CodeStatement}
@@ -26,62 +20,15 @@ use Rattle.rv_asm.specs.declared.AsmError.TheVariants as faults
 use Rattle.rv_asm.specs.Assembled.{Put, State, label_in, Filled, Fails, joined, text_of, content_of, lines_of}
 use Rattle.rv_asm.specs.declared.AsmFault.{AsmFault}
 use Rattle.rv_asm.specs.declared.fill.Filled.{Filled as CodeFilled}
-use Rattle.rv_asm.specs.declared.form.Section.TheVariants as sections
+use Rattle.asm_tokens.specs.declared.form.Section.TheVariants as sections
 use Rattle.std.specs.BTreeMap.{BTreeMap, get_by}
 use Rattle.std.specs.Cmp.Lexicographic.{slice_cmp}
 use Rattle.std.specs.Ordering.{nat_cmp}
-
--- an entry of a table in code
-abbrev pub seen : {A : Type 0} → Bor (List ℕ) × A → Named A
-seen r = (r.0.now, r.1)
-
--- What was answered is this text, or this want of one, unless memory ran out.
-abbrev pub GivesText : {V : Type 0} → (V → List ℕ) → Result (Option (V × ℕ)) AllocError → Option Spelling → Type 0
-GivesText items (Ok answer) spelling = option_map (λ t. (items t.0, t.1)) answer ≡ spelling
-GivesText items (Err e) spelling = Unit {0}
-
-abbrev pub token_of : CodeToken → Token
-token_of (code.Name n) = Name n.now
-token_of (code.Number n) = Number n
-token_of (code.Text t) = Text t.items
-token_of (code.Mark m) = Mark m
-
-abbrev pub front_of : (CodeToken → Token) → Found → Front
-front_of view ahead.Blank = Blank
-front_of view ahead.Comment = Comment
-front_of view (ahead.Begins token bytes) = Begins (view token) bytes
-front_of view ahead.Wrong = Wrong
-
--- a token that was found has some of so many bytes
-abbrev pub IsWithin : Found → ℕ → Type 0
-IsWithin ahead.Blank n = Unit {0}
-IsWithin ahead.Comment n = Unit {0}
-IsWithin (ahead.Begins token bytes) n = (1 ≤ bytes) × (bytes ≤ n)
-IsWithin ahead.Wrong n = Unit {0}
-
-abbrev pub placed_of : CodePlaced → Placed
-placed_of p = record { column = p.column; token = token_of p.token }
-
-abbrev pub FailsLine : {A : Type 0} → LineError → Read A → Type 0
-FailsLine errors.Memory read = Unit {0}
-FailsLine (errors.Fault kind column) read = read ≡ Err (record { kind = kind; column = column })
-
--- It is what is read of the line, unless memory ran out.
-abbrev pub GivesLine : {X A : Type 0} → (X → A) → Result X LineError → Read A → Type 0
-GivesLine view (Ok x) read = read ≡ Ok (view x)
-GivesLine view (Err e) read = FailsLine e read
 
 -- What was done: now this is what is read of the line, or the line has a fault, unless memory ran out.
 abbrev pub Steps : {U A : Type 0} → Result U LineError → A → Read A → Type 0
 Steps (Ok u) new read = read ≡ Ok new
 Steps (Err e) new read = FailsLine e read
-
--- behind these
-abbrev pub with_front : {A : Type 0} → List A → Read (List A) → Read (List A)
-with_front front read = read >>= λ more. Ok (front ++ more)
-
-abbrev pub all_placed : List CodePlaced → List Placed
-all_placed ts = map placed_of ts
 
 abbrev pub use_of : NameUse → Use
 use_of u = record { name = u.name.now; column = u.column }

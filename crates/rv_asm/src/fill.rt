@@ -9,16 +9,15 @@ ghost use Rattle.rv_decode.specs.declared.UpperOp.TheVariants.{Auipc};
 ghost use Rattle.rv_decode.specs.declared.ImmOp.TheVariants.{Addi};
 ghost use Rattle.rv_asm.specs.Statements.{upper, lower};
 ghost use Rattle.rv_asm.specs.Assembled.{Gives, address, target, reach, word, load_address, bytes_at, filled, all_filled, begin_of, entry};
-ghost use Rattle.rv_asm.specs.Views.{GivesLine, Steps, StepsAll, state_of, use_of, piece_of, put_of, with_front, with_filled, parts_of, then_filled, all_parts};
+ghost use Rattle.asm_tokens.specs.Views.{GivesLine, with_front};
+ghost use Rattle.rv_asm.specs.Views.{Steps, StepsAll, state_of, use_of, piece_of, put_of, with_filled, parts_of, then_filled, all_parts};
 
-use crate::form::Section;
 use crate::lines::error_at;
 use crate::operands::NameUse;
 use crate::pieces::{Piece, lower, upper};
-use crate::register::number_of;
 use crate::state::{Place, Put, State, up_to_multiple};
-use crate::tokens::LineError;
 use crate::{AsmError, AsmKind};
+use asm_tokens::{LineError, Section, number_of};
 use rv_decode::{ImmOp, Instr, UpperOp, encode};
 use std::alloc::{AllocError, Global};
 

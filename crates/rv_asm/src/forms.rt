@@ -6,20 +6,21 @@ ghost use Rattle.rv_decode.specs.Fields.{twos, is_signed};
 ghost use Rattle.rv_decode.specs.Instructions.{amount_bits, InRange, is_second, word_of};
 ghost use Rattle.rv_decode.specs.declared.Instr.TheVariants as instr;
 ghost use Rattle.rv_decode.specs.declared.UpperOp.TheVariants.{Lui};
-ghost use Rattle.rv_asm.specs.Registers.{number_of};
+ghost use Rattle.asm_tokens.specs.Registers.{number_of};
 ghost use Rattle.rv_asm.specs.Statements.{lower, upper, load_number, encoded, whole, puts, one, number_item, label_item, item, items, statement, bytes_of, is_wide, acquires, releases, instruction_alone, is_within, BranchTo, JumpTo, AddressTo, Bytes, Zeros, Puts, Aligns, Enters};
-ghost use Rattle.rv_asm.specs.Views.{GivesLine, all_placed, placed_of, use_of, piece_of, statement_of, AlignsWithin};
-ghost use Rattle.rv_asm.specs.declared.form.Form.TheVariants as forms;
+ghost use Rattle.asm_tokens.specs.Views.{GivesLine, all_placed, placed_of};
+ghost use Rattle.rv_asm.specs.Views.{use_of, piece_of, statement_of, AlignsWithin};
+ghost use Rattle.asm_tokens.specs.declared.form.Form.TheVariants as forms;
 
 use crate::AsmKind;
-use crate::form::{Alone, Form, Order, Section, Size, Width};
 use crate::operands::{
     NameUse, base, immediate, mark, name, number, number_up_to, operand_fault, register,
     text_operand, then_base, then_immediate, then_name, then_register, then_second, then_up_to,
 };
 use crate::pieces::{Piece, Statement, low_bits, lower, upper};
-use crate::register::{Register, number_of};
-use crate::tokens::{LineError, Placed, Token};
+use asm_tokens::{
+    Alone, Form, LineError, Order, Placed, Register, Section, Size, Token, Width, number_of,
+};
 use rv_decode::{
     AtomicOp, BranchOp, ImmOp, Instr, LoadOp, RegOp, ShiftOp, StoreOp, UpperOp, encode,
 };

@@ -2,54 +2,20 @@
 #![tactic(auto)]
 
 mod fill;
-mod form;
 mod forms;
 mod lines;
 mod operands;
 mod pieces;
-mod register;
 mod state;
-mod table;
-mod tokens;
-mod words;
 
 ghost use Rattle.std.specs.Prelude.{◌≡◌, ◌≤◌, length, IfOk};
 ghost use Rattle.rv_asm.specs.Assembled.{Gives, IsProgram, assembled, view};
 
 use crate::fill::{entry, fill};
 use crate::lines::take_lines;
+pub use asm_tokens::AsmKind;
 use coz_lists::Items;
 use std::alloc::Global;
-
-/// What is wrong with a source: in each line `Lines`, `Byte` and `Token` are judged first, and then what stands in it from left
-/// to right; `Missing` and `Far` come after all lines, and `Empty` last.
-#[derive(Clone, Copy, Debug, PartialEq, Eq)]
-pub enum AsmKind {
-    /// There are more than 65,536 lines.
-    Lines,
-    /// A byte that may not stand in a source.
-    Byte,
-    /// Bytes that form no token.
-    Token,
-    /// A label that is there already.
-    Twice,
-    /// A statement's first token is no instruction and no directive.
-    Name,
-    /// A statement that the section doesn't take.
-    Section,
-    /// A token that the statement doesn't have there, a missing or a spare one.
-    Operand,
-    /// A number out of its range.
-    Range,
-    /// A section would have more than 1,048,576 bytes.
-    Much,
-    /// A label that is nowhere.
-    Missing,
-    /// A branch or a jump that doesn't reach its label, or is an odd number of bytes away from it.
-    Far,
-    /// There is no instruction.
-    Empty,
-}
 
 /// A fault, and where in the source it is: its line and the column of its first byte, both counted from 1.
 #[derive(Clone, Copy, Debug, PartialEq, Eq)]

@@ -3,18 +3,17 @@
 ghost use Rattle.std.specs.Prelude.{◌≡◌, ◌≤◌, ◌<◌, ◌+◌, ◌-◌, ◌^◌, ◌==◌, length, drop, option_map, position, not, ◌∷◌, Option, IfSome};
 ghost use Rattle.std.specs.List.{prefix_len};
 ghost use Rattle.std.specs.Str.{byte};
-ghost use Rattle.rv_asm.specs.Tokens.{is_allowed, lines};
+ghost use Rattle.asm_tokens.specs.Tokens.{is_allowed, lines};
 ghost use Rattle.rv_asm.specs.Statements.{belongs};
 ghost use Rattle.rv_asm.specs.Assembled.{Gives, start, may_stand, formed, name_in, stated, take_tokens, take_line, take_lines};
-ghost use Rattle.rv_asm.specs.Views.{Steps, state_of, placed_of, all_placed, token_of, use_of, label_front, error_at};
+ghost use Rattle.asm_tokens.specs.Views.{placed_of, all_placed, token_of};
+ghost use Rattle.rv_asm.specs.Views.{Steps, state_of, use_of, label_front, error_at};
 
-use crate::form::{Form, Section};
 use crate::forms::{from_place, statement};
 use crate::operands::NameUse;
 use crate::state::State;
-use crate::table::form_of;
-use crate::tokens::{LineError, Placed, Token, is_blank, tokens};
 use crate::{AsmError, AsmFault, AsmKind};
+use asm_tokens::{Form, LineError, Placed, Section, Token, form_of, is_blank, tokens};
 use std::alloc::Global;
 
 /// The most lines of a source.
@@ -155,7 +154,7 @@ fn first_wrong_byte(line: &[u8]) -> Option<usize>
 }
 
 /// A line without its end.
-#[tactic(auto, unfolding(crate::specs::Tokens::tokens))]
+#[tactic(auto, unfolding(asm_tokens::specs::Tokens::tokens))]
 fn take_line<'s>(
     alloc: Global,
     number: u32,

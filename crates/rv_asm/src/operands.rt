@@ -3,14 +3,13 @@
 ghost use Rattle.std.specs.Prelude.{◌≡◌, ◌≤◌, ◌<◌, ◌-◌, ◌^◌, IfOk, IsTrue, ℤ, pos, neg_ℤ, ◌≤ℤ◌};
 ghost use Rattle.rv_decode.specs.Fields.{is_signed};
 ghost use Rattle.rv_decode.specs.Instructions.{is_second, amount_bits};
-ghost use Rattle.rv_asm.specs.Registers.{number_of};
+ghost use Rattle.asm_tokens.specs.Registers.{number_of};
 ghost use Rattle.rv_asm.specs.Statements.{name, mark, number, text_operand, register, number_up_to, immediate, then_name, then_register, then_immediate, then_up_to, base, then_base, then_second};
-ghost use Rattle.rv_asm.specs.Views.{GivesLine, all_placed, use_of};
+ghost use Rattle.asm_tokens.specs.Views.{GivesLine, all_placed};
+ghost use Rattle.rv_asm.specs.Views.{use_of};
 
 use crate::AsmKind;
-use crate::register::Register;
-use crate::table::register_of;
-use crate::tokens::{LineError, Placed, Token};
+use asm_tokens::{LineError, Placed, Register, Token, register_of};
 use rv_decode::AtomicOp;
 
 /// A label where it is used.

@@ -4,9 +4,8 @@ ghost use Rattle.std.specs.Prelude.{◌≡◌, ◌≤◌, ◌<◌, ◌^◌, IsTr
 ghost use Rattle.rv_decode.specs.Fields.{twos, is_signed};
 ghost use Rattle.rv_asm.specs.Statements.{lower, upper};
 
-use crate::form::Section;
 use crate::operands::NameUse;
-use crate::register::Register;
+use asm_tokens::{Register, Section};
 use rv_decode::BranchOp;
 
 /// What a statement puts into its section.

@@ -6,9 +6,8 @@ ghost use Rattle.rv_asm.specs.Statements.{size};
 ghost use Rattle.rv_asm.specs.Views.{Steps, state_of, piece_of, statement_of, AlignsWithin};
 
 use crate::AsmKind;
-use crate::form::Section;
 use crate::pieces::{Piece, Statement};
-use crate::tokens::LineError;
+use asm_tokens::{LineError, Section};
 use std::alloc::Global;
 use std::collections::BTreeMap;
 

@@ -2,7 +2,8 @@ use Rattle.std.proofs.Common.{rules, ◌+◌, map, drop, ap, sym, ◌∙◌, sub
 use Rattle.std.proofs.lemmas.List.{map-append}
 use Rattle.std.specs.Str.{byte}
 use Rattle.rv_asm.specs.Statements.{mark, items}
-use Rattle.rv_asm.specs.Views.{placed_of, piece_of, with_front, FailsLine}
+use Rattle.asm_tokens.specs.Views.{placed_of, with_front, FailsLine}
+use Rattle.rv_asm.specs.Views.{piece_of}
 use Rattle.rv_asm.proofs.Items.{over_item, at_no_comma}
 use Rattle.rv_asm.proofs.forms.items.Goals as goal
 

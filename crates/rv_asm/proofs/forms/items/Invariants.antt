@@ -1,6 +1,7 @@
 use Rattle.std.proofs.Common.{length, ◌-◌, ◌≡◌, ◌≤◌, map, drop}
 use Rattle.rv_asm.specs.Statements.{items}
-use Rattle.rv_asm.specs.Views.{piece_of, placed_of, with_front}
+use Rattle.asm_tokens.specs.Views.{placed_of, with_front}
+use Rattle.rv_asm.specs.Views.{piece_of}
 use Rattle.rv_asm.proofs.forms.items.Given as goal
 
 abbrev pub invariant-loop-place : goal.invariant-loop-place

@@ -1,7 +1,8 @@
 use Rattle.std.proofs.Common.{◌≡◌, ◌∷◌, ap, sym, ◌∙◌, subst, map, arith, None}
 use Rattle.std.proofs.lemmas.List.{length-map}
 use Rattle.rv_asm.specs.Assembled.{take_tokens}
-use Rattle.rv_asm.specs.Views.{all_placed, placed_of, state_of, Steps, label_front}
+use Rattle.asm_tokens.specs.Views.{all_placed, placed_of}
+use Rattle.rv_asm.specs.Views.{state_of, Steps, label_front}
 use Rattle.rv_asm.proofs.LineTokens.{at_statement, none_left}
 use Rattle.rv_asm.proofs.lines.take_last.Goals as goal
 

@@ -1,5 +1,5 @@
 use Rattle.std.proofs.Common.{ap, sym, ◌∙◌, subst, drop, length, arith, ◌+◌}
-use Rattle.rv_asm.specs.Tokens.{lines}
+use Rattle.asm_tokens.specs.Tokens.{lines}
 use Rattle.rv_asm.specs.Assembled.{start, take_lines, Fails}
 use Rattle.rv_asm.specs.Views.{state_of, error_at}
 use Rattle.rv_asm.proofs.TakeLines.{over_line, at_fault, at_last}

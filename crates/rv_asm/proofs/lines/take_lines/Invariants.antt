@@ -1,5 +1,5 @@
 use Rattle.std.proofs.Common.{length, ◌-◌, ◌≡◌, ◌≤◌, ◌+◌, drop}
-use Rattle.rv_asm.specs.Tokens.{lines}
+use Rattle.asm_tokens.specs.Tokens.{lines}
 use Rattle.rv_asm.specs.Assembled.{start, take_lines}
 use Rattle.rv_asm.specs.Views.{state_of}
 use Rattle.rv_asm.proofs.lines.take_lines.Given as goal

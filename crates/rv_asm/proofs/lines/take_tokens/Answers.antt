@@ -1,8 +1,9 @@
 use Rattle.std.proofs.Common.{rules, ◌≡◌, ap, sym, ◌∙◌, subst, map, drop, arith, Some}
 use Rattle.std.proofs.lemmas.List.{drop-drop, drop-map, length-map, length-drop}
-use Rattle.rv_asm.specs.Tokens.{◌>>=◌}
+use Rattle.asm_tokens.specs.Tokens.{◌>>=◌}
 use Rattle.rv_asm.specs.Assembled.{take_tokens}
-use Rattle.rv_asm.specs.Views.{all_placed, placed_of, state_of, use_of, FailsLine, label_front}
+use Rattle.asm_tokens.specs.Views.{all_placed, placed_of, FailsLine}
+use Rattle.rv_asm.specs.Views.{state_of, use_of, label_front}
 use Rattle.rv_asm.proofs.LineTokens.{over_label, two_left, fails_then}
 use Rattle.rv_asm.proofs.lines.take_tokens.Goals as goal
 

@@ -1,6 +1,7 @@
 use Rattle.std.proofs.Common.{◌≡◌, ◌≤◌, ◌-◌, length, drop}
 use Rattle.rv_asm.specs.Assembled.{take_tokens}
-use Rattle.rv_asm.specs.Views.{all_placed, state_of}
+use Rattle.asm_tokens.specs.Views.{all_placed}
+use Rattle.rv_asm.specs.Views.{state_of}
 use Rattle.rv_asm.proofs.lines.take_tokens.Given as goal
 
 abbrev pub invariant-loop-label : goal.invariant-loop-label

@@ -1,0 +1,4 @@
+pub mod Tokens
+pub mod Registers
+pub mod Table
+pub mod Views

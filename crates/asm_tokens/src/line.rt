@@ -1,0 +1,199 @@
+//! The tokens of a line.
+
+ghost use Rattle.std.specs.Prelude.{◌≡◌, ◌≤◌, ◌<◌, ◌+◌, ◌-◌, length, drop, map, false, IfSome, IfOk, neg_ℤ, pos, if◌then◌else◌};
+ghost use Rattle.asm_tokens.specs.Tokens.{text, front, tokens, spelled, number_front, is_blank, is_mark};
+ghost use Rattle.asm_tokens.specs.Views.{GivesText, front_of, token_of, placed_of, IsWithin, GivesLine};
+ghost use Rattle.asm_tokens.specs.declared.line.LineError.TheVariants.{Memory};
+
+use crate::AsmKind;
+use crate::words::{escaped, is_digit, is_of_name, spelled, word_length};
+use std::alloc::{AllocError, AllocFailed, Global};
+
+/// What is wrong with a line, and at which column; or that memory ran out.
+#[derive(Debug, Drop)]
+pub enum LineError {
+    Memory,
+    Fault { kind: AsmKind, column: u32 },
+}
+
+impl From<AllocError> for LineError {
+    ghost from_gives = { λ _ e. e ≡ Memory };
+
+    fn from(_e: AllocError) -> LineError {
+        LineError::Memory
+    }
+}
+
+impl<T: Drop> From<AllocFailed<T>> for LineError {
+    ghost from_gives = { λ _ e. e ≡ Memory };
+
+    fn from(_e: AllocFailed<T>) -> LineError {
+        LineError::Memory
+    }
+}
+
+/// A token of a line.
+#[derive(Drop)]
+pub enum Token<'a> {
+    Name(&'a [u8]),
+    Number(i128),
+    Text(Vec<u8>),
+    Mark(u8),
+}
+
+/// A token, and the column of its first byte.
+#[derive(Drop)]
+pub struct Placed<'a> {
+    pub column: u32,
+    pub token: Token<'a>,
+}
+
+/// The bytes of a text behind its opening quote, and how many bytes spell them with the closing one.
+pub fn text(alloc: Global, bytes: &[u8]) -> Result<Option<(Vec<u8>, usize)>, AllocError>
+    ensures within { IfOk result (λ found. IfSome found (λ t. t.1 ≤ length bytes.now)) }
+    ensures value { GivesText (λ v. v.items) result (text false bytes.now) }
+{
+    let mut out = Vec::new(alloc);
+    let mut i = 0;
+    while i < bytes.len() {
+        match bytes[i] {
+            b'"' => return Ok(Some((out, i + 1))),
+            b'\\' => {
+                i += 1;
+                if i >= bytes.len() {
+                    return Ok(None);
+                }
+                match escaped(bytes[i]) {
+                    None => return Ok(None),
+                    Some(byte) => out.push(byte)?,
+                }
+            }
+            byte => out.push(byte)?,
+        }
+        i += 1;
+    }
+    Ok(None)
+}
+
+/// What begins at the front of a line's rest.
+#[derive(Drop)]
+pub enum Found<'a> {
+    Blank,
+    Comment,
+    Begins { token: Token<'a>, bytes: usize },
+    Wrong,
+}
+
+/// The number that a word spells, of so many bytes with its sign.
+fn number<'a>(word: &[u8], is_negative: bool, bytes: usize) -> Found<'a>
+    ensures { front_of token_of result ≡ number_front (spelled word.now) (if is_negative then (λ n. neg_ℤ (pos n)) else (λ n. pos n)) bytes }
+{
+    match spelled(word) {
+        None => Found::Wrong,
+        Some(value) => {
+            let value = value as i128;
+            let value = if is_negative { -value } else { value };
+            Found::Begins {
+                token: Token::Number(value),
+                bytes,
+            }
+        }
+    }
+}
+
+/// What begins there.
+pub fn begins<'a>(alloc: Global, bytes: &'a [u8]) -> Result<Found<'a>, AllocError>
+    ensures within { IfOk result (λ found. IsWithin found (length bytes.now)) }
+    ensures value { IfOk result (λ found. front_of token_of found ≡ front bytes.now) }
+{
+    if bytes.is_empty() {
+        return Ok(Found::Wrong);
+    }
+    let first = bytes[0];
+    let rest = &bytes[1..];
+    if is_blank(first) {
+        return Ok(Found::Blank);
+    }
+    if first == b'#' {
+        return Ok(Found::Comment);
+    }
+    if is_mark(first) {
+        return Ok(Found::Begins {
+            token: Token::Mark(first),
+            bytes: 1,
+        });
+    }
+    if first == b'"' {
+        return match text(alloc, rest)? {
+            None => Ok(Found::Wrong),
+            Some((text, count)) => Ok(Found::Begins {
+                token: Token::Text(text),
+                bytes: count + 1,
+            }),
+        };
+    }
+    if first == b'-' {
+        let length = word_length(rest);
+        return Ok(number(&rest[..length], true, 1 + length));
+    }
+    let length = word_length(bytes);
+    if is_digit(first) {
+        return Ok(number(&bytes[..length], false, length));
+    }
+    if is_of_name(first) {
+        return Ok(Found::Begins {
+            token: Token::Name(&bytes[..length]),
+            bytes: length,
+        });
+    }
+    Ok(Found::Wrong)
+}
+
+pub fn is_blank(byte: u8) -> bool
+    ensures { result ≡ is_blank byte }
+{
+    byte == b' ' || byte == b'\t' || byte == b'\r'
+}
+
+fn is_mark(byte: u8) -> bool
+    ensures { result ≡ is_mark byte }
+{
+    byte == b':' || byte == b',' || byte == b'(' || byte == b')'
+}
+
+/// What begins at this place of a line.
+fn begins_at<'a>(alloc: Global, line: &'a [u8], place: usize) -> Result<Found<'a>, AllocError>
+    requires { place ≤ length line.now }
+    ensures within { IfOk result (λ found. IsWithin found (length line.now - place)) }
+    ensures value { IfOk result (λ found. front_of token_of found ≡ front (drop place line.now)) }
+{
+    begins(alloc, &line[place..])
+}
+
+/// The tokens of a line, or the first bytes that form none.
+#[tactic(auto, unfolding(crate::specs::Tokens::tokens))]
+pub fn tokens<'a>(alloc: Global, line: &'a [u8]) -> Result<Vec<Placed<'a>>, LineError>
+    requires { length line.now ≤ 4194304 }
+    ensures { GivesLine (λ v. map placed_of v.items) result (tokens line.now) }
+{
+    let mut out = Vec::new(alloc);
+    let mut i = 0;
+    while i < line.len() {
+        let column = i as u32 + 1;
+        match begins_at(alloc, line, i)? {
+            Found::Blank => i += 1,
+            Found::Comment => return Ok(out),
+            Found::Wrong => {
+                return Err(LineError::Fault {
+                    kind: AsmKind::Token,
+                    column,
+                });
+            }
+            Found::Begins { token, bytes } => {
+                out.push(Placed { column, token })?;
+                i += bytes;
+            }
+        }
+    }
+    Ok(out)
+}

@@ -1,8 +1,0 @@
-use Rattle.std.proofs.Common.{ap, option_map}
-use Rattle.rv_asm.specs.Registers.{number_of}
-use Rattle.rv_asm.specs.Table.{register_of}
-use Rattle.rv_asm.proofs.table.register_of.Goals as goal
-
-pub returns : goal.returns
-unfolding register_of
-returns c = ap (option_map number_of) c.look_up.ensures
