@@ -1,6 +1,7 @@
 -- The table of statements, and the names of registers.
 use Prim.Native.String.{String}
-use Rattle.std.specs.Prelude.{ℕ, List, [], ◌∷◌, ◌++◌, Option, Some, None, option_map, if◌then◌else◌, codes, bytes_eq}
+use Rattle.std.specs.Prelude.{ℕ, List, [], ◌∷◌, ◌++◌, Option, Some, None, option_map, map, if◌then◌else◌, codes, bytes_eq}
+use Rattle.std.specs.List.{flat_map}
 use Rattle.rv_decode.specs.declared.UpperOp.TheVariants.{Lui, Auipc}
 use Rattle.rv_decode.specs.declared.BranchOp.TheVariants.{Beq, Bne, Blt, Bge, Bltu, Bgeu}
 use Rattle.rv_decode.specs.declared.LoadOp.TheVariants.{Lb, Lh, Lw, Ld, Lbu, Lhu, Lwu}
@@ -8,12 +9,14 @@ use Rattle.rv_decode.specs.declared.StoreOp.TheVariants.{Sb, Sh, Sw, Sd}
 use Rattle.rv_decode.specs.declared.ImmOp.TheVariants.{Addi, Slti, Sltiu, Xori, Ori, Andi, Addiw}
 use Rattle.rv_decode.specs.declared.ShiftOp.TheVariants.{Slli, Srli, Srai, Slliw, Srliw, Sraiw}
 use Rattle.rv_decode.specs.declared.RegOp.TheVariants.{Add, Sll, Slt, Sltu, Xor, Srl, Or, And, Sub, Sra, Mul, Mulh, Mulhsu, Mulhu, Div, Divu, Rem, Remu, Addw, Sllw, Srlw, Subw, Sraw, Mulw, Divw, Divuw, Remw, Remuw}
+use Rattle.rv_decode.specs.declared.AtomicOp.{AtomicOp}
 use Rattle.rv_decode.specs.declared.AtomicOp.TheVariants.{Lr, Amoadd, Amoswap, Sc, Amoxor, Amoor, Amoand, Amomin, Amomax, Amominu, Amomaxu}
 use Rattle.asm_tokens.specs.declared.register.Register.{Register}
 use Rattle.asm_tokens.specs.declared.register.Register.TheVariants.{X0, X1, X2, X3, X4, X5, X6, X7, X8, X9, X10, X11, X12, X13, X14, X15, X16, X17, X18, X19, X20, X21, X22, X23, X24, X25, X26, X27, X28, X29, X30, X31}
 use Rattle.asm_tokens.specs.Registers.{number_of}
 use Rattle.asm_tokens.specs.declared.form.Section.TheVariants as sections
 use Rattle.asm_tokens.specs.declared.form.Size.TheVariants as sizes
+use Rattle.asm_tokens.specs.declared.form.Width.{Width}
 use Rattle.asm_tokens.specs.declared.form.Width.TheVariants.{Word, Double}
 use Rattle.asm_tokens.specs.declared.form.Order.{Order}
 use Rattle.asm_tokens.specs.declared.form.Order.TheVariants as orders
@@ -117,39 +120,48 @@ plain_rows =
     ∷ named ".align" forms.Align
     ∷ []
 
--- each atomic has two widths, and each of these four orders
-abbrev pub ordered : String → (Order → Form) → List (Named Form)
-ordered name form =
-    named name (form orders.Relaxed)
-    ∷ (codes name ++ codes ".aq", form orders.Acquire)
-    ∷ (codes name ++ codes ".rl", form orders.Release)
-    ∷ (codes name ++ codes ".aqrl", form orders.Both)
+-- the atomics at their two widths, by their words without an order
+abbrev pub atomics : List (Named (AtomicOp × Width))
+atomics =
+    named "lr.w" (Lr, Word)
+    ∷ named "lr.d" (Lr, Double)
+    ∷ named "sc.w" (Sc, Word)
+    ∷ named "sc.d" (Sc, Double)
+    ∷ named "amoadd.w" (Amoadd, Word)
+    ∷ named "amoadd.d" (Amoadd, Double)
+    ∷ named "amoswap.w" (Amoswap, Word)
+    ∷ named "amoswap.d" (Amoswap, Double)
+    ∷ named "amoxor.w" (Amoxor, Word)
+    ∷ named "amoxor.d" (Amoxor, Double)
+    ∷ named "amoor.w" (Amoor, Word)
+    ∷ named "amoor.d" (Amoor, Double)
+    ∷ named "amoand.w" (Amoand, Word)
+    ∷ named "amoand.d" (Amoand, Double)
+    ∷ named "amomin.w" (Amomin, Word)
+    ∷ named "amomin.d" (Amomin, Double)
+    ∷ named "amomax.w" (Amomax, Word)
+    ∷ named "amomax.d" (Amomax, Double)
+    ∷ named "amominu.w" (Amominu, Word)
+    ∷ named "amominu.d" (Amominu, Double)
+    ∷ named "amomaxu.w" (Amomaxu, Word)
+    ∷ named "amomaxu.d" (Amomaxu, Double)
     ∷ []
 
+-- the orders, by what stands for them behind an atomic's word
+abbrev pub suffixes : List (Named Order)
+suffixes =
+    named "" orders.Relaxed
+    ∷ named ".aq" orders.Acquire
+    ∷ named ".rl" orders.Release
+    ∷ named ".aqrl" orders.Both
+    ∷ []
+
+-- an atomic in each order
+abbrev pub ordered : Named (AtomicOp × Width) → List (Named Form)
+ordered atomic = map (λ s. (atomic.0 ++ s.0, forms.Atomic atomic.1.0 atomic.1.1 s.1)) suffixes
+
 abbrev pub atomic_rows : List (Named Form)
-atomic_rows =
-    ordered "lr.w" (forms.Atomic Lr Word)
-    ++ ordered "lr.d" (forms.Atomic Lr Double)
-    ++ ordered "sc.w" (forms.Atomic Sc Word)
-    ++ ordered "sc.d" (forms.Atomic Sc Double)
-    ++ ordered "amoadd.w" (forms.Atomic Amoadd Word)
-    ++ ordered "amoadd.d" (forms.Atomic Amoadd Double)
-    ++ ordered "amoswap.w" (forms.Atomic Amoswap Word)
-    ++ ordered "amoswap.d" (forms.Atomic Amoswap Double)
-    ++ ordered "amoxor.w" (forms.Atomic Amoxor Word)
-    ++ ordered "amoxor.d" (forms.Atomic Amoxor Double)
-    ++ ordered "amoor.w" (forms.Atomic Amoor Word)
-    ++ ordered "amoor.d" (forms.Atomic Amoor Double)
-    ++ ordered "amoand.w" (forms.Atomic Amoand Word)
-    ++ ordered "amoand.d" (forms.Atomic Amoand Double)
-    ++ ordered "amomin.w" (forms.Atomic Amomin Word)
-    ++ ordered "amomin.d" (forms.Atomic Amomin Double)
-    ++ ordered "amomax.w" (forms.Atomic Amomax Word)
-    ++ ordered "amomax.d" (forms.Atomic Amomax Double)
-    ++ ordered "amominu.w" (forms.Atomic Amominu Word)
-    ++ ordered "amominu.d" (forms.Atomic Amominu Double)
-    ++ ordered "amomaxu.w" (forms.Atomic Amomaxu Word)
-    ++ ordered "amomaxu.d" (forms.Atomic Amomaxu Double)
+atomic_rows = flat_map ordered atomics
 
 unfoldable pub rows : List (Named Form)
 rows = plain_rows ++ atomic_rows

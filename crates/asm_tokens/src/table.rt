@@ -1,7 +1,8 @@
 //! The statements by their first words, and the registers by their names.
 
 ghost use Rattle.std.specs.Prelude.{◌≡◌, map, option_map};
-ghost use Rattle.asm_tokens.specs.Table.{register_of, form_of, look_up, plain_rows, atomic_rows};
+ghost use Rattle.std.specs.List.{flat_map};
+ghost use Rattle.asm_tokens.specs.Table.{register_of, form_of, look_up, plain_rows, ordered, atomic_rows};
 ghost use Rattle.asm_tokens.specs.Registers.{number_of};
 ghost use Rattle.asm_tokens.specs.Views.{seen};
 
@@ -162,360 +163,38 @@ const PLAIN: [(&[u8], Form); 80] = [
     (b".align", Form::Align),
 ];
 
-/// The atomics by their first words.
-const ATOMICS: [(&[u8], Form); 88] = [
-    (
-        b"lr.w",
-        Form::Atomic(AtomicOp::Lr, Width::Word, Order::Relaxed),
-    ),
-    (
-        b"lr.w.aq",
-        Form::Atomic(AtomicOp::Lr, Width::Word, Order::Acquire),
-    ),
-    (
-        b"lr.w.rl",
-        Form::Atomic(AtomicOp::Lr, Width::Word, Order::Release),
-    ),
-    (
-        b"lr.w.aqrl",
-        Form::Atomic(AtomicOp::Lr, Width::Word, Order::Both),
-    ),
-    (
-        b"lr.d",
-        Form::Atomic(AtomicOp::Lr, Width::Double, Order::Relaxed),
-    ),
-    (
-        b"lr.d.aq",
-        Form::Atomic(AtomicOp::Lr, Width::Double, Order::Acquire),
-    ),
-    (
-        b"lr.d.rl",
-        Form::Atomic(AtomicOp::Lr, Width::Double, Order::Release),
-    ),
-    (
-        b"lr.d.aqrl",
-        Form::Atomic(AtomicOp::Lr, Width::Double, Order::Both),
-    ),
-    (
-        b"sc.w",
-        Form::Atomic(AtomicOp::Sc, Width::Word, Order::Relaxed),
-    ),
-    (
-        b"sc.w.aq",
-        Form::Atomic(AtomicOp::Sc, Width::Word, Order::Acquire),
-    ),
-    (
-        b"sc.w.rl",
-        Form::Atomic(AtomicOp::Sc, Width::Word, Order::Release),
-    ),
-    (
-        b"sc.w.aqrl",
-        Form::Atomic(AtomicOp::Sc, Width::Word, Order::Both),
-    ),
-    (
-        b"sc.d",
-        Form::Atomic(AtomicOp::Sc, Width::Double, Order::Relaxed),
-    ),
-    (
-        b"sc.d.aq",
-        Form::Atomic(AtomicOp::Sc, Width::Double, Order::Acquire),
-    ),
-    (
-        b"sc.d.rl",
-        Form::Atomic(AtomicOp::Sc, Width::Double, Order::Release),
-    ),
-    (
-        b"sc.d.aqrl",
-        Form::Atomic(AtomicOp::Sc, Width::Double, Order::Both),
-    ),
-    (
-        b"amoadd.w",
-        Form::Atomic(AtomicOp::Amoadd, Width::Word, Order::Relaxed),
-    ),
-    (
-        b"amoadd.w.aq",
-        Form::Atomic(AtomicOp::Amoadd, Width::Word, Order::Acquire),
-    ),
-    (
-        b"amoadd.w.rl",
-        Form::Atomic(AtomicOp::Amoadd, Width::Word, Order::Release),
-    ),
-    (
-        b"amoadd.w.aqrl",
-        Form::Atomic(AtomicOp::Amoadd, Width::Word, Order::Both),
-    ),
-    (
-        b"amoadd.d",
-        Form::Atomic(AtomicOp::Amoadd, Width::Double, Order::Relaxed),
-    ),
-    (
-        b"amoadd.d.aq",
-        Form::Atomic(AtomicOp::Amoadd, Width::Double, Order::Acquire),
-    ),
-    (
-        b"amoadd.d.rl",
-        Form::Atomic(AtomicOp::Amoadd, Width::Double, Order::Release),
-    ),
-    (
-        b"amoadd.d.aqrl",
-        Form::Atomic(AtomicOp::Amoadd, Width::Double, Order::Both),
-    ),
-    (
-        b"amoswap.w",
-        Form::Atomic(AtomicOp::Amoswap, Width::Word, Order::Relaxed),
-    ),
-    (
-        b"amoswap.w.aq",
-        Form::Atomic(AtomicOp::Amoswap, Width::Word, Order::Acquire),
-    ),
-    (
-        b"amoswap.w.rl",
-        Form::Atomic(AtomicOp::Amoswap, Width::Word, Order::Release),
-    ),
-    (
-        b"amoswap.w.aqrl",
-        Form::Atomic(AtomicOp::Amoswap, Width::Word, Order::Both),
-    ),
-    (
-        b"amoswap.d",
-        Form::Atomic(AtomicOp::Amoswap, Width::Double, Order::Relaxed),
-    ),
-    (
-        b"amoswap.d.aq",
-        Form::Atomic(AtomicOp::Amoswap, Width::Double, Order::Acquire),
-    ),
-    (
-        b"amoswap.d.rl",
-        Form::Atomic(AtomicOp::Amoswap, Width::Double, Order::Release),
-    ),
-    (
-        b"amoswap.d.aqrl",
-        Form::Atomic(AtomicOp::Amoswap, Width::Double, Order::Both),
-    ),
-    (
-        b"amoxor.w",
-        Form::Atomic(AtomicOp::Amoxor, Width::Word, Order::Relaxed),
-    ),
-    (
-        b"amoxor.w.aq",
-        Form::Atomic(AtomicOp::Amoxor, Width::Word, Order::Acquire),
-    ),
-    (
-        b"amoxor.w.rl",
-        Form::Atomic(AtomicOp::Amoxor, Width::Word, Order::Release),
-    ),
-    (
-        b"amoxor.w.aqrl",
-        Form::Atomic(AtomicOp::Amoxor, Width::Word, Order::Both),
-    ),
-    (
-        b"amoxor.d",
-        Form::Atomic(AtomicOp::Amoxor, Width::Double, Order::Relaxed),
-    ),
-    (
-        b"amoxor.d.aq",
-        Form::Atomic(AtomicOp::Amoxor, Width::Double, Order::Acquire),
-    ),
-    (
-        b"amoxor.d.rl",
-        Form::Atomic(AtomicOp::Amoxor, Width::Double, Order::Release),
-    ),
-    (
-        b"amoxor.d.aqrl",
-        Form::Atomic(AtomicOp::Amoxor, Width::Double, Order::Both),
-    ),
-    (
-        b"amoor.w",
-        Form::Atomic(AtomicOp::Amoor, Width::Word, Order::Relaxed),
-    ),
-    (
-        b"amoor.w.aq",
-        Form::Atomic(AtomicOp::Amoor, Width::Word, Order::Acquire),
-    ),
-    (
-        b"amoor.w.rl",
-        Form::Atomic(AtomicOp::Amoor, Width::Word, Order::Release),
-    ),
-    (
-        b"amoor.w.aqrl",
-        Form::Atomic(AtomicOp::Amoor, Width::Word, Order::Both),
-    ),
-    (
-        b"amoor.d",
-        Form::Atomic(AtomicOp::Amoor, Width::Double, Order::Relaxed),
-    ),
-    (
-        b"amoor.d.aq",
-        Form::Atomic(AtomicOp::Amoor, Width::Double, Order::Acquire),
-    ),
-    (
-        b"amoor.d.rl",
-        Form::Atomic(AtomicOp::Amoor, Width::Double, Order::Release),
-    ),
-    (
-        b"amoor.d.aqrl",
-        Form::Atomic(AtomicOp::Amoor, Width::Double, Order::Both),
-    ),
-    (
-        b"amoand.w",
-        Form::Atomic(AtomicOp::Amoand, Width::Word, Order::Relaxed),
-    ),
-    (
-        b"amoand.w.aq",
-        Form::Atomic(AtomicOp::Amoand, Width::Word, Order::Acquire),
-    ),
-    (
-        b"amoand.w.rl",
-        Form::Atomic(AtomicOp::Amoand, Width::Word, Order::Release),
-    ),
-    (
-        b"amoand.w.aqrl",
-        Form::Atomic(AtomicOp::Amoand, Width::Word, Order::Both),
-    ),
-    (
-        b"amoand.d",
-        Form::Atomic(AtomicOp::Amoand, Width::Double, Order::Relaxed),
-    ),
-    (
-        b"amoand.d.aq",
-        Form::Atomic(AtomicOp::Amoand, Width::Double, Order::Acquire),
-    ),
-    (
-        b"amoand.d.rl",
-        Form::Atomic(AtomicOp::Amoand, Width::Double, Order::Release),
-    ),
-    (
-        b"amoand.d.aqrl",
-        Form::Atomic(AtomicOp::Amoand, Width::Double, Order::Both),
-    ),
-    (
-        b"amomin.w",
-        Form::Atomic(AtomicOp::Amomin, Width::Word, Order::Relaxed),
-    ),
-    (
-        b"amomin.w.aq",
-        Form::Atomic(AtomicOp::Amomin, Width::Word, Order::Acquire),
-    ),
-    (
-        b"amomin.w.rl",
-        Form::Atomic(AtomicOp::Amomin, Width::Word, Order::Release),
-    ),
-    (
-        b"amomin.w.aqrl",
-        Form::Atomic(AtomicOp::Amomin, Width::Word, Order::Both),
-    ),
-    (
-        b"amomin.d",
-        Form::Atomic(AtomicOp::Amomin, Width::Double, Order::Relaxed),
-    ),
-    (
-        b"amomin.d.aq",
-        Form::Atomic(AtomicOp::Amomin, Width::Double, Order::Acquire),
-    ),
-    (
-        b"amomin.d.rl",
-        Form::Atomic(AtomicOp::Amomin, Width::Double, Order::Release),
-    ),
-    (
-        b"amomin.d.aqrl",
-        Form::Atomic(AtomicOp::Amomin, Width::Double, Order::Both),
-    ),
-    (
-        b"amomax.w",
-        Form::Atomic(AtomicOp::Amomax, Width::Word, Order::Relaxed),
-    ),
-    (
-        b"amomax.w.aq",
-        Form::Atomic(AtomicOp::Amomax, Width::Word, Order::Acquire),
-    ),
-    (
-        b"amomax.w.rl",
-        Form::Atomic(AtomicOp::Amomax, Width::Word, Order::Release),
-    ),
-    (
-        b"amomax.w.aqrl",
-        Form::Atomic(AtomicOp::Amomax, Width::Word, Order::Both),
-    ),
-    (
-        b"amomax.d",
-        Form::Atomic(AtomicOp::Amomax, Width::Double, Order::Relaxed),
-    ),
-    (
-        b"amomax.d.aq",
-        Form::Atomic(AtomicOp::Amomax, Width::Double, Order::Acquire),
-    ),
-    (
-        b"amomax.d.rl",
-        Form::Atomic(AtomicOp::Amomax, Width::Double, Order::Release),
-    ),
-    (
-        b"amomax.d.aqrl",
-        Form::Atomic(AtomicOp::Amomax, Width::Double, Order::Both),
-    ),
-    (
-        b"amominu.w",
-        Form::Atomic(AtomicOp::Amominu, Width::Word, Order::Relaxed),
-    ),
-    (
-        b"amominu.w.aq",
-        Form::Atomic(AtomicOp::Amominu, Width::Word, Order::Acquire),
-    ),
-    (
-        b"amominu.w.rl",
-        Form::Atomic(AtomicOp::Amominu, Width::Word, Order::Release),
-    ),
-    (
-        b"amominu.w.aqrl",
-        Form::Atomic(AtomicOp::Amominu, Width::Word, Order::Both),
-    ),
-    (
-        b"amominu.d",
-        Form::Atomic(AtomicOp::Amominu, Width::Double, Order::Relaxed),
-    ),
-    (
-        b"amominu.d.aq",
-        Form::Atomic(AtomicOp::Amominu, Width::Double, Order::Acquire),
-    ),
-    (
-        b"amominu.d.rl",
-        Form::Atomic(AtomicOp::Amominu, Width::Double, Order::Release),
-    ),
-    (
-        b"amominu.d.aqrl",
-        Form::Atomic(AtomicOp::Amominu, Width::Double, Order::Both),
-    ),
-    (
-        b"amomaxu.w",
-        Form::Atomic(AtomicOp::Amomaxu, Width::Word, Order::Relaxed),
-    ),
-    (
-        b"amomaxu.w.aq",
-        Form::Atomic(AtomicOp::Amomaxu, Width::Word, Order::Acquire),
-    ),
-    (
-        b"amomaxu.w.rl",
-        Form::Atomic(AtomicOp::Amomaxu, Width::Word, Order::Release),
-    ),
-    (
-        b"amomaxu.w.aqrl",
-        Form::Atomic(AtomicOp::Amomaxu, Width::Word, Order::Both),
-    ),
-    (
-        b"amomaxu.d",
-        Form::Atomic(AtomicOp::Amomaxu, Width::Double, Order::Relaxed),
-    ),
-    (
-        b"amomaxu.d.aq",
-        Form::Atomic(AtomicOp::Amomaxu, Width::Double, Order::Acquire),
-    ),
-    (
-        b"amomaxu.d.rl",
-        Form::Atomic(AtomicOp::Amomaxu, Width::Double, Order::Release),
-    ),
-    (
-        b"amomaxu.d.aqrl",
-        Form::Atomic(AtomicOp::Amomaxu, Width::Double, Order::Both),
-    ),
+/// The atomics by their words without an order.
+const ATOMICS: [(&[u8], (AtomicOp, Width)); 22] = [
+    (b"lr.w", (AtomicOp::Lr, Width::Word)),
+    (b"lr.d", (AtomicOp::Lr, Width::Double)),
+    (b"sc.w", (AtomicOp::Sc, Width::Word)),
+    (b"sc.d", (AtomicOp::Sc, Width::Double)),
+    (b"amoadd.w", (AtomicOp::Amoadd, Width::Word)),
+    (b"amoadd.d", (AtomicOp::Amoadd, Width::Double)),
+    (b"amoswap.w", (AtomicOp::Amoswap, Width::Word)),
+    (b"amoswap.d", (AtomicOp::Amoswap, Width::Double)),
+    (b"amoxor.w", (AtomicOp::Amoxor, Width::Word)),
+    (b"amoxor.d", (AtomicOp::Amoxor, Width::Double)),
+    (b"amoor.w", (AtomicOp::Amoor, Width::Word)),
+    (b"amoor.d", (AtomicOp::Amoor, Width::Double)),
+    (b"amoand.w", (AtomicOp::Amoand, Width::Word)),
+    (b"amoand.d", (AtomicOp::Amoand, Width::Double)),
+    (b"amomin.w", (AtomicOp::Amomin, Width::Word)),
+    (b"amomin.d", (AtomicOp::Amomin, Width::Double)),
+    (b"amomax.w", (AtomicOp::Amomax, Width::Word)),
+    (b"amomax.d", (AtomicOp::Amomax, Width::Double)),
+    (b"amominu.w", (AtomicOp::Amominu, Width::Word)),
+    (b"amominu.d", (AtomicOp::Amominu, Width::Double)),
+    (b"amomaxu.w", (AtomicOp::Amomaxu, Width::Word)),
+    (b"amomaxu.d", (AtomicOp::Amomaxu, Width::Double)),
+];
+
+/// The orders by what stands for them behind an atomic's word.
+const SUFFIXES: [(&[u8], Order); 4] = [
+    (b"", Order::Relaxed),
+    (b".aq", Order::Acquire),
+    (b".rl", Order::Release),
+    (b".aqrl", Order::Both),
 ];
 
 /// The first entry of that name.
@@ -544,11 +223,33 @@ fn plain_form(name: &[u8]) -> Option<Form>
     look_up(&PLAIN, name)
 }
 
+/// The form of this atomic, if the name is its word with an order's suffix.
+fn ordered_form(atomic: &(&[u8], (AtomicOp, Width)), name: &[u8]) -> Option<Form>
+    ensures { result ≡ look_up name.now (ordered (seen atomic.now)) }
+{
+    let suffix = name.strip_prefix(atomic.0)?;
+    let order = look_up(&SUFFIXES, suffix)?;
+    let (op, width) = atomic.1;
+    Some(Form::Atomic(op, width, order))
+}
+
+/// The form of the first of these atomics that has that name in some order.
+fn look_up_ordered(atomics: &[(&[u8], (AtomicOp, Width))], name: &[u8]) -> Option<Form>
+    ensures { result ≡ look_up name.now (flat_map ordered (map seen atomics.now)) }
+{
+    for atomic in atomics.iter() {
+        if let Some(form) = ordered_form(atomic, name) {
+            return Some(form);
+        }
+    }
+    None
+}
+
 #[tactic(auto, unfolding(crate::specs::Table::atomic_rows))]
 fn atomic_form(name: &[u8]) -> Option<Form>
     ensures { result ≡ look_up name.now atomic_rows }
 {
-    look_up(&ATOMICS, name)
+    look_up_ordered(&ATOMICS, name)
 }
 
 /// The form of the statement that begins with this word.
