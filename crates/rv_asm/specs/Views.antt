@@ -1,17 +1,20 @@
 -- What contracts see of the code's values.
-use Rattle.std.specs.Prelude.{◌≡◌, ℕ, ◌≤◌, List, [], ◌∷◌, ◌++◌, Option, None, Result, Ok, Err, option_map, map, length, replicate, ◌/◌}
+use Rattle.std.specs.Prelude.{◌≡◌, ℕ, ◌≤◌, List, [], ◌∷◌, ◌++◌, Option, None, Result, Ok, Err, option_map, map, length, drop, replicate, ◌/◌}
 use denote.Ref.{Bor}
 use Rattle.asm_tokens.specs.declared.line.LineError.{LineError}
 use Rattle.asm_tokens.specs.declared.line.LineError.TheVariants as errors
 use Rattle.asm_tokens.specs.Tokens.{Placed, Read, ◌>>=◌}
-use Rattle.asm_tokens.specs.Views.{FailsLine}
-use Rattle.rv_asm.specs.Statements.{Use, Piece, Encoded, BranchTo, JumpTo, AddressTo, AddressOf, Bytes, Zeros, Statement, Puts, Aligns, Enters}
+use Rattle.asm_tokens.specs.declared.AsmKind.TheVariants as kinds
+use Rattle.asm_tokens.specs.declared.line.Placed.{Placed as CodePlaced}
+use Rattle.asm_tokens.specs.Views.{FailsLine, all_placed, placed_of}
+use Rattle.rv_asm.specs.Statements.{Taking, Use, Piece, Encoded, BranchTo, JumpTo, AddressTo, AddressOf, Bytes, Zeros, Statement, Puts, Aligns, Enters}
 use Rattle.asm_tokens.specs.Registers.{number_of}
 use Rattle.rv_asm.specs.declared.pieces.Piece.{Piece as CodePiece}
 use Rattle.rv_asm.specs.declared.pieces.Piece.TheVariants as puts
 use Rattle.rv_asm.specs.declared.pieces.Statement.{Statement as CodeStatement}
 use Rattle.rv_asm.specs.declared.pieces.Statement.TheVariants as does
 use Rattle.rv_asm.specs.declared.operands.NameUse.{NameUse}
+use Rattle.rv_asm.specs.declared.operands.Operands.{Operands}
 use Rattle.rv_asm.specs.declared.state.Place.{Place}
 use Rattle.rv_asm.specs.declared.state.Put.{Put as CodePut}
 use Rattle.rv_asm.specs.declared.state.State.{State as CodeState}
@@ -32,6 +35,31 @@ Steps (Err e) new read = FailsLine e read
 
 abbrev pub use_of : NameUse → Use
 use_of u = record { name = u.name.now; column = u.column }
+
+-- the tokens that are left
+abbrev pub left : Operands → List Placed
+left operands = all_placed (drop operands.next operands.tokens.now)
+
+-- What was answered is taken of the old operands, and the new ones are left of the same line, unless memory ran out.
+abbrev pub Takes : {X A : Type 0} → (X → A) → Result X LineError → Operands → Operands → Taking A → Type 0
+Takes view (Ok x) old new taking = (taking ≡ Ok (view x, left new)) × (new.end ≡ old.end)
+Takes view (Err e) old new taking = FailsLine e taking
+
+-- the same where nothing is answered
+abbrev pub Passes : {U : Type 0} → Result U LineError → Operands → Operands → Read (List Placed) → Type 0
+Passes (Ok u) old new passing = (passing ≡ Ok (left new)) × (new.end ≡ old.end)
+Passes (Err e) old new passing = FailsLine e passing
+
+-- The first token is taken, or the line has no more.
+abbrev pub TakesFirst : Result (Bor CodePlaced) LineError → Operands → Operands → Type 0
+TakesFirst (Ok first) old new = (left old ≡ placed_of first.now ∷ left new) × (new.end ≡ old.end)
+TakesFirst (Err e) old new = (left old ≡ []) × (e ≡ errors.Fault kinds.Operand old.end)
+
+-- Nothing is left, or the first token is one too many.
+abbrev pub EndsThere : {U : Type 0} → Result U LineError → List Placed → Type 0
+EndsThere (Ok u) tokens = tokens ≡ []
+EndsThere (Err e) [] = ⊥
+EndsThere (Err e) (t ∷ ts) = e ≡ errors.Fault kinds.Operand t.column
 
 abbrev pub piece_of : CodePiece → Piece
 piece_of (puts.Encoded word) = Encoded word

@@ -9,14 +9,11 @@ ghost use Rattle.rv_decode.specs.declared.UpperOp.TheVariants.{Lui};
 ghost use Rattle.asm_tokens.specs.Registers.{number_of};
 ghost use Rattle.rv_asm.specs.Statements.{lower, upper, load_number, encoded, whole, puts, one, number_item, label_item, item, items, statement, bytes_of, is_wide, acquires, releases, instruction_alone, is_within, BranchTo, JumpTo, AddressTo, Bytes, Zeros, Puts, Aligns, Enters};
 ghost use Rattle.asm_tokens.specs.Views.{GivesLine, all_placed, placed_of};
-ghost use Rattle.rv_asm.specs.Views.{use_of, piece_of, statement_of, AlignsWithin};
+ghost use Rattle.rv_asm.specs.Views.{left, piece_of, statement_of, AlignsWithin};
 ghost use Rattle.asm_tokens.specs.declared.form.Form.TheVariants as forms;
 
 use crate::AsmKind;
-use crate::operands::{
-    NameUse, base, immediate, mark, name, number, number_up_to, operand_fault, register,
-    text_operand, then_base, then_immediate, then_name, then_register, then_second, then_up_to,
-};
+use crate::operands::{NameUse, Operands, operand_fault};
 use crate::pieces::{Piece, Statement, low_bits, lower, upper};
 use asm_tokens::{
     Alone, Form, LineError, Order, Placed, Register, Section, Size, Token, Width, number_of,
@@ -27,92 +24,82 @@ use rv_decode::{
 use std::alloc::{AllocError, Global};
 
 /// This statement, if nothing is left.
-fn whole<'s>(
-    end: u32,
-    what: Statement<'s>,
-    tokens: &[Placed<'s>],
-) -> Result<Statement<'s>, LineError>
-    ensures value { GivesLine statement_of result (whole end (statement_of what.entry) (all_placed tokens.now)) }
+fn whole<'s>(operands: Operands<'_, 's>, what: Statement<'s>) -> Result<Statement<'s>, LineError>
+    ensures value { GivesLine statement_of result (whole operands.entry.end (statement_of what.entry) (left operands.entry)) }
     ensures same { IfOk result (λ x. x ≡ what.entry) }
 {
-    match tokens.first() {
-        None => Ok(what),
-        Some(first) => Err(operand_fault(first.column)),
-    }
+    operands.finish()?;
+    Ok(what)
 }
 
 /// This one piece, if nothing is left.
 fn puts<'s>(
     alloc: Global,
-    end: u32,
+    operands: Operands<'_, 's>,
     piece: Piece<'s>,
-    tokens: &[Placed<'s>],
 ) -> Result<Statement<'s>, LineError>
-    ensures value { GivesLine statement_of result (puts end (piece_of piece.entry ∷ []) (all_placed tokens.now)) }
+    ensures value { GivesLine statement_of result (puts operands.entry.end (piece_of piece.entry ∷ []) (left operands.entry)) }
     ensures within { IfOk result AlignsWithin }
 {
     let pieces = vec![in alloc; piece]?;
-    whole(end, Statement::Puts(pieces), tokens)
+    whole(operands, Statement::Puts(pieces))
 }
 
 /// This one instruction, if nothing is left.
 fn one<'s>(
     alloc: Global,
-    end: u32,
+    operands: Operands<'_, 's>,
     instr: Instr,
-    tokens: &[Placed<'s>],
 ) -> Result<Statement<'s>, LineError>
     requires { InRange instr }
-    ensures value { GivesLine statement_of result (one end instr (all_placed tokens.now)) }
+    ensures value { GivesLine statement_of result (one operands.entry.end instr (left operands.entry)) }
     ensures within { IfOk result AlignsWithin }
 {
-    puts(alloc, end, Piece::Encoded(encode(instr)), tokens)
+    puts(alloc, operands, Piece::Encoded(encode(instr)))
 }
 
 /// `add rd, rs1, rs2`
 #[tactic(auto, unfolding(crate::specs::Statements::statement))]
 fn register_form<'s>(
     alloc: Global,
-    end: u32,
     op: RegOp,
-    tokens: &[Placed<'s>],
+    mut operands: Operands<'_, 's>,
 ) -> Result<Statement<'s>, LineError>
-    ensures value { GivesLine statement_of result (statement end (forms.Register op) (all_placed tokens.now)) }
+    ensures value { GivesLine statement_of result (statement operands.entry.end (forms.Register op) (left operands.entry)) }
     ensures within { IfOk result AlignsWithin }
 {
-    let (rd, rest) = register(end, tokens)?;
-    let (rs1, rest) = then_register(end, rest)?;
-    let (rs2, rest) = then_register(end, rest)?;
+    let rd = operands.register()?;
+    let rs1 = operands.then_register()?;
+    let rs2 = operands.then_register()?;
     let instr = Instr::Reg {
         op,
         rd: number_of(rd),
         rs1: number_of(rs1),
         rs2: number_of(rs2),
     };
-    one(alloc, end, instr, rest)
+    one(alloc, operands, instr)
 }
 
 /// `addi rd, rs1, n`
 #[tactic(auto, unfolding(crate::specs::Statements::statement))]
 fn immediate_form<'s>(
     alloc: Global,
-    end: u32,
     op: ImmOp,
-    tokens: &[Placed<'s>],
+    mut operands: Operands<'_, 's>,
 ) -> Result<Statement<'s>, LineError>
-    ensures value { GivesLine statement_of result (statement end (forms.Immediate op) (all_placed tokens.now)) }
+    ensures value { GivesLine statement_of result (statement operands.entry.end (forms.Immediate op) (left operands.entry)) }
     ensures within { IfOk result AlignsWithin }
 {
-    let (rd, rest) = register(end, tokens)?;
-    let (rs1, rest) = then_register(end, rest)?;
-    let (value, rest) = then_immediate(end, rest)?;
+    let rd = operands.register()?;
+    let rs1 = operands.then_register()?;
+    let value = operands.then_immediate()?;
     let instr = Instr::Imm {
         op,
         rd: number_of(rd),
         rs1: number_of(rs1),
         value,
     };
-    one(alloc, end, instr, rest)
+    one(alloc, operands, instr)
 }
 
 /// The greatest amount of a shift.
@@ -129,141 +116,136 @@ fn greatest_amount(op: ShiftOp) -> u32
 #[tactic(auto, unfolding(crate::specs::Statements::statement))]
 fn shift_form<'s>(
     alloc: Global,
-    end: u32,
     op: ShiftOp,
-    tokens: &[Placed<'s>],
+    mut operands: Operands<'_, 's>,
 ) -> Result<Statement<'s>, LineError>
-    ensures value { GivesLine statement_of result (statement end (forms.Shift op) (all_placed tokens.now)) }
+    ensures value { GivesLine statement_of result (statement operands.entry.end (forms.Shift op) (left operands.entry)) }
     ensures within { IfOk result AlignsWithin }
 {
-    let (rd, rest) = register(end, tokens)?;
-    let (rs1, rest) = then_register(end, rest)?;
-    let (amount, rest) = then_up_to(end, greatest_amount(op), rest)?;
+    let rd = operands.register()?;
+    let rs1 = operands.then_register()?;
+    let amount = operands.then_up_to(greatest_amount(op))?;
     let instr = Instr::Shift {
         op,
         rd: number_of(rd),
         rs1: number_of(rs1),
         amount: amount as u8,
     };
-    one(alloc, end, instr, rest)
+    one(alloc, operands, instr)
 }
 
 /// `ld rd, n(rs1)`
 #[tactic(auto, unfolding(crate::specs::Statements::statement))]
 fn load_form<'s>(
     alloc: Global,
-    end: u32,
     op: LoadOp,
-    tokens: &[Placed<'s>],
+    mut operands: Operands<'_, 's>,
 ) -> Result<Statement<'s>, LineError>
-    ensures value { GivesLine statement_of result (statement end (forms.Load op) (all_placed tokens.now)) }
+    ensures value { GivesLine statement_of result (statement operands.entry.end (forms.Load op) (left operands.entry)) }
     ensures within { IfOk result AlignsWithin }
 {
-    let (rd, rest) = register(end, tokens)?;
-    let (offset, rest) = then_immediate(end, rest)?;
-    let (rs1, rest) = base(end, rest)?;
+    let rd = operands.register()?;
+    let offset = operands.then_immediate()?;
+    let rs1 = operands.base()?;
     let instr = Instr::Load {
         op,
         rd: number_of(rd),
         rs1: number_of(rs1),
         offset,
     };
-    one(alloc, end, instr, rest)
+    one(alloc, operands, instr)
 }
 
 /// `jalr rd, n(rs1)`
 #[tactic(auto, unfolding(crate::specs::Statements::statement))]
-fn jalr_form<'s>(alloc: Global, end: u32, tokens: &[Placed<'s>]) -> Result<Statement<'s>, LineError>
-    ensures value { GivesLine statement_of result (statement end forms.Jalr (all_placed tokens.now)) }
+fn jalr_form<'s>(alloc: Global, mut operands: Operands<'_, 's>) -> Result<Statement<'s>, LineError>
+    ensures value { GivesLine statement_of result (statement operands.entry.end forms.Jalr (left operands.entry)) }
     ensures within { IfOk result AlignsWithin }
 {
-    let (rd, rest) = register(end, tokens)?;
-    let (offset, rest) = then_immediate(end, rest)?;
-    let (rs1, rest) = base(end, rest)?;
+    let rd = operands.register()?;
+    let offset = operands.then_immediate()?;
+    let rs1 = operands.base()?;
     let instr = Instr::Jalr {
         rd: number_of(rd),
         rs1: number_of(rs1),
         offset,
     };
-    one(alloc, end, instr, rest)
+    one(alloc, operands, instr)
 }
 
 /// `sd rs2, n(rs1)`
 #[tactic(auto, unfolding(crate::specs::Statements::statement))]
 fn store_form<'s>(
     alloc: Global,
-    end: u32,
     op: StoreOp,
-    tokens: &[Placed<'s>],
+    mut operands: Operands<'_, 's>,
 ) -> Result<Statement<'s>, LineError>
-    ensures value { GivesLine statement_of result (statement end (forms.Store op) (all_placed tokens.now)) }
+    ensures value { GivesLine statement_of result (statement operands.entry.end (forms.Store op) (left operands.entry)) }
     ensures within { IfOk result AlignsWithin }
 {
-    let (rs2, rest) = register(end, tokens)?;
-    let (offset, rest) = then_immediate(end, rest)?;
-    let (rs1, rest) = base(end, rest)?;
+    let rs2 = operands.register()?;
+    let offset = operands.then_immediate()?;
+    let rs1 = operands.base()?;
     let instr = Instr::Store {
         op,
         rs1: number_of(rs1),
         rs2: number_of(rs2),
         offset,
     };
-    one(alloc, end, instr, rest)
+    one(alloc, operands, instr)
 }
 
 /// `beq rs1, rs2, label`
 #[tactic(auto, unfolding(crate::specs::Statements::statement))]
 fn branch_form<'s>(
     alloc: Global,
-    end: u32,
     op: BranchOp,
-    tokens: &[Placed<'s>],
+    mut operands: Operands<'_, 's>,
 ) -> Result<Statement<'s>, LineError>
-    ensures value { GivesLine statement_of result (statement end (forms.Branch op) (all_placed tokens.now)) }
+    ensures value { GivesLine statement_of result (statement operands.entry.end (forms.Branch op) (left operands.entry)) }
     ensures within { IfOk result AlignsWithin }
 {
-    let (rs1, rest) = register(end, tokens)?;
-    let (rs2, rest) = then_register(end, rest)?;
-    let (label, rest) = then_name(end, rest)?;
+    let rs1 = operands.register()?;
+    let rs2 = operands.then_register()?;
+    let label = operands.then_name()?;
     let piece = Piece::Branch {
         op,
         rs1,
         rs2,
         label,
     };
-    puts(alloc, end, piece, rest)
+    puts(alloc, operands, piece)
 }
 
 /// `jal rd, label`
 #[tactic(auto, unfolding(crate::specs::Statements::statement))]
-fn jal_form<'s>(alloc: Global, end: u32, tokens: &[Placed<'s>]) -> Result<Statement<'s>, LineError>
-    ensures value { GivesLine statement_of result (statement end forms.Jal (all_placed tokens.now)) }
+fn jal_form<'s>(alloc: Global, mut operands: Operands<'_, 's>) -> Result<Statement<'s>, LineError>
+    ensures value { GivesLine statement_of result (statement operands.entry.end forms.Jal (left operands.entry)) }
     ensures within { IfOk result AlignsWithin }
 {
-    let (rd, rest) = register(end, tokens)?;
-    let (label, rest) = then_name(end, rest)?;
-    puts(alloc, end, Piece::Jump { rd, label }, rest)
+    let rd = operands.register()?;
+    let label = operands.then_name()?;
+    puts(alloc, operands, Piece::Jump { rd, label })
 }
 
 /// `lui rd, n`
 #[tactic(auto, unfolding(crate::specs::Statements::statement))]
 fn upper_form<'s>(
     alloc: Global,
-    end: u32,
     op: UpperOp,
-    tokens: &[Placed<'s>],
+    mut operands: Operands<'_, 's>,
 ) -> Result<Statement<'s>, LineError>
-    ensures value { GivesLine statement_of result (statement end (forms.Upper op) (all_placed tokens.now)) }
+    ensures value { GivesLine statement_of result (statement operands.entry.end (forms.Upper op) (left operands.entry)) }
     ensures within { IfOk result AlignsWithin }
 {
-    let (rd, rest) = register(end, tokens)?;
-    let (value, rest) = then_up_to(end, 0xF_FFFF, rest)?;
+    let rd = operands.register()?;
+    let value = operands.then_up_to(0xF_FFFF)?;
     let instr = Instr::Upper {
         op,
         rd: number_of(rd),
         value,
     };
-    one(alloc, end, instr, rest)
+    one(alloc, operands, instr)
 }
 
 fn is_wide(width: Width) -> bool
@@ -288,18 +270,17 @@ fn releases(order: Order) -> bool
 #[tactic(auto, unfolding(crate::specs::Statements::statement))]
 fn atomic_form<'s>(
     alloc: Global,
-    end: u32,
     op: AtomicOp,
     width: Width,
     order: Order,
-    tokens: &[Placed<'s>],
+    mut operands: Operands<'_, 's>,
 ) -> Result<Statement<'s>, LineError>
-    ensures value { GivesLine statement_of result (statement end (forms.Atomic op width order) (all_placed tokens.now)) }
+    ensures value { GivesLine statement_of result (statement operands.entry.end (forms.Atomic op width order) (left operands.entry)) }
     ensures within { IfOk result AlignsWithin }
 {
-    let (rd, rest) = register(end, tokens)?;
-    let (rs2, rest) = then_second(end, op, rest)?;
-    let (rs1, rest) = then_base(end, rest)?;
+    let rd = operands.register()?;
+    let rs2 = operands.then_second(op)?;
+    let rs1 = operands.then_base()?;
     let instr = Instr::Atomic {
         op,
         wide: is_wide(width),
@@ -309,7 +290,7 @@ fn atomic_form<'s>(
         rs1: number_of(rs1),
         rs2: number_of(rs2),
     };
-    one(alloc, end, instr, rest)
+    one(alloc, operands, instr)
 }
 
 /// An instruction without operands.
@@ -341,33 +322,33 @@ fn instruction_alone(name: Alone) -> Instr
 
 /// `mv rd, rs`
 #[tactic(auto, unfolding(crate::specs::Statements::statement))]
-fn move_form<'s>(alloc: Global, end: u32, tokens: &[Placed<'s>]) -> Result<Statement<'s>, LineError>
-    ensures value { GivesLine statement_of result (statement end forms.Move (all_placed tokens.now)) }
+fn move_form<'s>(alloc: Global, mut operands: Operands<'_, 's>) -> Result<Statement<'s>, LineError>
+    ensures value { GivesLine statement_of result (statement operands.entry.end forms.Move (left operands.entry)) }
     ensures within { IfOk result AlignsWithin }
 {
-    let (rd, rest) = register(end, tokens)?;
-    let (rs1, rest) = then_register(end, rest)?;
+    let rd = operands.register()?;
+    let rs1 = operands.then_register()?;
     let instr = Instr::Imm {
         op: ImmOp::Addi,
         rd: number_of(rd),
         rs1: number_of(rs1),
         value: 0,
     };
-    one(alloc, end, instr, rest)
+    one(alloc, operands, instr)
 }
 
 /// `j label`
 #[tactic(auto, unfolding(crate::specs::Statements::statement))]
-fn jump_form<'s>(alloc: Global, end: u32, tokens: &[Placed<'s>]) -> Result<Statement<'s>, LineError>
-    ensures value { GivesLine statement_of result (statement end forms.Jump (all_placed tokens.now)) }
+fn jump_form<'s>(alloc: Global, mut operands: Operands<'_, 's>) -> Result<Statement<'s>, LineError>
+    ensures value { GivesLine statement_of result (statement operands.entry.end forms.Jump (left operands.entry)) }
     ensures within { IfOk result AlignsWithin }
 {
-    let (label, rest) = name(end, tokens)?;
+    let label = operands.name()?;
     let piece = Piece::Jump {
         rd: Register::X0,
         label,
     };
-    puts(alloc, end, piece, rest)
+    puts(alloc, operands, piece)
 }
 
 /// The number, where 12 bits with a sign hold it.
@@ -425,85 +406,74 @@ fn load_number<'s>(alloc: Global, rd: u8, value: i128) -> Result<Vec<Piece<'s>>,
 #[tactic(auto, unfolding(crate::specs::Statements::statement))]
 fn load_number_form<'s>(
     alloc: Global,
-    end: u32,
-    tokens: &[Placed<'s>],
+    mut operands: Operands<'_, 's>,
 ) -> Result<Statement<'s>, LineError>
-    ensures value { GivesLine statement_of result (statement end forms.LoadNumber (all_placed tokens.now)) }
+    ensures value { GivesLine statement_of result (statement operands.entry.end forms.LoadNumber (left operands.entry)) }
     ensures within { IfOk result AlignsWithin }
 {
-    let (rd, rest) = register(end, tokens)?;
-    let rest = mark(end, b',', rest)?;
-    let (value, rest) = number(end, -0x8000_0000, 0x7FFF_FFFF, rest)?;
+    let rd = operands.register()?;
+    operands.mark(b',')?;
+    let value = operands.number(-0x8000_0000, 0x7FFF_FFFF)?;
     let pieces = load_number(alloc, number_of(rd), value)?;
-    whole(end, Statement::Puts(pieces), rest)
+    whole(operands, Statement::Puts(pieces))
 }
 
 /// `la rd, label`
 #[tactic(auto, unfolding(crate::specs::Statements::statement))]
 fn load_address_form<'s>(
     alloc: Global,
-    end: u32,
-    tokens: &[Placed<'s>],
+    mut operands: Operands<'_, 's>,
 ) -> Result<Statement<'s>, LineError>
-    ensures value { GivesLine statement_of result (statement end forms.LoadAddress (all_placed tokens.now)) }
+    ensures value { GivesLine statement_of result (statement operands.entry.end forms.LoadAddress (left operands.entry)) }
     ensures within { IfOk result AlignsWithin }
 {
-    let (rd, rest) = register(end, tokens)?;
-    let (label, rest) = then_name(end, rest)?;
-    puts(alloc, end, Piece::LoadAddress { rd, label }, rest)
+    let rd = operands.register()?;
+    let label = operands.then_name()?;
+    puts(alloc, operands, Piece::LoadAddress { rd, label })
 }
 
 /// `.globl name`, which does nothing
 #[tactic(auto, unfolding(crate::specs::Statements::statement))]
 fn global_form<'s>(
     alloc: Global,
-    end: u32,
-    tokens: &[Placed<'s>],
+    mut operands: Operands<'_, 's>,
 ) -> Result<Statement<'s>, LineError>
-    ensures value { GivesLine statement_of result (statement end forms.Global (all_placed tokens.now)) }
+    ensures value { GivesLine statement_of result (statement operands.entry.end forms.Global (left operands.entry)) }
     ensures within { IfOk result AlignsWithin }
 {
-    let (_, rest) = name(end, tokens)?;
-    whole(end, Statement::Puts(Vec::new(alloc)), rest)
+    operands.name()?;
+    whole(operands, Statement::Puts(Vec::new(alloc)))
 }
 
 /// `.ascii "text"`
 #[tactic(auto, unfolding(crate::specs::Statements::statement))]
-fn ascii_form<'s>(
-    alloc: Global,
-    end: u32,
-    tokens: &[Placed<'s>],
-) -> Result<Statement<'s>, LineError>
-    ensures value { GivesLine statement_of result (statement end forms.Ascii (all_placed tokens.now)) }
+fn ascii_form<'s>(alloc: Global, mut operands: Operands<'_, 's>) -> Result<Statement<'s>, LineError>
+    ensures value { GivesLine statement_of result (statement operands.entry.end forms.Ascii (left operands.entry)) }
     ensures within { IfOk result AlignsWithin }
 {
-    let (bytes, rest) = text_operand(end, tokens)?;
+    let bytes = operands.text()?;
     let bytes = Vec::from_slice(alloc, bytes)?;
-    puts(alloc, end, Piece::Bytes(bytes), rest)
+    puts(alloc, operands, Piece::Bytes(bytes))
 }
 
 /// `.zero n`
 #[tactic(auto, unfolding(crate::specs::Statements::statement))]
-fn zeros_form<'s>(
-    alloc: Global,
-    end: u32,
-    tokens: &[Placed<'s>],
-) -> Result<Statement<'s>, LineError>
-    ensures value { GivesLine statement_of result (statement end forms.Zeros (all_placed tokens.now)) }
+fn zeros_form<'s>(alloc: Global, mut operands: Operands<'_, 's>) -> Result<Statement<'s>, LineError>
+    ensures value { GivesLine statement_of result (statement operands.entry.end forms.Zeros (left operands.entry)) }
     ensures within { IfOk result AlignsWithin }
 {
-    let (count, rest) = number_up_to(end, 1_048_576, tokens)?;
-    puts(alloc, end, Piece::Zeros(count), rest)
+    let count = operands.number_up_to(1_048_576)?;
+    puts(alloc, operands, Piece::Zeros(count))
 }
 
 /// `.align n`
 #[tactic(auto, unfolding(crate::specs::Statements::statement))]
-fn align_form<'s>(end: u32, tokens: &[Placed<'s>]) -> Result<Statement<'s>, LineError>
-    ensures value { GivesLine statement_of result (statement end forms.Align (all_placed tokens.now)) }
+fn align_form<'s>(mut operands: Operands<'_, 's>) -> Result<Statement<'s>, LineError>
+    ensures value { GivesLine statement_of result (statement operands.entry.end forms.Align (left operands.entry)) }
     ensures within { IfOk result AlignsWithin }
 {
-    let (bits, rest) = number_up_to(end, 12, tokens)?;
-    whole(end, Statement::Aligns(bits), rest)
+    let bits = operands.number_up_to(12)?;
+    whole(operands, Statement::Aligns(bits))
 }
 
 /// The bytes of a number of this size.
@@ -593,7 +563,8 @@ fn items<'s>(
         if place + 1 == tokens.len() {
             return Ok(pieces);
         }
-        mark(end, b',', from_place(tokens, place + 1))?;
+        let mut behind = Operands::new(from_place(tokens, place + 1), end);
+        behind.mark(b',')?;
         place += 2;
     }
     Err(operand_fault(end))
@@ -625,27 +596,28 @@ pub fn statement<'s>(
     ensures value { GivesLine statement_of result (statement end form (all_placed tokens.now)) }
     ensures within { IfOk result AlignsWithin }
 {
+    let operands = Operands::new(tokens, end);
     match form {
-        Form::Register(op) => register_form(alloc, end, op, tokens),
-        Form::Immediate(op) => immediate_form(alloc, end, op, tokens),
-        Form::Shift(op) => shift_form(alloc, end, op, tokens),
-        Form::Load(op) => load_form(alloc, end, op, tokens),
-        Form::Jalr => jalr_form(alloc, end, tokens),
-        Form::Store(op) => store_form(alloc, end, op, tokens),
-        Form::Branch(op) => branch_form(alloc, end, op, tokens),
-        Form::Jal => jal_form(alloc, end, tokens),
-        Form::Upper(op) => upper_form(alloc, end, op, tokens),
-        Form::Atomic(op, width, order) => atomic_form(alloc, end, op, width, order, tokens),
-        Form::Plain(name) => one(alloc, end, instruction_alone(name), tokens),
-        Form::Move => move_form(alloc, end, tokens),
-        Form::Jump => jump_form(alloc, end, tokens),
-        Form::LoadNumber => load_number_form(alloc, end, tokens),
-        Form::LoadAddress => load_address_form(alloc, end, tokens),
-        Form::Enter(section) => whole(end, Statement::Enters(section), tokens),
-        Form::Global => global_form(alloc, end, tokens),
+        Form::Register(op) => register_form(alloc, op, operands),
+        Form::Immediate(op) => immediate_form(alloc, op, operands),
+        Form::Shift(op) => shift_form(alloc, op, operands),
+        Form::Load(op) => load_form(alloc, op, operands),
+        Form::Jalr => jalr_form(alloc, operands),
+        Form::Store(op) => store_form(alloc, op, operands),
+        Form::Branch(op) => branch_form(alloc, op, operands),
+        Form::Jal => jal_form(alloc, operands),
+        Form::Upper(op) => upper_form(alloc, op, operands),
+        Form::Atomic(op, width, order) => atomic_form(alloc, op, width, order, operands),
+        Form::Plain(name) => one(alloc, operands, instruction_alone(name)),
+        Form::Move => move_form(alloc, operands),
+        Form::Jump => jump_form(alloc, operands),
+        Form::LoadNumber => load_number_form(alloc, operands),
+        Form::LoadAddress => load_address_form(alloc, operands),
+        Form::Enter(section) => whole(operands, Statement::Enters(section)),
+        Form::Global => global_form(alloc, operands),
         Form::Numbers(size) => numbers_form(alloc, end, size, tokens),
-        Form::Ascii => ascii_form(alloc, end, tokens),
-        Form::Zeros => zeros_form(alloc, end, tokens),
-        Form::Align => align_form(end, tokens),
+        Form::Ascii => ascii_form(alloc, operands),
+        Form::Zeros => zeros_form(alloc, operands),
+        Form::Align => align_form(operands),
     }
 }

@@ -1,12 +1,12 @@
-//! The operands of a statement: each function reads from the front of a line's tokens and gives the tokens after it. The line's bytes end before the column `end`.
+//! The operands of a statement: each method takes what it names from their front.
 
 ghost use Rattle.std.specs.Prelude.{◌≡◌, ◌≤◌, ◌<◌, ◌-◌, ◌^◌, IfOk, IsTrue, ℤ, pos, neg_ℤ, ◌≤ℤ◌};
 ghost use Rattle.rv_decode.specs.Fields.{is_signed};
 ghost use Rattle.rv_decode.specs.Instructions.{is_second, amount_bits};
 ghost use Rattle.asm_tokens.specs.Registers.{number_of};
 ghost use Rattle.rv_asm.specs.Statements.{name, mark, number, text_operand, register, number_up_to, immediate, then_name, then_register, then_immediate, then_up_to, base, then_base, then_second};
-ghost use Rattle.asm_tokens.specs.Views.{GivesLine, all_placed};
-ghost use Rattle.rv_asm.specs.Views.{use_of};
+ghost use Rattle.asm_tokens.specs.Views.{all_placed};
+ghost use Rattle.rv_asm.specs.Views.{use_of, left, TakesFirst, Takes, Passes, EndsThere};
 
 use crate::AsmKind;
 use asm_tokens::{LineError, Placed, Register, Token, register_of};
@@ -19,6 +19,14 @@ pub struct NameUse<'s> {
     pub column: u32,
 }
 
+/// The tokens from the place `next` on, of a line whose bytes end before the column `end`.
+#[derive(Clone, Copy)]
+pub struct Operands<'t, 's> {
+    tokens: &'t [Placed<'s>],
+    next: usize,
+    end: u32,
+}
+
 /// A token that the form doesn't have there, or a missing one.
 pub fn operand_fault(column: u32) -> LineError
     ensures { result ≡ LineError.Fault AsmKind.Operand column }
@@ -29,63 +37,80 @@ pub fn operand_fault(column: u32) -> LineError
     }
 }
 
-/// A name.
-pub fn name<'t, 's>(
-    end: u32,
-    tokens: &'t [Placed<'s>],
-) -> Result<(NameUse<'s>, &'t [Placed<'s>]), LineError>
-    ensures { GivesLine (λ x. (use_of x.0, all_placed x.1.now)) result (name end (all_placed tokens.now)) }
-{
-    match tokens.split_first() {
-        None => Err(operand_fault(end)),
-        Some((first, rest)) => match &first.token {
-            Token::Name(name) => Ok((
-                NameUse {
-                    name: *name,
-                    column: first.column,
-                },
-                rest,
-            )),
-            _ => Err(operand_fault(first.column)),
-        },
+impl<'t, 's> Operands<'t, 's> {
+    /// All these tokens.
+    pub fn new(tokens: &'t [Placed<'s>], end: u32) -> Operands<'t, 's>
+        ensures left { left result ≡ all_placed tokens.now }
+        ensures end { result.end ≡ end }
+    {
+        Operands {
+            tokens,
+            next: 0,
+            end,
+        }
     }
-}
 
-/// This mark.
-pub fn mark<'t, 's>(
-    end: u32,
-    wanted: u8,
-    tokens: &'t [Placed<'s>],
-) -> Result<&'t [Placed<'s>], LineError>
-    ensures { GivesLine (λ ts. all_placed ts.now) result (mark end wanted (all_placed tokens.now)) }
-{
-    match tokens.split_first() {
-        None => Err(operand_fault(end)),
-        Some((first, rest)) => match &first.token {
-            Token::Mark(found) if wanted == *found => Ok(rest),
-            _ => Err(operand_fault(first.column)),
-        },
+    /// A token.
+    fn token(&mut self) -> Result<&'t Placed<'s>, LineError>
+        ensures { TakesFirst result self.old self.new }
+    {
+        let tokens = self.tokens;
+        match tokens.get(self.next) {
+            None => Err(operand_fault(self.end)),
+            Some(first) => {
+                self.next += 1;
+                Ok(first)
+            }
+        }
     }
-}
 
-/// A number from `low` to `high`.
-pub fn number<'t, 's>(
-    end: u32,
-    low: i128,
-    high: i128,
-    tokens: &'t [Placed<'s>],
-) -> Result<(i128, &'t [Placed<'s>]), LineError>
-    ensures value { GivesLine (λ x. (x.0, all_placed x.1.now)) result (number end low high (all_placed tokens.now)) }
-    ensures low { IfOk result (λ x. low ≤ℤ x.0) }
-    ensures high { IfOk result (λ x. x.0 ≤ℤ high) }
-{
-    match tokens.split_first() {
-        None => Err(operand_fault(end)),
-        Some((first, rest)) => match &first.token {
+    /// Nothing, and nothing is left.
+    pub fn finish(&self) -> Result<(), LineError>
+        ensures { EndsThere result (left self.now) }
+    {
+        match self.tokens.get(self.next) {
+            None => Ok(()),
+            Some(first) => Err(operand_fault(first.column)),
+        }
+    }
+
+    /// A name.
+    pub fn name(&mut self) -> Result<NameUse<'s>, LineError>
+        ensures { Takes use_of result self.old self.new (name self.old.end (left self.old)) }
+    {
+        let first = self.token()?;
+        match &first.token {
+            Token::Name(name) => Ok(NameUse {
+                name: *name,
+                column: first.column,
+            }),
+            _ => Err(operand_fault(first.column)),
+        }
+    }
+
+    /// This mark.
+    pub fn mark(&mut self, wanted: u8) -> Result<(), LineError>
+        ensures { Passes result self.old self.new (mark self.old.end wanted (left self.old)) }
+    {
+        let first = self.token()?;
+        match &first.token {
+            Token::Mark(found) if wanted == *found => Ok(()),
+            _ => Err(operand_fault(first.column)),
+        }
+    }
+
+    /// A number from `low` to `high`.
+    pub fn number(&mut self, low: i128, high: i128) -> Result<i128, LineError>
+        ensures value { Takes (λ n. n) result self.old self.new (number self.old.end low high (left self.old)) }
+        ensures low { IfOk result (λ n. low ≤ℤ n) }
+        ensures high { IfOk result (λ n. n ≤ℤ high) }
+    {
+        let first = self.token()?;
+        match &first.token {
             Token::Number(found) => {
                 let found = *found;
                 if low <= found && found <= high {
-                    Ok((found, rest))
+                    Ok(found)
                 } else {
                     Err(LineError::Fault {
                         kind: AsmKind::Range,
@@ -94,147 +119,109 @@ pub fn number<'t, 's>(
                 }
             }
             _ => Err(operand_fault(first.column)),
-        },
+        }
     }
-}
 
-/// The bytes of a text.
-pub fn text_operand<'t, 's>(
-    end: u32,
-    tokens: &'t [Placed<'s>],
-) -> Result<(&'t [u8], &'t [Placed<'s>]), LineError>
-    ensures { GivesLine (λ x. (x.0.now, all_placed x.1.now)) result (text_operand end (all_placed tokens.now)) }
-{
-    match tokens.split_first() {
-        None => Err(operand_fault(end)),
-        Some((first, rest)) => match &first.token {
-            Token::Text(bytes) => Ok((bytes.as_slice(), rest)),
+    /// The bytes of a text.
+    pub fn text(&mut self) -> Result<&'t [u8], LineError>
+        ensures { Takes (λ bytes. bytes.now) result self.old self.new (text_operand self.old.end (left self.old)) }
+    {
+        let first = self.token()?;
+        match &first.token {
+            Token::Text(bytes) => Ok(bytes.as_slice()),
             _ => Err(operand_fault(first.column)),
-        },
+        }
     }
-}
 
-/// A register.
-pub fn register<'t, 's>(
-    end: u32,
-    tokens: &'t [Placed<'s>],
-) -> Result<(Register, &'t [Placed<'s>]), LineError>
-    ensures { GivesLine (λ x. (number_of x.0, all_placed x.1.now)) result (register end (all_placed tokens.now)) }
-{
-    let (found, rest) = name(end, tokens)?;
-    match register_of(found.name) {
-        None => Err(operand_fault(found.column)),
-        Some(register) => Ok((register, rest)),
+    /// A register.
+    pub fn register(&mut self) -> Result<Register, LineError>
+        ensures { Takes number_of result self.old self.new (register self.old.end (left self.old)) }
+    {
+        let found = self.name()?;
+        match register_of(found.name) {
+            None => Err(operand_fault(found.column)),
+            Some(register) => Ok(register),
+        }
     }
-}
 
-/// A number from 0 to `high`.
-pub fn number_up_to<'t, 's>(
-    end: u32,
-    high: u32,
-    tokens: &'t [Placed<'s>],
-) -> Result<(u32, &'t [Placed<'s>]), LineError>
-    ensures value { GivesLine (λ x. (x.0, all_placed x.1.now)) result (number_up_to end high (all_placed tokens.now)) }
-    ensures small { IfOk result (λ x. x.0 ≤ high) }
-{
-    let (found, rest) = number(end, 0, i128::from(high), tokens)?;
-    Ok((found as u32, rest))
-}
+    /// A number from 0 to `high`.
+    pub fn number_up_to(&mut self, high: u32) -> Result<u32, LineError>
+        ensures value { Takes (λ n. n) result self.old self.new (number_up_to self.old.end high (left self.old)) }
+        ensures small { IfOk result (λ n. n ≤ high) }
+    {
+        let found = self.number(0, i128::from(high))?;
+        Ok(found as u32)
+    }
 
-/// A number of 12 bits with a sign.
-pub fn immediate<'t, 's>(
-    end: u32,
-    tokens: &'t [Placed<'s>],
-) -> Result<(i32, &'t [Placed<'s>]), LineError>
-    ensures value { GivesLine (λ x. (x.0, all_placed x.1.now)) result (immediate end (all_placed tokens.now)) }
-    ensures small { IfOk result (λ x. IsTrue (is_signed 12 x.0)) }
-{
-    let (found, rest) = number(end, -2048, 2047, tokens)?;
-    Ok((found as i32, rest))
-}
+    /// A number of 12 bits with a sign.
+    pub fn immediate(&mut self) -> Result<i32, LineError>
+        ensures value { Takes (λ n. n) result self.old self.new (immediate self.old.end (left self.old)) }
+        ensures small { IfOk result (λ n. IsTrue (is_signed 12 n)) }
+    {
+        let found = self.number(-2048, 2047)?;
+        Ok(found as i32)
+    }
 
-/// A name behind a comma.
-pub fn then_name<'t, 's>(
-    end: u32,
-    tokens: &'t [Placed<'s>],
-) -> Result<(NameUse<'s>, &'t [Placed<'s>]), LineError>
-    ensures { GivesLine (λ x. (use_of x.0, all_placed x.1.now)) result (then_name end (all_placed tokens.now)) }
-{
-    let rest = mark(end, b',', tokens)?;
-    name(end, rest)
-}
+    /// A name behind a comma.
+    pub fn then_name(&mut self) -> Result<NameUse<'s>, LineError>
+        ensures { Takes use_of result self.old self.new (then_name self.old.end (left self.old)) }
+    {
+        self.mark(b',')?;
+        self.name()
+    }
 
-/// A register behind a comma.
-pub fn then_register<'t, 's>(
-    end: u32,
-    tokens: &'t [Placed<'s>],
-) -> Result<(Register, &'t [Placed<'s>]), LineError>
-    ensures { GivesLine (λ x. (number_of x.0, all_placed x.1.now)) result (then_register end (all_placed tokens.now)) }
-{
-    let rest = mark(end, b',', tokens)?;
-    register(end, rest)
-}
+    /// A register behind a comma.
+    pub fn then_register(&mut self) -> Result<Register, LineError>
+        ensures { Takes number_of result self.old self.new (then_register self.old.end (left self.old)) }
+    {
+        self.mark(b',')?;
+        self.register()
+    }
 
-/// A number of 12 bits with a sign behind a comma.
-pub fn then_immediate<'t, 's>(
-    end: u32,
-    tokens: &'t [Placed<'s>],
-) -> Result<(i32, &'t [Placed<'s>]), LineError>
-    ensures value { GivesLine (λ x. (x.0, all_placed x.1.now)) result (then_immediate end (all_placed tokens.now)) }
-    ensures small { IfOk result (λ x. IsTrue (is_signed 12 x.0)) }
-{
-    let rest = mark(end, b',', tokens)?;
-    immediate(end, rest)
-}
+    /// A number of 12 bits with a sign behind a comma.
+    pub fn then_immediate(&mut self) -> Result<i32, LineError>
+        ensures value { Takes (λ n. n) result self.old self.new (then_immediate self.old.end (left self.old)) }
+        ensures small { IfOk result (λ n. IsTrue (is_signed 12 n)) }
+    {
+        self.mark(b',')?;
+        self.immediate()
+    }
 
-/// A number from 0 to `high` behind a comma.
-pub fn then_up_to<'t, 's>(
-    end: u32,
-    high: u32,
-    tokens: &'t [Placed<'s>],
-) -> Result<(u32, &'t [Placed<'s>]), LineError>
-    ensures value { GivesLine (λ x. (x.0, all_placed x.1.now)) result (then_up_to end high (all_placed tokens.now)) }
-    ensures small { IfOk result (λ x. x.0 ≤ high) }
-{
-    let rest = mark(end, b',', tokens)?;
-    number_up_to(end, high, rest)
-}
+    /// A number from 0 to `high` behind a comma.
+    pub fn then_up_to(&mut self, high: u32) -> Result<u32, LineError>
+        ensures value { Takes (λ n. n) result self.old self.new (then_up_to self.old.end high (left self.old)) }
+        ensures small { IfOk result (λ n. n ≤ high) }
+    {
+        self.mark(b',')?;
+        self.number_up_to(high)
+    }
 
-/// A register in parentheses.
-pub fn base<'t, 's>(
-    end: u32,
-    tokens: &'t [Placed<'s>],
-) -> Result<(Register, &'t [Placed<'s>]), LineError>
-    ensures { GivesLine (λ x. (number_of x.0, all_placed x.1.now)) result (base end (all_placed tokens.now)) }
-{
-    let rest = mark(end, b'(', tokens)?;
-    let (found, rest) = register(end, rest)?;
-    let rest = mark(end, b')', rest)?;
-    Ok((found, rest))
-}
+    /// A register in parentheses.
+    pub fn base(&mut self) -> Result<Register, LineError>
+        ensures { Takes number_of result self.old self.new (base self.old.end (left self.old)) }
+    {
+        self.mark(b'(')?;
+        let found = self.register()?;
+        self.mark(b')')?;
+        Ok(found)
+    }
 
-/// A register in parentheses behind a comma.
-pub fn then_base<'t, 's>(
-    end: u32,
-    tokens: &'t [Placed<'s>],
-) -> Result<(Register, &'t [Placed<'s>]), LineError>
-    ensures { GivesLine (λ x. (number_of x.0, all_placed x.1.now)) result (then_base end (all_placed tokens.now)) }
-{
-    let rest = mark(end, b',', tokens)?;
-    base(end, rest)
-}
+    /// A register in parentheses behind a comma.
+    pub fn then_base(&mut self) -> Result<Register, LineError>
+        ensures { Takes number_of result self.old self.new (then_base self.old.end (left self.old)) }
+    {
+        self.mark(b',')?;
+        self.base()
+    }
 
-/// The register that an atomic stores or combines, behind a comma; `lr` has none.
-pub fn then_second<'t, 's>(
-    end: u32,
-    op: AtomicOp,
-    tokens: &'t [Placed<'s>],
-) -> Result<(Register, &'t [Placed<'s>]), LineError>
-    ensures value { GivesLine (λ x. (number_of x.0, all_placed x.1.now)) result (then_second end op (all_placed tokens.now)) }
-    ensures second { IfOk result (λ x. IsTrue (is_second op (number_of x.0))) }
-{
-    match op {
-        AtomicOp::Lr => Ok((Register::X0, tokens)),
-        _ => then_register(end, tokens),
+    /// The register that an atomic stores or combines, behind a comma; `lr` has none.
+    pub fn then_second(&mut self, op: AtomicOp) -> Result<Register, LineError>
+        ensures value { Takes number_of result self.old self.new (then_second self.old.end op (left self.old)) }
+        ensures second { IfOk result (λ r. IsTrue (is_second op (number_of r))) }
+    {
+        match op {
+            AtomicOp::Lr => Ok(Register::X0),
+            _ => self.then_register(),
+        }
     }
 }
