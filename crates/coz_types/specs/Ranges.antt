@@ -1,6 +1,7 @@
 -- The ranges of what a profile says of one run.
-use Rattle.std.specs.Prelude.{◌≡◌, ◌≤◌, ℕ, Bool, ◌&&◌, nat_lt, nat_le, true, List, length}
+use Rattle.std.specs.Prelude.{◌≡◌, ◌≤◌, ℕ, ◌-◌, Bool, ◌&&◌, nat_lt, nat_le, true, List, length}
 use Rattle.std.specs.List.{list_all}
+use Rattle.coz_types.specs.declared.TheConstants.{GREATEST_SPEEDUP, HARTS}
 use Rattle.coz_types.specs.Labels.{is_label}
 use Rattle.coz_types.specs.declared.ending.Ending.{Ending}
 use Rattle.coz_types.specs.declared.ending.Ending.TheVariants.{Exited, Trapped, Unsupported, Clock, OutputFull, VisitsFull, Stalled, Spent}
@@ -18,10 +19,10 @@ most_visits = 1000000000
 abbrev pub last_word : ℕ
 last_word = 18446744073709551615
 
--- a code of one byte, one of 256 harts, and words of 64 bits
+-- a code of one byte, one of the harts, and words of 64 bits
 abbrev pub is_ending : Ending → Bool
 is_ending (Exited code) = nat_le code 255
-is_ending (Trapped trap) = nat_le trap.hart.0 255 && nat_le trap.pc last_word
+is_ending (Trapped trap) = nat_le trap.hart.0 (HARTS - 1) && nat_le trap.pc last_word
 is_ending (Unsupported number) = nat_le number last_word
 is_ending Clock = true
 is_ending OutputFull = true
@@ -37,7 +38,7 @@ pub record IsDigest (bytes : List ℕ) : Type 0 where
 -- a summary of a run with so many progress points
 pub record IsSummary (points : ℕ) (s : Summary) : Type 0 where
   pub selected : is_label s.selected ≡ true
-  pub speedup : s.speedup ≤ 95
+  pub speedup : s.speedup ≤ GREATEST_SPEEDUP
   pub ending : is_ending s.outcome.ending ≡ true
   pub time : s.outcome.time ≤ most
   pub delay : s.outcome.delay ≤ s.outcome.time

@@ -1,26 +1,25 @@
 //! Lists of harts, in room that is taken when they are made.
 ghost use Rattle.std.specs.Prelude.{◌≡◌, ◌<◌, [], ◌∷◌, ◌++◌, length, map};
 
-use coz_types::HartId;
+use coz_types::{HARTS, HartId};
 use std::marker::Model;
 
-const PLACES: usize = 256;
-
-/// A list of up to 256 harts, which contracts see as the list of their numbers.
+/// A list of up to `HARTS` harts, which contracts see as the list of their numbers.
 #[derive(Drop)]
 pub struct HartList {
-    places: [HartId; PLACES],
+    places: [HartId; HARTS],
     count: usize,
 }
 
 impl Model for HartList {
     ghost use Rattle.std.specs.Prelude.{◌≤◌, List, ℕ, map, take};
+    ghost use Rattle.coz_types.specs.declared.TheConstants.{HARTS};
 
     ghost Value = { List ℕ };
 
     ghost view = { λ l. map (λ hart. hart.0) (take l.count l.places) };
 
-    ghost invariant = { λ l. l.count ≤ 256 };
+    ghost invariant = { λ l. l.count ≤ HARTS };
 }
 
 impl HartList {
@@ -29,14 +28,14 @@ impl HartList {
         ensures { result ≡ [] }
     {
         HartList {
-            places: [HartId(0); PLACES],
+            places: [HartId(0); HARTS],
             count: 0,
         }
     }
 
     /// Appends a hart.
     pub fn push(&mut self, hart: HartId)
-        requires { length self.old < 256 }
+        requires { length self.old < HARTS }
         ensures { self.new ≡ self.old ++ hart.0 ∷ [] }
     {
         self.places[self.count] = hart;

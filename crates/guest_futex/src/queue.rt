@@ -5,11 +5,9 @@ ghost use Rattle.guest_futex.specs.Apart.{AreApart};
 ghost use Rattle.guest_futex.specs.Held.{waiters_of};
 
 use crate::HartList;
-use coz_types::{Address, HartId};
+use coz_types::{Address, HARTS, HartId};
 use std::alloc::{AllocError, Global};
 use std::marker::Model;
-
-const ROOM: usize = 256;
 
 /// A hart that waits, and the address.
 #[derive(Clone, Copy, Drop)]
@@ -18,7 +16,7 @@ struct Place {
     hart: HartId,
 }
 
-/// Up to 256 harts that each wait for one address.
+/// Up to `HARTS` harts that each wait for one address.
 ///
 /// Contracts see the list of the waiters, the eldest first. Beside its making no call takes memory.
 #[derive(Drop)]
@@ -30,6 +28,7 @@ pub struct Queue {
 impl Model for Queue {
     ghost use Rattle.std.specs.Prelude.{◌≤◌, List};
     ghost use Rattle.std.specs.Vec.{vec_capacity};
+    ghost use Rattle.coz_types.specs.declared.TheConstants.{HARTS};
     ghost use Rattle.guest_futex.specs.Waiters.{Waiter};
     ghost use Rattle.guest_futex.specs.Apart.{AreApart};
     ghost use Rattle.guest_futex.specs.Held.{waiters_of};
@@ -38,14 +37,14 @@ impl Model for Queue {
 
     ghost view = { λ q. waiters_of q.places.items };
 
-    ghost invariant = { λ q. AreApart (waiters_of q.places.items) × (256 ≤ vec_capacity q.places) };
+    ghost invariant = { λ q. AreApart (waiters_of q.places.items) × (HARTS ≤ vec_capacity q.places) };
 }
 
 /// Appends the harts of the eldest waiters for an address to a list, at most `count`, and moves those that are left to
 /// the front. Returns how many are left.
 fn take_eldest(places: &mut [Place], address: Address, count: u32, into: &mut HartList) -> usize
     requires apart { AreApart (waiters_of places.old) }
-    requires room { length into.old + length (woken address (waiters_of places.old) count) ≤ 256 }
+    requires room { length into.old + length (woken address (waiters_of places.old) count) ≤ HARTS }
     ensures woken { into.new ≡ into.old ++ woken address (waiters_of places.old) count }
     ensures left { waiters_of (take result places.new) ≡ left address (waiters_of places.old) count }
 {
@@ -65,18 +64,18 @@ fn take_eldest(places: &mut [Place], address: Address, count: u32, into: &mut Ha
 }
 
 impl Queue {
-    /// No waiters, with room for 256 of them. An error is want of memory, and no clause says when that comes.
+    /// No waiters, with room for `HARTS` of them. An error is want of memory, and no clause says when that comes.
     pub fn new(alloc: Global) -> Result<Queue, AllocError>
         ensures { IfOk result (λ queue. queue ≡ []) }
     {
         Ok(Queue {
-            places: Vec::with_capacity(alloc, ROOM)?,
+            places: Vec::with_capacity(alloc, HARTS)?,
         })
     }
 
     /// A hart waits for an address from now on, as the youngest waiter.
     pub fn wait(&mut self, address: Address, hart: HartId)
-        requires low { hart.0 < 256 }
+        requires low { hart.0 < HARTS }
         requires apart { All (λ waiter. waiter.hart ≢ hart.0) self.old }
         ensures { self.new ≡ with_waiter address hart.0 self.old }
     {
@@ -87,7 +86,7 @@ impl Queue {
 
     /// Takes the eldest waiters for an address, at most `count`, and appends them to a list.
     pub fn wake(&mut self, address: Address, count: u32, into: &mut HartList)
-        requires { length into.old + length (woken address self.old count) ≤ 256 }
+        requires { length into.old + length (woken address self.old count) ≤ HARTS }
         ensures woken { into.new ≡ into.old ++ woken address self.old count }
         ensures left { self.new ≡ left address self.old count }
     {

@@ -4,6 +4,7 @@
 mod heap;
 
 ghost use Rattle.std.specs.Prelude.{◌≡◌, ◌<◌, ◌≤◌, length, replicate, IfOk, MatchOption};
+ghost use Rattle.coz_types.specs.declared.TheConstants.{HARTS};
 ghost use Rattle.hart_schedule.specs.Keys.{key_of, with_key, without_key, IsEmpty, IsLeast};
 
 use crate::heap::{refill, rise};
@@ -38,10 +39,10 @@ impl Model for Schedule {
 }
 
 impl Schedule {
-    /// An empty schedule of 1 to 256 harts. Fails exactly where there is no memory for their keys and the heap.
+    /// An empty schedule of 1 to `HARTS` harts. Fails exactly where there is no memory for their keys and the heap.
     pub fn new(alloc: Global, harts: u32) -> Result<Schedule, AllocError>
         requires some { 1 ≤ harts }
-        requires few { harts ≤ 256 }
+        requires few { harts ≤ HARTS }
         ensures { IfOk result (λ schedule. schedule ≡ replicate harts None) }
     {
         let nobody = Contender {
