@@ -1,5 +1,6 @@
 -- What a program finds at its entry: the stack of the System V ABI, with one argument and an auxiliary vector.
 use Rattle.std.specs.Prelude.{ℕ, ◌+◌, ◌-◌, List, [], ◌∷◌}
+use Rattle.coz_types.specs.declared.TheConstants.{PAGE}
 use Rattle.coz_types.specs.Image.{ImageParts}
 use Rattle.guest_memory.specs.declared.Layout.{Layout}
 use Rattle.guest_memory.specs.Regions.{brk_base, stack_top}
@@ -27,7 +28,7 @@ entry_numbers image =
     ∷ 3 ∷ image.headers
     ∷ 4 ∷ 56
     ∷ 5 ∷ image.header_count
-    ∷ 6 ∷ 4096
+    ∷ 6 ∷ PAGE
     ∷ 9 ∷ image.entry
     ∷ 25 ∷ (stack_top - 16)
     ∷ 0 ∷ 0

@@ -3,9 +3,9 @@ ghost use Rattle.std.specs.Prelude.{◌≡◌, ◌+◌, ◌*◌, ◌%◌, ◌≤
 ghost use Rattle.guest_memory.specs.Memory.{rights_at, is_writable, with_bytes, with_number};
 ghost use Rattle.guest_areas.specs.Entry.{with_entry, with_numbers, stack_pointer};
 
-use crate::{STACK_POINTER, STACK_TOP};
-use coz_types::{Address, Image};
-use guest_memory::{Access, Memory, PAGE};
+use crate::STACK_POINTER;
+use coz_types::{Address, Image, PAGE};
+use guest_memory::{Access, Memory, STACK_TOP};
 
 /// The address of the program's name.
 const NAME: Address = STACK_TOP - 32;
@@ -57,7 +57,7 @@ pub fn write_entry(memory: &mut Memory, image: &Image)
 
 /// Writes numbers of 8 bytes in a row, all in one page.
 fn put_numbers(memory: &mut Memory, address: Address, numbers: &[u64])
-    requires fits { address % 4096 + 8 * length numbers.now ≤ 4096 }
+    requires fits { address % PAGE + 8 * length numbers.now ≤ PAGE }
     requires writable { IsTrue (rights_at memory.old address).write }
     ensures { memory.new ≡ with_numbers address numbers.now memory.old }
 {

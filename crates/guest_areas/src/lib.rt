@@ -17,16 +17,10 @@ ghost use Rattle.guest_areas.specs.Entry.{stack_pointer, first_space};
 
 use crate::entry::write_entry;
 use crate::pages::{asks_execute, is_in_run, pages_for, rights_of};
-use coz_types::{Address, Area, Image, Rights};
-use guest_memory::{Layout, Memory, PAGE};
+use coz_types::{Address, Area, Image, PAGE, Rights};
+use guest_memory::{BRK_BASE, Layout, MAP_BASE, Memory, STACK_TOP};
 use std::alloc::{AllocError, Global};
 use std::marker::Model;
-
-const BRK_BASE: Address = 0x20_0000_0000;
-
-const MAP_BASE: Address = 0x21_0000_0000;
-
-const STACK_TOP: Address = 0x40_0000_0000;
 
 const STACK_POINTER: Address = STACK_TOP - 176;
 

@@ -3,8 +3,7 @@ ghost use Rattle.std.specs.Prelude.{ℕ, ◌≡◌, ◌≤◌, ◌^◌};
 ghost use Rattle.guest_memory.specs.Regions.{pages_for};
 ghost use Rattle.guest_areas.specs.Space.{has, rights_of, is_in_run};
 
-use coz_types::Rights;
-use guest_memory::PAGE;
+use coz_types::{PAGE, Rights};
 
 // The bits of a protection (Linux: mprotect(2)).
 const READ: u64 = 1;

@@ -23,29 +23,29 @@ use crate::find::{find, find_from, pick};
 use crate::lay::lay;
 use crate::numbers::{number_of, put_number, zero_from};
 use crate::pages::Pages;
-use coz_types::{Address, Area, Image, Rights};
+use coz_types::{Address, Area, Image, PAGE, Rights};
 use std::alloc::{AllocError, Global};
 use std::marker::Model;
 
-/// The bytes of a page.
-pub const PAGE: u64 = 4096;
-
 const MIB: u64 = 1024 * 1024;
 
-const BRK_BASE: Address = 0x20_0000_0000;
+/// Where the region below the break begins.
+pub const BRK_BASE: Address = 0x20_0000_0000;
 
-const MAP_BASE: Address = 0x21_0000_0000;
+/// Where the region of the mappings begins.
+pub const MAP_BASE: Address = 0x21_0000_0000;
 
-const STACK_TOP: Address = 0x40_0000_0000;
+/// Where the region of the stack ends.
+pub const STACK_TOP: Address = 0x40_0000_0000;
 
 /// The sizes in bytes of the regions that are no load areas, in whole pages.
 #[derive(Clone, Copy, Debug, PartialEq, Eq)]
 pub struct Layout {
-    /// From 0x2000000000 on, at most 16 MiB.
+    /// From `BRK_BASE` on, at most 16 MiB.
     pub brk: u64,
-    /// From 0x2100000000 on, at most 48 MiB.
+    /// From `MAP_BASE` on, at most 48 MiB.
     pub map: u64,
-    /// Up to 0x4000000000, at least a page and at most 1 MiB.
+    /// Up to `STACK_TOP`, at least a page and at most 1 MiB.
     pub stack: u64,
 }
 
@@ -132,7 +132,7 @@ fn has(rights: Rights, right: Right) -> bool
 
 /// The bytes from an address on to the end of its page.
 fn room_in_page(address: Address) -> usize
-    ensures { result ≡ 4096 - address % 4096 }
+    ensures { result ≡ PAGE - address % PAGE }
 {
     (PAGE - address % PAGE) as usize
 }
@@ -231,7 +231,7 @@ impl<'a> Memory<'a> {
             None => unreachable!(),
             Some(index) => {
                 self.pages.touch(index);
-                zero_from(&mut self.bytes, index * 4096);
+                zero_from(&mut self.bytes, index * PAGE as usize);
             }
         }
     }
@@ -254,14 +254,14 @@ impl<'a> Memory<'a> {
     /// Writes bytes that lie in one page.
     fn put_piece(&mut self, address: Address, bytes: &[u8])
         requires held { IsHeld self.old address }
-        requires fits { address % 4096 + length bytes.now ≤ 4096 }
+        requires fits { address % PAGE + length bytes.now ≤ PAGE }
         ensures { self.new ≡ with_bytes address bytes.now self.old }
     {
         match find(&self.spans, address / PAGE) {
             None => unreachable!(),
             Some(index) => {
                 self.pages.touch(index);
-                let place = index * 4096 + (address % PAGE) as usize;
+                let place = index * PAGE as usize + (address % PAGE) as usize;
                 self.bytes[place..place + bytes.len()].copy_from_slice(bytes);
             }
         }
@@ -312,7 +312,7 @@ impl<'a> Memory<'a> {
         let (spans, total) = lay(alloc, &wanted)?;
         let code = pick(&spans, image.entry() / PAGE).unwrap_or(0);
         let pages = Pages::new(alloc, total)?;
-        let bytes = vec![in alloc; 0u8; total * 4096]?;
+        let bytes = vec![in alloc; 0u8; total * PAGE as usize]?;
         Ok(Memory {
             image,
             layout,
@@ -343,8 +343,8 @@ impl<'a> Memory<'a> {
                     return Err(Access);
                 }
                 let within = (address % PAGE) as usize;
-                if within + size as usize <= 4096 {
-                    Ok(number_of(&self.bytes, index * 4096 + within, size))
+                if within + size as usize <= PAGE as usize {
+                    Ok(number_of(&self.bytes, index * PAGE as usize + within, size))
                 } else {
                     self.load_across(address, size)
                 }
@@ -376,8 +376,8 @@ impl<'a> Memory<'a> {
                     return Err(Access);
                 }
                 let within = (address % PAGE) as usize;
-                if within + 4 <= 4096 {
-                    Ok(number_of(&self.bytes, index * 4096 + within, 4) as u32)
+                if within + 4 <= PAGE as usize {
+                    Ok(number_of(&self.bytes, index * PAGE as usize + within, 4) as u32)
                 } else {
                     self.fetch_across(address)
                 }
@@ -466,7 +466,7 @@ impl<'a> Memory<'a> {
     {
         match find(&self.spans, address / PAGE) {
             None => 0,
-            Some(index) => self.bytes[index * 4096 + (address % PAGE) as usize],
+            Some(index) => self.bytes[index * PAGE as usize + (address % PAGE) as usize],
         }
     }
 
@@ -486,8 +486,8 @@ impl<'a> Memory<'a> {
                     return self.store_by_bytes(address, size, value);
                 }
                 let within = (address % PAGE) as usize;
-                if within + size as usize <= 4096 {
-                    put_number(&mut self.bytes, index * 4096 + within, size, value);
+                if within + size as usize <= PAGE as usize {
+                    put_number(&mut self.bytes, index * PAGE as usize + within, size, value);
                     Ok(())
                 } else {
                     self.store_by_bytes(address, size, value)
@@ -523,7 +523,7 @@ impl<'a> Memory<'a> {
             None => unreachable!(),
             Some(index) => {
                 self.pages.touch(index);
-                self.bytes[index * 4096 + (address % PAGE) as usize] = byte;
+                self.bytes[index * PAGE as usize + (address % PAGE) as usize] = byte;
             }
         }
     }
@@ -549,13 +549,13 @@ impl<'a> Memory<'a> {
 
     /// Reads bytes that lie in one page, and zeros where there is no such page.
     fn read_piece(&self, address: Address, into: &mut [u8])
-        requires { address % 4096 + length into.old ≤ 4096 }
+        requires { address % PAGE + length into.old ≤ PAGE }
         ensures { into.new ≡ bytes_at self.now address (length into.old) }
     {
         match find(&self.spans, address / PAGE) {
             None => into.fill(0),
             Some(index) => {
-                let place = index * 4096 + (address % PAGE) as usize;
+                let place = index * PAGE as usize + (address % PAGE) as usize;
                 into.copy_from_slice(&self.bytes[place..place + into.len()]);
             }
         }

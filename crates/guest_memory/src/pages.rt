@@ -1,5 +1,6 @@
 //! The pages of a memory, and which of them were touched.
 ghost use Rattle.std.specs.Prelude.{◌≡◌, ◌*◌, ◌<◌, length, get_or, set, replicate, IfOk};
+ghost use Rattle.coz_types.specs.declared.TheConstants.{PAGE};
 ghost use Rattle.guest_memory.specs.Copies.{AreCopied};
 ghost use Rattle.guest_memory.specs.Marks.{AreMarked, touched_with, rights_of};
 ghost use Rattle.guest_memory.specs.Memory.{no_rights};
@@ -72,7 +73,7 @@ impl Pages {
     pub fn copy_from(&mut self, bytes: &mut [u8], other: &Pages, from: &[u8])
         requires same_pages { length other.now.each.items ≡ length self.old.each.items }
         requires same_bytes { length from.now ≡ length bytes.old }
-        requires each_byte { length bytes.old ≡ 4096 * length self.old.each.items }
+        requires each_byte { length bytes.old ≡ PAGE * length self.old.each.items }
         ensures { AreCopied (length self.old.each.items) self.old.each.items other.now.each.items self.new.each.items bytes.old from.now bytes.new }
     {
         copy_touched(&mut self.each, bytes, &self.marks, other, from);
