@@ -1,5 +1,6 @@
 //! The instructions that load, change and store memory in one step.
 ghost use Rattle.std.specs.Prelude.{◌≡◌, ◌<◌, ◌%◌, ◌==◌, IsTrue};
+ghost use Rattle.coz_types.specs.declared.TheConstants.{HARTS};
 ghost use Rattle.rv_alu.specs.Operations.{is_amo};
 ghost use Rattle.guest_memory.specs.Memory.{IsSize};
 ghost use Rattle.rv_execute.specs.Reservations.{is_reserved};
@@ -56,7 +57,7 @@ fn load_reserved(
     reservations: &mut Reservations,
     target: Target,
 ) -> Step
-    requires number { number.0 < 256 }
+    requires number { number.0 < HARTS }
     requires rd { target.rd < 32 }
     ensures { executed hart.new memory.now reservations.new result
         ≡ aligned target.address target.wide (reserve number.0 target.wide target.rd target.address)
@@ -164,7 +165,7 @@ pub fn atomic(
     op: AtomicOp,
     target: Target,
 ) -> Step
-    requires number { number.0 < 256 }
+    requires number { number.0 < HARTS }
     requires rd { target.rd < 32 }
     ensures { executed hart.new memory.new reservations.new result
         ≡ atomic number.0 op target.wide target.rd target.address target.value

@@ -11,6 +11,7 @@ mod memory_access;
 mod reservations;
 
 ghost use Rattle.std.specs.Prelude.{◌≡◌, ◌<◌, ◌↔◌, slice_index};
+ghost use Rattle.coz_types.specs.declared.TheConstants.{HARTS};
 ghost use Rattle.rv_decode.specs.Instructions.{InRange};
 ghost use Rattle.rv_execute.specs.Execution.{setting, executed, execute};
 ghost use Rattle.rv_execute.specs.Laws.{after_trap};
@@ -22,7 +23,7 @@ pub use hart::{HartState, Step};
 pub use reservations::Reservations;
 use rv_decode::Instr;
 
-/// Executes an instruction of a hart. The hart's number is below 256, and the instruction's fields are in range.
+/// Executes an instruction of a hart. The hart's number is below `HARTS`, and the instruction's fields are in range.
 ///
 /// `Call` comes exactly at `ecall`, with all unchanged: the caller serves the call, and moves the pc on. A `Fault` leaves
 /// all unchanged, but that an `sc` has ended its own reservation. `Misaligned` is judged before `Access`. Register 0
@@ -34,7 +35,7 @@ pub fn execute(
     reservations: &mut Reservations,
     instr: Instr,
 ) -> Step
-    requires number { number.0 < 256 }
+    requires number { number.0 < HARTS }
     requires fields { InRange instr }
     ensures effect { executed hart.new memory.new reservations.new result
         ≡ execute number.0 instr (setting hart.old memory.old reservations.old) }
@@ -58,7 +59,7 @@ fn effect(
     reservations: &mut Reservations,
     instr: Instr,
 ) -> Step
-    requires number { number.0 < 256 }
+    requires number { number.0 < HARTS }
     requires fields { InRange instr }
     ensures { executed hart.new memory.new reservations.new result
         ≡ execute number.0 instr (setting hart.old memory.old reservations.old) }

@@ -3,14 +3,14 @@ ghost use Rattle.std.specs.Prelude.{◌≡◌, ◌<◌, []};
 ghost use Rattle.rv_execute.specs.Reservations.{eight_at, without_own, with_reservation, is_touched, without_touched, is_reserved};
 
 use arrayvec::ArrayVec;
-use coz_types::{Address, HartId};
+use coz_types::{Address, HARTS, HartId};
 use std::marker::Model;
 
-/// The reservations of up to 256 harts: each has at most one, of 8 aligned bytes.
+/// The reservations of up to `HARTS` harts: each has at most one, of 8 aligned bytes.
 #[derive(Drop)]
 pub struct Reservations {
     // Of each hart that has one, its number and the start of its 8 bytes. Few stand at a time, so a store looks at few.
-    held: ArrayVec<(u16, Address), 256>,
+    held: ArrayVec<(u16, Address), HARTS>,
 }
 
 impl Model for Reservations {
@@ -68,7 +68,7 @@ impl Reservations {
 
     /// Makes the aligned 8 bytes that hold an address the hart's one reservation.
     pub(crate) fn reserve(&mut self, hart: HartId, address: Address)
-        requires { hart.0 < 256 }
+        requires { hart.0 < HARTS }
         ensures { self.new ≡ with_reservation hart.0 address self.old }
     {
         self.end_own(hart);
