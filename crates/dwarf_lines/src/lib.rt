@@ -1,6 +1,7 @@
 //! Reads the line programs of a `.debug_line` section, versions 2 to 5 (DWARF 4 and 5, section 6.2).
 #![tactic(auto)]
 
+pub mod codes;
 mod draft;
 mod entries;
 mod fields;

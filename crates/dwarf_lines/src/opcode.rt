@@ -1,42 +1,16 @@
 //! The opcodes of a line program (DWARF 5, 6.2.5).
 
+use crate::codes::{
+    DW_LNE_DEFINE_FILE, DW_LNE_END_SEQUENCE, DW_LNE_SET_ADDRESS, DW_LNS_ADVANCE_LINE,
+    DW_LNS_ADVANCE_PC, DW_LNS_CONST_ADD_PC, DW_LNS_COPY, DW_LNS_FIXED_ADVANCE_PC,
+    DW_LNS_NEGATE_STMT, DW_LNS_SET_BASIC_BLOCK, DW_LNS_SET_COLUMN, DW_LNS_SET_EPILOGUE_BEGIN,
+    DW_LNS_SET_FILE, DW_LNS_SET_ISA, DW_LNS_SET_PROLOGUE_END,
+};
 use crate::entries::read_file;
 use crate::fields::{byte, half, pass, signed, unsigned};
 use crate::header::Header;
 use crate::{FileName, LineFault, LineKind};
 use leb_cursor::Cursor;
-
-// The standard opcodes (DWARF 5, 6.2.5.2).
-const DW_LNS_COPY: u8 = 1;
-
-const DW_LNS_ADVANCE_PC: u8 = 2;
-
-const DW_LNS_ADVANCE_LINE: u8 = 3;
-
-const DW_LNS_SET_FILE: u8 = 4;
-
-const DW_LNS_SET_COLUMN: u8 = 5;
-
-const DW_LNS_NEGATE_STMT: u8 = 6;
-
-const DW_LNS_SET_BASIC_BLOCK: u8 = 7;
-
-const DW_LNS_CONST_ADD_PC: u8 = 8;
-
-const DW_LNS_FIXED_ADVANCE_PC: u8 = 9;
-
-const DW_LNS_SET_PROLOGUE_END: u8 = 10;
-
-const DW_LNS_SET_EPILOGUE_BEGIN: u8 = 11;
-
-const DW_LNS_SET_ISA: u8 = 12;
-
-// The extended opcodes (DWARF 5, 6.2.5.3); the third is of versions before 5.
-const DW_LNE_END_SEQUENCE: u8 = 1;
-
-const DW_LNE_SET_ADDRESS: u8 = 2;
-
-const DW_LNE_DEFINE_FILE: u8 = 3;
 
 /// What an opcode says, with its operands.
 #[derive(Clone, Copy, Drop)]
