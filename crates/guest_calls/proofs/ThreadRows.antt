@@ -2,6 +2,7 @@
 use Rattle.std.proofs.Common.{◌≡◌, ◌<◌, ℕ, ◌%◌, ◌^◌, ◌==◌, nat_le, Bool, true, false, not, ◌||◌, if◌then◌else◌, List, [], ◌∷◌, length, pos, refl, ap, ◌∙◌, arith, replicate, length-append, leb-false, ne_eqb}
 use Rattle.std.specs.Int.{w32, to_le_bytes}
 use Rattle.std.proofs.lemmas.List.{length-set}
+use Rattle.coz_types.specs.declared.TheConstants.{HARTS}
 use Rattle.coz_types.specs.declared.ending.Ending.{Ending}
 use Rattle.coz_types.specs.declared.ending.Ending.TheVariants.{Exited, Trapped}
 use Rattle.coz_types.specs.declared.ending.Trap.{Trap}
@@ -19,7 +20,7 @@ use Rattle.guest_calls.specs.declared.hart.Hart.{Hart}
 use Rattle.guest_calls.specs.declared.hart.HartStatus.{HartStatus}
 use Rattle.guest_calls.specs.Guest.{Guest, with_hart, with_stored, is_running, is_running_status, is_over, memory_of, thread_id}
 use Rattle.guest_calls.specs.Calls
-use Rattle.guest_calls.specs.Calls.{retirement, answered, left_by, leave, unsupported, with_word, with_woken, clear_address, woken_at_exit, cleared, is_cleared, waiting_for, most_woken, woken_here, parent_set_tid, child_set_tid, child, with_child, with_parent_tid, with_child_tid, cloned, is_accepted, hart_limit, a0, a1, a2, a3, a4}
+use Rattle.guest_calls.specs.Calls.{retirement, answered, left_by, leave, unsupported, with_word, with_woken, clear_address, woken_at_exit, cleared, is_cleared, waiting_for, most_woken, woken_here, parent_set_tid, child_set_tid, child, with_child, with_parent_tid, with_child_tid, cloned, is_accepted, a0, a1, a2, a3, a4}
 use Rattle.guest_calls.specs.Orderly.{IsOrderly}
 use Rattle.guest_calls.proofs.Waiting.{others-running, waiting-elsewhere, waiting-append, waiting-with_waiter, waiting-woken, length-run_each}
 use Rattle.guest_calls.proofs.RunningHarts.{made_running, runs_here, runs_awake, timed_put, status_append, next_idle, not_woken, apart_woken, woken_idle, status_woken, asleep_put, asleep_append, asleep_woken}
@@ -151,7 +152,7 @@ cloned_beside g h good runs room =
     beside_then g h (child g h ∷ []) (with_child g h) (cloned g h) (child_beside g h good runs room)
     (later (with_child g h) told (cloned g h) (parent_kept g h (with_child g h)) (child_kept g h told))
 
-with_room : (full : Bool) (g : Guest) (h : ℕ) (r : Retirement Guest) → nat_le hart_limit (length g.harts) ≡ full → IsOrderly g → is_running g h ≡ true → (length g.harts < 256 → IsStarted g h r)
+with_room : (full : Bool) (g : Guest) (h : ℕ) (r : Retirement Guest) → nat_le HARTS (length g.harts) ≡ full → IsOrderly g → is_running g h ≡ true → (length g.harts < 256 → IsStarted g h r)
     → IsStarted g h (if full then answered try_again h g else r)
 with_room true g h r e good runs rest = answer_started try_again h g g refl refl refl good runs
 with_room false g h r e good runs rest = rest (leb-false 256 (length g.harts) e)
@@ -160,5 +161,5 @@ pub clone_started : (g : Guest) (h : ℕ) → IsOrderly g → is_running g h ≡
 unfolding Calls.clone
 clone_started g h good runs =
     either (IsStarted g h) (not (is_accepted (a0 g h))) (unsupported g h) _ (unsupported_started g h good)
-    (with_room (nat_le hart_limit (length g.harts)) g h _ refl good runs
+    (with_room (nat_le HARTS (length g.harts)) g h _ refl good runs
     (λ room. replied_started (twos 64 (pos (thread_id (child g h)))) h g (child g h ∷ []) (cloned g h) (cloned_beside g h good runs room) runs))

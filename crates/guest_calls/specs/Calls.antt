@@ -3,6 +3,7 @@ use Rattle.std.specs.Prelude.{ℕ, zero, suc, ◌+◌, ◌-◌, ◌*◌, ◌%◌
 use Rattle.std.specs.Int.{w32, to_le_bytes}
 use Rattle.std.specs.Int.RustNames.{bit_and, bit_or}
 use Rattle.std.specs.List.{list_all}
+use Rattle.coz_types.specs.declared.TheConstants.{HARTS}
 use Rattle.coz_types.specs.declared.ending.Ending.TheVariants.{Exited, Unsupported, Clock}
 use Rattle.coz_types.specs.Maps.{Map, value_at}
 use Rattle.machines.specs.declared.Fate.{Fate}
@@ -97,10 +98,6 @@ accepted_flags = 0xFF + required_flags + 0x40000 + 0x400000 + set_tls + parent_s
 
 abbrev pub is_accepted : ℕ → Bool
 is_accepted flags = bit_and flags required_flags == required_flags && bit_or flags accepted_flags == accepted_flags
-
--- the harts that are made in a run
-abbrev pub hart_limit : ℕ
-hart_limit = 256
 
 -- a word is stored, where its 4 bytes may be written
 abbrev pub with_word : ℕ → ℕ → Guest → Guest
@@ -323,7 +320,7 @@ module _ (g : Guest) (h : ℕ) where
   unfoldable pub clone : Retirement Guest
   clone =
       if not (is_accepted a0) then unsupported
-      else if nat_le hart_limit (length g.harts) then answer try_again
+      else if nat_le HARTS (length g.harts) then answer try_again
       else record (answered (pos (thread_id child)) h cloned) { others = child ∷ [] }
 
   unfoldable pub sched_yield : Retirement Guest

@@ -1,5 +1,6 @@
 -- What the fields of `Guest` stand for, and what holds of them.
 use Rattle.std.specs.Prelude.{ℕ, ◌≤◌, List, length}
+use Rattle.coz_types.specs.declared.TheConstants.{HARTS}
 use Rattle.guest_memory.specs.Memory.{MemoryMap}
 use Rattle.guest_areas.specs.Space.{RegionMap, space, SharesRegions}
 use Rattle.guest_futex.specs.Waiters.{Waiter}
@@ -23,9 +24,9 @@ guest_of harts regions memory reservations waiters input whole_input written = r
 }
 
 pub record IsKept (harts : List Hart) (capacity : ℕ) (waiters : List Waiter) (regions : RegionMap) (memory : MemoryMap) : Type 0 where
-  pub few : length harts ≤ 256
+  pub few : length harts ≤ HARTS
   -- no call takes memory
-  pub room : 256 ≤ capacity
+  pub room : HARTS ≤ capacity
   pub waiting : AreWaiting harts waiters
   pub apart : AreApart waiters
   pub shared : SharesRegions regions memory

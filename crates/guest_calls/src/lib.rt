@@ -22,7 +22,7 @@ ghost use Rattle.guest_calls.specs.Retire.{word_at, next_of, stepped, step, trap
 use crate::hart::Hart;
 use crate::output::Output;
 use cost_table::word_cycles;
-use coz_types::{Address, Ending, HartId, Image, Tick, Trap, TrapCause};
+use coz_types::{Address, Ending, HARTS, HartId, Image, Tick, Trap, TrapCause};
 use guest_areas::Areas;
 use guest_futex::{HartList, Queue};
 use guest_memory::{Access, Layout, Memory};
@@ -32,9 +32,6 @@ use rv_decode::{Instr, decode};
 use rv_execute::{Reservations, Step, execute};
 use std::alloc::{AllocError, Global};
 use std::marker::Model;
-
-/// The harts that may be made in a run.
-const HARTS: usize = 256;
 
 /// A guest. All its room is taken when it is made.
 #[derive(Drop)]

@@ -16,8 +16,8 @@ use crate::linux::{
     CSIGNAL, EAGAIN, EFAULT, EINVAL, FUTEX_WAIT, FUTEX_WAIT_PRIVATE, FUTEX_WAKE,
     FUTEX_WAKE_PRIVATE, SP, TP,
 };
-use crate::{Fate, Guest, HARTS, HartStatus};
-use coz_types::{Address, Ending, HartId};
+use crate::{Fate, Guest, HartStatus};
+use coz_types::{Address, Ending, HARTS, HartId};
 use guest_futex::HartList;
 
 /// A thread shares its memory, files and handlers with its parent.
@@ -225,7 +225,7 @@ impl<'a> Guest<'a> {
     /// Makes the next hart, the child of this one, and stores its thread id where the flags ask for it.
     fn make_child(&mut self, hart: HartId, child: HartId)
         requires made { IsMade self.old hart.0 }
-        requires few { length self.old.harts < 256 }
+        requires few { length self.old.harts < HARTS }
         requires next { child.0 ≡ length self.old.harts }
         ensures { self.new ≡ calls.cloned self.old hart.0 }
     {
@@ -267,7 +267,7 @@ impl<'a> Guest<'a> {
     }
 
     fn add(&mut self, hart: Hart)
-        requires { length self.old.harts < 256 }
+        requires { length self.old.harts < HARTS }
         ensures { self.new ≡ record self.old { harts = self.old.harts ++ hart ∷ [] } }
     {
         let Ok(()) = self.harts.push(hart) else {

@@ -3,6 +3,7 @@ use Rattle.std.proofs.Common.{◌≡◌, ℕ, zero, suc, ◌+◌, ◌%◌, ◌^�
 use Rattle.std.specs.Int.{w32, to_le_bytes}
 use Rattle.std.proofs.lemmas.Bool.{cases_Bool}
 use Rattle.std.proofs.lemmas.List.{length-set}
+use Rattle.coz_types.specs.declared.TheConstants.{HARTS}
 use Rattle.coz_types.specs.declared.ending.Ending.TheVariants.{Clock}
 use Rattle.coz_types.specs.declared.ending.TrapCause.TheVariants.{Fetch, Illegal}
 use Rattle.coz_types.specs.Image.{ImageParts}
@@ -27,7 +28,7 @@ use Rattle.guest_calls.specs.declared.times.Span.{Span}
 use Rattle.guest_calls.specs.Times.{span_at, span_bytes, wake_moment, last_moment, clock_at}
 use Rattle.guest_calls.specs.Guest.{Guest, hart_at, no_hart, with_hart, with_stored, with_written, with_running_each, memory_of, setting_of, thread_id, first_guest}
 use Rattle.guest_calls.specs.Calls
-use Rattle.guest_calls.specs.Calls.{retirement, answered, of_space, unsupported, left_by, leave, with_word, with_woken, clear_address, woken_at_exit, cleared, is_cleared, waiting_for, asleep, sleep_until, most_woken, woken_here, parent_set_tid, child_set_tid, child, with_child, with_parent_tid, with_child_tid, cloned, is_accepted, hart_limit, a0, a1, a2, a3, a4, with_filled, with_read, filled, total, is_each_writable, is_each_readable, bytes_of, pieces_at, are_few, is_named, read_length, is_stream, is_input, is_output, is_mapping, calls, call_of}
+use Rattle.guest_calls.specs.Calls.{retirement, answered, of_space, unsupported, left_by, leave, with_word, with_woken, clear_address, woken_at_exit, cleared, is_cleared, waiting_for, asleep, sleep_until, most_woken, woken_here, parent_set_tid, child_set_tid, child, with_child, with_parent_tid, with_child_tid, cloned, is_accepted, a0, a1, a2, a3, a4, with_filled, with_read, filled, total, is_each_writable, is_each_readable, bytes_of, pieces_at, are_few, is_named, read_length, is_stream, is_input, is_output, is_mapping, calls, call_of}
 use Rattle.guest_calls.specs.Retire.{word_at, Stepped, stepped, stepped_by, step, follows, retire}
 use Rattle.guest_calls.specs.Orderly.{AreWaiting, IsOrderly}
 use Rattle.guest_calls.proofs.Steps.{step-call}
@@ -152,7 +153,7 @@ unfolding Calls.clone
 clone_grows g h =
     let most : suc (length g.harts) ≡ max (length g.harts) (suc (length g.harts)) = omega arith in
     either (Grows (length g.harts)) (not (is_accepted (a0 g h))) (unsupported g h) _ refl
-    (checked (nat_le hart_limit (length g.harts)) try_again h g _
+    (checked (nat_le HARTS (length g.harts)) try_again h g _
     (length-set (cloned g h).harts h _ ∙ cloned_count g h ∙ most))
 
 -- each other call

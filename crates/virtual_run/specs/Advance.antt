@@ -1,5 +1,6 @@
 -- One move of the engine of both machines.
 use Rattle.std.specs.Prelude.{◌≡◌, ℕ, ◌+◌, ◌^◌, ◌≤◌, ◌<◌, ◌++◌, Bool, true, false, List, [], ◌∷◌, length, nat_le, Option, Some, None, IsSome}
+use Rattle.coz_types.specs.declared.TheConstants.{GREATEST_SPEEDUP, HARTS}
 use Rattle.coz_types.specs.declared.ending.Ending.{Ending}
 use Rattle.hart_schedule.specs.Keys.{Keys, key_of, IsLeast}
 use Rattle.machines.specs.declared.Fate.{Fate}
@@ -35,7 +36,7 @@ pub record IsRetired (setting : Setting) (run : Run) (hart : ℕ) (fate : Fate) 
   pub unfull : new.ending ≡ None → length new.visits.kept < setting.choice.visit_limit
   pub selected : new.ending ≡ None → new.selected ≡ selected_of setting new.guest (started_by hart fate new.started)
   pub none_selected : IsSome new.ending → new.selected ≡ []
-  pub room : length new.schedule ≡ 256
+  pub room : length new.schedule ≡ HARTS
   pub retired : new.retired ≡ run.retired + 1
   pub wakes : new.wakes ≡ run.wakes
   pub few : new.starts ≤ events_of new + many new.schedule
@@ -57,8 +58,8 @@ pub record CanSettle (setting : Setting) (run : Run) (hart : ℕ) (fate : Fate) 
   pub below : hart < length run.schedule
   pub idle : told_in setting fate run (rested hart fate run.schedule) ≡ None → AreIdle run.guest (rested hart fate run.schedule) (started_by hart fate run.started)
   pub moment : run.time ≤ 2 ^ 60
-  pub speedup : setting.choice.speedup ≤ 95
-  pub room : length run.schedule ≡ 256
+  pub speedup : setting.choice.speedup ≤ GREATEST_SPEEDUP
+  pub room : length run.schedule ≡ HARTS
   pub selected : run.selected ≡ []
   pub few : run.starts ≤ 2 ^ 62
 
@@ -66,7 +67,7 @@ pub record CanSettle (setting : Setting) (run : Run) (hart : ℕ) (fate : Fate) 
 pub record HasBegun (setting : Setting) (run : Run) (hart : ℕ) (fate : Fate) (new : Run) : Type 0 where
   pub begun : AreBegun (ticks_in setting run.guest) run.time (started_by hart fate run.started) (rested hart fate run.schedule) new.schedule
   pub selected : new.selected ≡ selected_of setting run.guest (started_by hart fate run.started)
-  pub room : length new.schedule ≡ 256
+  pub room : length new.schedule ≡ HARTS
   pub starts : new.starts ≡ run.starts + length new.selected
   pub few : length new.selected + many (rested hart fate run.schedule) ≤ many new.schedule
   pub rest : new ≡ record run { schedule = new.schedule; selected = new.selected; starts = new.starts }
@@ -86,7 +87,7 @@ pub record IsWoken (setting : Setting) (run : Run) (hart moment : ℕ) (new : Ru
   pub guest : new.guest ≡ with_wake hart run.guest
   pub selected : new.selected ≡ selected_of setting new.guest (hart ∷ [])
   pub wakes : new.wakes ≡ run.wakes + 1
-  pub room : length new.schedule ≡ 256
+  pub room : length new.schedule ≡ HARTS
   pub few : new.starts ≤ events_of new + many new.schedule
   pub within : (moment : ℕ) → AreWithin moment run.schedule → AreWithin (moment + 4000) new.schedule
   -- nothing is visited, nor retired, nor ended

@@ -1,5 +1,6 @@
 -- The delayed run of a program.
 use Rattle.std.specs.Prelude.{◌≡◌, ℕ, ◌+◌, ◌-◌, ◌^◌, ◌≤◌, ◌<◌, List, map, filter, length, slice_index_or, slice_get, Option, Some, None, option_map}
+use Rattle.coz_types.specs.declared.TheConstants.{HARTS}
 use Rattle.coz_types.specs.declared.ending.Ending.{Ending}
 use Rattle.coz_types.specs.declared.ending.Ending.TheVariants.{Exited, Trapped, Unsupported, Clock, OutputFull, VisitsFull, Stalled, Spent}
 use Rattle.coz_types.specs.declared.record.Outcome.{Outcome}
@@ -43,10 +44,10 @@ account_in d hart = option_map (λ h. h.account) (slice_get d.harts hart)
 abbrev pub outcome_of : Delayed Guest → Option Outcome
 outcome_of d = option_map (λ ending. record { ending = ending; time = d.now; delay = d.delay; retired = d.retired; starts = d.starts }) d.ending
 
--- a trap is that of one of 256 harts
+-- a trap is that of one of the harts
 abbrev pub IsOfAHart : Ending → Type 0
 IsOfAHart (Exited code) = Unit {0}
-IsOfAHart (Trapped trap) = trap.hart.0 < 256
+IsOfAHart (Trapped trap) = trap.hart.0 < HARTS
 IsOfAHart (Unsupported number) = Unit {0}
 IsOfAHart Clock = Unit {0}
 IsOfAHart OutputFull = Unit {0}
@@ -79,7 +80,7 @@ pub record IsPaced (image : ImageParts) (input : List ℕ) (setting : Setting) (
   pub valid : IsChoice setting.choice
   pub reached : IsReached (experiment_with image input setting) run
   pub holds : Holds credits (standing (experiment_with image input setting) (events_of run))
-  pub room : length credits.harts ≡ 256
+  pub room : length credits.harts ≡ HARTS
   pub visits : map visit_as run.visits.kept ≡ (standing (experiment_with image input setting) (events_of run)).visits
   pub moment : now ≡ (standing (experiment_with image input setting) (events_of run)).now
   pub soon : now ≤ 10 ^ 17

@@ -1,5 +1,6 @@
 -- The run of a program: the machines over its guest, with a selected line and progress points.
 use Rattle.std.specs.Prelude.{◌≡◌, ℕ, ◌+◌, ◌*◌, ◌^◌, ◌≤◌, ◌<◌, Bool, false, List, [], ◌∷◌, map, filter, length, get_or, Option, Some, None, is_some, option_map}
+use Rattle.coz_types.specs.declared.TheConstants.{GREATEST_SPEEDUP, HARTS}
 use Rattle.coz_types.specs.Image.{ImageParts}
 use Rattle.hart_schedule.specs.Keys.{Keys, key_of, IsEmpty}
 use Rattle.machines.specs.Guest.{Experiment}
@@ -19,7 +20,7 @@ use Rattle.virtual_run.specs.Begin.{ticks_of, many}
 
 -- within the limits
 pub record IsChoice (c : Choice) : Type 0 where
-  pub speedup : c.speedup ≤ 95
+  pub speedup : c.speedup ≤ GREATEST_SPEEDUP
   pub some_budget : 1 ≤ c.budget
   pub few : c.budget ≤ 10 ^ 12
   pub some_output : 1 ≤ c.output_limit
@@ -105,7 +106,7 @@ pub record IsSteady (run : Run) : Type 0 where
   pub orderly : IsOrderly run.guest
   pub timed : (hart : ℕ) → is_timed run.guest hart ≡ is_some (key_of run.schedule hart)
   pub some_hart : ¬ IsEmpty run.schedule
-  pub room : length run.schedule ≡ 256
+  pub room : length run.schedule ≡ HARTS
   pub unfull : length run.visits.kept < run.visits.limit
   pub within : AreWithin (2 ^ 60) run.schedule
   pub retired : run.retired ≤ 2 ^ 60
@@ -115,7 +116,7 @@ pub record IsSteady (run : Run) : Type 0 where
 -- the fields stand for the state after as many moves as instructions were retired and harts woken
 pub record IsReached (x : Experiment Guest) (run : Run) : Type 0 where
   pub reached : IsStateOf run (shortened x (events_of run))
-  pub room : length run.schedule ≡ 256
+  pub room : length run.schedule ≡ HARTS
   pub limit : run.visits.limit ≡ x.visit_limit
   pub unfull : run.ending ≡ None → length run.visits.kept < x.visit_limit
   pub retired : run.retired ≤ x.budget

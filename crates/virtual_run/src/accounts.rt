@@ -1,6 +1,7 @@
 //! The accounts and pauses of the harts that a retirement starts.
 
 ghost use Rattle.std.specs.Prelude.{◌≡◌, ◌+◌, ◌*◌, ◌^◌, ◌≤◌, ◌<◌, [], ◌∷◌, length, map, None, if◌then◌else◌, IsTrue};
+ghost use Rattle.coz_types.specs.declared.TheConstants.{GREATEST_SPEEDUP};
 ghost use Rattle.machines.specs.Delayed.{is_running, total};
 ghost use Rattle.machines.specs.Guest.{goes_on};
 ghost use Rattle.delay_credits.specs.Delays.{hart_at, pause_of, at, with_stop};
@@ -51,7 +52,7 @@ fn start_each(credits: &mut Credits, harts: &[HartId], now: Tick)
 /// The ticks by which a hart's next instruction raises the delay where it is selected, at a speedup in per cent.
 pub fn raised_by(guest: &Guest, hart: HartId, speedup: u8) -> Tick
     requires made { IsMade guest.now hart.0 }
-    requires speedup { speedup ≤ 95 }
+    requires speedup { speedup ≤ GREATEST_SPEEDUP }
     ensures ticks { result ≡ raise_ticks guest.now speedup hart.0 }
     ensures few { result ≤ 3800 }
 {
@@ -63,7 +64,7 @@ pub fn raised_by(guest: &Guest, hart: HartId, speedup: u8) -> Tick
 pub fn raise_each(credits: &mut Credits, guest: &Guest, harts: &[HartId], speedup: u8, now: Tick)
     requires run { AllRun credits.old (map (λ hart. hart.0) harts.now) }
     requires made { AllMade guest.now (map (λ hart. hart.0) harts.now) }
-    requires speedup { speedup ≤ 95 }
+    requires speedup { speedup ≤ GREATEST_SPEEDUP }
     requires now { credits.old.latest ≡ now }
     requires few { credits.old.raised + 3800 * length (map (λ hart. hart.0) harts.now) ≤ 10 ^ 17 }
     ensures { credits.new ≡ with_raises (raise_ticks guest.now speedup) (map (λ hart. hart.0) harts.now) credits.old }
@@ -77,7 +78,7 @@ pub fn raise_each(credits: &mut Credits, guest: &Guest, harts: &[HartId], speedu
 pub fn raise_selected(credits: &mut Credits, run: &Run, speedup: u8, now: Tick)
     requires run { AllRun credits.old run.now.selected }
     requires made { AllMade run.now.guest run.now.selected }
-    requires speedup { speedup ≤ 95 }
+    requires speedup { speedup ≤ GREATEST_SPEEDUP }
     requires now { credits.old.latest ≡ now }
     requires few { credits.old.raised + 3800 * length run.now.selected ≤ 10 ^ 17 }
     ensures { credits.new ≡ with_raises (raise_ticks run.now.guest speedup) run.now.selected credits.old }
@@ -91,7 +92,7 @@ pub fn raise_selected(credits: &mut Credits, run: &Run, speedup: u8, now: Tick)
 #[inline(never)]
 fn begin_started(credits: &mut Credits, run: &Run, retired: Retired, speedup: u8, now: Tick)
     requires can { CanBegin credits.old run.now.guest retired.hart.0 retired.fate run.now.started run.now.selected }
-    requires speedup { speedup ≤ 95 }
+    requires speedup { speedup ≤ GREATEST_SPEEDUP }
     requires now { credits.old.latest ≡ now }
     ensures { credits.new ≡ with_begun (raise_ticks run.now.guest speedup) retired.hart.0 retired.fate run.now.started run.now.selected credits.old }
 {
@@ -116,7 +117,7 @@ fn go_on(credits: &mut Credits, run: &Run, hart: HartId, speedup: u8, now: Tick)
     requires below { hart.0 < length credits.old.harts }
     requires later { credits.old.latest ≤ now }
     requires can { CanBegin (with_rest hart.0 Fate.Goes now credits.old) run.now.guest hart.0 Fate.Goes run.now.started run.now.selected }
-    requires speedup { speedup ≤ 95 }
+    requires speedup { speedup ≤ GREATEST_SPEEDUP }
     ensures { credits.new ≡ with_begun (raise_ticks run.now.guest speedup) hart.0 Fate.Goes run.now.started run.now.selected
         (with_rest hart.0 Fate.Goes now credits.old) }
 {
@@ -150,7 +151,7 @@ fn wake_up(credits: &mut Credits, run: &Run, hart: HartId, speedup: u8, now: Tic
     requires later { credits.old.latest ≤ now }
     requires run { AllRun (with_starts (hart.0 ∷ []) (at now credits.old)) run.now.selected }
     requires made { AllMade run.now.guest run.now.selected }
-    requires speedup { speedup ≤ 95 }
+    requires speedup { speedup ≤ GREATEST_SPEEDUP }
     requires few { credits.old.raised + 3800 * length run.now.selected ≤ 10 ^ 17 }
     ensures { credits.new ≡ with_wake (raise_ticks run.now.guest speedup) hart.0 run.now.selected (at now credits.old) }
 {
@@ -168,7 +169,7 @@ fn settle(credits: &mut Credits, run: &Run, retired: Retired, speedup: u8, now: 
     requires unpaused { pause_of (hart_at (at now credits.old) retired.hart.0) ≡ 0 }
     requires can { run.now.ending ≡ None →
         CanBegin (with_rest retired.hart.0 retired.fate now credits.old) run.now.guest retired.hart.0 retired.fate run.now.started run.now.selected }
-    requires speedup { speedup ≤ 95 }
+    requires speedup { speedup ≤ GREATEST_SPEEDUP }
     ensures { credits.new ≡ settled_by run.now.ending (raise_ticks run.now.guest speedup) retired.hart.0 retired.fate run.now.started run.now.selected
         (with_rest retired.hart.0 retired.fate now credits.old) }
 {
@@ -187,7 +188,7 @@ fn settle_going(credits: &mut Credits, run: &Run, hart: HartId, speedup: u8, now
     requires unpaused { pause_of (hart_at (at now credits.old) hart.0) ≡ 0 }
     requires can { run.now.ending ≡ None →
         CanBegin (with_rest hart.0 Fate.Goes now credits.old) run.now.guest hart.0 Fate.Goes run.now.started run.now.selected }
-    requires speedup { speedup ≤ 95 }
+    requires speedup { speedup ≤ GREATEST_SPEEDUP }
     ensures { credits.new ≡ settled_by run.now.ending (raise_ticks run.now.guest speedup) hart.0 Fate.Goes run.now.started run.now.selected
         (with_rest hart.0 Fate.Goes now credits.old) }
 {
@@ -207,7 +208,7 @@ fn settle_plain(credits: &mut Credits, run: &Run, hart: HartId, speedup: u8, now
     requires unpaused { pause_of (hart_at (at now credits.old) hart.0) ≡ 0 }
     requires can { run.now.ending ≡ None →
         CanBegin (with_rest hart.0 Fate.Goes now credits.old) run.now.guest hart.0 Fate.Goes run.now.started run.now.selected }
-    requires speedup { speedup ≤ 95 }
+    requires speedup { speedup ≤ GREATEST_SPEEDUP }
     ensures { credits.new ≡ settled_by run.now.ending (raise_ticks run.now.guest speedup) hart.0 Fate.Goes run.now.started run.now.selected
         (with_rest hart.0 Fate.Goes now credits.old) }
 {
@@ -224,7 +225,7 @@ fn settle_plain(credits: &mut Credits, run: &Run, hart: HartId, speedup: u8, now
 pub fn follow(credits: &mut Credits, run: &Run, event: Event, speedup: u8, raised: Tick) -> Tick
     requires can { CanFollow event credits.old run.now (moment_of event run.now + raised) }
     requires few { moment_of event run.now + raised ≤ 10 ^ 17 }
-    requires speedup { speedup ≤ 95 }
+    requires speedup { speedup ≤ GREATEST_SPEEDUP }
     ensures moment { result ≡ moment_of event run.now + raised }
     ensures credits { credits.new ≡ credited_by event run.now (raise_ticks run.now.guest speedup) (moment_of event run.now + raised) credits.old }
 {

@@ -1,5 +1,6 @@
 //! The delayed machine: runs under virtual time with the delays of a selected line.
 ghost use Rattle.std.specs.Prelude.{◌≡◌, ◌+◌, ◌≤◌, ◌<◌, false, map, length, Some, None, IfOk, IfSome, IsSome, MatchOption, All, option_map};
+ghost use Rattle.coz_types.specs.declared.TheConstants.{GREATEST_SPEEDUP};
 ghost use Rattle.hart_schedule.specs.Keys.{key_of};
 ghost use Rattle.delay_credits.specs.Delays.{account_as};
 ghost use Rattle.virtual_run.specs.Seen.{experiment_of};
@@ -7,9 +8,9 @@ ghost use Rattle.virtual_run.specs.Lead.{arguments, is_unstarted};
 ghost use Rattle.virtual_run.specs.DelayedRun.{visit_as, net_due_of, account_in, outcome_of, IsSmall, Happens, AgreesThroughout, EndsOnce};
 
 use crate::accounts::{follow, raise_each, raise_selected};
-use crate::run::{FIRST, HARTS, is_wake};
+use crate::run::{FIRST, is_wake};
 use crate::{Choice, Event, Run, Setting};
-use coz_types::{Account, Ending, HartId, Image, LineId, Outcome, Tick, Visit};
+use coz_types::{Account, Ending, HARTS, HartId, Image, LineId, Outcome, Tick, Visit};
 use delay_credits::Credits;
 use line_index::LineIndex;
 use progress_points::Points;
@@ -89,7 +90,7 @@ impl<'a> Machine<'a> {
             choice,
         };
         let run = Run::new(alloc, image, input, &setting)?;
-        let mut credits = Credits::new(alloc, HARTS)?;
+        let mut credits = Credits::new(alloc, HARTS as u32)?;
         credits.start(FIRST, 0);
         raise_each(
             &mut credits,
@@ -205,7 +206,7 @@ impl<'a> Machine<'a> {
     /// Makes this machine the run, at a speedup, of a lead: one at speedup 0 that counted no start before its last beginning.
     /// So the selected harts that began last raise the delay now, and are due sooner by as much.
     pub(crate) fn fork_from(&mut self, lead: &Machine<'a>, speedup: u8)
-        requires small { speedup ≤ 95 }
+        requires small { speedup ≤ GREATEST_SPEEDUP }
         requires arguments { arguments self.old ≡ arguments lead.now }
         requires whole { lead.now.choice.speedup ≡ 0 }
         requires none { (before (experiment_of lead.now) (events lead.now.state)).state.starts ≡ 0 }
@@ -287,7 +288,7 @@ impl<'a> Machine<'a> {
     pub fn harts(&self) -> u32
         ensures guest { result ≡ length self.now.state.guest.harts }
         ensures accounts { result ≡ length self.now.state.harts }
-        ensures few { result ≤ 256 }
+        ensures few { result ≤ HARTS }
     {
         self.run.guest.harts()
     }
@@ -313,7 +314,7 @@ impl<'a> Machine<'a> {
     pub fn visits(&self) -> &[Visit]
         ensures visits { map visit_as result.now ≡ self.now.state.visits }
         ensures few { length result.now ≤ 1048576 }
-        ensures harts { All (λ visit. visit.hart.0 < 256) result.now }
+        ensures harts { All (λ visit. visit.hart.0 < HARTS) result.now }
         ensures in_time { All (λ visit. visit.delay ≤ visit.time) result.now }
     {
         self.run.visits.all()
@@ -327,7 +328,7 @@ impl<'a> Machine<'a> {
         self.run.guest.output()
     }
 
-    /// How the run came out; None before it has ended. Its time and its counts are at most 10^17, and a trap is of a hart below 256.
+    /// How the run came out; None before it has ended. Its time and its counts are at most 10^17, and a trap is of a hart below `HARTS`.
     pub fn outcome(&self) -> Option<Outcome>
         ensures outcome { result ≡ outcome_of self.now.state }
         ensures small { IfSome result IsSmall }

@@ -1,5 +1,6 @@
 //! The moves that both machines share.
 ghost use Rattle.std.specs.Prelude.{◌≡◌, true, ◌&&◌, ◌==◌, not, ◌+◌, ◌^◌, ◌≤◌, ◌<◌, ◌++◌, [], ◌∷◌, Some, length, nat_le, is_some, IfOk, All, if◌then◌else◌, IsTrue};
+ghost use Rattle.coz_types.specs.declared.TheConstants.{GREATEST_SPEEDUP};
 ghost use Rattle.hart_schedule.specs.Keys.{key_of, without_key, IsEmpty, IsLeast};
 ghost use Rattle.machines.specs.Delayed.{is_any};
 ghost use Rattle.machines.specs.Guest.{goes_on};
@@ -17,14 +18,11 @@ ghost use Rattle.virtual_run.specs.Lead.{with_sooner};
 
 use crate::start::{add_if, begin, begin_again, begin_each, begin_next, hasten_each};
 use crate::{Choice, Setting, Visits};
-use coz_types::{Address, Ending, HartId, Image, Tick, Visit};
+use coz_types::{Address, Ending, HARTS, HartId, Image, Tick, Visit};
 use guest_calls::{Fate, Guest};
 use guest_futex::HartList;
 use hart_schedule::Schedule;
 use std::alloc::{AllocError, Global};
-
-/// The harts that may be made in a run.
-pub(crate) const HARTS: u32 = 256;
 
 /// The hart that a program begins with.
 pub(crate) const FIRST: HartId = HartId(0);
@@ -144,7 +142,7 @@ fn keep_visit(
     delay: Tick,
 )
     requires room { length visits.old.kept < visits.old.limit }
-    requires hart { hart.0 < 256 }
+    requires hart { hart.0 < HARTS }
     ensures { visits.new ≡ record visits.old { kept = visits.old.kept ++ visits_of (point_of setting.now.points.now address) hart.0 time delay } }
 {
     if let Some(point) = setting.points.point_at(address) {
@@ -212,7 +210,7 @@ impl<'a> Run<'a> {
         let choice = setting.choice;
         let guest = Guest::new(alloc, image, input, choice.output_limit, choice.layout)?;
         let visits = Visits::new(alloc, choice.visit_limit)?;
-        let mut schedule = Schedule::new(alloc, HARTS)?;
+        let mut schedule = Schedule::new(alloc, HARTS as u32)?;
         let mut selected = HartList::new();
         begin(setting, &guest, &mut schedule, &mut selected, FIRST, 0);
         let starts = selected.harts().len() as u64;
@@ -234,7 +232,7 @@ impl<'a> Run<'a> {
     #[inline(always)]
     pub fn advance(&mut self, setting: &Setting, delay: Tick) -> Event
         requires steady { IsSteady self.old }
-        requires speedup { setting.now.choice.speedup ≤ 95 }
+        requires speedup { setting.now.choice.speedup ≤ GREATEST_SPEEDUP }
         requires delay { delay ≤ 10 ^ 17 }
         ensures { IsAdvance setting.now self.old result delay self.new }
     {
@@ -251,7 +249,7 @@ impl<'a> Run<'a> {
     #[inline(never)]
     fn wake(&mut self, setting: &Setting, turn: Turn)
         requires steady { IsSteady self.old }
-        requires speedup { setting.now.choice.speedup ≤ 95 }
+        requires speedup { setting.now.choice.speedup ≤ GREATEST_SPEEDUP }
         requires turn { key_of self.old.schedule turn.hart.0 ≡ Some turn.due }
         requires first { IsLeast self.old.schedule turn.hart.0 }
         requires asleep { is_sleeping self.old.guest turn.hart.0 ≡ true }
@@ -277,7 +275,7 @@ impl<'a> Run<'a> {
     #[inline(always)]
     fn retire(&mut self, setting: &Setting, turn: Turn, delay: Tick) -> Retired
         requires steady { IsSteady self.old }
-        requires speedup { setting.now.choice.speedup ≤ 95 }
+        requires speedup { setting.now.choice.speedup ≤ GREATEST_SPEEDUP }
         requires delay { delay ≤ 10 ^ 17 }
         requires turn { key_of self.old.schedule turn.hart.0 ≡ Some turn.due }
         requires first { IsLeast self.old.schedule turn.hart.0 }
@@ -379,7 +377,7 @@ impl<'a> Run<'a> {
     /// The selected harts that began last are due sooner, by what a speedup in per cent takes off their next instructions.
     pub(crate) fn hasten(&mut self, speedup: u8)
         requires made { AllMade self.old.guest self.old.selected }
-        requires speedup { speedup ≤ 95 }
+        requires speedup { speedup ≤ GREATEST_SPEEDUP }
         ensures { self.new ≡ record self.old { schedule = with_sooner (raise_ticks self.old.guest speedup) self.old.selected self.old.schedule } }
     {
         hasten_each(
@@ -429,7 +427,7 @@ impl<'a> Run<'a> {
     pub fn visits(&self) -> &[Visit]
         ensures kept { result.now ≡ self.now.visits.kept }
         ensures few { length result.now ≤ 1048576 }
-        ensures harts { All (λ visit. visit.hart.0 < 256) result.now }
+        ensures harts { All (λ visit. visit.hart.0 < HARTS) result.now }
     {
         self.visits.all()
     }
@@ -498,13 +496,13 @@ impl<'a> Run<'a> {
     fn begin_started(&mut self, setting: &Setting, hart: HartId, fate: Fate)
         requires idle { AreIdle self.old.guest (if goes_on fate then without_key hart.0 self.old.schedule else self.old.schedule) (started_by hart.0 fate self.old.started) }
         requires moment { self.old.time ≤ 2 ^ 60 }
-        requires speedup { setting.now.choice.speedup ≤ 95 }
-        requires room { length self.old.schedule ≡ 256 }
+        requires speedup { setting.now.choice.speedup ≤ GREATEST_SPEEDUP }
+        requires room { length self.old.schedule ≡ HARTS }
         requires selected { self.old.selected ≡ [] }
         requires few { self.old.starts ≤ 2 ^ 62 }
         ensures begun { AreBegun (ticks_in setting.now self.old.guest) self.old.time (started_by hart.0 fate self.old.started) (if goes_on fate then without_key hart.0 self.old.schedule else self.old.schedule) self.new.schedule }
         ensures selected { self.new.selected ≡ selected_of setting.now self.old.guest (started_by hart.0 fate self.old.started) }
-        ensures room { length self.new.schedule ≡ 256 }
+        ensures room { length self.new.schedule ≡ HARTS }
         ensures starts { self.new.starts ≡ self.old.starts + length self.new.selected }
         ensures few { length self.new.selected + many (if goes_on fate then without_key hart.0 self.old.schedule else self.old.schedule) ≤ many self.new.schedule }
         ensures rest { self.new ≡ record self.old { schedule = self.new.schedule; selected = self.new.selected; starts = self.new.starts } }

@@ -1,6 +1,7 @@
 //! How harts begin their next instructions.
 
 ghost use Rattle.std.specs.Prelude.{◌≡◌, ◌+◌, ◌^◌, ◌≤◌, ◌<◌, ◌++◌, [], ◌∷◌, length, map, if◌then◌else◌, IsTrue};
+ghost use Rattle.coz_types.specs.declared.TheConstants.{GREATEST_SPEEDUP, HARTS};
 ghost use Rattle.hart_schedule.specs.Keys.{key_of, with_key, without_key};
 ghost use Rattle.machines.specs.Guest.{goes_on};
 ghost use Rattle.guest_calls.specs.Guest.{IsMade, pc_of};
@@ -28,7 +29,7 @@ struct Cost {
 #[inline(always)]
 fn cost_of(setting: &Setting, guest: &Guest, hart: HartId) -> Cost
     requires made { IsMade guest.now hart.0 }
-    requires speedup { setting.now.choice.speedup ≤ 95 }
+    requires speedup { setting.now.choice.speedup ≤ GREATEST_SPEEDUP }
     ensures ticks { result.ticks ≡ ticks_in setting.now guest.now hart.0 }
     ensures selected { result.selected ≡ selects setting.now (pc_of guest.now hart.0) }
     ensures few { result.ticks ≤ 4000 }
@@ -50,7 +51,7 @@ fn cost_of(setting: &Setting, guest: &Guest, hart: HartId) -> Cost
 /// Appends a hart, if it is selected.
 #[inline]
 pub fn add_if(selected: bool, harts: &mut HartList, hart: HartId)
-    requires { length harts.old < 256 }
+    requires { length harts.old < HARTS }
     ensures { harts.new ≡ (if selected then harts.old ++ hart.0 ∷ [] else harts.old) }
 {
     if selected {
@@ -70,8 +71,8 @@ pub fn begin(
 )
     requires idle { IsIdle guest.now schedule.old hart.0 }
     requires moment { moment ≤ 2 ^ 60 }
-    requires speedup { setting.now.choice.speedup ≤ 95 }
-    requires few { length selected.old < 256 }
+    requires speedup { setting.now.choice.speedup ≤ GREATEST_SPEEDUP }
+    requires few { length selected.old < HARTS }
     ensures due { schedule.new ≡ with_key hart.0 (moment + ticks_in setting.now guest.now hart.0) schedule.old }
     ensures selected { selected.new ≡ selected.old ++ selected_of setting.now guest.now (hart.0 ∷ []) }
 {
@@ -92,8 +93,8 @@ pub fn begin_next(
 )
     requires idle { IsIdle guest.now (without_key hart.0 schedule.old) hart.0 }
     requires moment { moment ≤ 2 ^ 60 }
-    requires speedup { setting.now.choice.speedup ≤ 95 }
-    requires few { length selected.old < 256 }
+    requires speedup { setting.now.choice.speedup ≤ GREATEST_SPEEDUP }
+    requires few { length selected.old < HARTS }
     ensures due { schedule.new ≡ with_key hart.0 (moment + ticks_in setting.now guest.now hart.0) (without_key hart.0 schedule.old) }
     ensures selected { selected.new ≡ selected.old ++ selected_of setting.now guest.now (hart.0 ∷ []) }
 {
@@ -115,7 +116,7 @@ pub fn begin_again(
 )
     requires idle { IsTrue (goes_on fate) → IsIdle guest.now (without_key hart.0 schedule.old) hart.0 }
     requires moment { moment ≤ 2 ^ 60 }
-    requires speedup { setting.now.choice.speedup ≤ 95 }
+    requires speedup { setting.now.choice.speedup ≤ GREATEST_SPEEDUP }
     requires selected { selected.old ≡ [] }
     ensures due { schedule.new ≡ (if goes_on fate then with_key hart.0 (moment + ticks_in setting.now guest.now hart.0) (without_key hart.0 schedule.old) else schedule.old) }
     ensures selected { selected.new ≡ (if goes_on fate then selected_of setting.now guest.now (hart.0 ∷ []) else []) }
@@ -137,12 +138,12 @@ pub fn begin_each(
 )
     requires idle { AreIdle guest.now schedule.old (map (λ hart. hart.0) harts.now) }
     requires moment { moment ≤ 2 ^ 60 }
-    requires speedup { setting.now.choice.speedup ≤ 95 }
-    requires room { length schedule.old ≡ 256 }
+    requires speedup { setting.now.choice.speedup ≤ GREATEST_SPEEDUP }
+    requires room { length schedule.old ≡ HARTS }
     requires few { length selected.old ≤ many schedule.old }
     ensures begun { AreBegun (ticks_in setting.now guest.now) moment (map (λ hart. hart.0) harts.now) schedule.old schedule.new }
     ensures selected { selected.new ≡ selected.old ++ selected_of setting.now guest.now (map (λ hart. hart.0) harts.now) }
-    ensures room { length schedule.new ≡ 256 }
+    ensures room { length schedule.new ≡ HARTS }
     ensures few { length selected.new + many schedule.old ≤ length selected.old + many schedule.new }
 {
     for hart in harts {
@@ -162,7 +163,7 @@ fn hasten(schedule: &mut Schedule, hart: HartId, ticks: Tick)
 /// Each of these harts is due sooner, by what a speedup in per cent takes off its next instruction.
 pub fn hasten_each(schedule: &mut Schedule, guest: &Guest, harts: &[HartId], speedup: u8)
     requires made { AllMade guest.now (map (λ hart. hart.0) harts.now) }
-    requires speedup { speedup ≤ 95 }
+    requires speedup { speedup ≤ GREATEST_SPEEDUP }
     ensures { schedule.new ≡ with_sooner (raise_ticks guest.now speedup) (map (λ hart. hart.0) harts.now) schedule.old }
 {
     for hart in harts {

@@ -1,5 +1,6 @@
 //! The visits of a run, up to a limit.
 ghost use Rattle.std.specs.Prelude.{◌≡◌, ◌≤◌, ◌<◌, ◌++◌, [], ◌∷◌, length, IfOk, All};
+ghost use Rattle.coz_types.specs.declared.TheConstants.{HARTS};
 
 use coz_types::Visit;
 use std::alloc::{AllocError, Global};
@@ -15,6 +16,7 @@ pub struct Visits {
 impl Model for Visits {
     ghost use Rattle.std.specs.Prelude.{◌≤◌, ◌<◌, length, All};
     ghost use Rattle.std.specs.Vec.{vec_capacity};
+    ghost use Rattle.coz_types.specs.declared.TheConstants.{HARTS};
     ghost use Rattle.virtual_run.specs.Visits.{Visits};
 
     ghost Value = { Visits };
@@ -22,7 +24,7 @@ impl Model for Visits {
     ghost view = { λ v. record { kept = v.kept.items; limit = v.limit } };
 
     ghost invariant = { λ v. (v.limit ≤ vec_capacity v.kept) × (v.limit ≤ 1048576) × (length v.kept.items ≤ v.limit)
-        × All (λ visit. visit.hart.0 < 256) v.kept.items };
+        × All (λ visit. visit.hart.0 < HARTS) v.kept.items };
 }
 
 impl Visits {
@@ -38,7 +40,7 @@ impl Visits {
     /// Appends a visit.
     pub fn push(&mut self, visit: Visit)
         requires room { length self.old.kept < self.old.limit }
-        requires hart { visit.hart.0 < 256 }
+        requires hart { visit.hart.0 < HARTS }
         ensures { self.new ≡ record self.old { kept = self.old.kept ++ visit ∷ [] } }
     {
         let Ok(()) = self.kept.push(visit) else {
@@ -61,7 +63,7 @@ impl Visits {
     pub fn all(&self) -> &[Visit]
         ensures kept { result.now ≡ self.now.kept }
         ensures few { length result.now ≤ 1048576 }
-        ensures harts { All (λ visit. visit.hart.0 < 256) result.now }
+        ensures harts { All (λ visit. visit.hart.0 < HARTS) result.now }
     {
         &self.kept
     }
