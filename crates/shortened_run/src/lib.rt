@@ -2,6 +2,7 @@
 #![tactic(auto)]
 
 ghost use Rattle.std.specs.Prelude.{◌≡◌, ◌≤◌, ◌<◌, Some, IfOk, All, length, map};
+ghost use Rattle.coz_types.specs.declared.TheConstants.{HARTS};
 ghost use Rattle.virtual_run.specs.Visits.{net_of};
 ghost use Rattle.virtual_run.specs.Seen.{experiment_of};
 ghost use Rattle.shortened_run.specs.ShortenedRun.{AreUndelayed};
@@ -127,7 +128,7 @@ impl<'a> Short<'a> {
     pub fn visits(&self) -> &[Visit]
         ensures visits { map net_of result.now ≡ self.now.state.visits }
         ensures few { length result.now ≤ 1048576 }
-        ensures harts { All (λ visit. visit.hart.0 < 256) result.now }
+        ensures harts { All (λ visit. visit.hart.0 < HARTS) result.now }
         ensures undelayed { AreUndelayed result.now }
     {
         self.run.visits()
