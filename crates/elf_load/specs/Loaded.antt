@@ -1,5 +1,6 @@
 -- What a file without a fault holds.
 use Rattle.std.specs.Prelude.{◌≡◌, ℕ, ◌+◌, ◌-◌, ◌*◌, ◌&&◌, ◌||◌, List, map, length, min, slice_index, Option, Some, None, option_map, unwrap_or, find, Result, Ok, Err, nat_lt, nat_le, if◌then◌else◌}
+use Rattle.coz_types.specs.declared.TheConstants.{PAGE}
 use Rattle.coz_types.specs.declared.image.Area.{Area}
 use Rattle.coz_types.specs.declared.image.Rights.{Rights}
 use Rattle.coz_types.specs.Image.{ImageParts}
@@ -15,7 +16,7 @@ rights_of s = record { read = is_readable s || is_writable s; write = is_writabl
 
 -- The area of a program header. Where it has no bytes in the file, its offset may be anything, and is taken for the file's end at most.
 abbrev pub area_of : List ℕ → Segment → Area
-area_of file s = record { start = 4096 * first_page s; size = 4096 * pages s; rights = rights_of s; vaddr = s.vaddr; offset = min s.offset (length file); filled = s.filesz }
+area_of file s = record { start = PAGE * first_page s; size = PAGE * pages s; rights = rights_of s; vaddr = s.vaddr; offset = min s.offset (length file); filled = s.filesz }
 
 -- the address of the program headers: in the first PT_LOAD whose file bytes hold their place, else 0
 abbrev pub headers : List ℕ → ℕ

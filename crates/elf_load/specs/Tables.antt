@@ -3,6 +3,7 @@
 use Rattle.std.specs.Prelude.{ℕ, zero, suc, ◌+◌, ◌-◌, ◌*◌, ◌/◌, Bool, false, not, ◌&&◌, ◌||◌, List, [], ◌∷◌, map, filter, length, take, drop, Option, Some, None, option_map, position, nat_lt, nat_le, ◌==◌, if◌then◌else◌, bytes_eq, codes}
 use Rattle.std.specs.List.{list_any}
 use Rattle.std.specs.Int.{Width, w16, w32, w64, from_le_bytes, bit_at}
+use Rattle.coz_types.specs.declared.TheConstants.{PAGE}
 use Rattle.elf_load.specs.declared.tables.Segment.{Segment}
 use Rattle.elf_load.specs.declared.tables.Section.{Section}
 
@@ -93,11 +94,11 @@ abbrev pub is_area : Segment → Bool
 is_area s = is_load s && not (s.memsz == 0)
 
 abbrev pub first_page : Segment → ℕ
-first_page s = s.vaddr / 4096
+first_page s = s.vaddr / PAGE
 
 -- the page after the last one
 abbrev pub end_page : Segment → ℕ
-end_page s = (s.vaddr + s.memsz + 4095) / 4096
+end_page s = (s.vaddr + s.memsz + (PAGE - 1)) / PAGE
 
 abbrev pub load_areas : List ℕ → List Segment
 load_areas file = filter is_area (segments file)

@@ -6,10 +6,10 @@ ghost use Rattle.elf_load.specs.Tables.{is_area, is_load, has_place, end_page, s
 ghost use Rattle.elf_load.specs.Faults.{HasHeaders, first_row, table_rows};
 ghost use Rattle.elf_load.specs.Loaded.{rights_of, area_of, headers};
 
-use crate::codes::{E_PHOFF, PAGE};
+use crate::codes::E_PHOFF;
 use crate::fields::double_at;
 use crate::tables::Segment;
-use coz_types::{Area, Rights};
+use coz_types::{Area, PAGE, Rights};
 use std::alloc::{AllocError, Global};
 
 /// The program headers that take memory.

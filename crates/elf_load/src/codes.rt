@@ -86,6 +86,3 @@ pub const SHT_NOBITS: u32 = 8;
 
 /// The bit of a section's flags that says that it is compressed.
 pub const SHF_COMPRESSED: u32 = 11;
-
-/// The bytes of a page.
-pub const PAGE: u64 = 4096;

@@ -6,11 +6,12 @@ ghost use Rattle.std.specs.List.{list_any};
 ghost use Rattle.elf_load.specs.Tables.{entry, has_bytes, has_address, has_name, is_text, is_area, is_compressed, is_executable, is_interp, is_load, is_writable, holds_lines, line_names, runs_past, first_page, end_page};
 ghost use Rattle.elf_load.specs.Faults.{HasHeaders, Judges, JudgesOrFails, row, entry_row, first_row, first_section, first_segment, rows_on};
 
-use crate::codes::{E_ENTRY, PAGE};
+use crate::codes::E_ENTRY;
 use crate::fields::{double_at, runs_past};
 use crate::pages::{no_shared_page, not_too_much};
 use crate::tables::{Section, Segment, names};
 use crate::{ElfFault, ElfKind, LoadError};
+use coz_types::PAGE;
 use std::alloc::Global;
 
 /// The pages of a program are from 0x1000 to 0x20_0000_0000, whose end this page is.
@@ -122,7 +123,7 @@ fn sizes_in_order(segments: &[Segment]) -> Result<(), ElfFault>
 
 /// Each load area is where a program may be.
 fn areas_in_range(areas: &[Segment]) -> Result<(), ElfFault>
-    ensures { Judges result (entry_row ElfKind.AddressOut (first_segment (λ s. nat_lt (4096 * first_page s) 0x1000 || nat_lt 0x2000000000 (4096 * end_page s)) areas.now)) }
+    ensures { Judges result (entry_row ElfKind.AddressOut (first_segment (λ s. nat_lt (PAGE * first_page s) 0x1000 || nat_lt 0x2000000000 (PAGE * end_page s)) areas.now)) }
 {
     let found = areas
         .iter()

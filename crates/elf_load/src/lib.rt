@@ -2,7 +2,7 @@
 #![tactic(auto)]
 
 mod areas;
-mod codes;
+pub mod codes;
 mod faults;
 mod fields;
 mod header;

@@ -6,10 +6,11 @@ ghost use Rattle.elf_load.specs.Faults.{HasHeaders};
 
 use crate::codes::{
     E_PHNUM, E_PHOFF, E_SHNUM, E_SHOFF, E_SHSTRNDX, P_FILESZ, P_FLAGS, P_MEMSZ, P_OFFSET, P_TYPE,
-    P_VADDR, PAGE, PF_R, PF_W, PF_X, PHDR_SIZE, PT_INTERP, PT_LOAD, SH_FLAGS, SH_NAME, SH_OFFSET,
+    P_VADDR, PF_R, PF_W, PF_X, PHDR_SIZE, PT_INTERP, PT_LOAD, SH_FLAGS, SH_NAME, SH_OFFSET,
     SH_SIZE, SH_TYPE, SHDR_SIZE, SHF_COMPRESSED, SHT_NOBITS, SHT_NULL,
 };
 use crate::fields::{double_at, half_at, word_at};
+use coz_types::PAGE;
 use std::alloc::{AllocError, Global};
 
 /// A program header, and its place in the file.
