@@ -1,6 +1,7 @@
 -- The bytes of a written file.
 use Rattle.std.specs.Prelude.{◌≡◌, ℕ, ◌+◌, ◌-◌, ◌*◌, ◌<◌, ◌≤◌, Bool, List, [], ◌∷◌, ◌++◌, length, replicate, nat_lt, not, ◌==◌, if◌then◌else◌, codes}
 use Rattle.std.specs.List.{AllPass}
+use Rattle.coz_types.specs.declared.TheConstants.{PAGE}
 use Rattle.rv_asm.specs.Assembled.{Program, up_to_multiple}
 use Rattle.image_write.specs.Unit.{half, word, double, unit}
 
@@ -14,14 +15,14 @@ abbrev pub has_content : Program → Bool
 has_content p = nat_lt 0 (length p.content)
 
 abbrev pub whole_pages : Program → ℕ
-whole_pages p = up_to_multiple 4096 (length p.text)
+whole_pages p = up_to_multiple PAGE (length p.text)
 
 -- how many bytes the text has with the zeros before the data
 abbrev pub text_room : Program → ℕ
 text_room p = if has_content p then whole_pages p else length p.text
 
 abbrev pub content_place : Program → ℕ
-content_place p = 4096 + text_room p
+content_place p = PAGE + text_room p
 
 abbrev pub unit_place : Program → ℕ
 unit_place p = content_place p + length p.content
@@ -75,12 +76,12 @@ segment flags place address size =
     ++ double address
     ++ double size
     ++ double size
-    ++ double 4096
+    ++ double PAGE
 
 unfoldable pub segments : Program → List ℕ
 segments p =
-    segment 5 4096 0x10000 (length p.text)
-    ++ (if has_content p then segment 6 (4096 + whole_pages p) (0x10000 + whole_pages p) (length p.content) else [])
+    segment 5 PAGE 0x10000 (length p.text)
+    ++ (if has_content p then segment 6 (PAGE + whole_pages p) (0x10000 + whole_pages p) (length p.content) else [])
 
 unfoldable pub section : ℕ → ℕ → ℕ → ℕ → ℕ → ℕ → List ℕ
 section name kind flags place size align =
@@ -98,7 +99,7 @@ section name kind flags place size align =
 unfoldable pub sections : List ℕ → Program → List ℕ
 sections unit p =
     section 0 0 0 0 0 0
-    ++ section 1 1 6 4096 (length p.text) 4
+    ++ section 1 1 6 PAGE (length p.text) 4
     ++ section 7 1 3 (content_place p) (length p.content) 8
     ++ section 13 1 0 (unit_place p) (length unit) 1
     ++ section 25 3 0 (names_place unit p) (length names) 1
@@ -107,7 +108,7 @@ sections unit p =
 
 -- what is before the text
 unfoldable pub front : List ℕ → Program → List ℕ
-front unit p = filled_up 4096 (file_header p.entry (headers_place unit p) (segment_count p) ++ segments p)
+front unit p = filled_up PAGE (file_header p.entry (headers_place unit p) (segment_count p) ++ segments p)
 
 -- with this line unit
 unfoldable pub file_with : List ℕ → Program → List ℕ

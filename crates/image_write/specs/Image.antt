@@ -1,5 +1,6 @@
 -- The image that a written file loads as.
 use Rattle.std.specs.Prelude.{ℕ, ◌+◌, true, false, List, [], ◌∷◌, length, if◌then◌else◌}
+use Rattle.coz_types.specs.declared.TheConstants.{PAGE}
 use Rattle.coz_types.specs.declared.image.Area.{Area}
 use Rattle.coz_types.specs.Image.{ImageParts}
 use Rattle.rv_asm.specs.Assembled.{Program, up_to_multiple}
@@ -12,7 +13,7 @@ text_area p = record {
   size = whole_pages p;
   rights = record { read = true; write = false; execute = true };
   vaddr = 0x10000;
-  offset = 4096;
+  offset = PAGE;
   filled = length p.text;
 }
 
@@ -20,10 +21,10 @@ text_area p = record {
 abbrev pub data_area : Program → Area
 data_area p = record {
   start = 0x10000 + whole_pages p;
-  size = up_to_multiple 4096 (length p.content);
+  size = up_to_multiple PAGE (length p.content);
   rights = record { read = true; write = true; execute = false };
   vaddr = 0x10000 + whole_pages p;
-  offset = 4096 + whole_pages p;
+  offset = PAGE + whole_pages p;
   filled = length p.content;
 }
 

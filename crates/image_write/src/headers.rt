@@ -5,14 +5,13 @@ ghost use Rattle.rv_asm.specs.Assembled.{up_to_multiple, view};
 ghost use Rattle.image_write.specs.File.{IsWritable, has_content, whole_pages, text_room, content_place, unit_place, names_place, names_end, headers_place, segment_count, file_header, segment, segments, section, sections};
 
 use crate::numbers::{push_double, push_half, push_word};
+use coz_types::PAGE;
+use elf_load::codes::{EHDR_SIZE, EM_RISCV, ET_EXEC, PHDR_SIZE, PT_LOAD, SHDR_SIZE};
 use rv_asm::Assembled;
 use std::alloc::{AllocError, Global};
 
-/// The bytes of a page, and where the text begins in the file.
-pub const PAGE: u64 = 4096;
-
 /// Where the text begins in memory.
-const TEXT_START: u64 = 0x1_0000;
+pub const TEXT_START: u64 = 0x1_0000;
 
 /// The names of the sections, each with a zero behind it.
 pub const NAMES: [u8; 35] = *b"\0.text\0.data\0.debug_line\0.shstrtab\0";
@@ -32,21 +31,8 @@ const SECTIONS: u16 = 5;
 /// The number of the section of the names.
 const NAMES_SECTION: u16 = 4;
 
-// Codes of the file's header (ELF64; RISC-V ELF psABI).
-const ET_EXEC: u16 = 2;
-
-const EM_RISCV: u16 = 243;
-
+/// The version of the format (ELF64).
 const EV_CURRENT: u32 = 1;
-
-const EHDR_SIZE: u16 = 64;
-
-const PHDR_SIZE: u16 = 56;
-
-const SHDR_SIZE: u16 = 64;
-
-/// The type of a segment that is loaded.
-const PT_LOAD: u32 = 1;
 
 /// PF_R and PF_X.
 const TEXT_RIGHTS: u32 = 5;
@@ -173,13 +159,13 @@ pub fn file_header(
     push_half(&mut out, EM_RISCV)?;
     push_word(&mut out, EV_CURRENT)?;
     push_double(&mut out, entry)?;
-    push_double(&mut out, u64::from(EHDR_SIZE))?;
+    push_double(&mut out, EHDR_SIZE as u64)?;
     push_double(&mut out, headers)?;
     push_word(&mut out, 0)?;
-    push_half(&mut out, EHDR_SIZE)?;
-    push_half(&mut out, PHDR_SIZE)?;
+    push_half(&mut out, EHDR_SIZE as u16)?;
+    push_half(&mut out, PHDR_SIZE as u16)?;
     push_half(&mut out, segments)?;
-    push_half(&mut out, SHDR_SIZE)?;
+    push_half(&mut out, SHDR_SIZE as u16)?;
     push_half(&mut out, SECTIONS)?;
     push_half(&mut out, NAMES_SECTION)?;
     Ok(out)

@@ -15,9 +15,9 @@ ghost use Rattle.image_write.specs.Image.{image_of};
 ghost use Rattle.image_write.specs.Unit.{unit};
 ghost use Rattle.image_write.specs.Lines.{table_of};
 
+use coz_types::PAGE;
 use headers::{
-    NAMES, PAGE, file_header, headers_place, names_end, sections, segment_count, segments,
-    text_room,
+    NAMES, file_header, headers_place, names_end, sections, segment_count, segments, text_room,
 };
 use numbers::push_zeros;
 use rv_asm::Assembled;

@@ -3,11 +3,12 @@
 ghost use Rattle.std.specs.Prelude.{◌≡◌, ◌<◌, ◌≤◌, ◌+◌, ◌*◌, ◌^◌, ◌++◌, length, IfOk};
 ghost use Rattle.image_write.specs.Unit.{set_address, end_sequence, advance_pc, advance_line, row, rows, line_program, numbers, sizes, ended_files, counted_files, files, counted, unit_body, unit};
 
+use crate::headers::TEXT_START;
 use crate::numbers::{push_double, push_half, push_sleb, push_uleb, push_word};
+use dwarf_lines::codes::{
+    DW_LNE_END_SEQUENCE, DW_LNE_SET_ADDRESS, DW_LNS_ADVANCE_LINE, DW_LNS_ADVANCE_PC, DW_LNS_COPY,
+};
 use std::alloc::{AllocError, Global};
-
-/// Where the text begins.
-const TEXT_START: u64 = 0x1_0000;
 
 /// minimum_instruction_length, maximum_operations_per_instruction, default_is_stmt, line_base, line_range, opcode_base, and the lengths of the opcodes from 1 to 12.
 const NUMBERS: [u8; 18] = [4, 1, 1, 0xFB, 14, 13, 0, 1, 1, 1, 1, 0, 0, 0, 1, 0, 0, 1];
@@ -20,17 +21,6 @@ const TWO_FILES: [u8; 6] = [2, 1, 8, 2, 11, 2];
 
 /// The sizes of an address and of a segment.
 const SIZES: [u8; 2] = [8, 0];
-
-// The opcodes that are written (DWARF 5, 6.2.5.2 and 6.2.5.3).
-const DW_LNS_COPY: u8 = 1;
-
-const DW_LNS_ADVANCE_PC: u8 = 2;
-
-const DW_LNS_ADVANCE_LINE: u8 = 3;
-
-const DW_LNE_END_SEQUENCE: u8 = 1;
-
-const DW_LNE_SET_ADDRESS: u8 = 2;
 
 /// The end of the sequence: an extended opcode of one byte.
 const END_SEQUENCE: [u8; 3] = [0, 1, DW_LNE_END_SEQUENCE];
