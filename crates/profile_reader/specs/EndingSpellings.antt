@@ -1,8 +1,9 @@
 -- The texts that are the spelling of an ending within its ranges.
-use Rattle.std.specs.Prelude.{Bool, ◌&&◌, ◌==◌, nat_le, false, List, [], ◌∷◌, drop, codes, if◌then◌else◌}
+use Rattle.std.specs.Prelude.{◌-◌, Bool, ◌&&◌, ◌==◌, nat_le, false, List, [], ◌∷◌, drop, codes, if◌then◌else◌}
 use Rattle.std.specs.List.{list_any, slice_split}
 use Rattle.std.specs.Str.{bytes_eq}
 use Rattle.std.specs.Str.Parse.{digits_value}
+use Rattle.coz_types.specs.declared.TheConstants.{HARTS}
 use Rattle.coz_types.specs.Labels.{Text, is_decimal}
 use Rattle.coz_types.specs.Endings.{address_text}
 use Rattle.coz_types.specs.Ranges.{last_word}
@@ -26,7 +27,7 @@ ending_parts (word ∷ []) = is_one_of plain_endings word
 ending_parts (word ∷ n ∷ []) =
     if bytes_eq word (codes "exited") then is_decimal 255 n else (bytes_eq word (codes "unsupported") && is_decimal last_word n)
 ending_parts (word ∷ cause ∷ hart ∷ pc ∷ []) =
-    bytes_eq word (codes "trapped") && (is_one_of causes cause && (is_decimal 255 hart && is_address pc))
+    bytes_eq word (codes "trapped") && (is_one_of causes cause && (is_decimal (HARTS - 1) hart && is_address pc))
 ending_parts _ = false
 
 -- the text is the spelling of an ending

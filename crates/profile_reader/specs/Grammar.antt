@@ -5,6 +5,7 @@ use Rattle.std.specs.Str.{bytes_eq}
 use Rattle.std.specs.Str.Parse.{digits_value}
 use Rattle.coz_types.specs.Labels.{Text, is_decimal, is_label, label_before}
 use Rattle.coz_types.specs.Ranges.{most}
+use Rattle.coz_types.specs.declared.TheConstants.{GREATEST_SPEEDUP}
 use Rattle.profile_reader.specs.EndingSpellings.{is_ending_text}
 use Rattle.profile_book.specs.Profile.{field, number_field}
 use Rattle.profile_reader.specs.Items.{items_of}
@@ -181,7 +182,7 @@ has_label kind passes item = is_field kind item && (is_label (value_in kind item
 abbrev pub has_speedup : Before → Text → Bool
 has_speedup [] item = false
 has_speedup (label ∷ before) item =
-    has_number Speedup 95 item
+    has_number Speedup GREATEST_SPEEDUP item
     && goes_on (latest Selected before) (latest_number Speedup before) (value_in Selected label.1) (number_in Speedup item)
 
 -- the item is a spelling of this kind, after the items before it

@@ -5,6 +5,7 @@ use Rattle.std.specs.Str.Parse.{digits_value}
 use Rattle.std.specs.List.{slice_split}
 use Rattle.coz_types.specs.Labels.{Text}
 use Rattle.coz_types.specs.Ranges.{most}
+use Rattle.coz_types.specs.declared.TheConstants.{GREATEST_SPEEDUP}
 use Rattle.profile_reader.specs.EndingSpellings.{is_ending_text}
 use Rattle.coz_types.specs.declared.record.Summary.{Summary}
 use Rattle.coz_types.specs.declared.record.Outcome.{Outcome}
@@ -77,7 +78,7 @@ label_at kind passes a = item_at kind (has_label kind passes) (value_in kind) a
 
 -- the speedup of a block with this label, behind a block with that label and speedup
 abbrev pub is_speedup : Option Text → ℕ → Text → Text → Bool
-is_speedup last least label item = has_number Speedup 95 item && goes_on last least label (number_in Speedup item)
+is_speedup last least label item = has_number Speedup GREATEST_SPEEDUP item && goes_on last least label (number_in Speedup item)
 
 unfoldable pub speedup_at : Option Text → ℕ → Text → Ahead → Result (ℕ × Ahead) BookFault
 speedup_at last least label a = item_at Speedup (is_speedup last least label) (number_in Speedup) a

@@ -5,11 +5,11 @@ ghost use Rattle.profile_reader.specs.Parts.{parts, parts_behind};
 ghost use Rattle.profile_reader.specs.Reading.{Tells, cause_in, ending_in_parts, ending_in};
 
 use crate::numbers::{address, decimal};
-use coz_types::{Ending, HartId, Trap, TrapCause};
+use coz_types::{Ending, HARTS, HartId, Trap, TrapCause};
 
 const MOST_CODE: u64 = 255;
 
-const MOST_HART: u64 = 255;
+const MOST_HART: u64 = HARTS as u64 - 1;
 
 /// What stands before the first colon, and what stands behind it, if there is one.
 fn cut(text: &[u8]) -> (&[u8], Option<&[u8]>)

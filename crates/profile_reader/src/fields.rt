@@ -14,9 +14,7 @@ use crate::labels::is_label;
 use crate::moves::{fault, item};
 use crate::orders::{comes_after, goes_on, not_before};
 use crate::values::{number_of, value};
-use coz_types::{Digest, Ending, Label, Summary};
-
-const MOST_SPEEDUP: u64 = 95;
+use coz_types::{Digest, Ending, GREATEST_SPEEDUP, Label, Summary};
 
 /// The item that is these bytes.
 #[tactic(auto, unfolding(crate::specs::Reading::word_at))]
@@ -96,7 +94,7 @@ pub fn speedup<'a>(
         (ahead at.entry)) }
 {
     let (word, next) = item(at);
-    match number_of(word, BookField::Speedup, MOST_SPEEDUP) {
+    match number_of(word, BookField::Speedup, GREATEST_SPEEDUP) {
         Some(speedup) if goes_on(last, label, speedup) => Ok((speedup as u8, next)),
         _ => Err(fault(at, BookField::Speedup)),
     }
