@@ -7,6 +7,7 @@ mod Rousing
 pub mod Vectors
 pub mod RunningHarts
 pub mod Started
+pub mod ByNumber
 pub mod ThreadRows
 mod Clocks
 pub mod TimeRows

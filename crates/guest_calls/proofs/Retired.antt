@@ -1,14 +1,10 @@
 -- The retirement of a hart of an orderly guest, by what it does.
-use Rattle.std.proofs.Common.{◌≡◌, ℕ, ◌==◌, Bool, true, false, not, List, [], ◌∷◌, length, take, drop, Option, Some, None, pos, refl, sym, ap, subst, replicate}
+use Rattle.std.proofs.Common.{◌≡◌, ℕ, ◌==◌, true, not, List, [], ◌∷◌, length, take, drop, pos, refl, sym, ap, subst, replicate}
 use Rattle.coz_types.specs.declared.ending.Ending.{Ending}
 use Rattle.coz_types.specs.declared.ending.Ending.TheVariants.{Exited, Trapped}
 use Rattle.coz_types.specs.declared.ending.Trap.{Trap}
 use Rattle.coz_types.specs.declared.ending.TrapCause.{TrapCause}
-use Rattle.coz_types.specs.declared.ending.TrapCause.TheVariants.{Fetch, Illegal}
-use Rattle.coz_types.specs.Maps.{Map, value_at}
 use Rattle.machines.specs.Guest.{Retirement}
-use Rattle.rv_decode.specs.declared.Instr.{Instr}
-use Rattle.rv_decode.specs.Instructions.{instruction_of}
 use Rattle.guest_memory.specs.Memory.{is_readable, is_writable, bytes_at}
 use Rattle.guest_areas.specs.Answers.{bad_file, no_memory, bad_address, invalid, no_terminal, no_seek}
 use Rattle.guest_areas.specs.Space.{Space, with_break, map, unmap, protect}
@@ -20,10 +16,11 @@ use Rattle.guest_calls.specs.declared.pieces.Piece.{Piece}
 use Rattle.guest_calls.specs.Guest.{Guest, making, hart_at, pc_of, with_hart, with_state, with_setting, with_stored, with_written, is_running, memory_of, setting_of, thread_id}
 use Rattle.guest_calls.specs.Calls
 use Rattle.guest_calls.specs.Calls.{of_space, unsupported, a0, a1, a2, a3, with_filled, with_read, filled, total, is_each_writable, is_each_readable, bytes_of, pieces_at, are_few, is_named, read_length, is_stream, is_input, is_output, is_mapping, at_any_time, calls, call_of}
-use Rattle.guest_calls.specs.Retire.{word_at, Stepped, stepped, stepped_by, step, follows, retire}
+use Rattle.guest_calls.specs.Retire.{stepped, step, follows, retire}
 use Rattle.guest_calls.specs.Orderly.{IsOrderly}
 use Rattle.guest_calls.proofs.Steady.{regions-kept}
-use Rattle.guest_calls.proofs.Steps.{step-call}
+use Rattle.guest_calls.proofs.Steps.{step-call, step-guest}
+use Rattle.guest_calls.proofs.ByNumber.{IsRow, AreRows, call_has}
 use Rattle.guest_calls.proofs.Started.{IsStarted, IsStartedAt, at_any_net, IsAsBefore, either, memory_made, stored_made, space_made, same_harts, later, hart_kept, unchanged, still_orderly, none_beside, goes_started, ends_started, kept_started, answer_started, checked, of_space_started, unsupported_started}
 use Rattle.guest_calls.proofs.ThreadRows.{exit_started, futex_started, clone_started}
 use Rattle.guest_calls.proofs.TimeRows.{nanosleep_started, clock_gettime_started}
@@ -144,42 +141,18 @@ unfolding Calls.madvise
 madvise_started g h good runs = answer_started invalid h g g refl refl refl good runs
 
 -- a call by its number
-abbrev Row : Type 0
-Row = Guest → ℕ → ℕ → Retirement Guest
+abbrev IsStartedBy : Guest → ℕ → ℕ → Retirement Guest → Type 0
+IsStartedBy g h v r = IsOrderly g → is_running g h ≡ true → IsStartedAt v g h r
 
-abbrev IsRow : Row → Type 0
-IsRow call = (g : Guest) (h v : ℕ) → IsOrderly g → is_running g h ≡ true → IsStartedAt v g h (call g h v)
-
-any_time : (call : Guest → ℕ → Retirement Guest) → ((g : Guest) (h : ℕ) → IsOrderly g → is_running g h ≡ true → IsStarted g h (call g h)) → IsRow (at_any_time call)
+any_time : (call : Guest → ℕ → Retirement Guest) → ((g : Guest) (h : ℕ) → IsOrderly g → is_running g h ≡ true → IsStarted g h (call g h)) → IsRow IsStartedBy (at_any_time call)
 any_time call row g h v good runs = at_any_net g h v (call g h) (row g h good runs)
 
-abbrev AreRows : Map Row → Type 0
-AreRows [] = Unit {0}
-AreRows (e ∷ es) = IsRow e.1 × AreRows es
-
-abbrev IsRowIfSome : Option Row → Type 0
-IsRowIfSome None = Unit {0}
-IsRowIfSome (Some call) = IsRow call
-
-first_or : (b : Bool) (call : Row) (o : Option Row) → IsRow call → IsRowIfSome o → IsRowIfSome (elim b [ true ↦ Some call | false ↦ o ])
-first_or true call o row rows = row
-first_or false call o row rows = rows
-
-row_at : (m : Map Row) (n : ℕ) → AreRows m → IsRowIfSome (value_at m n)
-row_at [] n rows = tt
-row_at (e ∷ es) n rows = first_or (e.0 == n) e.1 (value_at es n) rows.0 (row_at es n rows.1)
-
-all_rows : AreRows calls
+all_rows : AreRows IsStartedBy calls
 all_rows =
     (any_time Calls.ioctl (λ g h good runs. ioctl_started g h good runs), (any_time Calls.lseek (λ g h good runs. lseek_started g h good runs), (any_time Calls.read (λ g h good runs. read_started g h good runs), (any_time Calls.write (λ g h good runs. write_started g h good runs), (any_time Calls.readv (λ g h good runs. readv_started g h good runs), (any_time Calls.writev (λ g h good runs. writev_started g h good runs), (any_time Calls.exit (λ g h good runs. exit_started g h good runs), (any_time Calls.exit_group (λ g h good runs. exit_group_started g h good runs), (any_time Calls.set_tid_address (λ g h good runs. set_tid_address_started g h good runs), (any_time Calls.futex (λ g h good runs. futex_started g h good runs), ((λ g h v good runs. nanosleep_started g h v good runs), ((λ g h v good runs. clock_gettime_started g h v good runs), (any_time Calls.sched_yield (λ g h good runs. sched_yield_started g h good runs), (any_time Calls.rt_sigprocmask (λ g h good runs. rt_sigprocmask_started g h good runs), (any_time Calls.getpid (λ g h good runs. getpid_started g h good runs), (any_time Calls.gettid (λ g h good runs. gettid_started g h good runs), (any_time Calls.brk (λ g h good runs. brk_started g h good runs), (any_time Calls.munmap (λ g h good runs. munmap_started g h good runs), (any_time Calls.mremap (λ g h good runs. mremap_started g h good runs), (any_time Calls.clone (λ g h good runs. clone_started g h good runs), (any_time Calls.mmap (λ g h good runs. mmap_started g h good runs), (any_time Calls.mprotect (λ g h good runs. mprotect_started g h good runs), (any_time Calls.madvise (λ g h good runs. madvise_started g h good runs), tt)))))))))))))))))))))))
 
-known_started : (o : Option Row) (g : Guest) (h v : ℕ) → IsRowIfSome o → IsOrderly g → is_running g h ≡ true → IsStartedAt v g h (elim o [ None ↦ unsupported g h | Some call ↦ call g h v ])
-known_started None g h v row good runs = at_any_net g h v (unsupported g h) (unsupported_started g h good)
-known_started (Some call) g h v row good runs = row g h v good runs
-
 pub call_started : (g : Guest) (h v : ℕ) → IsOrderly g → is_running g h ≡ true → IsStartedAt v g h (call_of g h v)
-unfolding call_of
-call_started g h v good runs = known_started (value_at calls (Calls.number g h)) g h v (row_at calls (Calls.number g h) all_rows) good runs
+call_started g h v = call_has IsStartedBy all_rows g h v (λ good runs. at_any_net g h v (unsupported g h) (unsupported_started g h good))
 
 -- a step
 executed_kept : (g : Guest) (h : ℕ) (s : Setting) → (s.memory.image ≡ (memory_of g).image) × (s.memory.layout ≡ (memory_of g).layout) → IsAsBefore g (with_setting h s g)
@@ -187,18 +160,8 @@ executed_kept g h s same =
     let between : Guest = with_state h s.hart g in
     later g between (with_setting h s g) (hart_kept g h _ refl) (same_harts between (with_setting h s g) refl refl (memory_made between s.memory same))
 
-decoded_kept : (g : Guest) (h : ℕ) (o : Option Instr) → IsAsBefore g (elim o as (λ _. Stepped) [ None ↦ stepped g (Fault Illegal) | Some i ↦ stepped_by g h (execute h i (setting_of g h)) ]).guest
-decoded_kept g h None = unchanged g
-decoded_kept g h (Some i) = executed_kept g h (execute h i (setting_of g h)).setting (regions-kept h i (setting_of g h))
-
-fetched_kept : (g : Guest) (h : ℕ) (o : Option ℕ)
-    → IsAsBefore g (elim o as (λ _. Stepped) [ None ↦ stepped g (Fault Fetch) | Some w ↦ elim (instruction_of w) [ None ↦ stepped g (Fault Illegal) | Some i ↦ stepped_by g h (execute h i (setting_of g h)) ] ]).guest
-fetched_kept g h None = unchanged g
-fetched_kept g h (Some w) = decoded_kept g h (instruction_of w)
-
 step_kept : (g : Guest) (h : ℕ) → IsAsBefore g (step g h).guest
-unfolding step
-step_kept g h = fetched_kept g h (word_at g h)
+step_kept g h = step-guest (IsAsBefore g) g h (unchanged g) (λ i. executed_kept g h (execute h i (setting_of g h)).setting (regions-kept h i (setting_of g h)))
 
 own_trap : (cause : TrapCause) (h pc : ℕ) (t : Trap) → ◌≡◌ {A = Ending} (Trapped (record { cause = cause; hart = record { 0 = h }; pc = pc })) (Trapped t) → t.hart.0 ≡ h
 own_trap cause h pc t is = let same : ◌≡◌ {A = Trap} (record { cause = cause; hart = record { 0 = h }; pc = pc }) t = cc in ap (λ (u : Trap). u.hart.0) (sym same)

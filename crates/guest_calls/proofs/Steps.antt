@@ -1,5 +1,5 @@
 -- How a retirement follows from the step of a hart.
-use Rattle.std.proofs.Common.{ℕ, ◌≡◌, List, [], length, get_or, set, Option, Some, None, refl, sym, ap, ◌∙◌, option_and_then}
+use Rattle.std.proofs.Common.{ℕ, ◌≡◌, List, [], length, get_or, set, Option, Some, None, refl, sym, ap, ◌∙◌, subst, option_and_then}
 use Rattle.std.proofs.lemmas.List.{set-get_or, length-set}
 use Rattle.coz_types.specs.declared.ending.TrapCause.{TrapCause}
 use Rattle.coz_types.specs.declared.ending.TrapCause.TheVariants.{Fetch, Illegal}
@@ -92,17 +92,21 @@ pub step-call : (g : Guest) (h : ℕ) → (step g h).step ≡ Call → IsCall g 
 unfolding next_of
 step-call g h p = rw step-is (call_fetched g h (word_at g h) (ap (λ (s : Stepped). s.step) (sym (step-is g h)) ∙ p))
 
-harts_decoded : (g : Guest) (h : ℕ) (o : Option Instr) → length (decoded g h o).guest.harts ≡ length g.harts
-harts_decoded g h None = refl
-harts_decoded g h (Some i) = length-set g.harts h _
+guest_decoded : (Has : Guest → Type 0) (g : Guest) (h : ℕ) (o : Option Instr) → Has g → ((i : Instr) → Has (with_setting h (execute h i (setting_of g h)).setting g)) → Has (decoded g h o).guest
+guest_decoded Has g h None here after = here
+guest_decoded Has g h (Some i) here after = after i
 
-harts_fetched : (g : Guest) (h : ℕ) (o : Option ℕ) → length (fetched g h o).guest.harts ≡ length g.harts
-harts_fetched g h None = refl
-harts_fetched g h (Some w) = harts_decoded g h (instruction_of w)
+guest_fetched : (Has : Guest → Type 0) (g : Guest) (h : ℕ) (o : Option ℕ) → Has g → ((i : Instr) → Has (with_setting h (execute h i (setting_of g h)).setting g)) → Has (fetched g h o).guest
+guest_fetched Has g h None here after = here
+guest_fetched Has g h (Some w) here after = guest_decoded Has g h (instruction_of w) here after
+
+-- what the guest has, and has after each instruction, it has after a step
+pub step-guest : (Has : Guest → Type 0) (g : Guest) (h : ℕ) → Has g → ((i : Instr) → Has (with_setting h (execute h i (setting_of g h)).setting g)) → Has (step g h).guest
+step-guest Has g h here after = subst (λ (s : Stepped). Has s.guest) (sym (step-is g h)) (guest_fetched Has g h (word_at g h) here after)
 
 -- a step makes no hart
 pub step-harts : (g : Guest) (h : ℕ) → length (step g h).guest.harts ≡ length g.harts
-step-harts g h = ap (λ (s : Stepped). length s.guest.harts) (step-is g h) ∙ harts_fetched g h (word_at g h)
+step-harts g h = step-guest (λ x. length x.harts ≡ length g.harts) g h refl (λ i. length-set g.harts h _)
 
 pub retire-next : (g after : Guest) (h v : ℕ) (s : Step) → stepped after s ≡ step g h → s ≡ Next → retirement after Goes [] ≡ retire g h v
 unfolding retire

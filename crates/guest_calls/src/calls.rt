@@ -1,10 +1,11 @@
 //! The system calls, one function each.
-ghost use Rattle.std.specs.Prelude.{◌≡◌, ◌≤◌, ◌<◌, ◌%◌, [], length, Some, false, IsTrue, MatchResult, pos};
+ghost use Rattle.std.specs.Prelude.{◌≡◌, ◌≤◌, ◌<◌, ◌%◌, ◌&&◌, if◌then◌else◌, [], length, Some, false, IsTrue, MatchResult, pos};
 ghost use Rattle.rv_decode.specs.declared.Instr.TheVariants.{Ecall};
 ghost use Rattle.guest_memory.specs.Memory.{is_writable};
+ghost use Rattle.guest_areas.specs.Answers.{bad_address, invalid};
 ghost use Rattle.guest_calls.specs.Guest.{IsMade, is_running, is_over, making, thread_id, memory_of, with_stored};
 ghost use Rattle.guest_calls.specs.Calls as calls;
-ghost use Rattle.guest_calls.specs.Calls.{retirement, number, argument, replied, answered, with_filled, call_of};
+ghost use Rattle.guest_calls.specs.Calls.{retirement, number, argument, a1, a2, are_few, is_named, replied, answered, with_filled, call_of};
 ghost use Rattle.guest_calls.specs.Retire.{next_of};
 
 use crate::linux::{
@@ -16,6 +17,7 @@ use crate::linux::{
 };
 use crate::pieces::{PIECES, Piece, are_readable, are_writable, pieces_at};
 use crate::{Fate, Guest};
+use arrayvec::ArrayVec;
 use coz_types::{Address, Ending, HartId, Tick};
 use guest_futex::HartList;
 use guest_memory::Access;
@@ -271,6 +273,26 @@ impl<'a> Guest<'a> {
         self.answer_count(hart, count)
     }
 
+    /// The pieces that a hart's arguments name, or what the call answers where they name none.
+    fn named_pieces(&self, hart: HartId) -> Result<ArrayVec<Piece, PIECES>, i64>
+        requires { IsMade self.now hart.0 }
+        ensures { MatchResult result
+            (λ pieces. IsTrue (are_few self.now hart.0) × IsTrue (is_named self.now hart.0)
+            × (pieces.items ≡ calls.pieces_at (memory_of self.now) (a1 self.now hart.0) (a2 self.now hart.0)))
+            (λ fault. ((are_few self.now hart.0 && is_named self.now hart.0) ≡ false)
+            × (fault ≡ (if are_few self.now hart.0 then bad_address else invalid))) }
+    {
+        let address = self.argument(hart, 1);
+        let count = self.argument(hart, 2);
+        if count > PIECES as u64 {
+            return Err(-EINVAL);
+        }
+        if !self.memory.readable(address, 16 * count) {
+            return Err(-EFAULT);
+        }
+        Ok(pieces_at(&self.memory, address, count))
+    }
+
     /// Linux: readv(2).
     #[inline(never)]
     #[tactic(auto, unfolding(crate::specs::Calls::readv))]
@@ -278,19 +300,13 @@ impl<'a> Guest<'a> {
         requires { IsMade self.old hart.0 }
         ensures { retirement self.new result [] ≡ calls.readv self.old hart.0 }
     {
-        let address = self.argument(hart, 1);
-        let count = self.argument(hart, 2);
         if !is_input(self.argument(hart, 0)) {
             return self.answer(hart, -EBADF);
         }
-        if count > PIECES as u64 {
-            return self.answer(hart, -EINVAL);
+        match self.named_pieces(hart) {
+            Ok(pieces) => self.read_pieces(hart, pieces.as_slice()),
+            Err(fault) => self.answer(hart, fault),
         }
-        if !self.memory.readable(address, 16 * count) {
-            return self.answer(hart, -EFAULT);
-        }
-        let pieces = pieces_at(&self.memory, address, count);
-        self.read_pieces(hart, pieces.as_slice())
     }
 
     #[tactic(auto, unfolding(crate::specs::Calls::read_pieces))]
@@ -335,19 +351,13 @@ impl<'a> Guest<'a> {
         requires { IsMade self.old hart.0 }
         ensures { retirement self.new result [] ≡ calls.writev self.old hart.0 }
     {
-        let address = self.argument(hart, 1);
-        let count = self.argument(hart, 2);
         if !is_output(self.argument(hart, 0)) {
             return self.answer(hart, -EBADF);
         }
-        if count > PIECES as u64 {
-            return self.answer(hart, -EINVAL);
+        match self.named_pieces(hart) {
+            Ok(pieces) => self.write_pieces(hart, pieces.as_slice()),
+            Err(fault) => self.answer(hart, fault),
         }
-        if !self.memory.readable(address, 16 * count) {
-            return self.answer(hart, -EFAULT);
-        }
-        let pieces = pieces_at(&self.memory, address, count);
-        self.write_pieces(hart, pieces.as_slice())
     }
 
     #[tactic(auto, unfolding(crate::specs::Calls::write_pieces))]
