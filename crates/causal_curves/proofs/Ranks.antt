@@ -13,6 +13,7 @@ use Rattle.std.specs.Ordering.{nat_cmp, int_cmp, ordering_then}
 use Rattle.std.specs.Option.{option_cmp}
 use Rattle.std.specs.declared.cmp.Ordering.{Ordering}
 use Rattle.std.specs.declared.cmp.Reverse.{Reverse}
+use Rattle.causal_curves.specs.Groups.{groups_by}
 use Rattle.causal_curves.specs.Curves.{groups, curve_of, curves_at, IsRanking}
 use Rattle.causal_curves.specs.Measured.{IsMeasured}
 use Rattle.causal_curves.specs.declared.curve.Curve.{Curve}
@@ -28,7 +29,7 @@ one_more into new total point n rest front back c group f b is pushed so_far =
     ap (λ (cs : List Curve). cs ++ others) pushed ∙ append_assoc into (c ∷ []) others ∙ ap (λ (cs : List Curve). into ++ cs) all ∙ so_far
 
 pub no_more : (into total : List Curve) (point : ℕ) (rest : List Summary) → (length rest == 0) ≡ true → into ++ curves_at rest point ≡ total → into ≡ total
-unfolding groups
+unfolding groups_by
 no_more into total point [] empty so_far = sym (append-nil into) ∙ so_far
 no_more into total point (s ∷ rest) empty so_far = let e : length (s ∷ rest) ≡ 0 = search (rules, empty) in absurd (omega (arith, e))
 

@@ -9,6 +9,7 @@ use Rattle.std.specs.Str.{bytes_eq}
 use Rattle.coz_types.specs.Labels.{Text}
 use Rattle.coz_types.specs.declared.record.Summary.{Summary}
 use Rattle.profile_book.specs.declared.profile.Profile.{Profile}
+use Rattle.causal_curves.specs.Groups.{groups_by}
 use Rattle.causal_curves.specs.declared.curve.Curve.{Curve}
 use Rattle.causal_curves.specs.declared.curve.CurveStep.{CurveStep}
 
@@ -39,19 +40,12 @@ value point (Some base) s = value_over point base s
 
 -- ---- curves
 
--- the summary is of the same line as the first of these
-abbrev pub goes_with : Summary → List Summary → Bool
-goes_with s [] = false
-goes_with s (t ∷ group) = bytes_eq s.selected t.selected
-
-abbrev pub join : Summary → List (List Summary) → List (List Summary)
-join s [] = (s ∷ []) ∷ []
-join s (group ∷ groups) = elim (goes_with s group) [ true ↦ (s ∷ group) ∷ groups | false ↦ (s ∷ []) ∷ group ∷ groups ]
+abbrev pub have_one_label : Summary → Summary → Bool
+have_one_label s t = bytes_eq s.selected t.selected
 
 -- the summaries, cut where the label changes
-unfoldable pub groups : List Summary → List (List Summary)
-groups [] = []
-groups (s ∷ rest) = join s (groups rest)
+abbrev pub groups : List Summary → List (List Summary)
+groups summaries = groups_by have_one_label summaries
 
 -- the summary at speedup 0
 abbrev pub base_of : List Summary → Option Summary

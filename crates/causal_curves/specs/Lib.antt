@@ -1,3 +1,4 @@
+pub mod Groups
 pub mod Curves
 pub mod Texts
 pub mod Measured
