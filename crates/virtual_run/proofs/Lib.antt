@@ -3,7 +3,6 @@ pub mod Many
 pub mod Begin
 pub mod Moves
 pub mod Law
-pub mod Jumps
 mod Rows
 pub mod Credited
 pub mod CreditedSteps

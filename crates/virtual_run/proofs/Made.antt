@@ -5,14 +5,10 @@ use Rattle.std.proofs.lemmas.Bool.{cases_Bool}
 use Rattle.std.proofs.lemmas.List.{length-set}
 use Rattle.coz_types.specs.declared.TheConstants.{HARTS}
 use Rattle.coz_types.specs.declared.ending.Ending.TheVariants.{Clock}
-use Rattle.coz_types.specs.declared.ending.TrapCause.TheVariants.{Fetch, Illegal}
 use Rattle.coz_types.specs.Image.{ImageParts}
-use Rattle.coz_types.specs.Maps.{Map, value_at}
 use Rattle.machines.specs.declared.Fate.{Fate}
 use Rattle.machines.specs.declared.Fate.TheVariants.{Sleeps, Ends}
 use Rattle.machines.specs.Guest.{Retirement}
-use Rattle.rv_decode.specs.declared.Instr.{Instr}
-use Rattle.rv_decode.specs.Instructions.{instruction_of}
 use Rattle.guest_memory.specs.declared.Layout.{Layout}
 use Rattle.guest_memory.specs.Memory.{is_readable, is_writable, bytes_at, number_at}
 use Rattle.guest_areas.specs.Answers.{bad_file, no_memory, bad_address, invalid, no_terminal, no_seek, try_again}
@@ -20,18 +16,18 @@ use Rattle.guest_areas.specs.Space.{Space, Answered, with_break, map, unmap, pro
 use Rattle.guest_futex.specs.Waiters.{Waiter, woken}
 use Rattle.rv_execute.specs.declared.hart.Step.{Step}
 use Rattle.rv_execute.specs.declared.hart.Step.TheVariants.{Next, Call, Fault}
-use Rattle.rv_execute.specs.Execution.{execute}
 use Rattle.guest_calls.specs.declared.hart.Hart.{Hart}
 use Rattle.guest_calls.specs.declared.hart.HartStatus.TheVariants.{Running, Waiting, Gone}
 use Rattle.guest_calls.specs.declared.pieces.Piece.{Piece}
 use Rattle.guest_calls.specs.declared.times.Span.{Span}
 use Rattle.guest_calls.specs.Times.{span_at, span_bytes, wake_moment, last_moment, clock_at}
-use Rattle.guest_calls.specs.Guest.{Guest, hart_at, no_hart, with_hart, with_stored, with_written, with_running_each, memory_of, setting_of, thread_id, first_guest}
+use Rattle.guest_calls.specs.Guest.{Guest, hart_at, no_hart, with_hart, with_stored, with_written, with_running_each, memory_of, thread_id, first_guest}
 use Rattle.guest_calls.specs.Calls
 use Rattle.guest_calls.specs.Calls.{retirement, answered, of_space, unsupported, left_by, leave, with_word, with_woken, clear_address, woken_at_exit, cleared, is_cleared, waiting_for, asleep, sleep_until, most_woken, woken_here, parent_set_tid, child_set_tid, child, with_child, with_parent_tid, with_child_tid, cloned, is_accepted, a0, a1, a2, a3, a4, with_filled, with_read, filled, total, is_each_writable, is_each_readable, bytes_of, pieces_at, are_few, is_named, read_length, is_stream, is_input, is_output, is_mapping, calls, call_of}
-use Rattle.guest_calls.specs.Retire.{word_at, Stepped, stepped, stepped_by, step, follows, retire}
+use Rattle.guest_calls.specs.Retire.{stepped, step, follows, retire}
 use Rattle.guest_calls.specs.Orderly.{AreWaiting, IsOrderly}
-use Rattle.guest_calls.proofs.Steps.{step-call}
+use Rattle.guest_calls.proofs.Steps.{step-call, step-harts}
+use Rattle.guest_calls.proofs.ByNumber.{AreRows, call_has}
 use Rattle.guest_calls.proofs.Started.{either}
 use Rattle.virtual_run.proofs.CreditedPlaces.{places}
 
@@ -268,54 +264,17 @@ unfolding Calls.madvise
 madvise_grows g h = answer_grows invalid h (length g.harts) g refl
 
 -- a call by its number
-abbrev Row : Type 0
-Row = Guest → ℕ → ℕ → Retirement Guest
+abbrev IsGrown : Guest → ℕ → ℕ → Retirement Guest → Type 0
+IsGrown g h v r = IsOrderly g → Grows (length g.harts) r
 
-abbrev IsRow : Row → Type 0
-IsRow call = (g : Guest) (h v : ℕ) → IsOrderly g → Grows (length g.harts) (call g h v)
-
-abbrev AreRows : Map Row → Type 0
-AreRows [] = Unit {0}
-AreRows (e ∷ es) = IsRow e.1 × AreRows es
-
-abbrev IsRowIfSome : Option Row → Type 0
-IsRowIfSome None = Unit {0}
-IsRowIfSome (Some call) = IsRow call
-
-first_or : (b : Bool) (call : Row) (o : Option Row) → IsRow call → IsRowIfSome o → IsRowIfSome (elim b [ true ↦ Some call | false ↦ o ])
-first_or true call o row rows = row
-first_or false call o row rows = rows
-
-row_at : (m : Map Row) (n : ℕ) → AreRows m → IsRowIfSome (value_at m n)
-row_at [] n rows = tt
-row_at (e ∷ es) n rows = first_or (e.0 == n) e.1 (value_at es n) rows.0 (row_at es n rows.1)
-
-all_rows : AreRows calls
+all_rows : AreRows IsGrown calls
 all_rows =
     ((λ g h v good. ioctl_grows g h), ((λ g h v good. lseek_grows g h), ((λ g h v good. read_grows g h), ((λ g h v good. write_grows g h), ((λ g h v good. readv_grows g h), ((λ g h v good. writev_grows g h), ((λ g h v good. exit_grows g h good), ((λ g h v good. exit_group_grows g h), ((λ g h v good. set_tid_address_grows g h), ((λ g h v good. futex_grows g h good), ((λ g h v good. nanosleep_grows g h v), ((λ g h v good. clock_gettime_grows g h v), ((λ g h v good. sched_yield_grows g h), ((λ g h v good. rt_sigprocmask_grows g h), ((λ g h v good. getpid_grows g h), ((λ g h v good. gettid_grows g h), ((λ g h v good. brk_grows g h), ((λ g h v good. munmap_grows g h), ((λ g h v good. mremap_grows g h), ((λ g h v good. clone_grows g h), ((λ g h v good. mmap_grows g h), ((λ g h v good. mprotect_grows g h), ((λ g h v good. madvise_grows g h), tt)))))))))))))))))))))))
 
-known_grows : (o : Option Row) (g : Guest) (h v : ℕ) → IsRowIfSome o → IsOrderly g → Grows (length g.harts) (elim o [ None ↦ unsupported g h | Some call ↦ call g h v ])
-known_grows None g h v row good = refl
-known_grows (Some call) g h v row good = row g h v good
-
 call_grows : (g : Guest) (h v : ℕ) → IsOrderly g → Grows (length g.harts) (call_of g h v)
-unfolding call_of
-call_grows g h v good = known_grows (value_at calls (Calls.number g h)) g h v (row_at calls (Calls.number g h) all_rows) good
+call_grows g h v = call_has IsGrown all_rows g h v (λ good. refl)
 
 -- a step
-decoded_count : (g : Guest) (h : ℕ) (o : Option Instr) → length (elim o as (λ _. Stepped) [ None ↦ stepped g (Fault Illegal) | Some i ↦ stepped_by g h (execute h i (setting_of g h)) ]).guest.harts ≡ length g.harts
-decoded_count g h None = refl
-decoded_count g h (Some i) = length-set g.harts h _
-
-fetched_count : (g : Guest) (h : ℕ) (o : Option ℕ)
-    → length (elim o as (λ _. Stepped) [ None ↦ stepped g (Fault Fetch) | Some w ↦ elim (instruction_of w) [ None ↦ stepped g (Fault Illegal) | Some i ↦ stepped_by g h (execute h i (setting_of g h)) ] ]).guest.harts ≡ length g.harts
-fetched_count g h None = refl
-fetched_count g h (Some w) = decoded_count g h (instruction_of w)
-
-step_count : (g : Guest) (h : ℕ) → length (step g h).guest.harts ≡ length g.harts
-unfolding step
-step_count g h = fetched_count g h (word_at g h)
-
 follows_grows : (g after : Guest) (h v : ℕ) (s : Step) → length after.harts ≡ length g.harts → (s ≡ Call → after ≡ g) → IsOrderly g → Grows (length g.harts) (follows h v (stepped after s))
 follows_grows g after h v Next same is good = same
 follows_grows g after h v Call same is good = subst (λ (x : Guest). Grows (length g.harts) (call_of x h v)) (sym (is refl)) (call_grows g h v good)
@@ -323,7 +282,7 @@ follows_grows g after h v (Fault cause) same is good = same
 
 pub retire_grows : (g : Guest) (h v : ℕ) → IsOrderly g → Grows (length g.harts) (retire g h v)
 unfolding retire
-retire_grows g h v good = follows_grows g (step g h).guest h v (step g h).step (step_count g h) (λ is. (step-call g h is).same) good
+retire_grows g h v good = follows_grows g (step g h).guest h v (step g h).step (step-harts g h) (λ is. (step-call g h is).same) good
 
 pub first_count : (image : ImageParts) (input : List ℕ) (output_limit : ℕ) (layout : Layout) → length (first_guest image input output_limit layout).harts ≡ 1
 unfolding first_guest

@@ -3,17 +3,18 @@ use Rattle.std.proofs.Common.{◌≡◌, ℕ, ◌*◌, ◌≤◌, ◌==◌, if�
 use Rattle.std.specs.Prelude.{⊤}
 use Rattle.std.specs.List.{flat_map}
 use Rattle.std.specs.Int.{w32, to_le_bytes}
+use Rattle.coz_types.specs.declared.ending.Ending.{Ending}
 use Rattle.coz_types.specs.declared.ending.Ending.TheVariants.{Exited, Unsupported, Trapped, VisitsFull, Spent, Stalled}
 use Rattle.coz_types.specs.declared.ending.TrapCause.TheVariants.{Misaligned}
 use Rattle.coz_types.specs.declared.image.Area.{Area}
 use Rattle.coz_types.specs.Image.{ImageParts}
 use Rattle.machines.specs.Places.{first_place}
-use Rattle.machines.specs.Guest.{Experiment, IsLawful, cost, cut, ending_after}
+use Rattle.machines.specs.Guest.{Experiment, IsLawful}
 use Rattle.machines.specs.Shortened as short
 use Rattle.machines.specs.Delayed as long
-use Rattle.machines.specs.Steps.{jump}
 use Rattle.machines.specs.Standing.{delayed_record}
 use Rattle.machines.specs.Records.{NetRecord, Record, net, net_outcome, outcome, shortened_record}
+use Rattle.machines.proofs.Computed.{EndsAs, records_are, moves_on_literals}
 use Rattle.rv_execute.specs.Execution.{execute}
 use Rattle.guest_areas.specs.Entry.{with_numbers, with_entry}
 use Rattle.guest_memory.specs.Regions.{usual}
@@ -24,7 +25,6 @@ use Rattle.guest_calls.specs.Retire.{next_of, step, retire}
 use Rattle.virtual_run.specs.declared.choice.Choice.{Choice}
 use Rattle.virtual_run.specs.Run.{experiment}
 use Rattle.virtual_run.proofs.Law.{lawful_run}
-use Rattle.virtual_run.proofs.Jumps.{computed, computed_is}
 
 bytes_of : List ℕ → List ℕ
 bytes_of words = flat_map (to_le_bytes w32) words
@@ -59,15 +59,24 @@ trial image budget = experiment image (λ _. None) (λ _. None) [] (plain budget
 shortened_end : ImageParts → ℕ → ℕ → Option NetRecord
 shortened_end image budget moves = net_outcome (trial image budget) (short.shortened (trial image budget) moves)
 
+-- within so many moves the shortened run has ended so, at this moment and after so many retirements, with no output
+abbrev Ends : ImageParts → ℕ → ℕ → Ending → ℕ → ℕ → Type 0
+Ends image budget moves ending time retired =
+    shortened_end image budget moves ≡ Some (record { ending = ending; time = time; retired = retired; starts = 0; output = []; visits = [] })
+
 delayed_end : ImageParts → ℕ → ℕ → Option Record
 delayed_end image budget moves = outcome (trial image budget) (long.delayed (trial image budget) moves)
 
 only_at : ℕ → ℕ → Option ℕ
 only_at address a = if a == address then Some 0 else None
 
+-- the line at place 0 is selected
+abbrev selecting : ℕ → Choice
+selecting speedup = record (plain 100) { selected = Some (record { 0 = 0 }); speedup = speedup }
+
 -- the second instruction has the selected line, and is an entry of a point
 second : ℕ → ℕ → ImageParts → Experiment Guest
-second speedup visits image = experiment image (only_at 0x10004) (only_at 0x10004) [] (record (plain 100) { selected = Some (record { 0 = 0 }); speedup = speedup; visit_limit = visits })
+second speedup visits image = experiment image (only_at 0x10004) (only_at 0x10004) [] (record (selecting speedup) { visit_limit = visits })
 
 second_end : ℕ → ℕ → ImageParts → ℕ → Option NetRecord
 second_end speedup visits image moves = net_outcome (second speedup visits image) (short.shortened (second speedup visits image) moves)
@@ -125,41 +134,39 @@ waits =
 
 -- what a proof unfolds to compute a run
 unfoldable runs_on_literals : ⊤
-unfolding bytes_of text_area data_area program program_with plain trial shortened_end delayed_end only_at second second_end
-    shortened_record short.shortened short.move short.move_by short.unbegun short.begin short.retire short.leave short.retirement short.ending short.wake short.come
-    long.delayed long.after long.move long.move_by long.unbegun long.begin long.raise long.retire long.leave long.give_credit long.retirement long.ending long.tick long.wake long.come jump
-    cost cut ending_after first_guest with_numbers with_entry next_of retire step call_of execute clone futex wait wake exit exit_group sched_yield
+unfolding bytes_of text_area data_area program program_with plain trial shortened_end delayed_end only_at second second_end moves_on_literals
+    first_guest with_numbers with_entry next_of retire step call_of execute clone futex wait wake exit exit_group sched_yield
 runs_on_literals = tt
 
-one_shortened : shortened_end one 100 3 ≡ Some (record { ending = Exited 0; time = 4200; retired = 3; starts = 0; output = []; visits = [] })
+one_shortened : Ends one 100 3 (Exited 0) 4200 3
 unfolding runs_on_literals one
 one_shortened = refl
 
-other_shortened : shortened_end other 100 3 ≡ Some (record { ending = Unsupported 92; time = 4200; retired = 3; starts = 0; output = []; visits = [] })
+other_shortened : Ends other 100 3 (Unsupported 92) 4200 3
 unfolding runs_on_literals other
 other_shortened = refl
 
-one_spent : shortened_end one 2 3 ≡ Some (record { ending = Spent; time = 200; retired = 2; starts = 0; output = []; visits = [] })
+one_spent : Ends one 2 3 Spent 200 2
 unfolding runs_on_literals one
 one_spent = refl
 
-between_shortened : shortened_end between 100 1 ≡ Some (record { ending = Trapped (record { cause = Misaligned; hart = record { 0 = 0 }; pc = 0x10000 }); time = 200; retired = 1; starts = 0; output = []; visits = [] })
+between_shortened : Ends between 100 1 (Trapped (record { cause = Misaligned; hart = record { 0 = 0 }; pc = 0x10000 })) 200 1
 unfolding runs_on_literals between
 between_shortened = refl
 
-stall_shortened : shortened_end stall 100 6 ≡ Some (record { ending = Stalled; time = 4500; retired = 6; starts = 0; output = []; visits = [] })
+stall_shortened : Ends stall 100 6 Stalled 4500 6
 unfolding runs_on_literals stall
 stall_shortened = refl
 
-two_shortened : shortened_end two 100 13 ≡ Some (record { ending = Exited 0; time = 8700; retired = 13; starts = 0; output = []; visits = [] })
+two_shortened : Ends two 100 13 (Exited 0) 8700 13
 unfolding runs_on_literals two
 two_shortened = refl
 
-join_shortened : shortened_end join 100 20 ≡ Some (record { ending = Exited 0; time = 17000; retired = 20; starts = 0; output = []; visits = [] })
+join_shortened : Ends join 100 20 (Exited 0) 17000 20
 unfolding runs_on_literals join
 join_shortened = refl
 
-waits_shortened : shortened_end waits 100 57 ≡ Some (record { ending = Exited 0; time = 43300; retired = 57; starts = 0; output = []; visits = [] })
+waits_shortened : Ends waits 100 57 (Exited 0) 43300 57
 unfolding runs_on_literals waits
 waits_shortened = refl
 
@@ -182,27 +189,24 @@ one_delayed : delayed_end one 100 4203 ≡ Some (record { ending = Exited 0; tim
 unfolding runs_on_literals one
 one_delayed = refl
 
+-- points with these entries
+abbrev point_at : List ℕ → ℕ → Option ℕ
+point_at entries a = first_place (λ entry. entry == a) entries
+
 -- a run in which the instruction at an address has the selected line, and points have these entries
 abbrev chosen : ImageParts → ℕ → ℕ → List ℕ → Experiment Guest
-chosen image address speedup entries =
-    experiment image (only_at address) (λ a. first_place (λ entry. entry == a) entries) [] (record (plain 100) { selected = Some (record { 0 = 0 }); speedup = speedup })
+chosen image address speedup entries = experiment image (only_at address) (point_at entries) [] (selecting speedup)
 
-chosen_lawful : (image : ImageParts) (address speedup : ℕ) (entries : List ℕ) → speedup ≤ 95 → IsLawful (chosen image address speedup entries) IsOrderly
-chosen_lawful image address speedup entries few =
-    lawful_run image (only_at address) (λ a. first_place (λ entry. entry == a) entries) [] (record (plain 100) { selected = Some (record { 0 = 0 }); speedup = speedup }) few
-
--- the delayed run leaves this record; the shortened run leaves that one, which is its net part
-record Leaves (x : Experiment Guest) (r : Record) (n : NetRecord) : Type 0 where
-  delayed : delayed_record x ≡ r
-  shortened : shortened_record x ≡ n
-  is_net : net r ≡ n
+-- what the rows below compute is what the two runs leave
+both_leave : (image : ImageParts) (address speedup : ℕ) (entries : List ℕ) (n : ℕ) (r : Record) → speedup ≤ 95 → n ≤ 200 → EndsAs (chosen image address speedup entries) n r
+    → (delayed_record (chosen image address speedup entries) ≡ r) × (shortened_record (chosen image address speedup entries) ≡ net r)
+unfolding plain
+both_leave image address speedup entries n r small few e =
+    let law : IsLawful (chosen image address speedup entries) IsOrderly = lawful_run image (only_at address) (point_at entries) [] (selecting speedup) small in
+    records_are (chosen image address speedup entries) IsOrderly law n r few (lit≤ tt) e
 
 -- two harts are due at the moment 4500. What the first of them starts then makes the other pause, so that their visits of one net time are 50 ticks apart.
-abbrev tie : Experiment Guest
-tie = chosen two 0x10018 50 (0x10014 ∷ [])
-
-abbrev tie_record : Record
-tie_record = record {
+tie : EndsAs (chosen two 0x10018 50 (0x10014 ∷ [])) 13 (record {
   ending = Exited 0;
   time = 8750;
   delay = 100;
@@ -213,42 +217,12 @@ tie_record = record {
       ∷ record { point = 0; hart = 1; time = 4550; delay = 50 }
       ∷ [];
   accounts = record { own = 50; paused = 50; credited = 0 } ∷ record { own = 50; paused = 50; credited = 0 } ∷ [];
-}
-
-abbrev tie_net : NetRecord
-tie_net = record {
-  ending = Exited 0;
-  time = 8650;
-  retired = 13;
-  starts = 2;
-  output = [];
-  visits = record { point = 0; hart = 0; time = 4500 }
-      ∷ record { point = 0; hart = 1; time = 4500 }
-      ∷ [];
-}
-
-tie_computed : outcome tie (computed tie 13) ≡ Some tie_record
+})
 unfolding runs_on_literals two
-tie_computed = refl
-
-tie_shortened : shortened_record tie ≡ tie_net
-unfolding runs_on_literals two
-tie_shortened = refl
-
-tie_leaves : Leaves tie tie_record tie_net
-unfolding runs_on_literals
-tie_leaves = record {
-  delayed = computed_is tie IsOrderly (chosen_lawful two 0x10018 50 (0x10014 ∷ []) (lit≤ tt)) 13 tie_record (lit≤ tt) tie_computed;
-  shortened = tie_shortened;
-  is_net = refl;
-}
+tie = record { delayed = refl; shortened = refl }
 
 -- two harts start the selected instruction as one makes the other: each pauses for the other's start
-abbrev both : Experiment Guest
-both = chosen two 0x10014 50 (0x10018 ∷ [])
-
-abbrev both_record : Record
-both_record = record {
+both : EndsAs (chosen two 0x10014 50 (0x10018 ∷ [])) 13 (record {
   ending = Exited 0;
   time = 8750;
   delay = 100;
@@ -259,42 +233,12 @@ both_record = record {
       ∷ record { point = 0; hart = 1; time = 4650; delay = 100 }
       ∷ [];
   accounts = record { own = 50; paused = 50; credited = 0 } ∷ record { own = 50; paused = 50; credited = 0 } ∷ [];
-}
-
-abbrev both_net : NetRecord
-both_net = record {
-  ending = Exited 0;
-  time = 8650;
-  retired = 13;
-  starts = 2;
-  output = [];
-  visits = record { point = 0; hart = 0; time = 4550 }
-      ∷ record { point = 0; hart = 1; time = 4550 }
-      ∷ [];
-}
-
-both_computed : outcome both (computed both 13) ≡ Some both_record
+})
 unfolding runs_on_literals two
-both_computed = refl
-
-both_shortened : shortened_record both ≡ both_net
-unfolding runs_on_literals two
-both_shortened = refl
-
-both_leaves : Leaves both both_record both_net
-unfolding runs_on_literals
-both_leaves = record {
-  delayed = computed_is both IsOrderly (chosen_lawful two 0x10014 50 (0x10018 ∷ []) (lit≤ tt)) 13 both_record (lit≤ tt) both_computed;
-  shortened = both_shortened;
-  is_net = refl;
-}
+both = record { delayed = refl; shortened = refl }
 
 -- a hart is credited with what was raised before it was made
-abbrev made : Experiment Guest
-made = chosen two 0x1000C 50 []
-
-abbrev made_record : Record
-made_record = record {
+made : EndsAs (chosen two 0x1000C 50 []) 13 (record {
   ending = Exited 0;
   time = 8700;
   delay = 50;
@@ -303,40 +247,12 @@ made_record = record {
   output = [];
   visits = [];
   accounts = record { own = 50; paused = 0; credited = 0 } ∷ record { own = 0; paused = 0; credited = 50 } ∷ [];
-}
-
-abbrev made_net : NetRecord
-made_net = record {
-  ending = Exited 0;
-  time = 8650;
-  retired = 13;
-  starts = 1;
-  output = [];
-  visits = [];
-}
-
-made_computed : outcome made (computed made 13) ≡ Some made_record
+})
 unfolding runs_on_literals two
-made_computed = refl
-
-made_shortened : shortened_record made ≡ made_net
-unfolding runs_on_literals two
-made_shortened = refl
-
-made_leaves : Leaves made made_record made_net
-unfolding runs_on_literals
-made_leaves = record {
-  delayed = computed_is made IsOrderly (chosen_lawful two 0x1000C 50 [] (lit≤ tt)) 13 made_record (lit≤ tt) made_computed;
-  shortened = made_shortened;
-  is_net = refl;
-}
+made = record { delayed = refl; shortened = refl }
 
 -- while one hart waits, the other makes ten selected divisions. The waiter doesn't pause for them: it is credited with them as it is woken.
-abbrev woken : Experiment Guest
-woken = chosen waits 0x10048 95 (0x10028 ∷ 0x10048 ∷ 0x10068 ∷ [])
-
-abbrev woken_record : Record
-woken_record = record {
+woken : EndsAs (chosen waits 0x10048 95 (0x10028 ∷ 0x10048 ∷ 0x10068 ∷ [])) 57 (record {
   ending = Exited 0;
   time = 43300;
   delay = 19000;
@@ -357,42 +273,6 @@ woken_record = record {
       ∷ record { point = 2; hart = 1; time = 39100; delay = 19000 }
       ∷ [];
   accounts = record { own = 0; paused = 0; credited = 19000 } ∷ record { own = 19000; paused = 0; credited = 0 } ∷ [];
-}
-
-abbrev woken_net : NetRecord
-woken_net = record {
-  ending = Exited 0;
-  time = 24300;
-  retired = 57;
-  starts = 10;
-  output = [];
-  visits = record { point = 0; hart = 0; time = 8900 }
-      ∷ record { point = 1; hart = 1; time = 12700 }
-      ∷ record { point = 1; hart = 1; time = 13000 }
-      ∷ record { point = 1; hart = 1; time = 13300 }
-      ∷ record { point = 1; hart = 1; time = 13600 }
-      ∷ record { point = 1; hart = 1; time = 13900 }
-      ∷ record { point = 1; hart = 1; time = 14200 }
-      ∷ record { point = 1; hart = 1; time = 14500 }
-      ∷ record { point = 1; hart = 1; time = 14800 }
-      ∷ record { point = 1; hart = 1; time = 15100 }
-      ∷ record { point = 1; hart = 1; time = 15400 }
-      ∷ record { point = 2; hart = 1; time = 20100 }
-      ∷ [];
-}
-
-woken_computed : outcome woken (computed woken 57) ≡ Some woken_record
+})
 unfolding runs_on_literals waits
-woken_computed = refl
-
-woken_shortened : shortened_record woken ≡ woken_net
-unfolding runs_on_literals waits
-woken_shortened = refl
-
-woken_leaves : Leaves woken woken_record woken_net
-unfolding runs_on_literals
-woken_leaves = record {
-  delayed = computed_is woken IsOrderly (chosen_lawful waits 0x10048 95 (0x10028 ∷ 0x10048 ∷ 0x10068 ∷ []) (lit≤ tt)) 57 woken_record (lit≤ tt) woken_computed;
-  shortened = woken_shortened;
-  is_net = refl;
-}
+woken = record { delayed = refl; shortened = refl }
