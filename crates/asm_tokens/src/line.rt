@@ -12,7 +12,9 @@ use std::alloc::{AllocError, AllocFailed, Global};
 /// What is wrong with a line, and at which column; or that memory ran out.
 #[derive(Debug, Drop)]
 pub enum LineError {
+    /// Memory was wanting.
     Memory,
+    /// What is wrong, and the column, counted from 1.
     Fault { kind: AsmKind, column: u32 },
 }
 
@@ -35,20 +37,27 @@ impl<T: Drop> From<AllocFailed<T>> for LineError {
 /// A token of a line.
 #[derive(Drop)]
 pub enum Token<'a> {
+    /// A name, or the first word of a statement.
     Name(&'a [u8]),
+    /// A number.
     Number(i128),
+    /// The bytes that stand in quotes, with their escapes resolved.
     Text(Vec<u8>),
+    /// One of the marks, such as a comma.
     Mark(u8),
 }
 
 /// A token, and the column of its first byte.
 #[derive(Drop)]
 pub struct Placed<'a> {
+    /// Counted from 1.
     pub column: u32,
+    /// What stands there.
     pub token: Token<'a>,
 }
 
 /// The bytes of a text behind its opening quote, and how many bytes spell them with the closing one.
+/// None where no closing quote follows, or an escape is none. Err is want of memory.
 pub fn text(alloc: Global, bytes: &[u8]) -> Result<Option<(Vec<u8>, usize)>, AllocError>
     ensures within { IfOk result (λ found. IfSome found (λ t. t.1 ≤ length bytes.now)) }
     ensures value { GivesText (λ v. v.items) result (text false bytes.now) }
@@ -78,9 +87,13 @@ pub fn text(alloc: Global, bytes: &[u8]) -> Result<Option<(Vec<u8>, usize)>, All
 /// What begins at the front of a line's rest.
 #[derive(Drop)]
 pub enum Found<'a> {
+    /// A blank.
     Blank,
+    /// A comment, up to the line's end.
     Comment,
+    /// A token, and how many bytes spell it.
     Begins { token: Token<'a>, bytes: usize },
+    /// Bytes that form no token.
     Wrong,
 }
 
@@ -101,7 +114,7 @@ fn number<'a>(word: &[u8], is_negative: bool, bytes: usize) -> Found<'a>
     }
 }
 
-/// What begins there.
+/// What begins there. Only want of memory stands against it.
 pub fn begins<'a>(alloc: Global, bytes: &'a [u8]) -> Result<Found<'a>, AllocError>
     ensures within { IfOk result (λ found. IsWithin found (length bytes.now)) }
     ensures value { IfOk result (λ found. front_of token_of found ≡ front bytes.now) }
@@ -149,6 +162,7 @@ pub fn begins<'a>(alloc: Global, bytes: &'a [u8]) -> Result<Found<'a>, AllocErro
     Ok(Found::Wrong)
 }
 
+/// Whether it is a space, a tab or a carriage return.
 pub fn is_blank(byte: u8) -> bool
     ensures { result ≡ is_blank byte }
 {

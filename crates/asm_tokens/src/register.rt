@@ -6,37 +6,69 @@ ghost use Rattle.asm_tokens.specs.Registers.{number_of};
 /// One of the 32 registers.
 #[derive(Clone, Copy)]
 pub enum Register {
+    /// zero: it reads as 0.
     X0,
+    /// ra
     X1,
+    /// sp
     X2,
+    /// gp
     X3,
+    /// tp
     X4,
+    /// t0
     X5,
+    /// t1
     X6,
+    /// t2
     X7,
+    /// s0, or fp
     X8,
+    /// s1
     X9,
+    /// a0
     X10,
+    /// a1
     X11,
+    /// a2
     X12,
+    /// a3
     X13,
+    /// a4
     X14,
+    /// a5
     X15,
+    /// a6
     X16,
+    /// a7
     X17,
+    /// s2
     X18,
+    /// s3
     X19,
+    /// s4
     X20,
+    /// s5
     X21,
+    /// s6
     X22,
+    /// s7
     X23,
+    /// s8
     X24,
+    /// s9
     X25,
+    /// s10
     X26,
+    /// s11
     X27,
+    /// t3
     X28,
+    /// t4
     X29,
+    /// t5
     X30,
+    /// t6
     X31,
 }
 

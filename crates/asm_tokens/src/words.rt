@@ -4,18 +4,21 @@ ghost use Rattle.std.specs.Prelude.{◌≡◌, ◌≤◌, ◌<◌, IsTrue, ◌^�
 ghost use Rattle.asm_tokens.specs.Tokens.{digit, is_digit, is_hex_digit, is_of_name, are_some, number_in, spelled, escaped};
 ghost use Rattle.std.specs.List.{AllPass, list_all, prefix_len};
 
+/// Whether it is a decimal digit.
 pub fn is_digit(byte: u8) -> bool
     ensures { result ≡ is_digit byte }
 {
     b'0' <= byte && byte <= b'9'
 }
 
+/// Whether it is a hexadecimal digit.
 pub fn is_hex_digit(byte: u8) -> bool
     ensures { result ≡ is_hex_digit byte }
 {
     is_digit(byte) || b'a' <= byte && byte <= b'f' || b'A' <= byte && byte <= b'F'
 }
 
+/// Whether a name may have it.
 pub fn is_of_name(byte: u8) -> bool
     ensures { result ≡ is_of_name byte }
 {
@@ -100,7 +103,7 @@ fn are_hex_digits(bytes: &[u8]) -> bool
     all_hex_digits(bytes) && 0 < bytes.len()
 }
 
-/// The number that a word spells.
+/// The number that a word spells. None where it spells none.
 pub fn spelled(word: &[u8]) -> Option<u128>
     ensures value { result ≡ spelled word.now }
     ensures small { IfSome result (λ n. n ≤ 2 ^ 64) }
@@ -114,7 +117,7 @@ pub fn spelled(word: &[u8]) -> Option<u128>
     None
 }
 
-/// What an escape stands for.
+/// What an escape stands for. None where it is none.
 pub fn escaped(byte: u8) -> Option<u8>
     ensures { result ≡ escaped byte }
 {

@@ -46,6 +46,7 @@ fn all_curves(alloc: Global, profile: &Profile) -> Result<Vec<Curve>, AllocError
 }
 
 /// The curves of each progress point over each line, by rank.
+/// Only want of memory stands against it.
 pub fn curves(alloc: Global, profile: &Profile) -> Result<Items<Curve>, AllocError>
     requires points { length profile.now.points ≤ 64 }
     requires summaries { AllByRecursion (IsSummary (length profile.now.points)) profile.now.summaries }

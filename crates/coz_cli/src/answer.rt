@@ -24,15 +24,20 @@ use std::thread::Threads;
 /// A text that is to be written.
 #[derive(Drop)]
 pub enum Text {
+    /// These bytes.
     Bytes(Vec<u8>),
+    /// The text of a profile.
     Profile(Profile),
+    /// The text of curves.
     Curves(Items<Curve>),
 }
 
 /// A text that is to be written, and the status beside it.
 #[derive(Drop)]
 pub struct Printed {
+    /// The status of the command where the text is put: 0 or 1.
     pub status: u8,
+    /// What is put.
     pub text: Text,
 }
 
@@ -50,7 +55,7 @@ pub fn put_text<O: Sink>(out: &mut O, text: &Text) -> PutAnswer
     }
 }
 
-/// What a request comes to, and the files that it names.
+/// What a request comes to, and the files that it names. Err tells why nothing is printed.
 pub fn judge<'r, R: Threads + Sync, F: Files, G: Gate>(
     rt: &R,
     alloc: Global,

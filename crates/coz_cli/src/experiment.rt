@@ -36,6 +36,7 @@ pub enum Kind {
 }
 
 /// What is written of a run of the program and the input that the request names.
+/// Err tells the first fault of the files, the program, the lines or the plan, or want of memory.
 pub fn judge_experiment<'r, R: Threads + Sync, F: Files, G: Gate>(
     rt: &R,
     alloc: Global,

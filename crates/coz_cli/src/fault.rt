@@ -14,18 +14,29 @@ use std::alloc::AllocError;
 /// Why nothing is printed.
 #[derive(Clone, Copy)]
 pub enum Fault<'a> {
+    /// The words ask for nothing.
     Usage,
+    /// The file is no program.
     Program(ElfFault),
+    /// The program's line table can't be read.
     Lines(LineFault),
+    /// The file of this path could not be read.
     Read(&'a str),
+    /// The output could not be written.
     Write,
     /// A line that is named is none of the program's.
     NoLine(&'a [u8]),
+    /// There are so many progress points, more than 64.
     ManyPoints(u64),
+    /// The file of this path is longer than such a file may be.
     Long(&'a str),
+    /// There are so many runs in the plan, more than 100,000.
     ManyExperiments(u64),
+    /// Memory was wanting.
     Memory,
+    /// The source isn't assembled.
     Source(AsmFault),
+    /// The text is no profile's.
     Profile(BookFault),
 }
 

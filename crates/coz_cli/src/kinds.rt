@@ -6,6 +6,7 @@ use dwarf_lines::LineKind;
 use elf_load::ElfKind;
 use rv_asm::AsmKind;
 
+/// The name of a program's kind of fault.
 pub fn elf_kind_name(kind: ElfKind) -> &'static [u8]
     ensures { result.now ≡ elf_kind_name kind }
 {
@@ -28,6 +29,7 @@ pub fn elf_kind_name(kind: ElfKind) -> &'static [u8]
     }
 }
 
+/// The name of a line table's kind of fault.
 pub fn line_kind_name(kind: LineKind) -> &'static [u8]
     ensures { result.now ≡ line_kind_name kind }
 {
@@ -49,6 +51,7 @@ pub fn line_kind_name(kind: LineKind) -> &'static [u8]
     }
 }
 
+/// The name of a source's kind of fault.
 pub fn asm_kind_name(kind: AsmKind) -> &'static [u8]
     ensures { result.now ≡ asm_kind_name kind }
 {

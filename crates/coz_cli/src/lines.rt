@@ -13,6 +13,7 @@ use coz_words::Request;
 use std::alloc::Global;
 
 /// What is written of the lines of the program that the request names.
+/// Err tells the first fault of the file, the program or its line table, or want of memory.
 pub fn judge_lines<'r, F: Files>(alloc: Global, request: &'r Request, files: &mut F) -> Answer<'r>
     ensures same { F.held files.new ≡ F.held files.old }
     ensures suits { Suits request.now result }

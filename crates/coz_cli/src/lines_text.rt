@@ -52,6 +52,7 @@ fn push_index_line(text: &mut Vec<u8>, index: &LineIndex, line: LineId) -> Resul
 }
 
 /// What `lines` prints of an index, where so many units were passed over.
+/// Only want of memory stands against it.
 pub fn lines_text(alloc: Global, skipped: u32, index: &LineIndex) -> Result<Vec<u8>, AllocError>
     ensures { IfOk result (λ text. text.items ≡ index_text skipped index.now) }
 {

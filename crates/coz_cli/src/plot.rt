@@ -1,3 +1,4 @@
+//! The command `plot`.
 ghost use Rattle.std.specs.Prelude.{◌≡◌, IfSome, IfNone};
 ghost use Rattle.coz_files.specs.Faults.{Rose};
 ghost use Rattle.coz_words.specs.declared.command.Command.TheVariants.{Plot};
@@ -16,6 +17,7 @@ use std::alloc::Global;
 const MAX_PROFILE: u64 = 268435456;
 
 /// What is written of the profile that the request names.
+/// Err tells the first fault of the file or of its text, or want of memory.
 pub fn judge_plot<'r, F: Files>(alloc: Global, request: &'r Request, files: &mut F) -> Answer<'r>
     ensures same { F.held files.new ≡ F.held files.old }
     ensures suits { Suits request.now result }

@@ -23,6 +23,7 @@ use std::alloc::Global;
 pub const MAX_PROGRAM: u64 = 33554432;
 
 /// The bytes of a path's file, where they are so many at most.
+/// Err tells that it can't be read or is longer, or want of memory.
 pub fn read_file<'a, F: Files>(
     alloc: Global,
     files: &mut F,
@@ -49,8 +50,11 @@ pub fn read_file<'a, F: Files>(
 /// A program, its line table and the index of its lines.
 #[derive(Drop)]
 pub struct Program<'f> {
+    /// What is loaded of its file.
     pub image: Image<'f>,
+    /// Its line table, as it was read.
     pub table: LineTable<'f>,
+    /// The lines that it has.
     pub index: LineIndex,
 }
 

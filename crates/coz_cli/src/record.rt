@@ -4,22 +4,29 @@ use coz_types::{Account, Ending, Outcome, Tick, Visit};
 /// What a delayed run comes to.
 #[derive(Clone, Copy)]
 pub struct RunRecord<'a> {
+    /// How it came out.
     pub outcome: Outcome,
     /// Of each hart that was made, by number.
     pub accounts: &'a [Account],
+    /// The visits of progress points, in their order.
     pub visits: &'a [Visit],
+    /// What the program wrote.
     pub output: &'a [u8],
 }
 
 /// What a shortened run comes to.
 #[derive(Clone, Copy)]
 pub struct ShortRecord<'a> {
+    /// How it ended.
     pub ending: Ending,
     /// The moment of the last retirement, in ticks.
     pub net: Tick,
+    /// How many instructions were retired.
     pub retired: u64,
+    /// How many selected instructions were started.
     pub starts: u64,
     /// With delay 0.
     pub visits: &'a [Visit],
+    /// What the program wrote.
     pub output: &'a [u8],
 }

@@ -81,7 +81,7 @@ fn machine_answer<'r>(alloc: Global, machine: &mut Machine) -> Answer<'r>
     })
 }
 
-/// What is written of a program's delayed run.
+/// What is written of a program's delayed run. Err is want of memory.
 pub fn run_answer<'r>(
     alloc: Global,
     image: &Image,
@@ -132,7 +132,7 @@ fn short_answer<'r>(alloc: Global, short: &mut Short) -> Answer<'r>
     })
 }
 
-/// What is written of a program's shortened run.
+/// What is written of a program's shortened run. Err is want of memory.
 pub fn really_answer<'r>(
     alloc: Global,
     image: &Image,

@@ -19,6 +19,7 @@ use std::alloc::Global;
 const MAX_SOURCE: u64 = 4194304;
 
 /// What is written of the source that the request names.
+/// Err tells the first fault of the file or of the source, or want of memory.
 pub fn judge_source<'r, F: Files>(alloc: Global, request: &'r Request, files: &mut F) -> Answer<'r>
     requires named { IsName request.now.target }
     requires version { IsVersion request.now.dwarf }

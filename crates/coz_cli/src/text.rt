@@ -12,6 +12,7 @@ use coz_types::{Account, Ending, HexDigits, Visit};
 use itoa::Buffer;
 use std::alloc::{AllocError, Global};
 
+/// Appends a number in decimal. Only want of memory stands against it.
 pub fn push_number(text: &mut Vec<u8>, n: u64) -> Result<(), AllocError>
     ensures { OnOk result (text.new.items ≡ text.old.items ++ decimal n) }
 {
@@ -19,6 +20,7 @@ pub fn push_number(text: &mut Vec<u8>, n: u64) -> Result<(), AllocError>
     text.extend_from_slice(buffer.format(n).as_bytes())
 }
 
+/// Appends a line of a name and a number. Only want of memory stands against it.
 pub fn push_line(text: &mut Vec<u8>, name: &[u8], n: u64) -> Result<(), AllocError>
     ensures { OnOk result (text.new.items ≡ text.old.items ++ number_line name.now n) }
 {
@@ -27,6 +29,7 @@ pub fn push_line(text: &mut Vec<u8>, name: &[u8], n: u64) -> Result<(), AllocErr
     text.extend_from_slice(b"\n")
 }
 
+/// Appends an address in hexadecimal. Only want of memory stands against it.
 pub fn push_address(text: &mut Vec<u8>, address: u64) -> Result<(), AllocError>
     ensures { OnOk result (text.new.items ≡ text.old.items ++ address_text address) }
 {
@@ -34,6 +37,7 @@ pub fn push_address(text: &mut Vec<u8>, address: u64) -> Result<(), AllocError>
     text.extend_from_slice(HexDigits::new(address).bytes())
 }
 
+/// Appends how a run ended. Only want of memory stands against it.
 pub fn push_ending(text: &mut Vec<u8>, ending: Ending) -> Result<(), AllocError>
     ensures { OnOk result (text.new.items ≡ text.old.items ++ ending_text ending) }
 {
@@ -128,6 +132,7 @@ fn push_visits(text: &mut Vec<u8>, visits: &[Visit]) -> Result<(), AllocError>
     Ok(())
 }
 
+/// Appends the output and its length. Only want of memory stands against it.
 #[tactic(auto, unfolding(crate::specs::Text::output_text))]
 pub fn push_output(text: &mut Vec<u8>, output: &[u8]) -> Result<(), AllocError>
     ensures { OnOk result (text.new.items ≡ text.old.items ++ output_text output.now) }
@@ -137,7 +142,7 @@ pub fn push_output(text: &mut Vec<u8>, output: &[u8]) -> Result<(), AllocError>
     text.extend_from_slice(b"\n")
 }
 
-/// What `run` prints.
+/// What `run` prints. Only want of memory stands against it.
 #[tactic(auto, unfolding(crate::specs::Text::run_text))]
 pub fn run_text<'a>(alloc: Global, run: RunRecord<'a>) -> Result<Vec<u8>, AllocError>
     requires net { run.outcome.delay ≤ run.outcome.time }

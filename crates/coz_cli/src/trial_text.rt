@@ -61,7 +61,7 @@ fn push_best(text: &mut Vec<u8>, curves: &[Curve]) -> Result<(), AllocError>
     }
 }
 
-/// What `trial` prints.
+/// What `trial` prints. Only want of memory stands against it.
 #[tactic(auto, unfolding(crate::specs::Trial::trial_text))]
 pub fn trial_text(
     alloc: Global,

@@ -9,11 +9,17 @@ use std::alloc::AllocError;
 /// Why there is no page.
 #[derive(Clone, Copy)]
 pub enum Fault<'a> {
+    /// The words are not one path.
     Usage,
+    /// The file of this path could not be read.
     Read(&'a str),
+    /// The output could not be written.
     Write,
+    /// The file of this path is longer than a profile may be.
     Long(&'a str),
+    /// Memory was wanting.
     Memory,
+    /// The text is no profile's.
     Profile(BookFault),
 }
 

@@ -19,7 +19,9 @@ const MAX_PROFILE: u64 = 268435456;
 /// A profile and its curves by rank.
 #[derive(Drop)]
 pub struct Ranked {
+    /// The profile that was read.
     pub profile: Profile,
+    /// Its curves, the one that gains most first.
     pub curves: Items<Curve>,
 }
 
@@ -69,6 +71,7 @@ fn rank<'w>(alloc: Global, bytes: &[u8]) -> Answer<'w>
 }
 
 /// The profile that the words name, with its curves.
+/// Err tells the first fault of the words, the file or its text, or want of memory.
 pub fn judge<'w, F: Files>(alloc: Global, words: &'w [String], files: &mut F) -> Answer<'w>
     ensures same { F.held files.new ≡ F.held files.old }
     ensures suits { Suits (path_in (bytes_of words.now)) result }

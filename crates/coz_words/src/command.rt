@@ -22,7 +22,7 @@ pub enum Command {
     Trial,
 }
 
-/// The command of that name.
+/// The command of that name. None where there is none.
 pub(crate) fn command_of(word: &str) -> Option<Command>
     ensures { result ≡ command_of word.now }
 {

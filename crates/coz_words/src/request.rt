@@ -33,6 +33,7 @@ const USUAL_SIZE: u64 = 100;
 /// What the words ask for. A field that the command lacks is `None`, 0 or empty.
 #[derive(Debug, Drop)]
 pub struct Request {
+    /// What is to be done.
     pub command: Command,
     /// The path of the program's, the profile's or the source's file, which isn't empty.
     pub target: Word,
@@ -192,11 +193,13 @@ fn request_in(alloc: Global, words: &[String]) -> Result<Request, WordsError>
 ///   `--budget N` and `--workers W` likewise;
 /// - `lines` and the program's path;
 /// - `plot` and the profile's path;
-/// - `asm`, the source's path, and `--dwarf V`.
+/// - `asm`, the source's path, and `--dwarf V`;
+/// - `trial`, a number below 2^64, and `--size N` and `--workers W` likewise.
 ///
 /// A value may stand in the option's word behind a `=`; a word `--` ends the options.
 /// A number has 1 to 20 digits. A speedup is 0 to 95, and stands beside a line; a budget is 1 to 10^12; there are 1 to
-/// 16 workers, 4 where none is given; a version is 4 or 5, and 4 where none is given.
+/// 16 workers, 4 where none is given; a version is 4 or 5, and 4 where none is given; a size is 1 to 2,000, and 100
+/// where none is given.
 /// A line is a path without a comma, `:` and a number from 1 to 2^32 - 1; a list is one line or more, with a comma between,
 /// and so are NUMBERS of speedups, which are 0, 5, 10 and so on to 95 where none are given.
 /// All other words are `Usage`. Want of memory can stand against any words, and is then the answer in place of either.

@@ -30,6 +30,7 @@ fn are_words(words: &[String]) -> bool
 }
 
 /// The command of the words, where each may be a word.
+/// None where the first names no command, or some text is no word.
 pub fn command_in(words: &[String]) -> Option<Command>
     ensures { result ≡ command_in (bytes_of words.now) }
 {

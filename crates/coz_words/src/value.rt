@@ -50,6 +50,7 @@ pub fn number_or(
 }
 
 /// The speedup of a line, in percent.
+/// Err where the text is no number from 0 to 95, or stands beside no line.
 pub fn speedup_of(line: Option<&str>, text: Option<&str>) -> Result<u8, WordsError>
     ensures { Answers (speedup_in (option_copied line.entry) (option_copied text.entry)) result }
 {

@@ -18,7 +18,7 @@ impl Model for Word {
 }
 
 impl Word {
-    /// A word of this text, which is copied.
+    /// A word of this text, which is copied. Only want of memory stands against it.
     pub(crate) fn copy(alloc: Global, text: &str) -> Result<Word, AllocError>
         ensures { IfOk result (λ word. word ≡ text.now) }
     {

@@ -1,4 +1,8 @@
 //! The delay that each hart has raised, paused and been credited.
+//!
+//! After C. Curtsinger and E. D. Berger, "Coz: finding code that counts with causal profiling", SOSP
+//! 2015, whose threads count the delays that they owe: a thread that is woken by another one owes none
+//! of those that the waker has paid.
 #![tactic(auto)]
 
 mod seat;

@@ -35,6 +35,7 @@ impl<'a> Draft<'a> {
     ghost use Rattle.dwarf_lines.specs.Bounds.{IsLineWithin, weight};
     ghost use Rattle.dwarf_lines.specs.Views.{header_view, operation_view, sections_view, so_far, state_of};
 
+    /// A table of nothing.
     pub fn new(alloc: Global) -> Draft<'a>
         ensures { so_far result ≡ empty_table }
     {
@@ -46,6 +47,7 @@ impl<'a> Draft<'a> {
         }
     }
 
+    /// The table of what was read.
     pub fn into_table(self) -> LineTable<'a>
         ensures { view result ≡ so_far self.entry }
     {
@@ -57,6 +59,7 @@ impl<'a> Draft<'a> {
     }
 
     /// Reads the next unit, or passes over it and counts it.
+    /// Err tells the unit's first fault, or want of memory.
     #[tactic(auto, unfolding(crate::specs::Reading::unit))]
     pub fn read_unit(
         &mut self,

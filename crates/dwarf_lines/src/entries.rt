@@ -10,6 +10,7 @@ use leb_cursor::Cursor;
 use std::alloc::Global;
 
 /// Texts up to an empty one.
+/// Err tells the first field that runs past the header, or want of memory.
 pub fn read_directories<'a>(
     alloc: Global,
     cursor: &mut Cursor<'a>,
@@ -26,7 +27,7 @@ pub fn read_directories<'a>(
     }
 }
 
-/// Files up to an empty name.
+/// Files up to an empty name. Err tells the first wrong field, or want of memory.
 pub fn read_files<'a>(
     alloc: Global,
     directories: &[&'a [u8]],
@@ -45,7 +46,7 @@ pub fn read_files<'a>(
     }
 }
 
-/// A whole file entry.
+/// A whole file entry. Err tells its first wrong field.
 pub fn read_file<'a>(
     directories: &[&'a [u8]],
     cursor: &mut Cursor<'a>,

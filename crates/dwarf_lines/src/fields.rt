@@ -8,37 +8,42 @@ use crate::{LineError, LineFault, LineKind};
 use leb_cursor::Cursor;
 use std::alloc::Global;
 
+/// The next byte; Err where it runs past the end.
 pub fn byte(cursor: &mut Cursor) -> Result<u8, LineFault>
     ensures { Walks (λ x. x) result cursor.new (byte cursor.old) }
 {
     Ok(cursor.byte()?)
 }
 
+/// The number in the next 2 bytes; Err where it runs past the end.
 pub fn half(cursor: &mut Cursor) -> Result<u16, LineFault>
     ensures { Walks (λ x. x) result cursor.new (half cursor.old) }
 {
     Ok(cursor.half()?)
 }
 
+/// The number in the next 4 bytes; Err where it runs past the end.
 pub fn word(cursor: &mut Cursor) -> Result<u32, LineFault>
     ensures { Walks (λ x. x) result cursor.new (word cursor.old) }
 {
     Ok(cursor.word()?)
 }
 
-/// The bytes before the next zero byte, which is passed too.
+/// The bytes before the next zero byte, which is passed too. Err where none follows.
 pub fn text<'a>(cursor: &mut Cursor<'a>) -> Result<&'a [u8], LineFault>
     ensures { Walks (λ x. x.now) result cursor.new (field (text_at cursor.old)) }
 {
     Ok(cursor.text()?)
 }
 
+/// A LEB128 number without a sign; Err where it doesn't end or doesn't fit 64 bits.
 pub fn unsigned(cursor: &mut Cursor) -> Result<u64, LineFault>
     ensures { Walks (λ x. x) result cursor.new (unsigned cursor.old) }
 {
     Ok(cursor.uleb()?)
 }
 
+/// A LEB128 number with a sign; Err where it doesn't end or doesn't fit 64 bits.
 pub fn signed(cursor: &mut Cursor) -> Result<i64, LineFault>
     ensures { Walks (λ x. x) result cursor.new (leb_field (sleb_at cursor.old)) }
 {
@@ -73,6 +78,7 @@ fn byte_of(value: u8, kind: LineKind, cursor: &mut Cursor) -> Result<u8, LineFau
 }
 
 /// In version 5 the sizes of an address, which has to be 8, and of a segment, which has to be 0.
+/// Err tells the first that isn't so.
 pub fn address_sizes(version: u16, cursor: &mut Cursor) -> Result<(), LineFault>
     ensures { WalksOn result cursor.new (sizes version cursor.old) }
 {
@@ -84,6 +90,7 @@ pub fn address_sizes(version: u16, cursor: &mut Cursor) -> Result<(), LineFault>
 }
 
 /// From version 4 on the count of operations for an instruction, which has to be 1.
+/// Err where it isn't.
 pub fn one_operation(version: u16, cursor: &mut Cursor) -> Result<(), LineFault>
     ensures { WalksOn result cursor.new (operations version cursor.old) }
 {
@@ -111,7 +118,7 @@ pub fn announced<'a>(
     }
 }
 
-/// The next bytes as a list.
+/// The next bytes as a list. Err where fewer are left, or for want of memory.
 pub fn bytes(alloc: Global, count: u8, cursor: &mut Cursor) -> Result<Vec<u8>, LineError>
     ensures { WalksOver (λ v. v.items) result cursor.new (field (bytes_at count cursor.old)) }
 {
@@ -123,7 +130,7 @@ pub fn bytes(alloc: Global, count: u8, cursor: &mut Cursor) -> Result<Vec<u8>, L
     Ok(items)
 }
 
-/// Passes so many unsigned numbers.
+/// Passes so many unsigned numbers. Err tells the first that isn't one.
 #[tactic(auto, unfolding(crate::specs::Reading::pass))]
 pub fn pass(count: u8, cursor: &mut Cursor) -> Result<(), LineFault>
     ensures { WalksOn result cursor.new (pass count cursor.old) }

@@ -44,13 +44,17 @@ pub enum Form {
     General,
     /// The place of a text in the section of lines.
     Line,
-    /// A number of one byte, of two, or in LEB128.
+    /// A number of one byte.
     Byte,
+    /// A number of two bytes.
     Half,
+    /// A number in LEB128.
     Leb,
-    /// Bytes that nothing is made of.
+    /// Four bytes that nothing is made of.
     Four,
+    /// Eight bytes that nothing is made of.
     Eight,
+    /// Sixteen bytes that nothing is made of.
     Sixteen,
     /// A length in LEB128, and as many bytes.
     Block,
@@ -59,7 +63,9 @@ pub enum Form {
 /// A field of each entry.
 #[derive(Clone, Copy, Debug, PartialEq, Eq)]
 pub struct Format {
+    /// What the field tells: 1 is the path, 2 the number of the directory.
     pub content: u64,
+    /// How it is written.
     pub form: Form,
 }
 
@@ -105,7 +111,7 @@ fn read_format(cursor: &mut Cursor) -> Result<Format, LineFault>
     }
 }
 
-/// So many formats.
+/// So many formats. Err tells the first wrong field, or want of memory.
 pub fn read_formats(alloc: Global, count: u8, cursor: &mut Cursor) -> Result<Vec<Format>, LineError>
     ensures { WalksOver (λ v. v.items) result cursor.new (formats count cursor.old) }
 {

@@ -13,22 +13,32 @@ use std::alloc::Global;
 /// The directories and files of a header.
 #[derive(Drop)]
 pub struct Names<'a> {
+    /// The paths of the directories, by number.
     pub directories: Vec<&'a [u8]>,
+    /// The files, by number.
     pub files: Vec<FileName<'a>>,
 }
 
 /// What a unit's program needs of its header.
 #[derive(Drop)]
 pub struct Header<'a> {
+    /// The version of the unit, 2 to 5.
     pub version: u16,
+    /// By how many bytes an address advances for one step.
     pub minimum_length: u8,
+    /// Whether rows begin statements at first.
     pub is_stmt: bool,
+    /// The least advance of the line by a special opcode.
     pub line_base: i8,
+    /// How many advances of the line special opcodes have.
     pub line_range: u8,
+    /// The first special opcode.
     pub opcode_base: u8,
     /// How many operands each opcode from 1 to opcode_base - 1 has.
     pub lengths: Vec<u8>,
+    /// The paths of the directories, by number.
     pub directories: Vec<&'a [u8]>,
+    /// The files, by number.
     pub files: Vec<FileName<'a>>,
     ghost has_range: { 0 < line_range },
     ghost has_lengths: { opcode_base ≡ 1 + length lengths.items },
@@ -39,6 +49,7 @@ impl<'a> Header<'a> {
     ghost use Rattle.dwarf_lines.specs.Views.{header_view, sections_view};
 
     /// The header from minimum_instruction_length on. What is left behind its files is passed.
+    /// Err tells its first wrong field, or want of memory.
     #[tactic(auto, unfolding(crate::specs::Reading::header))]
     pub fn read(
         alloc: Global,

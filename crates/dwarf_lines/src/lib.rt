@@ -38,7 +38,9 @@ pub enum LineKind {
     LongForm,
     /// More than one operation for an instruction.
     ManyOps,
+    /// A line_range of 0.
     ZeroRange,
+    /// An opcode_base of 0.
     OpcodeBaseZero,
     /// A row whose line doesn't fit 32 bits.
     LineOut,
@@ -61,7 +63,9 @@ pub enum LineKind {
 /// A fault, and where in the section it is.
 #[derive(Clone, Copy, Debug, PartialEq, Eq)]
 pub struct LineFault {
+    /// What is wrong.
     pub kind: LineKind,
+    /// The first byte of the field, from 0 at the section's start.
     pub place: u64,
 }
 
@@ -96,7 +100,9 @@ impl From<LebFault> for LineFault {
 /// Why a section has no table.
 #[derive(Clone, Copy, Debug, PartialEq, Eq)]
 pub enum LineError {
+    /// The section's first fault.
     Fault(LineFault),
+    /// Memory was wanting.
     Memory,
 }
 
@@ -141,11 +147,15 @@ impl<T: Drop> From<AllocFailed<T>> for LineError {
 pub struct Row {
     /// How many sequences of the section ended before it.
     pub sequence: u32,
+    /// The address.
     pub address: u64,
     /// The position of its file in the table's files, if the file number has an entry.
     pub file: Option<u32>,
+    /// The number of the line in its file; 0 where there is none.
     pub line: u32,
+    /// The column in the line; 0 where it isn't told.
     pub column: u64,
+    /// The address begins a statement.
     pub is_stmt: bool,
     /// It ends its sequence.
     pub ends: bool,
@@ -154,7 +164,9 @@ pub struct Row {
 /// A file by its directory, which may be empty, and its name.
 #[derive(Clone, Copy, Debug, Drop)]
 pub struct FileName<'a> {
+    /// The path of its directory.
     pub directory: &'a [u8],
+    /// Its name, which may be a path itself.
     pub name: &'a [u8],
 }
 
@@ -162,8 +174,11 @@ pub struct FileName<'a> {
 /// passed over.
 #[derive(Debug, Drop)]
 pub struct LineTable<'a> {
+    /// The files that its units name.
     pub files: Items<FileName<'a>>,
+    /// The rows of its units.
     pub rows: Items<Row>,
+    /// How many units were passed over.
     pub skipped: u32,
 }
 

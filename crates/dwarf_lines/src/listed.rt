@@ -17,7 +17,9 @@ use std::alloc::{AllocError, Global};
 /// What a field says.
 #[derive(Clone, Copy, Drop)]
 pub enum Value<'a> {
+    /// A text.
     Text(&'a [u8]),
+    /// A number.
     Number(u64),
     /// Bytes that nothing is made of.
     Other,
@@ -26,6 +28,7 @@ pub enum Value<'a> {
 /// A directory or a file.
 #[derive(Clone, Copy, Drop)]
 pub struct Entry<'a> {
+    /// Its path.
     pub path: &'a [u8],
     /// The number of its directory.
     pub directory: Option<u64>,
@@ -141,6 +144,7 @@ fn read_entries<'a>(
 }
 
 /// Formats with their count, and entries with theirs.
+/// Err tells the first wrong field, or want of memory.
 #[tactic(auto, unfolding(crate::specs::Reading::listed))]
 pub fn read_listed<'a>(
     alloc: Global,
@@ -162,7 +166,7 @@ pub fn read_listed<'a>(
     read_entries(alloc, count, strings, formats.as_slice(), cursor)
 }
 
-/// The paths of the directories.
+/// The paths of the directories. Only want of memory stands against it.
 pub fn paths<'a>(alloc: Global, entries: &[Entry<'a>]) -> Result<Vec<&'a [u8]>, AllocError>
     ensures { IfOk result (λ v. texts_view v.items ≡ paths (entries_view entries.now)) }
 {
@@ -173,7 +177,7 @@ pub fn paths<'a>(alloc: Global, entries: &[Entry<'a>]) -> Result<Vec<&'a [u8]>, 
     Ok(paths)
 }
 
-/// The files with the paths of their directories.
+/// The files with the paths of their directories. Only want of memory stands against it.
 pub fn files_of<'a>(
     alloc: Global,
     directories: &[&'a [u8]],

@@ -15,18 +15,31 @@ use leb_cursor::Cursor;
 /// What an opcode says, with its operands.
 #[derive(Clone, Copy, Drop)]
 pub enum Operation<'a> {
+    /// Appends a row.
     Copy,
+    /// Advances the address by so many steps.
     AdvancePc(u64),
+    /// Advances the line.
     AdvanceLine(i64),
+    /// Sets the number of the file.
     SetFile(u64),
+    /// Sets the column.
     SetColumn(u64),
+    /// Changes whether rows begin statements.
     NegateStmt,
+    /// Advances the address as special opcode 255 does.
     ConstAddPc,
+    /// Advances the address by so many bytes.
     FixedAdvancePc(u16),
+    /// A special opcode: advances the address and the line, and appends a row.
     Special(u8),
+    /// Appends the last row of a sequence, and begins anew.
     EndSequence,
+    /// Sets the address.
     SetAddress(u64),
+    /// Adds a file to those of the header.
     DefineFile(FileName<'a>),
+    /// Changes nothing.
     Pass,
 }
 
@@ -35,7 +48,7 @@ impl<'a> Operation<'a> {
     ghost use Rattle.dwarf_lines.specs.Reading.{Walks, Finds, operation, below_base, extended_at, body};
     ghost use Rattle.dwarf_lines.specs.Views.{operation_view, header_view};
 
-    /// The next opcode and its operands.
+    /// The next opcode and its operands. Err tells the first wrong field.
     #[tactic(auto, unfolding(crate::specs::Reading::operation))]
     pub fn read(header: &Header<'a>, cursor: &mut Cursor<'a>) -> Result<Operation<'a>, LineFault>
         ensures { Walks operation_view result cursor.new (operation (header_view header.now) cursor.old) }

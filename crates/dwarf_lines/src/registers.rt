@@ -3,13 +3,18 @@
 use crate::header::Header;
 use crate::opcode::Operation;
 
+/// The registers of a unit's program (DWARF 4, 6.2.2).
 #[derive(Clone, Copy)]
 pub struct Registers {
+    /// The address of the next row.
     pub address: u64,
+    /// The number of its file.
     pub file: u64,
     /// Wide enough for any program; it is judged when a row is appended.
     pub line: i128,
+    /// Its column.
     pub column: u64,
+    /// Whether it begins a statement.
     pub is_stmt: bool,
 }
 

@@ -31,6 +31,7 @@ impl<'a> Texts<'a> {
     }
 
     /// The text from this place up to the next zero byte, in logarithmic time.
+    /// None where the place isn't in the section, or no zero byte follows.
     pub fn text(&self, place: u64) -> Option<&'a [u8]>
         ensures { option_map (λ (t : Bor (List ℕ)). t.now) result ≡ text_from place self.now.bytes.now }
     {
@@ -66,7 +67,9 @@ fn between<'a>(bytes: &'a [u8], start: u64, end: u64) -> &'a [u8]
 /// The general section of texts and that of lines.
 #[derive(Drop)]
 pub struct Strings<'a> {
+    /// `.debug_str`.
     pub general: Texts<'a>,
+    /// `.debug_line_str`.
     pub line: Texts<'a>,
 }
 
@@ -82,6 +85,7 @@ pub struct Sections<'a> {
 impl<'a> Sections<'a> {
     ghost use Rattle.dwarf_lines.specs.Views.{strings_view, sections_view};
 
+    /// Sections of which nothing was gathered yet.
     pub fn new(general: &'a [u8], line: &'a [u8]) -> Sections<'a>
         ensures { sections_view result ≡ strings general.now line.now }
     {
@@ -92,7 +96,7 @@ impl<'a> Sections<'a> {
         }
     }
 
-    /// Lends the gathered sections.
+    /// Lends the gathered sections. Only want of memory stands against it.
     pub fn lend(&mut self, alloc: Global) -> Result<Strings<'a>, AllocError>
         ensures lent { IfOk result (λ s. strings_view s ≡ sections_view self.old) }
         ensures kept { sections_view self.new ≡ sections_view self.old }

@@ -17,7 +17,7 @@ fn fault(kind: ElfKind, place: u64) -> Result<(), ElfFault>
     Err(ElfFault { kind, place })
 }
 
-/// No row on the header holds.
+/// No row on the header holds. Err tells the first that does.
 pub fn check_header(file: &[u8]) -> Result<(), ElfFault>
     ensures { Judges result (first_row (header_rows file.now)) }
 {

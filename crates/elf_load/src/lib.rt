@@ -64,14 +64,18 @@ pub enum ElfKind {
 /// A fault, and its place: the offset of the field or of the table entry that has it, in bytes from the file's start.
 #[derive(Clone, Copy, Debug, PartialEq, Eq)]
 pub struct ElfFault {
+    /// What is wrong.
     pub kind: ElfKind,
+    /// The offset in the file.
     pub place: u64,
 }
 
 /// Why a file is not loaded.
 #[derive(Clone, Copy, Debug, PartialEq, Eq)]
 pub enum LoadError {
+    /// The file's first fault.
     Fault(ElfFault),
+    /// Memory was wanting.
     Memory,
 }
 

@@ -25,7 +25,7 @@ fn has_page_of(spans: &BTreeMap<u64, u64>, area: &Segment) -> bool
     }
 }
 
-/// No area has a page of an earlier one.
+/// No area has a page of an earlier one. Err tells the first that has, or want of memory.
 pub fn no_shared_page(alloc: Global, areas: &[Segment]) -> Result<(), LoadError>
     requires { All (λ s. is_area s ≡ true) areas.now }
     ensures { JudgesOrFails result (entry_row ElfKind.SharedPage (first_area (λ earlier s. list_any (share_page s) earlier) areas.now)) }
@@ -43,7 +43,7 @@ pub fn no_shared_page(alloc: Global, areas: &[Segment]) -> Result<(), LoadError>
     Ok(())
 }
 
-/// All areas have at most 64 MiB together.
+/// All areas have at most 64 MiB together. Err tells the area with which they have more.
 pub fn not_too_much(areas: &[Segment]) -> Result<(), ElfFault>
     ensures { Judges result (entry_row ElfKind.TooMuch (first_area (λ earlier s. nat_lt 0x4000000 (PAGE * sum_by pages (s ∷ earlier))) areas.now)) }
 {

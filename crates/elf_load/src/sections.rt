@@ -9,7 +9,7 @@ use crate::faults::has_name;
 use crate::fields::{double_at, half_at};
 use crate::tables::{bytes_of, names, section_at};
 
-/// The bytes of the first section of that name.
+/// The bytes of the first section of that name. None where there is none.
 pub fn section_of<'a>(file: &'a [u8], name: &[u8]) -> Option<&'a [u8]>
     requires { HasHeaders file.now }
     ensures { option_copied result ≡ section file.now name.now }

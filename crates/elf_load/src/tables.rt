@@ -16,23 +16,36 @@ use std::alloc::{AllocError, Global};
 /// A program header, and its place in the file.
 #[derive(Clone, Copy, Debug, PartialEq, Eq)]
 pub struct Segment {
+    /// The offset of the header in the file.
     pub place: u64,
+    /// p_type.
     pub kind: u32,
+    /// p_flags.
     pub flags: u32,
+    /// p_offset: where its bytes begin in the file.
     pub offset: u64,
+    /// p_vaddr: where they begin in memory.
     pub vaddr: u64,
+    /// p_filesz: how many bytes it has in the file.
     pub filesz: u64,
+    /// p_memsz: how many it has in memory.
     pub memsz: u64,
 }
 
 /// A section header, and its place in the file.
 #[derive(Clone, Copy, Debug, PartialEq, Eq)]
 pub struct Section {
+    /// The offset of the header in the file.
     pub place: u64,
+    /// sh_name: where its name begins among the names.
     pub name: u32,
+    /// sh_type.
     pub kind: u32,
+    /// sh_flags.
     pub flags: u64,
+    /// sh_offset: where its bytes begin in the file.
     pub offset: u64,
+    /// sh_size: how many they are.
     pub size: u64,
 }
 
@@ -61,18 +74,21 @@ impl Segment {
         self.kind == PT_INTERP
     }
 
+    /// Whether its bytes may be executed.
     pub fn is_executable(&self) -> bool
         ensures { result ≡ is_executable self.now }
     {
         has_bit(PF_X, self.flags as u64)
     }
 
+    /// Whether they may be written.
     pub fn is_writable(&self) -> bool
         ensures { result ≡ is_writable self.now }
     {
         has_bit(PF_W, self.flags as u64)
     }
 
+    /// Whether they may be read.
     pub fn is_readable(&self) -> bool
         ensures { result ≡ is_readable self.now }
     {
@@ -127,6 +143,7 @@ impl Section {
         !(self.kind == SHT_NULL || self.kind == SHT_NOBITS)
     }
 
+    /// Whether its bytes are compressed.
     pub fn is_compressed(&self) -> bool
         ensures { result ≡ is_compressed self.now }
     {
@@ -149,7 +166,7 @@ fn segment_at(file: &[u8], place: usize) -> Segment
     }
 }
 
-/// The program headers, in their order.
+/// The program headers, in their order. Only want of memory stands against it.
 pub fn read_segments(alloc: Global, file: &[u8]) -> Result<Vec<Segment>, AllocError>
     requires { HasHeaders file.now }
     ensures { IfOk result (λ read. read.items ≡ segments file.now) }
@@ -163,6 +180,7 @@ pub fn read_segments(alloc: Global, file: &[u8]) -> Result<Vec<Segment>, AllocEr
     Ok(segments)
 }
 
+/// The section header at a place of the file.
 pub fn section_at(file: &[u8], place: usize) -> Section
     requires { place + 64 ≤ length file.now }
     ensures { result ≡ section_at file.now place }
@@ -177,7 +195,7 @@ pub fn section_at(file: &[u8], place: usize) -> Section
     }
 }
 
-/// The section headers, in their order.
+/// The section headers, in their order. Only want of memory stands against it.
 pub fn read_sections(alloc: Global, file: &[u8]) -> Result<Vec<Section>, AllocError>
     requires { HasHeaders file.now }
     ensures { IfOk result (λ read. read.items ≡ sections file.now) }

@@ -7,7 +7,9 @@ use std::marker::{Brand, PhantomData};
 
 /// The turns that a seat has left, and the numbers that it drew. No value of it is made.
 pub struct Hand {
+    /// How many draws it may still make.
     pub turns: u64,
+    /// What it drew so far.
     pub numbers: LinkedList<u64>,
 }
 

@@ -10,7 +10,9 @@ use std::marker::Model;
 /// A line and how many per cent faster it is to be, 0 to 95.
 #[derive(Clone, Copy, Debug, PartialEq, Eq)]
 pub struct Experiment {
+    /// The selected line.
     pub line: LineId,
+    /// By how many per cent it is to cost less.
     pub speedup: u8,
 }
 
@@ -19,6 +21,7 @@ pub struct Experiment {
 pub enum PlanError {
     /// There are so many pairs, more than 100,000.
     TooMany(u64),
+    /// Memory was wanting.
     Memory,
 }
 

@@ -72,6 +72,7 @@ fn pair_count(lines: &[LineId], speedups: &[u8]) -> u64
 }
 
 /// Each line at 0 and at each of the speedups: by line, then by speedup. Their number is judged before a pair is made.
+/// Err tells that there are more than 100,000, or want of memory.
 pub fn plan(alloc: Global, lines: &[LineId], speedups: &[u8]) -> Result<Plan, PlanError>
     requires rising { IsStrictlySortedBy nat_cmp (ids lines.now) }
     requires speedups { All (λ speedup. speedup ≤ 95) speedups.now }

@@ -18,6 +18,7 @@ pub enum SelectError {
     /// The program has no such line: the first piece of the list that names none begins at the byte `start` of the
     /// list's text, and has `length` bytes.
     NoLine { start: u64, length: u64 },
+    /// Memory was wanting.
     Memory,
 }
 
@@ -37,7 +38,7 @@ impl<T: Drop> From<AllocFailed<T>> for SelectError {
     }
 }
 
-/// The line that a text names, if the program has it.
+/// The line that a text names, if the program has it. None where it has no such line.
 pub fn line_found(index: &LineIndex, text: &[u8]) -> Option<LineId>
     requires { is_line text.now ≡ true }
     ensures { option_map id_of result ≡ line_found index.now.lines text.now }
@@ -77,6 +78,7 @@ fn rising_lines(lines: &mut Vec<LineId>) -> Result<(), AllocError>
 }
 
 /// The lines of the pieces of a list, as they rise and each once. A list of `n` pieces costs `n` searches and one sort.
+/// Err tells the first piece that names none, or want of memory.
 pub fn select(alloc: Global, index: &LineIndex, text: &[u8]) -> Result<Vec<LineId>, SelectError>
     requires { is_list text.now ≡ true }
     ensures selection { IsSelection index.now.lines text.now result }

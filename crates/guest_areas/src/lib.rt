@@ -186,6 +186,7 @@ impl Areas {
         ensures space { space self.new memory.new ≡ (protect address length protection (space self.old memory.old)).space }
         ensures shared { SharesRegions self.new memory.new }
     {
+        // The invariant of `self` is known to a proof once a field is used.
         let _ = &self.layout;
         if address % PAGE != 0 {
             return INVALID;

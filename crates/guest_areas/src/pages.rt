@@ -20,6 +20,7 @@ pub fn pages_for(length: u64) -> u64
     length.div_ceil(PAGE)
 }
 
+/// Whether a protection asks for the right to execute.
 pub fn asks_execute(protection: u64) -> bool
     ensures { result ≡ has protection 4 }
 {

@@ -60,6 +60,7 @@ impl<'a> Guest<'a> {
         ensures effect { retirement self.new result started.new ≡ call_of self.old hart.0 net }
         ensures made { making self.new ≡ making self.old }
     {
+        // The invariant of `self` is known to a proof once a field is used.
         let _ = &self.harts;
         self.call_by_number(hart, net, started)
     }
@@ -145,6 +146,7 @@ impl<'a> Guest<'a> {
     }
 
     /// Writes bytes to the memory, as a store does; nothing is written where some byte may not be.
+    /// Err is just that.
     pub(crate) fn store(&mut self, address: Address, bytes: &[u8]) -> Result<(), Access>
         ensures { MatchResult result
             (λ _. IsTrue (is_writable (memory_of self.old) address (length bytes.now)) × (self.new ≡ with_stored address bytes.now self.old))

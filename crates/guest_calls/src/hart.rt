@@ -11,18 +11,22 @@ use rv_execute::HartState;
 /// What a hart does.
 #[derive(Clone, Copy, Debug, PartialEq, Eq)]
 pub enum HartStatus {
+    /// It has a next instruction.
     Running,
     /// Until another hart wakes it.
     Waiting,
     /// Until a net moment, when it is woken.
     Sleeping,
+    /// It has left, and never runs again.
     Gone,
 }
 
 /// A hart that was made.
 #[derive(Clone, Copy, Debug)]
 pub struct Hart {
+    /// Its registers and its pc.
     pub state: HartState,
+    /// What it does.
     pub status: HartStatus,
     /// The address that is cleared as it leaves, or 0.
     pub clear: Address,
@@ -45,12 +49,14 @@ impl Hart {
         }
     }
 
+    /// Whether it has left.
     pub fn is_gone(&self) -> bool
         ensures { result ≡ is_gone_status self.now.status }
     {
         matches!(self.status, HartStatus::Gone)
     }
 
+    /// Whether it sleeps.
     #[inline]
     pub fn is_sleeping(&self) -> bool
         ensures { result ≡ is_sleeping_status self.now.status }

@@ -62,7 +62,7 @@ impl<'a> Model for Guest<'a> {
 
 impl<'a> Guest<'a> {
     /// The guest that begins to run an image, with its first hart at the entry. The output's limit is from 1 to
-    /// 67,108,864 bytes.
+    /// 67,108,864 bytes. Only want of memory stands against it.
     pub fn new(
         alloc: Global,
         image: &'a Image<'a>,
@@ -150,6 +150,7 @@ impl<'a> Guest<'a> {
         ensures effect { retirement self.new result started.new ≡ retire self.old hart.0 net }
         ensures made { making self.new ≡ making self.old }
     {
+        // The invariant of `self` is known to a proof once a field is used.
         let _ = &self.harts;
         match self.step(hart) {
             Step::Next => Fate::Goes,

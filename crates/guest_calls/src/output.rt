@@ -40,6 +40,7 @@ fn copy_front(into: &mut [u8], from: &[u8], count: usize)
 
 impl Output {
     /// Nothing is written yet, and there is room for so many bytes.
+    /// Only want of memory stands against it.
     pub fn new(alloc: Global, limit: usize) -> Result<Output, AllocError>
         requires { limit ≤ 67108864 }
         ensures { IfOk result (λ output. output ≡ record { bytes = []; limit = limit }) }
@@ -90,6 +91,7 @@ impl Output {
             self.append(memory, piece.address, piece.length);
             total = total.wrapping_add(piece.length);
         }
+        // The invariant of `self` is known to a proof once a field is used, here after the loop.
         let _ = &self.places;
         total
     }

@@ -13,7 +13,9 @@ pub const PIECES: usize = 1024;
 /// So many bytes at an address.
 #[derive(Clone, Copy, Debug, Default)]
 pub struct Piece {
+    /// Where it begins.
     pub address: Address,
+    /// How many bytes it has.
     pub length: u64,
 }
 
@@ -54,6 +56,7 @@ pub fn pieces_at(memory: &Memory, address: Address, count: u64) -> ArrayVec<Piec
     pieces
 }
 
+/// Whether each byte of all pieces may be read.
 pub fn are_readable(memory: &Memory, pieces: &[Piece]) -> bool
     ensures { result ≡ is_each_readable memory.now pieces.now }
 {

@@ -27,6 +27,7 @@ const LAST_MOMENT: u128 = 10_000_000_000_000_000;
 /// A span of time, or what a clock shows.
 #[derive(Clone, Copy, Debug)]
 pub struct Span {
+    /// Whole seconds.
     pub seconds: u64,
     /// Below 1,000,000,000.
     pub nanoseconds: u64,

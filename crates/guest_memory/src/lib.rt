@@ -192,6 +192,7 @@ impl<'a> Memory<'a> {
         ensures { self.new ≡ given first count rights self.old }
     {
         for i in 0..count {
+            // The invariant of `self` is known to a proof once a field is used, here in each turn.
             let _ = &self.spans;
             self.give_page(first + i, rights);
         }
@@ -217,6 +218,7 @@ impl<'a> Memory<'a> {
         ensures { self.new ≡ zeroed first count self.old }
     {
         for i in 0..count {
+            // The invariant of `self` is known to a proof once a field is used, here in each turn.
             let _ = &self.spans;
             self.zero_page(first + i);
         }
@@ -332,6 +334,7 @@ impl<'a> Memory<'a> {
     }
 
     /// The number that stands at an address, for a size of 1, 2, 4 or 8 bytes.
+    /// Err where some byte may not be read.
     pub fn load(&self, address: Address, size: u8) -> Result<u64, Access>
         requires { IsSize size }
         ensures { result_ok result ≡ load self.now address size }
@@ -364,7 +367,7 @@ impl<'a> Memory<'a> {
         }
     }
 
-    /// The word that stands at an address, to be executed.
+    /// The word that stands at an address, to be executed. Err where some byte may not be executed.
     #[inline(always)]
     pub fn fetch(&self, address: Address) -> Result<u32, Access>
         ensures { result_ok result ≡ fetch self.now address }
@@ -448,6 +451,7 @@ impl<'a> Memory<'a> {
         requires { 0 < count }
         ensures { MatchOption result (rights_at self.now (address + (count - 1)) ≡ no_rights) (λ last. last + 1 ≡ address + count) }
     {
+        // The invariant of `self` is known to a proof once a field is used.
         let _ = &self.spans;
         address.checked_add(count - 1)
     }
@@ -471,6 +475,7 @@ impl<'a> Memory<'a> {
     }
 
     /// Writes a number at an address, in 1, 2, 4 or 8 bytes.
+    /// Err where some byte may not be written; then nothing is.
     #[inline(always)]
     pub fn store(&mut self, address: Address, size: u8, value: u64) -> Result<(), Access>
         requires { IsSize size }
@@ -529,6 +534,7 @@ impl<'a> Memory<'a> {
     }
 
     /// Reads bytes from an address on; nothing is read where some byte may not be.
+    /// Err is just that.
     pub fn read_at(&self, address: Address, into: &mut [u8]) -> Result<(), Access>
         ensures { MatchResult result
             (λ _. IsTrue (is_readable self.now address (length into.old)) × (into.new ≡ bytes_at self.now address (length into.old)))
@@ -562,6 +568,7 @@ impl<'a> Memory<'a> {
     }
 
     /// Writes bytes from an address on; nothing is written where some byte may not be.
+    /// Err is just that.
     pub fn copy_in(&mut self, address: Address, bytes: &[u8]) -> Result<(), Access>
         ensures { MatchResult result
             (λ _. IsTrue (is_writable self.old address (length bytes.now)) × (self.new ≡ with_bytes address bytes.now self.old))

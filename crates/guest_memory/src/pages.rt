@@ -17,13 +17,15 @@ pub const CHUNK: usize = 64;
 /// The pages of a memory, with a mark for each chunk of them that has a touched page: a copy looks at no others.
 #[derive(Drop)]
 pub struct Pages {
+    /// The pages in their order.
     pub each: Vec<Page>,
+    /// By chunk, whether it has a touched page.
     pub marks: Vec<bool>,
     ghost marked: { AreMarked each.items marks.items },
 }
 
 impl Pages {
-    /// So many pages with no rights, all of them touched.
+    /// So many pages with no rights, all of them touched. Only want of memory stands against it.
     pub fn new(alloc: Global, total: usize) -> Result<Pages, AllocError>
         ensures { IfOk result (λ pages. pages.each.items ≡ replicate total (touched_with no_rights)) }
     {

@@ -85,7 +85,7 @@ impl Schedule {
         }
     }
 
-    /// The same hart, with its key.
+    /// The same hart, with its key. None exactly where the schedule is empty.
     #[inline]
     pub fn first(&self) -> Option<Contender>
         ensures { MatchOption result (IsEmpty self.now) (λ first. IsLeast self.now first.hart.0 × (key_of self.now first.hart.0 ≡ Some first.key)) }

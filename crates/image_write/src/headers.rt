@@ -118,6 +118,7 @@ fn names_place(assembled: &Assembled, unit: &[u8]) -> u64
     unit_place(assembled) + unit.len() as u64
 }
 
+/// Where the names of the sections end in the file.
 pub fn names_end(assembled: &Assembled, unit: &[u8]) -> u64
     requires writable { IsWritable (view assembled.now) }
     requires unit { length unit.now < 2 ^ 33 }
@@ -127,6 +128,7 @@ pub fn names_end(assembled: &Assembled, unit: &[u8]) -> u64
     names_place(assembled, unit) + 35
 }
 
+/// Where the headers of the sections begin in the file.
 pub fn headers_place(assembled: &Assembled, unit: &[u8]) -> u64
     requires writable { IsWritable (view assembled.now) }
     requires unit { length unit.now < 2 ^ 33 }
@@ -137,6 +139,7 @@ pub fn headers_place(assembled: &Assembled, unit: &[u8]) -> u64
     up_to_multiple(8, names_end(assembled, unit))
 }
 
+/// How many segments the file has.
 pub fn segment_count(assembled: &Assembled) -> u16
     ensures { result ≡ segment_count (view assembled.now) }
 {
@@ -144,6 +147,7 @@ pub fn segment_count(assembled: &Assembled) -> u16
 }
 
 /// The header of the file: its entry, the place of the section headers, and how many segments there are.
+/// Only want of memory stands against it.
 #[tactic(auto, unfolding(crate::specs::File::file_header))]
 pub fn file_header(
     alloc: Global,
@@ -195,6 +199,7 @@ fn segment(
 }
 
 /// The headers of the segments: the text, and the data if there is any.
+/// Only want of memory stands against it.
 #[tactic(auto, unfolding(crate::specs::File::segments))]
 pub fn segments(alloc: Global, assembled: &Assembled) -> Result<Vec<u8>, AllocError>
     requires { IsWritable (view assembled.now) }
@@ -243,7 +248,7 @@ fn section(
     Ok(out)
 }
 
-/// The headers of the sections.
+/// The headers of the sections. Only want of memory stands against it.
 #[tactic(auto, unfolding(crate::specs::File::sections))]
 pub fn sections(alloc: Global, assembled: &Assembled, unit: &[u8]) -> Result<Vec<u8>, AllocError>
     requires writable { IsWritable (view assembled.now) }

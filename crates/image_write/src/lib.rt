@@ -80,6 +80,7 @@ fn file_with(alloc: Global, assembled: &Assembled, unit: &[u8]) -> Result<Vec<u8
 }
 
 /// The file that loads as what was assembled, with its line table of version 4 or 5: `name` is the name of the source in it.
+/// Only want of memory stands against it.
 #[tactic(auto, unfolding(crate::specs::File::written_file))]
 pub fn write_elf(
     alloc: Global,

@@ -165,7 +165,7 @@ fn unit_body(alloc: Global, lines: &[u32], name: &[u8], version: u8) -> Result<V
     Ok(out)
 }
 
-/// The line unit.
+/// The line unit. Only want of memory stands against it.
 #[tactic(auto, unfolding(crate::specs::Unit::unit))]
 pub fn unit(alloc: Global, lines: &[u32], name: &[u8], version: u8) -> Result<Vec<u8>, AllocError>
     requires lines { length lines.now < 2 ^ 20 }

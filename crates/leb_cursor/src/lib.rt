@@ -12,6 +12,7 @@ use std::marker::Model;
 /// A field that runs past the end, by the place of its first byte.
 #[derive(Clone, Copy, Debug, PartialEq, Eq)]
 pub struct Short {
+    /// The field's first byte, from 0 at the start of the bytes.
     pub place: u64,
 }
 

@@ -13,7 +13,9 @@ use std::alloc::{AllocError, Global};
 /// A path's bytes from the last to the first, and its position in the order of paths.
 #[derive(Debug, PartialEq, Eq, PartialOrd, Ord, Drop)]
 pub struct Backward {
+    /// The path's bytes, the last one first.
     pub bytes: Vec<u8>,
+    /// Its position in the order of paths.
     pub place: u32,
 }
 
@@ -39,6 +41,7 @@ fn each_backward(alloc: Global, paths: &[Vec<u8>]) -> Result<Vec<Backward>, Allo
 }
 
 /// The paths in the order of their bytes from the last to the first.
+/// Only want of memory stands against it.
 pub fn backwards(alloc: Global, paths: &[Vec<u8>]) -> Result<Vec<Backward>, AllocError>
     requires { length paths.now < 2 ^ 32 }
     ensures { IfOk result (λ list. AreBackwards (texts paths.now) list.items) }

@@ -9,7 +9,9 @@ use std::alloc::{AllocError, Global};
 /// From this address on, up to the next change, a position in some list, or none.
 #[derive(Clone, Copy, Debug, PartialEq, Eq)]
 pub struct Change {
+    /// The first address.
     pub address: Address,
+    /// The position, if there is one.
     pub position: Option<u32>,
 }
 
@@ -75,7 +77,7 @@ fn least(first: Option<Address>, second: Option<Address>) -> Option<Address>
     }
 }
 
-/// Two lists of changes as one.
+/// Two lists of changes as one. Only want of memory stands against it.
 pub fn merged(
     alloc: Global,
     join: Join,
@@ -108,7 +110,7 @@ pub fn merged(
     Ok(changes)
 }
 
-/// What stands at an address.
+/// What stands at an address. None where nothing does.
 pub fn position_at(changes: &[Change], address: Address) -> Option<u32>
     requires { IsRising 0 changes.now }
     ensures { result ≡ value_at address None changes.now }

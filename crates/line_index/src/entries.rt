@@ -7,7 +7,7 @@ use crate::changes::Change;
 use coz_types::Address;
 use std::alloc::{AllocError, Global};
 
-/// So many empty lists.
+/// So many empty lists. Only want of memory stands against it.
 pub fn empty_lists(alloc: Global, count: usize) -> Result<Vec<Vec<Address>>, AllocError>
     ensures as_many { IfOk result (λ lists. length lists.items ≡ count) }
     ensures empty { IfOk result (λ lists. All (λ (list : List ℕ). list ≡ []) (texts lists.items)) }
@@ -49,7 +49,7 @@ fn add_start(
     }
 }
 
-/// The addresses at which each line begins.
+/// The addresses at which each line begins. Only want of memory stands against it.
 pub fn entries(
     alloc: Global,
     changes: &[Change],

@@ -15,7 +15,9 @@ use std::alloc::{AllocError, Global};
 /// shared by many files.
 #[derive(Clone, Copy, Debug, PartialEq, Eq, PartialOrd, Ord, Drop)]
 pub struct Entry<'a> {
+    /// The file's name.
     pub name: &'a [u8],
+    /// The path of its directory.
     pub directory: &'a [u8],
 }
 
@@ -39,6 +41,7 @@ fn all_entries<'a>(alloc: Global, files: &[FileName<'a>]) -> Result<Vec<Entry<'a
 }
 
 /// The files in order, each once, if there is room for their paths.
+/// Only want of memory stands against it.
 pub fn sorted_entries<'a>(
     alloc: Global,
     files: &[FileName<'a>],
@@ -68,6 +71,7 @@ fn position_of(entries: &[Entry], positions: &[Option<u32>], file: &FileName) ->
 }
 
 /// The position of each file's path, by those of the entries.
+/// Only want of memory stands against it.
 pub fn file_positions(
     alloc: Global,
     entries: &[Entry],

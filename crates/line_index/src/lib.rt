@@ -114,7 +114,7 @@ impl LineIndex {
     }
 }
 
-/// The index of a program's line table.
+/// The index of a program's line table. Only want of memory stands against it.
 pub fn build(alloc: Global, table: &LineTable, image: &Image) -> Result<LineIndex, AllocError>
     requires few_rows { length table.now.rows ≤ 33554432 }
     requires few_files { length table.now.files ≤ 33554432 }

@@ -16,7 +16,9 @@ use std::alloc::{AllocError, Global};
 /// A line by the position of its path in the order of paths, and its number.
 #[derive(Clone, Copy, Debug, PartialEq, Eq, PartialOrd, Ord)]
 pub struct Key {
+    /// The position of its path.
     pub path: u32,
+    /// Its number in the file.
     pub number: u32,
 }
 
@@ -78,7 +80,7 @@ fn change_keys(
     Ok(keys)
 }
 
-/// Those lines in order, each once.
+/// Those lines in order, each once. Only want of memory stands against it.
 pub fn sorted_keys(
     alloc: Global,
     rows: &[Row],
@@ -112,7 +114,7 @@ fn key_position(keys: &[Key], key: Option<Key>) -> Option<u32>
     }
 }
 
-/// The changes with the positions of lines in place of rows.
+/// The changes with the positions of lines in place of rows. Only want of memory stands against it.
 pub fn line_changes(
     alloc: Global,
     rows: &[Row],

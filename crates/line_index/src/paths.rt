@@ -48,7 +48,7 @@ fn written_paths(alloc: Global, entries: &[Entry]) -> Result<Vec<Vec<u8>>, Alloc
     Ok(paths)
 }
 
-/// The written paths in order, each once.
+/// The written paths in order, each once. Only want of memory stands against it.
 pub fn sorted_paths(alloc: Global, entries: &[Entry]) -> Result<Vec<Vec<u8>>, AllocError>
     ensures in_order { IfOk result (λ paths. IsStrictlySortedBy path_cmp paths.items) }
     ensures each { IfOk result (λ paths. All (λ (file : File). Contains (texts paths.items) (path file)) (entries_view entries.now)) }
@@ -78,7 +78,7 @@ fn path_position(alloc: Global, paths: &[Vec<u8>], entry: &Entry) -> Result<Opti
     }
 }
 
-/// The position of each file's path.
+/// The position of each file's path. Only want of memory stands against it.
 pub fn path_positions(
     alloc: Global,
     paths: &[Vec<u8>],

@@ -17,11 +17,14 @@ use std::collections::BTreeMap;
 /// The addresses from one up to another that is not among them; none where it is not greater.
 #[derive(Clone, Copy, Debug, PartialEq, Eq)]
 pub struct Span {
+    /// The first address.
     pub start: Address,
+    /// The address behind the last one.
     pub end: Address,
 }
 
 /// The addresses that each row covers, up to the next row of its sequence (DWARF 4, 6.2.2).
+/// Only want of memory stands against it.
 pub fn row_spans(alloc: Global, rows: &[Row]) -> Result<Vec<Span>, AllocError>
     ensures spans { IfOk result (λ spans. spans.items ≡ row_spans rows.now) }
     ensures as_many { IfOk result (λ spans. length spans.items ≡ length rows.now) }
@@ -44,7 +47,7 @@ pub fn row_spans(alloc: Global, rows: &[Row]) -> Result<Vec<Span>, AllocError>
     Ok(spans)
 }
 
-/// The addresses of each executable area.
+/// The addresses of each executable area. Only want of memory stands against it.
 pub fn code_spans(alloc: Global, areas: &[Area]) -> Result<Vec<Span>, AllocError>
     requires { All (λ (area : Area). area_end area < 2 ^ 64) areas.now }
     ensures spans { IfOk result (λ spans. spans.items ≡ code_spans areas.now) }
@@ -63,6 +66,7 @@ pub fn code_spans(alloc: Global, areas: &[Area]) -> Result<Vec<Span>, AllocError
 }
 
 /// The first span that holds an address, at each address. Positions count from `first`.
+/// Only want of memory stands against it.
 pub fn first_spans(alloc: Global, spans: &[Span], first: u32) -> Result<Vec<Change>, AllocError>
     requires { first + length spans.now < 2 ^ 32 }
     ensures values { IfOk result (λ changes. (a : ℕ) → value_at a None changes.items ≡ position_from (holds a) first spans.now) }
@@ -102,6 +106,7 @@ fn span_changes(alloc: Global, span: Span, position: u32) -> Result<Vec<Change>,
 }
 
 /// The first row that covers an address, at each address of an executable area.
+/// Only want of memory stands against it.
 pub fn covering_rows(alloc: Global, rows: &[Row], areas: &[Area]) -> Result<Vec<Change>, AllocError>
     requires within { All (λ (area : Area). area_end area < 2 ^ 64) areas.now }
     requires few_rows { length rows.now < 2 ^ 32 }

@@ -46,6 +46,7 @@ fn add_turns(
 }
 
 /// The addresses at which each line begins and, in turn with these, ends.
+/// Only want of memory stands against it.
 pub fn turns(
     alloc: Global,
     changes: &[Change],

@@ -7,6 +7,7 @@ use std::alloc::Global;
 /// Keeps all that it is put. A put fails only for want of memory, and takes nothing then.
 #[derive(Drop)]
 pub struct TextSink {
+    /// What it was put so far.
     pub text: Vec<u8>,
     /// How often a put has failed.
     pub faults: u64,

@@ -10,6 +10,7 @@ use crate::profile::Profile;
 use coz_files::{PutBuffer, Sink};
 use coz_types::{Ending, Label, Summary, Trap};
 
+/// The first line.
 pub fn put_head<O: Sink>(to: &mut PutBuffer, out: &mut O, profile: &Profile)
     ensures { Gathers O.holds O.faults out.old out.new to.old to.new (head_line profile.now) }
 {
@@ -27,6 +28,7 @@ fn put_point<O: Sink>(to: &mut PutBuffer, out: &mut O, index: usize, label: &Lab
     to.push(out, b"\n");
 }
 
+/// The line of each point.
 pub fn put_points<O: Sink>(to: &mut PutBuffer, out: &mut O, points: &[Label])
     ensures { Gathers O.holds O.faults out.old out.new to.old to.new (flat_map point_line (enumerate_from 0 points.now)) }
 {
@@ -113,6 +115,7 @@ fn put_block<O: Sink>(to: &mut PutBuffer, out: &mut O, summary: &Summary)
     put_visits(to, out, summary);
 }
 
+/// The block of each summary.
 pub fn put_blocks<O: Sink>(to: &mut PutBuffer, out: &mut O, summaries: &[Summary])
     ensures { Gathers O.holds O.faults out.old out.new to.old to.new (flat_map block summaries.now) }
 {

@@ -1,3 +1,4 @@
+//! The work of a claim: the runs of all pairs of a line.
 ghost use Rattle.std.specs.Prelude.{◌≡◌, ◌<◌, ◌≤◌, Some, length, map, All, IfOk};
 ghost use Rattle.coz_types.specs.Ranges.{IsSummary};
 ghost use Rattle.experiment_plan.specs.ByLine.{by_line};
@@ -17,7 +18,9 @@ use virtual_run::{Lead, Machine};
 /// A claim and the summaries that its work gave.
 #[derive(Drop)]
 pub struct Claimed {
+    /// The place of the line in the plan.
     pub claim: u32,
+    /// The summary of the run of each pair of the line, in the plan's order.
     pub summaries: Items<Summary>,
 }
 
@@ -82,6 +85,7 @@ fn run_pairs<'a>(
 }
 
 /// What the work of a claim gives: the summary of the run of each pair of the line at that place of the plan.
+/// Only want of memory stands against it.
 pub fn summaries_at<'a>(
     alloc: Global,
     work: &Work<'a>,

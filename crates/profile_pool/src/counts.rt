@@ -6,7 +6,7 @@ ghost use Rattle.profile_pool.specs.Summaries.{counts_of};
 use coz_types::Visit;
 use std::alloc::{AllocError, Global};
 
-/// How often each of so many points was visited.
+/// How often each of so many points was visited. Only want of memory stands against it.
 pub fn counts(alloc: Global, points: u32, visits: &[Visit]) -> Result<Vec<u64>, AllocError>
     requires few { length visits.now ≤ 1048576 }
     ensures { IfOk result (λ counts. counts.items ≡ counts_of points (map net_of visits.now)) }

@@ -1,3 +1,4 @@
+//! What a worker begins with, and what it ends with.
 ghost use Rattle.std.specs.Prelude.{◌≤◌, ◌^◌, IfOk};
 ghost use Rattle.profile_pool.specs.Work.{IsWork};
 ghost use Rattle.profile_pool.specs.Made.{AreFor};
@@ -13,26 +14,34 @@ use virtual_run::{Lead, Machine};
 /// What a worker runs lines by: a lead, and a machine that is forked from it. They are made once.
 #[derive(Drop)]
 pub struct Runner<'a> {
+    /// What goes up to the first start of a line.
     pub lead: Lead<'a>,
+    /// What runs the pairs of the line from there.
     pub machine: Machine<'a>,
 }
 
 /// A worker's number, its seat, and what it runs lines by.
 #[derive(Drop)]
 pub struct Job<'a> {
+    /// Its number, from 0.
     pub worker: u32,
+    /// What it draws claims by.
     pub seat: ClaimSeat,
+    /// What it runs lines by.
     pub runner: Runner<'a>,
 }
 
 /// A worker's seat at its end, and what it did.
 #[derive(Drop)]
 pub struct Answer {
+    /// The seat that it drew by.
     pub seat: ClaimSeat,
+    /// The claims that it drew, with their summaries.
     pub done: Vec<Claimed>,
 }
 
 /// A lead and a machine of a program. Which line is selected at first doesn't matter.
+/// Only want of memory stands against it.
 pub fn make_runner<'a>(alloc: Global, work: &Work<'a>) -> Result<Runner<'a>, AllocError>
     requires { IsWork work.now }
     ensures { IfOk result (AreFor work.now) }

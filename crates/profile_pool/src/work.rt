@@ -1,3 +1,4 @@
+//! What the runs of a plan are made of.
 use coz_types::Image;
 use experiment_plan::Plan;
 use line_index::LineIndex;
@@ -7,12 +8,18 @@ use virtual_run::Lead;
 /// The runs that are to be made of a program: what workers share, and nobody writes.
 #[derive(Clone, Copy)]
 pub struct Work<'a> {
+    /// The program.
     pub image: &'a Image<'a>,
+    /// Its lines.
     pub index: &'a LineIndex,
+    /// The progress points.
     pub points: &'a Points,
+    /// What the program reads.
     pub input: &'a [u8],
+    /// Which lines are selected, and at which speedups.
     pub plan: &'a Plan,
     /// A lead that stands where it was made. Each line is taken up from it.
     pub first: &'a Lead<'a>,
+    /// How many instructions each run may retire.
     pub budget: u64,
 }

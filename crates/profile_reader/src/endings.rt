@@ -88,7 +88,7 @@ fn trapped(word: &[u8], name: &[u8], hart: &[u8], pc: &[u8]) -> Option<Ending>
     Some(Ending::Trapped(Trap { cause, hart, pc }))
 }
 
-/// The ending of which the text is the spelling.
+/// The ending of which the text is the spelling. None where it spells none.
 #[tactic(auto, using(crate::proofs::Colons::five))]
 pub fn ending_of(text: &[u8]) -> Option<Ending>
     ensures { Tells (λ e. e) (is_ending_text text.now) (ending_in text.now) result }

@@ -8,27 +8,49 @@ use std::alloc::{AllocError, AllocFailed};
 /// The kinds of items of a profile's text.
 #[derive(Clone, Copy, PartialEq, Eq, Debug)]
 pub enum BookField {
+    /// `coz-ticks`, with which a profile begins.
     Head,
+    /// The version of the format, 1.
     Version,
+    /// How many instructions each run may retire.
     Budget,
+    /// How many progress points there are.
     Points,
+    /// `point`, with which the line of a point begins.
     Point,
+    /// The number of a point.
     Index,
+    /// The label of a point.
     Name,
+    /// `experiment`, with which a block begins.
     Experiment,
+    /// The label of the selected line.
     Selected,
+    /// The speedup in per cent.
     Speedup,
+    /// How the run ended.
     End,
+    /// The moment of the last retirement.
     Time,
+    /// The global delay then.
     Delay,
+    /// How many instructions were retired.
     Retired,
+    /// How many selected instructions were started.
     Starts,
+    /// `output`, with which the line of the output begins.
     Output,
+    /// The length of the output.
     Length,
+    /// The SHA-256 of the output or of the visits.
     Digest,
+    /// `throughput-point`, with which the line of a point's count begins.
     Throughput,
+    /// How often a point was visited.
     Delta,
+    /// `visits`, with which the line of the visits' digest begins.
     Visits,
+    /// The end of a line.
     Newline,
 }
 
@@ -76,7 +98,9 @@ pub struct BookFault {
 /// Why a profile could not be read.
 #[derive(Debug, Drop)]
 pub enum BookError {
+    /// The text's first fault.
     Fault(BookFault),
+    /// Memory was wanting.
     Memory,
 }
 

@@ -16,7 +16,7 @@ use crate::orders::{comes_after, goes_on, not_before};
 use crate::values::{number_of, value};
 use coz_types::{Digest, Ending, GREATEST_SPEEDUP, Label, Summary};
 
-/// The item that is these bytes.
+/// The item that is these bytes. Err where another item stands there, or none.
 #[tactic(auto, unfolding(crate::specs::Reading::word_at))]
 pub fn word<'a>(at: Cursor<'a>, kind: BookField, text: &[u8]) -> Result<Cursor<'a>, BookError>
     ensures { Gives (λ c. (tt, ahead c)) result (word_at kind text.now (ahead at.entry)) }
@@ -29,7 +29,7 @@ pub fn word<'a>(at: Cursor<'a>, kind: BookField, text: &[u8]) -> Result<Cursor<'
     }
 }
 
-/// The field with a number of at most so much.
+/// The field with a number of at most so much. Err where another item stands there, or none.
 #[tactic(auto, unfolding(crate::specs::Reading::number_at))]
 pub fn number<'a>(
     at: Cursor<'a>,
@@ -45,7 +45,7 @@ pub fn number<'a>(
     }
 }
 
-/// The name of a point, after the last one.
+/// The name of a point, after the last one. Err where another item stands there, or none.
 #[tactic(auto, unfolding(crate::specs::Reading::label_at))]
 pub fn name<'a>(at: Cursor<'a>, last: Option<&Label>) -> Result<(&'a [u8], Cursor<'a>), BookError>
     ensures { Gives (λ x. (x.0.now, ahead x.1)) result
@@ -62,7 +62,7 @@ pub fn name<'a>(at: Cursor<'a>, last: Option<&Label>) -> Result<(&'a [u8], Curso
     }
 }
 
-/// The label of a block, after the last one.
+/// The label of a block, after the last one. Err where another item stands there, or none.
 #[tactic(auto, unfolding(crate::specs::Reading::label_at))]
 pub fn selected<'a>(
     at: Cursor<'a>,
@@ -83,6 +83,7 @@ pub fn selected<'a>(
 }
 
 /// The speedup of a block with this label, after the last block.
+/// Err where another item stands there, or none.
 #[tactic(auto, unfolding(crate::specs::Reading::speedup_at))]
 pub fn speedup<'a>(
     at: Cursor<'a>,
@@ -100,7 +101,7 @@ pub fn speedup<'a>(
     }
 }
 
-/// The ending of a run.
+/// The ending of a run. Err where another item stands there, or none.
 #[tactic(auto, unfolding(crate::specs::Reading::ending_at))]
 pub fn ending<'a>(at: Cursor<'a>) -> Result<(Ending, Cursor<'a>), BookError>
     ensures { Gives (λ x. (x.0, ahead x.1)) result (ending_at (ahead at.entry)) }
@@ -115,7 +116,7 @@ pub fn ending<'a>(at: Cursor<'a>) -> Result<(Ending, Cursor<'a>), BookError>
     }
 }
 
-/// A digest.
+/// A digest. Err where another item stands there, or none.
 #[tactic(auto, unfolding(crate::specs::Reading::digest_at))]
 pub fn digest<'a>(at: Cursor<'a>) -> Result<(Digest, Cursor<'a>), BookError>
     ensures { Gives (λ x. (x.0.bytes, ahead x.1)) result (digest_at (ahead at.entry)) }
@@ -130,7 +131,7 @@ pub fn digest<'a>(at: Cursor<'a>) -> Result<(Digest, Cursor<'a>), BookError>
     }
 }
 
-/// The field with this index.
+/// The field with this index. Err where another item stands there, or none.
 #[tactic(auto, unfolding(crate::specs::Reading::word_at))]
 pub fn index<'a>(at: Cursor<'a>, index: u64) -> Result<Cursor<'a>, BookError>
     ensures { Gives (λ c. (tt, ahead c)) result

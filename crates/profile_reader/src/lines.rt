@@ -15,7 +15,7 @@ const MOST_POINTS: u64 = 64;
 
 const MOST_VISITS: u64 = 1_000_000_000;
 
-/// The budget and the number of points.
+/// The budget and the number of points. Err tells the first wrong item.
 #[tactic(auto, unfolding(crate::specs::Reading::head_at, crate::specs::Reading::bind))]
 pub fn head<'a>(at: Cursor<'a>) -> Result<((u64, u64), Cursor<'a>), BookError>
     ensures { Gives (λ x. (x.0, ahead x.1)) result (head_at (ahead at.entry)) }
@@ -28,7 +28,7 @@ pub fn head<'a>(at: Cursor<'a>) -> Result<((u64, u64), Cursor<'a>), BookError>
     Ok(((budget, points), at))
 }
 
-/// The name of the point with this index, after the last one.
+/// The name of the point with this index, after the last one. Err tells the first wrong item.
 #[tactic(auto, unfolding(crate::specs::Reading::name_at, crate::specs::Reading::bind))]
 pub fn name_line<'a>(
     at: Cursor<'a>,
@@ -44,7 +44,7 @@ pub fn name_line<'a>(
     Ok((label, at))
 }
 
-/// How often the point with this index was visited.
+/// How often the point with this index was visited. Err tells the first wrong item.
 #[tactic(auto, unfolding(crate::specs::Reading::count_at, crate::specs::Reading::bind))]
 pub fn count_line<'a>(at: Cursor<'a>, place: u64) -> Result<(u64, Cursor<'a>), BookError>
     ensures { Gives (λ x. (x.0, ahead x.1)) result (count_at place (ahead at.entry)) }
@@ -56,7 +56,7 @@ pub fn count_line<'a>(at: Cursor<'a>, place: u64) -> Result<(u64, Cursor<'a>), B
     Ok((count, at))
 }
 
-/// How a run came out.
+/// How a run came out. Err tells the first wrong item.
 #[tactic(auto, unfolding(crate::specs::Reading::outcome_at, crate::specs::Reading::bind))]
 pub fn outcome<'a>(at: Cursor<'a>) -> Result<(Outcome, Cursor<'a>), BookError>
     ensures { Gives (λ x. (x.0, ahead x.1)) result (outcome_at (ahead at.entry)) }
@@ -77,7 +77,7 @@ pub fn outcome<'a>(at: Cursor<'a>) -> Result<(Outcome, Cursor<'a>), BookError>
     Ok((outcome, at))
 }
 
-/// The selected line's label and the speedup, after the last block.
+/// The selected line's label and the speedup, after the last block. Err tells the first wrong item.
 #[tactic(auto, unfolding(crate::specs::Reading::selection_at, crate::specs::Reading::bind))]
 pub fn selection<'a>(
     at: Cursor<'a>,
@@ -92,7 +92,7 @@ pub fn selection<'a>(
     Ok(((label, speedup), at))
 }
 
-/// The output's length and digest.
+/// The output's length and digest. Err tells the first wrong item.
 #[tactic(auto, unfolding(crate::specs::Reading::output_at, crate::specs::Reading::bind))]
 pub fn output<'a>(at: Cursor<'a>) -> Result<((u64, Digest), Cursor<'a>), BookError>
     ensures { Gives (λ x. ((x.0.0, x.0.1.bytes), ahead x.1)) result (output_at (ahead at.entry)) }
@@ -104,7 +104,7 @@ pub fn output<'a>(at: Cursor<'a>) -> Result<((u64, Digest), Cursor<'a>), BookErr
     Ok(((length, digest), at))
 }
 
-/// The digest of the visits.
+/// The digest of the visits. Err tells the first wrong item.
 #[tactic(auto, unfolding(crate::specs::Reading::visits_at, crate::specs::Reading::bind))]
 pub fn visits<'a>(at: Cursor<'a>) -> Result<(Digest, Cursor<'a>), BookError>
     ensures { Gives (λ x. (x.0.bytes, ahead x.1)) result (visits_at (ahead at.entry)) }

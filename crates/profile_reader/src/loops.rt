@@ -11,7 +11,7 @@ use coz_lists::Items;
 use coz_types::{Label, Summary};
 use std::alloc::Global;
 
-/// How often each point was visited, by point.
+/// How often each point was visited, by point. Err tells the first wrong item, or want of memory.
 pub fn counts<'a>(
     alloc: Global,
     all: u64,
@@ -29,7 +29,7 @@ pub fn counts<'a>(
     Ok((counts, rest))
 }
 
-/// The names of the points.
+/// The names of the points. Err tells the first wrong item, or want of memory.
 pub fn names<'a>(
     alloc: Global,
     all: u64,
@@ -47,7 +47,7 @@ pub fn names<'a>(
     Ok((names, rest))
 }
 
-/// A block, after the last one.
+/// A block, after the last one. Err tells the first wrong item, or want of memory.
 #[tactic(auto, unfolding(crate::specs::Reading::block_at, crate::specs::Reading::bind))]
 pub fn block<'a>(
     alloc: Global,
@@ -77,6 +77,7 @@ pub fn block<'a>(
 }
 
 /// The blocks up to the end of the text, of which there are at most so many.
+/// Err tells the first wrong item, or want of memory.
 pub fn blocks(
     alloc: Global,
     most: usize,

@@ -34,6 +34,7 @@ fn all(alloc: Global, bytes: &[u8]) -> Result<Profile, BookError>
 }
 
 /// The profile of which the bytes are the text.
+/// Err tells their first wrong item where they are no profile's, or want of memory.
 pub fn read_profile(alloc: Global, bytes: &[u8]) -> Result<Profile, BookError>
     // A fault is told exactly where there is one: that of the definition.
     ensures exact { IsJudged result (book_fault bytes.now) }

@@ -35,7 +35,7 @@ fn prefix(kind: BookField) -> &'static [u8]
     }
 }
 
-/// What stands behind the field's name, if the item is such a field.
+/// What stands behind the field's name, if the item is such a field. None where it isn't.
 pub fn value(item: &[u8], kind: BookField) -> Option<&[u8]>
     ensures { Tells (λ text. text.now) (is_field kind item.now) (value_in kind item.now) result }
 {
@@ -43,6 +43,7 @@ pub fn value(item: &[u8], kind: BookField) -> Option<&[u8]>
 }
 
 /// The number of the field.
+/// None where the item is no such field, or its value no number of at most so much.
 pub fn number_of(item: &[u8], kind: BookField, most: u64) -> Option<u64>
     ensures value { Tells (λ n. n) (has_number kind most item.now) (number_in kind item.now) result }
     ensures within { IfSome result (λ n. n ≤ most) }

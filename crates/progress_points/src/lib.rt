@@ -22,6 +22,7 @@ const MOST_LINES: usize = 64;
 pub enum PointsError {
     /// There are so many lines, more than 64.
     TooMany(u64),
+    /// Memory was wanting.
     Memory,
 }
 
@@ -65,6 +66,7 @@ impl Model for Points {
 
 impl Points {
     /// The points of these lines. An address that is an entry of several of them has the point of the first.
+    /// Err tells that there are more than 64, or want of memory.
     pub fn new(alloc: Global, index: &LineIndex, lines: &[LineId]) -> Result<Points, PointsError>
         requires { All (λ (line : LineId). line.0 < length index.now.lines) lines.now }
         ensures { MatchResult result (IsPoints index.now (ids lines.now)) (IsFault (length lines.now)) }

@@ -13,7 +13,9 @@ use std::alloc::{AllocError, Global};
 /// An entry address and the point that it has.
 #[derive(Clone, Copy, Debug, PartialEq, Eq)]
 pub struct Mark {
+    /// The entry address.
     pub address: Address,
+    /// The number of the point.
     pub point: u16,
 }
 
@@ -48,6 +50,7 @@ fn marks_by_line(
 }
 
 /// The marks of these lines in the order of their addresses, and those of one address in the order of the lines.
+/// Only want of memory stands against it.
 pub fn marks_of(alloc: Global, index: &LineIndex, lines: &[LineId]) -> Result<Vec<Mark>, AllocError>
     requires below { All (λ (line : LineId). line.0 < length index.now.lines) lines.now }
     requires few { length lines.now ≤ 64 }
@@ -68,6 +71,7 @@ fn place_of(marks: &[Mark], address: Address) -> usize
 }
 
 /// The first mark of an address among marks in the order of their addresses.
+/// None where it has none.
 pub fn first_mark(marks: &[Mark], address: Address) -> Option<Mark>
     requires { IsNonDecreasingBy (λ (mark : Mark). mark.address) marks.now }
     ensures { result ≡ find (is_at address) marks.now }

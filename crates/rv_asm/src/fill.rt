@@ -27,8 +27,11 @@ pub const TEXT_START: u64 = 0x1_0000;
 /// The bytes of both sections, and the line of each word of the text.
 #[derive(Drop)]
 pub struct Filled {
+    /// The bytes of `.text`.
     pub text: Vec<u8>,
+    /// The bytes of `.data`.
     pub content: Vec<u8>,
+    /// The line of each word of the text, counted from 1.
     pub lines: Vec<u32>,
 }
 
@@ -232,6 +235,7 @@ fn fill_one(parts: &mut Filled, state: &State, put: &Put) -> Result<(), AsmError
 }
 
 /// The bytes of all pieces in the order of the source.
+/// Err tells the first label that is missing or too far, or want of memory.
 pub fn fill(alloc: Global, state: &State) -> Result<Filled, AsmError>
     ensures { Gives parts_of result (all_parts (all_filled (state_of state.now) (state_of state.now).puts)) }
 {

@@ -586,6 +586,7 @@ fn numbers_form<'s>(
 }
 
 /// The statement of this form whose operands these are.
+/// Err tells the first wrong operand, or want of memory.
 #[tactic(auto, unfolding(crate::specs::Statements::statement))]
 pub fn statement<'s>(
     alloc: Global,

@@ -20,15 +20,20 @@ use std::alloc::Global;
 /// A fault, and where in the source it is: its line and the column of its first byte, both counted from 1.
 #[derive(Clone, Copy, Debug, PartialEq, Eq)]
 pub struct AsmFault {
+    /// What is wrong.
     pub kind: AsmKind,
+    /// The line.
     pub line: u32,
+    /// The column.
     pub column: u32,
 }
 
 /// Why a source isn't assembled.
 #[derive(Debug, Drop)]
 pub enum AsmError {
+    /// Memory was wanting.
     Memory,
+    /// The source's first fault.
     Fault(AsmFault),
 }
 

@@ -13,12 +13,14 @@ use rv_decode::BranchOp;
 pub enum Piece<'s> {
     /// The word of an instruction.
     Encoded(u32),
+    /// A branch to a label.
     Branch {
         op: BranchOp,
         rs1: Register,
         rs2: Register,
         label: NameUse<'s>,
     },
+    /// A jump to a label.
     Jump {
         rd: Register,
         label: NameUse<'s>,
@@ -30,16 +32,20 @@ pub enum Piece<'s> {
     },
     /// A label's address of eight bytes.
     Address(NameUse<'s>),
+    /// These bytes.
     Bytes(Vec<u8>),
+    /// So many zeros.
     Zeros(u32),
 }
 
 /// What a statement does.
 #[derive(Drop)]
 pub enum Statement<'s> {
+    /// Puts these pieces one after the other.
     Puts(Vec<Piece<'s>>),
     /// Fills up with zeros to a multiple of two to this power.
     Aligns(u32),
+    /// Goes on in this section.
     Enters(Section),
 }
 

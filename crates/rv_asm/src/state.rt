@@ -17,25 +17,35 @@ const MOST_BYTES: usize = 1_048_576;
 /// A place in a section.
 #[derive(Clone, Copy)]
 pub struct Place {
+    /// The section.
     pub section: Section,
+    /// How many bytes of it stand before.
     pub offset: u32,
 }
 
 /// A piece in its place, and the line of its statement.
 #[derive(Drop)]
 pub struct Put<'s> {
+    /// The line, counted from 1.
     pub line: u32,
+    /// Where it is put.
     pub place: Place,
+    /// What is put.
     pub piece: Piece<'s>,
 }
 
 /// The labels, the section and how long each one is, and the pieces in the order of the source.
 #[derive(Drop)]
 pub struct State<'s> {
+    /// Where each label stands.
     pub labels: BTreeMap<&'s [u8], Place>,
+    /// The section that the next piece goes into.
     pub section: Section,
+    /// How many bytes `.text` has so far.
     pub text: u32,
+    /// How many bytes `.data` has so far.
     pub content: u32,
+    /// The pieces so far.
     pub puts: Vec<Put<'s>>,
 }
 
@@ -64,6 +74,7 @@ pub fn up_to_multiple(multiple: u64, n: u64) -> u64
 }
 
 impl<'s> State<'s> {
+    /// Nothing is put yet.
     pub fn new(alloc: Global) -> State<'s>
         ensures { state_of result ≡ start }
     {
@@ -95,6 +106,7 @@ impl<'s> State<'s> {
     }
 
     /// A label where the next piece goes.
+    /// Err where there is one of that name, or for want of memory.
     pub fn add_label(&mut self, name: &'s [u8], column: u32) -> Result<(), LineError>
         ensures { Steps result (state_of self.new) (with_label name.now column (state_of self.old)) }
     {
@@ -140,6 +152,7 @@ impl<'s> State<'s> {
     }
 
     /// What a statement does.
+    /// Err where its section may not have it or would be too long, or for want of memory.
     pub fn perform(&mut self, line: u32, column: u32, what: Statement<'s>) -> Result<(), LineError>
         requires { AlignsWithin what }
         ensures { Steps result (state_of self.new) (done line column (statement_of what.entry) (state_of self.old)) }

@@ -21,111 +21,182 @@ pub use decoder::decode;
 /// An operation on the upper 20 bits.
 #[derive(Clone, Copy, Debug, PartialEq, Eq)]
 pub enum UpperOp {
+    /// The value, with zeros below.
     Lui,
+    /// The instruction's own address and that.
     Auipc,
 }
 
 /// The test of a branch.
 #[derive(Clone, Copy, Debug, PartialEq, Eq)]
 pub enum BranchOp {
+    /// Both are equal.
     Beq,
+    /// They differ.
     Bne,
+    /// The first is less, with signs.
     Blt,
+    /// The first is not less, with signs.
     Bge,
+    /// The first is less, without signs.
     Bltu,
+    /// The first is not less, without signs.
     Bgeu,
 }
 
 /// A load.
 #[derive(Clone, Copy, Debug, PartialEq, Eq)]
 pub enum LoadOp {
+    /// A byte, with its sign.
     Lb,
+    /// 2 bytes, with their sign.
     Lh,
+    /// 4 bytes, with their sign.
     Lw,
+    /// 8 bytes.
     Ld,
+    /// A byte, without a sign.
     Lbu,
+    /// 2 bytes, without a sign.
     Lhu,
+    /// 4 bytes, without a sign.
     Lwu,
 }
 
 /// A store.
 #[derive(Clone, Copy, Debug, PartialEq, Eq)]
 pub enum StoreOp {
+    /// A byte.
     Sb,
+    /// 2 bytes.
     Sh,
+    /// 4 bytes.
     Sw,
+    /// 8 bytes.
     Sd,
 }
 
 /// An operation on a register and an immediate.
 #[derive(Clone, Copy, Debug, PartialEq, Eq)]
 pub enum ImmOp {
+    /// The sum.
     Addi,
+    /// Whether the register is less, with signs.
     Slti,
+    /// Whether it is less, without signs.
     Sltiu,
+    /// The bits that one of both has.
     Xori,
+    /// The bits that either has.
     Ori,
+    /// The bits that both have.
     Andi,
+    /// The sum of 32 bits.
     Addiw,
 }
 
 /// A shift by an immediate.
 #[derive(Clone, Copy, Debug, PartialEq, Eq)]
 pub enum ShiftOp {
+    /// To the left.
     Slli,
+    /// To the right, with zeros.
     Srli,
+    /// To the right, with the sign.
     Srai,
+    /// To the left, of 32 bits.
     Slliw,
+    /// To the right, of 32 bits, with zeros.
     Srliw,
+    /// To the right, of 32 bits, with the sign.
     Sraiw,
 }
 
 /// An operation on two registers.
 #[derive(Clone, Copy, Debug, PartialEq, Eq)]
 pub enum RegOp {
+    /// The sum.
     Add,
+    /// A shift to the left.
     Sll,
+    /// Whether the first is less, with signs.
     Slt,
+    /// Whether the first is less, without signs.
     Sltu,
+    /// The bits that one of both has.
     Xor,
+    /// A shift to the right, with zeros.
     Srl,
+    /// The bits that either has.
     Or,
+    /// The bits that both have.
     And,
+    /// The difference.
     Sub,
+    /// A shift to the right, with the sign.
     Sra,
+    /// The lower half of the product.
     Mul,
+    /// The upper half, with signs.
     Mulh,
+    /// The upper half, the first with its sign and the second without.
     Mulhsu,
+    /// The upper half, without signs.
     Mulhu,
+    /// The quotient, with signs.
     Div,
+    /// The quotient, without signs.
     Divu,
+    /// The remainder, with signs.
     Rem,
+    /// The remainder, without signs.
     Remu,
+    /// The sum of 32 bits.
     Addw,
+    /// A shift of 32 bits to the left.
     Sllw,
+    /// A shift of 32 bits to the right, with zeros.
     Srlw,
+    /// The difference of 32 bits.
     Subw,
+    /// A shift of 32 bits to the right, with the sign.
     Sraw,
+    /// The lower half of the product of 32 bits.
     Mulw,
+    /// The quotient of 32 bits, with signs.
     Divw,
+    /// The quotient of 32 bits, without signs.
     Divuw,
+    /// The remainder of 32 bits, with signs.
     Remw,
+    /// The remainder of 32 bits, without signs.
     Remuw,
 }
 
 /// An operation on memory in one step.
 #[derive(Clone, Copy, Debug, PartialEq, Eq)]
 pub enum AtomicOp {
+    /// The sum is stored.
     Amoadd,
+    /// The register is stored.
     Amoswap,
+    /// Nothing is stored, and the bytes are reserved.
     Lr,
+    /// The register is stored, if the bytes are still reserved.
     Sc,
+    /// The bits that one of both has are stored.
     Amoxor,
+    /// The bits that either has are stored.
     Amoor,
+    /// The bits that both have are stored.
     Amoand,
+    /// The lesser is stored, with signs.
     Amomin,
+    /// The greater is stored, with signs.
     Amomax,
+    /// The lesser is stored, without signs.
     Amominu,
+    /// The greater is stored, without signs.
     Amomaxu,
 }
 
@@ -184,6 +255,7 @@ pub enum Instr {
         rs1: u8,
         amount: u8,
     },
+    /// An operation on two registers.
     Reg {
         op: RegOp,
         rd: u8,
@@ -206,7 +278,9 @@ pub enum Instr {
         rs1: u8,
         bits: u16,
     },
+    /// The call of the system.
     Ecall,
+    /// The breakpoint.
     Ebreak,
 }
 

@@ -16,9 +16,13 @@ use rv_decode::AtomicOp;
 /// What an atomic instruction accesses: 8 bytes or 4 at an address, with the value of its other register.
 #[derive(Clone, Copy)]
 pub struct Target {
+    /// It has 8 bytes.
     pub wide: bool,
+    /// The register that gets the old value.
     pub rd: u8,
+    /// Where the bytes stand.
     pub address: Address,
+    /// The value of the other register.
     pub value: u64,
 }
 
@@ -157,6 +161,7 @@ fn exchange(
     }
 }
 
+/// An operation on memory in one step.
 pub fn atomic(
     hart: &mut HartState,
     number: HartId,

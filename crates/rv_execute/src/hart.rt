@@ -7,7 +7,9 @@ use coz_types::{Address, TrapCause};
 /// The registers and the pc of a hart. Register 0 reads as 0 and is never written.
 #[derive(Clone, Copy, Debug, PartialEq, Eq)]
 pub struct HartState {
+    /// By number.
     pub registers: [u64; 32],
+    /// The address of the next instruction.
     pub pc: Address,
 }
 

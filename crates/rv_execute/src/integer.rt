@@ -21,6 +21,7 @@ fn upper_result(op: UpperOp, value: u32, pc: Address) -> u64
     }
 }
 
+/// lui and auipc.
 #[inline]
 pub fn upper(hart: &mut HartState, op: UpperOp, rd: u8, value: u32) -> Step
     requires rd { rd < 32 }
@@ -31,6 +32,7 @@ pub fn upper(hart: &mut HartState, op: UpperOp, rd: u8, value: u32) -> Step
     hart.put(rd, result)
 }
 
+/// A jump, with the address behind it kept in a register.
 #[inline]
 pub fn jal(hart: &mut HartState, rd: u8, offset: i32) -> Step
     requires { rd < 32 }
@@ -40,6 +42,7 @@ pub fn jal(hart: &mut HartState, rd: u8, offset: i32) -> Step
     hart.jump(rd, target)
 }
 
+/// The same, to the address of a register and an offset.
 #[inline]
 pub fn jalr(hart: &mut HartState, rd: u8, rs1: u8, offset: i32) -> Step
     requires rd { rd < 32 }
@@ -51,6 +54,7 @@ pub fn jalr(hart: &mut HartState, rd: u8, rs1: u8, offset: i32) -> Step
     hart.jump(rd, target)
 }
 
+/// A jump, if the test of two registers holds.
 #[inline]
 pub fn branch(hart: &mut HartState, op: BranchOp, rs1: u8, rs2: u8, offset: i32) -> Step
     requires rs1 { rs1 < 32 }
@@ -65,6 +69,7 @@ pub fn branch(hart: &mut HartState, op: BranchOp, rs1: u8, rs2: u8, offset: i32)
     }
 }
 
+/// An operation on a register and an immediate.
 #[inline]
 pub fn immediate(hart: &mut HartState, op: ImmOp, rd: u8, rs1: u8, field: i32) -> Step
     requires rd { rd < 32 }
@@ -76,6 +81,7 @@ pub fn immediate(hart: &mut HartState, op: ImmOp, rd: u8, rs1: u8, field: i32) -
     hart.put(rd, result)
 }
 
+/// A shift by an immediate.
 #[inline]
 pub fn shift(hart: &mut HartState, op: ShiftOp, rd: u8, rs1: u8, amount: u8) -> Step
     requires rd { rd < 32 }
@@ -88,6 +94,7 @@ pub fn shift(hart: &mut HartState, op: ShiftOp, rd: u8, rs1: u8, amount: u8) -> 
     hart.put(rd, result)
 }
 
+/// An operation on two registers.
 #[inline]
 pub fn register(hart: &mut HartState, op: RegOp, rd: u8, rs1: u8, rs2: u8) -> Step
     requires rd { rd < 32 }

@@ -57,6 +57,7 @@ fn loaded(op: LoadOp, number: u64) -> u64
     }
 }
 
+/// A load.
 #[inline]
 pub fn load(hart: &mut HartState, memory: &Memory, op: LoadOp, rd: u8, rs1: u8, offset: i32) -> Step
     requires rd { rd < 32 }
@@ -94,6 +95,7 @@ fn store_at(
     }
 }
 
+/// A store.
 #[inline]
 pub fn store(
     hart: &mut HartState,

@@ -21,14 +21,18 @@ pub struct Choice {
     pub output_limit: u64,
     /// So many visits are kept at most, from 1 to 1,048,576.
     pub visit_limit: u64,
+    /// The sizes of the stack and of the regions of brk and mmap.
     pub layout: Layout,
 }
 
 /// What a run reads beside its image and its input, and what is chosen for it.
 #[derive(Clone, Copy)]
 pub struct Setting<'a> {
+    /// The lines of the program.
     pub index: &'a LineIndex,
+    /// The progress points.
     pub points: &'a Points,
+    /// What is chosen.
     pub choice: Choice,
 }
 

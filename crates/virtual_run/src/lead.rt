@@ -53,6 +53,7 @@ impl<'a> Lead<'a> {
     ghost use Rattle.virtual_run.specs.Run.{experiment, IsChoice};
 
     /// Before the first beginning, that of hart 0. The speedup isn't read.
+    /// Only want of memory stands against it.
     pub fn new(
         alloc: Global,
         image: &'a Image<'a>,

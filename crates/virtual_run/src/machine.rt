@@ -65,7 +65,7 @@ impl<'a> Machine<'a> {
     ghost use Rattle.progress_points.specs.Points.{point_of};
     ghost use Rattle.virtual_run.specs.Run.{experiment, IsChoice};
 
-    /// A run that is about to begin.
+    /// A run that is about to begin. Only want of memory stands against it.
     pub fn new(
         alloc: Global,
         image: &'a Image<'a>,
@@ -111,6 +111,7 @@ impl<'a> Machine<'a> {
 
     /// Runs through all wakes before the next retirement and up to and including that, with what begins after it. Gives the
     /// ending once the run has ended; a further step changes nothing and gives the same.
+    /// None before.
     #[inline]
     pub fn step(&mut self) -> Option<Ending>
         ensures ended { result ≡ self.new.state.ending }
@@ -186,6 +187,7 @@ impl<'a> Machine<'a> {
     }
 
     /// Runs up to the first beginning that counts a start, or to the end.
+    /// None where a start is counted.
     pub(crate) fn lead(&mut self) -> Option<Ending>
         requires none { (before (experiment_of self.old) (events self.old.state)).state.starts ≡ 0 }
         ensures ended { result ≡ self.new.state.ending }

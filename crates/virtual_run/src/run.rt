@@ -52,14 +52,18 @@ pub struct Run<'a> {
 /// A hart that has retired an instruction, and what became of it.
 #[derive(Clone, Copy, Debug)]
 pub struct Retired {
+    /// The hart that retired.
     pub hart: HartId,
+    /// What became of it.
     pub fate: Fate,
 }
 
 /// A hart, and when it retires or wakes, in net ticks.
 #[derive(Clone, Copy, Debug)]
 pub struct Turn {
+    /// The hart that is due.
     pub hart: HartId,
+    /// When it retires or wakes.
     pub due: Tick,
 }
 
@@ -68,6 +72,7 @@ pub struct Turn {
 pub enum Event {
     /// It slept, and runs from its moment on.
     Woke(Turn),
+    /// It retired an instruction.
     Retired(Retired),
 }
 
@@ -197,7 +202,7 @@ impl<'a> Run<'a> {
     ghost use Rattle.virtual_run.specs.Run.{selected_of, ticks_in, IsChoice, IsSteady, IsFirst};
     ghost use Rattle.virtual_run.specs.Advance.{CanSettle, IsAdvance, IsRetired, IsSettled, IsWoken};
 
-    /// A run that is about to begin.
+    /// A run that is about to begin. Only want of memory stands against it.
     pub fn new(
         alloc: Global,
         image: &'a Image<'a>,

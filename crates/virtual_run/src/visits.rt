@@ -28,7 +28,7 @@ impl Model for Visits {
 }
 
 impl Visits {
-    /// No visits, with room for so many.
+    /// No visits, with room for so many. Only want of memory stands against it.
     pub fn new(alloc: Global, limit: u64) -> Result<Visits, AllocError>
         requires { limit ≤ 1048576 }
         ensures { IfOk result (λ visits. visits ≡ record { kept = []; limit = limit }) }

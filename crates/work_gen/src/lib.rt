@@ -17,6 +17,7 @@ use std::alloc::{AllocError, Global};
 /// A source, and the line of its progress point.
 #[derive(Drop)]
 pub struct Generated {
+    /// The source's bytes.
     pub text: Items<u8>,
     /// Counted from 1. Each hart passes it once, at its end.
     pub point: u32,
