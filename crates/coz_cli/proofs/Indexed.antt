@@ -9,7 +9,7 @@ use Rattle.line_index.proofs.Listed.{lines_are, entries_are, positions_are}
 use Rattle.progress_points.specs.Points.{Points, IsPoints, point_of, point_in}
 use Rattle.virtual_run.specs.Run.{experiment}
 use Rattle.virtual_run.specs.declared.choice.Choice.{Choice}
-use Rattle.coz_cli.specs.Experiment.{Runs, entries_of, experiment_of, runs_in}
+use Rattle.coz_cli.specs.Experiment.{Runs, entries_of, experiment_by_table, runs_in}
 use Rattle.coz_cli.specs.Verdict.{Judging}
 
 module _ (image : ImageParts) (table : Table) (input : List ℕ) where
@@ -17,18 +17,18 @@ module _ (image : ImageParts) (table : Table) (input : List ℕ) where
   abbrev runs_with : List (List ℕ) → (ℕ → Option ℕ) → Runs
   runs_with entries position choice points = experiment image position (point_in entries points) input choice
 
-  runs_are : runs_with (entries_of image table) (position_in table image.areas) ≡ experiment_of image table input
-  unfolding experiment_of
+  runs_are : runs_with (entries_of image table) (position_in table image.areas) ≡ experiment_by_table image table input
+  unfolding experiment_by_table
   runs_are = refl
 
   module _ (index : Index) (is : IsIndex table image.areas index) where
-    same_runs : runs_in image index input ≡ experiment_of image table input
+    same_runs : runs_in image index input ≡ experiment_by_table image table input
     same_runs =
         ap (runs_with index.entries) (fun_ext (positions_are is))
         ∙ ap (λ (es : List (List ℕ)). runs_with es (position_in table image.areas)) (entries_are is)
         ∙ runs_are
 
-    pub indexed : (next : Judging) → next index.lines (runs_in image index input) ≡ next (lines_in table image.areas) (experiment_of image table input)
+    pub indexed : (next : Judging) → next index.lines (runs_in image index input) ≡ next (lines_in table image.areas) (experiment_by_table image table input)
     indexed next = ap₂ next (lines_are is) same_runs
 
 -- the points that were made of lines of an index

@@ -10,7 +10,7 @@ use Rattle.dwarf_lines.specs.declared.Row.{Row}
 use Rattle.dwarf_lines.specs.Registers.{File}
 use Rattle.coz_types.specs.declared.image.Area.{Area}
 use Rattle.coz_types.specs.Labels.{is_empty, written}
-use Rattle.line_index.specs.Lines.{Line, numbered, entry_path, next_address, first_covering, line_of_row, is_executable, line_of, found, is_line, is_line_below}
+use Rattle.line_index.specs.Lines.{Line, numbered, entry_path, next_address, first_covering, line_of_row, is_executable, line_of, found, is_line_named, is_line_below}
 use Rattle.line_index.specs.Changes.{or_else}
 use Rattle.line_index.specs.Index.{Index, IsIndex}
 use Rattle.rv_asm.specs.Assembled.{Program, IsProgram}
@@ -154,7 +154,7 @@ position_there test xs k d few is =
         absurd cc
     below false e = let past : position_or_len test xs ≤ k = ltb-false k (position_or_len test xs) e in omega arith
 
-its_line : (name : List ℕ) (number : ℕ) → is_line name number (line_in name number) ≡ true
+its_line : (name : List ℕ) (number : ℕ) → is_line_named name number (line_in name number) ≡ true
 its_line name number = and_from (number == number) (bytes_eq name name) (eq-eqb number number refl) ((bytes_eq-Decides name name).1 refl)
 
 -- the line of a word is found in the index of the written file
@@ -163,5 +163,5 @@ pub word_found : (p : Program) (name file : List ℕ) (number : ℕ) (index : In
 word_found p name file number index is named same has indexed =
     let line = line_in name number in
     let (k, few, e) = (indexed.used line).1 (line_there p name file number is named same has) in
-    let there = position_there (is_line name number) index.lines k line few (ap (is_line name number) e ∙ its_line name number) in
-    (position_or_len (is_line name number) index.lines, ap (λ o. or_else o (position (is_line_below name number) index.lines)) there)
+    let there = position_there (is_line_named name number) index.lines k line few (ap (is_line_named name number) e ∙ its_line name number) in
+    (position_or_len (is_line_named name number) index.lines, ap (λ o. or_else o (position (is_line_below name number) index.lines)) there)

@@ -33,7 +33,7 @@ use Rattle.coz_cli.specs.Words.{request_of}
 use Rattle.coz_cli.specs.LineTable.{table_in}
 use Rattle.coz_cli.specs.Selection.{line_named, lines_named}
 use Rattle.progress_points.specs.Points.{point_in}
-use Rattle.coz_cli.specs.Experiment.{Runs, choice_of, entries_of, experiment_of}
+use Rattle.coz_cli.specs.Experiment.{Runs, choice_of, entries_of, experiment_by_table}
 use Rattle.coz_cli.specs.Profiled.{all_lines, experiment_on, pairs_of, profile_of}
 use Rattle.coz_cli.specs.FaultLines.{plan_line, points_line}
 use Rattle.coz_cli.proofs.Profiling.{speedups_small}
@@ -50,16 +50,16 @@ record IsLike (x : Experiment Guest) : Type 0 where
 
 module _ (image : ImageParts) (table : Table) (input : List ℕ) (selected : Option ℕ) (speedup budget : ℕ) (points : List ℕ) where
   abbrev of_choice : Experiment Guest
-  of_choice = experiment_of image table input (choice_of selected speedup budget) points
+  of_choice = experiment_by_table image table input (choice_of selected speedup budget) points
 
   law : speedup ≤ 95 → IsLawful of_choice IsOrderly
-  unfolding experiment_of
+  unfolding experiment_by_table
   law small =
       let few : speedup ≤ 100 = omega (arith, small) in
       lawful (has_selected (selected_line (choice_of selected speedup budget)) (position_in table image.areas)) (point_in (entries_of image table) points) image input 4194304 usual speedup budget 1048576 few
 
   budget_is : of_choice.budget ≡ budget
-  unfolding experiment_of
+  unfolding experiment_by_table
   budget_is = refl
 
   like : speedup ≤ 95 → 1 ≤ budget → IsLike of_choice
@@ -91,11 +91,11 @@ record Found (held : Held) (asked : Request) : Type 0 where
 -- a verdict is what follows of them
 record Comes (held : Held) (asked : Request) (next : Judging) (v : Verdict) : Type 0 where
   on : Found held asked
-  is : v ≡ next (lines_in on.table on.image.areas) (experiment_of on.image on.table on.input)
+  is : v ≡ next (lines_in on.table on.image.areas) (experiment_by_table on.image on.table on.input)
 
 module _ (held : Held) (asked : Request) (next : Judging) (v : Verdict) (low : v.status ≤ 1) where
   abbrev on_table : List ℕ → ImageParts → Table → Verdict
-  on_table input image table = next (lines_in table image.areas) (experiment_of image table input)
+  on_table input image table = next (lines_in table image.areas) (experiment_by_table image table input)
 
   table_comes : (file input : List ℕ) (image : ImageParts) → file_at held asked.target ≡ Some file → IsInput held asked.input input → loaded file ≡ Ok image
       → (t : Result Table LineFault) → table_in file ≡ t → v ≡ table_verdict t (on_table input image) → Comes held asked next v
@@ -190,7 +190,7 @@ experiment_comes held asked print low =
     let comes = files_come held asked (asked_verdict asked print) low in
     let on = comes.on in
     let lines : List Line = lines_in on.table on.image.areas in
-    let run : Option ℕ → List ℕ → Experiment Guest = λ selected. experiment_of on.image on.table on.input (choice_of selected asked.speedup asked.budget) in
+    let run : Option ℕ → List ℕ → Experiment Guest = λ selected. experiment_by_table on.image on.table on.input (choice_of selected asked.speedup asked.budget) in
     let line = named_is (line_named lines asked.line) (λ selected. named_verdict (lines_named lines [] asked.progress) (λ named. points_verdict named (λ points. print (run selected points)))) v low comes.is in
     let named = named_is (lines_named lines [] asked.progress) (λ named. points_verdict named (λ points. print (run line.value points))) v low line.same in
     let few = few_points named.value (λ points. print (run line.value points)) v low named.same in
@@ -219,7 +219,7 @@ experiment_comes held asked print low =
 
 module _ (held : Held) (asked : Request) (fit : IsFit asked) (some : 1 ≤ asked.budget) (on : Found held asked) (points : List ℕ) where
   abbrev runs_on : Runs
-  runs_on = experiment_of on.image on.table on.input
+  runs_on = experiment_by_table on.image on.table on.input
 
   pair_like : (pair : Pair) → pair.speedup ≤ 95 → IsLike (experiment_on runs_on asked.budget points pair)
   pair_like pair small = like on.image on.table on.input (Some pair.line.0) pair.speedup asked.budget points small some
@@ -237,7 +237,7 @@ profile_printed held asked before now fit some low gained =
     let comes = files_come held asked (profiled_verdict asked) low in
     let on = comes.on in
     let lines : List Line = lines_in on.table on.image.areas in
-    let runs : Runs = experiment_of on.image on.table on.input in
+    let runs : Runs = experiment_by_table on.image on.table on.input in
     let print : List ℕ → List Pair → Verdict = λ points pairs. profile_verdict (profile_of runs lines asked.budget points pairs) in
     let selected = named_is (lines_named lines (all_lines lines) asked.lines)
     (λ selected. named_verdict (lines_named lines [] asked.progress) (λ named. points_verdict named (λ points. plan_verdict (pairs_of selected asked.speedups) (print points)))) v low comes.is in

@@ -55,7 +55,7 @@ use Rattle.coz_cli.specs.Answer.{Answer, IsMemory, IsMemoryFault, IsOfTrial, IsR
 use Rattle.coz_cli.specs.Serve.{AskTrial}
 use Rattle.coz_cli.specs.Words.{request_of}
 use Rattle.coz_cli.specs.Causes.{assembling_fault, planning_fault}
-use Rattle.coz_cli.specs.Experiment.{Runs, experiment_of, runs_in}
+use Rattle.coz_cli.specs.Experiment.{Runs, experiment_by_table, runs_in}
 use Rattle.profile_pool.specs.Summaries.{summaries_of}
 use Rattle.coz_cli.specs.Profiled.{experiment_on, label_at, pairs_of, summary_on}
 use Rattle.coz_cli.specs.LineTable.{table_in}
@@ -311,7 +311,7 @@ printed_is source file image table index point status profile text is_index read
     ∙ ap (trial_printed source index.lines) is
     ∙ judged_as source index.lines (runs_in image index []) point found_at
     ∙ indexed image table [] index is_index (trial_judging source)
-    ∙ read (λ (i : ImageParts) (t : Table). trial_judging source (lines_in t i.areas) (experiment_of i t []))
+    ∙ read (λ (i : ImageParts) (t : Table). trial_judging source (lines_in t i.areas) (experiment_by_table i t []))
 
 -- ---- answers
 

@@ -21,8 +21,8 @@ entries_of image table = map (entries_in table image.areas) (lines_in table imag
 
 -- the run of a program with its line table on an input, under a choice and with the lines at these positions as points:
 -- each address has the line that the table says, and the entry addresses of the points' lines are those points
-unfoldable pub experiment_of : ImageParts → Table → List ℕ → Runs
-experiment_of image table input choice points =
+unfoldable pub experiment_by_table : ImageParts → Table → List ℕ → Runs
+experiment_by_table image table input choice points =
     experiment image (position_in table image.areas) (point_in (entries_of image table) points) input choice
 
 -- the same by an index of its lines

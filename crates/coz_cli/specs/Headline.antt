@@ -17,7 +17,7 @@ use Rattle.coz_words.specs.declared.command.Command.TheVariants.{Run, Really, Pr
 use Rattle.coz_cli.specs.Words.{request_of}
 use Rattle.coz_cli.specs.LineTable.{table_in}
 use Rattle.coz_cli.specs.Selection.{line_named, lines_named}
-use Rattle.coz_cli.specs.Experiment.{Runs, choice_of, experiment_of}
+use Rattle.coz_cli.specs.Experiment.{Runs, choice_of, experiment_by_table}
 use Rattle.coz_cli.specs.Profiled.{all_lines, experiment_on, pairs_of, profile_with}
 use Rattle.coz_cli.specs.Text.{run_text, really_text}
 use Rattle.coz_cli.specs.Verdict.{verdict}
@@ -43,7 +43,7 @@ pub record IsAsked (held : Held) (asked : Request) (x : Experiment Guest) : Type
   pub line_is : line_named (lines_in table image.areas) asked.line ≡ Ok selected
   pub points_are : lines_named (lines_in table image.areas) [] asked.progress ≡ Ok points
   pub few : length points ≤ 64
-  pub experiment : x ≡ experiment_of image table input (choice_of selected asked.speedup asked.budget) points
+  pub experiment : x ≡ experiment_by_table image table input (choice_of selected asked.speedup asked.budget) points
 
 -- Behind what was held before there is now the text of the record that the delayed machine ends with, and the
 -- net part of that record (its end, output, counts, and each time less the global delay then) is what the
@@ -77,7 +77,7 @@ pub record IsPlanned (held : Held) (asked : Request) (runs : Runs) (lines : List
   pub given : IsInput held asked.input input
   pub program : loaded file ≡ Ok image
   pub table_is : table_in file ≡ Ok table
-  pub runs_are : runs ≡ experiment_of image table input
+  pub runs_are : runs ≡ experiment_by_table image table input
   pub lines_are : lines ≡ lines_in table image.areas
   pub selected_are : lines_named lines (all_lines lines) asked.lines ≡ Ok selected
   pub points_are : lines_named lines [] asked.progress ≡ Ok points

@@ -31,7 +31,7 @@ use Rattle.profile_book.specs.declared.profile.Profile.{Profile as Book}
 use Rattle.coz_cli.specs.Text.{run_text, really_text, lines_text, plot_text}
 use Rattle.coz_words.specs.Said.{Text}
 use Rattle.coz_cli.specs.Selection.{line_named, lines_named}
-use Rattle.coz_cli.specs.Experiment.{Runs, choice_of, experiment_of}
+use Rattle.coz_cli.specs.Experiment.{Runs, choice_of, experiment_by_table}
 use Rattle.dwarf_lines.specs.declared.LineFault.{LineFault}
 use Rattle.dwarf_lines.specs.Registers.{Table}
 use Rattle.coz_cli.specs.LineTable.{table_in}
@@ -120,7 +120,7 @@ profiled_verdict asked lines runs =
 
 -- on a program's file and an input
 abbrev pub file_verdict : Judging → List ℕ → List ℕ → Verdict
-file_verdict next file input = program_verdict file (λ image table. next (lines_in table image.areas) (experiment_of image table input))
+file_verdict next file input = program_verdict file (λ image table. next (lines_in table image.areas) (experiment_by_table image table input))
 
 -- of a path's file that may have so many bytes, and of what follows where it is there and has no more
 abbrev pub read_verdict : ℕ → List ℕ → Option (List ℕ) → (List ℕ → Verdict) → Verdict

@@ -8,7 +8,7 @@ use Rattle.std.proofs.lemmas.Slice.Eq.{bytes_eq-Decides}
 use Rattle.clap.specs.Words.{first_value, found_of}
 use Rattle.clap.specs.declared.parser.matches.ArgMatches.{ArgMatches}
 use Rattle.coz_words.specs.Said.{Text, Item, option, target}
-use Rattle.coz_words.specs.Answers.{held}
+use Rattle.coz_words.specs.Answers.{option_value}
 use Rattle.coz_words.specs.Parse.{target_id, Finds}
 use Rattle.coz_words.specs.Request.{asked, are_items_of, belongs, has_text, is_among, is_once, is_some_text, is_word, none_or, option_names, request_with, same_kind, target_of, value_of}
 use Rattle.coz_words.specs.Slow.{command_in, command_of, items_in, request_in}
@@ -32,10 +32,10 @@ unknown_none names (option n v ∷ items) name known out =
     by false e own more = rw e more
 
 held_is : (c : Command) (items : List Item) (found : Text → Option Text) → list_all (belongs (option_names c)) items ≡ true
-    → ((name : Text) → is_among (option_names c) name ≡ true → found name ≡ value_of name items) → held c found ≡ (λ name. value_of name items)
+    → ((name : Text) → is_among (option_names c) name ≡ true → found name ≡ value_of name items) → option_value c found ≡ (λ name. value_of name items)
 held_is c items found known finds = fun_ext (λ name. by name (is_among (option_names c) name) refl)
   where
-    by : (name : Text) (b : Bool) → is_among (option_names c) name ≡ b → held c found name ≡ value_of name items
+    by : (name : Text) (b : Bool) → is_among (option_names c) name ≡ b → option_value c found name ≡ value_of name items
     by name true e = ap (λ (b : Bool). if b then found name else None) e ∙ finds name e
     by name false e = ap (λ (b : Bool). if b then found name else None) e ∙ sym (unknown_none (option_names c) items name known e)
 
@@ -163,7 +163,7 @@ no_command (w ∷ rest) e = by (list_all is_word (w ∷ rest)) refl
 
 -- what is found gives the request
 pub found_is : (words : List Text) (c : Command) (found : Text → Option Text) → command_in words ≡ Some c → Finds (option_names c) words (Some found)
-    → request_in words ≡ (if are_texts_of c (found target_id) (held c found) then request_with c (found target_id) (held c found) else None)
+    → request_in words ≡ (if are_texts_of c (found target_id) (option_value c found) then request_with c (found target_id) (option_value c found) else None)
 found_is words c found named f =
     let items = f.0 in
     let given = f.1 in
@@ -200,7 +200,7 @@ parsed_none words names c m named own parses is =
     nothing_found words c named (subst (λ (o : Option ArgMatches). Parses (option_names c) words o) is (subst (λ (ns : List Text). Parses ns words m) own parses))
 
 pub parsed_some : (words names : List Text) (c : Command) (m : Option ArgMatches) (a : ArgMatches) (b : Bool) → command_in words ≡ Some c → names ≡ option_names c → Parses names words m → m ≡ Some a
-    → b ≡ are_texts_of c (said_by a target_id) (held c (said_by a)) → request_in words ≡ (if b then request_with c (said_by a target_id) (held c (said_by a)) else None)
+    → b ≡ are_texts_of c (said_by a target_id) (option_value c (said_by a)) → request_in words ≡ (if b then request_with c (said_by a target_id) (option_value c (said_by a)) else None)
 parsed_some words names c m a b named own parses is texts =
     found_is words c (said_by a) named (subst (λ (o : Option ArgMatches). Parses (option_names c) words o) is (subst (λ (ns : List Text). Parses ns words m) own parses))
-    ∙ ap (λ (t : Bool). if t then request_with c (said_by a target_id) (held c (said_by a)) else None) (sym texts)
+    ∙ ap (λ (t : Bool). if t then request_with c (said_by a target_id) (option_value c (said_by a)) else None) (sym texts)

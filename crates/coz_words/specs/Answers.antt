@@ -18,5 +18,5 @@ Answers wanted (Err Usage) = wanted ≡ None
 Answers wanted (Err Memory) = ⊤
 
 -- the value of an option, where the command has it
-abbrev pub held : Command → (Text → Option Text) → Text → Option Text
-held c found name = if has_option c name then found name else None
+abbrev pub option_value : Command → (Text → Option Text) → Text → Option Text
+option_value c found name = if has_option c name then found name else None

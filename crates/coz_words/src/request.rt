@@ -3,7 +3,7 @@ ghost use Rattle.std.specs.Prelude.{◌≡◌, ◌⊎◌, ◌&&◌, Ok, Err, IfO
 ghost use Rattle.std.specs.List.{list_all};
 ghost use Rattle.std.specs.Option.{option_copied};
 ghost use Rattle.clap.specs.Words.{first_value, found_of};
-ghost use Rattle.coz_words.specs.Answers.{Answers, bytes_of, held};
+ghost use Rattle.coz_words.specs.Answers.{Answers, bytes_of, option_value};
 ghost use Rattle.coz_words.specs.Parse.{target_id};
 ghost use Rattle.coz_words.specs.Request.{IsFit, Requests, has_text, option_names, request_with, none_or, is_some_text};
 ghost use Rattle.coz_words.specs.Slow.{request_in};
@@ -88,7 +88,7 @@ impl<T: Drop> From<AllocFailed<T>> for WordsError {
 
 /// The text of the command's option of that name, if the command has it and it is given.
 fn text_of<'a>(command: Command, matches: &ArgMatches<'a>, name: &str) -> Option<&'a str>
-    ensures { option_copied result ≡ held command (first_value (found_of matches.now)) name.now }
+    ensures { option_copied result ≡ option_value command (first_value (found_of matches.now)) name.now }
 {
     if has_option(command, name) {
         matches.get_str(name)
@@ -99,7 +99,7 @@ fn text_of<'a>(command: Command, matches: &ArgMatches<'a>, name: &str) -> Option
 
 /// The request that the values make.
 fn request_of(alloc: Global, command: Command, matches: &ArgMatches) -> Result<Request, WordsError>
-    ensures { Answers (request_with command (first_value (found_of matches.now) target_id) (held command (first_value (found_of matches.now)))) result }
+    ensures { Answers (request_with command (first_value (found_of matches.now) target_id) (option_value command (first_value (found_of matches.now)))) result }
 {
     let line = text_of(command, matches, "line");
     let lines = text_of(command, matches, "lines");
@@ -161,7 +161,7 @@ fn has_text(text: Option<&str>) -> bool
 
 /// Whether no text is empty.
 fn are_texts(command: Command, matches: &ArgMatches) -> bool
-    ensures { result ≡ (none_or is_some_text (first_value (found_of matches.now) target_id) && list_all (λ name. none_or is_some_text (held command (first_value (found_of matches.now)) name)) (option_names command)) }
+    ensures { result ≡ (none_or is_some_text (first_value (found_of matches.now) target_id) && list_all (λ name. none_or is_some_text (option_value command (first_value (found_of matches.now)) name)) (option_names command)) }
 {
     has_text(matches.get_str("target"))
         && option_names(command)

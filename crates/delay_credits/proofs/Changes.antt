@@ -11,7 +11,7 @@ use Rattle.coz_types.specs.declared.record.Account.{Account as GivenAccount}
 use Rattle.delay_credits.specs.declared.seat.Seat.{Seat}
 use Rattle.delay_credits.specs.declared.seat.Pending.{Pending}
 use Rattle.delay_credits.specs.Delays.{Delays, hart_at, at, with_start, with_stop, with_raise, with_credit}
-use Rattle.delay_credits.specs.Seats.{standing, settled, IsSound, IsRaised, IsUnpaused}
+use Rattle.delay_credits.specs.Seats.{hart_of_seat, settled, IsSound, IsRaised, IsUnpaused}
 use Rattle.delay_credits.proofs.Standing.{standing-all, standing-set, standing-read, standing-start, standing-stop, standing-again, standing-kept}
 
 -- a seat to name a place past the end
@@ -20,14 +20,14 @@ no_seat = record { account = record { own = 0; paused = 0; credited = 0 }; pendi
 
 -- what the seats stand for
 abbrev pub seen : ℕ → ℕ → List Seat → Delays
-seen latest raised seats = record { latest = latest; raised = raised; harts = map (standing latest) seats }
+seen latest raised seats = record { latest = latest; raised = raised; harts = map (hart_of_seat latest) seats }
 
 below-seats : (latest raised h : ℕ) (seats : List Seat) → h < length (seen latest raised seats).harts → h < length seats
 below-seats latest raised h seats below = rw length-map at below
 
 -- one hart is changed by f at a moment
 changed : (latest now raised h : ℕ) (f : Hart → Hart) (seats : List Seat) (seat d : Seat) → All (IsSound latest raised) seats → h < length seats → latest ≤ now
-    → standing now seat ≡ f (standing now (get_or seats h d)) → map (standing now) (set seats h seat) ≡ change fresh h f (map (ticked (now - latest)) (map (standing latest) seats))
+    → hart_of_seat now seat ≡ f (hart_of_seat now (get_or seats h d)) → map (hart_of_seat now) (set seats h seat) ≡ change fresh h f (map (ticked (now - latest)) (map (hart_of_seat latest) seats))
 changed latest now raised h f seats seat d sound below later is =
     standing-set now h f seats seat d below is ∙ ap (change fresh h f) (sym (standing-all latest now raised seats sound later))
 
@@ -49,9 +49,9 @@ stopped v latest now raised h seats d view sound =
 
 -- a hart as it is at a moment
 pub hart-later : (v : Delays) (latest now raised h : ℕ) (seats : List Seat) (d : Seat) → seen latest raised seats ≡ v → All (IsSound latest raised) seats → h < length v.harts → v.latest ≤ now
-    → standing now (get_or seats h d) ≡ hart_at (at now v) h
+    → hart_of_seat now (get_or seats h d) ≡ hart_at (at now v) h
 hart-later v latest now raised h seats d view sound =
-    subst (λ (w : Delays). h < length w.harts → w.latest ≤ now → standing now (get_or seats h d) ≡ hart_at (at now w) h)
+    subst (λ (w : Delays). h < length w.harts → w.latest ≤ now → hart_of_seat now (get_or seats h d) ≡ hart_at (at now w) h)
     view
     (λ below later. sym (ap (λ (hs : List Hart). get_or hs h fresh) (standing-all latest now raised seats sound later) ∙ standing-read now h seats d (below-seats latest raised h seats below)))
 
@@ -65,17 +65,17 @@ raised-all v latest now raised h ticks seats seats' d view sound later same each
     (all ∙ ap (change_from 0 (raise_hart ticks h)) (sym (standing-all latest now raised seats sound later'))))
     later
   where
-    at_each : (k : ℕ) → k < length (map (standing now) seats') → get_or (map (standing now) seats') k fresh ≡ raise_hart ticks h k (get_or (map (standing now) seats) k fresh)
+    at_each : (k : ℕ) → k < length (map (hart_of_seat now) seats') → get_or (map (hart_of_seat now) seats') k fresh ≡ raise_hart ticks h k (get_or (map (hart_of_seat now) seats) k fresh)
     at_each k below =
         let new : k < length seats' = rw length-map at below in
         let old : k < length seats = omega arith in
         standing-read now k seats' d new ∙ (each k old d).stands ∙ ap (raise_hart ticks h k) (sym (standing-read now k seats d old))
 
-    lengths : length (map (standing now) seats') ≡ length (map (standing now) seats)
-    lengths = length-map seats' (standing now) ∙ same ∙ sym (length-map seats (standing now))
+    lengths : length (map (hart_of_seat now) seats') ≡ length (map (hart_of_seat now) seats)
+    lengths = length-map seats' (hart_of_seat now) ∙ same ∙ sym (length-map seats (hart_of_seat now))
 
-    all : map (standing now) seats' ≡ change_from 0 (raise_hart ticks h) (map (standing now) seats)
-    all = change_from_is fresh (raise_hart ticks h) (λ k. refl) (map (standing now) seats) (map (standing now) seats') lengths at_each
+    all : map (hart_of_seat now) seats' ≡ change_from 0 (raise_hart ticks h) (map (hart_of_seat now) seats)
+    all = change_from_is fresh (raise_hart ticks h) (λ k. refl) (map (hart_of_seat now) seats) (map (hart_of_seat now) seats') lengths at_each
 
 -- what was read is the seat of the hart
 read-at : (now h p : ℕ) (seats : List Seat) (s r : Seat) → p ≡ h → s ≡ get_or seats p s → r ≡ settled now s → r.account ≡ (settled now (get_or seats h s)).account
@@ -101,17 +101,17 @@ stopped-at v latest now raised h p seats s r view sound below later place item s
 
 -- the hart of a seat that was read
 pub hart-at : (v : Delays) (latest now raised h p : ℕ) (seats : List Seat) (s : Seat) → seen latest raised seats ≡ v → All (IsSound latest raised) seats → h < length v.harts → v.latest ≤ now
-    → p ≡ h → s ≡ get_or seats p s → standing now s ≡ hart_at (at now v) h
+    → p ≡ h → s ≡ get_or seats p s → hart_of_seat now s ≡ hart_at (at now v) h
 hart-at v latest now raised h p seats s view sound below later place item =
-    ap (standing now) (item ∙ ap (λ i. get_or seats i s) place) ∙ hart-later v latest now raised h seats s view sound below later
+    ap (hart_of_seat now) (item ∙ ap (λ i. get_or seats i s) place) ∙ hart-later v latest now raised h seats s view sound below later
 
 -- a hart that doesn't run is credited
-credited : (latest goal : ℕ) (s : Seat) → is_running (standing latest s) ≡ false
-    → standing latest (record { account = record s.account { credited = s.account.credited + (goal - (s.account.own + s.account.paused + s.account.credited)) }; pending = None }) ≡ credit goal (standing latest s)
+credited : (latest goal : ℕ) (s : Seat) → is_running (hart_of_seat latest s) ≡ false
+    → hart_of_seat latest (record { account = record s.account { credited = s.account.credited + (goal - (s.account.own + s.account.paused + s.account.credited)) }; pending = None }) ≡ credit goal (hart_of_seat latest s)
 credited latest goal s = go s.account s.pending
   where
-    go : (a : GivenAccount) (pending : Option Pending) → is_running (standing latest (record { account = a; pending = pending })) ≡ false
-        → standing latest (record { account = record a { credited = a.credited + (goal - (a.own + a.paused + a.credited)) }; pending = None }) ≡ credit goal (standing latest (record { account = a; pending = pending }))
+    go : (a : GivenAccount) (pending : Option Pending) → is_running (hart_of_seat latest (record { account = a; pending = pending })) ≡ false
+        → hart_of_seat latest (record { account = record a { credited = a.credited + (goal - (a.own + a.paused + a.credited)) }; pending = None }) ≡ credit goal (hart_of_seat latest (record { account = a; pending = pending }))
     go a None waits = refl
     go a (Some p) waits = cc
 
@@ -132,13 +132,13 @@ credited-at v latest raised woken waker p seats s view below waits whole place i
         → seen latest raised (set seats p (credited_seat raised s)) ≡ with_credit woken waker (seen latest raised seats)
     go below waits whole =
         let at_seat : woken < length seats = below-seats latest raised woken seats below in
-        let hart : get_or (map (standing latest) seats) woken fresh ≡ standing latest s = standing-read latest woken seats s at_seat ∙ ap (standing latest) (sym read) in
-        let still : is_running (standing latest s) ≡ false = ap is_running (sym hart) ∙ waits in
-        let one : standing latest (credited_seat raised s) ≡ credit raised (standing latest (get_or seats woken s)) = credited latest raised s still ∙ ap (λ (x : Seat). credit raised (standing latest x)) read in
-        let all : map (standing latest) (set seats woken (credited_seat raised s)) ≡ change fresh woken (credit raised) (map (standing latest) seats) = standing-set latest woken (credit raised) seats (credited_seat raised s) s at_seat one in
+        let hart : get_or (map (hart_of_seat latest) seats) woken fresh ≡ hart_of_seat latest s = standing-read latest woken seats s at_seat ∙ ap (hart_of_seat latest) (sym read) in
+        let still : is_running (hart_of_seat latest s) ≡ false = ap is_running (sym hart) ∙ waits in
+        let one : hart_of_seat latest (credited_seat raised s) ≡ credit raised (hart_of_seat latest (get_or seats woken s)) = credited latest raised s still ∙ ap (λ (x : Seat). credit raised (hart_of_seat latest x)) read in
+        let all : map (hart_of_seat latest) (set seats woken (credited_seat raised s)) ≡ change fresh woken (credit raised) (map (hart_of_seat latest) seats) = standing-set latest woken (credit raised) seats (credited_seat raised s) s at_seat one in
         ap (λ i. seen latest raised (set seats i (credited_seat raised s))) place
         ∙ ap (λ (hs : List Hart). record { latest = latest; raised = raised; harts = hs }) all
-        ∙ ap (λ goal. record { latest = latest; raised = raised; harts = change fresh woken (credit goal) (map (standing latest) seats) }) (sym whole)
+        ∙ ap (λ goal. record { latest = latest; raised = raised; harts = change fresh woken (credit goal) (map (hart_of_seat latest) seats) }) (sym whole)
 
 -- what is written through a slice of a whole vector is the vector's
 take-seam : {X : Type 0} (n : ℕ) (xs ys : List X) → length xs ≡ n → take n (xs ++ ys) ≡ xs
@@ -161,7 +161,7 @@ unpaused-at v latest now raised h p seats s view sound below later place item un
     subst (λ (w : Delays). h < length w.harts → w.latest ≤ now → seen now raised seats ≡ with_start h now w)
     view
     (λ below' later'. ap (λ (hs : List Hart). record { latest = now; raised = raised; harts = hs })
-    (standing-kept now h (run 0) seats s (below-seats latest raised h seats below') (subst (λ (x : Seat). standing now x ≡ run 0 (standing now x)) read (standing-again now s unpaused))
+    (standing-kept now h (run 0) seats s (below-seats latest raised h seats below') (subst (λ (x : Seat). hart_of_seat now x ≡ run 0 (hart_of_seat now x)) read (standing-again now s unpaused))
     ∙ ap (change fresh h (run 0)) (sym (standing-all latest now raised seats sound later'))))
     below later
   where

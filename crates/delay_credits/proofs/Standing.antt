@@ -10,13 +10,13 @@ use Rattle.delay_credits.specs.declared.seat.Pending.{Pending}
 use Rattle.delay_credits.specs.Delays.{account_as}
 use Rattle.delay_credits.specs.Ticks.{ticked}
 use Rattle.delay_credits.proofs.TicksLemmas.{ticked_is}
-use Rattle.delay_credits.specs.Seats.{standing, since_of, settled, IsSound, IsUnpaused}
+use Rattle.delay_credits.specs.Seats.{hart_of_seat, since_of, settled, IsSound, IsUnpaused}
 
 -- a hart as it is so many ticks later
-pub standing-later : (latest now : ℕ) (seat : Seat) → since_of seat ≤ latest → latest ≤ now → sit_hart (now - latest) (standing latest seat) ≡ standing now seat
+pub standing-later : (latest now : ℕ) (seat : Seat) → since_of seat ≤ latest → latest ≤ now → sit_hart (now - latest) (hart_of_seat latest seat) ≡ hart_of_seat now seat
 standing-later latest now seat past later = go seat.account seat.pending past
   where
-    go : (a : GivenAccount) (pending : Option Pending) → since_of (record { account = a; pending = pending }) ≤ latest → sit_hart (now - latest) (standing latest (record { account = a; pending = pending })) ≡ standing now (record { account = a; pending = pending })
+    go : (a : GivenAccount) (pending : Option Pending) → since_of (record { account = a; pending = pending }) ≤ latest → sit_hart (now - latest) (hart_of_seat latest (record { account = a; pending = pending })) ≡ hart_of_seat now (record { account = a; pending = pending })
     go a None past = refl
     go a (Some p) past =
         let paused : a.paused + min (latest - p.since) p.pause + min (now - latest) (p.pause - (latest - p.since)) ≡ a.paused + min (now - p.since) p.pause = omega arith in
@@ -25,38 +25,38 @@ standing-later latest now seat past later = go seat.account seat.pending past
         cc
 
 -- all harts as they are later
-pub standing-all : (latest now raised : ℕ) (seats : List Seat) → All (IsSound latest raised) seats → latest ≤ now → map (ticked (now - latest)) (map (standing latest) seats) ≡ map (standing now) seats
+pub standing-all : (latest now raised : ℕ) (seats : List Seat) → All (IsSound latest raised) seats → latest ≤ now → map (ticked (now - latest)) (map (hart_of_seat latest) seats) ≡ map (hart_of_seat now) seats
 standing-all latest now raised [] sound later = refl
 standing-all latest now raised (seat ∷ seats) sound later =
     ap₂ (λ (x : Hart) (xs : List Hart). x ∷ xs)
-    (ticked_is (now - latest) (standing latest seat) ∙ standing-later latest now seat (sound 0 seat (omega arith)).past later)
+    (ticked_is (now - latest) (hart_of_seat latest seat) ∙ standing-later latest now seat (sound 0 seat (omega arith)).past later)
     (standing-all latest now raised seats (λ k d (below : k < length seats). sound (suc k) d (omega arith)) later)
 
 -- the seat of one hart is written
-pub standing-set : (now h : ℕ) (f : Hart → Hart) (seats : List Seat) (seat d : Seat) → h < length seats → standing now seat ≡ f (standing now (get_or seats h d)) → map (standing now) (set seats h seat) ≡ change fresh h f (map (standing now) seats)
+pub standing-set : (now h : ℕ) (f : Hart → Hart) (seats : List Seat) (seat d : Seat) → h < length seats → hart_of_seat now seat ≡ f (hart_of_seat now (get_or seats h d)) → map (hart_of_seat now) (set seats h seat) ≡ change fresh h f (map (hart_of_seat now) seats)
 standing-set now h f [] seat d below is = absurd (omega arith)
-standing-set now zero f (x ∷ xs) seat d below is = ap (λ (y : Hart). y ∷ map (standing now) xs) is
-standing-set now (suc h) f (x ∷ xs) seat d below is = ap (λ (ys : List Hart). standing now x ∷ ys) (standing-set now h f xs seat d (omega arith) is)
+standing-set now zero f (x ∷ xs) seat d below is = ap (λ (y : Hart). y ∷ map (hart_of_seat now) xs) is
+standing-set now (suc h) f (x ∷ xs) seat d below is = ap (λ (ys : List Hart). hart_of_seat now x ∷ ys) (standing-set now h f xs seat d (omega arith) is)
 
 -- the hart of one seat
-pub standing-read : (now h : ℕ) (seats : List Seat) (d : Seat) → h < length seats → get_or (map (standing now) seats) h fresh ≡ standing now (get_or seats h d)
+pub standing-read : (now h : ℕ) (seats : List Seat) (d : Seat) → h < length seats → get_or (map (hart_of_seat now) seats) h fresh ≡ hart_of_seat now (get_or seats h d)
 standing-read now h [] d below = absurd (omega arith)
 standing-read now zero (x ∷ xs) d below = refl
 standing-read now (suc h) (x ∷ xs) d below = standing-read now h xs d (omega arith)
 
 -- the account of a seat that was looked at is the hart's
-pub settled-account : (now : ℕ) (seat : Seat) → account_as (settled now seat).account ≡ (standing now seat).account
+pub settled-account : (now : ℕ) (seat : Seat) → account_as (settled now seat).account ≡ (hart_of_seat now seat).account
 settled-account now seat = go seat.account seat.pending
   where
-    go : (a : GivenAccount) (pending : Option Pending) → account_as (settled now (record { account = a; pending = pending })).account ≡ (standing now (record { account = a; pending = pending })).account
+    go : (a : GivenAccount) (pending : Option Pending) → account_as (settled now (record { account = a; pending = pending })).account ≡ (hart_of_seat now (record { account = a; pending = pending })).account
     go a None = refl
     go a (Some p) = refl
 
 -- a hart that begins to run
-pub standing-start : (now : ℕ) (seat : Seat) → standing now (record { account = (settled now seat).account; pending = Some (record { since = now; pause = 0 }) }) ≡ run 0 (standing now seat)
+pub standing-start : (now : ℕ) (seat : Seat) → hart_of_seat now (record { account = (settled now seat).account; pending = Some (record { since = now; pause = 0 }) }) ≡ run 0 (hart_of_seat now seat)
 standing-start now seat = go (settled now seat).account (settled-account now seat)
   where
-    go : (a : GivenAccount) → account_as a ≡ (standing now seat).account → standing now (record { account = a; pending = Some (record { since = now; pause = 0 }) }) ≡ run 0 (standing now seat)
+    go : (a : GivenAccount) → account_as a ≡ (hart_of_seat now seat).account → hart_of_seat now (record { account = a; pending = Some (record { since = now; pause = 0 }) }) ≡ run 0 (hart_of_seat now seat)
     go a is =
         let paused : a.paused + min (now - now) 0 ≡ a.paused = omega arith in
         let work : 0 - (now - now - 0) ≡ 0 = omega arith in
@@ -65,14 +65,14 @@ standing-start now seat = go (settled now seat).account (settled-account now sea
         same ∙ ap (λ (b : Account). record { account = b; load = Some (record { work = 0; pause = 0 }) }) is
 
 -- a hart that no longer runs
-pub standing-stop : (now : ℕ) (seat : Seat) → standing now (record { account = (settled now seat).account; pending = None }) ≡ stop (standing now seat)
+pub standing-stop : (now : ℕ) (seat : Seat) → hart_of_seat now (record { account = (settled now seat).account; pending = None }) ≡ stop (hart_of_seat now seat)
 standing-stop now seat = ap (λ (a : Account). record { account = a; load = None }) (settled-account now seat)
 
 -- a hart that runs with no pause runs so from then on
-pub standing-again : (now : ℕ) (seat : Seat) → IsUnpaused seat → standing now seat ≡ run 0 (standing now seat)
+pub standing-again : (now : ℕ) (seat : Seat) → IsUnpaused seat → hart_of_seat now seat ≡ run 0 (hart_of_seat now seat)
 standing-again now seat unpaused = go seat.account seat.pending unpaused
   where
-    go : (a : GivenAccount) (pending : Option Pending) → IsUnpaused (record { account = a; pending = pending }) → standing now (record { account = a; pending = pending }) ≡ run 0 (standing now (record { account = a; pending = pending }))
+    go : (a : GivenAccount) (pending : Option Pending) → IsUnpaused (record { account = a; pending = pending }) → hart_of_seat now (record { account = a; pending = pending }) ≡ run 0 (hart_of_seat now (record { account = a; pending = pending }))
     go a None given = absurd (given.0 refl)
     go a (Some p) given =
         let none : p.pause ≡ 0 = given.1 in
@@ -81,7 +81,7 @@ standing-again now seat unpaused = go seat.account seat.pending unpaused
         ap₂ (λ (m n : ℕ). record { account = record { own = a.own; paused = a.paused + min (now - p.since) p.pause; credited = a.credited }; load = Some (record { work = m; pause = n }) }) work pause
 
 -- no seat is written where a change leaves the hart as it is
-pub standing-kept : (now h : ℕ) (f : Hart → Hart) (seats : List Seat) (d : Seat) → h < length seats → standing now (get_or seats h d) ≡ f (standing now (get_or seats h d)) → map (standing now) seats ≡ change fresh h f (map (standing now) seats)
+pub standing-kept : (now h : ℕ) (f : Hart → Hart) (seats : List Seat) (d : Seat) → h < length seats → hart_of_seat now (get_or seats h d) ≡ f (hart_of_seat now (get_or seats h d)) → map (hart_of_seat now) seats ≡ change fresh h f (map (hart_of_seat now) seats)
 standing-kept now h f [] d below is = absurd (omega arith)
-standing-kept now zero f (x ∷ xs) d below is = ap (λ (y : Hart). y ∷ map (standing now) xs) is
-standing-kept now (suc h) f (x ∷ xs) d below is = ap (λ (ys : List Hart). standing now x ∷ ys) (standing-kept now h f xs d (omega arith) is)
+standing-kept now zero f (x ∷ xs) d below is = ap (λ (y : Hart). y ∷ map (hart_of_seat now) xs) is
+standing-kept now (suc h) f (x ∷ xs) d below is = ap (λ (ys : List Hart). hart_of_seat now x ∷ ys) (standing-kept now h f xs d (omega arith) is)

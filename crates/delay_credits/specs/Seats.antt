@@ -6,8 +6,8 @@ use Rattle.delay_credits.specs.declared.seat.Seat.{Seat}
 use Rattle.delay_credits.specs.Delays.{account_as}
 
 -- a hart at a moment, worked out from its seat
-abbrev pub standing : ℕ → Seat → Hart
-standing moment seat =
+abbrev pub hart_of_seat : ℕ → Seat → Hart
+hart_of_seat moment seat =
     elim (seat.pending) [
       | None ↦ record { account = account_as seat.account; load = None }
       | Some p ↦ sit_load (moment - p.since) (account_as seat.account) (record { work = 0; pause = p.pause })
@@ -49,6 +49,6 @@ Fits ticks seat = total (account_as seat.account) + owed seat + ticks < 2 ^ 64
 
 -- a seat before and after a raise of so many ticks at a moment
 pub record IsRaised (ticks now raiser place : ℕ) (old new : Seat) : Type 0 where
-  pub stands : standing now new ≡ raise_hart ticks raiser place (standing now old)
+  pub stands : hart_of_seat now new ≡ raise_hart ticks raiser place (hart_of_seat now old)
   pub past : since_of new ≤ now
   pub within : total (account_as new.account) + owed new ≤ total (account_as old.account) + owed old + ticks

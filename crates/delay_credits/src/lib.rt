@@ -36,9 +36,9 @@ impl Model for Credits {
 
     ghost Value = { Delays };
 
-    ghost use Rattle.delay_credits.specs.Seats.{standing, AreIdleFrom, IsSound};
+    ghost use Rattle.delay_credits.specs.Seats.{hart_of_seat, AreIdleFrom, IsSound};
 
-    ghost view = { λ c. record { latest = c.latest; raised = c.raised; harts = map (standing c.latest) c.seats.items } };
+    ghost view = { λ c. record { latest = c.latest; raised = c.raised; harts = map (hart_of_seat c.latest) c.seats.items } };
 
     ghost invariant = { λ c. (c.raised ≤ 10 ^ 17) × All (IsSound c.latest c.raised) c.seats.items × (c.used ≤ length c.seats.items) × AreIdleFrom c.used c.seats.items };
 }

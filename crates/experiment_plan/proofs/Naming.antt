@@ -8,7 +8,7 @@ use Rattle.std.proofs.lemmas.List.Quantifiers.{position-Some}
 use Rattle.std.proofs.Math.Seq.{take-append_seam, drop-append_seam}
 use Rattle.coz_types.specs.declared.LineId.{LineId}
 use Rattle.line_index.specs.Changes.{or_else}
-use Rattle.line_index.specs.Lines.{Line, is_line as is_whole, is_line_below, found}
+use Rattle.line_index.specs.Lines.{Line, is_line_named as is_whole, is_line_below, found}
 use Rattle.line_index.proofs.Pieces.{Among, among_map}
 use Rattle.experiment_plan.specs.Lists.{Text, is_line, line_parts, pieces, pieces_left, IsCut}
 use Rattle.experiment_plan.specs.Selected.{id_of, ids, line_found, is_missing, rising, selected, bytes_before, IsMissingAt}

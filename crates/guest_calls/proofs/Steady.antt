@@ -12,7 +12,7 @@ use Rattle.guest_memory.specs.Memory.{MemoryMap, is_writable, load, store, with_
 use Rattle.guest_memory.proofs.Runs.{same_regions-with_bytes}
 use Rattle.rv_execute.specs.declared.hart.Step.TheVariants.{Next, Call, Fault}
 use Rattle.rv_execute.specs.Reservations.{is_reserved, with_reservation, without_own}
-use Rattle.rv_execute.specs.Execution.{Setting, register, address_at, Executed, execute, next, put, jump, branch, fault, with_pc, with_register, pc_after, loaded, with_store, reserve, store_reserved, exchange, aligned, atomic, atomic_size, atomic_loaded}
+use Rattle.rv_execute.specs.Execution.{Setting, register, address_at, Executed, execute, next, put, jump, branch, fault, with_pc, with_register, pc_after, load_value, with_store, reserve, store_reserved, exchange, aligned, atomic, atomic_size, atomic_load_value}
 
 pub record Steady (m : MemoryMap) (e : Executed) : Type 0 where
   pub no_call : e.step ≡ Call → ⊥
@@ -72,7 +72,7 @@ exchanged-steady rd n a size None s k = fault-steady Access s
 exchanged-steady rd n a size (Some m) s k = put_stored-steady rd n a size m s k
 
 reserve-steady : (h : ℕ) (wide : Bool) (rd a : ℕ) (o : Option ℕ) (s : Setting)
-    → Steady s.memory (elim o [ None ↦ fault s Access | Some n ↦ put rd (atomic_loaded wide n) (record s { reservations = with_reservation h a s.reservations }) ])
+    → Steady s.memory (elim o [ None ↦ fault s Access | Some n ↦ put rd (atomic_load_value wide n) (record s { reservations = with_reservation h a s.reservations }) ])
 reserve-steady h wide rd a None s = fault-steady Access s
 reserve-steady h wide rd a (Some n) s = record { no_call = λ (p : Next ≡ Call). cc; image = refl; layout = refl }
 
@@ -81,12 +81,12 @@ exchange-steady : (op : AtomicOp) (wide : Bool) (rd a n : ℕ) (o : Option ℕ) 
       | None ↦ fault s Access
       | Some old ↦ elim (store a (atomic_size wide) (stored_result op wide old n) s.memory) [
         | None ↦ fault s Access
-        | Some memory ↦ put rd (atomic_loaded wide old) (with_store a (atomic_size wide) memory s)
+        | Some memory ↦ put rd (atomic_load_value wide old) (with_store a (atomic_size wide) memory s)
       ]
     ])
 exchange-steady op wide rd a n None s = fault-steady Access s
 exchange-steady op wide rd a n (Some old) s =
-    exchanged-steady rd (atomic_loaded wide old) a (atomic_size wide) (store a (atomic_size wide) (stored_result op wide old n) s.memory) s (store-keeps s.memory a (atomic_size wide) (stored_result op wide old n))
+    exchanged-steady rd (atomic_load_value wide old) a (atomic_size wide) (store a (atomic_size wide) (stored_result op wide old n) s.memory) s (store-keeps s.memory a (atomic_size wide) (stored_result op wide old n))
 
 swapped-steady : (op : AtomicOp) (wide : Bool) (rd a n : ℕ) (s : Setting) → Steady s.memory (aligned a wide (exchange op wide rd a n) s)
 swapped-steady op wide rd a n s =
@@ -121,7 +121,7 @@ execute-steady h (Upper op rd n) s = inl (put-steady rd _ s)
 execute-steady h (Jal rd offset) s = inl (jump-steady rd _ s)
 execute-steady h (Jalr rd rs1 offset) s = inl (jump-steady rd _ s)
 execute-steady h (Branch op rs1 rs2 offset) s = inl (branch-steady (is_taken op (register s.hart rs1) (register s.hart rs2)) (address_at s.hart.pc offset) s)
-execute-steady h (Load op rd rs1 offset) s = inl (loaded-steady rd (loaded op) _ s)
+execute-steady h (Load op rd rs1 offset) s = inl (loaded-steady rd (load_value op) _ s)
 execute-steady h (Store op rs1 rs2 offset) s = inl (stored-steady _ _ _ s (store-keeps s.memory _ _ _))
 execute-steady h (Imm op rd rs1 n) s = inl (put-steady rd _ s)
 execute-steady h (Shift op rd rs1 amount) s = inl (put-steady rd _ s)

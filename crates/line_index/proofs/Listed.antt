@@ -15,7 +15,7 @@ use Rattle.std.proofs.lemmas.List.Kept.{IsStrictlySortedBy-filter}
 use Rattle.std.proofs.lemmas.Slice.Eq.{bytes_eq-Decides}
 use Rattle.coz_types.specs.declared.image.Area.{Area}
 use Rattle.dwarf_lines.specs.Registers.{Table}
-use Rattle.line_index.specs.Lines.{Line, line_of, line_cmp, is_line, Begins}
+use Rattle.line_index.specs.Lines.{Line, line_of, line_cmp, is_line_named, Begins}
 use Rattle.line_index.specs.Index.{Index, AreEntries, IsIndex, position_at}
 use Rattle.line_index.specs.Listed.{in_order, bounds, lines_in, is_same, begins, entries_in, position_in, IsListed}
 use Rattle.line_index.proofs.Pieces.{Among, to_among, from_among, in_front, in_rest}
@@ -42,14 +42,14 @@ line_same l m e = same_line_by l m (slice_cmp nat_cmp l.path m.path) refl e
 
 -- ---- the test for a line
 
-is_line_true : (l m : Line) → is_line l.path l.number m ≡ true → m ≡ l
+is_line_true : (l m : Line) → is_line_named l.path l.number m ≡ true → m ≡ l
 is_line_true l m e =
     let parts = and_parts (m.number == l.number) (bytes_eq m.path l.path) e in
     let number = eqb-true m.number l.number parts.0 in
     let path = (bytes_eq-Decides m.path l.path).0 parts.1 in
     λ i. record { path = path i; number = number i }
 
-true_is_line : (l : Line) → is_line l.path l.number l ≡ true
+true_is_line : (l : Line) → is_line_named l.path l.number l ≡ true
 true_is_line l = and_from (l.number == l.number) (bytes_eq l.path l.path) (eq-eqb l.number l.number refl) ((bytes_eq-Decides l.path l.path).1 refl)
 
 is_same_true : (l : Line) (line : Option Line) → is_same l line ≡ true → line ≡ Some l
@@ -185,8 +185,8 @@ passed_later p l lines k e rest =
     let more : 1 + prefix_len (λ m. not (p m)) lines ≡ suc k = omega (arith, rest) in
     ap (λ t. cond (not t) (1 + prefix_len (λ m. not (p m)) lines) 0) e ∙ more
 
-not_line : (l m : Line) → (m ≡ l → ⊥) → is_line l.path l.number m ≡ false
-not_line l m differs = false_from_ne_true (is_line l.path l.number m) (λ e. differs (is_line_true l m e))
+not_line : (l m : Line) → (m ≡ l → ⊥) → is_line_named l.path l.number m ≡ false
+not_line l m differs = false_from_ne_true (is_line_named l.path l.number m) (λ e. differs (is_line_true l m e))
 
 some_is : {X : Type 0} (x y : X) → Some x ≡ Some y → x ≡ y
 some_is x y e = cc
@@ -197,20 +197,20 @@ later_differs l m lines k up at e =
     omega arith
 
 -- the first line that passes is the line itself
-first_passed : (l : Line) (lines : List Line) (k : ℕ) → IsStrictlySortedBy line_cmp lines → slice_get lines k ≡ Some l → prefix_len (λ m. not (is_line l.path l.number m)) lines ≡ k
+first_passed : (l : Line) (lines : List Line) (k : ℕ) → IsStrictlySortedBy line_cmp lines → slice_get lines k ≡ Some l → prefix_len (λ m. not (is_line_named l.path l.number m)) lines ≡ k
 first_passed l [] k up at = let no : ⊥ = cc in absurd no
 first_passed l (m ∷ lines) zero up at =
-    passed_first (is_line l.path l.number) m lines (ap (is_line l.path l.number) (some_is m l at) ∙ true_is_line l)
+    passed_first (is_line_named l.path l.number) m lines (ap (is_line_named l.path l.number) (some_is m l at) ∙ true_is_line l)
 first_passed l (m ∷ lines) (suc k) up at =
-    passed_later (is_line l.path l.number) m lines k (not_line l m (later_differs l m lines k up at)) (first_passed l lines k (sorted_tail line_cmp m lines up) at)
+    passed_later (is_line_named l.path l.number) m lines k (not_line l m (later_differs l m lines k up at)) (first_passed l lines k (sorted_tail line_cmp m lines up) at)
 
-place_of : (l : Line) (lines : List Line) (k : ℕ) → IsStrictlySortedBy line_cmp lines → slice_get lines k ≡ Some l → position (is_line l.path l.number) lines ≡ Some k
+place_of : (l : Line) (lines : List Line) (k : ℕ) → IsStrictlySortedBy line_cmp lines → slice_get lines k ≡ Some l → position (is_line_named l.path l.number) lines ≡ Some k
 place_of l lines k up at =
     let first = first_passed l lines k up at in
     let within : nat_lt k (length lines) ≡ true = lt-ltb k (length lines) (slice_get_within lines k l at) in
     ap (λ n. cond (nat_lt n (length lines)) (Some n) None) first ∙ ap (λ t. cond t (Some k) None) within
 
-position_by : (lines : List Line) (place : Option ℕ) (line : Option Line) → IsStrictlySortedBy line_cmp lines → option_map (slice_get lines) place ≡ option_map Some line → place ≡ option_and_then (λ l. position (is_line l.path l.number) lines) line
+position_by : (lines : List Line) (place : Option ℕ) (line : Option Line) → IsStrictlySortedBy line_cmp lines → option_map (slice_get lines) place ≡ option_map Some line → place ≡ option_and_then (λ l. position (is_line_named l.path l.number) lines) line
 position_by lines None None up e = refl
 position_by lines None (Some l) up e = let no : ⊥ = cc in absurd no
 position_by lines (Some k) None up e = let no : ⊥ = cc in absurd no
@@ -220,7 +220,7 @@ pub positions_are : {table : Table} {areas : List Area} {index : Index} → IsIn
 unfolding position_in
 positions_are {table = table} {areas = areas} {index = index} i a =
     position_by index.lines (position_at index a) (line_of table areas a) i.in_order (i.positions a)
-    ∙ ap (λ lines. option_and_then (λ l. position (is_line l.path l.number) lines) (line_of table areas a)) (lines_are i)
+    ∙ ap (λ lines. option_and_then (λ l. position (is_line_named l.path l.number) lines) (line_of table areas a)) (lines_are i)
 
 -- the same as functions
 pub position_is : {table : Table} {areas : List Area} {index : Index} → IsIndex table areas index → position_at index ≡ position_in table areas

@@ -16,7 +16,7 @@ use Rattle.std.proofs.lemmas.List.Sums.{position_or_len_is}
 use Rattle.std.proofs.lemmas.Map.Keys.{Less-from_sorted}
 use Rattle.std.proofs.lemmas.Slice.Eq.{bytes_eq-Decides}
 use Rattle.line_index.specs.declared.lines.Key.{Key}
-use Rattle.line_index.specs.Lines.{is_line}
+use Rattle.line_index.specs.Lines.{is_line_named}
 use Rattle.line_index.specs.Keys.{HasPath, is_key, key_cmp, path_cmp, texts, with_path}
 use Rattle.line_index.specs.Index.{line_at}
 use Rattle.line_index.proofs.Order.{self_equal}
@@ -129,12 +129,12 @@ path_test paths text j k up first second at = by (j == k) refl
 
 -- the keys of a path and a number are the lines of its text
 pub text_line : (paths : List (List ℕ)) (keys : List Key) (text : List ℕ) (k number : ℕ) → IsStrictlySortedBy (slice_cmp nat_cmp) paths → All (HasPath paths) keys → k < length paths → get_or paths k [] ≡ text
-    → position (is_key (with_path number k)) keys ≡ position (is_line text number) (map (line_at paths) keys)
+    → position (is_key (with_path number k)) keys ≡ position (is_line_named text number) (map (line_at paths) keys)
 text_line paths keys text k number up have within at =
-    position_same (is_key (with_path number k)) (λ key. is_line text number (line_at paths key)) keys (tests keys (recursion_from_All (HasPath paths) keys have))
-    ∙ sym (position-map (is_line text number) (line_at paths) keys)
+    position_same (is_key (with_path number k)) (λ key. is_line_named text number (line_at paths key)) keys (tests keys (recursion_from_All (HasPath paths) keys have))
+    ∙ sym (position-map (is_line_named text number) (line_at paths) keys)
   where
-    tests : (keys : List Key) → AllByRecursion (HasPath paths) keys → AllByRecursion (λ key. is_key (with_path number k) key ≡ is_line text number (line_at paths key)) keys
+    tests : (keys : List Key) → AllByRecursion (HasPath paths) keys → AllByRecursion (λ key. is_key (with_path number k) key ≡ is_line_named text number (line_at paths key)) keys
     tests [] have = tt
     tests (key ∷ keys) have = (ap (λ t. (key.number == number) && t) (path_test paths text key.path k up have.0 within at), tests keys have.1)
 
@@ -143,12 +143,12 @@ default_path [] k text lt e = absurd (omega arith)
 default_path (path ∷ paths) zero text lt e = e
 default_path (path ∷ paths) (suc k) text lt e = default_path paths k text (omega arith) e
 
-pub no_text_line : (paths : List (List ℕ)) (keys : List Key) (text : List ℕ) (number : ℕ) → All (HasPath paths) keys → (Contains paths text → ⊥) → position (is_line text number) (map (line_at paths) keys) ≡ None
+pub no_text_line : (paths : List (List ℕ)) (keys : List Key) (text : List ℕ) (number : ℕ) → All (HasPath paths) keys → (Contains paths text → ⊥) → position (is_line_named text number) (map (line_at paths) keys) ≡ None
 no_text_line paths keys text number have never =
     let none : Key = with_path 0 0 in
-    position-map (is_line text number) (line_at paths) keys
-    ∙ position_none (λ key. is_line text number (line_at paths key)) keys none
-    (λ k lt. false_from_ne_true (is_line text number (line_at paths (get_or keys k none))) (λ passes.
+    position-map (is_line_named text number) (line_at paths) keys
+    ∙ position_none (λ key. is_line_named text number (line_at paths key)) keys none
+    (λ k lt. false_from_ne_true (is_line_named text number (line_at paths (get_or keys k none))) (λ passes.
     let key : Key = get_or keys k none in
     let parts = and_parts (key.number == number) (bytes_eq (get_or paths key.path []) text) passes in
     let within : HasPath paths key = All-get_or (HasPath paths) keys k none lt have in

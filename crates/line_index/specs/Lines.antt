@@ -85,8 +85,8 @@ pub record IsRight (line : Line) : Type 0 where
 abbrev pub line_cmp : Line → Line → Ordering
 line_cmp l m = ordering_then (slice_cmp nat_cmp l.path m.path) (nat_cmp l.number m.number)
 
-abbrev pub is_line : List ℕ → ℕ → Line → Bool
-is_line text number line = line.number == number && bytes_eq line.path text
+abbrev pub is_line_named : List ℕ → ℕ → Line → Bool
+is_line_named text number line = line.number == number && bytes_eq line.path text
 
 -- the path ends with a slash and the text
 abbrev pub ends_with : List ℕ → List ℕ → Bool
@@ -97,4 +97,4 @@ is_line_below text number line = line.number == number && ends_with line.path te
 
 -- where in a list of lines in order: that of the path, else the first whose path ends with it
 abbrev pub found : List ℕ → ℕ → List Line → Option ℕ
-found text number lines = or_else (position (is_line text number) lines) (position (is_line_below text number) lines)
+found text number lines = or_else (position (is_line_named text number) lines) (position (is_line_below text number) lines)

@@ -7,7 +7,7 @@ use Rattle.std.specs.FinMap.Entries.{by_order}
 use Rattle.coz_types.specs.declared.image.Area.{Area}
 use Rattle.dwarf_lines.specs.declared.Row.{Row}
 use Rattle.dwarf_lines.specs.Registers.{Table}
-use Rattle.line_index.specs.Lines.{Line, line_of, line_cmp, is_line}
+use Rattle.line_index.specs.Lines.{Line, line_of, line_cmp, is_line_named}
 use Rattle.line_index.specs.Index.{Index, position_at}
 
 -- a list in order with one more element, unless it is there
@@ -30,7 +30,7 @@ lines_in table areas = in_order line_cmp (filter_map (line_of table areas) (boun
 
 abbrev pub is_same : Line → Option Line → Bool
 is_same line None = false
-is_same line (Some other) = is_line line.path line.number other
+is_same line (Some other) = is_line_named line.path line.number other
 
 -- the address has the line, and the address before it has not
 abbrev pub begins : Table → List Area → Line → ℕ → Bool
@@ -43,7 +43,7 @@ entries_in table areas line = filter (begins table areas line) (in_order nat_cmp
 
 -- the position of the line of an address, if it has one
 unfoldable pub position_in : Table → List Area → ℕ → Option ℕ
-position_in table areas a = option_and_then (λ line. position (is_line line.path line.number) (lines_in table areas)) (line_of table areas a)
+position_in table areas a = option_and_then (λ line. position (is_line_named line.path line.number) (lines_in table areas)) (line_of table areas a)
 
 -- the index holds what these give
 pub record IsListed (table : Table) (areas : List Area) (index : Index) : Type 0 where

@@ -2,7 +2,7 @@
 
 ghost use Rattle.std.specs.Prelude.{◌≡◌, ◌<◌, ◌^◌, length, map, position, All};
 ghost use Rattle.std.specs.List.Sorted.{IsStrictlySortedBy};
-ghost use Rattle.line_index.specs.Lines.{ends_with, is_line, is_line_below, found};
+ghost use Rattle.line_index.specs.Lines.{ends_with, is_line_named, is_line_below, found};
 ghost use Rattle.line_index.specs.Keys.{HasPath, is_key, key_cmp, path_cmp, texts, with_path};
 ghost use Rattle.line_index.specs.Index.{line_at};
 ghost use Rattle.line_index.specs.Backwards.{AreBackwards};
@@ -41,7 +41,7 @@ fn line_of_text(paths: &[Vec<u8>], keys: &[Key], path: &[u8], number: u32) -> Op
     requires in_order { IsStrictlySortedBy key_cmp keys.now }
     requires have_paths { All (HasPath (texts paths.now)) keys.now }
     requires few { length keys.now < 2 ^ 32 }
-    ensures { result ≡ position (is_line path.now number) (map (line_at (texts paths.now)) keys.now) }
+    ensures { result ≡ position (is_line_named path.now number) (map (line_at (texts paths.now)) keys.now) }
 {
     match paths.binary_search_by(|other| other.as_slice().cmp(path)) {
         Ok(place) => line_of_path(keys, place as u32, number),

@@ -12,7 +12,7 @@ use Rattle.rv_execute.specs.declared.hart.Step.TheVariants.{Next, Call, Fault}
 use Rattle.rv_alu.specs.Operations.{register_result, immediate_result, shift_result, upper_result, is_taken, stored_result}
 use Rattle.guest_memory.specs.Memory.{load, store}
 use Rattle.rv_execute.specs.Reservations.{is_reserved}
-use Rattle.rv_execute.specs.Execution.{Setting, Executed, with_register, pc_after, address_at, load_size, loaded, store_size, atomic_size, atomic_loaded, value, execute}
+use Rattle.rv_execute.specs.Execution.{Setting, Executed, with_register, pc_after, address_at, load_size, load_value, store_size, atomic_size, atomic_load_value, value, execute}
 use Rattle.rv_execute.specs.Laws.{after_trap}
 
 -- register 0 stays as it was, a call comes of ecall alone, and a trap leaves what `after_trap` says
@@ -49,7 +49,7 @@ atomic_orderly h Lr wide aq rl rd rs1 rs2 s =
     let i : Instr = Atomic Lr wide aq rl rd rs1 rs2 in
     on_bool (IsOrderly h i s) (value s rs1 % atomic_size wide == 0) _ _
     (on_option (IsOrderly h i s) (load s.memory (value s rs1) (atomic_size wide)) _ _ (fault_orderly h i s Access refl)
-    (λ n. next_orderly h i s _ (zero-with_register rd (atomic_loaded wide n) s.hart)))
+    (λ n. next_orderly h i s _ (zero-with_register rd (atomic_load_value wide n) s.hart)))
     (fault_orderly h i s Misaligned refl)
 atomic_orderly h Sc wide aq rl rd rs1 rs2 s =
     let i : Instr = Atomic Sc wide aq rl rd rs1 rs2 in
@@ -62,7 +62,7 @@ atomic_orderly h op wide aq rl rd rs1 rs2 s =
     on_bool (IsOrderly h i s) (value s rs1 % atomic_size wide == 0) _ _
     (on_option (IsOrderly h i s) (load s.memory (value s rs1) (atomic_size wide)) _ _ (fault_orderly h i s Access refl)
     (λ old. on_option (IsOrderly h i s) (store (value s rs1) (atomic_size wide) (stored_result op wide old (value s rs2)) s.memory) _ _ (fault_orderly h i s Access refl)
-    (λ memory. next_orderly h i s _ (zero-with_register rd (atomic_loaded wide old) s.hart))))
+    (λ memory. next_orderly h i s _ (zero-with_register rd (atomic_load_value wide old) s.hart))))
     (fault_orderly h i s Misaligned refl)
 
 pub orderly : (h : ℕ) (i : Instr) (s : Setting) → IsOrderly h i s (execute h i s)
@@ -86,7 +86,7 @@ orderly h (Branch op rs1 rs2 offset) s =
 orderly h (Load op rd rs1 offset) s =
     let i : Instr = Load op rd rs1 offset in
     on_option (IsOrderly h i s) (load s.memory (address_at (value s rs1) offset) (load_size op)) _ _ (fault_orderly h i s Access refl)
-    (λ n. next_orderly h i s _ (zero-with_register rd (loaded op n) s.hart))
+    (λ n. next_orderly h i s _ (zero-with_register rd (load_value op n) s.hart))
 orderly h (Store op rs1 rs2 offset) s =
     let i : Instr = Store op rs1 rs2 offset in
     on_option (IsOrderly h i s) (store (address_at (value s rs1) offset) (store_size op) (value s rs2) s.memory) _ _ (fault_orderly h i s Access refl) (λ memory. next_orderly h i s _ refl)

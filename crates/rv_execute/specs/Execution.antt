@@ -67,14 +67,14 @@ abbrev pub low_extended : ℕ → ℕ → ℕ
 low_extended k n = extended k (n % 2 ^ k)
 
 -- what a load of a number puts into a register
-abbrev pub loaded : LoadOp → ℕ → ℕ
-loaded Lb n = low_extended 8 n
-loaded Lh n = low_extended 16 n
-loaded Lw n = low_extended 32 n
-loaded Ld n = n
-loaded Lbu n = n
-loaded Lhu n = n
-loaded Lwu n = n
+abbrev pub load_value : LoadOp → ℕ → ℕ
+load_value Lb n = low_extended 8 n
+load_value Lh n = low_extended 16 n
+load_value Lw n = low_extended 32 n
+load_value Ld n = n
+load_value Lbu n = n
+load_value Lhu n = n
+load_value Lwu n = n
 
 abbrev pub store_size : StoreOp → ℕ
 store_size Sb = 1
@@ -86,8 +86,8 @@ abbrev pub atomic_size : Bool → ℕ
 atomic_size wide = if wide then 8 else 4
 
 -- what an atomic load of a number puts into a register
-abbrev pub atomic_loaded : Bool → ℕ → ℕ
-atomic_loaded wide n = if wide then n else low_extended 32 n
+abbrev pub atomic_load_value : Bool → ℕ → ℕ
+atomic_load_value wide n = if wide then n else low_extended 32 n
 
 module _ (s : Setting) where
   abbrev pub value : ℕ → ℕ
@@ -118,7 +118,7 @@ abbrev pub load_to : LoadOp → ℕ → ℕ → Setting → Executed
 load_to op rd address s =
     elim (load s.memory address (load_size op)) [
       | None ↦ fault s Access
-      | Some n ↦ put rd (loaded op n) s
+      | Some n ↦ put rd (load_value op n) s
     ]
 
 -- with the memory after a store of so many bytes at an address
@@ -136,7 +136,7 @@ abbrev pub reserve : ℕ → Bool → ℕ → ℕ → Setting → Executed
 reserve h wide rd address s =
     elim (load s.memory address (atomic_size wide)) [
       | None ↦ fault s Access
-      | Some n ↦ put rd (atomic_loaded wide n) (record s { reservations = with_reservation h address s.reservations })
+      | Some n ↦ put rd (atomic_load_value wide n) (record s { reservations = with_reservation h address s.reservations })
     ]
 
 -- the store needs the right to write also where the hart has no reservation
@@ -154,7 +154,7 @@ exchange op wide rd address n s =
       | None ↦ fault s Access
       | Some old ↦ elim (store address (atomic_size wide) (stored_result op wide old n) s.memory) [
         | None ↦ fault s Access
-        | Some memory ↦ put rd (atomic_loaded wide old) (with_store address (atomic_size wide) memory s)
+        | Some memory ↦ put rd (atomic_load_value wide old) (with_store address (atomic_size wide) memory s)
       ]
     ]
 

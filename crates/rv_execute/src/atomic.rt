@@ -4,7 +4,7 @@ ghost use Rattle.coz_types.specs.declared.TheConstants.{HARTS};
 ghost use Rattle.rv_alu.specs.Operations.{is_amo};
 ghost use Rattle.guest_memory.specs.Memory.{IsSize};
 ghost use Rattle.rv_execute.specs.Reservations.{is_reserved};
-ghost use Rattle.rv_execute.specs.Execution.{setting, executed, atomic_size, atomic_loaded, aligned, reserve, store_reserved, exchange, atomic};
+ghost use Rattle.rv_execute.specs.Execution.{setting, executed, atomic_size, atomic_load_value, aligned, reserve, store_reserved, exchange, atomic};
 
 use crate::hart::{HartState, Step};
 use crate::memory_access::low_word_extended;
@@ -36,8 +36,8 @@ fn size_of(wide: bool) -> u8
 
 /// What the load of a number puts into a register.
 #[inline]
-fn loaded(wide: bool, number: u64) -> u64
-    ensures { result ≡ atomic_loaded wide number }
+fn load_value(wide: bool, number: u64) -> u64
+    ensures { result ≡ atomic_load_value wide number }
 {
     if wide {
         number
@@ -74,7 +74,7 @@ fn load_reserved(
         Err(Access) => Step::Fault(TrapCause::Access),
         Ok(value) => {
             reservations.reserve(number, target.address);
-            hart.put(target.rd, loaded(target.wide, value))
+            hart.put(target.rd, load_value(target.wide, value))
         }
     }
 }
@@ -156,7 +156,7 @@ fn exchange(
         Err(Access) => Step::Fault(TrapCause::Access),
         Ok(()) => {
             reservations.end_at(target.address, u64::from(size));
-            hart.put(target.rd, loaded(target.wide, old))
+            hart.put(target.rd, load_value(target.wide, old))
         }
     }
 }

@@ -2,7 +2,7 @@
 ghost use Rattle.std.specs.Prelude.{◌≡◌, ◌<◌};
 ghost use Rattle.guest_memory.specs.Memory.{IsSize};
 ghost use Rattle.rv_execute.specs.Reservations.{Reservations as Reserved};
-ghost use Rattle.rv_execute.specs.Execution.{setting, executed, register, address_at, load_size, loaded, load_to, store_size, store_at};
+ghost use Rattle.rv_execute.specs.Execution.{setting, executed, register, address_at, load_size, load_value, load_to, store_size, store_at};
 
 use crate::hart::{HartState, Step, address_at};
 use crate::reservations::Reservations;
@@ -39,15 +39,15 @@ fn store_size(op: StoreOp) -> u8
 /// The register that holds the signed number which the lowest 32 bits write.
 #[inline]
 pub fn low_word_extended(number: u64) -> u64
-    ensures { result ≡ loaded (LoadOp.Lw) number }
+    ensures { result ≡ load_value (LoadOp.Lw) number }
 {
     i64::from(((number % 0x1_0000_0000) as u32).cast_signed()).cast_unsigned()
 }
 
 /// What a load of a number puts into a register.
 #[inline]
-fn loaded(op: LoadOp, number: u64) -> u64
-    ensures { result ≡ loaded op number }
+fn load_value(op: LoadOp, number: u64) -> u64
+    ensures { result ≡ load_value op number }
 {
     match op {
         LoadOp::Lb => i64::from(((number % 0x100) as u8).cast_signed()).cast_unsigned(),
@@ -68,7 +68,7 @@ pub fn load(hart: &mut HartState, memory: &Memory, op: LoadOp, rd: u8, rs1: u8, 
     let address = address_at(hart.value(rs1), offset);
     match memory.load(address, load_size(op)) {
         Err(Access) => Step::Fault(TrapCause::Access),
-        Ok(number) => hart.put(rd, loaded(op, number)),
+        Ok(number) => hart.put(rd, load_value(op, number)),
     }
 }
 

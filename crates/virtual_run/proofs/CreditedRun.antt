@@ -48,7 +48,7 @@ use Rattle.virtual_run.specs.Ending.{ending_of}
 use Rattle.virtual_run.specs.Visits.{Visits, visits_of}
 use Rattle.virtual_run.specs.Run.{events_of, IsChoice, IsReached, IsSteady, IsFirst}
 use Rattle.virtual_run.specs.Advance.{IsRetired, IsWoken, IsAdvance}
-use Rattle.virtual_run.specs.Credited.{raise_ticks, with_credits, with_starts, with_raises, with_rest, with_begun, settled_by, moment_of, credited_by, Runs, AllRun, AllBelow, Holds, CanBegin, CanWake, CanSettle, CanFollow}
+use Rattle.virtual_run.specs.Credited.{raise_ticks, with_credits, with_starts, with_raises, with_rest, with_begun, credits_after, moment_of, credited_by, Runs, AllRun, AllBelow, Holds, CanBegin, CanWake, CanSettle, CanFollow}
 use Rattle.virtual_run.specs.Credited as credited
 use Rattle.virtual_run.specs.Seen.{Seen, experiment_with, experiment_of}
 use Rattle.virtual_run.specs.DelayedRun.{visit_as, net_due_of, account_in, outcome_of, IsOfAHart, IsSmall, Happens, AgreesThroughout, EndsOnce, IsPaced}
@@ -306,14 +306,14 @@ module _ (image : ImageParts) (input : List ℕ) (setting : Setting) (run : Run)
         }
 
     settled : Delays
-    settled = settled_by new.ending (raise_ticks new.guest setting.choice.speedup) h fate new.started new.selected stopped
+    settled = credits_after new.ending (raise_ticks new.guest setting.choice.speedup) h fate new.started new.selected stopped
 
     ticks_are : (k : ℕ) → raise_ticks new.guest setting.choice.speedup k ≡ x.speedup * x.guest.cycles new.guest k
     ticks_are k = mul_comm (cycles_of (next_of new.guest k)) setting.choice.speedup
 
     settled_holds : (o : Option Ending) → new.ending ≡ o
-        → Holds (settled_by o (raise_ticks new.guest setting.choice.speedup) h fate new.started new.selected stopped) (standing x (suc (events_of run)))
-        × (length (settled_by o (raise_ticks new.guest setting.choice.speedup) h fate new.started new.selected stopped).harts ≡ 256)
+        → Holds (credits_after o (raise_ticks new.guest setting.choice.speedup) h fate new.started new.selected stopped) (standing x (suc (events_of run)))
+        × (length (credits_after o (raise_ticks new.guest setting.choice.speedup) h fate new.started new.selected stopped).harts ≡ 256)
     settled_holds (Some e) is = (steps.holds_ended x IsOrderly law (events_of run) t later_now credits next was_awake e fate (ap (λ (r : Retirement Guest). r.fate) retires_as) (after_is ∙ is), stopped_places)
     settled_holds None is =
         let ticks : ℕ → ℕ = raise_ticks new.guest setting.choice.speedup in (
@@ -332,7 +332,7 @@ module _ (image : ImageParts) (input : List ℕ) (setting : Setting) (run : Run)
         (visit_kept point h later_now delay ∙ ap₂ (λ (m : ℕ) (g : Guest). visit_at x h later_now m g) given (sym short_guest))
         ∙ sym (steps.visits_next x IsOrderly law (events_of run) t later_now credits next was_awake)
 
-    latest_is : (o : Option Ending) → (settled_by o (raise_ticks new.guest setting.choice.speedup) h fate new.started new.selected stopped).latest ≡ later_now
+    latest_is : (o : Option Ending) → (credits_after o (raise_ticks new.guest setting.choice.speedup) h fate new.started new.selected stopped).latest ≡ later_now
     latest_is (Some e) = ap (λ (c : Delays). c.latest) (with_rest_is h fate later_now credits)
     latest_is None =
         raises_latest (raise_ticks new.guest setting.choice.speedup) new.selected (with_starts (started_by h fate new.started) (with_credits new.started stopped))
@@ -359,7 +359,7 @@ module _ (image : ImageParts) (input : List ℕ) (setting : Setting) (run : Run)
         let begins = goes_begins x IsOrderly law (events_of run) t (ending_now ∙ goes) next.turn was_awake (after_is ∙ is) in
         a.selected is ∙ sym (ap (filter (x.guest.is_selected new.guest)) (begins ∙ sym (ap (started h) retires_as)))
 
-    pub paced_next : (after : Delays) → after ≡ settled_by new.ending (raise_ticks new.guest setting.choice.speedup) h fate new.started new.selected stopped → IsPaced image input setting new after later_now
+    pub paced_next : (after : Delays) → after ≡ credits_after new.ending (raise_ticks new.guest setting.choice.speedup) h fate new.started new.selected stopped → IsPaced image input setting new after later_now
     paced_next after is =
         let both = settled_holds new.ending refl in
         let holds : Holds after (standing x (events_of new)) = subst (λ (n : ℕ). Holds after (standing x n)) (sym next_count) (subst (λ (c : Delays). Holds c (standing x (suc (events_of run)))) (sym is) both.0) in

@@ -81,9 +81,9 @@ abbrev pub with_wake : (ℕ → ℕ) → ℕ → List ℕ → Delays → Delays
 with_wake ticks hart selected c = with_raises ticks selected (with_starts (hart ∷ []) c)
 
 -- after a retirement with which a run ends or goes on
-abbrev pub settled_by : Option Ending → (ℕ → ℕ) → ℕ → Fate → List ℕ → List ℕ → Delays → Delays
-settled_by None ticks hart fate others selected c = with_begun ticks hart fate others selected c
-settled_by (Some ending) ticks hart fate others selected c = c
+abbrev pub credits_after : Option Ending → (ℕ → ℕ) → ℕ → Fate → List ℕ → List ℕ → Delays → Delays
+credits_after None ticks hart fate others selected c = with_begun ticks hart fate others selected c
+credits_after (Some ending) ticks hart fate others selected c = c
 
 -- what the harts and the credits must be where it goes on
 pub record CanBegin (c : Delays) (g : Guest) (hart : ℕ) (fate : Fate) (others raisers : List ℕ) : Type 0 where
@@ -131,4 +131,4 @@ moment_of (Retired retired) run = run.time
 -- the credits after it
 abbrev pub credited_by : Event → Run → (ℕ → ℕ) → ℕ → Delays → Delays
 credited_by (Woke turn) run ticks now c = with_wake ticks turn.hart.0 run.selected (at now c)
-credited_by (Retired retired) run ticks now c = settled_by run.ending ticks retired.hart.0 retired.fate run.started run.selected (with_rest retired.hart.0 retired.fate now c)
+credited_by (Retired retired) run ticks now c = credits_after run.ending ticks retired.hart.0 retired.fate run.started run.selected (with_rest retired.hart.0 retired.fate now c)

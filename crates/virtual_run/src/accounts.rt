@@ -6,7 +6,7 @@ ghost use Rattle.machines.specs.Delayed.{is_running, total};
 ghost use Rattle.machines.specs.Guest.{goes_on};
 ghost use Rattle.delay_credits.specs.Delays.{hart_at, pause_of, at, with_stop};
 ghost use Rattle.guest_calls.specs.Guest.{IsMade};
-ghost use Rattle.virtual_run.specs.Credited.{raise_ticks, with_credits, with_starts, with_raises, with_begun, with_rest, with_wake, settled_by, moment_of, credited_by, CanFollow, AllRest, AllBelow, AllRun, AllMade, CanBegin, IsAlone};
+ghost use Rattle.virtual_run.specs.Credited.{raise_ticks, with_credits, with_starts, with_raises, with_begun, with_rest, with_wake, credits_after, moment_of, credited_by, CanFollow, AllRest, AllBelow, AllRun, AllMade, CanBegin, IsAlone};
 
 use crate::run::has_any;
 use crate::{Event, Retired, Run};
@@ -61,7 +61,7 @@ pub fn raised_by(guest: &Guest, hart: HartId, speedup: u8) -> Tick
 
 /// These harts raise the delay in turn at the latest moment, each by its next instruction.
 #[inline(never)]
-pub fn raise_each(credits: &mut Credits, guest: &Guest, harts: &[HartId], speedup: u8, now: Tick)
+pub fn raise_harts(credits: &mut Credits, guest: &Guest, harts: &[HartId], speedup: u8, now: Tick)
     requires run { AllRun credits.old (map (λ hart. hart.0) harts.now) }
     requires made { AllMade guest.now (map (λ hart. hart.0) harts.now) }
     requires speedup { speedup ≤ GREATEST_SPEEDUP }
@@ -84,13 +84,13 @@ pub fn raise_selected(credits: &mut Credits, run: &Run, speedup: u8, now: Tick)
     ensures { credits.new ≡ with_raises (raise_ticks run.now.guest speedup) run.now.selected credits.old }
 {
     let harts = run.selected.harts();
-    raise_each(credits, &run.guest, harts, speedup, now);
+    raise_harts(credits, &run.guest, harts, speedup, now);
 }
 
 /// What follows a retirement from which the run goes on: the harts that it made or woke are credited, all that it started
 /// run, and only then those of them that are selected raise the delay in turn.
 #[inline(never)]
-fn begin_started(credits: &mut Credits, run: &Run, retired: Retired, speedup: u8, now: Tick)
+fn credit_started(credits: &mut Credits, run: &Run, retired: Retired, speedup: u8, now: Tick)
     requires can { CanBegin credits.old run.now.guest retired.hart.0 retired.fate run.now.started run.now.selected }
     requires speedup { speedup ≤ GREATEST_SPEEDUP }
     requires now { credits.old.latest ≡ now }
@@ -99,7 +99,7 @@ fn begin_started(credits: &mut Credits, run: &Run, retired: Retired, speedup: u8
     credit_each(credits, run.started.harts(), retired.hart);
     start_again(credits, retired.hart, retired.fate, now);
     start_each(credits, run.started.harts(), now);
-    raise_each(credits, &run.guest, run.selected.harts(), speedup, now);
+    raise_harts(credits, &run.guest, run.selected.harts(), speedup, now);
 }
 
 /// Whether a run goes on after a retirement that started no hart.
@@ -124,7 +124,7 @@ fn go_on(credits: &mut Credits, run: &Run, hart: HartId, speedup: u8, now: Tick)
     credits.start(hart, now);
     if has_any(&run.selected) {
         let raisers = run.selected.harts();
-        raise_each(credits, &run.guest, raisers, speedup, now);
+        raise_harts(credits, &run.guest, raisers, speedup, now);
     }
 }
 
@@ -162,7 +162,7 @@ fn wake_up(credits: &mut Credits, run: &Run, hart: HartId, speedup: u8, now: Tic
 /// What a retirement at a moment and the starts after it make of the accounts and pauses: the hart stops, and where the run
 /// goes on what it started begins.
 #[inline(never)]
-fn settle(credits: &mut Credits, run: &Run, retired: Retired, speedup: u8, now: Tick)
+fn account_retirement(credits: &mut Credits, run: &Run, retired: Retired, speedup: u8, now: Tick)
     requires below { retired.hart.0 < length credits.old.harts }
     requires later { credits.old.latest ≤ now }
     requires running { IsTrue (is_running (hart_at credits.old retired.hart.0)) }
@@ -170,18 +170,18 @@ fn settle(credits: &mut Credits, run: &Run, retired: Retired, speedup: u8, now: 
     requires can { run.now.ending ≡ None →
         CanBegin (with_rest retired.hart.0 retired.fate now credits.old) run.now.guest retired.hart.0 retired.fate run.now.started run.now.selected }
     requires speedup { speedup ≤ GREATEST_SPEEDUP }
-    ensures { credits.new ≡ settled_by run.now.ending (raise_ticks run.now.guest speedup) retired.hart.0 retired.fate run.now.started run.now.selected
+    ensures { credits.new ≡ credits_after run.now.ending (raise_ticks run.now.guest speedup) retired.hart.0 retired.fate run.now.started run.now.selected
         (with_rest retired.hart.0 retired.fate now credits.old) }
 {
     rest(credits, retired.hart, retired.fate, now);
     if run.ending.is_none() {
-        begin_started(credits, run, retired, speedup, now);
+        credit_started(credits, run, retired, speedup, now);
     }
 }
 
 /// The same for a hart that goes on.
 #[inline(never)]
-fn settle_going(credits: &mut Credits, run: &Run, hart: HartId, speedup: u8, now: Tick)
+fn account_going(credits: &mut Credits, run: &Run, hart: HartId, speedup: u8, now: Tick)
     requires below { hart.0 < length credits.old.harts }
     requires later { credits.old.latest ≤ now }
     requires running { IsTrue (is_running (hart_at credits.old hart.0)) }
@@ -189,19 +189,19 @@ fn settle_going(credits: &mut Credits, run: &Run, hart: HartId, speedup: u8, now
     requires can { run.now.ending ≡ None →
         CanBegin (with_rest hart.0 Fate.Goes now credits.old) run.now.guest hart.0 Fate.Goes run.now.started run.now.selected }
     requires speedup { speedup ≤ GREATEST_SPEEDUP }
-    ensures { credits.new ≡ settled_by run.now.ending (raise_ticks run.now.guest speedup) hart.0 Fate.Goes run.now.started run.now.selected
+    ensures { credits.new ≡ credits_after run.now.ending (raise_ticks run.now.guest speedup) hart.0 Fate.Goes run.now.started run.now.selected
         (with_rest hart.0 Fate.Goes now credits.old) }
 {
     let retired = Retired {
         hart,
         fate: Fate::Goes,
     };
-    settle(credits, run, retired, speedup, now);
+    account_retirement(credits, run, retired, speedup, now);
 }
 
 /// The same, with a shorter way where nothing else begins, as after most retirements.
 #[inline(always)]
-fn settle_plain(credits: &mut Credits, run: &Run, hart: HartId, speedup: u8, now: Tick)
+fn account_plain(credits: &mut Credits, run: &Run, hart: HartId, speedup: u8, now: Tick)
     requires below { hart.0 < length credits.old.harts }
     requires later { credits.old.latest ≤ now }
     requires running { IsTrue (is_running (hart_at credits.old hart.0)) }
@@ -209,13 +209,13 @@ fn settle_plain(credits: &mut Credits, run: &Run, hart: HartId, speedup: u8, now
     requires can { run.now.ending ≡ None →
         CanBegin (with_rest hart.0 Fate.Goes now credits.old) run.now.guest hart.0 Fate.Goes run.now.started run.now.selected }
     requires speedup { speedup ≤ GREATEST_SPEEDUP }
-    ensures { credits.new ≡ settled_by run.now.ending (raise_ticks run.now.guest speedup) hart.0 Fate.Goes run.now.started run.now.selected
+    ensures { credits.new ≡ credits_after run.now.ending (raise_ticks run.now.guest speedup) hart.0 Fate.Goes run.now.started run.now.selected
         (with_rest hart.0 Fate.Goes now credits.old) }
 {
     if is_alone(run) {
         go_on(credits, run, hart, speedup, now);
     } else {
-        settle_going(credits, run, hart, speedup, now);
+        account_going(credits, run, hart, speedup, now);
     }
 }
 
@@ -237,12 +237,12 @@ pub fn follow(credits: &mut Credits, run: &Run, event: Event, speedup: u8, raise
             },
         ) => {
             let now = run.time + raised;
-            settle_plain(credits, run, hart, speedup, now);
+            account_plain(credits, run, hart, speedup, now);
             now
         }
         Event::Retired(retired) => {
             let now = run.time + raised;
-            settle(credits, run, retired, speedup, now);
+            account_retirement(credits, run, retired, speedup, now);
             now
         }
         Event::Woke(turn) => {

@@ -7,7 +7,7 @@ ghost use Rattle.virtual_run.specs.Seen.{experiment_of};
 ghost use Rattle.virtual_run.specs.Lead.{arguments, is_unstarted};
 ghost use Rattle.virtual_run.specs.DelayedRun.{visit_as, net_due_of, account_in, outcome_of, IsSmall, Happens, AgreesThroughout, EndsOnce};
 
-use crate::accounts::{follow, raise_each, raise_selected};
+use crate::accounts::{follow, raise_harts, raise_selected};
 use crate::run::{FIRST, is_wake};
 use crate::{Choice, Event, Run, Setting};
 use coz_types::{Account, Ending, HARTS, HartId, Image, LineId, Outcome, Tick, Visit};
@@ -92,7 +92,7 @@ impl<'a> Machine<'a> {
         let run = Run::new(alloc, image, input, &setting)?;
         let mut credits = Credits::new(alloc, HARTS as u32)?;
         credits.start(FIRST, 0);
-        raise_each(
+        raise_harts(
             &mut credits,
             &run.guest,
             run.selected.harts(),

@@ -1,7 +1,7 @@
 use Rattle.std.proofs.Common.{◌∙◌}
 use Rattle.dwarf_lines.specs.Registers.{view}
 use Rattle.line_index.specs.Listed.{lines_in}
-use Rattle.coz_cli.specs.Experiment.{experiment_of}
+use Rattle.coz_cli.specs.Experiment.{experiment_by_table}
 use Rattle.coz_cli.specs.Kind.{judging}
 use Rattle.coz_cli.proofs.Indexed.{indexed}
 use Rattle.coz_cli.proofs.experiment.file_answer.Goals as goal
@@ -13,4 +13,4 @@ returns-clause-settled g c = λ other.
     let program = c.in_ok-program.program in
     c.index_answer.ensures.settled other
     ∙ indexed program.image (view program.table) input program.index c.in_ok-program.ensures.indexed next
-    ∙ c.in_ok-program.ensures.settled (λ never. never) (λ image table. next (lines_in table image.areas) (experiment_of image table input))
+    ∙ c.in_ok-program.ensures.settled (λ never. never) (λ image table. next (lines_in table image.areas) (experiment_by_table image table input))

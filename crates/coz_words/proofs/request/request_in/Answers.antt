@@ -1,5 +1,5 @@
 use Rattle.std.proofs.Common.{◌∙◌, ap, sym, subst, Bool, Option, None, if◌then◌else◌}
-use Rattle.coz_words.specs.Answers.{Answers, bytes_of, held}
+use Rattle.coz_words.specs.Answers.{Answers, bytes_of, option_value}
 use Rattle.coz_words.specs.Parse.{target_id}
 use Rattle.coz_words.specs.Request.{request_with}
 use Rattle.coz_words.specs.declared.request.Request.{Request}
@@ -20,12 +20,12 @@ returns-then-not-are_texts c =
     let said = said_by c.in-Some-2.matches in
     parsed_some (bytes_of c.args.words.now) (texts c.option_names.result.now) c.in-Some.command c.in_ok-matches.field-0 c.in-Some-2.matches c.are_texts.result
     (sym c.command_in.ensures ∙ c.in-Some.is) c.option_names.ensures c.in_ok-matches.ensures c.in-Some-2.is c.are_texts.ensures
-    ∙ ap (λ (b : Bool). if b then request_with c.in-Some.command (said target_id) (held c.in-Some.command said) else None) c.if-not-are_texts.true
+    ∙ ap (λ (b : Bool). if b then request_with c.in-Some.command (said target_id) (option_value c.in-Some.command said) else None) c.if-not-are_texts.true
 
 pub returns : goal.returns
 returns c =
     let said = said_by c.in-Some-2.matches in
     let made = parsed_some (bytes_of c.args.words.now) (texts c.option_names.result.now) c.in-Some.command c.in_ok-matches.field-0 c.in-Some-2.matches c.are_texts.result
     (sym c.command_in.ensures ∙ c.in-Some.is) c.option_names.ensures c.in_ok-matches.ensures c.in-Some-2.is c.are_texts.ensures
-    ∙ ap (λ (b : Bool). if b then request_with c.in-Some.command (said target_id) (held c.in-Some.command said) else None) c.if-not-are_texts.false in
+    ∙ ap (λ (b : Bool). if b then request_with c.in-Some.command (said target_id) (option_value c.in-Some.command said) else None) c.if-not-are_texts.false in
     subst (λ (o : Option Request). Answers o c.request_of.result) (sym made) c.request_of.ensures

@@ -6,4 +6,4 @@ use Rattle.rv_execute.proofs.memory_access.load.Goals as goal
 pub returns-in-Ok : goal.returns-in-Ok
 returns-in-Ok c r =
     let there : Some c.in-Ok.number ≡ load c.args.memory.now (address_at (register c.args.hart.now c.args.rs1) c.args.offset) (load_size c.args.op) = search (rules, c.in-Ok.ensures) in
-    rw (sym there) (c.put.ensures c.args.memory.now r ∙ ap (λ n. put c.args.rd n (setting c.args.hart.now c.args.memory.now r)) c.loaded.ensures)
+    rw (sym there) (c.put.ensures c.args.memory.now r ∙ ap (λ n. put c.args.rd n (setting c.args.hart.now c.args.memory.now r)) c.load_value.ensures)

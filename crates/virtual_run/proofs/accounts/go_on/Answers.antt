@@ -5,8 +5,8 @@ use Rattle.virtual_run.specs.Credited.{with_raises, with_rest, raise_ticks, AllR
 use Rattle.virtual_run.proofs.CreditedBegin.{raisers_run, goes-on-alone, none-any}
 use Rattle.virtual_run.proofs.accounts.go_on.Goals as goal
 
-pub raise_each-requires-clause-run : goal.raise_each-requires-clause-run
-raise_each-requires-clause-run c =
+pub raise_harts-requires-clause-run : goal.raise_harts-requires-clause-run
+raise_harts-requires-clause-run c =
     let r = c.args.run.now in
     let h : ℕ = c.args.hart.0 in
     let before : Delays = with_rest h Goes c.args.now c.args.credits.now in
@@ -19,7 +19,7 @@ returns-then-has_any c =
     let r = c.args.run.now in
     let ticks : ℕ → ℕ = raise_ticks r.guest c.args.speedup in
     let started = c.start.ensures ∙ goes-on-alone c.args.hart.0 c.args.now r.ending Goes r.started c.args.credits.now c.requires.alone in
-    c.raise_each.ensures
+    c.raise_harts.ensures
     ∙ ap (λ (hs : List ℕ). with_raises ticks hs c.start.new.self) c.harts-raisers.ensures
     ∙ ap (with_raises ticks r.selected) started
 

@@ -1,7 +1,7 @@
 use Rattle.std.proofs.Common.{map, drop}
 use Rattle.virtual_run.specs.Credited.{raise_ticks, with_raises}
 use Rattle.virtual_run.proofs.CreditedLists.{IsRaising}
-use Rattle.virtual_run.proofs.accounts.raise_each.Given as goal
+use Rattle.virtual_run.proofs.accounts.raise_harts.Given as goal
 
 -- the harts that are left are to raise the delay
 abbrev pub invariant-loop-hart : goal.invariant-loop-hart

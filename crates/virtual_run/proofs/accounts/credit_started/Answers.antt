@@ -1,7 +1,7 @@
 use Rattle.std.proofs.Common.{ℕ, List, ap, sym, subst, ◌∙◌}
 use Rattle.virtual_run.specs.Credited.{with_credits, with_starts, with_raises, raise_ticks, AllBelow, AllRun}
 use Rattle.virtual_run.proofs.CreditedBegin.{again_below, others_below, started_is, raisers_run}
-use Rattle.virtual_run.proofs.accounts.begin_started.Goals as goal
+use Rattle.virtual_run.proofs.accounts.credit_started.Goals as goal
 
 pub start_again-requires-clause-below : goal.start_again-requires-clause-below
 start_again-requires-clause-below c =
@@ -16,8 +16,8 @@ start_each-requires-clause-below c =
     subst (AllBelow c.start_again.new.credits) (sym c.harts-2.ensures)
     (others_below c.args.credits.now r.guest c.args.retired.hart.0 c.args.retired.fate r.started r.selected c.requires.can c.credit_each.new.credits c.start_again.new.credits credited c.start_again.ensures)
 
-pub raise_each-requires-clause-run : goal.raise_each-requires-clause-run
-raise_each-requires-clause-run c =
+pub raise_harts-requires-clause-run : goal.raise_harts-requires-clause-run
+raise_harts-requires-clause-run c =
     let r = c.args.run.now in
     let credited = c.credit_each.ensures ∙ ap (λ (hs : List ℕ). with_credits hs c.args.credits.now) c.harts.ensures in
     let started = started_is c.args.credits.now r.guest c.args.retired.hart.0 c.args.retired.fate r.started r.selected c.requires.can c.credit_each.new.credits c.start_again.new.credits c.start_each.new.credits
@@ -32,6 +32,6 @@ returns c =
     let credited = c.credit_each.ensures ∙ ap (λ (hs : List ℕ). with_credits hs c.args.credits.now) c.harts.ensures in
     let started = started_is c.args.credits.now r.guest c.args.retired.hart.0 c.args.retired.fate r.started r.selected c.requires.can c.credit_each.new.credits c.start_again.new.credits c.start_each.new.credits
     credited c.start_again.ensures (c.start_each.ensures ∙ ap (λ (hs : List ℕ). with_starts hs c.start_again.new.credits) c.harts-2.ensures) in
-    c.raise_each.ensures
+    c.raise_harts.ensures
     ∙ ap (λ (hs : List ℕ). with_raises ticks hs c.start_each.new.credits) c.harts-3.ensures
     ∙ ap (with_raises ticks r.selected) started

@@ -2,7 +2,7 @@ use Rattle.std.proofs.Common.{◌≡◌, ℕ, List, ◌+◌, ◌≤◌, ◌∷�
 use Rattle.delay_credits.specs.Delays.{Delays, with_raise}
 use Rattle.virtual_run.specs.Credited.{raise_ticks, with_raises}
 use Rattle.virtual_run.proofs.CreditedLists.{numbers, next_number, no_numbers, among_first, among_at, IsRaising, raised_one}
-use Rattle.virtual_run.proofs.accounts.raise_each.Goals as goal
+use Rattle.virtual_run.proofs.accounts.raise_harts.Goals as goal
 
 pub raised_by-requires-clause-made : goal.raised_by-requires-clause-made
 raised_by-requires-clause-made c =
