@@ -4,6 +4,7 @@ use Rattle.std.specs.declared.cmp.Ordering.{Ordering}
 use Rattle.std.specs.Ordering.{nat_cmp, ordering_then}
 use Rattle.std.specs.List.Sorted.{IsStrictlySortedBy}
 use Rattle.coz_types.specs.declared.LineId.{LineId}
+use Rattle.coz_types.specs.declared.TheConstants.{GREATEST_SPEEDUP}
 use Rattle.experiment_plan.specs.declared.experiment.Experiment.{Experiment}
 use Rattle.experiment_plan.specs.declared.experiment.PlanError.{PlanError}
 use Rattle.experiment_plan.specs.declared.experiment.PlanError.TheVariants.{TooMany, Memory}
@@ -24,7 +25,7 @@ planned lines speedups = pairs_of lines (rising (0 ∷ speedups))
 abbrev pub pair_cmp : Experiment → Experiment → Ordering
 pair_cmp e f = ordering_then (nat_cmp e.line.0 f.line.0) (nat_cmp e.speedup f.speedup)
 
--- the pairs of a plan: lines that rise, each at so many speedups, none above 95 per cent, and at most 100,000 pairs
+-- the pairs of a plan: lines that rise, each at so many speedups, none above the greatest speedup, and at most 100,000 pairs
 pub record ArePlanned (count : ℕ) (pairs : List Experiment) : Type 0 where
   pub lines : List LineId
   pub speedups : List ℕ
@@ -32,7 +33,7 @@ pub record ArePlanned (count : ℕ) (pairs : List Experiment) : Type 0 where
   pub all : pairs ≡ pairs_of lines speedups
   pub as_many : count ≡ length speedups
   pub some : 0 < count
-  pub slow : All (λ (pair : Experiment). pair.speedup ≤ 95) pairs
+  pub slow : All (λ (pair : Experiment). pair.speedup ≤ GREATEST_SPEEDUP) pairs
   pub few : length pairs ≤ 100000
 
 -- all pairs, or how many they are, which is above 100,000

@@ -1,5 +1,6 @@
 //! The experiments of a profile, and why there are none.
 ghost use Rattle.std.specs.Prelude.{◌≡◌, ◌≤◌, length, All};
+ghost use Rattle.coz_types.specs.declared.TheConstants.{GREATEST_SPEEDUP};
 ghost use Rattle.experiment_plan.specs.declared.experiment.Experiment.{Experiment};
 ghost use Rattle.experiment_plan.specs.declared.experiment.PlanError.TheVariants.{Memory};
 
@@ -7,7 +8,7 @@ use coz_types::LineId;
 use std::alloc::{AllocError, AllocFailed};
 use std::marker::Model;
 
-/// A line and how many per cent faster it is to be, 0 to 95.
+/// A line and how many per cent faster it is to be, 0 to `GREATEST_SPEEDUP`.
 #[derive(Clone, Copy, Debug, PartialEq, Eq)]
 pub struct Experiment {
     /// The selected line.
@@ -59,7 +60,7 @@ impl Plan {
     pub fn pairs(&self) -> &[Experiment]
         ensures pairs { result.now ≡ self.now }
         ensures few { length result.now ≤ 100000 }
-        ensures speedups { All (λ (pair : Experiment). pair.speedup ≤ 95) result.now }
+        ensures speedups { All (λ (pair : Experiment). pair.speedup ≤ GREATEST_SPEEDUP) result.now }
     {
         &self.pairs
     }

@@ -3,6 +3,7 @@ ghost use Rattle.std.specs.Prelude.{◌≡◌, ◌≤◌, ◌<◌, ◌∷◌, �
 ghost use Rattle.std.specs.Ordering.{nat_cmp};
 ghost use Rattle.std.specs.List.Sorted.{IsStrictlySortedBy};
 ghost use Rattle.coz_types.specs.declared.LineId.{LineId};
+ghost use Rattle.coz_types.specs.declared.TheConstants.{GREATEST_SPEEDUP};
 ghost use Rattle.experiment_plan.specs.declared.experiment.Experiment.{Experiment};
 ghost use Rattle.experiment_plan.specs.Selected.{ids, rising};
 ghost use Rattle.experiment_plan.specs.Pairs.{at_speedup, pairs_of, pair_cmp, IsPlan};
@@ -75,12 +76,12 @@ fn pair_count(lines: &[LineId], speedups: &[u8]) -> u64
 /// Err tells that there are more than 100,000, or want of memory.
 pub fn plan(alloc: Global, lines: &[LineId], speedups: &[u8]) -> Result<Plan, PlanError>
     requires rising { IsStrictlySortedBy nat_cmp (ids lines.now) }
-    requires speedups { All (λ speedup. speedup ≤ 95) speedups.now }
+    requires speedups { All (λ speedup. speedup ≤ GREATEST_SPEEDUP) speedups.now }
     ensures plan { IsPlan lines.now speedups.now result }
     ensures in_order { IfOk result (IsStrictlySortedBy pair_cmp) }
     ensures below { (count : ℕ) → All (λ (line : LineId). line.0 < count) lines.now →
         IfOk result (All (λ (pair : Experiment). pair.line.0 < count)) }
-    ensures speedups { IfOk result (All (λ (pair : Experiment). pair.speedup ≤ 95)) }
+    ensures speedups { IfOk result (All (λ (pair : Experiment). pair.speedup ≤ GREATEST_SPEEDUP)) }
 {
     let speedups = rising_speedups(alloc, speedups)?;
     let count = pair_count(lines, &speedups);
