@@ -2,6 +2,7 @@
 use Rattle.std.specs.Prelude.{◌≡◌, ℕ, ◌≤◌, ◌^◌, Bool, not, ◌&&◌, ◌==◌, nat_lt, nat_le, true, false, List, [], ◌∷◌, length, codes, Option, Some, None, IfSome, if◌then◌else◌, option_and_then, find}
 use Rattle.std.specs.List.{list_all, list_any}
 use Rattle.std.specs.Str.{bytes_eq}
+use Rattle.coz_types.specs.declared.TheConstants.{GREATEST_SPEEDUP}
 use Rattle.coz_words.specs.Said.{Text, Item, option, target, SaysAll}
 use Rattle.experiment_plan.specs.Lists.{number_in, is_line, is_list, pieces}
 use Rattle.coz_words.specs.declared.command.Command.{Command}
@@ -144,7 +145,7 @@ number_or c name usual least most (Some number) = number_in least most number
 abbrev pub speedup_in : Option Text → Option Text → Option ℕ
 speedup_in line None = Some 0
 speedup_in None (Some number) = None
-speedup_in (Some line) (Some number) = number_in 0 95 number
+speedup_in (Some line) (Some number) = number_in 0 GREATEST_SPEEDUP number
 
 -- what a source is made from is the positional of `trial`, a number; other commands make none
 abbrev pub seed_in : Command → Text → Option ℕ
@@ -167,7 +168,7 @@ all_speedups = 0 ∷ 5 ∷ 10 ∷ 15 ∷ 20 ∷ 25 ∷ 30 ∷ 35 ∷ 40 ∷ 45 �
 -- the speedups, as they were given
 abbrev pub speedups_in : Command → Option Text → Option (List ℕ)
 speedups_in c None = Some (if has_option c speedups_name then all_speedups else [])
-speedups_in c (Some numbers) = numbers_in 0 95 (pieces numbers)
+speedups_in c (Some numbers) = numbers_in 0 GREATEST_SPEEDUP (pieces numbers)
 
 -- ---- the request
 
@@ -217,12 +218,12 @@ pub record IsFit (request : Request) : Type 0 where
   pub some : nat_lt 0 (length request.target) ≡ true
   pub word : is_word request.target ≡ true
   pub line : IfSome request.line (λ text. is_line text ≡ true)
-  pub speedup : request.speedup ≤ 95
+  pub speedup : request.speedup ≤ GREATEST_SPEEDUP
   -- a speedup is of a line
   pub no_speedup : request.line ≡ None → request.speedup ≡ 0
   pub lines : IfSome request.lines (λ text. is_list text ≡ true)
   pub progress : IfSome request.progress (λ text. is_list text ≡ true)
-  pub speedups : list_all (λ p. nat_le p 95) request.speedups ≡ true
+  pub speedups : list_all (λ p. nat_le p GREATEST_SPEEDUP) request.speedups ≡ true
   pub some_budget : runs request.command ≡ true → 1 ≤ request.budget
   pub budget : request.budget ≤ 10 ^ 12
   pub some_workers : has_option request.command workers_name ≡ true → 1 ≤ request.workers

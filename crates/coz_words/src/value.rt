@@ -8,11 +8,9 @@ ghost use Rattle.coz_words.specs.Request.{dwarf_name, none_or, number_or, number
 use crate::command::{Command, has_option};
 use crate::request::WordsError;
 use coz_lists::Items;
+use coz_types::GREATEST_SPEEDUP;
 use experiment_plan::{first_piece, is_line, is_list, number_in};
 use std::alloc::Global;
-
-/// In percent.
-const GREATEST_SPEEDUP: u64 = 95;
 
 const LEAST_VERSION: u8 = 4;
 
@@ -62,7 +60,7 @@ pub fn speedup_of(line: Option<&str>, text: Option<&str>) -> Result<u8, WordsErr
 }
 
 fn speedup_in(text: &[u8]) -> Result<u8, WordsError>
-    ensures { Answers (number_in 0 95 text.now) result }
+    ensures { Answers (number_in 0 GREATEST_SPEEDUP text.now) result }
 {
     match number_in(text, 0, GREATEST_SPEEDUP) {
         Some(speedup) => Ok(speedup as u8),
@@ -110,7 +108,7 @@ pub fn seed_of(command: Command, target: &str) -> Result<u64, WordsError>
 
 /// The speedups of a list with a comma between, in percent, as they were given.
 fn speedups_in(alloc: Global, text: &[u8]) -> Result<Items<u8>, WordsError>
-    ensures { Answers (numbers_in 0 95 (pieces text.now)) result }
+    ensures { Answers (numbers_in 0 GREATEST_SPEEDUP (pieces text.now)) result }
 {
     let mut speedups = Vec::new(alloc);
     let mut left = Some(text);
