@@ -357,13 +357,15 @@ module _ (w : ℕ) (small : w < 2 ^ 32) where
             | false ↦ λ t. other (is_other (part w 0 7) opcode t)
           ] refl
 
--- the answer that is equal to an answer
-pub answers_equal : (w : ℕ) (found expected : Option Instr) → found ≡ expected → Answers w expected → Answers w found
-answers_equal w found expected e a = subst (Answers w) (sym e) a
-
-pub is_decoded : (w : ℕ) (found : Option Instr) → IsInstructionOf w found → IsDecoded w found
+is_decoded : (w : ℕ) (found : Option Instr) → IsInstructionOf w found → IsDecoded w found
 is_decoded w (Some i) e = (e i).0 refl
 is_decoded w None e = λ i r same. let none : None ≡ Some i = (e i).1 (r, same) in cc
+
+-- what is promised of what is equal to an answer
+pub promised : (w : ℕ) (found expected : Option Instr) → found ≡ expected → Answers w expected → record { decoded : IsDecoded w found; only : IsInstructionOf w found; table : found ≡ instruction_of w }
+promised w found expected e a =
+    let same : Answers w found = subst (Answers w) (sym e) a in
+    record { decoded = is_decoded w found same.exact; only = same.exact; table = same.table }
 
 -- the word of an instruction has that instruction in the table
 pub instruction_of-word : (w : ℕ) (i : Instr) → w < 2 ^ 32 → HasWord w i → instruction_of w ≡ Some i

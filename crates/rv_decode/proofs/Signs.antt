@@ -1,60 +1,32 @@
 -- Signed numbers and the bits by which they are written.
-use Rattle.std.proofs.Common.{◌≡◌, ℕ, ◌%◌, ◌^◌, ◌<◌, ℤ, pos, negsuc, arith}
+use Rattle.std.proofs.Common.{◌≡◌, ℕ, suc, ◌-◌, ◌*◌, ◌%◌, ◌^◌, ◌<◌, ℤ, pos, negsuc, sym, subst, arith}
+use Rattle.std.proofs.lemmas.Nat.{pow_pos, mod_below}
+use Rattle.std.proofs.Math.Nat.{mod-eq_of_lt, mod-mod_of_dvd, dvd-mul_right}
 use Rattle.std.specs.Prelude.{IsTrue}
 use Rattle.rv_decode.specs.Fields.{twos, signed, is_signed, is_even}
 
-pub twos_12 : (z : ℤ) → twos 12 z < 2 ^ 12
-twos_12 (pos n) = omega arith
-twos_12 (negsuc n) = omega arith
+-- by k bits, of which the highest tells the sign
+module _ (k : ℕ) (halves : 2 ^ k ≡ 2 * 2 ^ (k - 1)) where
+  pub twos_below : (z : ℤ) → twos k z < 2 ^ k
+  twos_below (pos n) = let some : 0 < 2 ^ k = pow_pos k in mod_below n (2 ^ k) some
+  twos_below (negsuc n) = let some : 0 < 2 ^ k = pow_pos k in omega (arith, some)
 
-pub signed_twos_12 : (z : ℤ) → IsTrue (is_signed 12 z) → signed 12 (twos 12 z) ≡ z
-signed_twos_12 (pos n) h = grind arith
-signed_twos_12 (negsuc n) h = grind arith
+  pub signed_twos : (z : ℤ) → IsTrue (is_signed k z) → signed k (twos k z) ≡ z
+  signed_twos (pos n) h = let same : n % 2 ^ k ≡ n = mod-eq_of_lt (grind (arith, halves)) in grind (arith, same)
+  signed_twos (negsuc n) h = let same : n % 2 ^ k ≡ n = mod-eq_of_lt (grind (arith, halves)) in grind (arith, same, halves)
 
-pub twos_signed_12 : (n : ℕ) → n < 2 ^ 12 → twos 12 (signed 12 n) ≡ n
-twos_signed_12 n h = grind arith
+  pub twos_signed : (n : ℕ) → n < 2 ^ k → twos k (signed k n) ≡ n
+  twos_signed n h = let same : n % 2 ^ k ≡ n = mod-eq_of_lt h in let other : (2 ^ k - suc n) % 2 ^ k ≡ 2 ^ k - suc n = mod-eq_of_lt (omega (arith, h)) in grind (arith, same, other, halves)
 
-pub is_signed_signed_12 : (n : ℕ) → n < 2 ^ 12 → IsTrue (is_signed 12 (signed 12 n))
-is_signed_signed_12 n h = grind arith
+  pub is_signed_signed : (n : ℕ) → n < 2 ^ k → IsTrue (is_signed k (signed k n))
+  is_signed_signed n h = grind (arith, halves)
 
-pub twos_13 : (z : ℤ) → twos 13 z < 2 ^ 13
-twos_13 (pos n) = omega arith
-twos_13 (negsuc n) = omega arith
+  pub is_even_signed : (n : ℕ) → n < 2 ^ k → n % 2 ≡ 0 → IsTrue (is_even (signed k n))
+  is_even_signed n h e = grind (arith, halves)
 
-pub signed_twos_13 : (z : ℤ) → IsTrue (is_signed 13 z) → signed 13 (twos 13 z) ≡ z
-signed_twos_13 (pos n) h = grind arith
-signed_twos_13 (negsuc n) h = grind arith
+  parity : (n : ℕ) → n % 2 ^ k % 2 ≡ n % 2
+  parity n = subst (λ (whole : ℕ). n % whole % 2 ≡ n % 2) (sym halves) (mod-mod_of_dvd 2 n (dvd-mul_right 2 (2 ^ (k - 1))))
 
-pub twos_signed_13 : (n : ℕ) → n < 2 ^ 13 → twos 13 (signed 13 n) ≡ n
-twos_signed_13 n h = grind arith
-
-pub is_signed_signed_13 : (n : ℕ) → n < 2 ^ 13 → IsTrue (is_signed 13 (signed 13 n))
-is_signed_signed_13 n h = grind arith
-
-pub is_even_signed_13 : (n : ℕ) → n < 2 ^ 13 → n % 2 ≡ 0 → IsTrue (is_even (signed 13 n))
-is_even_signed_13 n h e = grind arith
-
-pub even_twos_13 : (z : ℤ) → IsTrue (is_even z) → twos 13 z % 2 ≡ 0
-even_twos_13 (pos n) e = grind arith
-even_twos_13 (negsuc n) e = grind arith
-
-pub twos_21 : (z : ℤ) → twos 21 z < 2 ^ 21
-twos_21 (pos n) = omega arith
-twos_21 (negsuc n) = omega arith
-
-pub signed_twos_21 : (z : ℤ) → IsTrue (is_signed 21 z) → signed 21 (twos 21 z) ≡ z
-signed_twos_21 (pos n) h = grind arith
-signed_twos_21 (negsuc n) h = grind arith
-
-pub twos_signed_21 : (n : ℕ) → n < 2 ^ 21 → twos 21 (signed 21 n) ≡ n
-twos_signed_21 n h = grind arith
-
-pub is_signed_signed_21 : (n : ℕ) → n < 2 ^ 21 → IsTrue (is_signed 21 (signed 21 n))
-is_signed_signed_21 n h = grind arith
-
-pub is_even_signed_21 : (n : ℕ) → n < 2 ^ 21 → n % 2 ≡ 0 → IsTrue (is_even (signed 21 n))
-is_even_signed_21 n h e = grind arith
-
-pub even_twos_21 : (z : ℤ) → IsTrue (is_even z) → twos 21 z % 2 ≡ 0
-even_twos_21 (pos n) e = grind arith
-even_twos_21 (negsuc n) e = grind arith
+  pub even_twos : (z : ℤ) → IsTrue (is_even z) → twos k z % 2 ≡ 0
+  even_twos (pos n) e = grind (arith, parity n)
+  even_twos (negsuc n) e = let below : n % 2 ^ k < 2 ^ k = mod_below n (2 ^ k) (pow_pos k) in grind (arith, parity n, halves, below)
