@@ -24,6 +24,7 @@ use Rattle.line_index.specs.Lines.{Line}
 use Rattle.line_index.specs.Listed.{lines_in}
 use Rattle.experiment_plan.specs.declared.experiment.Experiment.{Experiment as Pair}
 use Rattle.profile_book.specs.Profile.{profile_text}
+use Rattle.profile_reader.specs.declared.TheConstants.{MAX_PROFILE}
 use Rattle.profile_reader.specs.Grammar.{book_fault}
 use Rattle.profile_reader.specs.Told.{told}
 use Rattle.profile_reader.specs.declared.fault.BookFault.{BookFault}
@@ -180,7 +181,7 @@ command_verdict Run asked held = files_verdict asked held (asked_verdict asked (
 command_verdict Really asked held = files_verdict asked held (asked_verdict asked (λ x. really_verdict (shortened_record x)))
 command_verdict Profile asked held = files_verdict asked held (profiled_verdict asked)
 command_verdict Lines asked held = read_verdict 33554432 asked.target (file_at held asked.target) lines_verdict
-command_verdict Plot asked held = read_verdict 268435456 asked.target (file_at held asked.target) plot_verdict
+command_verdict Plot asked held = read_verdict MAX_PROFILE asked.target (file_at held asked.target) plot_verdict
 command_verdict Asm asked held = read_verdict 4194304 asked.target (file_at held asked.target) (λ source. source_verdict asked.target asked.dwarf (assembled source))
 command_verdict Trial asked held = trial_verdict asked.seed asked.size
 

@@ -8,7 +8,7 @@ ghost use Rattle.coz_cli.specs.Serve.{IsPut};
 
 use crate::fault::Fault;
 use crate::kinds::{asm_kind_name, elf_kind_name, line_kind_name};
-use coz_files::{PutAnswer, Sink, put_next};
+use coz_files::{MEMORY_STATUS, PutAnswer, Sink, put_next};
 use dwarf_lines::{LineFault, LineKind};
 use elf_load::{ElfFault, ElfKind};
 use itoa::Buffer;
@@ -28,7 +28,7 @@ fn status_of(fault: Fault) -> u8
         Fault::ManyPoints(_) => 7,
         Fault::Long(_) => 8,
         Fault::ManyExperiments(_) => 9,
-        Fault::Memory => 10,
+        Fault::Memory => MEMORY_STATUS,
         Fault::Source(_) => 11,
         Fault::Profile(_) => 12,
     }

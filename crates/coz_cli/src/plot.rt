@@ -10,11 +10,8 @@ use crate::program::read_file;
 use causal_curves::curves;
 use coz_files::Files;
 use coz_words::Request;
-use profile_reader::read_profile;
+use profile_reader::{MAX_PROFILE, read_profile};
 use std::alloc::Global;
-
-/// The most bytes of a profile.
-const MAX_PROFILE: u64 = 268435456;
 
 /// What is written of the profile that the request names.
 /// Err tells the first fault of the file or of its text, or want of memory.

@@ -4,6 +4,7 @@ ghost use Rattle.std.specs.List.{list_all};
 ghost use Rattle.std.specs.List.Sorted.{IsStrictlySortedBy};
 ghost use Rattle.std.specs.Ordering.{nat_cmp};
 ghost use Rattle.coz_types.specs.declared.LineId.{LineId};
+ghost use Rattle.coz_types.specs.declared.TheConstants.{GREATEST_SPEEDUP};
 ghost use Rattle.coz_types.specs.declared.record.Summary.{Summary};
 ghost use Rattle.progress_points.specs.Points.{IsPoints};
 ghost use Rattle.experiment_plan.specs.declared.experiment.Experiment.{Experiment};
@@ -90,7 +91,7 @@ fn printed_profile(profile: Profile) -> Printed
 /// The plan of these lines and speedups, if it isn't too large.
 fn planned<'r>(alloc: Global, lines: &[LineId], speedups: &[u8]) -> Result<Plan, Fault<'r>>
     requires rising { IsStrictlySortedBy nat_cmp (ids lines.now) }
-    requires small { All (λ speedup. speedup ≤ 95) speedups.now }
+    requires small { All (λ speedup. speedup ≤ GREATEST_SPEEDUP) speedups.now }
     ensures no_read { IsRead result → ⊥ }
     ensures settled { (IsMemory result → ⊥) → (next : List Experiment → Verdict) →
         follows result next ≡ plan_verdict (pairs_of (ids lines.now) speedups.now) next }

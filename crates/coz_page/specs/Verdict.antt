@@ -4,6 +4,7 @@ use Rattle.std.specs.declared.string.String.{String}
 use Rattle.std.specs.declared.alloc.Global.{Global}
 use Rattle.coz_types.specs.Labels.{Text, is_empty}
 use Rattle.coz_files.specs.Held.{Held, file_at}
+use Rattle.profile_reader.specs.declared.TheConstants.{MAX_PROFILE}
 use Rattle.profile_reader.specs.Grammar.{book_fault}
 use Rattle.profile_reader.specs.Told.{told}
 use Rattle.profile_book.specs.declared.profile.Profile.{Profile as Book}
@@ -50,7 +51,7 @@ profile_verdict bytes = book_verdict (book_fault bytes) (told bytes)
 abbrev pub file_verdict : Text → Option Text → Verdict
 file_verdict path None = refused 5 (codes "coz-page: read: " ++ path)
 file_verdict path (Some bytes) =
-    if nat_le (length bytes) 268435456 then profile_verdict bytes else refused 8 (codes "coz-page: long: " ++ path)
+    if nat_le (length bytes) MAX_PROFILE then profile_verdict bytes else refused 8 (codes "coz-page: long: " ++ path)
 
 abbrev pub path_verdict : Option Text → Held → Verdict
 path_verdict None held = refused 2 (codes "coz-page: usage")

@@ -7,7 +7,7 @@ ghost use Rattle.coz_page.specs.Verdict.{profile_line};
 ghost use Rattle.coz_page.specs.Serve.{IsPut};
 
 use crate::fault::Fault;
-use coz_files::{PutAnswer, Sink, put_next};
+use coz_files::{MEMORY_STATUS, PutAnswer, Sink, put_next};
 use itoa::Buffer;
 use profile_reader::{BookFault, BookField};
 
@@ -19,7 +19,7 @@ fn status_of(fault: Fault) -> u8
         Fault::Read(_) => 5,
         Fault::Write => 6,
         Fault::Long(_) => 8,
-        Fault::Memory => 10,
+        Fault::Memory => MEMORY_STATUS,
         Fault::Profile(_) => 12,
     }
 }

@@ -10,11 +10,8 @@ use causal_curves::{Curve, curves};
 use coz_files::{FileAnswer, Files};
 use coz_lists::Items;
 use profile_book::Profile;
-use profile_reader::read_profile;
+use profile_reader::{MAX_PROFILE, read_profile};
 use std::alloc::Global;
-
-/// The most bytes of a profile.
-const MAX_PROFILE: u64 = 268435456;
 
 /// A profile and its curves by rank.
 #[derive(Drop)]

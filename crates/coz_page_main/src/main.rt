@@ -1,14 +1,10 @@
 //! The program that makes the page of a profile.
 #![tactic(auto)]
 
-use coz_files::{HostFiles, HostSink};
+use coz_files::{HostFiles, HostSink, MEMORY_STATUS, NO_WORDS_STATUS};
 use coz_page::serve;
 use std::process::ExitCode;
 use std::{env, io};
-
-const MEMORY: u8 = 10;
-
-const NO_WORDS: u8 = 13;
 
 /// The words, without the program's name.
 fn words(rt: &HostRuntime) -> io::Result<Vec<String>> {
@@ -22,8 +18,10 @@ fn words(rt: &HostRuntime) -> io::Result<Vec<String>> {
 fn main(rt: HostRuntime) -> ExitCode {
     let words = match words(&rt) {
         Ok(words) => words,
-        Err(fault) if fault.kind() == io::ErrorKind::OutOfMemory => return ExitCode::from(MEMORY),
-        Err(_) => return ExitCode::from(NO_WORDS),
+        Err(fault) if fault.kind() == io::ErrorKind::OutOfMemory => {
+            return ExitCode::from(MEMORY_STATUS);
+        }
+        Err(_) => return ExitCode::from(NO_WORDS_STATUS),
     };
     let mut files = HostFiles::new(&rt);
     let mut out = HostSink::new(rt.stdout());

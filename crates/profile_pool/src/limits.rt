@@ -1,6 +1,7 @@
 //! The limits of the commands.
 ghost use Rattle.std.specs.Prelude.{◌≡◌, ◌≤◌, ◌^◌, option_map};
 ghost use Rattle.coz_types.specs.declared.LineId.{LineId};
+ghost use Rattle.coz_types.specs.declared.TheConstants.{GREATEST_SPEEDUP};
 ghost use Rattle.virtual_run.specs.Run.{IsChoice};
 ghost use Rattle.profile_pool.specs.Choices.{choice_of};
 
@@ -15,7 +16,7 @@ const VISIT_LIMIT: u64 = 1048576;
 
 /// What is chosen for a run, with the limits of the commands.
 pub fn choice(selected: Option<LineId>, speedup: u8, budget: u64) -> Choice
-    requires speedup { speedup ≤ 95 }
+    requires speedup { speedup ≤ GREATEST_SPEEDUP }
     requires some_budget { 1 ≤ budget }
     requires few { budget ≤ 10 ^ 12 }
     ensures choice { result ≡ choice_of (option_map (λ (line : LineId). line.0) selected) speedup budget }
