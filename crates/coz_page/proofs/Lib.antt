@@ -1,5 +1,4 @@
 pub mod Escapes
-pub mod FirstGroups
 pub mod Pages
 pub mod Pieces
 pub mod Ranking

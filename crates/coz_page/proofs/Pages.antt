@@ -7,6 +7,7 @@ use Rattle.coz_files.specs.Gathered.{Rest, Gathers}
 use Rattle.coz_files.proofs.GatheredLemmas.{gathers_nothing, gathers_then}
 use Rattle.profile_book.proofs.Gathering.{gathers_as}
 use Rattle.causal_curves.specs.declared.curve.Curve.{Curve}
+use Rattle.causal_curves.specs.Groups.{groups_by}
 use Rattle.coz_page.specs.Page.{by_point, point_text}
 
 abbrev pub parts : List Text → List Curve → Text
@@ -37,6 +38,6 @@ one_more points curves rest n group behind cut front back so_far more = record {
 
 pub no_more : {S : Type 0} {holds : S → Option Text} {faults : S → ℕ} {old new : S} {before left : Rest} (points : List Text) (curves rest : List Curve) → (length rest == 0) ≡ true
     → SoFar holds faults old new before left points curves rest → Gathers holds faults old new before left (parts points curves)
-unfolding by_point
+unfolding groups_by
 no_more points curves [] empty so_far = gathers_as (sym (append-nil so_far.text) ∙ so_far.whole) so_far.gathers
 no_more points curves (c ∷ rest) empty so_far = let e : length (c ∷ rest) ≡ 0 = search (rules, empty) in absurd (omega (arith, e))

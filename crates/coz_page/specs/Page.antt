@@ -1,8 +1,9 @@
 -- The page of a profile.
-use Rattle.std.specs.Prelude.{ℕ, ◌-◌, ◌<◌, ◌≤◌, Bool, true, false, ◌==◌, List, [], ◌∷◌, ◌++◌, length, take, get_or, min, flat_map, codes, decimal, Option, Some, None, ℤ}
+use Rattle.std.specs.Prelude.{ℕ, ◌-◌, ◌<◌, ◌≤◌, Bool, ◌==◌, List, [], ◌∷◌, ◌++◌, length, take, get_or, min, flat_map, codes, decimal, Option, Some, None, ℤ}
 use Rattle.std.specs.List.{enumerate_from}
 use Rattle.coz_types.specs.Labels.{Text}
 use Rattle.profile_book.specs.declared.profile.Profile.{Profile}
+use Rattle.causal_curves.specs.Groups.{groups_by}
 use Rattle.causal_curves.specs.Curves.{curves_of, ranked}
 use Rattle.causal_curves.specs.declared.curve.Curve.{Curve}
 use Rattle.causal_curves.specs.declared.curve.CurveStep.{CurveStep}
@@ -93,19 +94,12 @@ choice_text point = codes "<li><a href=\"#p" ++ decimal point.0 ++ codes "\">" +
 abbrev pub choices_text : List Text → Text
 choices_text points = codes "<ul>\n" ++ flat_map choice_text (enumerate_from 0 points) ++ codes "</ul>\n"
 
--- the curve is of the same point as the first of these
-abbrev pub goes_with : Curve → List Curve → Bool
-goes_with c [] = false
-goes_with c (d ∷ curves) = c.point == d.point
-
-abbrev pub join : Curve → List (List Curve) → List (List Curve)
-join c [] = (c ∷ []) ∷ []
-join c (group ∷ groups) = elim (goes_with c group) [ true ↦ (c ∷ group) ∷ groups | false ↦ (c ∷ []) ∷ group ∷ groups ]
+abbrev pub have_one_point : Curve → Curve → Bool
+have_one_point c d = c.point == d.point
 
 -- the curves, cut where the point changes
-unfoldable pub by_point : List Curve → List (List Curve)
-by_point [] = []
-by_point (c ∷ rest) = join c (by_point rest)
+abbrev pub by_point : List Curve → List (List Curve)
+by_point curves = groups_by have_one_point curves
 
 -- what is said where there is no curve
 abbrev pub nothing_text : List Curve → Text
