@@ -12,13 +12,13 @@ use Rattle.progress_points.specs.Points.{Points, point_of}
 use Rattle.guest_calls.specs.Guest.{Guest, first_guest, pc_of}
 use Rattle.virtual_run.specs.declared.choice.Choice.{Choice}
 use Rattle.virtual_run.specs.declared.choice.Setting.{Setting}
-use Rattle.virtual_run.specs.declared.run.Event.{Event}
-use Rattle.virtual_run.specs.declared.run.Event.TheVariants.{Woke, Retired}
-use Rattle.virtual_run.specs.declared.run.Run.{Run}
+use Rattle.virtual_run.specs.declared.engine.Event.{Event}
+use Rattle.virtual_run.specs.declared.engine.Event.TheVariants.{Woke, Retired}
+use Rattle.virtual_run.specs.declared.engine.Engine.{Engine}
 use Rattle.virtual_run.specs.Advance.{IsAdvance}
-use Rattle.virtual_run.specs.Run.{events_of}
+use Rattle.virtual_run.specs.Engine.{events_of}
 use Rattle.virtual_run.specs.Visits.{Visits, visits_of}
-use Rattle.virtual_run.specs.Seen.{Seen, experiment_with}
+use Rattle.virtual_run.specs.Seen.{seen, experiment_with}
 use Rattle.virtual_run.proofs.Law.{reached_next, reached_woken, events_below, recorded_now, last_now, shortened_is}
 use Rattle.shortened_run.specs.ShortenedRun.{AreUndelayed, IsShort}
 
@@ -34,59 +34,56 @@ pub more_undelayed : (old new : List Visit) (point : Option ℕ) (h time : ℕ) 
 more_undelayed old new point h time is before = subst AreUndelayed (sym is) (All-append (λ visit. visit.delay ≡ 0) old (visits_of point h time 0) before (one_undelayed point h time))
 
 -- an event keeps it, and is one more
-module _ (image : ImageParts) (input : List ℕ) (setting : Setting) (run : Run) (short : IsShort image input setting run) (none : run.ending ≡ None) (new : Run) where
-  pub short_next : (event : Event) → IsAdvance setting run event 0 new → IsShort image input setting new
+module _ (image : ImageParts) (input : List ℕ) (setting : Setting) (engine : Engine) (short : IsShort image input setting engine) (none : engine.ending ≡ None) (new : Engine) where
+  pub short_next : (event : Event) → IsAdvance setting engine event 0 new → IsShort image input setting new
   short_next (Woke turn) did =
-      let same : new.visits ≡ run.visits = ap (λ (o : Run). o.visits) did.rest in
+      let same : new.visits ≡ engine.visits = ap (λ (o : Engine). o.visits) did.rest in
       record {
         valid = short.valid;
         reached =
-            reached_woken image (position_at setting.index.now) (point_of setting.points.now) input setting.choice short.valid run short.reached new none
-            (did.moved (first_guest image input setting.choice.output_limit setting.choice.layout) _ short.reached.reached.dues) did.room same (ap (λ (o : Run). o.retired) did.rest) did.wakes did.few did.within;
+            reached_woken image (position_at setting.index.now) (point_of setting.points.now) input setting.choice short.valid engine short.reached new none
+            (did.moved (first_guest image input setting.choice.output_limit setting.choice.layout) _ short.reached.reached.dues) did.room same (ap (λ (o : Engine). o.retired) did.rest) did.wakes did.few did.within;
         undelayed = subst (λ (v : Visits). AreUndelayed v.kept) (sym same) short.undelayed;
       }
   short_next (Retired retired) did = record {
     valid = short.valid;
     reached =
-        reached_next image (position_at setting.index.now) (point_of setting.points.now) input setting.choice short.valid run short.reached new none
+        reached_next image (position_at setting.index.now) (point_of setting.points.now) input setting.choice short.valid engine short.reached new none
         (did.moved (first_guest image input setting.choice.output_limit setting.choice.layout) _ short.reached.reached.dues) did.room (ap (λ (vs : Visits). vs.limit) did.visits) did.unfull did.retired did.wakes did.few did.within;
     undelayed =
-        more_undelayed run.visits.kept new.visits.kept (point_of setting.points.now (pc_of run.guest retired.hart.0)) retired.hart.0 (new.time + 0)
+        more_undelayed engine.visits.kept new.visits.kept (point_of setting.points.now (pc_of engine.guest retired.hart.0)) retired.hart.0 (new.time + 0)
         (ap (λ (vs : Visits). vs.kept) did.visits) short.undelayed;
   }
 
-  pub short_count : (event : Event) → IsAdvance setting run event 0 new → events_of new ≡ events_of run + 1
-  short_count (Woke turn) did = omega (arith, ap (λ (o : Run). o.retired) did.rest, did.wakes)
+  pub short_count : (event : Event) → IsAdvance setting engine event 0 new → events_of new ≡ events_of engine + 1
+  short_count (Woke turn) did = omega (arith, ap (λ (o : Engine). o.retired) did.rest, did.wakes)
   short_count (Retired retired) did = omega (arith, did.retired, did.wakes)
 
-  pub short_below : events_of run < 2 * setting.choice.budget
-  short_below = events_below image (position_at setting.index.now) (point_of setting.points.now) input setting.choice short.valid run short.reached none
+  pub short_below : events_of engine < 2 * setting.choice.budget
+  short_below = events_below image (position_at setting.index.now) (point_of setting.points.now) input setting.choice short.valid engine short.reached none
 
-module _ (image : ImageParts) (input : List ℕ) (setting : Setting) (run : Run) (short : IsShort image input setting run) (old : Experiment Guest) (same : old ≡ experiment_with image input setting) where
+module _ (image : ImageParts) (input : List ℕ) (setting : Setting) (engine : Engine) (short : IsShort image input setting engine) (old : Experiment Guest) (same : old ≡ experiment_with image input setting) where
   abbrev x : Experiment Guest
   x = experiment_with image input setting
 
   -- the record of a run that has ended, of what was run at first
-  pub recorded_of : (e : Ending) → run.ending ≡ Some e → net_record_of old (shortened x (events_of run)) e ≡ shortened_record old
+  pub recorded_of : (e : Ending) → engine.ending ≡ Some e → net_record_of old (shortened x (events_of engine)) e ≡ shortened_record old
   recorded_of e ended =
-      subst (λ (o : Experiment Guest). net_record_of o (shortened x (events_of run)) e ≡ shortened_record o) (sym same)
-      (recorded_now image (position_at setting.index.now) (point_of setting.points.now) input setting.choice short.valid run short.reached e ended)
+      subst (λ (o : Experiment Guest). net_record_of o (shortened x (events_of engine)) e ≡ shortened_record o) (sym same)
+      (recorded_now image (position_at setting.index.now) (point_of setting.points.now) input setting.choice short.valid engine short.reached e ended)
 
-  pub last_of : (e : Ending) → run.ending ≡ Some e → shortened x (events_of run) ≡ shortened old (enough old)
+  pub last_of : (e : Ending) → engine.ending ≡ Some e → shortened x (events_of engine) ≡ shortened old (enough old)
   last_of e ended =
-      subst (λ (o : Experiment Guest). shortened x (events_of run) ≡ shortened o (enough o)) (sym same)
-      (last_now image (position_at setting.index.now) (point_of setting.points.now) input setting.choice short.valid run short.reached e ended)
+      subst (λ (o : Experiment Guest). shortened x (events_of engine) ≡ shortened o (enough o)) (sym same)
+      (last_now image (position_at setting.index.now) (point_of setting.points.now) input setting.choice short.valid engine short.reached e ended)
 
   pub shortened_of : IsShortened old (shortened_record old)
   shortened_of =
       subst (λ (o : Experiment Guest). IsShortened o (shortened_record o)) (sym same)
       (shortened_is image (position_at setting.index.now) (point_of setting.points.now) input setting.choice short.valid)
 
--- what is seen of a run with these parts
-abbrev pub seen : ImageParts → Index → Points → List ℕ → Choice → Shortened Guest → Seen (Shortened Guest)
-seen image index points input choice state = record { image = image; index = index; points = points; input = input; choice = choice; state = state }
-
+-- what is seen of a run with the same parts is the same
 pub same_seen : (image old_image : ImageParts) (index old_index : Index) (points old_points : Points) (input old_input : List ℕ) (choice old_choice : Choice) (state : Shortened Guest)
     → image ≡ old_image → index ≡ old_index → points ≡ old_points → input ≡ old_input → choice ≡ old_choice
-    → seen image index points input choice state ≡ seen old_image old_index old_points old_input old_choice state
+    → seen image index points input choice (λ _. state) ≡ seen old_image old_index old_points old_input old_choice (λ _. state)
 same_seen image old_image index old_index points old_points input old_input choice old_choice state image_is index_is points_is input_is choice_is = cc

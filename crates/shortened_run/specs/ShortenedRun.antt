@@ -3,8 +3,9 @@ use Rattle.std.specs.Prelude.{◌≡◌, ℕ, List, All}
 use Rattle.coz_types.specs.Image.{ImageParts}
 use Rattle.coz_types.specs.declared.record.Visit.{Visit}
 use Rattle.virtual_run.specs.declared.choice.Setting.{Setting}
-use Rattle.virtual_run.specs.declared.run.Run.{Run}
-use Rattle.virtual_run.specs.Run.{IsChoice, IsReached}
+use Rattle.virtual_run.specs.declared.engine.Engine.{Engine}
+use Rattle.virtual_run.specs.Run.{IsChoice}
+use Rattle.virtual_run.specs.Engine.{IsReached}
 use Rattle.virtual_run.specs.Seen.{experiment_with}
 
 -- each was kept with no delay
@@ -12,7 +13,7 @@ abbrev pub AreUndelayed : List Visit → Type 0
 AreUndelayed visits = All (λ visit. visit.delay ≡ 0) visits
 
 -- the choice is within the limits, and the fields stand for the state after as many moves as instructions were retired and harts woken
-pub record IsShort (image : ImageParts) (input : List ℕ) (setting : Setting) (run : Run) : Type 0 where
+pub record IsShort (image : ImageParts) (input : List ℕ) (setting : Setting) (engine : Engine) : Type 0 where
   pub valid : IsChoice setting.choice
-  pub reached : IsReached (experiment_with image input setting) run
-  pub undelayed : AreUndelayed run.visits.kept
+  pub reached : IsReached (experiment_with image input setting) engine
+  pub undelayed : AreUndelayed engine.visits.kept

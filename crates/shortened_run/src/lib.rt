@@ -4,7 +4,7 @@
 ghost use Rattle.std.specs.Prelude.{◌≡◌, ◌≤◌, ◌<◌, Some, IfOk, All, length, map};
 ghost use Rattle.coz_types.specs.declared.TheConstants.{HARTS};
 ghost use Rattle.virtual_run.specs.Visits.{net_of};
-ghost use Rattle.virtual_run.specs.Seen.{experiment_of};
+ghost use Rattle.virtual_run.specs.Seen.{seen, experiment_of};
 ghost use Rattle.shortened_run.specs.ShortenedRun.{AreUndelayed};
 
 use coz_types::{Ending, Image, Tick, Visit};
@@ -13,7 +13,7 @@ use progress_points::Points;
 use std::alloc::{AllocError, Global};
 use std::marker::Model;
 pub use virtual_run::Choice;
-use virtual_run::{Run, Setting};
+use virtual_run::{Engine, Setting};
 
 /// The run of a program in which the instructions of its selected line cost less.
 #[derive(Drop)]
@@ -21,37 +21,28 @@ pub struct Short<'a> {
     image: &'a Image<'a>,
     input: &'a [u8],
     setting: Setting<'a>,
-    run: Run<'a>,
+    engine: Engine<'a>,
 }
 
 impl<'a> Model for Short<'a> {
     ghost use Rattle.machines.specs.Shortened.{Shortened, shortened};
     ghost use Rattle.guest_calls.specs.Guest.{Guest};
-    ghost use Rattle.virtual_run.specs.Run.{events_of};
-    ghost use Rattle.virtual_run.specs.Seen.{Seen, experiment_with};
+    ghost use Rattle.virtual_run.specs.Engine.{events_of};
+    ghost use Rattle.virtual_run.specs.Seen.{Seen, seen_in};
     ghost use Rattle.shortened_run.specs.ShortenedRun.{IsShort};
 
     ghost Value = { Seen (Shortened Guest) };
 
-    ghost view = { λ short. record {
-      image = short.image.now;
-      index = short.setting.index.now;
-      points = short.setting.points.now;
-      input = short.input.now;
-      choice = short.setting.choice;
-      state = shortened (experiment_with short.image.now short.input.now short.setting) (events_of short.run);
-    } };
+    ghost view = { λ short. seen_in short.image.now short.input.now short.setting (λ x. shortened x (events_of short.engine)) };
 
-    ghost invariant = { λ short. IsShort short.image.now short.input.now short.setting short.run };
+    ghost invariant = { λ short. IsShort short.image.now short.input.now short.setting short.engine };
 }
 
 impl<'a> Short<'a> {
-    ghost use Rattle.line_index.specs.Index.{position_at};
-    ghost use Rattle.progress_points.specs.Points.{point_of};
     ghost use Rattle.machines.specs.Guest.{enough};
     ghost use Rattle.machines.specs.Shortened.{shortened};
     ghost use Rattle.machines.specs.Records.{net_record_of, IsShortened, shortened_record};
-    ghost use Rattle.virtual_run.specs.Run.{experiment, IsChoice};
+    ghost use Rattle.virtual_run.specs.Run.{IsChoice};
 
     /// A run that is about to begin. Only want of memory stands against it.
     pub fn new(
@@ -63,26 +54,19 @@ impl<'a> Short<'a> {
         choice: Choice,
     ) -> Result<Short<'a>, AllocError>
         requires { IsChoice choice }
-        ensures { IfOk result (λ short. short ≡ record {
-          image = image.now;
-          index = index.now;
-          points = points.now;
-          input = input.now;
-          choice = choice;
-          state = shortened (experiment image.now (position_at index.now) (point_of points.now) input.now choice) 0;
-        }) }
+        ensures { IfOk result (λ short. short ≡ seen image.now index.now points.now input.now choice (λ x. shortened x 0)) }
     {
         let setting = Setting {
             index,
             points,
             choice,
         };
-        let run = Run::new(alloc, image, input, &setting)?;
+        let engine = Engine::new(alloc, image, input, &setting)?;
         Ok(Short {
             image,
             input,
             setting,
-            run,
+            engine,
         })
     }
 
@@ -94,10 +78,10 @@ impl<'a> Short<'a> {
         ensures last { let x = experiment_of self.old in self.new.state ≡ shortened x (enough x) }
         ensures rest { self.new ≡ record self.old { state = self.new.state } }
     {
-        while self.run.ending().is_none() {
-            self.run.advance(&self.setting, 0);
+        while self.engine.ending().is_none() {
+            self.engine.advance(&self.setting, 0);
         }
-        match self.run.ending() {
+        match self.engine.ending() {
             Some(ending) => ending,
             None => unreachable!(),
         }
@@ -107,21 +91,21 @@ impl<'a> Short<'a> {
     pub fn net(&self) -> Tick
         ensures { result ≡ self.now.state.time }
     {
-        self.run.time()
+        self.engine.time()
     }
 
     /// How many instructions were retired.
     pub fn retired(&self) -> u64
         ensures { result ≡ self.now.state.retired }
     {
-        self.run.retired()
+        self.engine.retired()
     }
 
     /// How many instructions of the selected line were begun.
     pub fn starts(&self) -> u64
         ensures { result ≡ self.now.state.starts }
     {
-        self.run.starts()
+        self.engine.starts()
     }
 
     /// The visits of progress points, at most 1,048,576, in order, each with a delay of 0.
@@ -131,7 +115,7 @@ impl<'a> Short<'a> {
         ensures harts { All (λ visit. visit.hart.0 < HARTS) result.now }
         ensures undelayed { AreUndelayed result.now }
     {
-        self.run.visits()
+        self.engine.visits()
     }
 
     /// What was written, at most 67,108,864 bytes.
@@ -139,7 +123,7 @@ impl<'a> Short<'a> {
         ensures bytes { result.now ≡ self.now.state.guest.output }
         ensures few { length result.now ≤ 67108864 }
     {
-        self.run.output()
+        self.engine.output()
     }
 }
 

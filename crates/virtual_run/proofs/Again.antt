@@ -14,9 +14,10 @@ use Rattle.machines.proofs.Lead.{all_count}
 use Rattle.delay_credits.specs.Delays.{Delays}
 use Rattle.guest_calls.specs.Guest.{Guest, IsMade, pc_of}
 use Rattle.virtual_run.specs.declared.choice.Setting.{Setting}
-use Rattle.virtual_run.specs.declared.run.Run.{Run}
+use Rattle.virtual_run.specs.declared.engine.Engine.{Engine}
 use Rattle.virtual_run.specs.Begin.{many}
-use Rattle.virtual_run.specs.Run.{events_of, IsChoice, IsReached, state_of, selects, selected_of}
+use Rattle.virtual_run.specs.Run.{IsChoice, selects, selected_of}
+use Rattle.virtual_run.specs.Engine.{events_of, IsReached, state_of}
 use Rattle.virtual_run.specs.Credited.{Holds}
 use Rattle.virtual_run.specs.Seen.{experiment_with}
 use Rattle.virtual_run.specs.DelayedRun.{IsPaced}
@@ -73,7 +74,7 @@ module _ (x : Experiment Guest) (whole : x.speedup ≡ 0) where
       (λ (c : ℕ). record { time = 0; guest = x.first; dues = change None 0 (λ _. Some (0 + cost x x.first 0 - c)) []; visits = []; retired = 0; wakes = 0; starts = 0 + length (filter (x.guest.is_selected x.first) (0 ∷ [])); ending = None })
       (uncut x x.first 0 whole)
 
-module _ (image : ImageParts) (input : List ℕ) (setting : Setting) (run : Run) (credits : Delays) (now : ℕ) (p : IsPaced image input setting run credits now) (whole : setting.choice.speedup ≡ 0) (zeroth : events_of run ≡ 0) (line : LineId) where
+module _ (image : ImageParts) (input : List ℕ) (setting : Setting) (engine : Engine) (credits : Delays) (now : ℕ) (p : IsPaced image input setting engine credits now) (whole : setting.choice.speedup ≡ 0) (zeroth : events_of engine ≡ 0) (line : LineId) where
   abbrev x : Experiment Guest
   x = experiment_with image input setting
 
@@ -84,19 +85,19 @@ module _ (image : ImageParts) (input : List ℕ) (setting : Setting) (run : Run)
   unfolding shortened short.begin short.unbegun
   first_guest_is = refl
 
-  pub guest_is : run.guest ≡ x.first
+  pub guest_is : engine.guest ≡ x.first
   guest_is = sym (ap (λ (t : Shortened Guest). t.guest) p.reached.reached.state) ∙ ap (λ (n : ℕ). (shortened x n).guest) zeroth ∙ first_guest_is
 
-  pub first_is_made : IsMade run.guest 0
+  pub first_is_made : IsMade engine.guest 0
   first_is_made = subst (λ (g : Guest). IsMade g 0) (sym guest_is) (first_made image input setting.choice.output_limit setting.choice.layout)
 
   abbrev chosen : List ℕ
-  chosen = selected_of (lined_setting line setting) run.guest (0 ∷ [])
+  chosen = selected_of (lined_setting line setting) engine.guest (0 ∷ [])
 
-  abbrev new_run : Run
-  new_run = record run { selected = chosen; starts = length chosen }
+  abbrev new_engine : Engine
+  new_engine = record engine { selected = chosen; starts = length chosen }
 
-  moment_zero : (standing x (events_of run)).now ≡ 0
+  moment_zero : (standing x (events_of engine)).now ≡ 0
   moment_zero = ap (λ (n : ℕ). (standing x n).now) zeroth ∙ ap (λ (d : Delayed Guest). d.now) (first_is x whole).1
 
   -- both first states have the same harts, and the same moments
@@ -111,29 +112,29 @@ module _ (image : ImageParts) (input : List ℕ) (setting : Setting) (run : Run)
       let same : length (filter (y.guest.is_selected y.first) (0 ∷ [])) ≡ length chosen = ap (λ (g : Guest). length (filter (y.guest.is_selected g) (0 ∷ []))) (sym guest_is) in
       omega (arith, same)
 
-  state_new : shortened y (events_of run) ≡ state_of new_run (shortened y (events_of run)).dues
+  state_new : shortened y (events_of engine) ≡ state_of new_engine (shortened y (events_of engine)).dues
   state_new =
-      let first : shortened y (events_of run) ≡ record (shortened x (events_of run)) { starts = length chosen } =
+      let first : shortened y (events_of engine) ≡ record (shortened x (events_of engine)) { starts = length chosen } =
       ap (shortened y) zeroth ∙ same_short
       ∙ ap (λ (n : ℕ). record (shortened x 0) { starts = n }) counted
       ∙ ap (λ (n : ℕ). record (shortened x n) { starts = length chosen }) (sym zeroth) in
-      let dues : (shortened x (events_of run)).dues ≡ (shortened y (events_of run)).dues = ap (λ (s : Shortened Guest). s.dues) (sym first) in
+      let dues : (shortened x (events_of engine)).dues ≡ (shortened y (events_of engine)).dues = ap (λ (s : Shortened Guest). s.dues) (sym first) in
       first ∙ ap (λ (s : Shortened Guest). record s { starts = length chosen }) p.reached.reached.state
-      ∙ ap (state_of new_run) dues
+      ∙ ap (state_of new_engine) dues
 
-  dues_same : (shortened x (events_of run)).dues ≡ (shortened y (events_of run)).dues
+  dues_same : (shortened x (events_of engine)).dues ≡ (shortened y (events_of engine)).dues
   dues_same = ap (λ (n : ℕ). (shortened x n).dues) zeroth ∙ ap (λ (s : Shortened Guest). s.dues) (sym same_short) ∙ ap (λ (n : ℕ). (shortened y n).dues) (sym zeroth)
 
   due_first : (shortened x 0).dues ≡ Some (0 + cost x x.first 0 - 0) ∷ []
   unfolding short_ready
   due_first = ap (λ (s : Shortened Guest). s.dues) (short_first_is x whole)
 
-  some_due : 1 ≤ many run.schedule
+  some_due : 1 ≤ many engine.schedule
   some_due =
-      some_many run.schedule 0 (0 + cost x x.first 0 - 0)
+      some_many engine.schedule 0 (0 + cost x x.first 0 - 0)
       (p.reached.reached.dues 0 ∙ ap (λ (n : ℕ). get_or (shortened x n).dues 0 None) zeroth ∙ ap (λ (ds : List (Option ℕ)). get_or ds 0 None) due_first)
 
-  reached_new : IsReached y new_run
+  reached_new : IsReached y new_engine
   reached_new = record {
     reached = record { state = state_new; dues = λ k. p.reached.reached.dues k ∙ ap (λ (ds : List (Option ℕ)). get_or ds k None) dues_same };
     room = p.reached.room;
@@ -141,13 +142,13 @@ module _ (image : ImageParts) (input : List ℕ) (setting : Setting) (run : Run)
     unfull = p.reached.unfull;
     retired = p.reached.retired;
     few =
-        let one : length chosen ≤ 1 = one_at_most (λ hart. selects (lined_setting line setting) (pc_of run.guest hart)) 0 in
-        let some : 1 ≤ many run.schedule = some_due in
+        let one : length chosen ≤ 1 = one_at_most (λ hart. selects (lined_setting line setting) (pc_of engine.guest hart)) 0 in
+        let some : 1 ≤ many engine.schedule = some_due in
         omega (arith, one, some);
     within = p.reached.within;
   }
 
-  holds_new : Holds credits (standing y (events_of run))
+  holds_new : Holds credits (standing y (events_of engine))
   unfolding cost
   holds_new =
       let a = first_is x whole in
@@ -155,12 +156,12 @@ module _ (image : ImageParts) (input : List ℕ) (setting : Setting) (run : Run)
       let was : Holds credits (record (ready x whole) { starts = a.0 }) = subst (Holds credits) (ap (standing x) zeroth ∙ a.1) p.holds in
       subst (Holds credits) (sym (ap (standing y) zeroth ∙ b.1)) (record { latest = was.latest; raised = was.raised; harts = was.harts })
 
-  same_visits : (standing x (events_of run)).visits ≡ (standing y (events_of run)).visits
+  same_visits : (standing x (events_of engine)).visits ≡ (standing y (events_of engine)).visits
   same_visits =
       ap (λ (n : ℕ). (standing x n).visits) zeroth ∙ ap (λ (d : Delayed Guest). d.visits) (first_is x whole).1
       ∙ sym (ap (λ (n : ℕ). (standing y n).visits) zeroth ∙ ap (λ (d : Delayed Guest). d.visits) (first_is y whole).1)
 
-  same_now : (standing x (events_of run)).now ≡ (standing y (events_of run)).now
+  same_now : (standing x (events_of engine)).now ≡ (standing y (events_of engine)).now
   same_now =
       moment_zero ∙ sym (ap (λ (n : ℕ). (standing y n).now) zeroth ∙ ap (λ (d : Delayed Guest). d.now) (first_is y whole).1)
 
@@ -180,9 +181,9 @@ module _ (image : ImageParts) (input : List ℕ) (setting : Setting) (run : Run)
     layout = p.valid.layout;
   }
 
-  pub again_paced : (new : Run) → new ≡ new_run → IsPaced image input (lined_setting line setting) new credits now
+  pub again_paced : (new : Engine) → new ≡ new_engine → IsPaced image input (lined_setting line setting) new credits now
   again_paced new is =
-      subst (λ (r : Run). IsPaced image input (lined_setting line setting) r credits now) (sym is)
+      subst (λ (r : Engine). IsPaced image input (lined_setting line setting) r credits now) (sym is)
       (record {
         valid = valid_new;
         reached = reached_new;
@@ -193,5 +194,5 @@ module _ (image : ImageParts) (input : List ℕ) (setting : Setting) (run : Run)
         soon = p.soon;
         trap = p.trap;
         made = p.made;
-        selected = ap (filter (y.guest.is_selected run.guest)) (sym (ap (λ (n : ℕ). (before y n).harts) zeroth ∙ first_begins));
+        selected = ap (filter (y.guest.is_selected engine.guest)) (sym (ap (λ (n : ℕ). (before y n).harts) zeroth ∙ first_begins));
       })

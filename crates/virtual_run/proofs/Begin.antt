@@ -12,7 +12,7 @@ use Rattle.machines.specs.Places.{is_among}
 use Rattle.guest_calls.specs.Guest.{Guest, pc_of}
 use Rattle.guest_calls.specs.Retire.{next_of}
 use Rattle.virtual_run.specs.Begin.{ticks_of, rested, many, IsIdle, AreIdle, AreBegun}
-use Rattle.virtual_run.specs.Run.{AreWithin}
+use Rattle.virtual_run.specs.Engine.{AreWithin}
 use Rattle.virtual_run.proofs.Many.{many_with, many_without, many_below}
 use Rattle.virtual_run.proofs.Keys.{has_place, with_key_at, without_key_at, over_key_at, rested_at}
 use Rattle.machines.specs.Shortened.{rest}

@@ -8,11 +8,11 @@ use Rattle.machines.specs.Places.{change, is_among}
 use Rattle.machines.specs.Delayed.{Hart, fresh, is_any, run, stop, credit}
 use Rattle.delay_credits.specs.Delays.{Delays, at, with_start}
 use Rattle.guest_calls.specs.Guest.{Guest}
-use Rattle.virtual_run.specs.declared.run.Event.{Event}
-use Rattle.virtual_run.specs.declared.run.Event.TheVariants.{Woke, Retired}
-use Rattle.virtual_run.specs.declared.run.Turn.{Turn}
-use Rattle.virtual_run.specs.declared.run.Retired.{Retired as RetiredHart}
-use Rattle.virtual_run.specs.declared.run.Run.{Run}
+use Rattle.virtual_run.specs.declared.engine.Event.{Event}
+use Rattle.virtual_run.specs.declared.engine.Event.TheVariants.{Woke, Retired}
+use Rattle.virtual_run.specs.declared.engine.Turn.{Turn}
+use Rattle.virtual_run.specs.declared.engine.Retired.{Retired as RetiredHart}
+use Rattle.virtual_run.specs.declared.engine.Engine.{Engine}
 use Rattle.virtual_run.specs.Begin.{started_by}
 use Rattle.virtual_run.specs.Credited.{with_credits, with_starts, with_rest, with_begun, moment_of, AllBelow, AllRun, CanBegin, CanWake, CanSettle, CanFollow, IsAlone}
 use Rattle.virtual_run.proofs.CreditedLists.{among_first, among_rest, credits_length, raises_length, starts_run}
@@ -97,8 +97,8 @@ none-any [] e = refl
 none-any (h ∷ hs) e = absurd (let no : true ≡ false = e in cc)
 
 -- what follows an event, by the event
-pub can_wake : (event : Event) (turn : Turn) (c : Delays) (run : Run) (raised : ℕ) → event ≡ Woke turn → CanFollow event c run (moment_of event run + raised) → CanWake c run turn.hart.0 (turn.due + raised)
-can_wake event turn c run raised is can = subst (λ (e : Event). CanFollow e c run (moment_of e run + raised)) is can
+pub can_wake : (event : Event) (turn : Turn) (c : Delays) (engine : Engine) (raised : ℕ) → event ≡ Woke turn → CanFollow event c engine (moment_of event engine + raised) → CanWake c engine turn.hart.0 (turn.due + raised)
+can_wake event turn c engine raised is can = subst (λ (e : Event). CanFollow e c engine (moment_of e engine + raised)) is can
 
-pub can_settle : (event : Event) (retired : RetiredHart) (c : Delays) (run : Run) (raised : ℕ) → event ≡ Retired retired → CanFollow event c run (moment_of event run + raised) → CanSettle c run retired.hart.0 retired.fate (run.time + raised)
-can_settle event retired c run raised is can = subst (λ (e : Event). CanFollow e c run (moment_of e run + raised)) is can
+pub can_settle : (event : Event) (retired : RetiredHart) (c : Delays) (engine : Engine) (raised : ℕ) → event ≡ Retired retired → CanFollow event c engine (moment_of event engine + raised) → CanSettle c engine retired.hart.0 retired.fate (engine.time + raised)
+can_settle event retired c engine raised is can = subst (λ (e : Event). CanFollow e c engine (moment_of e engine + raised)) is can

@@ -40,17 +40,18 @@ use Rattle.guest_calls.specs.Orderly.{IsOrderly}
 use Rattle.guest_calls.specs.Retire.{next_of, retire}
 use Rattle.guest_calls.proofs.Law.{retire-made, running_low, timed_low, running_awake, others_idle, own_trap}
 use Rattle.virtual_run.specs.declared.choice.Setting.{Setting}
-use Rattle.virtual_run.specs.declared.run.Event.{Event}
-use Rattle.virtual_run.specs.declared.run.Event.TheVariants.{Woke, Retired}
-use Rattle.virtual_run.specs.declared.run.Run.{Run}
+use Rattle.virtual_run.specs.declared.engine.Event.{Event}
+use Rattle.virtual_run.specs.declared.engine.Event.TheVariants.{Woke, Retired}
+use Rattle.virtual_run.specs.declared.engine.Engine.{Engine}
 use Rattle.virtual_run.specs.Begin.{started_by, rested, many, AreIdle}
 use Rattle.virtual_run.specs.Ending.{ending_of}
 use Rattle.virtual_run.specs.Visits.{Visits, visits_of}
-use Rattle.virtual_run.specs.Run.{events_of, IsChoice, IsReached, IsSteady, IsFirst}
+use Rattle.virtual_run.specs.Run.{IsChoice}
+use Rattle.virtual_run.specs.Engine.{events_of, IsReached, IsSteady, IsFirst}
 use Rattle.virtual_run.specs.Advance.{IsRetired, IsWoken, IsAdvance}
 use Rattle.virtual_run.specs.Credited.{raise_ticks, with_credits, with_starts, with_raises, with_rest, with_begun, credits_after, moment_of, credited_by, Runs, AllRun, AllBelow, Holds, CanBegin, CanWake, CanSettle, CanFollow}
 use Rattle.virtual_run.specs.Credited as credited
-use Rattle.virtual_run.specs.Seen.{Seen, experiment_with, experiment_of}
+use Rattle.virtual_run.specs.Seen.{Seen, seen_in, experiment_with, experiment_of}
 use Rattle.virtual_run.specs.DelayedRun.{visit_as, net_due_of, account_in, outcome_of, IsOfAHart, IsSmall, Happens, AgreesThroughout, EndsOnce, IsPaced}
 use Rattle.virtual_run.proofs.Keys.{has_place, rested_length, next_is}
 use Rattle.virtual_run.proofs.Many.{many_few}
@@ -113,110 +114,110 @@ trap_fate Leaves o v r n b trap is = absurd (no_trap o v (not r) (nat_le b n) tr
 trap_fate (Sleeps moment) o v r n b trap is = absurd (no_trap o v (not r) (nat_le b n) trap is)
 trap_fate (Ends e) o v r n b trap is = let same : e ≡ Trapped trap = cc in ap Ends same
 
-module _ (image : ImageParts) (input : List ℕ) (setting : Setting) (run : Run) (credits : Delays) (now : ℕ) (p : IsPaced image input setting run credits now) where
+module _ (image : ImageParts) (input : List ℕ) (setting : Setting) (engine : Engine) (credits : Delays) (now : ℕ) (p : IsPaced image input setting engine credits now) where
   abbrev x : Experiment Guest
   x = experiment_with image input setting
 
   abbrev d : Delayed Guest
-  d = standing x (events_of run)
+  d = standing x (events_of engine)
 
   abbrev s : Shortened Guest
-  s = shortened x (events_of run)
+  s = shortened x (events_of engine)
 
   law : IsLawful x IsOrderly
   law = lawful_with image input setting p.valid
 
   pub agree : Agrees d s
-  agree = agrees x IsOrderly law (events_of run)
+  agree = agrees x IsOrderly law (events_of engine)
 
-  pub ending_now : d.ending ≡ run.ending
+  pub ending_now : d.ending ≡ engine.ending
   ending_now = agree.ending ∙ ap (λ (t : Shortened Guest). t.ending) p.reached.reached.state
 
-  pub wakes_now : d.wakes ≡ run.wakes
+  pub wakes_now : d.wakes ≡ engine.wakes
   wakes_now = agree.wakes ∙ ap (λ (t : Shortened Guest). t.wakes) p.reached.reached.state
 
-  pub retired_now : d.retired ≡ run.retired
+  pub retired_now : d.retired ≡ engine.retired
   retired_now = agree.retired ∙ ap (λ (t : Shortened Guest). t.retired) p.reached.reached.state
 
-  pub events_now : events d ≡ events_of run
+  pub events_now : events d ≡ events_of engine
   events_now = ap₂ (λ (m n : ℕ). m + n) retired_now wakes_now
 
-  pub starts_now : d.starts ≡ run.starts
+  pub starts_now : d.starts ≡ engine.starts
   starts_now = agree.starts ∙ ap (λ (t : Shortened Guest). t.starts) p.reached.reached.state
 
-  short_guest : s.guest ≡ run.guest
+  short_guest : s.guest ≡ engine.guest
   short_guest = ap (λ (t : Shortened Guest). t.guest) p.reached.reached.state
 
-  pub guest_now : d.guest ≡ run.guest
+  pub guest_now : d.guest ≡ engine.guest
   guest_now = agree.guest ∙ short_guest
 
   pub now_is : now ≡ d.now
   now_is = p.moment
 
-  pub harts_now : length d.harts ≡ length run.guest.harts
-  harts_now = standing_has x IsOrderly law (λ g. length g.harts) (counted_with image input setting) (events_of run) ∙ ap (λ (g : Guest). length g.harts) guest_now
+  pub harts_now : length d.harts ≡ length engine.guest.harts
+  harts_now = standing_has x IsOrderly law (λ g. length g.harts) (counted_with image input setting) (events_of engine) ∙ ap (λ (g : Guest). length g.harts) guest_now
 
   -- the delay is at most 3800 ticks a start
   delay_few : d.delay ≤ 3800 * d.starts
-  delay_few = standing_bounded x IsOrderly law 3800 (cut_few x 40 95 (λ g h. cycles_few (next_of g h)) p.valid.speedup) (events_of run)
+  delay_few = standing_bounded x IsOrderly law 3800 (cut_few x 40 95 (λ g h. cycles_few (next_of g h)) p.valid.speedup) (events_of engine)
 
   -- each wake followed a retirement
-  pub wakes_few : run.wakes ≤ run.retired
-  wakes_few = followed_by image (position_at setting.index.now) (point_of setting.points.now) input setting.choice p.valid run p.reached
+  pub wakes_few : engine.wakes ≤ engine.retired
+  wakes_few = followed_by image (position_at setting.index.now) (point_of setting.points.now) input setting.choice p.valid engine p.reached
 
-  pub starts_few : run.starts ≤ 2 * 10 ^ 12 + 256
+  pub starts_few : engine.starts ≤ 2 * 10 ^ 12 + 256
   starts_few =
-      let most : many run.schedule ≤ length run.schedule = many_few run.schedule in
-      let room : length run.schedule ≡ 256 = p.reached.room in
-      let few : run.starts ≤ events_of run + many run.schedule = p.reached.few in
-      let below : run.retired ≤ setting.choice.budget = p.reached.retired in
+      let most : many engine.schedule ≤ length engine.schedule = many_few engine.schedule in
+      let room : length engine.schedule ≡ 256 = p.reached.room in
+      let few : engine.starts ≤ events_of engine + many engine.schedule = p.reached.few in
+      let below : engine.retired ≤ setting.choice.budget = p.reached.retired in
       let budget : setting.choice.budget ≤ 10 ^ 12 = p.valid.few in
       omega (arith, wakes_few)
 
   pub raised_few : credits.raised ≤ 10 ^ 16
   raised_few =
       let few : d.delay ≤ 3800 * d.starts = delay_few in
-      let starts : d.starts ≡ run.starts = starts_now in
-      let most : run.starts ≤ 2 * 10 ^ 12 + 256 = starts_few in
+      let starts : d.starts ≡ engine.starts = starts_now in
+      let most : engine.starts ≤ 2 * 10 ^ 12 + 256 = starts_few in
       let is : credits.raised ≡ d.delay = p.holds.raised in
       omega arith
 
-  pub is_steady : run.ending ≡ None → IsSteady run
-  is_steady none = steady image (position_at setting.index.now) (point_of setting.points.now) input setting.choice p.valid run p.reached none
+  pub is_steady : engine.ending ≡ None → IsSteady engine
+  is_steady none = steady image (position_at setting.index.now) (point_of setting.points.now) input setting.choice p.valid engine p.reached none
 
-  module _ (new : Run) (h : ℕ) (fate : Fate) (delay : ℕ) (given : delay ≡ credits.raised) (goes : run.ending ≡ None) (a : IsRetired setting run h fate delay new) where
+  module _ (new : Engine) (h : ℕ) (fate : Fate) (delay : ℕ) (given : delay ≡ credits.raised) (goes : engine.ending ≡ None) (a : IsRetired setting engine h fate delay new) where
     abbrev t : Turn
     t = record { hart = h; due = new.time }
 
     abbrev pub later_now : ℕ
     later_now = new.time + delay
 
-    next : IsNext x IsOrderly law (events_of run) t later_now credits
+    next : IsNext x IsOrderly law (events_of engine) t later_now credits
     next = record {
       goes = ending_now ∙ goes;
-      turn = next_is run.schedule s.dues h new.time p.reached.reached.dues a.turn a.first;
+      turn = next_is engine.schedule s.dues h new.time p.reached.reached.dues a.turn a.first;
       moment = ap (λ (m : ℕ). new.time + m) given;
       holds = p.holds;
     }
 
     pub time_few : new.time ≤ 2 * 10 ^ 16
     time_few =
-        let due : new.time ≤ 10 ^ 16 + 4000 * (events_of run + 1) = p.reached.within h new.time a.turn in
-        let below : run.retired ≤ setting.choice.budget = p.reached.retired in
+        let due : new.time ≤ 10 ^ 16 + 4000 * (events_of engine + 1) = p.reached.within h new.time a.turn in
+        let below : engine.retired ≤ setting.choice.budget = p.reached.retired in
         let budget : setting.choice.budget ≤ 10 ^ 12 = p.valid.few in
         omega (arith, wakes_few)
 
     pub hart_below : h < length credits.harts
-    hart_below = subst (λ (n : ℕ). h < n) (p.reached.room ∙ sym p.room) (has_place run.schedule h new.time a.turn)
+    hart_below = subst (λ (n : ℕ). h < n) (p.reached.room ∙ sym p.room) (has_place engine.schedule h new.time a.turn)
 
     pub is_later : credits.latest ≤ later_now
-    is_later = steps.later x IsOrderly law (events_of run) t later_now credits next
+    is_later = steps.later x IsOrderly law (events_of engine) t later_now credits next
 
     pub hart_runs : is_running (hart_at credits h) ≡ true
-    hart_runs = steps.running x IsOrderly law (events_of run) t later_now credits next
+    hart_runs = steps.running x IsOrderly law (events_of engine) t later_now credits next
 
     pub hart_unpaused : pause_of (hart_at (at later_now credits) h) ≡ 0
-    hart_unpaused = steps.unpaused x IsOrderly law (events_of run) t later_now credits next
+    hart_unpaused = steps.unpaused x IsOrderly law (events_of engine) t later_now credits next
 
     abbrev stopped : Delays
     stopped = with_rest h fate later_now credits
@@ -231,36 +232,36 @@ module _ (image : ImageParts) (input : List ℕ) (setting : Setting) (run : Run)
     stopped_raised = ap (λ (c : Delays). c.raised) (with_rest_is h fate later_now credits)
 
     was_awake : x.guest.is_sleeping s.guest h ≡ false
-    was_awake = ap (λ (g : Guest). x.guest.is_sleeping g h) short_guest ∙ running_awake run.guest h a.running
+    was_awake = ap (λ (g : Guest). x.guest.is_sleeping g h) short_guest ∙ running_awake engine.guest h a.running
 
-    turned : IsTurn run.guest run.schedule h new.time
-    turned = let st : IsSteady run = is_steady goes in record { orderly = st.orderly; timed = st.timed; running = a.running; room = st.room; turn = a.turn }
+    turned : IsTurn engine.guest engine.schedule h new.time
+    turned = let st : IsSteady engine = is_steady goes in record { orderly = st.orderly; timed = st.timed; running = a.running; room = st.room; turn = a.turn }
 
-    begin_idle : new.ending ≡ None → AreIdle new.guest (rested h fate run.schedule) (started_by h fate new.started)
+    begin_idle : new.ending ≡ None → AreIdle new.guest (rested h fate engine.schedule) (started_by h fate new.started)
     begin_idle none =
         let own : own_ending fate ≡ None = none_own fate _ _ _ new.retired setting.choice.budget (sym a.ending ∙ none) in
-        started_idle run.guest run.schedule h new.time new.guest fate new.started turned a.retires own
+        started_idle engine.guest engine.schedule h new.time new.guest fate new.started turned a.retires own
 
     still_idle : (k : ℕ) → is_among k new.started ≡ true → is_timed x.guest s.guest k ≡ false
     still_idle k among =
         ap (λ (g : Guest). is_timed x.guest g k) short_guest
-        ∙ others_idle run.guest h new.time turned.orderly a.running k (ap (λ (r : Retirement Guest). is_among k r.others) (sym a.retires) ∙ among)
+        ∙ others_idle engine.guest h new.time turned.orderly a.running k (ap (λ (r : Retirement Guest). is_among k r.others) (sym a.retires) ∙ among)
 
     pub reached_new : IsReached x new
-    reached_new = reached_next image (position_at setting.index.now) (point_of setting.points.now) input setting.choice p.valid run p.reached new goes (a.moved (first_guest image input setting.choice.output_limit setting.choice.layout) s.dues p.reached.reached.dues) a.room (ap (λ (v : Visits). v.limit) a.visits) a.unfull a.retired a.wakes a.few a.within
+    reached_new = reached_next image (position_at setting.index.now) (point_of setting.points.now) input setting.choice p.valid engine p.reached new goes (a.moved (first_guest image input setting.choice.output_limit setting.choice.layout) s.dues p.reached.reached.dues) a.room (ap (λ (v : Visits). v.limit) a.visits) a.unfull a.retired a.wakes a.few a.within
 
-    next_count : events_of new ≡ suc (events_of run)
+    next_count : events_of new ≡ suc (events_of engine)
     next_count = omega (arith, a.retired, a.wakes)
 
-    after_is : (standing x (suc (events_of run))).ending ≡ new.ending
+    after_is : (standing x (suc (events_of engine))).ending ≡ new.ending
     after_is =
-        (agrees x IsOrderly law (suc (events_of run))).ending
+        (agrees x IsOrderly law (suc (events_of engine))).ending
         ∙ ap (λ (n : ℕ). (shortened x n).ending) (sym next_count)
         ∙ ap (λ (t : Shortened Guest). t.ending) reached_new.reached.state
 
-    after_starts : (standing x (suc (events_of run))).starts ≡ new.starts
+    after_starts : (standing x (suc (events_of engine))).starts ≡ new.starts
     after_starts =
-        (agrees x IsOrderly law (suc (events_of run))).starts
+        (agrees x IsOrderly law (suc (events_of engine))).starts
         ∙ ap (λ (n : ℕ). (shortened x n).starts) (sym next_count)
         ∙ ap (λ (t : Shortened Guest). t.starts) reached_new.reached.state
 
@@ -274,9 +275,9 @@ module _ (image : ImageParts) (input : List ℕ) (setting : Setting) (run : Run)
     raises_few none =
         let few : d.delay ≤ 3800 * d.starts = delay_few in
         let is : credits.raised ≡ d.delay = p.holds.raised in
-        let more : (standing x (suc (events_of run))).starts ≡ d.starts + length (filter (x.guest.is_selected new.guest) (started_by h fate new.started)) = steps.starts_next x IsOrderly law (events_of run) t later_now credits next was_awake r retires_as (after_is ∙ none) in
+        let more : (standing x (suc (events_of engine))).starts ≡ d.starts + length (filter (x.guest.is_selected new.guest) (started_by h fate new.started)) = steps.starts_next x IsOrderly law (events_of engine) t later_now credits next was_awake r retires_as (after_is ∙ none) in
         let same : length new.selected ≡ length (filter (x.guest.is_selected new.guest) (started_by h fate new.started)) = ap length (a.selected none) in
-        let starts : (standing x (suc (events_of run))).starts ≡ new.starts = after_starts in
+        let starts : (standing x (suc (events_of engine))).starts ≡ new.starts = after_starts in
         let most : many new.schedule ≤ length new.schedule = many_few new.schedule in
         let room : length new.schedule ≡ 256 = a.room in
         let kept : new.starts ≤ events_of new + many new.schedule = a.few in
@@ -288,16 +289,16 @@ module _ (image : ImageParts) (input : List ℕ) (setting : Setting) (run : Run)
     pub can_begin : new.ending ≡ None → CanBegin stopped new.guest h fate new.started new.selected
     can_begin none =
         let idle = begin_idle none in
-        let many_harts : length (rested h fate run.schedule) ≡ 256 = rested_length fate run.schedule h ∙ p.reached.room in
+        let many_harts : length (rested h fate engine.schedule) ≡ 256 = rested_length fate engine.schedule h ∙ p.reached.room in
         let low : (k : ℕ) → is_among k (started_by h fate new.started) ≡ true → k < length stopped.harts = λ k among. subst (λ (n : ℕ). k < n) (many_harts ∙ sym stopped_places) (idle.idle k among).below in
         let chosen : (k : ℕ) → is_among k new.selected ≡ true → is_among k (started_by h fate new.started) ≡ true =
         λ k among. (among_filter (x.guest.is_selected new.guest) k (started_by h fate new.started) (ap (is_among k) (sym (a.selected none)) ∙ among)).1 in
         record {
           below = subst (λ (n : ℕ). h < n) (p.room ∙ sym stopped_places) hart_below;
-          whole = steps.whole_stopped x IsOrderly law (events_of run) t later_now credits next fate ∙ sym stopped_raised;
+          whole = steps.whole_stopped x IsOrderly law (events_of engine) t later_now credits next fate ∙ sym stopped_raised;
           rest = λ k among. record {
             below = low k (others_among (goes_on fate) h k new.started among);
-            rests = steps.idle x IsOrderly law (events_of run) t later_now credits next fate k (still_idle k among);
+            rests = steps.idle x IsOrderly law (events_of engine) t later_now credits next fate k (still_idle k among);
           };
           started = low;
           selected = chosen;
@@ -312,25 +313,25 @@ module _ (image : ImageParts) (input : List ℕ) (setting : Setting) (run : Run)
     ticks_are k = mul_comm (cycles_of (next_of new.guest k)) setting.choice.speedup
 
     settled_holds : (o : Option Ending) → new.ending ≡ o
-        → Holds (credits_after o (raise_ticks new.guest setting.choice.speedup) h fate new.started new.selected stopped) (standing x (suc (events_of run)))
+        → Holds (credits_after o (raise_ticks new.guest setting.choice.speedup) h fate new.started new.selected stopped) (standing x (suc (events_of engine)))
         × (length (credits_after o (raise_ticks new.guest setting.choice.speedup) h fate new.started new.selected stopped).harts ≡ 256)
-    settled_holds (Some e) is = (steps.holds_ended x IsOrderly law (events_of run) t later_now credits next was_awake e fate (ap (λ (r : Retirement Guest). r.fate) retires_as) (after_is ∙ is), stopped_places)
+    settled_holds (Some e) is = (steps.holds_ended x IsOrderly law (events_of engine) t later_now credits next was_awake e fate (ap (λ (r : Retirement Guest). r.fate) retires_as) (after_is ∙ is), stopped_places)
     settled_holds None is =
         let ticks : ℕ → ℕ = raise_ticks new.guest setting.choice.speedup in (
-          subst (λ (hs : List ℕ). Holds (with_begun ticks h fate new.started hs stopped) (standing x (suc (events_of run)))) (sym (a.selected is))
-              (steps.holds_goes x IsOrderly law (events_of run) t later_now credits next was_awake ticks r retires_as ticks_are (after_is ∙ is)),
+          subst (λ (hs : List ℕ). Holds (with_begun ticks h fate new.started hs stopped) (standing x (suc (events_of engine)))) (sym (a.selected is))
+              (steps.holds_goes x IsOrderly law (events_of engine) t later_now credits next was_awake ticks r retires_as ticks_are (after_is ∙ is)),
           begun_places stopped new.guest h fate new.started new.selected (can_begin is) ticks ∙ stopped_places,
         )
 
-    kept_next : map visit_as new.visits.kept ≡ (standing x (suc (events_of run))).visits
+    kept_next : map visit_as new.visits.kept ≡ (standing x (suc (events_of engine))).visits
     unfolding visit_at
     kept_next =
-        let point : Option ℕ = point_of setting.points.now (pc_of run.guest h) in
+        let point : Option ℕ = point_of setting.points.now (pc_of engine.guest h) in
         ap (λ (v : Visits). map visit_as v.kept) a.visits
-        ∙ map-append visit_as run.visits.kept (visits_of point h later_now delay)
+        ∙ map-append visit_as engine.visits.kept (visits_of point h later_now delay)
         ∙ ap₂ (λ (vs ws : List Visit). vs ++ ws) p.visits
         (visit_kept point h later_now delay ∙ ap₂ (λ (m : ℕ) (g : Guest). visit_at x h later_now m g) given (sym short_guest))
-        ∙ sym (steps.visits_next x IsOrderly law (events_of run) t later_now credits next was_awake)
+        ∙ sym (steps.visits_next x IsOrderly law (events_of engine) t later_now credits next was_awake)
 
     latest_is : (o : Option Ending) → (credits_after o (raise_ticks new.guest setting.choice.speedup) h fate new.started new.selected stopped).latest ≡ later_now
     latest_is (Some e) = ap (λ (c : Delays). c.latest) (with_rest_is h fate later_now credits)
@@ -347,22 +348,22 @@ module _ (image : ImageParts) (input : List ℕ) (setting : Setting) (run : Run)
     trap_new e is =
         of_a_hart e (λ trap trapped.
         let fate_is : fate ≡ Ends (Trapped trap) = trap_fate fate _ _ _ new.retired setting.choice.budget trap (sym a.ending ∙ is ∙ ap Some trapped) in
-        let own : trap.hart.0 ≡ h = own_trap run.guest h new.time turned.orderly a.running trap (ap (λ (r : Retirement Guest). r.fate) (sym a.retires) ∙ fate_is) in
+        let own : trap.hart.0 ≡ h = own_trap engine.guest h new.time turned.orderly a.running trap (ap (λ (r : Retirement Guest). r.fate) (sym a.retires) ∙ fate_is) in
         let below = subst (λ (n : ℕ). h < n) p.room hart_below in
         omega (arith, own, below))
 
     -- those that are selected began last
-    selected_new : (o : Option Ending) → new.ending ≡ o → new.selected ≡ filter (x.guest.is_selected new.guest) (before x (suc (events_of run))).harts
+    selected_new : (o : Option Ending) → new.ending ≡ o → new.selected ≡ filter (x.guest.is_selected new.guest) (before x (suc (events_of engine))).harts
     selected_new (Some e) is =
-        a.none_selected (ap is_some is) ∙ sym (ap (filter (x.guest.is_selected new.guest)) (ended_begins x (suc (events_of run)) e (after_is ∙ is)))
+        a.none_selected (ap is_some is) ∙ sym (ap (filter (x.guest.is_selected new.guest)) (ended_begins x (suc (events_of engine)) e (after_is ∙ is)))
     selected_new None is =
-        let begins = goes_begins x IsOrderly law (events_of run) t (ending_now ∙ goes) next.turn was_awake (after_is ∙ is) in
+        let begins = goes_begins x IsOrderly law (events_of engine) t (ending_now ∙ goes) next.turn was_awake (after_is ∙ is) in
         a.selected is ∙ sym (ap (filter (x.guest.is_selected new.guest)) (begins ∙ sym (ap (started h) retires_as)))
 
     pub paced_next : (after : Delays) → after ≡ credits_after new.ending (raise_ticks new.guest setting.choice.speedup) h fate new.started new.selected stopped → IsPaced image input setting new after later_now
     paced_next after is =
         let both = settled_holds new.ending refl in
-        let holds : Holds after (standing x (events_of new)) = subst (λ (n : ℕ). Holds after (standing x n)) (sym next_count) (subst (λ (c : Delays). Holds c (standing x (suc (events_of run)))) (sym is) both.0) in
+        let holds : Holds after (standing x (events_of new)) = subst (λ (n : ℕ). Holds after (standing x n)) (sym next_count) (subst (λ (c : Delays). Holds c (standing x (suc (events_of engine)))) (sym is) both.0) in
         record {
           valid = p.valid;
           reached = reached_new;
@@ -372,31 +373,31 @@ module _ (image : ImageParts) (input : List ℕ) (setting : Setting) (run : Run)
           moment = sym (latest_is new.ending) ∙ ap (λ (c : Delays). c.latest) (sym is) ∙ holds.latest;
           soon = soon_new;
           trap = trap_new;
-          made = ap (λ (r : Retirement Guest). making r.guest) a.retires ∙ retire-made run.guest h new.time turned.orderly a.running ∙ p.made;
+          made = ap (λ (r : Retirement Guest). making r.guest) a.retires ∙ retire-made engine.guest h new.time turned.orderly a.running ∙ p.made;
           selected = selected_new new.ending refl ∙ ap (λ (n : ℕ). filter (x.guest.is_selected new.guest) (before x n).harts) (sym next_count);
         }
 
     -- the moves up to the retirement
     pub steps_next : Steps x d (standing x (events_of new))
     steps_next =
-        let by = steps_is x IsOrderly law (events_of run) t (ending_now ∙ goes) next.turn in
+        let by = steps_is x IsOrderly law (events_of engine) t (ending_now ∙ goes) next.turn in
         subst (λ (n : ℕ). Steps x d (standing x n)) (sym next_count) (by.retires (ap (λ (g : Guest). x.guest.is_sleeping g h) agree.guest ∙ was_awake)).1
 
     pub can_settle : CanSettle credits new h fate later_now
     can_settle = record { below = hart_below; later = is_later; running = hart_runs; unpaused = hart_unpaused; can = can_begin }
 
   -- a wake
-  module _ (new : Run) (h due : ℕ) (delay : ℕ) (given : delay ≡ credits.raised) (goes : run.ending ≡ None) (a : IsWoken setting run h due new) where
+  module _ (new : Engine) (h due : ℕ) (delay : ℕ) (given : delay ≡ credits.raised) (goes : engine.ending ≡ None) (a : IsWoken setting engine h due new) where
     abbrev wake_turn : Turn
     wake_turn = record { hart = h; due = due }
 
     abbrev wake_now : ℕ
     wake_now = due + delay
 
-    next_wake : IsNext x IsOrderly law (events_of run) wake_turn wake_now credits
+    next_wake : IsNext x IsOrderly law (events_of engine) wake_turn wake_now credits
     next_wake = record {
       goes = ending_now ∙ goes;
-      turn = next_is run.schedule s.dues h due p.reached.reached.dues a.turn a.first;
+      turn = next_is engine.schedule s.dues h due p.reached.reached.dues a.turn a.first;
       moment = ap (λ (m : ℕ). due + m) given;
       holds = p.holds;
     }
@@ -406,32 +407,32 @@ module _ (image : ImageParts) (input : List ℕ) (setting : Setting) (run : Run)
 
     pub wake_few : due ≤ 2 * 10 ^ 16
     wake_few =
-        let soon : due ≤ 10 ^ 16 + 4000 * (events_of run + 1) = p.reached.within h due a.turn in
-        let below : run.retired ≤ setting.choice.budget = p.reached.retired in
+        let soon : due ≤ 10 ^ 16 + 4000 * (events_of engine + 1) = p.reached.within h due a.turn in
+        let below : engine.retired ≤ setting.choice.budget = p.reached.retired in
         let budget : setting.choice.budget ≤ 10 ^ 12 = p.valid.few in
         omega (arith, wakes_few)
 
     wake_below : h < length credits.harts
-    wake_below = subst (λ (n : ℕ). h < n) (p.reached.room ∙ sym p.room) (has_place run.schedule h due a.turn)
+    wake_below = subst (λ (n : ℕ). h < n) (p.reached.room ∙ sym p.room) (has_place engine.schedule h due a.turn)
 
-    same_visits : new.visits ≡ run.visits
-    same_visits = ap (λ (o : Run). o.visits) a.rest
+    same_visits : new.visits ≡ engine.visits
+    same_visits = ap (λ (o : Engine). o.visits) a.rest
 
-    same_retired : new.retired ≡ run.retired
-    same_retired = ap (λ (o : Run). o.retired) a.rest
+    same_retired : new.retired ≡ engine.retired
+    same_retired = ap (λ (o : Engine). o.retired) a.rest
 
     still_goes : new.ending ≡ None
-    still_goes = ap (λ (o : Run). o.ending) a.rest ∙ goes
+    still_goes = ap (λ (o : Engine). o.ending) a.rest ∙ goes
 
     reached_wake : IsReached x new
     reached_wake =
-        reached_woken image (position_at setting.index.now) (point_of setting.points.now) input setting.choice p.valid run p.reached new goes
+        reached_woken image (position_at setting.index.now) (point_of setting.points.now) input setting.choice p.valid engine p.reached new goes
         (a.moved (first_guest image input setting.choice.output_limit setting.choice.layout) s.dues p.reached.reached.dues) a.room same_visits same_retired a.wakes a.few a.within
 
-    pub count_wake : events_of new ≡ events_of run + 1
+    pub count_wake : events_of new ≡ events_of engine + 1
     count_wake = omega (arith, same_retired, a.wakes)
 
-    wake_count : events_of new ≡ suc (events_of run)
+    wake_count : events_of new ≡ suc (events_of engine)
     wake_count = omega (arith, count_wake)
 
     wake_guest : new.guest ≡ x.guest.wake s.guest h
@@ -447,14 +448,14 @@ module _ (image : ImageParts) (input : List ℕ) (setting : Setting) (run : Run)
     can_wake =
         let same : length (at wake_now credits).harts ≡ length credits.harts = length-map credits.harts (ticked (wake_now - credits.latest)) in
         let here : AllBelow (at wake_now credits) (h ∷ []) = λ k among. let is : k ≡ h = eqb-true k h (one_bit (k == h) among) in omega (arith, is, same, wake_below) in
-        let st : IsSteady run = is_steady goes in
-        let low = timed_low run.guest h st.orderly (st.timed h ∙ ap is_some a.turn) in
-        let made : length new.guest.harts ≡ length run.guest.harts = ap (λ (g : Guest). length g.harts) a.guest ∙ length-set run.guest.harts h _ in
+        let st : IsSteady engine = is_steady goes in
+        let low = timed_low engine.guest h st.orderly (st.timed h ∙ ap is_some a.turn) in
+        let made : length new.guest.harts ≡ length engine.guest.harts = ap (λ (g : Guest). length g.harts) a.guest ∙ length-set engine.guest.harts h _ in
         let raised : credits.raised ≤ 10 ^ 16 = raised_few in
         let one : length new.selected ≤ 1 = subst (λ (hs : List ℕ). length hs ≤ 1) (sym wake_selected) (one_at_most (x.guest.is_selected new.guest) h) in
         record {
           below = wake_below;
-          later = steps.later x IsOrderly law (events_of run) wake_turn wake_now credits next_wake;
+          later = steps.later x IsOrderly law (events_of engine) wake_turn wake_now credits next_wake;
           runs = λ k among. starts_run (h ∷ []) (at wake_now credits) here k (rw (only_here k among, eq-eqb h h refl) refl);
           made = λ k among. let is : k ≡ h = only_here k among in omega (arith, is, low.0, made);
           few = omega (arith, raised, one);
@@ -466,10 +467,10 @@ module _ (image : ImageParts) (input : List ℕ) (setting : Setting) (run : Run)
     abbrev waked : Delays
     waked = credited.with_wake (raise_ticks new.guest setting.choice.speedup) h new.selected (at wake_now credits)
 
-    holds_waked : Holds waked (standing x (suc (events_of run)))
+    holds_waked : Holds waked (standing x (suc (events_of engine)))
     holds_waked =
-        subst (λ (hs : List ℕ). Holds (credited.with_wake (raise_ticks new.guest setting.choice.speedup) h hs (at wake_now credits)) (standing x (suc (events_of run)))) (sym wake_selected)
-        (steps.holds_wake x IsOrderly law (events_of run) wake_turn wake_now credits next_wake was_asleep (raise_ticks new.guest setting.choice.speedup) new.guest wake_guest ticks_wake)
+        subst (λ (hs : List ℕ). Holds (credited.with_wake (raise_ticks new.guest setting.choice.speedup) h hs (at wake_now credits)) (standing x (suc (events_of engine)))) (sym wake_selected)
+        (steps.holds_wake x IsOrderly law (events_of engine) wake_turn wake_now credits next_wake was_asleep (raise_ticks new.guest setting.choice.speedup) new.guest wake_guest ticks_wake)
 
     waked_places : length waked.harts ≡ 256
     waked_places =
@@ -479,7 +480,7 @@ module _ (image : ImageParts) (input : List ℕ) (setting : Setting) (run : Run)
 
     pub paced_wake : (after : Delays) → after ≡ waked → IsPaced image input setting new after wake_now
     paced_wake after is =
-        let holds : Holds after (standing x (events_of new)) = subst (λ (n : ℕ). Holds after (standing x n)) (sym wake_count) (subst (λ (c : Delays). Holds c (standing x (suc (events_of run)))) (sym is) holds_waked) in
+        let holds : Holds after (standing x (events_of new)) = subst (λ (n : ℕ). Holds after (standing x n)) (sym wake_count) (subst (λ (c : Delays). Holds c (standing x (suc (events_of engine)))) (sym is) holds_waked) in
         let few : credits.raised ≤ 10 ^ 16 = raised_few in
         record {
           valid = p.valid;
@@ -488,7 +489,7 @@ module _ (image : ImageParts) (input : List ℕ) (setting : Setting) (run : Run)
           room = ap (λ (c : Delays). length c.harts) is ∙ waked_places;
           visits =
               ap (λ (v : Visits). map visit_as v.kept) same_visits ∙ p.visits
-              ∙ sym (steps.visits_wake x IsOrderly law (events_of run) wake_turn wake_now credits next_wake was_asleep)
+              ∙ sym (steps.visits_wake x IsOrderly law (events_of engine) wake_turn wake_now credits next_wake was_asleep)
               ∙ ap (λ (n : ℕ). (standing x n).visits) (sym wake_count);
           moment =
               sym (raises_latest (raise_ticks new.guest setting.choice.speedup) new.selected (with_starts (h ∷ []) (at wake_now credits)))
@@ -498,34 +499,34 @@ module _ (image : ImageParts) (input : List ℕ) (setting : Setting) (run : Run)
           made = ap making a.guest ∙ p.made;
           selected =
               wake_selected
-              ∙ ap (filter (x.guest.is_selected new.guest)) (sym (wakes_begins x IsOrderly law (events_of run) wake_turn (ending_now ∙ goes) next_wake.turn was_asleep))
+              ∙ ap (filter (x.guest.is_selected new.guest)) (sym (wakes_begins x IsOrderly law (events_of engine) wake_turn (ending_now ∙ goes) next_wake.turn was_asleep))
               ∙ ap (λ (n : ℕ). filter (x.guest.is_selected new.guest) (before x n).harts) (sym wake_count);
         }
 
     pub happens_wake : Passes x d (standing x (events_of new)) × ((standing x (events_of new)).ending ≡ None)
     happens_wake =
         subst (λ (n : ℕ). Passes x d (standing x n) × ((standing x n).ending ≡ None)) (sym wake_count)
-        (steps.passes_wake x IsOrderly law (events_of run) wake_turn wake_now credits next_wake was_asleep, steps.goes_wake x IsOrderly law (events_of run) wake_turn wake_now credits next_wake was_asleep)
+        (steps.passes_wake x IsOrderly law (events_of engine) wake_turn wake_now credits next_wake was_asleep, steps.goes_wake x IsOrderly law (events_of engine) wake_turn wake_now credits next_wake was_asleep)
 
   -- an event
-  pub event_few : (new : Run) (event : Event) (delay : ℕ) → delay ≡ credits.raised → run.ending ≡ None → IsAdvance setting run event delay new → moment_of event new ≤ 2 * 10 ^ 16
+  pub event_few : (new : Engine) (event : Event) (delay : ℕ) → delay ≡ credits.raised → engine.ending ≡ None → IsAdvance setting engine event delay new → moment_of event new ≤ 2 * 10 ^ 16
   event_few new (Woke turn) delay given goes a = wake_few new turn.hart.0 turn.due delay given goes a
   event_few new (Retired retired) delay given goes a = time_few new retired.hart.0 retired.fate delay given goes a
 
-  pub event_count : (new : Run) (event : Event) (delay : ℕ) → delay ≡ credits.raised → run.ending ≡ None → IsAdvance setting run event delay new → events_of new ≡ events_of run + 1
+  pub event_count : (new : Engine) (event : Event) (delay : ℕ) → delay ≡ credits.raised → engine.ending ≡ None → IsAdvance setting engine event delay new → events_of new ≡ events_of engine + 1
   event_count new (Woke turn) delay given goes a = count_wake new turn.hart.0 turn.due delay given goes a
   event_count new (Retired retired) delay given goes a = omega (arith, a.retired, a.wakes)
 
-  pub can_follow : (new : Run) (event : Event) (delay : ℕ) → delay ≡ credits.raised → run.ending ≡ None → IsAdvance setting run event delay new → CanFollow event credits new (moment_of event new + delay)
+  pub can_follow : (new : Engine) (event : Event) (delay : ℕ) → delay ≡ credits.raised → engine.ending ≡ None → IsAdvance setting engine event delay new → CanFollow event credits new (moment_of event new + delay)
   can_follow new (Woke turn) delay given goes a = can_wake new turn.hart.0 turn.due delay given goes a
   can_follow new (Retired retired) delay given goes a = can_settle new retired.hart.0 retired.fate delay given goes a
 
-  pub paced_event : (new : Run) (event : Event) (delay : ℕ) → delay ≡ credits.raised → run.ending ≡ None → IsAdvance setting run event delay new
+  pub paced_event : (new : Engine) (event : Event) (delay : ℕ) → delay ≡ credits.raised → engine.ending ≡ None → IsAdvance setting engine event delay new
       → (after : Delays) → after ≡ credited_by event new (raise_ticks new.guest setting.choice.speedup) (moment_of event new + delay) credits → IsPaced image input setting new after (moment_of event new + delay)
   paced_event new (Woke turn) delay given goes a after is = paced_wake new turn.hart.0 turn.due delay given goes a after is
   paced_event new (Retired retired) delay given goes a after is = paced_next new retired.hart.0 retired.fate delay given goes a after is
 
-  pub happens_event : (new : Run) (event : Event) (delay : ℕ) → delay ≡ credits.raised → run.ending ≡ None → IsAdvance setting run event delay new → Happens x event d (standing x (events_of new))
+  pub happens_event : (new : Engine) (event : Event) (delay : ℕ) → delay ≡ credits.raised → engine.ending ≡ None → IsAdvance setting engine event delay new → Happens x event d (standing x (events_of new))
   happens_event new (Woke turn) delay given goes a = happens_wake new turn.hart.0 turn.due delay given goes a
   happens_event new (Retired retired) delay given goes a = steps_next new retired.hart.0 retired.fate delay given goes a
 
@@ -565,80 +566,73 @@ same_outcome : (e : Ending) (m m' g g' r r' s s' : ℕ) → m ≡ m' → g ≡ g
 same_outcome e m m' g g' r r' s s' is_m is_g is_r is_s = cc
 
 -- what the methods that change nothing give
-module _ (image : ImageParts) (input : List ℕ) (setting : Setting) (run : Run) (credits : Delays) (now : ℕ) (p : IsPaced image input setting run credits now) where
+module _ (image : ImageParts) (input : List ℕ) (setting : Setting) (engine : Engine) (credits : Delays) (now : ℕ) (p : IsPaced image input setting engine credits now) where
   abbrev seen : Delayed Guest
-  seen = standing (experiment_with image input setting) (events_of run)
+  seen = standing (experiment_with image input setting) (events_of engine)
 
-  pub due_ended : (h : ℕ) (e : Ending) → run.ending ≡ Some e → None ≡ net_due_of seen h
-  due_ended h e is = rw (ending_now image input setting run credits now p, is) refl
+  pub due_ended : (h : ℕ) (e : Ending) → engine.ending ≡ Some e → None ≡ net_due_of seen h
+  due_ended h e is = rw (ending_now image input setting engine credits now p, is) refl
 
-  pub due_goes : (h : ℕ) → run.ending ≡ None → key_of run.schedule h ≡ net_due_of seen h
+  pub due_goes : (h : ℕ) → engine.ending ≡ None → key_of engine.schedule h ≡ net_due_of seen h
   due_goes h none =
       let hart : Hart = get_or seen.harts h fresh in
-      rw (ending_now image input setting run credits now p, none)
+      rw (ending_now image input setting engine credits now p, none)
       (p.reached.reached.dues h
-      ∙ due_of seen.now seen.delay hart.account hart.load (get_or (shortened (experiment_with image input setting) (events_of run)).dues h None) ((agree image input setting run credits now p).harts h))
+      ∙ due_of seen.now seen.delay hart.account hart.load (get_or (shortened (experiment_with image input setting) (events_of engine)).dues h None) ((agree image input setting engine credits now p).harts h))
 
   pub latest_now : credits.latest ≡ now
   latest_now = p.holds.latest ∙ sym p.moment
 
-  pub account_some : (h : ℕ) (given : GivenAccount) → h < length run.guest.harts → account_as given ≡ (hart_at (at now credits) h).account → Some (account_as given) ≡ account_in seen h
+  pub account_some : (h : ℕ) (given : GivenAccount) → h < length engine.guest.harts → account_as given ≡ (hart_at (at now credits) h).account → Some (account_as given) ≡ account_in seen h
   account_some h given made is =
       let hart : Hart = get_or seen.harts h fresh in
-      let there : h < length seen.harts = rw (harts_now image input setting run credits now p) made in
+      let there : h < length seen.harts = rw (harts_now image input setting engine credits now p) made in
       ap Some (is ∙ ap (λ (c : Delays). (hart_at c h).account) (at_latest credits now latest_now) ∙ ap (λ (o : Hart). o.account) (p.holds.harts h) ∙ account_held hart)
       ∙ sym (ap (λ (o : Option Hart). option_map (λ (h : Hart). h.account) o) (place_some seen.harts h there))
 
-  pub account_none : (h : ℕ) → length run.guest.harts ≤ h → ◌≡◌ {A = Option Account} None (account_in seen h)
+  pub account_none : (h : ℕ) → length engine.guest.harts ≤ h → ◌≡◌ {A = Option Account} None (account_in seen h)
   account_none h past =
-      let there : length seen.harts ≤ h = rw (harts_now image input setting run credits now p) past in
+      let there : length seen.harts ≤ h = rw (harts_now image input setting engine credits now p) past in
       sym (ap (λ (o : Option Hart). option_map (λ (h : Hart). h.account) o) (place_none seen.harts h there))
 
-  pub harts_few : length run.guest.harts ≤ 256
+  pub harts_few : length engine.guest.harts ≤ 256
   harts_few =
-      let good : IsOrderly seen.guest = standing_good (experiment_with image input setting) IsOrderly (lawful_with image input setting p.valid) (events_of run) in
-      subst (λ (g : Guest). length g.harts ≤ 256) (guest_now image input setting run credits now p) good.few
+      let good : IsOrderly seen.guest = standing_good (experiment_with image input setting) IsOrderly (lawful_with image input setting p.valid) (events_of engine) in
+      subst (λ (g : Guest). length g.harts ≤ 256) (guest_now image input setting engine credits now p) good.few
 
   pub visits_in_time : All (λ (v : Visit). v.delay ≤ v.time) seen.visits
-  visits_in_time = in_time (experiment_with image input setting) IsOrderly (lawful_with image input setting p.valid) (events_of run)
+  visits_in_time = in_time (experiment_with image input setting) IsOrderly (lawful_with image input setting p.valid) (events_of engine)
 
-  pub kept_in_time : All (λ (v : GivenVisit). v.delay ≤ v.time) run.visits.kept
-  kept_in_time = given_in_time run.visits.kept (subst (All (λ (v : Visit). v.delay ≤ v.time)) (sym p.visits) visits_in_time)
+  pub kept_in_time : All (λ (v : GivenVisit). v.delay ≤ v.time) engine.visits.kept
+  kept_in_time = given_in_time engine.visits.kept (subst (All (λ (v : Visit). v.delay ≤ v.time)) (sym p.visits) visits_in_time)
 
-  pub outcome_some : (e : Ending) → run.ending ≡ Some e → Some (record { ending = e; time = now; delay = credits.raised; retired = run.retired; starts = run.starts }) ≡ outcome_of seen
+  pub outcome_some : (e : Ending) → engine.ending ≡ Some e → Some (record { ending = e; time = now; delay = credits.raised; retired = engine.retired; starts = engine.starts }) ≡ outcome_of seen
   outcome_some e is =
-      rw (ending_now image input setting run credits now p, is)
-      (ap Some (same_outcome e now seen.now credits.raised seen.delay run.retired seen.retired run.starts seen.starts
-      p.moment p.holds.raised (sym (retired_now image input setting run credits now p)) (sym (starts_now image input setting run credits now p))))
+      rw (ending_now image input setting engine credits now p, is)
+      (ap Some (same_outcome e now seen.now credits.raised seen.delay engine.retired seen.retired engine.starts seen.starts
+      p.moment p.holds.raised (sym (retired_now image input setting engine credits now p)) (sym (starts_now image input setting engine credits now p))))
 
   -- the numbers of an outcome
-  pub outcome_small : (e : Ending) (delay : ℕ) → run.ending ≡ Some e → IsSmall (record { ending = e; time = now; delay = delay; retired = run.retired; starts = run.starts })
+  pub outcome_small : (e : Ending) (delay : ℕ) → engine.ending ≡ Some e → IsSmall (record { ending = e; time = now; delay = delay; retired = engine.retired; starts = engine.starts })
   outcome_small e delay is =
-      let below : run.retired ≤ setting.choice.budget = p.reached.retired in
+      let below : engine.retired ≤ setting.choice.budget = p.reached.retired in
       let budget : setting.choice.budget ≤ 10 ^ 12 = p.valid.few in
-      let most : many run.schedule ≤ length run.schedule = many_few run.schedule in
-      let room : length run.schedule ≡ 256 = p.reached.room in
-      let kept : run.starts ≤ events_of run + many run.schedule = p.reached.few in
+      let most : many engine.schedule ≤ length engine.schedule = many_few engine.schedule in
+      let room : length engine.schedule ≡ 256 = p.reached.room in
+      let kept : engine.starts ≤ events_of engine + many engine.schedule = p.reached.few in
       record {
         ending = p.trap e is;
         time = p.soon;
         retired = omega (arith, below, budget);
-        starts = omega (arith, below, budget, most, room, kept, wakes_few image input setting run credits now p);
+        starts = omega (arith, below, budget, most, room, kept, wakes_few image input setting engine credits now p);
       }
 
-  pub outcome_none : run.ending ≡ None → ◌≡◌ {A = Option Outcome} None (outcome_of seen)
-  outcome_none is = rw (ending_now image input setting run credits now p, is) refl
+  pub outcome_none : engine.ending ≡ None → ◌≡◌ {A = Option Outcome} None (outcome_of seen)
+  outcome_none is = rw (ending_now image input setting engine credits now p, is) refl
 
 -- what contracts see of the fields
-abbrev pub seen_of : ImageParts → List ℕ → Setting → Run → Seen (Delayed Guest)
-seen_of image input setting run = record {
-  image = image;
-  index = setting.index.now;
-  points = setting.points.now;
-  input = input;
-  choice = setting.choice;
-  state = standing (experiment_with image input setting) (events_of run);
-}
+abbrev pub seen_of : ImageParts → List ℕ → Setting → Engine → Seen (Delayed Guest)
+seen_of image input setting engine = seen_in image input setting (λ x. standing x (events_of engine))
 
 pub none_of : (o : Option Ending) → is_some o ≡ false → o ≡ None
 none_of None e = refl
@@ -647,35 +641,35 @@ none_of (Some a) e = absurd (let no : true ≡ false = e in cc)
 some_none : (o : Option Ending) → is_some o ≡ true → o ≡ None → ⊥
 some_none o some none = let no : false ≡ true = sym (ap is_some none) ∙ some in cc
 
-module _ (image : ImageParts) (input : List ℕ) (setting : Setting) (run : Run) (credits : Delays) (now : ℕ) (p : IsPaced image input setting run credits now) where
+module _ (image : ImageParts) (input : List ℕ) (setting : Setting) (engine : Engine) (credits : Delays) (now : ℕ) (p : IsPaced image input setting engine credits now) where
   -- a run that has ended
-  pub not_over : (v : Seen (Delayed Guest)) → seen_of image input setting run ≡ v → is_some run.ending ≡ true → v.state.ending ≡ None → ⊥
-  not_over v view some none = some_none run.ending some (sym (ending_now image input setting run credits now p) ∙ ap (λ (v : Seen (Delayed Guest)). v.state.ending) view ∙ none)
+  pub not_over : (v : Seen (Delayed Guest)) → seen_of image input setting engine ≡ v → is_some engine.ending ≡ true → v.state.ending ≡ None → ⊥
+  not_over v view some none = some_none engine.ending some (sym (ending_now image input setting engine credits now p) ∙ ap (λ (v : Seen (Delayed Guest)). v.state.ending) view ∙ none)
 
   -- one that goes on
-  pub not_ended : (v : Seen (Delayed Guest)) → seen_of image input setting run ≡ v → run.ending ≡ None → IsSome v.state.ending → ⊥
-  not_ended v view none some = let no : false ≡ true = sym (ap is_some (sym (ap (λ (v : Seen (Delayed Guest)). v.state.ending) view) ∙ ending_now image input setting run credits now p ∙ none)) ∙ some in cc
+  pub not_ended : (v : Seen (Delayed Guest)) → seen_of image input setting engine ≡ v → engine.ending ≡ None → IsSome v.state.ending → ⊥
+  not_ended v view none some = let no : false ≡ true = sym (ap is_some (sym (ap (λ (v : Seen (Delayed Guest)). v.state.ending) view) ∙ ending_now image input setting engine credits now p ∙ none)) ∙ some in cc
 
   -- beside the shortened machine
-  pub agrees_seen : (v : Seen (Delayed Guest)) → seen_of image input setting run ≡ v → Agrees v.state (shortened (experiment_of v) (events v.state))
+  pub agrees_seen : (v : Seen (Delayed Guest)) → seen_of image input setting engine ≡ v → Agrees v.state (shortened (experiment_of v) (events v.state))
   agrees_seen v view =
       subst (λ (v : Seen (Delayed Guest)). Agrees v.state (shortened (experiment_of v) (events v.state))) view
-      (subst (λ (n : ℕ). Agrees (standing (experiment_with image input setting) (events_of run)) (shortened (experiment_with image input setting) n)) (sym (events_now image input setting run credits now p)) (agree image input setting run credits now p))
+      (subst (λ (n : ℕ). Agrees (standing (experiment_with image input setting) (events_of engine)) (shortened (experiment_with image input setting) n)) (sym (events_now image input setting engine credits now p)) (agree image input setting engine credits now p))
 
-  pub goes_seen : (v : Seen (Delayed Guest)) → seen_of image input setting run ≡ v → v.state.ending ≡ None → run.ending ≡ None
-  goes_seen v view none = sym (ending_now image input setting run credits now p) ∙ ap (λ (v : Seen (Delayed Guest)). v.state.ending) view ∙ none
+  pub goes_seen : (v : Seen (Delayed Guest)) → seen_of image input setting engine ≡ v → v.state.ending ≡ None → engine.ending ≡ None
+  goes_seen v view none = sym (ending_now image input setting engine credits now p) ∙ ap (λ (v : Seen (Delayed Guest)). v.state.ending) view ∙ none
 
   -- one event more
-  pub count_seen : (v : Seen (Delayed Guest)) (n : ℕ) → seen_of image input setting run ≡ v → n ≡ events_of run + 1 → n ≡ events v.state + 1
+  pub count_seen : (v : Seen (Delayed Guest)) (n : ℕ) → seen_of image input setting engine ≡ v → n ≡ events_of engine + 1 → n ≡ events v.state + 1
   count_seen v n view is =
-      is ∙ ap (λ (m : ℕ). m + 1) (sym (events_now image input setting run credits now p) ∙ ap (λ (v : Seen (Delayed Guest)). events v.state) view)
+      is ∙ ap (λ (m : ℕ). m + 1) (sym (events_now image input setting engine credits now p) ∙ ap (λ (v : Seen (Delayed Guest)). events v.state) view)
 
-  pub next_seen : (v : Seen (Delayed Guest)) (n : ℕ) → seen_of image input setting run ≡ v → n ≡ events_of run + 1 → standing (experiment_with image input setting) n ≡ standing (experiment_of v) (events v.state + 1)
+  pub next_seen : (v : Seen (Delayed Guest)) (n : ℕ) → seen_of image input setting engine ≡ v → n ≡ events_of engine + 1 → standing (experiment_with image input setting) n ≡ standing (experiment_of v) (events v.state + 1)
   next_seen v n view is =
       subst (λ (v : Seen (Delayed Guest)). standing (experiment_with image input setting) n ≡ standing (experiment_of v) (events v.state + 1)) view
-      (ap (standing (experiment_with image input setting)) (is ∙ ap (λ (m : ℕ). m + 1) (sym (events_now image input setting run credits now p))))
+      (ap (standing (experiment_with image input setting)) (is ∙ ap (λ (m : ℕ). m + 1) (sym (events_now image input setting engine credits now p))))
 
-  pub happens_seen : (v : Seen (Delayed Guest)) (event : Event) (d : Delayed Guest) → seen_of image input setting run ≡ v → Happens (experiment_with image input setting) event (standing (experiment_with image input setting) (events_of run)) d
+  pub happens_seen : (v : Seen (Delayed Guest)) (event : Event) (d : Delayed Guest) → seen_of image input setting engine ≡ v → Happens (experiment_with image input setting) event (standing (experiment_with image input setting) (events_of engine)) d
       → Happens (experiment_of v) event v.state d
   happens_seen v event d view happens = subst (λ (v : Seen (Delayed Guest)). Happens (experiment_of v) event v.state d) view happens
 
@@ -683,35 +677,35 @@ only_first : (k : ℕ) → is_among k (0 ∷ []) ≡ true → k ≡ 0
 only_first k e = eqb-true k 0 (one_bit (k == 0) e)
 
 -- what contracts see of a run between two steps
-module _ (image : ImageParts) (input : List ℕ) (setting : Setting) (run : Run) (credits : Delays) (now : ℕ) (p : IsPaced image input setting run credits now) where
+module _ (image : ImageParts) (input : List ℕ) (setting : Setting) (engine : Engine) (credits : Delays) (now : ℕ) (p : IsPaced image input setting engine credits now) where
   abbrev paced_x : Experiment Guest
   paced_x = experiment_with image input setting
 
-  pub stands_seen : (v : Seen (Delayed Guest)) → seen_of image input setting run ≡ v → v.state ≡ standing (experiment_of v) (events v.state)
+  pub stands_seen : (v : Seen (Delayed Guest)) → seen_of image input setting engine ≡ v → v.state ≡ standing (experiment_of v) (events v.state)
   stands_seen v view =
       subst (λ (v : Seen (Delayed Guest)). v.state ≡ standing (experiment_of v) (events v.state)) view
-      (ap (standing paced_x) (sym (events_now image input setting run credits now p)))
+      (ap (standing paced_x) (sym (events_now image input setting engine credits now p)))
 
   -- a hart is due as in the shortened machine
-  pub due_seen : (v : Seen (Delayed Guest)) (h : ℕ) → seen_of image input setting run ≡ v → key_of run.schedule h ≡ key_of (shortened (experiment_of v) (events v.state)).dues h
+  pub due_seen : (v : Seen (Delayed Guest)) (h : ℕ) → seen_of image input setting engine ≡ v → key_of engine.schedule h ≡ key_of (shortened (experiment_of v) (events v.state)).dues h
   due_seen v h view =
-      subst (λ (v : Seen (Delayed Guest)). key_of run.schedule h ≡ key_of (shortened (experiment_of v) (events v.state)).dues h) view
-      (p.reached.reached.dues h ∙ ap (λ (n : ℕ). key_of (shortened paced_x n).dues h) (sym (events_now image input setting run credits now p)))
+      subst (λ (v : Seen (Delayed Guest)). key_of engine.schedule h ≡ key_of (shortened (experiment_of v) (events v.state)).dues h) view
+      (p.reached.reached.dues h ∙ ap (λ (n : ℕ). key_of (shortened paced_x n).dues h) (sym (events_now image input setting engine credits now p)))
 
-  pub none_seen : (v : Seen (Delayed Guest)) → seen_of image input setting run ≡ v → run.ending ≡ None → v.state.ending ≡ None
-  none_seen v view none = sym (ap (λ (v : Seen (Delayed Guest)). v.state.ending) view) ∙ ending_now image input setting run credits now p ∙ none
+  pub none_seen : (v : Seen (Delayed Guest)) → seen_of image input setting engine ≡ v → engine.ending ≡ None → v.state.ending ≡ None
+  none_seen v view none = sym (ap (λ (v : Seen (Delayed Guest)). v.state.ending) view) ∙ ending_now image input setting engine credits now p ∙ none
 
   -- an ended run isn't before its delay
-  pub delay_in_time : (e : Ending) → run.ending ≡ Some e → credits.raised ≤ now
+  pub delay_in_time : (e : Ending) → engine.ending ≡ Some e → credits.raised ≤ now
   delay_in_time e over =
-      let d : Delayed Guest = standing paced_x (events_of run) in
+      let d : Delayed Guest = standing paced_x (events_of engine) in
       let raised : credits.raised ≡ d.delay = p.holds.raised in
       let moment : now ≡ d.now = p.moment in
-      let in_time : d.delay ≤ d.now = end_in_time paced_x IsOrderly (lawful_with image input setting p.valid) (events_of run) e (ending_now image input setting run credits now p ∙ over) in
+      let in_time : d.delay ≤ d.now = end_in_time paced_x IsOrderly (lawful_with image input setting p.valid) (events_of engine) e (ending_now image input setting engine credits now p ∙ over) in
       omega arith
 
 -- as a run begins
-module _ (image : ImageParts) (input : List ℕ) (setting : Setting) (run : Run) (valid : IsChoice setting.choice) (f : IsFirst setting image input run) where
+module _ (image : ImageParts) (input : List ℕ) (setting : Setting) (engine : Engine) (valid : IsChoice setting.choice) (f : IsFirst setting image input engine) where
   abbrev begun_x : Experiment Guest
   begun_x = experiment_with image input setting
 
@@ -719,31 +713,31 @@ module _ (image : ImageParts) (input : List ℕ) (setting : Setting) (run : Run)
   unfolding shortened short.begin short.unbegun
   short_first = refl
 
-  zeroth : events_of run ≡ 0
+  zeroth : events_of engine ≡ 0
   zeroth = omega (arith, f.retired, f.wakes)
 
-  guest_first : run.guest ≡ begun_x.first
+  guest_first : engine.guest ≡ begun_x.first
   guest_first = sym (ap (λ (t : Shortened Guest). t.guest) f.reached.reached.state) ∙ ap (λ (n : ℕ). (shortened begun_x n).guest) zeroth ∙ short_first
 
-  pub first_made_here : (hs : List ℕ) → hs ≡ run.selected → (k : ℕ) → is_among k hs ≡ true → IsMade run.guest k
+  pub first_made_here : (hs : List ℕ) → hs ≡ engine.selected → (k : ℕ) → is_among k hs ≡ true → IsMade engine.guest k
   first_made_here hs is k among =
-      let chosen : is_among k (filter (begun_x.guest.is_selected run.guest) (0 ∷ [])) ≡ true = ap (is_among k) (sym (is ∙ f.selected)) ∙ among in
-      let first : k ≡ 0 = only_first k (among_filter (begun_x.guest.is_selected run.guest) k (0 ∷ []) chosen).1 in
-      let one : length run.guest.harts ≡ 1 = ap (λ (g : Guest). length g.harts) guest_first ∙ first_count image input setting.choice.output_limit setting.choice.layout in
+      let chosen : is_among k (filter (begun_x.guest.is_selected engine.guest) (0 ∷ [])) ≡ true = ap (is_among k) (sym (is ∙ f.selected)) ∙ among in
+      let first : k ≡ 0 = only_first k (among_filter (begun_x.guest.is_selected engine.guest) k (0 ∷ []) chosen).1 in
+      let one : length engine.guest.harts ≡ 1 = ap (λ (g : Guest). length g.harts) guest_first ∙ first_count image input setting.choice.output_limit setting.choice.layout in
       omega arith
 
   -- those that raise the delay at first run: hart 0 was started, and no other can be selected
-  pub first_runs_here : (made started : Delays) (hs : List ℕ) → made ≡ none_raised 256 → started ≡ with_start 0 0 made → hs ≡ run.selected → AllRun started hs
+  pub first_runs_here : (made started : Delays) (hs : List ℕ) → made ≡ none_raised 256 → started ≡ with_start 0 0 made → hs ≡ engine.selected → AllRun started hs
   first_runs_here made started hs is_made is_started is k among =
       let starts : started ≡ with_starts (0 ∷ []) (none_raised 256) = is_started ∙ ap (with_start 0 0) is_made ∙ start_is 0 0 (none_raised 256) refl in
-      let chosen : is_among k (filter (begun_x.guest.is_selected run.guest) (0 ∷ [])) ≡ true = ap (is_among k) (sym (is ∙ f.selected)) ∙ among in
+      let chosen : is_among k (filter (begun_x.guest.is_selected engine.guest) (0 ∷ [])) ≡ true = ap (is_among k) (sym (is ∙ f.selected)) ∙ among in
       let below : AllBelow (none_raised 256) (0 ∷ []) = λ j low. let first : j ≡ 0 = only_first j low in let size = length-replicate {A = Hart} 256 fresh in omega (arith, first, size) in
-      subst (λ (c : Delays). Runs c k) (sym starts) (starts_run (0 ∷ []) (none_raised 256) below k (among_filter (begun_x.guest.is_selected run.guest) k (0 ∷ []) chosen).1)
+      subst (λ (c : Delays). Runs c k) (sym starts) (starts_run (0 ∷ []) (none_raised 256) below k (among_filter (begun_x.guest.is_selected engine.guest) k (0 ∷ []) chosen).1)
 
   first_raised : Delays
-  first_raised = with_raises (raise_ticks run.guest setting.choice.speedup) (filter (begun_x.guest.is_selected run.guest) (0 ∷ [])) (with_starts (0 ∷ []) (none_raised 256))
+  first_raised = with_raises (raise_ticks engine.guest setting.choice.speedup) (filter (begun_x.guest.is_selected engine.guest) (0 ∷ [])) (with_starts (0 ∷ []) (none_raised 256))
 
-  first_raised_is : first_raised ≡ with_raises (raise_ticks run.guest setting.choice.speedup) (filter (begun_x.guest.is_selected run.guest) (0 ∷ [])) (with_starts (0 ∷ []) (none_raised 256))
+  first_raised_is : first_raised ≡ with_raises (raise_ticks engine.guest setting.choice.speedup) (filter (begun_x.guest.is_selected engine.guest) (0 ∷ [])) (with_starts (0 ∷ []) (none_raised 256))
   unfolding first_raised
   first_raised_is = refl
 
@@ -771,35 +765,35 @@ module _ (image : ImageParts) (input : List ℕ) (setting : Setting) (run : Run)
   first_holds : Holds first_raised (standing begun_x 0)
   unfolding first_raised
   first_holds =
-      let same : (unbegun begun_x).guest ≡ run.guest = unbegun_guest ∙ sym guest_first in
+      let same : (unbegun begun_x).guest ≡ engine.guest = unbegun_guest ∙ sym guest_first in
       subst (Holds first_raised) (sym standing_first)
-      (subst (λ (g : Guest). Holds (with_raises (raise_ticks run.guest setting.choice.speedup) (filter (begun_x.guest.is_selected g) (0 ∷ [])) (with_starts (0 ∷ []) (none_raised 256))) (begin begun_x (0 ∷ []) (unbegun begun_x))) same
-      (holds_begin begun_x (0 ∷ []) (raise_ticks run.guest setting.choice.speedup) (none_raised 256) (unbegun begun_x)
-      (λ h. mul_comm (cycles_of (next_of run.guest h)) setting.choice.speedup ∙ ap (λ (g : Guest). setting.choice.speedup * cycles_of (next_of g h)) (sym same)) holds_none))
+      (subst (λ (g : Guest). Holds (with_raises (raise_ticks engine.guest setting.choice.speedup) (filter (begun_x.guest.is_selected g) (0 ∷ [])) (with_starts (0 ∷ []) (none_raised 256))) (begin begun_x (0 ∷ []) (unbegun begun_x))) same
+      (holds_begin begun_x (0 ∷ []) (raise_ticks engine.guest setting.choice.speedup) (none_raised 256) (unbegun begun_x)
+      (λ h. mul_comm (cycles_of (next_of engine.guest h)) setting.choice.speedup ∙ ap (λ (g : Guest). setting.choice.speedup * cycles_of (next_of g h)) (sym same)) holds_none))
 
   first_begins : (before begun_x 0).harts ≡ 0 ∷ []
   unfolding before
   first_begins = refl
 
-  pub first_paced : (made started raised : Delays) (hs : List ℕ) → made ≡ none_raised 256 → started ≡ with_start 0 0 made → hs ≡ run.selected → raised ≡ with_raises (raise_ticks run.guest setting.choice.speedup) hs started
-      → IsPaced image input setting run raised 0
+  pub first_paced : (made started raised : Delays) (hs : List ℕ) → made ≡ none_raised 256 → started ≡ with_start 0 0 made → hs ≡ engine.selected → raised ≡ with_raises (raise_ticks engine.guest setting.choice.speedup) hs started
+      → IsPaced image input setting engine raised 0
   first_paced made started raised hs is_made is_started is_selected is_raised =
-      let ticks : ℕ → ℕ = raise_ticks run.guest setting.choice.speedup in
+      let ticks : ℕ → ℕ = raise_ticks engine.guest setting.choice.speedup in
       let starts : started ≡ with_starts (0 ∷ []) (none_raised 256) = is_started ∙ ap (with_start 0 0) is_made ∙ start_is 0 0 (none_raised 256) refl in
       let is : raised ≡ first_raised = is_raised ∙ ap₂ (with_raises ticks) (is_selected ∙ f.selected) starts ∙ sym first_raised_is in
-      let holds : Holds raised (standing begun_x (events_of run)) = subst (λ (n : ℕ). Holds raised (standing begun_x n)) (sym zeroth) (subst (λ (c : Delays). Holds c (standing begun_x 0)) (sym is) first_holds) in
+      let holds : Holds raised (standing begun_x (events_of engine)) = subst (λ (n : ℕ). Holds raised (standing begun_x n)) (sym zeroth) (subst (λ (c : Delays). Holds c (standing begun_x 0)) (sym is) first_holds) in
       record {
         valid = valid;
         reached = f.reached;
         holds = holds;
-        room = ap (λ (c : Delays). length c.harts) (is ∙ first_raised_is) ∙ raises_length ticks (filter (begun_x.guest.is_selected run.guest) (0 ∷ [])) (with_starts (0 ∷ []) (none_raised 256))
+        room = ap (λ (c : Delays). length c.harts) (is ∙ first_raised_is) ∙ raises_length ticks (filter (begun_x.guest.is_selected engine.guest) (0 ∷ [])) (with_starts (0 ∷ []) (none_raised 256))
             ∙ change_length 0 (run_from 0) (replicate 256 fresh) (rw length-replicate (lit< tt)) ∙ length-replicate {A = Hart} 256 fresh;
         visits = ap (map visit_as) f.kept ∙ sym (ap (λ (n : ℕ). (standing begun_x n).visits) zeroth ∙ first_visits);
-        moment = sym (raises_latest ticks (filter (begun_x.guest.is_selected run.guest) (0 ∷ [])) (with_starts (0 ∷ []) (none_raised 256))) ∙ ap (λ (c : Delays). c.latest) (sym (is ∙ first_raised_is)) ∙ holds.latest;
+        moment = sym (raises_latest ticks (filter (begun_x.guest.is_selected engine.guest) (0 ∷ [])) (with_starts (0 ∷ []) (none_raised 256))) ∙ ap (λ (c : Delays). c.latest) (sym (is ∙ first_raised_is)) ∙ holds.latest;
         soon = omega arith;
         trap = λ e ended. absurd (let no : ◌≡◌ {A = Option Ending} None (Some e) = sym f.ending ∙ ended in cc);
         made = ap making guest_first;
-        selected = f.selected ∙ ap (filter (begun_x.guest.is_selected run.guest)) (sym (ap (λ (n : ℕ). (before begun_x n).harts) zeroth ∙ first_begins));
+        selected = f.selected ∙ ap (filter (begun_x.guest.is_selected engine.guest)) (sym (ap (λ (n : ℕ). (before begun_x n).harts) zeroth ∙ first_begins));
       }
 
 -- a run between two events: only its state changes, and it stands after as many events as it counts
@@ -813,12 +807,12 @@ pub record IsGoing (old new : Seen (Delayed Guest)) : Type 0 where
   pub at : IsAt old new
   pub within : new.state.retired ≤ old.choice.budget
 
-pub going_first : (image : ImageParts) (input : List ℕ) (setting : Setting) (run : Run) (credits : Delays) (now : ℕ) → IsPaced image input setting run credits now → (v : Seen (Delayed Guest)) → seen_of image input setting run ≡ v → IsGoing v v
-going_first image input setting run credits now p v view =
+pub going_first : (image : ImageParts) (input : List ℕ) (setting : Setting) (engine : Engine) (credits : Delays) (now : ℕ) → IsPaced image input setting engine credits now → (v : Seen (Delayed Guest)) → seen_of image input setting engine ≡ v → IsGoing v v
+going_first image input setting engine credits now p v view =
     subst (λ (v : Seen (Delayed Guest)). IsGoing v v) view
     (record {
-      at = record { valid = p.valid; rest = refl; stands = ap (standing (experiment_with image input setting)) (sym (events_now image input setting run credits now p)) };
-      within = rw (retired_now image input setting run credits now p) p.reached.retired;
+      at = record { valid = p.valid; rest = refl; stands = ap (standing (experiment_with image input setting)) (sym (events_now image input setting engine credits now p)) };
+      within = rw (retired_now image input setting engine credits now p) p.reached.retired;
     })
 
 lawful_of : (v : Seen (Delayed Guest)) → IsChoice v.choice → IsLawful (experiment_of v) IsOrderly

@@ -22,9 +22,10 @@ use Rattle.guest_calls.specs.Retire.{next_of}
 use Rattle.guest_calls.proofs.Law.{timed_low}
 use Rattle.virtual_run.specs.declared.choice.Choice.{Choice}
 use Rattle.virtual_run.specs.declared.choice.Setting.{Setting}
-use Rattle.virtual_run.specs.declared.run.Run.{Run}
+use Rattle.virtual_run.specs.declared.engine.Engine.{Engine}
 use Rattle.virtual_run.specs.Begin.{many}
-use Rattle.virtual_run.specs.Run.{events_of, IsChoice, IsReached, IsSteady}
+use Rattle.virtual_run.specs.Run.{IsChoice}
+use Rattle.virtual_run.specs.Engine.{events_of, IsReached, IsSteady}
 use Rattle.virtual_run.specs.Credited.{raise_ticks, with_one_raise, with_raises, Holds, AllRun, AllMade}
 use Rattle.virtual_run.specs.Seen.{experiment_with}
 use Rattle.virtual_run.specs.DelayedRun.{IsPaced}
@@ -61,81 +62,81 @@ module _ {G : Type 0} (x : Experiment G) where
 abbrev pub sped_setting : ℕ → Setting → Setting
 sped_setting q setting = record setting { choice = record setting.choice { speedup = q } }
 
-module _ (image : ImageParts) (input : List ℕ) (setting : Setting) (run : Run) (credits : Delays) (now : ℕ) (p : IsPaced image input setting run credits now) where
+module _ (image : ImageParts) (input : List ℕ) (setting : Setting) (engine : Engine) (credits : Delays) (now : ℕ) (p : IsPaced image input setting engine credits now) where
   abbrev x : Experiment Guest
   x = experiment_with image input setting
 
   abbrev d : Delayed Guest
-  d = standing x (events_of run)
+  d = standing x (events_of engine)
 
   abbrev law : IsLawful x IsOrderly
   law = lawful_with image input setting p.valid
 
   -- a selected hart that began last began
-  began : (k : ℕ) → is_among k run.selected ≡ true → (x.guest.is_selected run.guest k ≡ true) × (is_among k (before x (events_of run)).harts ≡ true)
-  began k among = among_filter (x.guest.is_selected run.guest) k (before x (events_of run)).harts (ap (is_among k) (sym p.selected) ∙ among)
+  began : (k : ℕ) → is_among k engine.selected ≡ true → (x.guest.is_selected engine.guest k ≡ true) × (is_among k (before x (events_of engine)).harts ≡ true)
+  began k among = among_filter (x.guest.is_selected engine.guest) k (before x (events_of engine)).harts (ap (is_among k) (sym p.selected) ∙ among)
 
-  goes_by : (o : Option Ending) → run.ending ≡ o → (k : ℕ) → is_among k run.selected ≡ true → run.ending ≡ None
+  goes_by : (o : Option Ending) → engine.ending ≡ o → (k : ℕ) → is_among k engine.selected ≡ true → engine.ending ≡ None
   goes_by None is k among = is
   goes_by (Some e) is k among =
-      let none : (before x (events_of run)).harts ≡ [] = ended_begins x (events_of run) e (ending_now image input setting run credits now p ∙ is) in
+      let none : (before x (events_of engine)).harts ≡ [] = ended_begins x (events_of engine) e (ending_now image input setting engine credits now p ∙ is) in
       absurd (let no : false ≡ true = ap (is_among k) (sym none) ∙ (began k among).1 in cc)
 
   -- so the run goes on
-  pub goes_here : (k : ℕ) → is_among k run.selected ≡ true → run.ending ≡ None
-  goes_here k among = goes_by run.ending refl k among
+  pub goes_here : (k : ℕ) → is_among k engine.selected ≡ true → engine.ending ≡ None
+  goes_here k among = goes_by engine.ending refl k among
 
-  due_here : (k : ℕ) → is_among k run.selected ≡ true → is_some (key_of run.schedule k) ≡ true
+  due_here : (k : ℕ) → is_among k engine.selected ≡ true → is_some (key_of engine.schedule k) ≡ true
   due_here k among =
-      let r = begun_due x IsOrderly law (events_of run) k (began k among).1 in
+      let r = begun_due x IsOrderly law (events_of engine) k (began k among).1 in
       ap is_some (p.reached.reached.dues k ∙ r.1)
 
   key_there : (o : Option ℕ) → is_some o ≡ true → (v : ℕ) × (o ≡ Some v)
   key_there (Some v) is = (v, refl)
   key_there None is = absurd (let no : false ≡ true = is in cc)
 
-  pub selected_run : (hs : List ℕ) → hs ≡ run.selected → AllRun credits hs
+  pub selected_run : (hs : List ℕ) → hs ≡ engine.selected → AllRun credits hs
   selected_run hs is k among =
-      let here : is_among k run.selected ≡ true = ap (is_among k) (sym is) ∙ among in
-      let due = key_there (key_of run.schedule k) (due_here k here) in
+      let here : is_among k engine.selected ≡ true = ap (is_among k) (sym is) ∙ among in
+      let due = key_there (key_of engine.schedule k) (due_here k here) in
       let hart : Hart = get_or d.harts k fresh in
       record {
-        below = subst (λ (n : ℕ). k < n) (p.reached.room ∙ sym p.room) (has_place run.schedule k due.0 due.1);
+        below = subst (λ (n : ℕ). k < n) (p.reached.room ∙ sym p.room) (has_place engine.schedule k due.0 due.1);
         runs = ap is_running (p.holds.harts k) ∙ runs_held hart
-            ∙ alike d.now d.delay hart.account hart.load (get_or (shortened x (events_of run)).dues k None) ((agree image input setting run credits now p).harts k)
+            ∙ alike d.now d.delay hart.account hart.load (get_or (shortened x (events_of engine)).dues k None) ((agree image input setting engine credits now p).harts k)
             ∙ ap is_some (sym (p.reached.reached.dues k)) ∙ due_here k here;
       }
 
-  pub selected_made : (hs : List ℕ) → hs ≡ run.selected → AllMade run.guest hs
+  pub selected_made : (hs : List ℕ) → hs ≡ engine.selected → AllMade engine.guest hs
   selected_made hs is k among =
-      let here : is_among k run.selected ≡ true = ap (is_among k) (sym is) ∙ among in
-      let st : IsSteady run = is_steady image input setting run credits now p (goes_here k here) in
-      (timed_low run.guest k st.orderly (st.timed k ∙ due_here k here)).0
+      let here : is_among k engine.selected ≡ true = ap (is_among k) (sym is) ∙ among in
+      let st : IsSteady engine = is_steady image input setting engine credits now p (goes_here k here) in
+      (timed_low engine.guest k st.orderly (st.timed k ∙ due_here k here)).0
 
   -- each selected hart is a start
-  pub starts_are : (before x (events_of run)).state.starts ≡ 0 → run.starts ≡ length run.selected
+  pub starts_are : (before x (events_of engine)).state.starts ≡ 0 → engine.starts ≡ length engine.selected
   starts_are z =
-      let b : Before Guest = before x (events_of run) in
-      let guest : b.state.guest ≡ run.guest = sym (before_guest x (events_of run)) ∙ guest_now image input setting run credits now p in
-      let count : d.starts ≡ b.state.starts + length (filter (x.guest.is_selected b.state.guest) b.harts) = ap (λ (d : Delayed Guest). d.starts) (standing_begins x (events_of run)) ∙ begin_starts x b.harts b.state in
-      let same : length (filter (x.guest.is_selected b.state.guest) b.harts) ≡ length run.selected = ap (λ (g : Guest). length (filter (x.guest.is_selected g) b.harts)) guest ∙ ap length (sym p.selected) in
-      let starts : d.starts ≡ run.starts = starts_now image input setting run credits now p in
+      let b : Before Guest = before x (events_of engine) in
+      let guest : b.state.guest ≡ engine.guest = sym (before_guest x (events_of engine)) ∙ guest_now image input setting engine credits now p in
+      let count : d.starts ≡ b.state.starts + length (filter (x.guest.is_selected b.state.guest) b.harts) = ap (λ (d : Delayed Guest). d.starts) (standing_begins x (events_of engine)) ∙ begin_starts x b.harts b.state in
+      let same : length (filter (x.guest.is_selected b.state.guest) b.harts) ≡ length engine.selected = ap (λ (g : Guest). length (filter (x.guest.is_selected g) b.harts)) guest ∙ ap length (sym p.selected) in
+      let starts : d.starts ≡ engine.starts = starts_now image input setting engine credits now p in
       omega (arith, z, count, same, starts)
 
-  pub selected_few : (hs : List ℕ) → hs ≡ run.selected → (before x (events_of run)).state.starts ≡ 0 → credits.raised + 3800 * length hs ≤ 10 ^ 17
+  pub selected_few : (hs : List ℕ) → hs ≡ engine.selected → (before x (events_of engine)).state.starts ≡ 0 → credits.raised + 3800 * length hs ≤ 10 ^ 17
   selected_few hs is z =
-      let many_starts : run.starts ≤ 2 * 10 ^ 12 + 256 = starts_few image input setting run credits now p in
-      let few : credits.raised ≤ 10 ^ 16 = raised_few image input setting run credits now p in
-      let count : run.starts ≡ length run.selected = starts_are z in
-      let same : length hs ≡ length run.selected = ap length is in
+      let many_starts : engine.starts ≤ 2 * 10 ^ 12 + 256 = starts_few image input setting engine credits now p in
+      let few : credits.raised ≤ 10 ^ 16 = raised_few image input setting engine credits now p in
+      let count : engine.starts ≡ length engine.selected = starts_are z in
+      let same : length hs ≡ length engine.selected = ap length is in
       omega arith
 
   pub same_moment : credits.latest ≡ now
   same_moment = p.holds.latest ∙ sym p.moment
 
-  module _ (whole : setting.choice.speedup ≡ 0) (q : ℕ) (small : q ≤ 95) (z : (before x (events_of run)).state.starts ≡ 0) where
+  module _ (whole : setting.choice.speedup ≡ 0) (q : ℕ) (small : q ≤ 95) (z : (before x (events_of engine)).state.starts ≡ 0) where
     abbrev n : ℕ
-    n = events_of run
+    n = events_of engine
 
     abbrev slow : Experiment Guest
     slow = at_speedup 0 x
@@ -168,64 +169,64 @@ module _ (image : ImageParts) (input : List ℕ) (setting : Setting) (run : Run)
     }
 
     abbrev ticks : ℕ → ℕ
-    ticks = raise_ticks run.guest q
+    ticks = raise_ticks engine.guest q
 
-    begins_guest : (before slow n).state.guest ≡ run.guest
-    begins_guest = ap (λ (y : Experiment Guest). (before y n).state.guest) is_slow ∙ sym (before_guest x n) ∙ guest_now image input setting run credits now p
+    begins_guest : (before slow n).state.guest ≡ engine.guest
+    begins_guest = ap (λ (y : Experiment Guest). (before y n).state.guest) is_slow ∙ sym (before_guest x n) ∙ guest_now image input setting engine credits now p
 
     begins_harts : (before slow n).harts ≡ (before x n).harts
     begins_harts = ap (λ (y : Experiment Guest). (before y n).harts) is_slow
 
     -- the selected harts, as the fork's law has them
-    chosen : filter (x.guest.is_selected (before slow n).state.guest) (before slow n).harts ≡ run.selected
+    chosen : filter (x.guest.is_selected (before slow n).state.guest) (before slow n).harts ≡ engine.selected
     chosen = ap₂ (λ (g : Guest) (hs : List ℕ). filter (x.guest.is_selected g) hs) begins_guest begins_harts ∙ sym p.selected
 
-    cut_is : (k : ℕ) → x.guest.is_selected run.guest k ≡ true → ticks k ≡ cut fast run.guest k
+    cut_is : (k : ℕ) → x.guest.is_selected engine.guest k ≡ true → ticks k ≡ cut fast engine.guest k
     unfolding cut
-    cut_is k is = mul_comm (cycles_of (next_of run.guest k)) q ∙ sym (ap (λ (b : Bool). if b then q * cycles_of (next_of run.guest k) else 0) is)
+    cut_is k is = mul_comm (cycles_of (next_of engine.guest k)) q ∙ sym (ap (λ (b : Bool). if b then q * cycles_of (next_of engine.guest k) else 0) is)
 
     slow_state : standing slow n ≡ d
     slow_state = ap (λ (y : Experiment Guest). standing y n) is_slow
 
-    forked_is : standing fast n ≡ fold (raise_counted fast) d run.selected
+    forked_is : standing fast n ≡ fold (raise_counted fast) d engine.selected
     forked_is = forked x q n none ∙ ap₂ (λ (o : Delayed Guest) (hs : List ℕ). fold (raise_counted fast) o hs) slow_state chosen
 
-    holds_new : (hs : List ℕ) → hs ≡ run.selected → Holds (with_raises ticks hs credits) (standing fast n)
+    holds_new : (hs : List ℕ) → hs ≡ engine.selected → Holds (with_raises ticks hs credits) (standing fast n)
     holds_new hs is =
         subst (λ (hs : List ℕ). Holds (with_raises ticks hs credits) (standing fast n)) (sym is)
-        (subst (Holds (with_raises ticks run.selected credits)) (sym forked_is)
-        (holds_counted fast run.selected ticks credits d
-        (λ h among. cut_is h (began h among).0 ∙ ap (λ (g : Guest). cut fast g h) (sym (guest_now image input setting run credits now p))) p.holds))
+        (subst (Holds (with_raises ticks engine.selected credits)) (sym forked_is)
+        (holds_counted fast engine.selected ticks credits d
+        (λ h among. cut_is h (began h among).0 ∙ ap (λ (g : Guest). cut fast g h) (sym (guest_now image input setting engine credits now p))) p.holds))
 
     parts : unchanged d (standing fast n) ≡ d
     parts = subst (λ (o : Delayed Guest). unchanged o (standing fast n) ≡ o) slow_state (parts_forked x IsOrderly q n slow_law none)
 
-    apart_new : AllApart run.selected
-    apart_new = subst AllApart (sym p.selected) (filter_apart x (x.guest.is_selected run.guest) (before x n).harts (begins_apart x IsOrderly law n))
+    apart_new : AllApart engine.selected
+    apart_new = subst AllApart (sym p.selected) (filter_apart x (x.guest.is_selected engine.guest) (before x n).harts (begins_apart x IsOrderly law n))
 
-    dues_new : (keys : Keys) → keys ≡ with_sooner ticks run.selected run.schedule → (k : ℕ) → key_of keys k ≡ get_or (shortened fast n).dues k None
+    dues_new : (keys : Keys) → keys ≡ with_sooner ticks engine.selected engine.schedule → (k : ℕ) → key_of keys k ≡ get_or (shortened fast n).dues k None
     dues_new keys is k =
         ap (λ (keys : Keys). key_of keys k) is
-        ∙ sooner_key ticks run.selected run.schedule k apart_new
-        ∙ ap (λ (o : Option ℕ). less (if is_among k run.selected then ticks k else 0) o) (p.reached.reached.dues k ∙ ap (λ (y : Experiment Guest). get_or (shortened y n).dues k None) (sym is_slow))
+        ∙ sooner_key ticks engine.selected engine.schedule k apart_new
+        ∙ ap (λ (o : Option ℕ). less (if is_among k engine.selected then ticks k else 0) o) (p.reached.reached.dues k ∙ ap (λ (y : Experiment Guest). get_or (shortened y n).dues k None) (sym is_slow))
         ∙ ap (λ (m : ℕ). less m (get_or (shortened slow n).dues k None)) amount
         ∙ sym (dues_forked x IsOrderly q n slow_law none k)
       where
-        amount : (if is_among k run.selected then ticks k else 0)
+        amount : (if is_among k engine.selected then ticks k else 0)
             ≡ (if is_among k (before slow n).harts then (if x.guest.is_selected (before slow n).state.guest k then cut fast (before slow n).state.guest k else 0) else 0)
         amount =
-            ap (λ (b : Bool). if b then ticks k else 0) (ap (is_among k) p.selected ∙ among_filtered (x.guest.is_selected run.guest) k (before x n).harts)
-            ∙ ticks_by (is_among k (before x n).harts) (x.guest.is_selected run.guest k) (ticks k) (cut fast run.guest k) (cut_is k)
+            ap (λ (b : Bool). if b then ticks k else 0) (ap (is_among k) p.selected ∙ among_filtered (x.guest.is_selected engine.guest) k (before x n).harts)
+            ∙ ticks_by (is_among k (before x n).harts) (x.guest.is_selected engine.guest k) (ticks k) (cut fast engine.guest k) (cut_is k)
             ∙ ap₂ (λ (hs : List ℕ) (g : Guest). if is_among k hs then (if x.guest.is_selected g k then cut fast g k else 0) else 0) (sym begins_harts) (sym begins_guest)
 
-    abbrev new_run : Keys → Run
-    new_run keys = record run { schedule = keys }
+    abbrev new_engine : Keys → Engine
+    new_engine keys = record engine { schedule = keys }
 
     within_new : (k u : ℕ) (o : Option ℕ) (m most : ℕ) → less m o ≡ Some u → ((v : ℕ) → o ≡ Some v → v ≤ most) → u ≤ most
     within_new k u None m most is each = absurd (let no : ◌≡◌ {A = Option ℕ} None (Some u) = is in cc)
     within_new k u (Some v) m most is each = let same : v - m ≡ u = cc in let below : v ≤ most = each v refl in omega arith
 
-    reached_new : (keys : Keys) → keys ≡ with_sooner ticks run.selected run.schedule → IsReached fast (new_run keys)
+    reached_new : (keys : Keys) → keys ≡ with_sooner ticks engine.selected engine.schedule → IsReached fast (new_engine keys)
     reached_new keys is = record {
       reached = record {
         state = rest_forked x IsOrderly q n slow_law none
@@ -233,27 +234,27 @@ module _ (image : ImageParts) (input : List ℕ) (setting : Setting) (run : Run)
             ∙ ap (λ (s : Shortened Guest). record s { dues = (shortened fast n).dues }) p.reached.reached.state;
         dues = dues_new keys is;
       };
-      room = ap length is ∙ sooner_length ticks run.selected run.schedule ∙ p.reached.room;
+      room = ap length is ∙ sooner_length ticks engine.selected engine.schedule ∙ p.reached.room;
       limit = p.reached.limit;
       unfull = p.reached.unfull;
       retired = p.reached.retired;
       few =
-          let same : many keys ≡ many run.schedule = ap many is ∙ sooner_many ticks run.selected run.schedule in
-          let few : run.starts ≤ events_of run + many run.schedule = p.reached.few in
+          let same : many keys ≡ many engine.schedule = ap many is ∙ sooner_many ticks engine.selected engine.schedule in
+          let few : engine.starts ≤ events_of engine + many engine.schedule = p.reached.few in
           omega arith;
       within = λ k u has.
-          within_new k u (key_of run.schedule k) (if is_among k run.selected then ticks k else 0) (10 ^ 16 + 4000 * (events_of run + 1))
-          (sym (sooner_key ticks run.selected run.schedule k apart_new) ∙ ap (λ (keys : Keys). key_of keys k) (sym is) ∙ has) (p.reached.within k);
+          within_new k u (key_of engine.schedule k) (if is_among k engine.selected then ticks k else 0) (10 ^ 16 + 4000 * (events_of engine + 1))
+          (sym (sooner_key ticks engine.selected engine.schedule k apart_new) ∙ ap (λ (keys : Keys). key_of keys k) (sym is) ∙ has) (p.reached.within k);
     }
 
     -- the fields of the forked machine stand for its state
-    pub forked_paced : (hs : List ℕ) (keys : Keys) (after : Delays) → hs ≡ run.selected → after ≡ with_raises ticks hs credits → keys ≡ with_sooner ticks hs run.schedule
-        → IsPaced image input (sped_setting q setting) (new_run keys) after now
+    pub forked_paced : (hs : List ℕ) (keys : Keys) (after : Delays) → hs ≡ engine.selected → after ≡ with_raises ticks hs credits → keys ≡ with_sooner ticks hs engine.schedule
+        → IsPaced image input (sped_setting q setting) (new_engine keys) after now
     forked_paced hs keys after are is sooner =
         let holds : Holds after (standing fast n) = subst (λ (c : Delays). Holds c (standing fast n)) (sym is) (holds_new hs are) in
         record {
           valid = valid_new;
-          reached = reached_new keys (sooner ∙ ap (λ (hs : List ℕ). with_sooner ticks hs run.schedule) are);
+          reached = reached_new keys (sooner ∙ ap (λ (hs : List ℕ). with_sooner ticks hs engine.schedule) are);
           holds = holds;
           room = ap (λ (c : Delays). length c.harts) is ∙ raises_length ticks hs credits ∙ p.room;
           visits = p.visits ∙ sym (ap (λ (o : Delayed Guest). o.visits) parts);
@@ -261,5 +262,5 @@ module _ (image : ImageParts) (input : List ℕ) (setting : Setting) (run : Run)
           soon = p.soon;
           trap = p.trap;
           made = p.made;
-          selected = p.selected ∙ ap (λ (b : Before Guest). filter (x.guest.is_selected run.guest) b.harts) (same_before x q n z);
+          selected = p.selected ∙ ap (λ (b : Before Guest). filter (x.guest.is_selected engine.guest) b.harts) (same_before x q n z);
         }

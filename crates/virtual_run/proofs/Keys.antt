@@ -11,7 +11,7 @@ use Rattle.machines.specs.Shortened.{next_turn, runs_any, rest}
 use Rattle.machines.proofs.Maps.{change_same, change_other}
 use Rattle.machines.proofs.Turns.{IsNext, turn_is}
 use Rattle.virtual_run.specs.Begin.{rested}
-use Rattle.virtual_run.specs.Run.{AreDues}
+use Rattle.virtual_run.specs.Engine.{AreDues}
 
 -- a number with a key has a place
 pub has_place : (keys : Keys) (h v : ℕ) → key_of keys h ≡ Some v → h < length keys

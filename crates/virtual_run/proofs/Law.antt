@@ -22,15 +22,16 @@ use Rattle.guest_calls.specs.Orderly.{IsOrderly}
 use Rattle.guest_calls.proofs.Law.{lawful, timed_low, others_idle}
 use Rattle.virtual_run.specs.declared.choice.Choice.{Choice}
 use Rattle.virtual_run.specs.declared.choice.Setting.{Setting}
-use Rattle.virtual_run.specs.declared.run.Run.{Run}
+use Rattle.virtual_run.specs.declared.engine.Engine.{Engine}
 use Rattle.virtual_run.specs.Visits.{Visits}
 use Rattle.virtual_run.specs.Begin.{started_by, rested, many, IsIdle, AreIdle}
 use Rattle.virtual_run.specs.Ending.{ending_of}
-use Rattle.virtual_run.specs.Run.{experiment, has_selected, selected_line, selects, selected_of, ticks_in, events_of, AreWithin, IsChoice, IsStateOf, IsSteady, IsReached, IsFirst, state_of}
+use Rattle.virtual_run.specs.Run.{experiment, has_selected, selected_line, selects, selected_of, ticks_in, IsChoice}
+use Rattle.virtual_run.specs.Engine.{events_of, AreWithin, IsStateOf, IsSteady, IsReached, IsFirst, state_of}
 use Rattle.virtual_run.proofs.Keys.{has_place, without_key_at, rested_at, rested_length, no_keys}
 use Rattle.virtual_run.proofs.Many.{many_with}
 use Rattle.virtual_run.proofs.Begin.{ticks_few, one_at_most, within_later, within_by}
-use Rattle.virtual_run.proofs.Moves.{outcome, run_of, once_more, first_key, first_state}
+use Rattle.virtual_run.proofs.Moves.{outcome, engine_of, once_more, first_key, first_state}
 
 -- the experiment on a program is lawful
 pub lawful_run : (image : ImageParts) (position point : ℕ → Option ℕ) (input : List ℕ) (choice : Choice) → choice.speedup ≤ 95 → IsLawful (experiment image position point input choice) IsOrderly
@@ -175,112 +176,112 @@ woken_idle g keys h due good asleep room turn =
       absent = without_key_at keys h h ∙ rw (eq-eqb h h refl) refl;
     }
 
-module _ (image : ImageParts) (position point : ℕ → Option ℕ) (input : List ℕ) (choice : Choice) (valid : IsChoice choice) (run : Run) (r : IsReached (experiment image position point input choice) run) where
+module _ (image : ImageParts) (position point : ℕ → Option ℕ) (input : List ℕ) (choice : Choice) (valid : IsChoice choice) (engine : Engine) (r : IsReached (experiment image position point input choice) engine) where
   abbrev pub x : Experiment Guest
   x = experiment image position point input choice
 
   abbrev pub s : Shortened Guest
-  s = shortened x (events_of run)
+  s = shortened x (events_of engine)
 
   abbrev is_lawful : IsLawful x IsOrderly
   is_lawful = lawful_run image position point input choice valid.speedup
 
-  guest_is : s.guest ≡ run.guest
+  guest_is : s.guest ≡ engine.guest
   guest_is = ap (λ (t : Shortened Guest). t.guest) r.reached.state
 
-  pub ending_is : s.ending ≡ run.ending
+  pub ending_is : s.ending ≡ engine.ending
   ending_is = ap (λ (t : Shortened Guest). t.ending) r.reached.state
 
-  retired_below : (s.retired ≡ 0) ⊎ (s.retired < choice.budget) → s.retired ≡ run.retired → run.retired < choice.budget
+  retired_below : (s.retired ≡ 0) ⊎ (s.retired < choice.budget) → s.retired ≡ engine.retired → engine.retired < choice.budget
   retired_below within count = let some : 1 ≤ choice.budget = valid.some_budget in omega arith
 
   -- each wake followed a retirement
-  pub followed_by : run.wakes ≤ run.retired
+  pub followed_by : engine.wakes ≤ engine.retired
   followed_by =
-      let each = followed x IsOrderly is_lawful (events_of run) in
-      let wakes : s.wakes ≡ run.wakes = ap (λ (t : Shortened Guest). t.wakes) r.reached.state in
-      let retired : s.retired ≡ run.retired = ap (λ (t : Shortened Guest). t.retired) r.reached.state in
+      let each = followed x IsOrderly is_lawful (events_of engine) in
+      let wakes : s.wakes ≡ engine.wakes = ap (λ (t : Shortened Guest). t.wakes) r.reached.state in
+      let retired : s.retired ≡ engine.retired = ap (λ (t : Shortened Guest). t.retired) r.reached.state in
       omega (arith, each, wakes, retired)
 
   -- a run that goes on has budget left
-  pub below_budget : run.ending ≡ None → run.retired < choice.budget
+  pub below_budget : engine.ending ≡ None → engine.retired < choice.budget
   below_budget none =
-      let g = goes_on_at x IsOrderly is_lawful (events_of run) (ending_is ∙ none) in
+      let g = goes_on_at x IsOrderly is_lawful (events_of engine) (ending_is ∙ none) in
       retired_below g.lives.within (ap (λ (t : Shortened Guest). t.retired) r.reached.state)
 
-  not_empty : (k : ℕ) → is_some (get_or s.dues k None) ≡ true → ¬ IsEmpty run.schedule
+  not_empty : (k : ℕ) → is_some (get_or s.dues k None) ≡ true → ¬ IsEmpty engine.schedule
   not_empty k some empty = let no : false ≡ true = ap is_some (sym (empty k) ∙ r.reached.dues k) ∙ some in absurd cc
 
-  pub steady : run.ending ≡ None → IsSteady run
+  pub steady : engine.ending ≡ None → IsSteady engine
   steady none =
-      let g = goes_on_at x IsOrderly is_lawful (events_of run) (ending_is ∙ none) in
+      let g = goes_on_at x IsOrderly is_lawful (events_of engine) (ending_is ∙ none) in
       let few : choice.budget ≤ 10 ^ 12 = valid.few in
-      let below : run.retired ≤ choice.budget = r.retired in
+      let below : engine.retired ≤ choice.budget = r.retired in
       record {
         goes = none;
         orderly = subst IsOrderly guest_is g.lives.good;
         timed = λ k. ap (λ (g : Guest). is_timed g k) (sym guest_is) ∙ g.lives.running k ∙ ap is_some (sym (r.reached.dues k));
         some_hart = not_empty g.lives.some_hart.0 g.lives.some_hart.1;
         room = r.room;
-        unfull = subst (λ (n : ℕ). length run.visits.kept < n) (sym r.limit) (r.unfull none);
-        within = within_later (10 ^ 16 + 4000 * (events_of run + 1)) (2 ^ 60) run.schedule (omega (arith, below, few, followed_by)) r.within;
+        unfull = subst (λ (n : ℕ). length engine.visits.kept < n) (sym r.limit) (r.unfull none);
+        within = within_later (10 ^ 16 + 4000 * (events_of engine + 1)) (2 ^ 60) engine.schedule (omega (arith, below, few, followed_by)) r.within;
         retired = omega (arith, below, few);
         wakes = omega (arith, below, few, followed_by);
         few = r.few;
       }
 
-  moved_state : (new : Run) → IsStateOf new (move x (state_of run s.dues)) → events_of new ≡ events_of run + 1 → IsStateOf new (shortened x (events_of new))
+  moved_state : (new : Engine) → IsStateOf new (move x (state_of engine s.dues)) → events_of new ≡ events_of engine + 1 → IsStateOf new (shortened x (events_of new))
   moved_state new moved next =
-      subst (IsStateOf new) (ap (move x) (sym r.reached.state) ∙ once_more x (events_of run) (events_of new) next) moved
+      subst (IsStateOf new) (ap (move x) (sym r.reached.state) ∙ once_more x (events_of engine) (events_of new) next) moved
 
   -- what holds of a run holds after a move
-  pub reached_next : (new : Run) → run.ending ≡ None → IsStateOf new (move x (state_of run s.dues)) → length new.schedule ≡ 256 → new.visits.limit ≡ run.visits.limit
-      → (new.ending ≡ None → length new.visits.kept < choice.visit_limit) → new.retired ≡ run.retired + 1 → new.wakes ≡ run.wakes → new.starts ≤ events_of new + many new.schedule
-      → ((moment : ℕ) → 10 ^ 16 ≤ moment → AreWithin moment run.schedule → AreWithin (moment + 4000) new.schedule) → IsReached x new
+  pub reached_next : (new : Engine) → engine.ending ≡ None → IsStateOf new (move x (state_of engine s.dues)) → length new.schedule ≡ 256 → new.visits.limit ≡ engine.visits.limit
+      → (new.ending ≡ None → length new.visits.kept < choice.visit_limit) → new.retired ≡ engine.retired + 1 → new.wakes ≡ engine.wakes → new.starts ≤ events_of new + many new.schedule
+      → ((moment : ℕ) → 10 ^ 16 ≤ moment → AreWithin moment engine.schedule → AreWithin (moment + 4000) new.schedule) → IsReached x new
   reached_next new none moved room limit unfull next same few within = record {
     reached = moved_state new moved (omega (arith, next, same));
     room = room;
     limit = limit ∙ r.limit;
     unfull = unfull;
-    retired = let below : run.retired < choice.budget = below_budget none in omega arith;
+    retired = let below : engine.retired < choice.budget = below_budget none in omega arith;
     few = few;
     within =
-        within_later (10 ^ 16 + 4000 * (events_of run + 1) + 4000) (10 ^ 16 + 4000 * (events_of new + 1)) new.schedule (omega (arith, next, same))
-        (within (10 ^ 16 + 4000 * (events_of run + 1)) (omega arith) r.within);
+        within_later (10 ^ 16 + 4000 * (events_of engine + 1) + 4000) (10 ^ 16 + 4000 * (events_of new + 1)) new.schedule (omega (arith, next, same))
+        (within (10 ^ 16 + 4000 * (events_of engine + 1)) (omega arith) r.within);
   }
 
   -- and after a wake
-  pub reached_woken : (new : Run) → run.ending ≡ None → IsStateOf new (move x (state_of run s.dues)) → length new.schedule ≡ 256 → new.visits ≡ run.visits → new.retired ≡ run.retired → new.wakes ≡ run.wakes + 1
-      → new.starts ≤ events_of new + many new.schedule → ((moment : ℕ) → AreWithin moment run.schedule → AreWithin (moment + 4000) new.schedule) → IsReached x new
+  pub reached_woken : (new : Engine) → engine.ending ≡ None → IsStateOf new (move x (state_of engine s.dues)) → length new.schedule ≡ 256 → new.visits ≡ engine.visits → new.retired ≡ engine.retired → new.wakes ≡ engine.wakes + 1
+      → new.starts ≤ events_of new + many new.schedule → ((moment : ℕ) → AreWithin moment engine.schedule → AreWithin (moment + 4000) new.schedule) → IsReached x new
   reached_woken new none moved room visits same next few within = record {
     reached = moved_state new moved (omega (arith, next, same));
     room = room;
     limit = ap (λ (v : Visits). v.limit) visits ∙ r.limit;
     unfull = λ _. subst (λ (v : Visits). length v.kept < choice.visit_limit) (sym visits) (r.unfull none);
-    retired = let below : run.retired ≤ choice.budget = r.retired in omega (arith, below, same);
+    retired = let below : engine.retired ≤ choice.budget = r.retired in omega (arith, below, same);
     few = few;
     within =
-        within_later (10 ^ 16 + 4000 * (events_of run + 1) + 4000) (10 ^ 16 + 4000 * (events_of new + 1)) new.schedule (omega (arith, next, same))
-        (within (10 ^ 16 + 4000 * (events_of run + 1)) r.within);
+        within_later (10 ^ 16 + 4000 * (events_of engine + 1) + 4000) (10 ^ 16 + 4000 * (events_of new + 1)) new.schedule (omega (arith, next, same))
+        (within (10 ^ 16 + 4000 * (events_of engine + 1)) r.within);
   }
 
   -- a run that goes on has come to fewer events than it can
-  pub events_below : run.ending ≡ None → events_of run < 2 * choice.budget
-  events_below none = few_events x IsOrderly is_lawful (events_of run) valid.some_budget (goes_on_at x IsOrderly is_lawful (events_of run) (ending_is ∙ none))
+  pub events_below : engine.ending ≡ None → events_of engine < 2 * choice.budget
+  events_below none = few_events x IsOrderly is_lawful (events_of engine) valid.some_budget (goes_on_at x IsOrderly is_lawful (events_of engine) (ending_is ∙ none))
 
-  pub ended_now : (e : Ending) → run.ending ≡ Some e → s.ending ≡ Some e
+  pub ended_now : (e : Ending) → engine.ending ≡ Some e → s.ending ≡ Some e
   ended_now e ended = ending_is ∙ ended
 
   -- no more than the run can come to
-  pub within_enough : events_of run ≤ 2 * choice.budget
-  within_enough = let below : run.retired ≤ choice.budget = r.retired in omega (arith, followed_by)
+  pub within_enough : events_of engine ≤ 2 * choice.budget
+  within_enough = let below : engine.retired ≤ choice.budget = r.retired in omega (arith, followed_by)
 
-  pub last_now : (e : Ending) → run.ending ≡ Some e → s ≡ shortened x (enough x)
-  last_now e ended = at_last x IsOrderly is_lawful (events_of run) e within_enough (ending_is ∙ ended)
+  pub last_now : (e : Ending) → engine.ending ≡ Some e → s ≡ shortened x (enough x)
+  last_now e ended = at_last x IsOrderly is_lawful (events_of engine) e within_enough (ending_is ∙ ended)
 
   -- the record of a run that has ended
-  pub recorded_now : (e : Ending) → run.ending ≡ Some e → net_record_of x s e ≡ shortened_record x
-  recorded_now e ended = recorded x IsOrderly is_lawful (events_of run) e within_enough (ending_is ∙ ended)
+  pub recorded_now : (e : Ending) → engine.ending ≡ Some e → net_record_of x s e ≡ shortened_record x
+  recorded_now e ended = recorded x IsOrderly is_lawful (events_of engine) e within_enough (ending_is ∙ ended)
 
 -- the record of a program's run is one that it ends with
 pub shortened_is : (image : ImageParts) (position point : ℕ → Option ℕ) (input : List ℕ) (choice : Choice) → IsChoice choice
@@ -305,11 +306,11 @@ first_within ticks keys few is k due has =
     omega arith
 
 -- as a run begins
-pub first_run : (setting : Setting) (image : ImageParts) (input : List ℕ) (g : Guest) (keys : Keys) (others selected : List ℕ) (visits : Visits) (starts : ℕ) → IsChoice setting.choice
+pub first_engine : (setting : Setting) (image : ImageParts) (input : List ℕ) (g : Guest) (keys : Keys) (others selected : List ℕ) (visits : Visits) (starts : ℕ) → IsChoice setting.choice
     → g ≡ first_guest image input setting.choice.output_limit setting.choice.layout → keys ≡ with_key 0 (0 + ticks_in setting g 0) (replicate 256 None)
     → visits ≡ record { kept = []; limit = setting.choice.visit_limit } → selected ≡ selected_of setting g (0 ∷ []) → starts ≡ length selected
-    → IsFirst setting image input (run_of 0 g keys others selected visits 0 0 starts None)
-first_run setting image input g keys others selected visits starts valid is made none chosen counted =
+    → IsFirst setting image input (engine_of 0 g keys others selected visits 0 0 starts None)
+first_engine setting image input g keys others selected visits starts valid is made none chosen counted =
     let first : Guest = first_guest image input setting.choice.output_limit setting.choice.layout in
     let empty : Keys = replicate 256 None in
     let ticks : ℕ = 0 + ticks_in setting g 0 in

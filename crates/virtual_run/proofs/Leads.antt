@@ -15,10 +15,11 @@ use Rattle.machines.proofs.LeadForks.{before_ending, before_retired, before_wake
 use Rattle.guest_calls.specs.Guest.{Guest}
 use Rattle.virtual_run.specs.declared.choice.Choice.{Choice}
 use Rattle.virtual_run.specs.declared.choice.Setting.{Setting}
-use Rattle.virtual_run.specs.declared.run.Run.{Run}
+use Rattle.virtual_run.specs.declared.engine.Engine.{Engine}
 use Rattle.virtual_run.specs.DelayedRun.{IsPaced}
 use Rattle.virtual_run.specs.Seen.{Seen, experiment_with, experiment_of}
-use Rattle.virtual_run.specs.Run.{events_of, IsChoice}
+use Rattle.virtual_run.specs.Run.{IsChoice}
+use Rattle.virtual_run.specs.Engine.{events_of}
 use Rattle.virtual_run.specs.Lead.{arguments, is_unstarted, starts_next, Stands, IsShared, IsLead}
 use Rattle.virtual_run.proofs.CreditedRun.{seen_of, ending_now, events_now, starts_now, IsAt, at_next, at_smaller, going_first}
 use Rattle.virtual_run.proofs.Forks.{sped_setting}
@@ -66,40 +67,40 @@ module _ (old now : Seen (Delayed Guest)) (l : IsLed old now) (unstarted : is_un
   led_smaller = at_smaller old now l.at new goes count
 
 -- what contracts see of a fork
-module _ (image : ImageParts) (input : List ℕ) (setting : Setting) (run : Run) (credits : Delays) (now : ℕ) (p : IsPaced image input setting run credits now) (v : Seen (Delayed Guest)) (view : seen_of image input setting run ≡ v) where
+module _ (image : ImageParts) (input : List ℕ) (setting : Setting) (engine : Engine) (credits : Delays) (now : ℕ) (p : IsPaced image input setting engine credits now) (v : Seen (Delayed Guest)) (view : seen_of image input setting engine ≡ v) where
   abbrev x : Experiment Guest
   x = experiment_with image input setting
 
   pub whole_seen : v.choice.speedup ≡ 0 → setting.choice.speedup ≡ 0
   whole_seen whole = ap (λ (v : Seen (Delayed Guest)). v.choice.speedup) view ∙ whole
 
-  pub none_counted : (before (experiment_of v) (events v.state)).state.starts ≡ 0 → (before x (events_of run)).state.starts ≡ 0
+  pub none_counted : (before (experiment_of v) (events v.state)).state.starts ≡ 0 → (before x (events_of engine)).state.starts ≡ 0
   none_counted z =
-      subst (λ (n : ℕ). (before x n).state.starts ≡ 0) (events_now image input setting run credits now p)
+      subst (λ (n : ℕ). (before x n).state.starts ≡ 0) (events_now image input setting engine credits now p)
       (subst (λ (v : Seen (Delayed Guest)). (before (experiment_of v) (events v.state)).state.starts ≡ 0) (sym view) z)
 
-  pub zero_seen : events v.state ≡ 0 → events_of run ≡ 0
-  zero_seen zeroth = sym (events_now image input setting run credits now p) ∙ ap (λ (v : Seen (Delayed Guest)). events v.state) view ∙ zeroth
+  pub zero_seen : events v.state ≡ 0 → events_of engine ≡ 0
+  zero_seen zeroth = sym (events_now image input setting engine credits now p) ∙ ap (λ (v : Seen (Delayed Guest)). events v.state) view ∙ zeroth
 
-  pub forked_seen : (q : ℕ) (new : Run) → events_of new ≡ events_of run
+  pub forked_seen : (q : ℕ) (new : Engine) → events_of new ≡ events_of engine
       → seen_of image input (sped_setting q setting) new ≡ record v { choice = record v.choice { speedup = q }; state = standing (at_speedup q (experiment_of v)) (events v.state) }
   forked_seen q new is =
       subst (λ (v : Seen (Delayed Guest)). seen_of image input (sped_setting q setting) new ≡ record v { choice = record v.choice { speedup = q }; state = standing (at_speedup q (experiment_of v)) (events v.state) }) view
-      (ap (λ (n : ℕ). record (seen_of image input setting run) { choice = record setting.choice { speedup = q }; state = standing (at_speedup q x) n }) (is ∙ sym (events_now image input setting run credits now p)))
+      (ap (λ (n : ℕ). record (seen_of image input setting engine) { choice = record setting.choice { speedup = q }; state = standing (at_speedup q x) n }) (is ∙ sym (events_now image input setting engine credits now p)))
 
-  pub again_seen : (line : LineId) (new : Run) → events_of new ≡ events_of run → events_of run ≡ 0
+  pub again_seen : (line : LineId) (new : Engine) → events_of new ≡ events_of engine → events_of engine ≡ 0
       → let seen : Seen (Delayed Guest) = seen_of image input (lined_setting line setting) new in seen ≡ record v { choice = record v.choice { selected = Some line }; state = standing (experiment_of seen) 0 }
   again_seen line new is zeroth =
       subst (λ (v : Seen (Delayed Guest)). seen_of image input (lined_setting line setting) new ≡ record v { choice = record v.choice { selected = Some line }; state = standing (experiment_with image input (lined_setting line setting)) 0 }) view
-      (ap (λ (n : ℕ). record (seen_of image input setting run) { choice = record setting.choice { selected = Some line }; state = standing (experiment_with image input (lined_setting line setting)) n }) (is ∙ zeroth))
+      (ap (λ (n : ℕ). record (seen_of image input setting engine) { choice = record setting.choice { selected = Some line }; state = standing (experiment_with image input (lined_setting line setting)) n }) (is ∙ zeroth))
 
-  pub unstarted_seen : (not (is_some run.ending) && (run.starts == 0)) ≡ is_unstarted v.state
+  pub unstarted_seen : (not (is_some engine.ending) && (engine.starts == 0)) ≡ is_unstarted v.state
   unstarted_seen =
-      ap₂ (λ (o : Option Ending) (n : ℕ). not (is_some o) && (n == 0)) (sym (ending_now image input setting run credits now p)) (sym (starts_now image input setting run credits now p))
+      ap₂ (λ (o : Option Ending) (n : ℕ). not (is_some o) && (n == 0)) (sym (ending_now image input setting engine credits now p)) (sym (starts_now image input setting engine credits now p))
       ∙ ap (λ (v : Seen (Delayed Guest)). is_unstarted v.state) view
 
   pub led_first : (before (experiment_of v) (events v.state)).state.starts ≡ 0 → IsLed v v
-  led_first z = record { at = (going_first image input setting run credits now p v view).at; none = z; stays = λ _. refl }
+  led_first z = record { at = (going_first image input setting engine credits now p v view).at; none = z; stays = λ _. refl }
 
 -- as the code asks it
 pub then_unstarted : (o : Option Ending) (b c : Bool) → is_some o ≡ not b → b ≡ true → c ≡ (not (is_some o) && c)

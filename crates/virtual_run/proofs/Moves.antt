@@ -17,11 +17,12 @@ use Rattle.progress_points.specs.Points.{point_of}
 use Rattle.guest_calls.specs.Guest.{Guest, pc_of, is_sleeping, with_wake}
 use Rattle.guest_calls.specs.Retire.{next_of, retire}
 use Rattle.virtual_run.specs.declared.choice.Setting.{Setting}
-use Rattle.virtual_run.specs.declared.run.Run.{Run}
+use Rattle.virtual_run.specs.declared.engine.Engine.{Engine}
 use Rattle.virtual_run.specs.Visits.{Visits, visits_of, net_of}
 use Rattle.virtual_run.specs.Begin.{started_by, rested, AreBegun}
 use Rattle.virtual_run.specs.Ending.{ending_of, runs_after}
-use Rattle.virtual_run.specs.Run.{experiment_in, selects, selected_of, ticks_in, AreDues, state_of, IsStateOf}
+use Rattle.virtual_run.specs.Run.{experiment_in, selects, selected_of, ticks_in}
+use Rattle.virtual_run.specs.Engine.{AreDues, state_of, IsStateOf}
 use Rattle.virtual_run.proofs.Keys.{with_key_at, no_keys, has_place, dues_rested, next_is, same_runs}
 use Rattle.virtual_run.proofs.Begin.{ticks_less}
 
@@ -82,20 +83,20 @@ begun_by true n m o p due same = ap Some due
 begun_by false n m o p due same = same
 
 -- the code's fields after a move
-abbrev pub run_of : ℕ → Guest → Keys → List ℕ → List ℕ → Visits → ℕ → ℕ → ℕ → Option Ending → Run
-run_of time g keys others selected visits retired wakes starts e =
+abbrev pub engine_of : ℕ → Guest → Keys → List ℕ → List ℕ → Visits → ℕ → ℕ → ℕ → Option Ending → Engine
+engine_of time g keys others selected visits retired wakes starts e =
     record { guest = g; schedule = keys; started = others; selected = selected; visits = visits; time = time; retired = retired; wakes = wakes; starts = starts; ending = e }
 
 -- a move as the code makes it, which leaves these keys once the retiring hart is taken out
-pub record IsMove (setting : Setting) (run : Run) (left : Keys) (h due : ℕ) (after : Guest) (fate : Fate) (others : List ℕ) (kept : List Visit) (e : Option Ending) : Type 0 where
-  pub goes : run.ending ≡ None
-  pub turn : key_of run.schedule h ≡ Some due
-  pub first : IsLeast run.schedule h
-  pub taken : left ≡ rested h fate run.schedule
-  pub retires : outcome after fate others ≡ retire run.guest h due
-  pub was_awake : is_sleeping run.guest h ≡ false
-  pub visits : map net_of kept ≡ map net_of run.visits.kept ++ net_visits (point_of setting.points.now (pc_of run.guest h)) h due
-  pub ends : e ≡ ending_of fate (nat_le setting.choice.output_limit (length after.output)) (nat_le setting.choice.visit_limit (length kept)) (runs_after fate others left) (run.retired + 1) setting.choice.budget
+pub record IsMove (setting : Setting) (engine : Engine) (left : Keys) (h due : ℕ) (after : Guest) (fate : Fate) (others : List ℕ) (kept : List Visit) (e : Option Ending) : Type 0 where
+  pub goes : engine.ending ≡ None
+  pub turn : key_of engine.schedule h ≡ Some due
+  pub first : IsLeast engine.schedule h
+  pub taken : left ≡ rested h fate engine.schedule
+  pub retires : outcome after fate others ≡ retire engine.guest h due
+  pub was_awake : is_sleeping engine.guest h ≡ false
+  pub visits : map net_of kept ≡ map net_of engine.visits.kept ++ net_visits (point_of setting.points.now (pc_of engine.guest h)) h due
+  pub ends : e ≡ ending_of fate (nat_le setting.choice.output_limit (length after.output)) (nat_le setting.choice.visit_limit (length kept)) (runs_after fate others left) (engine.retired + 1) setting.choice.budget
 
 module _ (setting : Setting) (first : Guest) where
   abbrev x : Experiment Guest
@@ -128,51 +129,51 @@ module _ (setting : Setting) (first : Guest) where
       ∙ begun_by (is_among k hs) (due + ticks_in setting g k) (due_at g due k) (key_of old k) (get_or dues k None) (ticks_less (selects setting) setting.choice.speedup due g k (omega arith)) (are k)
       ∙ sym (change_each_at None hs (λ h _. Some (due_at g due h)) k dues apart)
 
-  module _ (run : Run) (left : Keys) (h due : ℕ) (after : Guest) (fate : Fate) (others : List ℕ) (visits : List Visit) (e : Option Ending) (m : IsMove setting run left h due after fate others visits e) (dues : List (Option ℕ)) (are : AreDues run.schedule dues) where
+  module _ (engine : Engine) (left : Keys) (h due : ℕ) (after : Guest) (fate : Fate) (others : List ℕ) (visits : List Visit) (e : Option Ending) (m : IsMove setting engine left h due after fate others visits e) (dues : List (Option ℕ)) (are : AreDues engine.schedule dues) where
     dues_left : AreDues left (taken h fate dues)
-    dues_left = subst (λ (keys : Keys). AreDues keys (taken h fate dues)) (sym m.taken) (dues_rested fate run.schedule dues h (has_place run.schedule h due m.turn) are)
+    dues_left = subst (λ (keys : Keys). AreDues keys (taken h fate dues)) (sym m.taken) (dues_rested fate engine.schedule dues h (has_place engine.schedule h due m.turn) are)
 
     abbrev rest : Shortened Guest
-    rest = state due after (taken h fate dues) (map net_of visits) (run.retired + 1) run.wakes run.starts None
+    rest = state due after (taken h fate dues) (map net_of visits) (engine.retired + 1) engine.wakes engine.starts None
 
     abbrev net : List NetVisit
-    net = map net_of run.visits.kept ++ net_visits (point_of setting.points.now (pc_of run.guest h)) h due
+    net = map net_of engine.visits.kept ++ net_visits (point_of setting.points.now (pc_of engine.guest h)) h due
 
-    moved : move x (state_of run dues) ≡ over_or e rest (begin x (started_by h fate others) due rest)
+    moved : move x (state_of engine dues) ≡ over_or e rest (begin x (started_by h fate others) due rest)
     moved =
         let same : runs_any left ≡ runs_any (taken h fate dues) = same_runs left (taken h fate dues) dues_left in
-        ap (λ (o : Option Ending). move x (state run.time run.guest dues (map net_of run.visits.kept) run.retired run.wakes run.starts o)) m.goes
-        ∙ turned x run.time run.guest dues (map net_of run.visits.kept) h due run.retired run.wakes run.starts (next_is run.schedule dues h due are m.turn m.first) m.was_awake
-        ∙ ap (λ (r : Retirement Guest). moved_by x h r (short.rest r.fate) due run.wakes run.starts dues net run.retired (length net)) (sym m.retires)
-        ∙ ap (λ (vs : List NetVisit). moved_by x h (outcome after fate others) (short.rest fate) due run.wakes run.starts dues vs run.retired (length vs)) (sym m.visits)
-        ∙ ap (λ (n : ℕ). moved_by x h (outcome after fate others) (short.rest fate) due run.wakes run.starts dues (map net_of visits) run.retired n) (length-map visits net_of)
+        ap (λ (o : Option Ending). move x (state engine.time engine.guest dues (map net_of engine.visits.kept) engine.retired engine.wakes engine.starts o)) m.goes
+        ∙ turned x engine.time engine.guest dues (map net_of engine.visits.kept) h due engine.retired engine.wakes engine.starts (next_is engine.schedule dues h due are m.turn m.first) m.was_awake
+        ∙ ap (λ (r : Retirement Guest). moved_by x h r (short.rest r.fate) due engine.wakes engine.starts dues net engine.retired (length net)) (sym m.retires)
+        ∙ ap (λ (vs : List NetVisit). moved_by x h (outcome after fate others) (short.rest fate) due engine.wakes engine.starts dues vs engine.retired (length vs)) (sym m.visits)
+        ∙ ap (λ (n : ℕ). moved_by x h (outcome after fate others) (short.rest fate) due engine.wakes engine.starts dues (map net_of visits) engine.retired n) (length-map visits net_of)
         ∙ ap (λ (o : Option Ending). over_or o rest (begin x (started_by h fate others) due rest))
-        (ends_as after fate others h left (taken h fate dues) (length visits) (run.retired + 1) same ∙ sym m.ends)
+        (ends_as after fate others h left (taken h fate dues) (length visits) (engine.retired + 1) same ∙ sym m.ends)
 
     -- the run ends with the move
     pub ended : (a : Ending) (selected : List ℕ) (limit : ℕ) → e ≡ Some a
-        → IsStateOf (run_of due after left others selected (record { kept = visits; limit = limit }) (run.retired + 1) run.wakes run.starts e) (move x (state_of run dues))
+        → IsStateOf (engine_of due after left others selected (record { kept = visits; limit = limit }) (engine.retired + 1) engine.wakes engine.starts e) (move x (state_of engine dues))
     ended a selected limit some =
-        let is : move x (state_of run dues) ≡ state due after (taken h fate dues) (map net_of visits) (run.retired + 1) run.wakes run.starts e =
+        let is : move x (state_of engine dues) ≡ state due after (taken h fate dues) (map net_of visits) (engine.retired + 1) engine.wakes engine.starts e =
         moved
         ∙ ap (λ (o : Option Ending). over_or o rest (begin x (started_by h fate others) due rest)) some
-        ∙ ap (λ (o : Option Ending). state due after (taken h fate dues) (map net_of visits) (run.retired + 1) run.wakes run.starts o) (sym some) in
-        subst (IsStateOf (run_of due after left others selected (record { kept = visits; limit = limit }) (run.retired + 1) run.wakes run.starts e)) (sym is)
+        ∙ ap (λ (o : Option Ending). state due after (taken h fate dues) (map net_of visits) (engine.retired + 1) engine.wakes engine.starts o) (sym some) in
+        subst (IsStateOf (engine_of due after left others selected (record { kept = visits; limit = limit }) (engine.retired + 1) engine.wakes engine.starts e)) (sym is)
         (record { state = refl; dues = dues_left })
 
     -- the run goes on
     pub goes : (new : Keys) (selected : List ℕ) (limit starts : ℕ) → e ≡ None → setting.choice.speedup ≤ 95 → AllApart (started_by h fate others) → AreBegun (ticks_in setting after) due (started_by h fate others) left new
-        → starts ≡ run.starts + length (selected_of setting after (started_by h fate others))
-        → IsStateOf (run_of due after new others selected (record { kept = visits; limit = limit }) (run.retired + 1) run.wakes starts e) (move x (state_of run dues))
+        → starts ≡ engine.starts + length (selected_of setting after (started_by h fate others))
+        → IsStateOf (engine_of due after new others selected (record { kept = visits; limit = limit }) (engine.retired + 1) engine.wakes starts e) (move x (state_of engine dues))
     goes new selected limit starts none small apart begun counted =
         let hs : List ℕ = started_by h fate others in
-        let is : move x (state_of run dues) ≡ state due after (begun_dues after hs due (taken h fate dues)) (map net_of visits) (run.retired + 1) run.wakes starts e =
+        let is : move x (state_of engine dues) ≡ state due after (begun_dues after hs due (taken h fate dues)) (map net_of visits) (engine.retired + 1) engine.wakes starts e =
         moved
         ∙ ap (λ (o : Option Ending). over_or o rest (begin x hs due rest)) none
-        ∙ begin_is due after hs due (taken h fate dues) (map net_of visits) (run.retired + 1) run.wakes run.starts
-        ∙ ap (λ (n : ℕ). state due after (begun_dues after hs due (taken h fate dues)) (map net_of visits) (run.retired + 1) run.wakes n None) (sym counted)
-        ∙ ap (λ (o : Option Ending). state due after (begun_dues after hs due (taken h fate dues)) (map net_of visits) (run.retired + 1) run.wakes starts o) (sym none) in
-        subst (IsStateOf (run_of due after new others selected (record { kept = visits; limit = limit }) (run.retired + 1) run.wakes starts e)) (sym is)
+        ∙ begin_is due after hs due (taken h fate dues) (map net_of visits) (engine.retired + 1) engine.wakes engine.starts
+        ∙ ap (λ (n : ℕ). state due after (begun_dues after hs due (taken h fate dues)) (map net_of visits) (engine.retired + 1) engine.wakes n None) (sym counted)
+        ∙ ap (λ (o : Option Ending). state due after (begun_dues after hs due (taken h fate dues)) (map net_of visits) (engine.retired + 1) engine.wakes starts o) (sym none) in
+        subst (IsStateOf (engine_of due after new others selected (record { kept = visits; limit = limit }) (engine.retired + 1) engine.wakes starts e)) (sym is)
         (record { state = refl; dues = dues_begun after hs due left new (taken h fate dues) small apart dues_left begun })
 
   -- a sleeping hart's turn
@@ -185,22 +186,22 @@ module _ (setting : Setting) (first : Guest) where
       ap (λ (o : Option Turn). move_by x None o s) turn ∙ ap (λ b. if b then short.wake x t s else short.retire x t s) asleep
 
   -- the code's fields after a wake
-  abbrev pub woken_run : Run → Guest → Keys → List ℕ → ℕ → Run
-  woken_run run g keys selected starts = record run { guest = g; schedule = keys; selected = selected; wakes = run.wakes + 1; starts = starts }
+  abbrev pub woken_engine : Engine → Guest → Keys → List ℕ → ℕ → Engine
+  woken_engine engine g keys selected starts = record engine { guest = g; schedule = keys; selected = selected; wakes = engine.wakes + 1; starts = starts }
 
-  pub woken : (run : Run) (h due : ℕ) (keys : Keys) (selected : List ℕ) (starts : ℕ) → setting.choice.speedup ≤ 95 → run.ending ≡ None → key_of run.schedule h ≡ Some due → IsLeast run.schedule h → is_sleeping run.guest h ≡ true
-      → AreBegun (ticks_in setting (with_wake h run.guest)) due (h ∷ []) run.schedule keys → starts ≡ run.starts + length (selected_of setting (with_wake h run.guest) (h ∷ []))
-      → (dues : List (Option ℕ)) → AreDues run.schedule dues → IsStateOf (woken_run run (with_wake h run.guest) keys selected starts) (move x (state_of run dues))
-  woken run h due keys selected starts small goes turn first asleep begun counted dues are =
-      let g : Guest = with_wake h run.guest in
-      let is : move x (state_of run dues) ≡ state run.time g (begun_dues g (h ∷ []) due dues) (map net_of run.visits.kept) run.retired (run.wakes + 1) starts run.ending =
-      ap (λ (o : Option Ending). move x (state run.time run.guest dues (map net_of run.visits.kept) run.retired run.wakes run.starts o)) goes
-      ∙ wakes_turn run.time run.guest dues (map net_of run.visits.kept) h due run.retired run.wakes run.starts (next_is run.schedule dues h due are turn first) asleep
-      ∙ begin_is run.time g (h ∷ []) due dues (map net_of run.visits.kept) run.retired (run.wakes + 1) run.starts
-      ∙ ap (λ (n : ℕ). state run.time g (begun_dues g (h ∷ []) due dues) (map net_of run.visits.kept) run.retired (run.wakes + 1) n None) (sym counted)
-      ∙ ap (λ (o : Option Ending). state run.time g (begun_dues g (h ∷ []) due dues) (map net_of run.visits.kept) run.retired (run.wakes + 1) starts o) (sym goes) in
-      subst (IsStateOf (woken_run run g keys selected starts)) (sym is)
-      (record { state = refl; dues = dues_begun g (h ∷ []) due run.schedule keys dues small (refl, tt) are begun })
+  pub woken : (engine : Engine) (h due : ℕ) (keys : Keys) (selected : List ℕ) (starts : ℕ) → setting.choice.speedup ≤ 95 → engine.ending ≡ None → key_of engine.schedule h ≡ Some due → IsLeast engine.schedule h → is_sleeping engine.guest h ≡ true
+      → AreBegun (ticks_in setting (with_wake h engine.guest)) due (h ∷ []) engine.schedule keys → starts ≡ engine.starts + length (selected_of setting (with_wake h engine.guest) (h ∷ []))
+      → (dues : List (Option ℕ)) → AreDues engine.schedule dues → IsStateOf (woken_engine engine (with_wake h engine.guest) keys selected starts) (move x (state_of engine dues))
+  woken engine h due keys selected starts small goes turn first asleep begun counted dues are =
+      let g : Guest = with_wake h engine.guest in
+      let is : move x (state_of engine dues) ≡ state engine.time g (begun_dues g (h ∷ []) due dues) (map net_of engine.visits.kept) engine.retired (engine.wakes + 1) starts engine.ending =
+      ap (λ (o : Option Ending). move x (state engine.time engine.guest dues (map net_of engine.visits.kept) engine.retired engine.wakes engine.starts o)) goes
+      ∙ wakes_turn engine.time engine.guest dues (map net_of engine.visits.kept) h due engine.retired engine.wakes engine.starts (next_is engine.schedule dues h due are turn first) asleep
+      ∙ begin_is engine.time g (h ∷ []) due dues (map net_of engine.visits.kept) engine.retired (engine.wakes + 1) engine.starts
+      ∙ ap (λ (n : ℕ). state engine.time g (begun_dues g (h ∷ []) due dues) (map net_of engine.visits.kept) engine.retired (engine.wakes + 1) n None) (sym counted)
+      ∙ ap (λ (o : Option Ending). state engine.time g (begun_dues g (h ∷ []) due dues) (map net_of engine.visits.kept) engine.retired (engine.wakes + 1) starts o) (sym goes) in
+      subst (IsStateOf (woken_engine engine g keys selected starts)) (sym is)
+      (record { state = refl; dues = dues_begun g (h ∷ []) due engine.schedule keys dues small (refl, tt) are begun })
 
   -- before the first move
   at_first : shortened x 0 ≡ state 0 first (Some (due_at first 0 0) ∷ []) [] 0 0 (length (selected_of setting first (0 ∷ []))) None
@@ -221,13 +222,13 @@ first_due v w (suc k) keys same is = is ∙ rw (ne_eqb (suc k) 0 (λ (e : suc k 
 
 pub first_state : (setting : Setting) (first g : Guest) (keys : Keys) (others selected : List ℕ) (visits : Visits) (starts : ℕ) → setting.choice.speedup ≤ 95 → g ≡ first → keys ≡ with_key 0 (0 + ticks_in setting g 0) (replicate 256 None)
     → visits.kept ≡ [] → starts ≡ length (selected_of setting g (0 ∷ []))
-    → IsStateOf (run_of 0 g keys others selected visits 0 0 starts None) (shortened (experiment_in setting first) 0)
+    → IsStateOf (engine_of 0 g keys others selected visits 0 0 starts None) (shortened (experiment_in setting first) 0)
 first_state setting first g keys others selected visits starts small is made none counted =
     let due_is : 0 + ticks_in setting g 0 ≡ due_at setting first first 0 0 =
     ap (λ (g : Guest). 0 + ticks_in setting g 0) is ∙ ticks_less (selects setting) setting.choice.speedup 0 first 0 (omega arith) in
     let starts_is : length (selected_of setting first (0 ∷ [])) ≡ starts = ap (λ (g : Guest). length (selected_of setting g (0 ∷ []))) (sym is) ∙ sym counted in
     let dues : List (Option ℕ) = Some (due_at setting first first 0 0) ∷ [] in
-    subst (IsStateOf (run_of 0 g keys others selected visits 0 0 starts None)) (sym (at_first setting first))
+    subst (IsStateOf (engine_of 0 g keys others selected visits 0 0 starts None)) (sym (at_first setting first))
     (record {
       state =
           ap (λ (g : Guest). state 0 g dues [] 0 0 (length (selected_of setting first (0 ∷ []))) None) (sym is)

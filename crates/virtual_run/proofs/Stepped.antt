@@ -7,8 +7,8 @@ use Rattle.machines.specs.Steps.{Steps, Passes}
 use Rattle.machines.specs.Standing.{standing}
 use Rattle.machines.proofs.Stepping.{passes_none, passes_then, wakes_then}
 use Rattle.guest_calls.specs.Guest.{Guest}
-use Rattle.virtual_run.specs.declared.run.Event.{Event}
-use Rattle.virtual_run.specs.declared.run.Event.TheVariants.{Woke, Retired}
+use Rattle.virtual_run.specs.declared.engine.Event.{Event}
+use Rattle.virtual_run.specs.declared.engine.Event.TheVariants.{Woke, Retired}
 use Rattle.virtual_run.specs.Advance.{is_wake}
 use Rattle.virtual_run.specs.DelayedRun.{Happens}
 use Rattle.virtual_run.specs.Seen.{Seen, experiment_of}

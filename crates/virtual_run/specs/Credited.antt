@@ -10,9 +10,9 @@ use Rattle.delay_credits.specs.Delays.{Delays, hart_at, pause_of, at, with_start
 use Rattle.delay_credits.specs.Ticks.{without_work}
 use Rattle.guest_calls.specs.Guest.{Guest, IsMade}
 use Rattle.guest_calls.specs.Retire.{next_of}
-use Rattle.virtual_run.specs.declared.run.Event.{Event}
-use Rattle.virtual_run.specs.declared.run.Event.TheVariants.{Woke, Retired}
-use Rattle.virtual_run.specs.declared.run.Run.{Run}
+use Rattle.virtual_run.specs.declared.engine.Event.{Event}
+use Rattle.virtual_run.specs.declared.engine.Event.TheVariants.{Woke, Retired}
+use Rattle.virtual_run.specs.declared.engine.Engine.{Engine}
 use Rattle.virtual_run.specs.Begin.{started_by}
 
 -- each of these harts is held without its work
@@ -104,31 +104,31 @@ pub record IsAlone (ending : Option Ending) (fate : Fate) (others : List ℕ) : 
   pub none : others ≡ []
 
 -- what the harts and the credits must be at a moment for a hart to wake
-pub record CanWake (c : Delays) (run : Run) (hart now : ℕ) : Type 0 where
+pub record CanWake (c : Delays) (engine : Engine) (hart now : ℕ) : Type 0 where
   pub below : hart < length c.harts
   pub later : c.latest ≤ now
-  pub runs : AllRun (with_starts (hart ∷ []) (at now c)) run.selected
-  pub made : AllMade run.guest run.selected
-  pub few : c.raised + 3800 * length run.selected ≤ 10 ^ 17
+  pub runs : AllRun (with_starts (hart ∷ []) (at now c)) engine.selected
+  pub made : AllMade engine.guest engine.selected
+  pub few : c.raised + 3800 * length engine.selected ≤ 10 ^ 17
 
 -- and for one to have retired
-pub record CanSettle (c : Delays) (run : Run) (hart : ℕ) (fate : Fate) (now : ℕ) : Type 0 where
+pub record CanSettle (c : Delays) (engine : Engine) (hart : ℕ) (fate : Fate) (now : ℕ) : Type 0 where
   pub below : hart < length c.harts
   pub later : c.latest ≤ now
   pub running : is_running (hart_at c hart) ≡ true
   pub unpaused : pause_of (hart_at (at now c) hart) ≡ 0
-  pub can : run.ending ≡ None → CanBegin (with_rest hart fate now c) run.guest hart fate run.started run.selected
+  pub can : engine.ending ≡ None → CanBegin (with_rest hart fate now c) engine.guest hart fate engine.started engine.selected
 
-abbrev pub CanFollow : Event → Delays → Run → ℕ → Type 0
-CanFollow (Woke turn) c run now = CanWake c run turn.hart.0 now
-CanFollow (Retired retired) c run now = CanSettle c run retired.hart.0 retired.fate now
+abbrev pub CanFollow : Event → Delays → Engine → ℕ → Type 0
+CanFollow (Woke turn) c engine now = CanWake c engine turn.hart.0 now
+CanFollow (Retired retired) c engine now = CanSettle c engine retired.hart.0 retired.fate now
 
 -- the net moment of an event, after which the engine is so
-abbrev pub moment_of : Event → Run → ℕ
-moment_of (Woke turn) run = turn.due
-moment_of (Retired retired) run = run.time
+abbrev pub moment_of : Event → Engine → ℕ
+moment_of (Woke turn) engine = turn.due
+moment_of (Retired retired) engine = engine.time
 
 -- the credits after it
-abbrev pub credited_by : Event → Run → (ℕ → ℕ) → ℕ → Delays → Delays
-credited_by (Woke turn) run ticks now c = with_wake ticks turn.hart.0 run.selected (at now c)
-credited_by (Retired retired) run ticks now c = credits_after run.ending ticks retired.hart.0 retired.fate run.started run.selected (with_rest retired.hart.0 retired.fate now c)
+abbrev pub credited_by : Event → Engine → (ℕ → ℕ) → ℕ → Delays → Delays
+credited_by (Woke turn) engine ticks now c = with_wake ticks turn.hart.0 engine.selected (at now c)
+credited_by (Retired retired) engine ticks now c = credits_after engine.ending ticks retired.hart.0 retired.fate engine.started engine.selected (with_rest retired.hart.0 retired.fate now c)

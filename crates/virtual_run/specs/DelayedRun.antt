@@ -17,10 +17,11 @@ use Rattle.machines.specs.Lead.{before}
 use Rattle.delay_credits.specs.Delays.{Delays}
 use Rattle.guest_calls.specs.Guest.{Guest, making}
 use Rattle.virtual_run.specs.declared.choice.Setting.{Setting}
-use Rattle.virtual_run.specs.declared.run.Event.{Event}
-use Rattle.virtual_run.specs.declared.run.Event.TheVariants.{Woke, Retired}
-use Rattle.virtual_run.specs.declared.run.Run.{Run}
-use Rattle.virtual_run.specs.Run.{events_of, IsChoice, IsReached}
+use Rattle.virtual_run.specs.declared.engine.Event.{Event}
+use Rattle.virtual_run.specs.declared.engine.Event.TheVariants.{Woke, Retired}
+use Rattle.virtual_run.specs.declared.engine.Engine.{Engine}
+use Rattle.virtual_run.specs.Run.{IsChoice}
+use Rattle.virtual_run.specs.Engine.{events_of, IsReached}
 use Rattle.virtual_run.specs.Seen.{experiment_with}
 use Rattle.virtual_run.specs.Credited.{Holds}
 
@@ -76,15 +77,15 @@ abbrev pub EndsOnce : Experiment Guest → Type 0
 EndsOnce x = (r : Record) × IsDelayed x r × ((other : Record) → IsDelayed x other → other ≡ r)
 
 -- the choice is within the limits, and the fields stand for the state after as many retirements and wakes as the engine counts
-pub record IsPaced (image : ImageParts) (input : List ℕ) (setting : Setting) (run : Run) (credits : Delays) (now : ℕ) : Type 0 where
+pub record IsPaced (image : ImageParts) (input : List ℕ) (setting : Setting) (engine : Engine) (credits : Delays) (now : ℕ) : Type 0 where
   pub valid : IsChoice setting.choice
-  pub reached : IsReached (experiment_with image input setting) run
-  pub holds : Holds credits (standing (experiment_with image input setting) (events_of run))
+  pub reached : IsReached (experiment_with image input setting) engine
+  pub holds : Holds credits (standing (experiment_with image input setting) (events_of engine))
   pub room : length credits.harts ≡ HARTS
-  pub visits : map visit_as run.visits.kept ≡ (standing (experiment_with image input setting) (events_of run)).visits
-  pub moment : now ≡ (standing (experiment_with image input setting) (events_of run)).now
+  pub visits : map visit_as engine.visits.kept ≡ (standing (experiment_with image input setting) (events_of engine)).visits
+  pub moment : now ≡ (standing (experiment_with image input setting) (events_of engine)).now
   pub soon : now ≤ 10 ^ 17
-  pub trap : (ending : Ending) → run.ending ≡ Some ending → IsOfAHart ending
+  pub trap : (ending : Ending) → engine.ending ≡ Some ending → IsOfAHart ending
   -- what a fork copies, and what it raises the delay by
-  pub made : making run.guest ≡ making (experiment_with image input setting).first
-  pub selected : run.selected ≡ filter ((experiment_with image input setting).guest.is_selected run.guest) (before (experiment_with image input setting) (events_of run)).harts
+  pub made : making engine.guest ≡ making (experiment_with image input setting).first
+  pub selected : engine.selected ≡ filter ((experiment_with image input setting).guest.is_selected engine.guest) (before (experiment_with image input setting) (events_of engine)).harts

@@ -18,6 +18,21 @@ pub record Seen (State : Type 0) : Type 0 where
   pub choice : Choice
   pub state : State
 
+-- the run of a program, with these lines and points, on an input by a choice, in a state of its experiment
+abbrev pub seen : {State : Type 0} → ImageParts → Index → Points → List ℕ → Choice → (Experiment Guest → State) → Seen State
+seen image index points input choice state = record {
+  image = image;
+  index = index;
+  points = points;
+  input = input;
+  choice = choice;
+  state = state (experiment image (position_at index) (point_of points) input choice);
+}
+
+-- the same in a setting
+abbrev pub seen_in : {State : Type 0} → ImageParts → List ℕ → Setting → (Experiment Guest → State) → Seen State
+seen_in image input setting state = seen image setting.index.now setting.points.now input setting.choice state
+
 -- the run of an image on an input in a setting
 abbrev pub experiment_with : ImageParts → List ℕ → Setting → Experiment Guest
 experiment_with image input setting = experiment image (position_at setting.index.now) (point_of setting.points.now) input setting.choice

@@ -8,8 +8,8 @@ ghost use Rattle.delay_credits.specs.Delays.{hart_at, pause_of, at, with_stop};
 ghost use Rattle.guest_calls.specs.Guest.{IsMade};
 ghost use Rattle.virtual_run.specs.Credited.{raise_ticks, with_credits, with_starts, with_raises, with_begun, with_rest, with_wake, credits_after, moment_of, credited_by, CanFollow, AllRest, AllBelow, AllRun, AllMade, CanBegin, IsAlone};
 
-use crate::run::has_any;
-use crate::{Event, Retired, Run};
+use crate::engine::has_any;
+use crate::{Engine, Event, Retired};
 use cost_table::raise;
 use coz_types::{HartId, Tick};
 use delay_credits::Credits;
@@ -75,56 +75,62 @@ pub fn raise_harts(credits: &mut Credits, guest: &Guest, harts: &[HartId], speed
 }
 
 /// The selected harts that began last raise the delay in turn, at the latest moment.
-pub fn raise_selected(credits: &mut Credits, run: &Run, speedup: u8, now: Tick)
-    requires run { AllRun credits.old run.now.selected }
-    requires made { AllMade run.now.guest run.now.selected }
+pub fn raise_selected(credits: &mut Credits, engine: &Engine, speedup: u8, now: Tick)
+    requires run { AllRun credits.old engine.now.selected }
+    requires made { AllMade engine.now.guest engine.now.selected }
     requires speedup { speedup ≤ GREATEST_SPEEDUP }
     requires now { credits.old.latest ≡ now }
-    requires few { credits.old.raised + 3800 * length run.now.selected ≤ 10 ^ 17 }
-    ensures { credits.new ≡ with_raises (raise_ticks run.now.guest speedup) run.now.selected credits.old }
+    requires few { credits.old.raised + 3800 * length engine.now.selected ≤ 10 ^ 17 }
+    ensures { credits.new ≡ with_raises (raise_ticks engine.now.guest speedup) engine.now.selected credits.old }
 {
-    let harts = run.selected.harts();
-    raise_harts(credits, &run.guest, harts, speedup, now);
+    let harts = engine.selected.harts();
+    raise_harts(credits, &engine.guest, harts, speedup, now);
 }
 
 /// What follows a retirement from which the run goes on: the harts that it made or woke are credited, all that it started
 /// run, and only then those of them that are selected raise the delay in turn.
 #[inline(never)]
-fn credit_started(credits: &mut Credits, run: &Run, retired: Retired, speedup: u8, now: Tick)
-    requires can { CanBegin credits.old run.now.guest retired.hart.0 retired.fate run.now.started run.now.selected }
+fn credit_started(credits: &mut Credits, engine: &Engine, retired: Retired, speedup: u8, now: Tick)
+    requires can { CanBegin credits.old engine.now.guest retired.hart.0 retired.fate engine.now.started engine.now.selected }
     requires speedup { speedup ≤ GREATEST_SPEEDUP }
     requires now { credits.old.latest ≡ now }
-    ensures { credits.new ≡ with_begun (raise_ticks run.now.guest speedup) retired.hart.0 retired.fate run.now.started run.now.selected credits.old }
+    ensures { credits.new ≡ with_begun (raise_ticks engine.now.guest speedup) retired.hart.0 retired.fate engine.now.started engine.now.selected credits.old }
 {
-    credit_each(credits, run.started.harts(), retired.hart);
+    credit_each(credits, engine.started.harts(), retired.hart);
     start_again(credits, retired.hart, retired.fate, now);
-    start_each(credits, run.started.harts(), now);
-    raise_harts(credits, &run.guest, run.selected.harts(), speedup, now);
+    start_each(credits, engine.started.harts(), now);
+    raise_harts(
+        credits,
+        &engine.guest,
+        engine.selected.harts(),
+        speedup,
+        now,
+    );
 }
 
 /// Whether a run goes on after a retirement that started no hart.
 #[inline(always)]
-fn is_alone(run: &Run) -> bool
-    ensures { IsTrue result → IsAlone run.now.ending Fate.Goes run.now.started }
+fn is_alone(engine: &Engine) -> bool
+    ensures { IsTrue result → IsAlone engine.now.ending Fate.Goes engine.now.started }
 {
-    run.ending.is_none() && run.started.harts().is_empty()
+    engine.ending.is_none() && engine.started.harts().is_empty()
 }
 
 /// The hart that retired goes on, and nothing else begins: it still runs, and raises the delay if it is selected.
 #[inline(always)]
-fn go_on(credits: &mut Credits, run: &Run, hart: HartId, speedup: u8, now: Tick)
-    requires alone { IsAlone run.now.ending Fate.Goes run.now.started }
+fn go_on(credits: &mut Credits, engine: &Engine, hart: HartId, speedup: u8, now: Tick)
+    requires alone { IsAlone engine.now.ending Fate.Goes engine.now.started }
     requires below { hart.0 < length credits.old.harts }
     requires later { credits.old.latest ≤ now }
-    requires can { CanBegin (with_rest hart.0 Fate.Goes now credits.old) run.now.guest hart.0 Fate.Goes run.now.started run.now.selected }
+    requires can { CanBegin (with_rest hart.0 Fate.Goes now credits.old) engine.now.guest hart.0 Fate.Goes engine.now.started engine.now.selected }
     requires speedup { speedup ≤ GREATEST_SPEEDUP }
-    ensures { credits.new ≡ with_begun (raise_ticks run.now.guest speedup) hart.0 Fate.Goes run.now.started run.now.selected
+    ensures { credits.new ≡ with_begun (raise_ticks engine.now.guest speedup) hart.0 Fate.Goes engine.now.started engine.now.selected
         (with_rest hart.0 Fate.Goes now credits.old) }
 {
     credits.start(hart, now);
-    if has_any(&run.selected) {
-        let raisers = run.selected.harts();
-        raise_harts(credits, &run.guest, raisers, speedup, now);
+    if has_any(&engine.selected) {
+        let raisers = engine.selected.harts();
+        raise_harts(credits, &engine.guest, raisers, speedup, now);
     }
 }
 
@@ -146,88 +152,100 @@ fn rest(credits: &mut Credits, hart: HartId, fate: Fate, now: Tick)
 /// What a wake makes of the accounts and pauses: the hart starts again at its moment, and raises the delay if it is
 /// selected.
 #[inline(never)]
-fn wake_up(credits: &mut Credits, run: &Run, hart: HartId, speedup: u8, now: Tick)
+fn wake_up(credits: &mut Credits, engine: &Engine, hart: HartId, speedup: u8, now: Tick)
     requires below { hart.0 < length credits.old.harts }
     requires later { credits.old.latest ≤ now }
-    requires run { AllRun (with_starts (hart.0 ∷ []) (at now credits.old)) run.now.selected }
-    requires made { AllMade run.now.guest run.now.selected }
+    requires run { AllRun (with_starts (hart.0 ∷ []) (at now credits.old)) engine.now.selected }
+    requires made { AllMade engine.now.guest engine.now.selected }
     requires speedup { speedup ≤ GREATEST_SPEEDUP }
-    requires few { credits.old.raised + 3800 * length run.now.selected ≤ 10 ^ 17 }
-    ensures { credits.new ≡ with_wake (raise_ticks run.now.guest speedup) hart.0 run.now.selected (at now credits.old) }
+    requires few { credits.old.raised + 3800 * length engine.now.selected ≤ 10 ^ 17 }
+    ensures { credits.new ≡ with_wake (raise_ticks engine.now.guest speedup) hart.0 engine.now.selected (at now credits.old) }
 {
     credits.start(hart, now);
-    raise_selected(credits, run, speedup, now);
+    raise_selected(credits, engine, speedup, now);
 }
 
 /// What a retirement at a moment and the starts after it make of the accounts and pauses: the hart stops, and where the run
 /// goes on what it started begins.
 #[inline(never)]
-fn account_retirement(credits: &mut Credits, run: &Run, retired: Retired, speedup: u8, now: Tick)
+fn account_retirement(
+    credits: &mut Credits,
+    engine: &Engine,
+    retired: Retired,
+    speedup: u8,
+    now: Tick,
+)
     requires below { retired.hart.0 < length credits.old.harts }
     requires later { credits.old.latest ≤ now }
     requires running { IsTrue (is_running (hart_at credits.old retired.hart.0)) }
     requires unpaused { pause_of (hart_at (at now credits.old) retired.hart.0) ≡ 0 }
-    requires can { run.now.ending ≡ None →
-        CanBegin (with_rest retired.hart.0 retired.fate now credits.old) run.now.guest retired.hart.0 retired.fate run.now.started run.now.selected }
+    requires can { engine.now.ending ≡ None →
+        CanBegin (with_rest retired.hart.0 retired.fate now credits.old) engine.now.guest retired.hart.0 retired.fate engine.now.started engine.now.selected }
     requires speedup { speedup ≤ GREATEST_SPEEDUP }
-    ensures { credits.new ≡ credits_after run.now.ending (raise_ticks run.now.guest speedup) retired.hart.0 retired.fate run.now.started run.now.selected
+    ensures { credits.new ≡ credits_after engine.now.ending (raise_ticks engine.now.guest speedup) retired.hart.0 retired.fate engine.now.started engine.now.selected
         (with_rest retired.hart.0 retired.fate now credits.old) }
 {
     rest(credits, retired.hart, retired.fate, now);
-    if run.ending.is_none() {
-        credit_started(credits, run, retired, speedup, now);
+    if engine.ending.is_none() {
+        credit_started(credits, engine, retired, speedup, now);
     }
 }
 
 /// The same for a hart that goes on.
 #[inline(never)]
-fn account_going(credits: &mut Credits, run: &Run, hart: HartId, speedup: u8, now: Tick)
+fn account_going(credits: &mut Credits, engine: &Engine, hart: HartId, speedup: u8, now: Tick)
     requires below { hart.0 < length credits.old.harts }
     requires later { credits.old.latest ≤ now }
     requires running { IsTrue (is_running (hart_at credits.old hart.0)) }
     requires unpaused { pause_of (hart_at (at now credits.old) hart.0) ≡ 0 }
-    requires can { run.now.ending ≡ None →
-        CanBegin (with_rest hart.0 Fate.Goes now credits.old) run.now.guest hart.0 Fate.Goes run.now.started run.now.selected }
+    requires can { engine.now.ending ≡ None →
+        CanBegin (with_rest hart.0 Fate.Goes now credits.old) engine.now.guest hart.0 Fate.Goes engine.now.started engine.now.selected }
     requires speedup { speedup ≤ GREATEST_SPEEDUP }
-    ensures { credits.new ≡ credits_after run.now.ending (raise_ticks run.now.guest speedup) hart.0 Fate.Goes run.now.started run.now.selected
+    ensures { credits.new ≡ credits_after engine.now.ending (raise_ticks engine.now.guest speedup) hart.0 Fate.Goes engine.now.started engine.now.selected
         (with_rest hart.0 Fate.Goes now credits.old) }
 {
     let retired = Retired {
         hart,
         fate: Fate::Goes,
     };
-    account_retirement(credits, run, retired, speedup, now);
+    account_retirement(credits, engine, retired, speedup, now);
 }
 
 /// The same, with a shorter way where nothing else begins, as after most retirements.
 #[inline(always)]
-fn account_plain(credits: &mut Credits, run: &Run, hart: HartId, speedup: u8, now: Tick)
+fn account_plain(credits: &mut Credits, engine: &Engine, hart: HartId, speedup: u8, now: Tick)
     requires below { hart.0 < length credits.old.harts }
     requires later { credits.old.latest ≤ now }
     requires running { IsTrue (is_running (hart_at credits.old hart.0)) }
     requires unpaused { pause_of (hart_at (at now credits.old) hart.0) ≡ 0 }
-    requires can { run.now.ending ≡ None →
-        CanBegin (with_rest hart.0 Fate.Goes now credits.old) run.now.guest hart.0 Fate.Goes run.now.started run.now.selected }
+    requires can { engine.now.ending ≡ None →
+        CanBegin (with_rest hart.0 Fate.Goes now credits.old) engine.now.guest hart.0 Fate.Goes engine.now.started engine.now.selected }
     requires speedup { speedup ≤ GREATEST_SPEEDUP }
-    ensures { credits.new ≡ credits_after run.now.ending (raise_ticks run.now.guest speedup) hart.0 Fate.Goes run.now.started run.now.selected
+    ensures { credits.new ≡ credits_after engine.now.ending (raise_ticks engine.now.guest speedup) hart.0 Fate.Goes engine.now.started engine.now.selected
         (with_rest hart.0 Fate.Goes now credits.old) }
 {
-    if is_alone(run) {
-        go_on(credits, run, hart, speedup, now);
+    if is_alone(engine) {
+        go_on(credits, engine, hart, speedup, now);
     } else {
-        account_going(credits, run, hart, speedup, now);
+        account_going(credits, engine, hart, speedup, now);
     }
 }
 
 /// What an event and the starts after it make of the accounts and pauses, where so much was raised before it. Gives its real
 /// moment.
 #[inline(always)]
-pub fn follow(credits: &mut Credits, run: &Run, event: Event, speedup: u8, raised: Tick) -> Tick
-    requires can { CanFollow event credits.old run.now (moment_of event run.now + raised) }
-    requires few { moment_of event run.now + raised ≤ 10 ^ 17 }
+pub fn follow(
+    credits: &mut Credits,
+    engine: &Engine,
+    event: Event,
+    speedup: u8,
+    raised: Tick,
+) -> Tick
+    requires can { CanFollow event credits.old engine.now (moment_of event engine.now + raised) }
+    requires few { moment_of event engine.now + raised ≤ 10 ^ 17 }
     requires speedup { speedup ≤ GREATEST_SPEEDUP }
-    ensures moment { result ≡ moment_of event run.now + raised }
-    ensures credits { credits.new ≡ credited_by event run.now (raise_ticks run.now.guest speedup) (moment_of event run.now + raised) credits.old }
+    ensures moment { result ≡ moment_of event engine.now + raised }
+    ensures credits { credits.new ≡ credited_by event engine.now (raise_ticks engine.now.guest speedup) (moment_of event engine.now + raised) credits.old }
 {
     match event {
         Event::Retired(
@@ -236,18 +254,18 @@ pub fn follow(credits: &mut Credits, run: &Run, event: Event, speedup: u8, raise
                 fate: Fate::Goes,
             },
         ) => {
-            let now = run.time + raised;
-            account_plain(credits, run, hart, speedup, now);
+            let now = engine.time + raised;
+            account_plain(credits, engine, hart, speedup, now);
             now
         }
         Event::Retired(retired) => {
-            let now = run.time + raised;
-            account_retirement(credits, run, retired, speedup, now);
+            let now = engine.time + raised;
+            account_retirement(credits, engine, retired, speedup, now);
             now
         }
         Event::Woke(turn) => {
             let now = turn.due + raised;
-            wake_up(credits, run, turn.hart, speedup, now);
+            wake_up(credits, engine, turn.hart, speedup, now);
             now
         }
     }

@@ -1,7 +1,7 @@
 //! Leads: what the runs of a line have in common, whatever the speedup.
 ghost use Rattle.std.specs.Prelude.{◌≡◌, ◌≤◌, [], ◌∷◌, Some, not, is_some, IfOk, IsSome, IsTrue};
 ghost use Rattle.coz_types.specs.declared.TheConstants.{GREATEST_SPEEDUP};
-ghost use Rattle.virtual_run.specs.Seen.{experiment_of};
+ghost use Rattle.virtual_run.specs.Seen.{seen, experiment_of};
 ghost use Rattle.virtual_run.specs.Lead.{arguments, starts_next, Stands, IsShared};
 
 use crate::{Choice, Machine};
@@ -48,9 +48,7 @@ impl<'a> Lead<'a> {
     ghost use Rattle.machines.specs.Delayed.{unbegun, begin, events};
     ghost use Rattle.machines.specs.Standing.{standing};
     ghost use Rattle.machines.specs.Lead.{at_speedup};
-    ghost use Rattle.line_index.specs.Index.{position_at};
-    ghost use Rattle.progress_points.specs.Points.{point_of};
-    ghost use Rattle.virtual_run.specs.Run.{experiment, IsChoice};
+    ghost use Rattle.virtual_run.specs.Run.{IsChoice};
 
     /// Before the first beginning, that of hart 0. The speedup isn't read.
     /// Only want of memory stands against it.
@@ -64,17 +62,8 @@ impl<'a> Lead<'a> {
     ) -> Result<Lead<'a>, AllocError>
         requires choice { IsChoice choice }
         requires selected { IsSome choice.selected }
-        ensures { IfOk result (λ lead. lead ≡ record {
-          image = image.now;
-          index = index.now;
-          points = points.now;
-          input = input.now;
-          choice = choice;
-          state = record {
-            state = unbegun (experiment image.now (position_at index.now) (point_of points.now) input.now choice);
-            harts = 0 ∷ [];
-          };
-        }) }
+        ensures { IfOk result (λ lead. lead ≡
+            seen image.now index.now points.now input.now choice (λ x. record { state = unbegun x; harts = 0 ∷ [] })) }
     {
         let whole = Choice {
             speedup: 0,

@@ -7,14 +7,14 @@
 
 mod accounts;
 mod choice;
+mod engine;
 mod lead;
 mod machine;
-mod run;
 mod start;
 mod visits;
 
 pub use choice::{Choice, Setting};
+pub use engine::{Engine, Event, Retired, Turn};
 pub use lead::Lead;
 pub use machine::Machine;
-pub use run::{Event, Retired, Run, Turn};
 pub use visits::Visits;

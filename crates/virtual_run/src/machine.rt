@@ -3,13 +3,13 @@ ghost use Rattle.std.specs.Prelude.{◌≡◌, ◌+◌, ◌≤◌, ◌<◌, fals
 ghost use Rattle.coz_types.specs.declared.TheConstants.{GREATEST_SPEEDUP};
 ghost use Rattle.hart_schedule.specs.Keys.{key_of};
 ghost use Rattle.delay_credits.specs.Delays.{account_as};
-ghost use Rattle.virtual_run.specs.Seen.{experiment_of};
+ghost use Rattle.virtual_run.specs.Seen.{seen, experiment_of};
 ghost use Rattle.virtual_run.specs.Lead.{arguments, is_unstarted};
 ghost use Rattle.virtual_run.specs.DelayedRun.{visit_as, net_due_of, account_in, outcome_of, IsSmall, Happens, AgreesThroughout, EndsOnce};
 
 use crate::accounts::{follow, raise_harts, raise_selected};
-use crate::run::{FIRST, is_wake};
-use crate::{Choice, Event, Run, Setting};
+use crate::engine::{FIRST, is_wake};
+use crate::{Choice, Engine, Event, Setting};
 use coz_types::{Account, Ending, HARTS, HartId, Image, LineId, Outcome, Tick, Visit};
 use delay_credits::Credits;
 use line_index::LineIndex;
@@ -24,7 +24,7 @@ pub struct Machine<'a> {
     image: &'a Image<'a>,
     input: &'a [u8],
     setting: Setting<'a>,
-    run: Run<'a>,
+    engine: Engine<'a>,
     credits: Credits,
     /// The real moment of the last event, in ticks.
     moment: Tick,
@@ -34,22 +34,15 @@ impl<'a> Model for Machine<'a> {
     ghost use Rattle.machines.specs.Delayed.{Delayed};
     ghost use Rattle.machines.specs.Standing.{standing};
     ghost use Rattle.guest_calls.specs.Guest.{Guest};
-    ghost use Rattle.virtual_run.specs.Seen.{Seen, experiment_with};
-    ghost use Rattle.virtual_run.specs.Run.{events_of};
+    ghost use Rattle.virtual_run.specs.Seen.{Seen, seen_in};
+    ghost use Rattle.virtual_run.specs.Engine.{events_of};
     ghost use Rattle.virtual_run.specs.DelayedRun.{IsPaced};
 
     ghost Value = { Seen (Delayed Guest) };
 
-    ghost view = { λ m. record {
-      image = m.image.now;
-      index = m.setting.index.now;
-      points = m.setting.points.now;
-      input = m.input.now;
-      choice = m.setting.choice;
-      state = standing (experiment_with m.image.now m.input.now m.setting) (events_of m.run);
-    } };
+    ghost view = { λ m. seen_in m.image.now m.input.now m.setting (λ x. standing x (events_of m.engine)) };
 
-    ghost invariant = { λ m. IsPaced m.image.now m.input.now m.setting m.run m.credits m.moment };
+    ghost invariant = { λ m. IsPaced m.image.now m.input.now m.setting m.engine m.credits m.moment };
 }
 
 impl<'a> Machine<'a> {
@@ -61,9 +54,7 @@ impl<'a> Machine<'a> {
     ghost use Rattle.machines.specs.Standing.{standing, delayed_record};
     ghost use Rattle.machines.specs.Lead.{at_speedup, before};
     ghost use Rattle.machines.specs.Records.{net, record_of, IsDelayed, IsShortened, shortened_record};
-    ghost use Rattle.line_index.specs.Index.{position_at};
-    ghost use Rattle.progress_points.specs.Points.{point_of};
-    ghost use Rattle.virtual_run.specs.Run.{experiment, IsChoice};
+    ghost use Rattle.virtual_run.specs.Run.{IsChoice};
 
     /// A run that is about to begin. Only want of memory stands against it.
     pub fn new(
@@ -75,27 +66,20 @@ impl<'a> Machine<'a> {
         choice: Choice,
     ) -> Result<Machine<'a>, AllocError>
         requires { IsChoice choice }
-        ensures { IfOk result (λ machine. machine ≡ record {
-          image = image.now;
-          index = index.now;
-          points = points.now;
-          input = input.now;
-          choice = choice;
-          state = standing (experiment image.now (position_at index.now) (point_of points.now) input.now choice) 0;
-        }) }
+        ensures { IfOk result (λ machine. machine ≡ seen image.now index.now points.now input.now choice (λ x. standing x 0)) }
     {
         let setting = Setting {
             index,
             points,
             choice,
         };
-        let run = Run::new(alloc, image, input, &setting)?;
+        let engine = Engine::new(alloc, image, input, &setting)?;
         let mut credits = Credits::new(alloc, HARTS as u32)?;
         credits.start(FIRST, 0);
         raise_harts(
             &mut credits,
-            &run.guest,
-            run.selected.harts(),
+            &engine.guest,
+            engine.selected.harts(),
             choice.speedup,
             0,
         );
@@ -103,7 +87,7 @@ impl<'a> Machine<'a> {
             image,
             input,
             setting,
-            run,
+            engine,
             credits,
             moment: 0,
         })
@@ -121,11 +105,11 @@ impl<'a> Machine<'a> {
         ensures rest { self.new ≡ record self.old { state = self.new.state } }
         ensures agrees { Agrees self.new.state (shortened (experiment_of self.old) (events self.new.state)) }
     {
-        let mut going = self.run.ending.is_none();
+        let mut going = self.engine.ending.is_none();
         while going {
             going = is_wake(self.event());
         }
-        self.run.ending
+        self.engine.ending
     }
 
     /// One event of a run that goes on: the hart that is due first wakes or retires, and what this started begins.
@@ -138,10 +122,10 @@ impl<'a> Machine<'a> {
         ensures rest { self.new ≡ record self.old { state = self.new.state } }
     {
         let raised = self.credits.raised();
-        let event = self.run.advance(&self.setting, raised);
+        let event = self.engine.advance(&self.setting, raised);
         self.moment = follow(
             &mut self.credits,
-            &self.run,
+            &self.engine,
             event,
             self.setting.choice.speedup,
             raised,
@@ -162,7 +146,7 @@ impl<'a> Machine<'a> {
         ensures rest { self.new ≡ record self.old { state = self.new.state } }
         ensures agrees { let x = experiment_of self.old in Agrees self.new.state (shortened x (enough x)) }
     {
-        let mut ending = self.run.ending;
+        let mut ending = self.engine.ending;
         while ending.is_none() {
             ending = self.step();
         }
@@ -176,14 +160,14 @@ impl<'a> Machine<'a> {
     fn is_unstarted(&self) -> bool
         ensures { result ≡ is_unstarted self.now.state }
     {
-        self.run.is_unstarted()
+        self.engine.is_unstarted()
     }
 
     /// How the run has ended, if it has.
     fn ending(&self) -> Option<Ending>
         ensures { result ≡ self.now.state.ending }
     {
-        self.run.ending()
+        self.engine.ending()
     }
 
     /// Runs up to the first beginning that counts a start, or to the end.
@@ -197,7 +181,7 @@ impl<'a> Machine<'a> {
         ensures stays { is_unstarted self.old.state ≡ false → self.new ≡ self.old }
         ensures rest { self.new ≡ record self.old { state = self.new.state } }
     {
-        let mut going = self.run.is_unstarted();
+        let mut going = self.engine.is_unstarted();
         while going {
             self.event();
             going = self.is_unstarted();
@@ -221,11 +205,11 @@ impl<'a> Machine<'a> {
         self.input = lead.input;
         self.setting = lead.setting;
         self.setting.choice.speedup = speedup;
-        self.run.copy_from(&lead.run);
+        self.engine.copy_from(&lead.engine);
         self.credits.copy_from(&lead.credits);
         self.moment = lead.moment;
-        raise_selected(&mut self.credits, &self.run, speedup, self.moment);
-        self.run.hasten(speedup);
+        raise_selected(&mut self.credits, &self.engine, speedup, self.moment);
+        self.engine.hasten(speedup);
     }
 
     /// Makes this machine another one at speedup 0 that stands where it was made, with another line selected.
@@ -242,8 +226,8 @@ impl<'a> Machine<'a> {
         self.input = first.input;
         self.setting = first.setting;
         self.setting.choice.selected = Some(line);
-        self.run.copy_from(&first.run);
-        self.run.count_first(&self.setting);
+        self.engine.copy_from(&first.engine);
+        self.engine.count_first(&self.setting);
         self.credits.copy_from(&first.credits);
         self.moment = first.moment;
     }
@@ -269,9 +253,9 @@ impl<'a> Machine<'a> {
         ensures shortened { self.now.state.ending ≡ None →
             result ≡ key_of (shortened (experiment_of self.now) (events self.now.state)).dues hart.0 }
     {
-        match self.run.ending {
+        match self.engine.ending {
             Some(_) => None,
-            None => self.run.schedule.key(hart),
+            None => self.engine.schedule.key(hart),
         }
     }
 
@@ -279,7 +263,7 @@ impl<'a> Machine<'a> {
     pub fn account(&self, hart: HartId) -> Option<Account>
         ensures { option_map account_as result ≡ account_in self.now.state hart.0 }
     {
-        if u32::from(hart.0) < self.run.guest.harts() {
+        if u32::from(hart.0) < self.engine.guest.harts() {
             Some(self.credits.account(hart, self.moment))
         } else {
             None
@@ -292,7 +276,7 @@ impl<'a> Machine<'a> {
         ensures accounts { result ≡ length self.now.state.harts }
         ensures few { result ≤ HARTS }
     {
-        self.run.guest.harts()
+        self.engine.guest.harts()
     }
 
     /// How many instructions were retired. The run stands after as many retirements and wakes as it counts, beside the
@@ -302,14 +286,14 @@ impl<'a> Machine<'a> {
         ensures stands { self.now.state ≡ standing (experiment_of self.now) (events self.now.state) }
         ensures agrees { Agrees self.now.state (shortened (experiment_of self.now) (events self.now.state)) }
     {
-        self.run.retired
+        self.engine.retired
     }
 
     /// How many instructions of the selected line were begun.
     pub fn starts(&self) -> u64
         ensures { result ≡ self.now.state.starts }
     {
-        self.run.starts
+        self.engine.starts
     }
 
     /// The visits of progress points, in order, at most 1,048,576. None was before its delay was raised.
@@ -319,7 +303,7 @@ impl<'a> Machine<'a> {
         ensures harts { All (λ visit. visit.hart.0 < HARTS) result.now }
         ensures in_time { All (λ visit. visit.delay ≤ visit.time) result.now }
     {
-        self.run.visits.all()
+        self.engine.visits.all()
     }
 
     /// What was written, at most 67,108,864 bytes.
@@ -327,7 +311,7 @@ impl<'a> Machine<'a> {
         ensures bytes { result.now ≡ self.now.state.guest.output }
         ensures few { length result.now ≤ 67108864 }
     {
-        self.run.guest.output()
+        self.engine.guest.output()
     }
 
     /// How the run came out; None before it has ended. Its time and its counts are at most 10^17, and a trap is of a hart below `HARTS`.
@@ -336,13 +320,13 @@ impl<'a> Machine<'a> {
         ensures small { IfSome result IsSmall }
         ensures in_time { MatchOption result (self.now.state.ending ≡ None) (λ outcome. outcome.delay ≤ outcome.time) }
     {
-        let ending = self.run.ending?;
+        let ending = self.engine.ending?;
         Some(Outcome {
             ending,
             time: self.moment,
             delay: self.credits.raised(),
-            retired: self.run.retired,
-            starts: self.run.starts,
+            retired: self.engine.retired,
+            starts: self.engine.starts,
         })
     }
 }

@@ -6,6 +6,6 @@ use Rattle.shortened_run.proofs.Short.new.Goals as goal
 pub invariant_of-result : goal.invariant_of-result
 invariant_of-result c = record {
   valid = c.requires;
-  reached = c.in_ok-run.ensures.reached;
-  undelayed = subst AreUndelayed (sym c.in_ok-run.ensures.kept) none_undelayed;
+  reached = c.in_ok-engine.ensures.reached;
+  undelayed = subst AreUndelayed (sym c.in_ok-engine.ensures.kept) none_undelayed;
 }

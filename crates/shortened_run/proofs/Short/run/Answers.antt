@@ -4,10 +4,10 @@ use Rattle.progress_points.specs.Points.{point_of}
 use Rattle.machines.specs.Shortened.{Shortened}
 use Rattle.guest_calls.specs.Guest.{Guest}
 use Rattle.virtual_run.specs.declared.choice.Setting.{Setting}
-use Rattle.virtual_run.specs.Seen.{Seen, experiment_of, experiment_with}
-use Rattle.virtual_run.specs.Run.{events_of}
+use Rattle.virtual_run.specs.Seen.{Seen, seen_in, experiment_of, experiment_with}
+use Rattle.virtual_run.specs.Engine.{events_of}
 use Rattle.virtual_run.proofs.Law.{steady, none_is, ended_now}
-use Rattle.shortened_run.proofs.Law.{short_next, short_count, short_below, recorded_of, last_of, shortened_of, seen, same_seen}
+use Rattle.shortened_run.proofs.Law.{short_next, short_count, short_below, recorded_of, last_of, shortened_of, same_seen}
 use Rattle.shortened_run.proofs.Short.run.Goals as goal
 use Rattle.shortened_run.proofs.Short.run.Goals.{In-Some}
 
@@ -15,7 +15,7 @@ pub advance-requires-clause-steady : goal.advance-requires-clause-steady
 advance-requires-clause-steady c =
     let now = c.loop-self.self-inside in
     let short = c.loop-self.invariant.0 in
-    steady now.image.now (position_at now.setting.index.now) (point_of now.setting.points.now) now.input.now now.setting.choice short.valid now.run short.reached
+    steady now.image.now (position_at now.setting.index.now) (point_of now.setting.points.now) now.input.now now.setting.choice short.valid now.engine short.reached
     (sym c.ending.ensures ∙ none_is c.ending.result c.is_none.result c.is_none.ensures c.loop-self-test.true)
 
 pub advance-requires-clause-speedup : goal.advance-requires-clause-speedup
@@ -26,7 +26,7 @@ loop-self-preserved c =
     let now = c.loop-self.self-inside in
     let before = c.loop-self.invariant in
     let none = sym c.ending.ensures ∙ none_is c.ending.result c.is_none.result c.is_none.ensures c.loop-self-test.true in (
-      short_next now.image.now now.input.now now.setting now.run before.0 none c.advance.new.self c.advance.result c.advance.ensures,
+      short_next now.image.now now.input.now now.setting now.engine before.0 none c.advance.new.self c.advance.result c.advance.ensures,
       before.1,
       before.2,
       before.3,
@@ -37,15 +37,15 @@ loop-self-smaller c =
     let now = c.loop-self.self-inside in
     let short = c.loop-self.invariant.0 in
     let none = sym c.ending.ensures ∙ none_is c.ending.result c.is_none.result c.is_none.ensures c.loop-self-test.true in
-    let below : events_of now.run < 2 * now.setting.choice.budget = short_below now.image.now now.input.now now.setting now.run short none c.advance.new.self in
-    let count : events_of c.advance.new.self ≡ events_of now.run + 1 = short_count now.image.now now.input.now now.setting now.run short none c.advance.new.self c.advance.result c.advance.ensures in
+    let below : events_of now.engine < 2 * now.setting.choice.budget = short_below now.image.now now.input.now now.setting now.engine short none c.advance.new.self in
+    let count : events_of c.advance.new.self ≡ events_of now.engine + 1 = short_count now.image.now now.input.now now.setting now.engine short none c.advance.new.self c.advance.result c.advance.ensures in
     omega (arith, below, count)
 
 pub returns-clause-ended : goal.returns-clause-ended
 returns-clause-ended c =
     let now = c.loop-self.self-inside in
     let short = c.loop-self.invariant.0 in
-    ended_now now.image.now (position_at now.setting.index.now) (point_of now.setting.points.now) now.input.now now.setting.choice short.valid now.run short.reached c.in-Some.ending (sym c.ending-2.ensures ∙ c.in-Some.is)
+    ended_now now.image.now (position_at now.setting.index.now) (point_of now.setting.points.now) now.input.now now.setting.choice short.valid now.engine short.reached c.in-Some.ending (sym c.ending-2.ensures ∙ c.in-Some.is)
 
 -- the setting and what else is run are those of the call
 image_is : (c : In-Some) → c.loop-self.self-inside.image.now ≡ c.args.self.now.image
@@ -64,8 +64,7 @@ choice_is : (c : In-Some) → c.loop-self.self-inside.setting.choice ≡ c.args.
 choice_is c = ap (λ (s : Setting). s.choice) c.loop-self.invariant.3 ∙ ap (λ (s : Seen (Shortened Guest)). s.choice) c.self.view_is
 
 seen_is : (c : In-Some) (state : Shortened Guest)
-    → seen c.loop-self.self-inside.image.now c.loop-self.self-inside.setting.index.now c.loop-self.self-inside.setting.points.now c.loop-self.self-inside.input.now c.loop-self.self-inside.setting.choice state
-    ≡ record c.args.self.now { state = state }
+    → seen_in c.loop-self.self-inside.image.now c.loop-self.self-inside.input.now c.loop-self.self-inside.setting (λ _. state) ≡ record c.args.self.now { state = state }
 seen_is c state =
     same_seen c.loop-self.self-inside.image.now c.args.self.now.image c.loop-self.self-inside.setting.index.now c.args.self.now.index c.loop-self.self-inside.setting.points.now c.args.self.now.points
     c.loop-self.self-inside.input.now c.args.self.now.input c.loop-self.self-inside.setting.choice c.args.self.now.choice state (image_is c) (index_is c) (points_are c) (input_is c) (choice_is c)
@@ -77,17 +76,17 @@ as_before c = ap experiment_of (sym (seen_is c c.args.self.now.state))
 pub returns-clause-record : goal.returns-clause-record
 returns-clause-record c =
     let now = c.loop-self.self-inside in
-    recorded_of now.image.now now.input.now now.setting now.run c.loop-self.invariant.0 (experiment_of c.args.self.now) (as_before c) c.in-Some.ending (sym c.ending-2.ensures ∙ c.in-Some.is)
+    recorded_of now.image.now now.input.now now.setting now.engine c.loop-self.invariant.0 (experiment_of c.args.self.now) (as_before c) c.in-Some.ending (sym c.ending-2.ensures ∙ c.in-Some.is)
 
 pub returns-clause-shortened : goal.returns-clause-shortened
 returns-clause-shortened c =
     let now = c.loop-self.self-inside in
-    shortened_of now.image.now now.input.now now.setting now.run c.loop-self.invariant.0 (experiment_of c.args.self.now) (as_before c)
+    shortened_of now.image.now now.input.now now.setting now.engine c.loop-self.invariant.0 (experiment_of c.args.self.now) (as_before c)
 
 pub returns-clause-last : goal.returns-clause-last
 returns-clause-last c =
     let now = c.loop-self.self-inside in
-    last_of now.image.now now.input.now now.setting now.run c.loop-self.invariant.0 (experiment_of c.args.self.now) (as_before c) c.in-Some.ending (sym c.ending-2.ensures ∙ c.in-Some.is)
+    last_of now.image.now now.input.now now.setting now.engine c.loop-self.invariant.0 (experiment_of c.args.self.now) (as_before c) c.in-Some.ending (sym c.ending-2.ensures ∙ c.in-Some.is)
 
 pub returns-clause-rest : goal.returns-clause-rest
 returns-clause-rest c = seen_is c _

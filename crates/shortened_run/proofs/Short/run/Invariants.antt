@@ -1,15 +1,15 @@
 use Rattle.std.proofs.Common.{◌≡◌, ◌*◌, ◌-◌}
-use Rattle.virtual_run.specs.Run.{events_of}
+use Rattle.virtual_run.specs.Engine.{events_of}
 use Rattle.shortened_run.specs.ShortenedRun.{IsShort}
 use Rattle.shortened_run.proofs.Short.run.Given as goal
 
 -- the state is one of the run, whose image, input and setting stay
 abbrev pub invariant-loop-self : goal.invariant-loop-self
 invariant-loop-self l =
-    IsShort l.self-inside.image.now l.self-inside.input.now l.self-inside.setting l.self-inside.run
+    IsShort l.self-inside.image.now l.self-inside.input.now l.self-inside.setting l.self-inside.engine
     × (l.self-inside.image.now ≡ l.initial.self-inside.image.now)
     × (l.self-inside.input.now ≡ l.initial.self-inside.input.now)
     × (l.self-inside.setting ≡ l.initial.self-inside.setting)
 
 abbrev pub decreases-loop-self : goal.decreases-loop-self
-decreases-loop-self l = 2 * l.self-inside.setting.choice.budget - events_of l.self-inside.run
+decreases-loop-self l = 2 * l.self-inside.setting.choice.budget - events_of l.self-inside.engine

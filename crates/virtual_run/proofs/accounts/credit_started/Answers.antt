@@ -5,20 +5,20 @@ use Rattle.virtual_run.proofs.accounts.credit_started.Goals as goal
 
 pub start_again-requires-clause-below : goal.start_again-requires-clause-below
 start_again-requires-clause-below c =
-    let r = c.args.run.now in
+    let r = c.args.engine.now in
     let credited = c.credit_each.ensures ∙ ap (λ (hs : List ℕ). with_credits hs c.args.credits.now) c.harts.ensures in
     again_below c.args.credits.now r.guest c.args.retired.hart.0 c.args.retired.fate r.started r.selected c.requires.can c.credit_each.new.credits credited
 
 pub start_each-requires-clause-below : goal.start_each-requires-clause-below
 start_each-requires-clause-below c =
-    let r = c.args.run.now in
+    let r = c.args.engine.now in
     let credited = c.credit_each.ensures ∙ ap (λ (hs : List ℕ). with_credits hs c.args.credits.now) c.harts.ensures in
     subst (AllBelow c.start_again.new.credits) (sym c.harts-2.ensures)
     (others_below c.args.credits.now r.guest c.args.retired.hart.0 c.args.retired.fate r.started r.selected c.requires.can c.credit_each.new.credits c.start_again.new.credits credited c.start_again.ensures)
 
 pub raise_harts-requires-clause-run : goal.raise_harts-requires-clause-run
 raise_harts-requires-clause-run c =
-    let r = c.args.run.now in
+    let r = c.args.engine.now in
     let credited = c.credit_each.ensures ∙ ap (λ (hs : List ℕ). with_credits hs c.args.credits.now) c.harts.ensures in
     let started = started_is c.args.credits.now r.guest c.args.retired.hart.0 c.args.retired.fate r.started r.selected c.requires.can c.credit_each.new.credits c.start_again.new.credits c.start_each.new.credits
     credited c.start_again.ensures (c.start_each.ensures ∙ ap (λ (hs : List ℕ). with_starts hs c.start_again.new.credits) c.harts-2.ensures) in
@@ -27,7 +27,7 @@ raise_harts-requires-clause-run c =
 
 pub returns : goal.returns
 returns c =
-    let r = c.args.run.now in
+    let r = c.args.engine.now in
     let ticks : ℕ → ℕ = raise_ticks r.guest c.args.speedup in
     let credited = c.credit_each.ensures ∙ ap (λ (hs : List ℕ). with_credits hs c.args.credits.now) c.harts.ensures in
     let started = started_is c.args.credits.now r.guest c.args.retired.hart.0 c.args.retired.fate r.started r.selected c.requires.can c.credit_each.new.credits c.start_again.new.credits c.start_each.new.credits

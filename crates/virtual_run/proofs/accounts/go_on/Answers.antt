@@ -7,7 +7,7 @@ use Rattle.virtual_run.proofs.accounts.go_on.Goals as goal
 
 pub raise_harts-requires-clause-run : goal.raise_harts-requires-clause-run
 raise_harts-requires-clause-run c =
-    let r = c.args.run.now in
+    let r = c.args.engine.now in
     let h : ℕ = c.args.hart.0 in
     let before : Delays = with_rest h Goes c.args.now c.args.credits.now in
     let started = c.start.ensures ∙ goes-on-alone h c.args.now r.ending Goes r.started c.args.credits.now c.requires.alone in
@@ -16,7 +16,7 @@ raise_harts-requires-clause-run c =
 
 pub returns-then-has_any : goal.returns-then-has_any
 returns-then-has_any c =
-    let r = c.args.run.now in
+    let r = c.args.engine.now in
     let ticks : ℕ → ℕ = raise_ticks r.guest c.args.speedup in
     let started = c.start.ensures ∙ goes-on-alone c.args.hart.0 c.args.now r.ending Goes r.started c.args.credits.now c.requires.alone in
     c.raise_harts.ensures
@@ -25,7 +25,7 @@ returns-then-has_any c =
 
 pub returns-else-has_any : goal.returns-else-has_any
 returns-else-has_any c =
-    let r = c.args.run.now in
+    let r = c.args.engine.now in
     let none : r.selected ≡ [] = none-any r.selected (sym c.has_any.ensures ∙ c.if-has_any.false) in
     let started = c.start.ensures ∙ goes-on-alone c.args.hart.0 c.args.now r.ending Goes r.started c.args.credits.now c.requires.alone in
     rw none started

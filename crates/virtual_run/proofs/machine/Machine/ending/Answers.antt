@@ -8,4 +8,4 @@ use Rattle.virtual_run.proofs.machine.Machine.ending.Goals as goal
 pub returns : goal.returns
 returns c =
     let m = c.self.inside in
-    c.ending.ensures ∙ sym (ending_now m.image.now m.input.now m.setting m.run m.credits m.moment c.self.invariant) ∙ ap (λ (v : Seen (Delayed Guest)). v.state.ending) c.self.view_is
+    c.ending.ensures ∙ sym (ending_now m.image.now m.input.now m.setting m.engine m.credits m.moment c.self.invariant) ∙ ap (λ (v : Seen (Delayed Guest)). v.state.ending) c.self.view_is

@@ -2,7 +2,7 @@ use Rattle.std.proofs.Common.{◌≡◌, ℕ, ◌+◌, ◌*◌, ◌^◌, ◌≤�
 use Rattle.machines.specs.Standing.{standing}
 use Rattle.virtual_run.specs.Credited.{moment_of}
 use Rattle.virtual_run.specs.Seen.{experiment_with}
-use Rattle.virtual_run.specs.Run.{events_of}
+use Rattle.virtual_run.specs.Engine.{events_of}
 use Rattle.virtual_run.specs.DelayedRun.{IsPaced}
 use Rattle.virtual_run.proofs.CreditedRun.{goes_seen, next_seen, count_seen, happens_seen, events_now, is_steady, raised_few, event_few, event_count, can_follow, paced_event, happens_event}
 use Rattle.virtual_run.proofs.machine.Machine.event.Goals as goal
@@ -10,12 +10,12 @@ use Rattle.virtual_run.proofs.machine.Machine.event.Goals as goal
 pub advance-event-requires-clause-steady : goal.advance-event-requires-clause-steady
 advance-event-requires-clause-steady c =
     let m = c.self.inside in
-    is_steady m.image.now m.input.now m.setting m.run m.credits m.moment c.self.invariant (goes_seen m.image.now m.input.now m.setting m.run m.credits m.moment c.self.invariant c.args.self.now c.self.view_is c.requires)
+    is_steady m.image.now m.input.now m.setting m.engine m.credits m.moment c.self.invariant (goes_seen m.image.now m.input.now m.setting m.engine m.credits m.moment c.self.invariant c.args.self.now c.self.view_is c.requires)
 
 pub advance-event-requires-clause-delay : goal.advance-event-requires-clause-delay
 advance-event-requires-clause-delay c =
     let m = c.self.inside in
-    let few : m.credits.raised ≤ 10 ^ 16 = raised_few m.image.now m.input.now m.setting m.run m.credits m.moment c.self.invariant in
+    let few : m.credits.raised ≤ 10 ^ 16 = raised_few m.image.now m.input.now m.setting m.engine m.credits m.moment c.self.invariant in
     omega (arith, c.raised-raised.ensures)
 
 pub follow-self-inside-requires-clause-few : goal.follow-self-inside-requires-clause-few
@@ -24,9 +24,9 @@ follow-self-inside-requires-clause-few c =
     let new = c.advance-event.new.self in
     let event = c.advance-event.result in
     let delay : ℕ = c.raised-raised.result in
-    let none : m.run.ending ≡ None = goes_seen m.image.now m.input.now m.setting m.run m.credits m.moment c.self.invariant c.args.self.now c.self.view_is c.requires in
-    let few : m.credits.raised ≤ 10 ^ 16 = raised_few m.image.now m.input.now m.setting m.run m.credits m.moment c.self.invariant in
-    let time : moment_of event new ≤ 2 * 10 ^ 16 = event_few m.image.now m.input.now m.setting m.run m.credits m.moment c.self.invariant new event delay c.raised-raised.ensures none c.advance-event.ensures in
+    let none : m.engine.ending ≡ None = goes_seen m.image.now m.input.now m.setting m.engine m.credits m.moment c.self.invariant c.args.self.now c.self.view_is c.requires in
+    let few : m.credits.raised ≤ 10 ^ 16 = raised_few m.image.now m.input.now m.setting m.engine m.credits m.moment c.self.invariant in
+    let time : moment_of event new ≤ 2 * 10 ^ 16 = event_few m.image.now m.input.now m.setting m.engine m.credits m.moment c.self.invariant new event delay c.raised-raised.ensures none c.advance-event.ensures in
     omega (arith, c.raised-raised.ensures)
 
 pub follow-self-inside-requires-clause-can : goal.follow-self-inside-requires-clause-can
@@ -35,8 +35,8 @@ follow-self-inside-requires-clause-can c =
     let new = c.advance-event.new.self in
     let event = c.advance-event.result in
     let delay : ℕ = c.raised-raised.result in
-    let none : m.run.ending ≡ None = goes_seen m.image.now m.input.now m.setting m.run m.credits m.moment c.self.invariant c.args.self.now c.self.view_is c.requires in
-    (can_follow m.image.now m.input.now m.setting m.run m.credits m.moment c.self.invariant new event delay c.raised-raised.ensures none c.advance-event.ensures)
+    let none : m.engine.ending ≡ None = goes_seen m.image.now m.input.now m.setting m.engine m.credits m.moment c.self.invariant c.args.self.now c.self.view_is c.requires in
+    (can_follow m.image.now m.input.now m.setting m.engine m.credits m.moment c.self.invariant new event delay c.raised-raised.ensures none c.advance-event.ensures)
 
 pub invariant_of-self : goal.invariant_of-self
 invariant_of-self c =
@@ -44,9 +44,9 @@ invariant_of-self c =
     let new = c.advance-event.new.self in
     let event = c.advance-event.result in
     let delay : ℕ = c.raised-raised.result in
-    let none : m.run.ending ≡ None = goes_seen m.image.now m.input.now m.setting m.run m.credits m.moment c.self.invariant c.args.self.now c.self.view_is c.requires in
+    let none : m.engine.ending ≡ None = goes_seen m.image.now m.input.now m.setting m.engine m.credits m.moment c.self.invariant c.args.self.now c.self.view_is c.requires in
     subst (λ (now : ℕ). IsPaced m.image.now m.input.now m.setting new c.follow-self-inside.new.credits now) (sym c.follow-self-inside.ensures.moment)
-    (paced_event m.image.now m.input.now m.setting m.run m.credits m.moment c.self.invariant new event delay c.raised-raised.ensures none c.advance-event.ensures c.follow-self-inside.new.credits
+    (paced_event m.image.now m.input.now m.setting m.engine m.credits m.moment c.self.invariant new event delay c.raised-raised.ensures none c.advance-event.ensures c.follow-self-inside.new.credits
     c.follow-self-inside.ensures.credits)
 
 pub returns-clause-next : goal.returns-clause-next
@@ -55,8 +55,8 @@ returns-clause-next c =
     let new = c.advance-event.new.self in
     let event = c.advance-event.result in
     let delay : ℕ = c.raised-raised.result in
-    let none : m.run.ending ≡ None = goes_seen m.image.now m.input.now m.setting m.run m.credits m.moment c.self.invariant c.args.self.now c.self.view_is c.requires in
-    next_seen m.image.now m.input.now m.setting m.run m.credits m.moment c.self.invariant c.args.self.now (events_of new) c.self.view_is (event_count m.image.now m.input.now m.setting m.run m.credits m.moment c.self.invariant new event delay c.raised-raised.ensures none c.advance-event.ensures)
+    let none : m.engine.ending ≡ None = goes_seen m.image.now m.input.now m.setting m.engine m.credits m.moment c.self.invariant c.args.self.now c.self.view_is c.requires in
+    next_seen m.image.now m.input.now m.setting m.engine m.credits m.moment c.self.invariant c.args.self.now (events_of new) c.self.view_is (event_count m.image.now m.input.now m.setting m.engine m.credits m.moment c.self.invariant new event delay c.raised-raised.ensures none c.advance-event.ensures)
 
 pub returns-clause-count : goal.returns-clause-count
 returns-clause-count c =
@@ -64,12 +64,12 @@ returns-clause-count c =
     let new = c.advance-event.new.self in
     let event = c.advance-event.result in
     let delay : ℕ = c.raised-raised.result in
-    let none : m.run.ending ≡ None = goes_seen m.image.now m.input.now m.setting m.run m.credits m.moment c.self.invariant c.args.self.now c.self.view_is c.requires in
+    let none : m.engine.ending ≡ None = goes_seen m.image.now m.input.now m.setting m.engine m.credits m.moment c.self.invariant c.args.self.now c.self.view_is c.requires in
     let after : IsPaced m.image.now m.input.now m.setting new c.follow-self-inside.new.credits (moment_of event new + delay) =
-    paced_event m.image.now m.input.now m.setting m.run m.credits m.moment c.self.invariant new event delay c.raised-raised.ensures none c.advance-event.ensures c.follow-self-inside.new.credits
+    paced_event m.image.now m.input.now m.setting m.engine m.credits m.moment c.self.invariant new event delay c.raised-raised.ensures none c.advance-event.ensures c.follow-self-inside.new.credits
     c.follow-self-inside.ensures.credits in
     events_now m.image.now m.input.now m.setting new c.follow-self-inside.new.credits (moment_of event new + delay) after
-    ∙ count_seen m.image.now m.input.now m.setting m.run m.credits m.moment c.self.invariant c.args.self.now (events_of new) c.self.view_is (event_count m.image.now m.input.now m.setting m.run m.credits m.moment c.self.invariant new event delay c.raised-raised.ensures none c.advance-event.ensures)
+    ∙ count_seen m.image.now m.input.now m.setting m.engine m.credits m.moment c.self.invariant c.args.self.now (events_of new) c.self.view_is (event_count m.image.now m.input.now m.setting m.engine m.credits m.moment c.self.invariant new event delay c.raised-raised.ensures none c.advance-event.ensures)
 
 pub returns-clause-happens : goal.returns-clause-happens
 returns-clause-happens c =
@@ -77,5 +77,5 @@ returns-clause-happens c =
     let new = c.advance-event.new.self in
     let event = c.advance-event.result in
     let delay : ℕ = c.raised-raised.result in
-    let none : m.run.ending ≡ None = goes_seen m.image.now m.input.now m.setting m.run m.credits m.moment c.self.invariant c.args.self.now c.self.view_is c.requires in
-    happens_seen m.image.now m.input.now m.setting m.run m.credits m.moment c.self.invariant c.args.self.now event (standing (experiment_with m.image.now m.input.now m.setting) (events_of new)) c.self.view_is (happens_event m.image.now m.input.now m.setting m.run m.credits m.moment c.self.invariant new event delay c.raised-raised.ensures none c.advance-event.ensures)
+    let none : m.engine.ending ≡ None = goes_seen m.image.now m.input.now m.setting m.engine m.credits m.moment c.self.invariant c.args.self.now c.self.view_is c.requires in
+    happens_seen m.image.now m.input.now m.setting m.engine m.credits m.moment c.self.invariant c.args.self.now event (standing (experiment_with m.image.now m.input.now m.setting) (events_of new)) c.self.view_is (happens_event m.image.now m.input.now m.setting m.engine m.credits m.moment c.self.invariant new event delay c.raised-raised.ensures none c.advance-event.ensures)

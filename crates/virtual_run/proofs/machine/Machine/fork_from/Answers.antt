@@ -2,8 +2,8 @@ use Rattle.std.proofs.Common.{◌≡◌, ℕ, ◌+◌, ◌*◌, ◌^◌, ◌≤�
 use Rattle.delay_credits.specs.Delays.{Delays}
 use Rattle.machines.specs.Lead.{before}
 use Rattle.virtual_run.specs.Credited.{raise_ticks, with_raises, AllRun, AllMade}
-use Rattle.virtual_run.specs.declared.run.Run.{Run}
-use Rattle.virtual_run.specs.Run.{events_of}
+use Rattle.virtual_run.specs.declared.engine.Engine.{Engine}
+use Rattle.virtual_run.specs.Engine.{events_of}
 use Rattle.virtual_run.specs.DelayedRun.{IsPaced}
 use Rattle.virtual_run.specs.Lead.{with_sooner}
 use Rattle.virtual_run.specs.Seen.{experiment_with}
@@ -15,43 +15,43 @@ pub raise_selected-requires-clause-run : goal.raise_selected-requires-clause-run
 raise_selected-requires-clause-run c =
     let m = c.lead.inside in
     subst (λ (credits : Delays). AllRun credits c.copy_from.new.self.selected) (sym c.copy_from-2.ensures)
-    (selected_run m.image.now m.input.now m.setting m.run m.credits m.moment c.lead.invariant c.copy_from.new.self.selected (ap (λ (r : Run). r.selected) c.copy_from.ensures))
+    (selected_run m.image.now m.input.now m.setting m.engine m.credits m.moment c.lead.invariant c.copy_from.new.self.selected (ap (λ (r : Engine). r.selected) c.copy_from.ensures))
 
 pub raise_selected-requires-clause-made : goal.raise_selected-requires-clause-made
 raise_selected-requires-clause-made c =
     let m = c.lead.inside in
-    subst (λ (r : Run). AllMade r.guest r.selected) (sym c.copy_from.ensures)
-    (selected_made m.image.now m.input.now m.setting m.run m.credits m.moment c.lead.invariant m.run.selected refl)
+    subst (λ (r : Engine). AllMade r.guest r.selected) (sym c.copy_from.ensures)
+    (selected_made m.image.now m.input.now m.setting m.engine m.credits m.moment c.lead.invariant m.engine.selected refl)
 
 pub raise_selected-requires-clause-few : goal.raise_selected-requires-clause-few
 raise_selected-requires-clause-few c =
     let m = c.lead.inside in
-    let none : (before (experiment_with m.image.now m.input.now m.setting) (events_of m.run)).state.starts ≡ 0 =
-    none_counted m.image.now m.input.now m.setting m.run m.credits m.moment c.lead.invariant c.args.lead.now c.lead.view_is c.requires.none in
+    let none : (before (experiment_with m.image.now m.input.now m.setting) (events_of m.engine)).state.starts ≡ 0 =
+    none_counted m.image.now m.input.now m.setting m.engine m.credits m.moment c.lead.invariant c.args.lead.now c.lead.view_is c.requires.none in
     subst (λ (credits : Delays). credits.raised + 3800 * length c.copy_from.new.self.selected ≤ 10 ^ 17) (sym c.copy_from-2.ensures)
-    (selected_few m.image.now m.input.now m.setting m.run m.credits m.moment c.lead.invariant c.copy_from.new.self.selected (ap (λ (r : Run). r.selected) c.copy_from.ensures) none)
+    (selected_few m.image.now m.input.now m.setting m.engine m.credits m.moment c.lead.invariant c.copy_from.new.self.selected (ap (λ (r : Engine). r.selected) c.copy_from.ensures) none)
 
 pub hasten-requires-clause-made : goal.hasten-requires-clause-made
 hasten-requires-clause-made c =
     let m = c.lead.inside in
-    subst (λ (r : Run). AllMade r.guest r.selected) (sym c.copy_from.ensures)
-    (selected_made m.image.now m.input.now m.setting m.run m.credits m.moment c.lead.invariant m.run.selected refl)
+    subst (λ (r : Engine). AllMade r.guest r.selected) (sym c.copy_from.ensures)
+    (selected_made m.image.now m.input.now m.setting m.engine m.credits m.moment c.lead.invariant m.engine.selected refl)
 
 pub invariant_of-self : goal.invariant_of-self
 invariant_of-self c =
     let m = c.lead.inside in
     let q : ℕ = c.args.speedup in
-    let whole : m.setting.choice.speedup ≡ 0 = whole_seen m.image.now m.input.now m.setting m.run m.credits m.moment c.lead.invariant c.args.lead.now c.lead.view_is c.requires.whole in
-    let none : (before (experiment_with m.image.now m.input.now m.setting) (events_of m.run)).state.starts ≡ 0 =
-    none_counted m.image.now m.input.now m.setting m.run m.credits m.moment c.lead.invariant c.args.lead.now c.lead.view_is c.requires.none in
-    subst (λ (r : Run). IsPaced m.image.now m.input.now (sped_setting q m.setting) r c.raise_selected.new.credits m.moment)
-    (sym (c.hasten.ensures ∙ ap (λ (r : Run). record r { schedule = with_sooner (raise_ticks r.guest q) r.selected r.schedule }) c.copy_from.ensures))
-    (forked_paced m.image.now m.input.now m.setting m.run m.credits m.moment c.lead.invariant whole q c.requires.small none m.run.selected
-    (with_sooner (raise_ticks m.run.guest q) m.run.selected m.run.schedule) c.raise_selected.new.credits refl
-    (c.raise_selected.ensures ∙ ap₂ (λ (r : Run) (credits : Delays). with_raises (raise_ticks r.guest q) r.selected credits) c.copy_from.ensures c.copy_from-2.ensures) refl)
+    let whole : m.setting.choice.speedup ≡ 0 = whole_seen m.image.now m.input.now m.setting m.engine m.credits m.moment c.lead.invariant c.args.lead.now c.lead.view_is c.requires.whole in
+    let none : (before (experiment_with m.image.now m.input.now m.setting) (events_of m.engine)).state.starts ≡ 0 =
+    none_counted m.image.now m.input.now m.setting m.engine m.credits m.moment c.lead.invariant c.args.lead.now c.lead.view_is c.requires.none in
+    subst (λ (r : Engine). IsPaced m.image.now m.input.now (sped_setting q m.setting) r c.raise_selected.new.credits m.moment)
+    (sym (c.hasten.ensures ∙ ap (λ (r : Engine). record r { schedule = with_sooner (raise_ticks r.guest q) r.selected r.schedule }) c.copy_from.ensures))
+    (forked_paced m.image.now m.input.now m.setting m.engine m.credits m.moment c.lead.invariant whole q c.requires.small none m.engine.selected
+    (with_sooner (raise_ticks m.engine.guest q) m.engine.selected m.engine.schedule) c.raise_selected.new.credits refl
+    (c.raise_selected.ensures ∙ ap₂ (λ (r : Engine) (credits : Delays). with_raises (raise_ticks r.guest q) r.selected credits) c.copy_from.ensures c.copy_from-2.ensures) refl)
 
 pub returns : goal.returns
 returns c =
     let m = c.lead.inside in
-    forked_seen m.image.now m.input.now m.setting m.run m.credits m.moment c.lead.invariant c.args.lead.now c.lead.view_is c.args.speedup c.hasten.new.self
+    forked_seen m.image.now m.input.now m.setting m.engine m.credits m.moment c.lead.invariant c.args.lead.now c.lead.view_is c.args.speedup c.hasten.new.self
     (ap events_of c.hasten.ensures ∙ ap events_of c.copy_from.ensures)

@@ -8,14 +8,14 @@ use Rattle.virtual_run.proofs.machine.Machine.harts.Goals as goal
 pub returns-clause-guest : goal.returns-clause-guest
 returns-clause-guest c =
     let m = c.self.inside in
-    c.harts.ensures ∙ sym (ap (λ (g : Guest). length g.harts) (guest_now m.image.now m.input.now m.setting m.run m.credits m.moment c.self.invariant)) ∙ ap (λ (v : Seen (Delayed Guest)). length v.state.guest.harts) c.self.view_is
+    c.harts.ensures ∙ sym (ap (λ (g : Guest). length g.harts) (guest_now m.image.now m.input.now m.setting m.engine m.credits m.moment c.self.invariant)) ∙ ap (λ (v : Seen (Delayed Guest)). length v.state.guest.harts) c.self.view_is
 
 pub returns-clause-accounts : goal.returns-clause-accounts
 returns-clause-accounts c =
     let m = c.self.inside in
-    c.harts.ensures ∙ sym (harts_now m.image.now m.input.now m.setting m.run m.credits m.moment c.self.invariant) ∙ ap (λ (v : Seen (Delayed Guest)). length v.state.harts) c.self.view_is
+    c.harts.ensures ∙ sym (harts_now m.image.now m.input.now m.setting m.engine m.credits m.moment c.self.invariant) ∙ ap (λ (v : Seen (Delayed Guest)). length v.state.harts) c.self.view_is
 
 pub returns-clause-few : goal.returns-clause-few
 returns-clause-few c =
     let m = c.self.inside in
-    subst (λ (n : ℕ). n ≤ 256) (sym c.harts.ensures) (harts_few m.image.now m.input.now m.setting m.run m.credits m.moment c.self.invariant)
+    subst (λ (n : ℕ). n ≤ 256) (sym c.harts.ensures) (harts_few m.image.now m.input.now m.setting m.engine m.credits m.moment c.self.invariant)

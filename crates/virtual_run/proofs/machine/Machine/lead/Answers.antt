@@ -5,8 +5,8 @@ use Rattle.virtual_run.proofs.machine.Machine.lead.Goals as goal
 pub loop-going-init : goal.loop-going-init
 loop-going-init c =
     let m = c.self.inside in (
-      led_first m.image.now m.input.now m.setting m.run m.credits m.moment c.self.invariant c.args.self.now c.self.view_is c.requires.none,
-      c.is_unstarted-going.ensures ∙ unstarted_seen m.image.now m.input.now m.setting m.run m.credits m.moment c.self.invariant c.args.self.now c.self.view_is,
+      led_first m.image.now m.input.now m.setting m.engine m.credits m.moment c.self.invariant c.args.self.now c.self.view_is c.requires.none,
+      c.is_unstarted-going.ensures ∙ unstarted_seen m.image.now m.input.now m.setting m.engine m.credits m.moment c.self.invariant c.args.self.now c.self.view_is,
     )
 
 pub loop-going-preserved : goal.loop-going-preserved

@@ -3,14 +3,14 @@ use Rattle.virtual_run.proofs.machine.Machine.new.Goals as goal
 
 pub raise_harts-requires-clause-made : goal.raise_harts-requires-clause-made
 raise_harts-requires-clause-made c =
-    first_made_here c.args.image.now c.args.input.now (record { index = c.args.index; points = c.args.points; choice = c.args.choice }) c.in_ok-run.run' c.requires c.in_ok-run.ensures _ c.harts.ensures
+    first_made_here c.args.image.now c.args.input.now (record { index = c.args.index; points = c.args.points; choice = c.args.choice }) c.in_ok-engine.engine c.requires c.in_ok-engine.ensures _ c.harts.ensures
 
 pub raise_harts-requires-clause-run : goal.raise_harts-requires-clause-run
 raise_harts-requires-clause-run c =
-    first_runs_here c.args.image.now c.args.input.now (record { index = c.args.index; points = c.args.points; choice = c.args.choice }) c.in_ok-run.run' c.requires c.in_ok-run.ensures
+    first_runs_here c.args.image.now c.args.input.now (record { index = c.args.index; points = c.args.points; choice = c.args.choice }) c.in_ok-engine.engine c.requires c.in_ok-engine.ensures
     c.in_ok-credits.credits c.start.new.self _ c.in_ok-credits.ensures c.start.ensures c.harts.ensures
 
 pub invariant_of-result : goal.invariant_of-result
 invariant_of-result c =
-    first_paced c.args.image.now c.args.input.now (record { index = c.args.index; points = c.args.points; choice = c.args.choice }) c.in_ok-run.run' c.requires c.in_ok-run.ensures
+    first_paced c.args.image.now c.args.input.now (record { index = c.args.index; points = c.args.points; choice = c.args.choice }) c.in_ok-engine.engine c.requires c.in_ok-engine.ensures
     c.in_ok-credits.credits c.start.new.self c.raise_harts.new.credits _ c.in_ok-credits.ensures c.start.ensures c.harts.ensures c.raise_harts.ensures

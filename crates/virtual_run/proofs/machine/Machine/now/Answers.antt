@@ -8,4 +8,4 @@ use Rattle.virtual_run.proofs.machine.Machine.now.Goals as goal
 pub returns : goal.returns
 returns c =
     let m = c.self.inside in
-    now_is m.image.now m.input.now m.setting m.run m.credits m.moment c.self.invariant ∙ ap (λ (seen : Seen (Delayed Guest)). seen.state.now) c.self.view_is
+    now_is m.image.now m.input.now m.setting m.engine m.credits m.moment c.self.invariant ∙ ap (λ (seen : Seen (Delayed Guest)). seen.state.now) c.self.view_is

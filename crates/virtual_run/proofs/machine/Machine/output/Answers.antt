@@ -8,4 +8,4 @@ use Rattle.virtual_run.proofs.machine.Machine.output.Goals as goal
 pub returns-clause-bytes : goal.returns-clause-bytes
 returns-clause-bytes c =
     let m = c.self.inside in
-    c.output.ensures.bytes ∙ sym (ap (λ (g : Guest). g.output) (guest_now m.image.now m.input.now m.setting m.run m.credits m.moment c.self.invariant)) ∙ ap (λ (v : Seen (Delayed Guest)). v.state.guest.output) c.self.view_is
+    c.output.ensures.bytes ∙ sym (ap (λ (g : Guest). g.output) (guest_now m.image.now m.input.now m.setting m.engine m.credits m.moment c.self.invariant)) ∙ ap (λ (v : Seen (Delayed Guest)). v.state.guest.output) c.self.view_is

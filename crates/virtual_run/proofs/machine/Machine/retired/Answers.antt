@@ -8,14 +8,14 @@ use Rattle.virtual_run.proofs.machine.Machine.retired.Goals as goal
 pub returns-clause-count : goal.returns-clause-count
 returns-clause-count c =
     let m = c.self.inside in
-    sym (retired_now m.image.now m.input.now m.setting m.run m.credits m.moment c.self.invariant) ∙ ap (λ (v : Seen (Delayed Guest)). v.state.retired) c.self.view_is
+    sym (retired_now m.image.now m.input.now m.setting m.engine m.credits m.moment c.self.invariant) ∙ ap (λ (v : Seen (Delayed Guest)). v.state.retired) c.self.view_is
 
 pub returns-clause-stands : goal.returns-clause-stands
 returns-clause-stands c =
     let m = c.self.inside in
-    stands_seen m.image.now m.input.now m.setting m.run m.credits m.moment c.self.invariant c.args.self.now c.self.view_is
+    stands_seen m.image.now m.input.now m.setting m.engine m.credits m.moment c.self.invariant c.args.self.now c.self.view_is
 
 pub returns-clause-agrees : goal.returns-clause-agrees
 returns-clause-agrees c =
     let m = c.self.inside in
-    agrees_seen m.image.now m.input.now m.setting m.run m.credits m.moment c.self.invariant c.args.self.now c.self.view_is
+    agrees_seen m.image.now m.input.now m.setting m.engine m.credits m.moment c.self.invariant c.args.self.now c.self.view_is

@@ -9,8 +9,8 @@ use Rattle.virtual_run.proofs.machine.Machine.run.Goals as goal
 pub loop-ending-init : goal.loop-ending-init
 loop-ending-init c =
     let m = c.self.inside in (
-      going_first m.image.now m.input.now m.setting m.run m.credits m.moment c.self.invariant c.args.self.now c.self.view_is,
-      sym (ending_now m.image.now m.input.now m.setting m.run m.credits m.moment c.self.invariant) ∙ ap (λ (v : Seen (Delayed Guest)). v.state.ending) c.self.view_is,
+      going_first m.image.now m.input.now m.setting m.engine m.credits m.moment c.self.invariant c.args.self.now c.self.view_is,
+      sym (ending_now m.image.now m.input.now m.setting m.engine m.credits m.moment c.self.invariant) ∙ ap (λ (v : Seen (Delayed Guest)). v.state.ending) c.self.view_is,
     )
 
 pub loop-ending-preserved : goal.loop-ending-preserved

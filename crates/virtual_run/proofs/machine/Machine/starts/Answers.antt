@@ -8,4 +8,4 @@ use Rattle.virtual_run.proofs.machine.Machine.starts.Goals as goal
 pub returns : goal.returns
 returns c =
     let m = c.self.inside in
-    sym (starts_now m.image.now m.input.now m.setting m.run m.credits m.moment c.self.invariant) ∙ ap (λ (v : Seen (Delayed Guest)). v.state.starts) c.self.view_is
+    sym (starts_now m.image.now m.input.now m.setting m.engine m.credits m.moment c.self.invariant) ∙ ap (λ (v : Seen (Delayed Guest)). v.state.starts) c.self.view_is

@@ -7,4 +7,4 @@ use Rattle.virtual_run.proofs.machine.Machine.visits.Goals as goal
 pub returns-clause-in_time : goal.returns-clause-in_time
 returns-clause-in_time c =
     let m = c.self.inside in
-    subst (λ (vs : List Visit). All (λ visit. visit.delay ≤ visit.time) vs) (sym c.all.ensures.kept) (kept_in_time m.image.now m.input.now m.setting m.run m.credits m.moment c.self.invariant)
+    subst (λ (vs : List Visit). All (λ visit. visit.delay ≤ visit.time) vs) (sym c.all.ensures.kept) (kept_in_time m.image.now m.input.now m.setting m.engine m.credits m.moment c.self.invariant)

@@ -4,7 +4,7 @@ use Rattle.guest_calls.specs.Guest.{pc_of}
 use Rattle.virtual_run.specs.Begin.{many, AreIdle, AreBegun}
 use Rattle.virtual_run.specs.Run.{selects, ticks_in}
 use Rattle.virtual_run.proofs.Begin.{base, base_of, base_length, again_idle, others_left, all_begun, all_chosen, again_few, same_room}
-use Rattle.virtual_run.proofs.run.Run.begin_started.Goals as goal
+use Rattle.virtual_run.proofs.engine.Engine.begin_started.Goals as goal
 
 pub begin_again-requires-clause-idle : goal.begin_again-requires-clause-idle
 begin_again-requires-clause-idle c = again_idle (goes_on c.args.fate) c.args.self.now.guest c.args.hart.0 c.args.self.now.started c.args.self.now.schedule c.requires.idle

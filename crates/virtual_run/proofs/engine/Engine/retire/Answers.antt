@@ -5,7 +5,7 @@ use Rattle.virtual_run.specs.Begin.{rested, many}
 use Rattle.virtual_run.proofs.Keys.{has_place}
 use Rattle.virtual_run.proofs.Many.{many_few}
 use Rattle.virtual_run.proofs.Advance.{idle_then, settled}
-use Rattle.virtual_run.proofs.run.Run.retire.Goals as goal
+use Rattle.virtual_run.proofs.engine.Engine.retire.Goals as goal
 
 pub keep_visit-requires-clause-hart : goal.keep_visit-requires-clause-hart
 keep_visit-requires-clause-hart c = subst (λ (n : ℕ). c.args.turn.hart.0 < n) c.requires.steady.room (has_place c.args.self.now.schedule c.args.turn.hart.0 c.args.turn.due c.requires.turn)

@@ -1,4 +1,4 @@
-//! The moves that both machines share.
+//! The engine that both machines stand on, and its moves.
 ghost use Rattle.std.specs.Prelude.{◌≡◌, true, ◌&&◌, ◌==◌, not, ◌+◌, ◌^◌, ◌≤◌, ◌<◌, ◌++◌, [], ◌∷◌, Some, length, nat_le, is_some, IfOk, All, if◌then◌else◌, IsTrue};
 ghost use Rattle.coz_types.specs.declared.TheConstants.{GREATEST_SPEEDUP};
 ghost use Rattle.hart_schedule.specs.Keys.{key_of, without_key, IsEmpty, IsLeast};
@@ -27,9 +27,14 @@ use std::alloc::{AllocError, Global};
 /// The hart that a program begins with.
 pub(crate) const FIRST: HartId = HartId(0);
 
-/// The engine of both machines: a run in which a selected line really costs less. Its moves alone change it.
+/// A run of a program in net time, which the delayed and the shortened machine share: its guest, the harts that are due, the
+/// visits and the counts. It knows nothing of delays: an instruction of the selected line takes what the speedup of its setting
+/// leaves of its cost, and whoever delays hands in by how much each visit is later. Its moves alone change it.
+///
+/// Moments are in ticks, 100 to a cycle.
 #[derive(Drop)]
-pub struct Run<'a> {
+pub struct Engine<'a> {
+    /// The program as it stands: memory, harts, and what was written.
     pub(crate) guest: Guest<'a>,
     /// When each running hart retires and each sleeping one wakes, in net ticks. A raise changes none of these moments, so
     /// it touches no key.
@@ -38,14 +43,17 @@ pub struct Run<'a> {
     pub(crate) started: HartList,
     /// Of the harts that began last, in order, those whose next instruction has the selected line.
     pub(crate) selected: HartList,
+    /// Each is later than its net moment by the delay that it has.
     pub(crate) visits: Visits,
     /// When the last retirement was, in net ticks.
     pub(crate) time: Tick,
+    /// How many instructions were retired.
     pub(crate) retired: u64,
     /// How often a sleeping hart was woken.
     pub(crate) wakes: u64,
     /// How many selected instructions were begun.
     pub(crate) starts: u64,
+    /// How the run has ended, if it has.
     pub(crate) ending: Option<Ending>,
 }
 
@@ -198,8 +206,9 @@ fn ending_after(
     }
 }
 
-impl<'a> Run<'a> {
-    ghost use Rattle.virtual_run.specs.Run.{selected_of, ticks_in, IsChoice, IsSteady, IsFirst};
+impl<'a> Engine<'a> {
+    ghost use Rattle.virtual_run.specs.Run.{selected_of, ticks_in, IsChoice};
+    ghost use Rattle.virtual_run.specs.Engine.{IsSteady, IsFirst};
     ghost use Rattle.virtual_run.specs.Advance.{CanSettle, IsAdvance, IsRetired, IsSettled, IsWoken};
 
     /// A run that is about to begin. Only want of memory stands against it.
@@ -208,9 +217,9 @@ impl<'a> Run<'a> {
         image: &'a Image<'a>,
         input: &'a [u8],
         setting: &Setting,
-    ) -> Result<Run<'a>, AllocError>
+    ) -> Result<Engine<'a>, AllocError>
         requires { IsChoice setting.now.choice }
-        ensures { IfOk result (λ run. IsFirst setting.now image.now input.now run) }
+        ensures { IfOk result (λ engine. IsFirst setting.now image.now input.now engine) }
     {
         let choice = setting.choice;
         let guest = Guest::new(alloc, image, input, choice.output_limit, choice.layout)?;
@@ -219,7 +228,7 @@ impl<'a> Run<'a> {
         let mut selected = HartList::new();
         begin(setting, &guest, &mut schedule, &mut selected, FIRST, 0);
         let starts = selected.harts().len() as u64;
-        Ok(Run {
+        Ok(Engine {
             guest,
             schedule,
             started: HartList::new(),
@@ -346,8 +355,8 @@ impl<'a> Run<'a> {
         }
     }
 
-    /// Makes this run equal to another one whose guest was made with the same arguments, and takes no memory.
-    pub fn copy_from(&mut self, other: &Run<'a>)
+    /// Makes this engine equal to another one whose guest was made with the same arguments, and takes no memory.
+    pub fn copy_from(&mut self, other: &Engine<'a>)
         requires guest { making self.old.guest ≡ making other.now.guest }
         requires visits { self.old.visits.limit ≡ other.now.visits.limit }
         requires harts { length self.old.schedule ≡ length other.now.schedule }

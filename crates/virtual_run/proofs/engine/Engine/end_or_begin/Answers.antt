@@ -3,18 +3,18 @@ use Rattle.coz_types.specs.declared.ending.Ending.{Ending}
 use Rattle.hart_schedule.specs.Keys.{Keys}
 use Rattle.machines.specs.declared.Fate.{Fate}
 use Rattle.virtual_run.specs.declared.choice.Setting.{Setting}
-use Rattle.virtual_run.specs.declared.run.Run.{Run}
+use Rattle.virtual_run.specs.declared.engine.Engine.{Engine}
 use Rattle.virtual_run.specs.Begin.{started_by, many, AreIdle, AreBegun}
 use Rattle.virtual_run.specs.Run.{ticks_in}
 use Rattle.virtual_run.specs.Advance.{IsSettled}
 use Rattle.virtual_run.proofs.Begin.{left_again}
 use Rattle.virtual_run.proofs.Law.{none_when, some_when}
 use Rattle.virtual_run.proofs.Advance.{not_some, told_left}
-use Rattle.virtual_run.proofs.run.Run.end_or_begin.Goals as goal
+use Rattle.virtual_run.proofs.engine.Engine.end_or_begin.Goals as goal
 
 pub begin_started-requires-clause-idle : goal.begin_started-requires-clause-idle
 begin_started-requires-clause-idle c =
-    let s : Run = c.args.self.now in
+    let s : Engine = c.args.self.now in
     let h : ℕ = c.args.hart.0 in
     let fate : Fate = c.args.fate in
     let setting : Setting = c.args.setting.now in
@@ -24,13 +24,13 @@ begin_started-requires-clause-idle c =
 
 pub returns-else-ends_with : goal.returns-else-ends_with
 returns-else-ends_with c =
-    let s : Run = c.args.self.now in
+    let s : Engine = c.args.self.now in
     let h : ℕ = c.args.hart.0 in
     let fate : Fate = c.args.fate in
     let setting : Setting = c.args.setting.now in
     let same = told_left setting s fate h c.leave.new.schedule c.leave.ensures in
     let again = left_again fate h s.schedule c.leave.new.schedule c.leave.ensures in
-    let IsNext : Run → Type 0 = λ run. IsSettled setting s h fate run in
+    let IsNext : Engine → Type 0 = λ engine. IsSettled setting s h fate engine in
     let b = c.begin_started in
     let none = none_when _ (sym c.ends_with.ensures ∙ c.if-ends_with.false) in
     subst IsNext (sym b.ensures.rest)
@@ -49,13 +49,13 @@ returns-else-ends_with c =
 
 pub returns-then-ends_with : goal.returns-then-ends_with
 returns-then-ends_with c =
-    let s : Run = c.args.self.now in
+    let s : Engine = c.args.self.now in
     let h : ℕ = c.args.hart.0 in
     let fate : Fate = c.args.fate in
     let setting : Setting = c.args.setting.now in
     let same = told_left setting s fate h c.leave.new.schedule c.leave.ensures in
     let again = left_again fate h s.schedule c.leave.new.schedule c.leave.ensures in
-    let IsNext : Run → Type 0 = λ run. IsSettled setting s h fate run in
+    let IsNext : Engine → Type 0 = λ engine. IsSettled setting s h fate engine in
     let e : Option Ending = c.ending_after-self.result in
     let some = some_when e (ap is_some c.ending_after-self.ensures ∙ sym c.ends_with.ensures ∙ c.if-ends_with.true) in
     subst (λ (keys : Keys). IsNext (record s { schedule = keys; ending = e })) (sym (c.leave_ended.ensures ∙ again))

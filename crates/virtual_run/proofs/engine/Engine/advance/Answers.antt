@@ -1,6 +1,6 @@
 use Rattle.std.proofs.Common.{ap, is_some, ◌∙◌}
 use Rattle.guest_calls.proofs.Law.{timed_low}
-use Rattle.virtual_run.proofs.run.Run.advance.Goals as goal
+use Rattle.virtual_run.proofs.engine.Engine.advance.Goals as goal
 
 pub is_sleeping-requires : goal.is_sleeping-requires
 is_sleeping-requires c =

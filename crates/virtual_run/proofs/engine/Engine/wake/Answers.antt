@@ -9,7 +9,7 @@ use Rattle.virtual_run.proofs.Many.{many_few}
 use Rattle.virtual_run.proofs.Begin.{one_at_most}
 use Rattle.virtual_run.proofs.Law.{woken_idle}
 use Rattle.virtual_run.proofs.Advance.{advance_woken}
-use Rattle.virtual_run.proofs.run.Run.wake.Goals as goal
+use Rattle.virtual_run.proofs.engine.Engine.wake.Goals as goal
 
 pub begin_next-requires-clause-idle : goal.begin_next-requires-clause-idle
 begin_next-requires-clause-idle c =

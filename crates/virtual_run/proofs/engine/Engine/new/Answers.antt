@@ -3,8 +3,8 @@ use Rattle.std.proofs.lemmas.List.{length-map}
 use Rattle.hart_schedule.specs.Keys.{Keys, with_key}
 use Rattle.guest_calls.specs.Guest.{Guest, IsMade}
 use Rattle.virtual_run.specs.Run.{selected_of, ticks_in}
-use Rattle.virtual_run.proofs.Law.{first_made, new_idle, first_run}
-use Rattle.virtual_run.proofs.run.Run.new.Goals as goal
+use Rattle.virtual_run.proofs.Law.{first_made, new_idle, first_engine}
+use Rattle.virtual_run.proofs.engine.Engine.new.Goals as goal
 
 pub begin-requires-clause-idle : goal.begin-requires-clause-idle
 begin-requires-clause-idle c =
@@ -15,7 +15,7 @@ begin-requires-clause-idle c =
 pub returns : goal.returns
 returns c =
     let g : Guest = c.in_ok-guest.guest in
-    first_run c.args.setting.now c.args.image.now c.args.input.now g c.begin.new.schedule c.new-4.result c.begin.new.selected c.in_ok-visits.visits (length c.harts.result.now) c.requires
+    first_engine c.args.setting.now c.args.image.now c.args.input.now g c.begin.new.schedule c.new-4.result c.begin.new.selected c.in_ok-visits.visits (length c.harts.result.now) c.requires
     c.in_ok-guest.ensures
     (c.begin.ensures.due ∙ ap (λ (keys : Keys). with_key 0 (0 + ticks_in c.args.setting.now g 0) keys) c.in_ok-schedule.ensures)
     c.in_ok-visits.ensures
