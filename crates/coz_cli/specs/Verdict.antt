@@ -59,13 +59,17 @@ has_exited _ = false
 abbrev pub ending_status : Ending → ℕ
 ending_status ending = if has_exited ending then 0 else 1
 
+-- of a run that came to this end, by its text
+abbrev pub ended_verdict : Ending → List ℕ → Verdict
+ended_verdict ending text = record { status = ending_status ending; text = text; line = [] }
+
 -- of a run
 abbrev pub run_verdict : Record → Verdict
-run_verdict r = record { status = ending_status r.ending; text = run_text r; line = [] }
+run_verdict r = ended_verdict r.ending (run_text r)
 
 -- of a run that knows no delays
 abbrev pub really_verdict : NetRecord → Verdict
-really_verdict r = record { status = ending_status r.ending; text = really_text r; line = [] }
+really_verdict r = ended_verdict r.ending (really_text r)
 
 -- of a profile
 abbrev pub profile_verdict : Book → Verdict

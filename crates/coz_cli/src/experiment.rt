@@ -1,14 +1,21 @@
 //! The commands that run a program: `run`, `really` and `profile`.
-ghost use Rattle.std.specs.Prelude.{◌≡◌, ◌≤◌, length, IfSome, IfNone};
+ghost use Rattle.std.specs.Prelude.{◌≡◌, ◌≤◌, ℕ, List, length, IfOk, IfSome, IfNone};
+ghost use Rattle.coz_types.specs.Image.{ImageParts};
 ghost use Rattle.coz_files.specs.Faults.{Rose};
+ghost use Rattle.line_index.specs.Index.{position_at};
+ghost use Rattle.progress_points.specs.Points.{point_of};
+ghost use Rattle.machines.specs.Guest.{Experiment};
+ghost use Rattle.guest_calls.specs.Guest.{Guest};
+ghost use Rattle.virtual_run.specs.Run.{IsChoice, experiment};
 ghost use Rattle.coz_words.specs.Request.{IsFit};
 ghost use Rattle.coz_cli.specs.Experiment.{runs_in};
 ghost use Rattle.coz_cli.specs.declared.experiment.Kind.TheVariants.{Profiled};
 ghost use Rattle.coz_cli.specs.Kind.{judging, really_printed, run_printed};
-ghost use Rattle.coz_cli.specs.Verdict.{asked_verdict, file_verdict, files_verdict};
-ghost use Rattle.coz_cli.specs.Answer.{answered, IsMemory, IsRead, Suits, Settles};
+ghost use Rattle.coz_cli.specs.Verdict.{Verdict, asked_verdict, file_verdict, files_verdict};
+ghost use Rattle.coz_cli.specs.Answer.{answered, follows, IsMemory, IsRead, Suits, Settles};
 
 use crate::answer::Answer;
+use crate::fault::Fault;
 use crate::profile::profile_answer;
 use crate::program::{MAX_PROGRAM, read_file, read_program};
 use crate::runs::{really_answer, run_answer};
@@ -18,8 +25,10 @@ use coz_types::Image;
 use coz_words::Request;
 use line_index::LineIndex;
 use profile_pool::choice;
+use progress_points::Points;
 use std::alloc::Global;
 use std::thread::Threads;
+use virtual_run::Choice;
 
 /// The most bytes of an input.
 const MAX_INPUT: u64 = 16777216;
@@ -117,6 +126,29 @@ fn index_answer<'r, R: Threads + Sync, G: Gate>(
     }
 }
 
+/// The points and the choice of a run.
+#[derive(Drop)]
+struct Asked {
+    points: Points,
+    choice: Choice,
+}
+
+/// What the run that a request asks for is run with, if the program has the lines that are named.
+fn asked_of<'r>(alloc: Global, index: &LineIndex, request: &'r Request) -> Result<Asked, Fault<'r>>
+    requires fit { IsFit request.now }
+    requires some_budget { 1 ≤ request.now.budget }
+    ensures no_read { IsRead result → ⊥ }
+    ensures valid { IfOk result (λ asked. IsChoice asked.choice) }
+    ensures settled { (IsMemory result → ⊥) → (image : ImageParts) (input : List ℕ) (print : Experiment Guest → Verdict) →
+        follows result (λ asked. print (experiment image (position_at index.now) (point_of asked.points) input asked.choice))
+        ≡ asked_verdict request.now print index.now.lines (runs_in image index.now input) }
+{
+    let selected = line_named(index, bytes_of(&request.line))?;
+    let points = progress_points(alloc, index, bytes_of(&request.progress))?;
+    let choice = choice(selected, request.speedup, request.budget);
+    Ok(Asked { points, choice })
+}
+
 /// What is written of the delayed run of a program with these lines, if it has those that are named.
 fn delayed_answer<'r>(
     alloc: Global,
@@ -131,10 +163,8 @@ fn delayed_answer<'r>(
     ensures settled { (IsMemory result → ⊥) → answered result ≡
         asked_verdict request.now run_printed index.now.lines (runs_in image.now index.now input.now) }
 {
-    let selected = line_named(index, bytes_of(&request.line))?;
-    let points = progress_points(alloc, index, bytes_of(&request.progress))?;
-    let choice = choice(selected, request.speedup, request.budget);
-    run_answer(alloc, image, index, &points, input, choice)
+    let asked = asked_of(alloc, index, request)?;
+    run_answer(alloc, image, index, &asked.points, input, asked.choice)
 }
 
 /// The same of its shortened run.
@@ -151,8 +181,6 @@ fn shortened_answer<'r>(
     ensures settled { (IsMemory result → ⊥) → answered result ≡
         asked_verdict request.now really_printed index.now.lines (runs_in image.now index.now input.now) }
 {
-    let selected = line_named(index, bytes_of(&request.line))?;
-    let points = progress_points(alloc, index, bytes_of(&request.progress))?;
-    let choice = choice(selected, request.speedup, request.budget);
-    really_answer(alloc, image, index, &points, input, choice)
+    let asked = asked_of(alloc, index, request)?;
+    really_answer(alloc, image, index, &asked.points, input, asked.choice)
 }

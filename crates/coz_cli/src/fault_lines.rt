@@ -1,19 +1,15 @@
 //! The lines of faults, and their statuses.
 ghost use Rattle.std.specs.Prelude.{◌≡◌, ◌++◌, codes, decimal};
 ghost use Rattle.coz_files.specs.Puts.{Puts, Continues};
-ghost use Rattle.profile_reader.specs.ItemNames.{item_name};
-ghost use Rattle.coz_cli.specs.FaultLines.{elf_kind_name, line_kind_name, asm_kind_name, program_line, table_line, source_line, plan_line, points_line, book_line};
+ghost use Rattle.coz_cli.specs.FaultLines.{source_line};
 ghost use Rattle.coz_cli.specs.Answer.{fault_status, fault_line};
 ghost use Rattle.coz_cli.specs.Serve.{IsPut};
 
 use crate::fault::Fault;
 use crate::kinds::{asm_kind_name, elf_kind_name, line_kind_name};
 use coz_files::{MEMORY_STATUS, PutAnswer, Sink, put_next};
-use dwarf_lines::{LineFault, LineKind};
-use elf_load::{ElfFault, ElfKind};
 use itoa::Buffer;
-use profile_reader::{BookFault, BookField};
-use rv_asm::{AsmFault, AsmKind};
+use rv_asm::AsmFault;
 
 fn status_of(fault: Fault) -> u8
     ensures { result ≡ fault_status fault.entry }
@@ -47,30 +43,6 @@ fn put_three<S: Sink>(sink: &mut S, first: &[u8], second: &[u8], third: &[u8]) -
     }
 }
 
-fn put_elf_kind<S: Sink>(sink: &mut S, so_far: PutAnswer, kind: ElfKind) -> PutAnswer
-    ensures { Continues S.holds S.faults sink.old sink.new so_far result (elf_kind_name kind) }
-{
-    put_next(sink, so_far, elf_kind_name(kind))
-}
-
-fn put_line_kind<S: Sink>(sink: &mut S, so_far: PutAnswer, kind: LineKind) -> PutAnswer
-    ensures { Continues S.holds S.faults sink.old sink.new so_far result (line_kind_name kind) }
-{
-    put_next(sink, so_far, line_kind_name(kind))
-}
-
-fn put_asm_kind<S: Sink>(sink: &mut S, so_far: PutAnswer, kind: AsmKind) -> PutAnswer
-    ensures { Continues S.holds S.faults sink.old sink.new so_far result (asm_kind_name kind) }
-{
-    put_next(sink, so_far, asm_kind_name(kind))
-}
-
-fn put_book_field<S: Sink>(sink: &mut S, so_far: PutAnswer, field: BookField) -> PutAnswer
-    ensures { Continues S.holds S.faults sink.old sink.new so_far result (item_name field) }
-{
-    put_next(sink, so_far, field.name())
-}
-
 fn put_number<S: Sink>(sink: &mut S, so_far: PutAnswer, n: u64) -> PutAnswer
     ensures { Continues S.holds S.faults sink.old sink.new so_far result (decimal n) }
 {
@@ -78,25 +50,24 @@ fn put_number<S: Sink>(sink: &mut S, so_far: PutAnswer, n: u64) -> PutAnswer
     put_next(sink, so_far, buffer.format(n).as_bytes())
 }
 
-/// Puts the line of a program's fault.
-fn put_program<S: Sink>(sink: &mut S, fault: ElfFault) -> PutAnswer
-    ensures { Puts S.holds S.faults sink.old sink.new result (program_line fault ++ codes "\n") }
+/// Puts the line of a fault: what it is of, its kind and its place.
+fn put_at<S: Sink>(sink: &mut S, before: &[u8], kind: &[u8], place: u64) -> PutAnswer
+    ensures { Puts S.holds S.faults sink.old sink.new result (before.now ++ kind.now ++ codes " at " ++ decimal place ++ codes "\n") }
 {
-    let answer = put_next(sink, PutAnswer::Done, b"coz: program: ");
-    let answer = put_elf_kind(sink, answer, fault.kind);
+    let answer = put_next(sink, PutAnswer::Done, before);
+    let answer = put_next(sink, answer, kind);
     let answer = put_next(sink, answer, b" at ");
-    let answer = put_number(sink, answer, fault.place);
+    let answer = put_number(sink, answer, place);
     put_next(sink, answer, b"\n")
 }
 
-/// Puts the line of a line table's fault.
-fn put_table<S: Sink>(sink: &mut S, fault: LineFault) -> PutAnswer
-    ensures { Puts S.holds S.faults sink.old sink.new result (table_line fault ++ codes "\n") }
+/// Puts the line of a count that is too large: what it is of, and its unit.
+fn put_count<S: Sink>(sink: &mut S, before: &[u8], count: u64, behind: &[u8]) -> PutAnswer
+    ensures { Puts S.holds S.faults sink.old sink.new result (before.now ++ decimal count ++ behind.now ++ codes "\n") }
 {
-    let answer = put_next(sink, PutAnswer::Done, b"coz: lines: ");
-    let answer = put_line_kind(sink, answer, fault.kind);
-    let answer = put_next(sink, answer, b" at ");
-    let answer = put_number(sink, answer, fault.place);
+    let answer = put_next(sink, PutAnswer::Done, before);
+    let answer = put_number(sink, answer, count);
+    let answer = put_next(sink, answer, behind);
     put_next(sink, answer, b"\n")
 }
 
@@ -105,42 +76,11 @@ fn put_source<S: Sink>(sink: &mut S, fault: AsmFault) -> PutAnswer
     ensures { Puts S.holds S.faults sink.old sink.new result (source_line fault ++ codes "\n") }
 {
     let answer = put_next(sink, PutAnswer::Done, b"coz: source: ");
-    let answer = put_asm_kind(sink, answer, fault.kind);
+    let answer = put_next(sink, answer, asm_kind_name(fault.kind));
     let answer = put_next(sink, answer, b" at line ");
     let answer = put_number(sink, answer, fault.line as u64);
     let answer = put_next(sink, answer, b" column ");
     let answer = put_number(sink, answer, fault.column as u64);
-    put_next(sink, answer, b"\n")
-}
-
-/// Puts the line of a profile's fault.
-fn put_profile<S: Sink>(sink: &mut S, fault: BookFault) -> PutAnswer
-    ensures { Puts S.holds S.faults sink.old sink.new result (book_line fault ++ codes "\n") }
-{
-    let answer = put_next(sink, PutAnswer::Done, b"coz: profile: ");
-    let answer = put_book_field(sink, answer, fault.field);
-    let answer = put_next(sink, answer, b" at ");
-    let answer = put_number(sink, answer, fault.place);
-    put_next(sink, answer, b"\n")
-}
-
-/// Puts the line of too many points.
-fn put_points<S: Sink>(sink: &mut S, count: u64) -> PutAnswer
-    ensures { Puts S.holds S.faults sink.old sink.new result (points_line count ++ codes "\n") }
-{
-    let answer = put_next(sink, PutAnswer::Done, b"coz: selection: ");
-    let answer = put_number(sink, answer, count);
-    let answer = put_next(sink, answer, b" points");
-    put_next(sink, answer, b"\n")
-}
-
-/// Puts the line of too many experiments.
-fn put_plan<S: Sink>(sink: &mut S, count: u64) -> PutAnswer
-    ensures { Puts S.holds S.faults sink.old sink.new result (plan_line count ++ codes "\n") }
-{
-    let answer = put_next(sink, PutAnswer::Done, b"coz: plan: ");
-    let answer = put_number(sink, answer, count);
-    let answer = put_next(sink, answer, b" experiments");
     put_next(sink, answer, b"\n")
 }
 
@@ -150,17 +90,27 @@ fn put_line<S: Sink>(sink: &mut S, fault: Fault) -> PutAnswer
 {
     match fault {
         Fault::Usage => put_three(sink, b"coz: usage", b"", b"\n"),
-        Fault::Program(fault) => put_program(sink, fault),
-        Fault::Lines(fault) => put_table(sink, fault),
+        Fault::Program(fault) => put_at(
+            sink,
+            b"coz: program: ",
+            elf_kind_name(fault.kind),
+            fault.place,
+        ),
+        Fault::Lines(fault) => put_at(
+            sink,
+            b"coz: lines: ",
+            line_kind_name(fault.kind),
+            fault.place,
+        ),
         Fault::Read(path) => put_three(sink, b"coz: read: ", path.as_bytes(), b"\n"),
         Fault::Write => put_three(sink, b"coz: write", b"", b"\n"),
         Fault::NoLine(piece) => { put_three(sink, b"coz: selection: no line ", piece, b"\n") }
-        Fault::ManyPoints(count) => put_points(sink, count),
+        Fault::ManyPoints(count) => put_count(sink, b"coz: selection: ", count, b" points"),
         Fault::Long(path) => put_three(sink, b"coz: long: ", path.as_bytes(), b"\n"),
-        Fault::ManyExperiments(count) => put_plan(sink, count),
+        Fault::ManyExperiments(count) => put_count(sink, b"coz: plan: ", count, b" experiments"),
         Fault::Memory => put_three(sink, b"coz: memory", b"", b"\n"),
         Fault::Source(fault) => put_source(sink, fault),
-        Fault::Profile(fault) => put_profile(sink, fault),
+        Fault::Profile(fault) => put_at(sink, b"coz: profile: ", fault.field.name(), fault.place),
     }
 }
 

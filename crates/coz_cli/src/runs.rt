@@ -11,8 +11,8 @@ ghost use Rattle.machines.specs.Delayed.{Hart};
 ghost use Rattle.machines.specs.Records.{net_record_of, record_of, shortened_record};
 ghost use Rattle.machines.specs.Standing.{delayed_record};
 ghost use Rattle.coz_cli.specs.Text.{really_text, run_text};
-ghost use Rattle.coz_cli.specs.Verdict.{ending_status, really_verdict, run_verdict};
-ghost use Rattle.coz_cli.specs.Answer.{answered, IsMemory, IsRead};
+ghost use Rattle.coz_cli.specs.Verdict.{ended_verdict, ending_status, really_verdict, run_verdict};
+ghost use Rattle.coz_cli.specs.Answer.{answered, printed_verdict, IsMemory, IsRead};
 
 use crate::answer::{Answer, Printed, Text};
 use crate::record::{RunRecord, ShortRecord};
@@ -67,6 +67,16 @@ fn machine_text(alloc: Global, machine: &Machine) -> Result<Vec<u8>, AllocError>
     run_text(alloc, record)
 }
 
+/// The text of a run that came to this end, and its status.
+fn printed_run(ending: Ending, text: Vec<u8>) -> Printed
+    ensures { printed_verdict result ≡ ended_verdict ending text.items }
+{
+    Printed {
+        status: ending_status(ending),
+        text: Text::Bytes(text),
+    }
+}
+
 /// What is written of a machine's run.
 fn machine_answer<'r>(alloc: Global, machine: &mut Machine) -> Answer<'r>
     ensures no_read { IsRead result → ⊥ }
@@ -75,10 +85,7 @@ fn machine_answer<'r>(alloc: Global, machine: &mut Machine) -> Answer<'r>
 {
     let ending = machine.run();
     let text = machine_text(alloc, machine)?;
-    Ok(Printed {
-        status: ending_status(ending),
-        text: Text::Bytes(text),
-    })
+    Ok(printed_run(ending, text))
 }
 
 /// What is written of a program's delayed run. Err is want of memory.
@@ -126,10 +133,7 @@ fn short_answer<'r>(alloc: Global, short: &mut Short) -> Answer<'r>
 {
     let ending = short.run();
     let text = short_text(alloc, short, ending)?;
-    Ok(Printed {
-        status: ending_status(ending),
-        text: Text::Bytes(text),
-    })
+    Ok(printed_run(ending, text))
 }
 
 /// What is written of a program's shortened run. Err is want of memory.

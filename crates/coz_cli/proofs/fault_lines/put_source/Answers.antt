@@ -9,9 +9,9 @@ returns g c =
     (continues_then
     (continues_then
     (continues_then
-    (continues_then c.put_next-answer.ensures c.put_asm_kind-answer.ensures)
-    c.put_next-answer-2.ensures)
-    c.put_number-answer.ensures)
+    (continues_then c.put_next-answer.ensures (rw c.asm_kind_name.ensures at c.put_next-answer-2.ensures))
     c.put_next-answer-3.ensures)
+    c.put_number-answer.ensures)
+    c.put_next-answer-4.ensures)
     c.put_number-answer-2.ensures)
     c.put_next.ensures)

@@ -1,5 +1,5 @@
 use Rattle.coz_files.proofs.PutsLemmas.{continues_then, continues_whole}
-use Rattle.coz_cli.proofs.fault_lines.put_points.Goals as goal
+use Rattle.coz_cli.proofs.fault_lines.put_count.Goals as goal
 
 pub returns : goal.returns
 returns g c =

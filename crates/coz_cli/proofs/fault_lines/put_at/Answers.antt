@@ -1,5 +1,5 @@
 use Rattle.coz_files.proofs.PutsLemmas.{continues_then, continues_whole}
-use Rattle.coz_cli.proofs.fault_lines.put_table.Goals as goal
+use Rattle.coz_cli.proofs.fault_lines.put_at.Goals as goal
 
 pub returns : goal.returns
 returns g c =
@@ -7,7 +7,7 @@ returns g c =
     (continues_then
     (continues_then
     (continues_then
-    (continues_then c.put_next-answer.ensures c.put_line_kind-answer.ensures)
-    c.put_next-answer-2.ensures)
+    (continues_then c.put_next-answer.ensures c.put_next-answer-2.ensures)
+    c.put_next-answer-3.ensures)
     c.put_number-answer.ensures)
     c.put_next.ensures)
