@@ -20,13 +20,13 @@ or_else None second = second
 or_else (Some x) second = Some x
 
 -- the first, and where there is none the second; or the second, where there is a first
-abbrev pub joined : Join → Option ℕ → Option ℕ → Option ℕ
-joined Over first second = or_else first second
-joined Within first second = option_and_then (λ (_ : ℕ). second) first
+abbrev pub joined_position : Join → Option ℕ → Option ℕ → Option ℕ
+joined_position Over first second = or_else first second
+joined_position Within first second = option_and_then (λ (_ : ℕ). second) first
 
 -- the address lies in the span
-abbrev pub holds : ℕ → Span → Bool
-holds a span = nat_le span.start a && nat_lt a span.end
+abbrev pub is_in_span : ℕ → Span → Bool
+is_in_span a span = nat_le span.start a && nat_lt a span.end
 
 -- ---- going through a list of changes
 

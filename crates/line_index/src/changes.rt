@@ -1,7 +1,7 @@
 //! What stands at each address, as the list of where it changes.
 
 ghost use Rattle.std.specs.Prelude.{◌≡◌, ℕ, ◌+◌, ◌≤◌, ◌<◌, ◌^◌, length, IfOk, None};
-ghost use Rattle.line_index.specs.Changes.{value_at, IsRising, joined, next, least, position_after, ahead_after};
+ghost use Rattle.line_index.specs.Changes.{value_at, IsRising, joined_position, next, least, position_after, ahead_after};
 
 use coz_types::Address;
 use std::alloc::{AllocError, Global};
@@ -26,7 +26,7 @@ pub enum Join {
 
 impl Join {
     fn position(self, first: Option<u32>, second: Option<u32>) -> Option<u32>
-        ensures { result ≡ joined self first second }
+        ensures { result ≡ joined_position self first second }
     {
         match self {
             Join::Over => first.or(second),
@@ -86,7 +86,7 @@ pub fn merged(
 ) -> Result<Vec<Change>, AllocError>
     requires first_rises { IsRising 0 first.now }
     requires second_rises { IsRising 0 second.now }
-    ensures values { IfOk result (λ changes. (a : ℕ) → value_at a None changes.items ≡ joined join (value_at a None first.now) (value_at a None second.now)) }
+    ensures values { IfOk result (λ changes. (a : ℕ) → value_at a None changes.items ≡ joined_position join (value_at a None first.now) (value_at a None second.now)) }
     ensures rises { IfOk result (λ changes. IsRising 0 changes.items) }
     ensures few { IfOk result (λ changes. length changes.items ≤ length first.now + length second.now) }
 {

@@ -19,7 +19,7 @@ mod written;
 ghost use Rattle.std.specs.Prelude.{◌≡◌, ◌≤◌, ◌<◌, ℕ, true, length, IfOk, Some, option_map, map, slice_get};
 ghost use Rattle.coz_types.specs.Labels.{Text, is_label, label_before};
 ghost use Rattle.dwarf_lines.specs.Registers.{view};
-ghost use Rattle.line_index.specs.Lines.{label, found};
+ghost use Rattle.line_index.specs.Lines.{label, position_named};
 ghost use Rattle.line_index.specs.Index.{Index, IsIndex, has_line, position_at};
 ghost use Rattle.line_index.specs.Listed.{IsListed};
 
@@ -108,7 +108,7 @@ impl LineIndex {
 
     /// The line of this written path and number, else the first whose path ends with a slash and the text.
     pub fn find(&self, path: &[u8], number: u32) -> Option<LineId>
-        ensures { result ≡ option_map (λ k. record { 0 = k }) (found path.now number self.now.lines) }
+        ensures { result ≡ option_map (λ k. record { 0 = k }) (position_named path.now number self.now.lines) }
     {
         find::find(&self.paths, &self.backwards, &self.lines, path, number).map(LineId)
     }

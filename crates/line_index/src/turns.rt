@@ -2,7 +2,7 @@
 
 ghost use Rattle.std.specs.Prelude.{◌≡◌, ℕ, ◌++◌, [], ◌∷◌, length, get_or, IfOk, OnOk, All, IfSome, None, ◌<◌, if◌then◌else◌};
 ghost use Rattle.line_index.specs.Keys.{IsBelow, texts, is_at};
-ghost use Rattle.line_index.specs.Turns.{Rises, differ, is_within, turns, with_turn};
+ghost use Rattle.line_index.specs.Turns.{Rises, is_different, is_within, turns, with_turn};
 
 use crate::changes::Change;
 use crate::entries::empty_lists;
@@ -36,7 +36,7 @@ fn add_turns(
     requires before { IfSome before (λ line. line < length lists.old.items) }
     requires change { IsBelow (length lists.old.items) change }
     ensures as_many { OnOk result (length lists.new.items ≡ length lists.old.items) }
-    ensures added { OnOk result ((k : ℕ) → get_or (texts lists.new.items) k [] ≡ get_or (texts lists.old.items) k [] ++ (if differ (is_at k before) (is_at k change.position) then change.address ∷ [] else [])) }
+    ensures added { OnOk result ((k : ℕ) → get_or (texts lists.new.items) k [] ≡ get_or (texts lists.old.items) k [] ++ (if is_different (is_at k before) (is_at k change.position) then change.address ∷ [] else [])) }
 {
     if before == change.position {
         return Ok(());
