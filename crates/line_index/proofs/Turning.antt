@@ -6,11 +6,13 @@ use Rattle.std.proofs.lemmas.Bool.{cases_lt, eqb-true}
 use Rattle.std.proofs.lemmas.Bool.Decides.{nat_tests}
 use Rattle.std.proofs.lemmas.List.{append-nil, get_or-set_same, get_or-set_other, length-map, length-set, drop_more, get_or-map, get_or_past, map-set}
 use Rattle.std.proofs.lemmas.List.Elements.{All-get_or}
+use Rattle.coz_types.specs.declared.LineId.{LineId}
 use Rattle.line_index.specs.declared.changes.Change.{Change}
-use Rattle.line_index.specs.Changes.{value_at, IsRising}
+use Rattle.line_index.specs.declared.changes.LineChange.{LineChange}
+use Rattle.line_index.specs.Changes.{value_at, IsRising, place_of, change_of, changes_of}
 use Rattle.line_index.specs.Keys.{texts, is_at, IsBelow}
 use Rattle.line_index.specs.Turns.{Rises, is_different, is_within, turns, with_turn}
-use Rattle.line_index.proofs.Starting.{nothing_ahead}
+use Rattle.line_index.proofs.Starting.{nothing_ahead, line_change_at}
 
 -- ---- what the turns tell
 
@@ -190,6 +192,15 @@ turned count changes lists after before i d lt below many added so_far = record 
       ∙ ap (λ cs. get_or lists k [] ++ turns k before cs) (sym front)
       ∙ so_far.each k;
 }
+
+pub turned_change : (count : ℕ) (cs : List LineChange) (lists after : List (Vec ℕ)) (before : Option LineId) (i : ℕ) (d : LineChange) → i < length cs → All (IsBelow count) (changes_of cs) → length after ≡ length lists
+    → ((k : ℕ) → get_or (texts after) k [] ≡ get_or (texts lists) k [] ++ cond (is_different (is_at k (place_of before)) (is_at k (place_of (get_or cs i d).line))) ((get_or cs i d).address ∷ []) [])
+    → Turning count (changes_of cs) (texts lists) (place_of before) (drop i (changes_of cs)) → Turning count (changes_of cs) (texts after) (place_of (get_or cs i d).line) (drop (i + 1) (changes_of cs))
+turned_change count cs lists after before i d lt below many added so_far =
+    subst (λ (c : Change). Turning count (changes_of cs) (texts after) c.position (drop (i + 1) (changes_of cs))) (line_change_at cs i d lt)
+    (turned count (changes_of cs) (texts lists) (texts after) (place_of before) i (change_of d) (omega (arith, length-map cs change_of)) below
+    (length-map after (λ (v : Vec ℕ). v.items) ∙ many ∙ sym (length-map lists (λ (v : Vec ℕ). v.items)))
+    (λ k. added k ∙ ap (λ (c : Change). get_or (texts lists) k [] ++ cond (is_different (is_at k (place_of before)) (is_at k c.position)) (c.address ∷ []) []) (sym (line_change_at cs i d lt))) so_far)
 
 -- and all are
 pub all_turned : (count : ℕ) (changes : List Change) (lists : List (List ℕ)) (before : Option ℕ) (i : ℕ) → length changes ≤ i → Turning count changes lists before (drop i changes) → (k : ℕ) → get_or lists k [] ≡ turns k None changes

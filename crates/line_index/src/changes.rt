@@ -1,18 +1,27 @@
 //! What stands at each address, as the list of where it changes.
 
 ghost use Rattle.std.specs.Prelude.{◌≡◌, ℕ, ◌+◌, ◌≤◌, ◌<◌, ◌^◌, length, IfOk, None};
-ghost use Rattle.line_index.specs.Changes.{value_at, IsRising, joined_position, next, least, position_after, ahead_after};
+ghost use Rattle.line_index.specs.Changes.{value_at, IsRising, joined_position, next, least, position_after, ahead_after, place_of, changes_of};
 
-use coz_types::Address;
+use coz_types::{Address, LineId};
 use std::alloc::{AllocError, Global};
 
-/// From this address on, up to the next change, a position in some list, or none.
+/// From this address on, up to the next change, a span, or none.
 #[derive(Clone, Copy, Debug, PartialEq, Eq)]
 pub struct Change {
     /// The first address.
     pub address: Address,
-    /// The position, if there is one.
+    /// The position of the span in the list of spans, if there is one.
     pub position: Option<u32>,
+}
+
+/// From this address on, up to the next change, a line, or none.
+#[derive(Clone, Copy, Debug, PartialEq, Eq)]
+pub struct LineChange {
+    /// The first address.
+    pub address: Address,
+    /// The line, if there is one.
+    pub line: Option<LineId>,
 }
 
 /// How two lists of changes become one.
@@ -110,15 +119,15 @@ pub fn merged(
     Ok(changes)
 }
 
-/// What stands at an address. None where nothing does.
-pub fn position_at(changes: &[Change], address: Address) -> Option<u32>
-    requires { IsRising 0 changes.now }
-    ensures { result ≡ value_at address None changes.now }
+/// The line that stands at an address. None where none does.
+pub fn line_at(changes: &[LineChange], address: Address) -> Option<LineId>
+    requires { IsRising 0 (changes_of changes.now) }
+    ensures { place_of result ≡ value_at address None (changes_of changes.now) }
 {
     let passed = changes.partition_point(|change| change.address <= address);
     if passed == 0 {
         None
     } else {
-        changes[passed - 1].position
+        changes[passed - 1].line
     }
 }

@@ -24,7 +24,7 @@ ghost use Rattle.line_index.specs.Index.{Index, IsIndex, has_line, position_at};
 ghost use Rattle.line_index.specs.Listed.{IsListed};
 
 use crate::backwards::{Backward, backwards};
-use crate::changes::Change;
+use crate::changes::{LineChange, line_at};
 use crate::entries::entries;
 use crate::entry::{file_positions, sorted_entries};
 use crate::labels::labels;
@@ -46,7 +46,7 @@ pub struct LineIndex {
     lines: Vec<Key>,
     labels: Vec<Label>,
     entries: Vec<Vec<Address>>,
-    changes: Vec<Change>,
+    changes: Vec<LineChange>,
     turns: Vec<Vec<Address>>,
 }
 
@@ -74,7 +74,7 @@ impl LineIndex {
     pub fn line_of(&self, address: Address) -> Option<LineId>
         ensures { result ≡ option_map (λ k. record { 0 = k }) (position_at self.now address) }
     {
-        changes::position_at(&self.changes, address).map(LineId)
+        line_at(&self.changes, address)
     }
 
     /// Whether an address has this line. Its own turns alone are asked, and not those of all lines.
