@@ -8,6 +8,7 @@ use crate::curve::{Curve, CurveStep};
 use coz_files::{PutAnswer, PutBuffer, Sink};
 use profile_book::{put_field, put_number};
 
+/// The most marks of a bar.
 const LONGEST_BAR: usize = 40;
 
 /// What one mark stands for, in hundredths of a per cent.

@@ -3,7 +3,7 @@ use Rattle.std.proofs.Common.{◌≡◌, ◌≢◌, ℕ, ◌≤◌, List, [], le
 use Rattle.std.specs.List.{list_all}
 use Rattle.coz_types.specs.declared.record.Summary.{Summary}
 use Rattle.elf_load.specs.declared.ElfFault.{ElfFault}
-use Rattle.elf_load.specs.Loaded.{loaded}
+use Rattle.elf_load.specs.Loaded.{load_answer}
 use Rattle.dwarf_lines.specs.declared.LineFault.{LineFault}
 use Rattle.dwarf_lines.specs.Registers.{Table}
 use Rattle.coz_types.specs.Image.{ImageParts}
@@ -98,7 +98,7 @@ judged_loaded (Ok image) next each = each image
 
 judged_file : (kind : Kind) (asked : Request) (file input : List ℕ) → Judged (file_verdict (judging kind asked) file input)
 judged_file kind asked file input =
-    judged_loaded (loaded file) _ (λ image.
+    judged_loaded (load_answer file) _ (λ image.
     judged_table (table_in file) _ (λ table.
     judged_kind kind asked _ _))
 

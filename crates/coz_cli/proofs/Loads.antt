@@ -3,7 +3,7 @@ use Rattle.std.proofs.Common.{◌≡◌, List, ℕ, Option, Some, None, Result, 
 use Rattle.coz_types.specs.Image.{ImageParts}
 use Rattle.elf_load.specs.declared.ElfFault.{ElfFault}
 use Rattle.elf_load.specs.Faults.{fault}
-use Rattle.elf_load.specs.Loaded.{image, loaded}
+use Rattle.elf_load.specs.Loaded.{image, load_answer}
 
 -- what a file loads as, by its fault
 abbrev loaded_by : List ℕ → Option ElfFault → Result ImageParts ElfFault
@@ -19,6 +19,6 @@ unfolding image
 kept file None parts is = ap (file_or file) is
 kept file (Some f) parts is = let no : ⊥ = cc in absurd no
 
-pub loaded_file : (file : List ℕ) (parts : ImageParts) → loaded file ≡ Ok parts → file ≡ parts.file
-unfolding loaded
+pub loaded_file : (file : List ℕ) (parts : ImageParts) → load_answer file ≡ Ok parts → file ≡ parts.file
+unfolding load_answer
 loaded_file file parts is = kept file (fault file) parts is

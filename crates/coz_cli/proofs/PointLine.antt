@@ -10,7 +10,7 @@ use Rattle.dwarf_lines.specs.declared.Row.{Row}
 use Rattle.dwarf_lines.specs.Registers.{File}
 use Rattle.coz_types.specs.declared.image.Area.{Area}
 use Rattle.coz_types.specs.Labels.{is_empty, written}
-use Rattle.line_index.specs.Lines.{Line, numbered, entry_path, next_address, first_covering, line_of_row, is_executable, line_of, found, is_line_named, is_line_below}
+use Rattle.line_index.specs.Lines.{Line, line_with, entry_path, next_address, first_covering, line_of_row, is_executable, line_of, position_named, is_line_named, is_line_below}
 use Rattle.line_index.specs.Changes.{or_else}
 use Rattle.line_index.specs.Index.{Index, IsIndex}
 use Rattle.rv_asm.specs.Assembled.{Program, IsProgram}
@@ -107,8 +107,8 @@ row_line name at line named same some =
     let path : entry_path (only_file name) ≡ Some name =
     ap (λ (w : List ℕ). if is_empty w then None else Some w) same
     ∙ ap (λ (empty : Bool). if empty then None else Some name) (ne_eqb (length name) 0 (λ e. absurd (omega arith))) in
-    ap (λ (none : Bool). if none then None else option_map (numbered line) (entry_path (only_file name))) (ne_eqb line 0 (λ e. absurd (omega arith)))
-    ∙ ap (λ (p : Option (List ℕ)). option_map (numbered line) p) path
+    ap (λ (none : Bool). if none then None else option_map (line_with line) (entry_path (only_file name))) (ne_eqb line 0 (λ e. absurd (omega arith)))
+    ∙ ap (λ (p : Option (List ℕ)). option_map (line_with line) p) path
 
 -- the address of each word has the word's line
 word_has_line : (ls name : List ℕ) (areas : List Area) (k : ℕ) → 0 < length name → written name ≡ name → k < length ls → 0 < get_or ls k 0 → is_executable areas (0x10000 + 4 * k) ≡ true
@@ -159,7 +159,7 @@ its_line name number = and_from (number == number) (bytes_eq name name) (eq-eqb 
 
 -- the line of a word is found in the index of the written file
 pub word_found : (p : Program) (name file : List ℕ) (number : ℕ) (index : Index) → IsProgram p → 0 < length name → written name ≡ name → Contains p.lines number → IsIndex (table_of p.lines name 4) (image_of p file).areas index
-    → (k : ℕ) × (found name number index.lines ≡ Some k)
+    → (k : ℕ) × (position_named name number index.lines ≡ Some k)
 word_found p name file number index is named same has indexed =
     let line = line_in name number in
     let (k, few, e) = (indexed.used line).1 (line_there p name file number is named same has) in

@@ -6,7 +6,7 @@ use Rattle.std.proofs.lemmas.Bool.{ltb-false}
 use Rattle.coz_types.specs.Image.{ImageParts}
 use Rattle.coz_files.specs.Held.{Held, file_at}
 use Rattle.elf_load.specs.declared.ElfFault.{ElfFault}
-use Rattle.elf_load.specs.Loaded.{loaded}
+use Rattle.elf_load.specs.Loaded.{load_answer}
 use Rattle.dwarf_lines.specs.declared.LineFault.{LineFault}
 use Rattle.dwarf_lines.specs.Registers.{Table}
 use Rattle.line_index.specs.Lines.{Line}
@@ -85,7 +85,7 @@ record Found (held : Held) (asked : Request) : Type 0 where
   table : Table
   found : file_at held asked.target ≡ Some file
   given : IsInput held asked.input input
-  program : loaded file ≡ Ok image
+  program : load_answer file ≡ Ok image
   lines : table_in file ≡ Ok table
 
 -- a verdict is what follows of them
@@ -97,7 +97,7 @@ module _ (held : Held) (asked : Request) (next : Judging) (v : Verdict) (low : v
   abbrev on_table : List ℕ → ImageParts → Table → Verdict
   on_table input image table = next (lines_in table image.areas) (experiment_by_table image table input)
 
-  table_comes : (file input : List ℕ) (image : ImageParts) → file_at held asked.target ≡ Some file → IsInput held asked.input input → loaded file ≡ Ok image
+  table_comes : (file input : List ℕ) (image : ImageParts) → file_at held asked.target ≡ Some file → IsInput held asked.input input → load_answer file ≡ Ok image
       → (t : Result Table LineFault) → table_in file ≡ t → v ≡ table_verdict t (on_table input image) → Comes held asked next v
   table_comes file input image found given program (Err fault) lines is = let no = low_of _ _ is low in absurd (omega arith)
   table_comes file input image found given program (Ok table) lines is = record {
@@ -114,7 +114,7 @@ module _ (held : Held) (asked : Request) (next : Judging) (v : Verdict) (low : v
     is = is;
   }
 
-  loaded_comes : (file input : List ℕ) → file_at held asked.target ≡ Some file → IsInput held asked.input input → (l : Result ImageParts ElfFault) → loaded file ≡ l
+  loaded_comes : (file input : List ℕ) → file_at held asked.target ≡ Some file → IsInput held asked.input input → (l : Result ImageParts ElfFault) → load_answer file ≡ l
       → v ≡ loaded_verdict l (λ image. table_verdict (table_in file) (on_table input image)) → Comes held asked next v
   loaded_comes file input found given (Err fault) program is = let no = low_of _ _ is low in absurd (omega arith)
   loaded_comes file input found given (Ok image) program is = table_comes file input image found given program (table_in file) refl is
@@ -150,7 +150,7 @@ files_come held asked next low =
     let v : Verdict = files_verdict asked held next in
     let read = read_is 33554432 asked.target (file_at held asked.target) (λ file. input_verdict asked.input held (file_verdict next file)) low in
     let given = given_is held asked.input (file_verdict next read.file) (low_of _ _ read.same low) in
-    loaded_comes held asked next v low read.file given.input read.is given.given (loaded read.file) refl (read.same ∙ given.same)
+    loaded_comes held asked next v low read.file given.input read.is given.given (load_answer read.file) refl (read.same ∙ given.same)
 
 -- ---- what is named
 

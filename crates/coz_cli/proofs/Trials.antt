@@ -12,14 +12,14 @@ use Rattle.std.proofs.lemmas.Option.{get_or_from_slice_get}
 use Rattle.std.proofs.lemmas.List.Sums.{AllPass-from_list_all}
 use Rattle.coz_types.specs.Image.{ImageParts}
 use Rattle.coz_types.specs.declared.LineId.{LineId}
-use Rattle.elf_load.specs.Loaded.{loaded, section}
+use Rattle.elf_load.specs.Loaded.{load_answer, section}
 use Rattle.dwarf_lines.specs.declared.LineFault.{LineFault}
 use Rattle.coz_words.specs.Said.{Text}
 use Rattle.dwarf_lines.specs.Names.{strings}
 use Rattle.dwarf_lines.specs.Reading.{reading}
 use Rattle.dwarf_lines.specs.Registers.{Table}
 use Rattle.line_index.specs.Index.{Index, IsIndex}
-use Rattle.line_index.specs.Lines.{Line, found, label}
+use Rattle.line_index.specs.Lines.{Line, position_named, label}
 use Rattle.line_index.specs.Listed.{lines_in}
 use Rattle.experiment_plan.specs.Selected.{id_of, ids}
 use Rattle.experiment_plan.specs.Pairs.{IsPlan, planned}
@@ -33,7 +33,7 @@ use Rattle.machines.specs.Standing.{delayed_record}
 use Rattle.progress_points.specs.Points.{Points, IsPoints}
 use Rattle.profile_book.specs.declared.profile.Profile.{Profile}
 use Rattle.profile_pool.specs.Summaries.{summary_in}
-use Rattle.rv_asm.specs.Assembled.{Program, IsProgram, Fails, assembled}
+use Rattle.rv_asm.specs.Assembled.{Program, IsProgram, Fails, assembly}
 use Rattle.rv_asm.specs.declared.AsmFault.{AsmFault}
 use Rattle.rv_asm.specs.declared.AsmError.{AsmError}
 use Rattle.rv_asm.specs.declared.AsmError.TheVariants as assembling
@@ -109,9 +109,9 @@ module _ (source : Source) (file : List ℕ) (is : IsTrialFile source file) wher
   unfolding trial_file
   file_short = at_file (λ f. length f ≤ 16777216) (written_short p trial_name 4 is.right trial_named)
 
-  loads : loaded file ≡ Ok (image_of p file)
+  loads : load_answer file ≡ Ok (image_of p file)
   unfolding trial_file
-  loads = at_file (λ f. loaded f ≡ Ok (image_of p f)) (written_loads p trial_name 4 is.right trial_named)
+  loads = at_file (λ f. load_answer f ≡ Ok (image_of p f)) (written_loads p trial_name 4 is.right trial_named)
 
   abbrev with_sections : Option (List ℕ) → Option (List ℕ) → Option (List ℕ) → Result Table LineFault
   with_sections lines general texts = reading (strings (unwrap_or general []) (unwrap_or texts [])) (unwrap_or lines [])
@@ -139,7 +139,7 @@ module _ (source : Source) (file : List ℕ) (is : IsTrialFile source file) wher
   read_memory fault settled = is_memory fault [] (λ other. settled other (λ image table. printed []) ∙ program_is (λ image table. printed []))
 
   -- the point's line is found
-  pub point_there : (index : Index) (image : ImageParts) (read : Table) → loaded file ≡ Ok image → table_in file ≡ Ok read → IsIndex read image.areas index → IsOk (trial_point source.point index.lines)
+  pub point_there : (index : Index) (image : ImageParts) (read : Table) → load_answer file ≡ Ok image → table_in file ≡ Ok read → IsIndex read image.areas index → IsOk (trial_point source.point index.lines)
   unfolding trial_point
   point_there index image read loads_as reads_as indexed =
       let image_is : image_of p file ≡ image = same_ok (sym loads ∙ loads_as) in
@@ -151,14 +151,14 @@ module _ (source : Source) (file : List ℕ) (is : IsTrialFile source file) wher
 
 -- ---- the point
 
-pub point_found : (point : ℕ) (lines : List Line) (k : ℕ) → found trial_name point lines ≡ Some k → trial_point point lines ≡ Ok k
+pub point_found : (point : ℕ) (lines : List Line) (k : ℕ) → position_named trial_name point lines ≡ Some k → trial_point point lines ≡ Ok k
 unfolding trial_point
 point_found point lines k is = ap (λ (o : Option ℕ). elim o as (λ x. Result ℕ Text) [ Some line ↦ Ok line | None ↦ Err trial_name ]) is
 
-pub point_within : (point : ℕ) (lines : List Line) (k : ℕ) → found trial_name point lines ≡ Some k → k < length lines
+pub point_within : (point : ℕ) (lines : List Line) (k : ℕ) → position_named trial_name point lines ≡ Some k → k < length lines
 point_within point lines k is = found_below trial_name point lines k is
 
-pub point_absent : (point : ℕ) (lines : List Line) → found trial_name point lines ≡ None → IsOk (trial_point point lines) → ⊥
+pub point_absent : (point : ℕ) (lines : List Line) → position_named trial_name point lines ≡ None → IsOk (trial_point point lines) → ⊥
 unfolding trial_point
 point_absent point lines is ok =
     let no : false ≡ true = subst (λ (o : Option ℕ). IsOk (elim o as (λ x. Result ℕ Text) [ Some line ↦ Ok line | None ↦ Err trial_name ])) is ok in
@@ -238,11 +238,11 @@ length_ids (line ∷ lines) = ap suc (length_ids lines)
 -- ---- the source
 
 -- the assembler gives no fault on a source that is accepted
-pub assembled_memory : (text : List ℕ) (p : Program) (error : AsmError) → assembled text ≡ Ok p → Fails error (assembled text) → IsMemoryFault (assembling_fault error)
+pub assembled_memory : (text : List ℕ) (p : Program) (error : AsmError) → assembly text ≡ Ok p → Fails error (assembly text) → IsMemoryFault (assembling_fault error)
 assembled_memory text p (assembling.Fault fault) is fails = absurd (let both : Ok p ≡ Err fault = sym is ∙ fails in cc)
 assembled_memory text p assembling.Memory is fails = tt
 
-pub file_of : (source : Source) (given : Program) (file : List ℕ) → IsAccepted source → assembled source.text ≡ Ok given → IsProgram given → file ≡ written_file given trial_name 4 → IsTrialFile source file
+pub file_of : (source : Source) (given : Program) (file : List ℕ) → IsAccepted source → assembly source.text ≡ Ok given → IsProgram given → file ≡ written_file given trial_name 4 → IsTrialFile source file
 unfolding trial_program trial_file
 file_of source given file (p, is, has) stands right written = record {
   program = given;

@@ -3,7 +3,7 @@ use Rattle.std.specs.Prelude.{◌≡◌, List, ℕ, [], Option, None, Some, Ok, 
 use Rattle.std.specs.Io.KnownBytes.{Appends}
 use Rattle.coz_types.specs.Image.{ImageParts}
 use Rattle.coz_files.specs.Held.{Held, file_at}
-use Rattle.elf_load.specs.Loaded.{loaded}
+use Rattle.elf_load.specs.Loaded.{load_answer}
 use Rattle.dwarf_lines.specs.Registers.{Table}
 use Rattle.line_index.specs.Lines.{Line}
 use Rattle.line_index.specs.Listed.{lines_in}
@@ -38,7 +38,7 @@ pub record IsAsked (held : Held) (asked : Request) (x : Experiment Guest) : Type
   pub points : List ℕ
   pub found : file_at held asked.target ≡ Some file
   pub given : IsInput held asked.input input
-  pub program : loaded file ≡ Ok image
+  pub program : load_answer file ≡ Ok image
   pub lines : table_in file ≡ Ok table
   pub line_is : line_named (lines_in table image.areas) asked.line ≡ Ok selected
   pub points_are : lines_named (lines_in table image.areas) [] asked.progress ≡ Ok points
@@ -75,7 +75,7 @@ pub record IsPlanned (held : Held) (asked : Request) (runs : Runs) (lines : List
   pub selected : List ℕ
   pub found : file_at held asked.target ≡ Some file
   pub given : IsInput held asked.input input
-  pub program : loaded file ≡ Ok image
+  pub program : load_answer file ≡ Ok image
   pub table_is : table_in file ≡ Ok table
   pub runs_are : runs ≡ experiment_by_table image table input
   pub lines_are : lines ≡ lines_in table image.areas

@@ -4,10 +4,10 @@ use Rattle.std.specs.List.{range_with_len}
 use Rattle.std.specs.Fmt.{signed_decimal}
 use Rattle.sha2.specs.Sha256.{sha256}
 use Rattle.rv_asm.specs.declared.AsmFault.{AsmFault}
-use Rattle.rv_asm.specs.Assembled.{Program, IsProgram, assembled}
+use Rattle.rv_asm.specs.Assembled.{Program, IsProgram, assembly}
 use Rattle.work_gen.specs.Text.{Source}
 use Rattle.image_write.specs.File.{written_file}
-use Rattle.line_index.specs.Lines.{Line, found}
+use Rattle.line_index.specs.Lines.{Line, position_named}
 use Rattle.experiment_plan.specs.declared.experiment.Experiment.{Experiment as Pair}
 use Rattle.profile_book.specs.declared.profile.Profile.{Profile}
 use Rattle.profile_book.specs.Profile.{hex_text, profile_text}
@@ -24,7 +24,7 @@ trial_name = codes "trial.s"
 
 -- what the source stands for
 unfoldable pub trial_program : Source → Result Program AsmFault
-trial_program source = assembled source.text
+trial_program source = assembly source.text
 
 -- its file
 unfoldable pub trial_file : Program → List ℕ
@@ -40,7 +40,7 @@ pub record IsTrialFile (source : Source) (file : List ℕ) : Type 0 where
 
 -- the position of the line of the progress point; or the name, where no line is found
 unfoldable pub trial_point : ℕ → List Line → Result ℕ Text
-trial_point point lines = elim (found trial_name point lines) [ Some line ↦ Ok line | None ↦ Err trial_name ]
+trial_point point lines = elim (position_named trial_name point lines) [ Some line ↦ Ok line | None ↦ Err trial_name ]
 
 -- of n positions the multiples of a tenth of n, rounded up: ten of these are n or more
 unfoldable pub tenths : ℕ → List ℕ

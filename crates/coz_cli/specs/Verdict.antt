@@ -8,12 +8,12 @@ use Rattle.coz_files.specs.Held.{Held, file_at}
 use Rattle.coz_cli.specs.Words.{request_of}
 use Rattle.coz_types.specs.Image.{ImageParts}
 use Rattle.elf_load.specs.declared.ElfFault.{ElfFault}
-use Rattle.elf_load.specs.Loaded.{loaded}
+use Rattle.elf_load.specs.Loaded.{load_answer}
 use Rattle.coz_words.specs.declared.request.Request.{Request}
 use Rattle.coz_words.specs.declared.command.Command.{Command}
 use Rattle.coz_words.specs.declared.command.Command.TheVariants.{Run, Really, Profile, Lines, Plot, Asm, Trial}
 use Rattle.rv_asm.specs.declared.AsmFault.{AsmFault}
-use Rattle.rv_asm.specs.Assembled.{Program, assembled}
+use Rattle.rv_asm.specs.Assembled.{Program, assembly}
 use Rattle.image_write.specs.File.{written_file}
 use Rattle.work_gen.specs.Text.{Source, generated}
 use Rattle.machines.specs.Guest.{Experiment}
@@ -87,7 +87,7 @@ table_verdict (Ok table) next = next table
 
 -- of a file that is to be a program with a line table, and of what follows
 abbrev pub program_verdict : List ℕ → (ImageParts → Table → Verdict) → Verdict
-program_verdict file next = loaded_verdict (loaded file) (λ image. table_verdict (table_in file) (next image))
+program_verdict file next = loaded_verdict (load_answer file) (λ image. table_verdict (table_in file) (next image))
 
 -- of lines that are named, if the program has them, and of what follows
 abbrev pub named_verdict : {A : Type 0} → Result A Text → (A → Verdict) → Verdict
@@ -186,7 +186,7 @@ command_verdict Really asked held = files_verdict asked held (asked_verdict aske
 command_verdict Profile asked held = files_verdict asked held (profiled_verdict asked)
 command_verdict Lines asked held = read_verdict 33554432 asked.target (file_at held asked.target) lines_verdict
 command_verdict Plot asked held = read_verdict MAX_PROFILE asked.target (file_at held asked.target) plot_verdict
-command_verdict Asm asked held = read_verdict 4194304 asked.target (file_at held asked.target) (λ source. source_verdict asked.target asked.dwarf (assembled source))
+command_verdict Asm asked held = read_verdict 4194304 asked.target (file_at held asked.target) (λ source. source_verdict asked.target asked.dwarf (assembly source))
 command_verdict Trial asked held = trial_verdict asked.seed asked.size
 
 abbrev pub request_verdict : Option Request → Held → Verdict

@@ -3,7 +3,7 @@ ghost use Rattle.std.specs.Prelude.{◌≡◌, ◌≤◌, ℕ, List, length, Ok,
 ghost use Rattle.coz_types.specs.Image.{ImageParts};
 ghost use Rattle.coz_files.specs.Faults.{Rose};
 ghost use Rattle.coz_files.specs.Held.{file_at};
-ghost use Rattle.elf_load.specs.Loaded.{loaded};
+ghost use Rattle.elf_load.specs.Loaded.{load_answer};
 ghost use Rattle.dwarf_lines.specs.Registers.{Table, view};
 ghost use Rattle.line_index.specs.Index.{IsIndex};
 ghost use Rattle.coz_cli.specs.LineTable.{table_in};
@@ -64,7 +64,7 @@ pub fn read_program<'a, 'f>(alloc: Global, file: &'f [u8]) -> Result<Program<'f>
     ensures no_read { IsRead result → ⊥ }
     ensures settled { (IsMemory result → ⊥) → (next : ImageParts → Table → Verdict) →
         follows result (λ program. next program.image (view program.table)) ≡ program_verdict file.now next }
-    ensures loads { IfOk result (λ program. loaded file.now ≡ Ok program.image) }
+    ensures loads { IfOk result (λ program. load_answer file.now ≡ Ok program.image) }
     ensures reads { IfOk result (λ program. table_in file.now ≡ Ok (view program.table)) }
     ensures indexed { IfOk result (λ program. IsIndex (view program.table) program.image.areas program.index) }
 {

@@ -18,16 +18,17 @@ use clap::ArgMatches;
 use coz_lists::Items;
 use std::alloc::{AllocError, AllocFailed, Global};
 
+/// The greatest budget of retirements.
 const GREATEST_BUDGET: u64 = 1000000000000;
-
+/// The budget where the words name none.
 const USUAL_BUDGET: u64 = 100000000;
-
+/// The most workers of a profile.
 const MOST_WORKERS: u64 = 16;
-
+/// The workers where the words name none.
 const USUAL_WORKERS: u64 = 4;
-
+/// The greatest size of a trial, in blocks.
 const GREATEST_SIZE: u64 = 2000;
-
+/// The size where the words name none.
 const USUAL_SIZE: u64 = 100;
 
 /// What the words ask for. A field that the command lacks is `None`, 0 or empty.

@@ -12,8 +12,9 @@ use coz_types::GREATEST_SPEEDUP;
 use experiment_plan::{first_piece, is_line, is_list, number_in};
 use std::alloc::Global;
 
+/// The least version of DWARF that is written.
 const LEAST_VERSION: u8 = 4;
-
+/// The greatest.
 const GREATEST_VERSION: u8 = 5;
 
 /// The speedups, in percent, where the words give none.

@@ -43,6 +43,7 @@ impl Model for Credits {
     ghost invariant = { λ c. (c.raised ≤ 10 ^ 17) × All (IsSound c.latest c.raised) c.seats.items × (c.used ≤ length c.seats.items) × AreIdleFrom c.used c.seats.items };
 }
 
+/// The seat of a hart that does not run, with nothing in its account.
 const NOT_RUNNING: Seat = Seat {
     account: Account {
         own: 0,

@@ -15,24 +15,26 @@ pub const DW_LNCT_PATH: u64 = 1;
 pub const DW_LNCT_DIRECTORY_INDEX: u64 = 2;
 
 // The forms (DWARF 5, 7.5.6).
+
+/// A number of two bytes.
 const DW_FORM_DATA2: u64 = 0x05;
-
+/// A number of four bytes.
 const DW_FORM_DATA4: u64 = 0x06;
-
+/// A number of eight bytes.
 const DW_FORM_DATA8: u64 = 0x07;
-
+/// A text that ends with a zero.
 const DW_FORM_STRING: u64 = 0x08;
-
+/// A length in LEB128, and as many bytes.
 const DW_FORM_BLOCK: u64 = 0x09;
-
+/// A number of one byte.
 const DW_FORM_DATA1: u64 = 0x0B;
-
+/// The place of a text in `.debug_str`.
 const DW_FORM_STRP: u64 = 0x0E;
-
+/// A number in unsigned LEB128.
 const DW_FORM_UDATA: u64 = 0x0F;
-
+/// Sixteen bytes.
 const DW_FORM_DATA16: u64 = 0x1E;
-
+/// The place of a text in `.debug_line_str`.
 const DW_FORM_LINE_STRP: u64 = 0x1F;
 
 /// How a value is written (DWARF 5, 7.5.6).

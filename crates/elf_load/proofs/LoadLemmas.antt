@@ -12,7 +12,7 @@ use Rattle.elf_load.specs.declared.tables.Segment.{Segment}
 use Rattle.elf_load.specs.declared.tables.Section.{Section}
 use Rattle.elf_load.specs.Tables.{entry, phnum, segments, sections, is_area, load_areas, end_page}
 use Rattle.elf_load.specs.Faults.{first_row, header_rows, rows_on, table_rows, HasHeaders, JudgesOrFails, fault}
-use Rattle.elf_load.specs.Loaded.{area_of, headers, image, loaded, Loads}
+use Rattle.elf_load.specs.Loaded.{area_of, headers, image, load_answer, Loads}
 use Rattle.elf_load.proofs.Rows.{header_fault, table_fault}
 use Rattle.elf_load.proofs.Valid.{valid, areas_end}
 
@@ -20,13 +20,13 @@ pub headed : (file : List ℕ) → first_row (header_rows file) ≡ None → Has
 unfolding HasHeaders
 headed file e = e
 
-loaded_fault : (file : List ℕ) (f : ElfFault) → fault file ≡ Some f → loaded file ≡ Err f
-unfolding loaded
-loaded_fault file f e = rw (e, loaded) refl
+load_answer_fault : (file : List ℕ) (f : ElfFault) → fault file ≡ Some f → load_answer file ≡ Err f
+unfolding load_answer
+load_answer_fault file f e = rw (e, load_answer) refl
 
-loaded_image : (file : List ℕ) → fault file ≡ None → loaded file ≡ Ok (image file)
-unfolding loaded
-loaded_image file e = rw (e, loaded) refl
+load_answer_image : (file : List ℕ) → fault file ≡ None → load_answer file ≡ Ok (image file)
+unfolding load_answer
+load_answer_image file e = rw (e, load_answer) refl
 
 -- the entries that were read are those of the tables
 pub record WereRead (file : List ℕ) (ss : List Segment) (ns : List Section) (areas : List Segment) : Type 0 where
@@ -60,16 +60,16 @@ fault_answered : (r : Result ImageParts LoadError) (f : ElfFault) (holds : Resul
 fault_answered (Ok parts) f holds is e = absurd is
 fault_answered (Err x) f holds is e = subst (λ (y : LoadError). Loads (Err y) holds) (sym is) e
 
-pub header_answered : (file : List ℕ) (r : Result ImageParts LoadError) (f : ElfFault) → IsErrAnd r (λ e. e ≡ errors.Fault f) → first_row (header_rows file) ≡ Some f → Loads r (loaded file)
-header_answered file r f is e = fault_answered r f (loaded file) is (loaded_fault file f (header_fault file f e))
+pub header_answered : (file : List ℕ) (r : Result ImageParts LoadError) (f : ElfFault) → IsErrAnd r (λ e. e ≡ errors.Fault f) → first_row (header_rows file) ≡ Some f → Loads r (load_answer file)
+header_answered file r f is e = fault_answered r f (load_answer file) is (load_answer_fault file f (header_fault file f e))
 
 memory_answered : (r : Result ImageParts LoadError) (holds : Result ImageParts ElfFault) → IsErrAnd r (λ e. e ≡ errors.Memory) → Loads r holds
 memory_answered (Ok parts) holds is = absurd is
 memory_answered (Err x) holds is = subst (λ (y : LoadError). Loads (Err y) holds) (sym is) tt
 
-pub tables_answered : (file : List ℕ) (r : Result ImageParts LoadError) (x : LoadError) → HasHeaders file → IsErrAnd r (λ e. e ≡ x) → JudgesOrFails (Err x) (first_row (table_rows file)) → Loads r (loaded file)
-tables_answered file r errors.Memory headed is judged = memory_answered r (loaded file) is
-tables_answered file r (errors.Fault f) headed is judged = fault_answered r f (loaded file) is (loaded_fault file f (table_fault file headed ∙ judged))
+pub tables_answered : (file : List ℕ) (r : Result ImageParts LoadError) (x : LoadError) → HasHeaders file → IsErrAnd r (λ e. e ≡ x) → JudgesOrFails (Err x) (first_row (table_rows file)) → Loads r (load_answer file)
+tables_answered file r errors.Memory headed is judged = memory_answered r (load_answer file) is
+tables_answered file r (errors.Fault f) headed is judged = fault_answered r f (load_answer file) is (load_answer_fault file f (table_fault file headed ∙ judged))
 
 -- the image's parts are those of the definition
 pub parts_are : (file : List ℕ) (ss : List Segment) (ns : List Section) (areas : List Segment) (made : List Area) (at address count : ℕ) → WereRead file ss ns areas → made ≡ map (area_of file) areas → at ≡ entry file → address ≡ headers file → count ≡ phnum file
@@ -82,8 +82,8 @@ parts_are file ss ns areas made at address count read is_made is_entry is_header
 pub image_valid : (file : List ℕ) (parts : ImageParts) → first_row (table_rows file) ≡ None → parts ≡ image file → IsImage parts
 image_valid file parts e is = subst IsImage (sym is) (valid file e)
 
-pub image_answered : (file : List ℕ) (parts : ImageParts) → HasHeaders file → first_row (table_rows file) ≡ None → parts ≡ image file → Loads (Ok parts) (loaded file)
-image_answered file parts headed e is = loaded_image file (table_fault file headed ∙ e) ∙ ap (λ (x : ImageParts). Ok x) (sym is)
+pub image_answered : (file : List ℕ) (parts : ImageParts) → HasHeaders file → first_row (table_rows file) ≡ None → parts ≡ image file → Loads (Ok parts) (load_answer file)
+image_answered file parts headed e is = load_answer_image file (table_fault file headed ∙ e) ∙ ap (λ (x : ImageParts). Ok x) (sym is)
 
 pub image_faultless : (file : List ℕ) (parts : ImageParts) → HasHeaders file → first_row (table_rows file) ≡ None → parts.file ≡ file → fault parts.file ≡ None
 image_faultless file parts headed e is = ap (λ (x : List ℕ). fault x) is ∙ (table_fault file headed ∙ e)

@@ -1,7 +1,7 @@
 -- The table of faults: the first row that holds of the file tells its fault.
 use Rattle.std.specs.Prelude.{◌≡◌, ℕ, ◌*◌, ◌%◌, Bool, not, ◌&&◌, ◌||◌, List, [], ◌∷◌, ◌++◌, length, take, sum_by, slice_index, Option, Some, None, Result, Ok, Err, option_map, find, nat_lt, nat_le, ◌==◌, if◌then◌else◌, bytes_eq}
 use Rattle.std.specs.List.{list_any}
-use Rattle.coz_types.specs.declared.TheConstants.{PAGE}
+use Rattle.coz_types.specs.declared.TheConstants.{PAGE, LOAD_END}
 use Rattle.elf_load.specs.declared.ElfKind.{ElfKind}
 use Rattle.elf_load.specs.declared.ElfKind.TheVariants.{NotElf, NotClass64, NotLittle, NotExec, NotRiscv, Compressed, HeaderOut, PackedLines, Interp, SizeOrder, AddressOut, WritableCode, SharedPage, TooMuch, EntryOut}
 use Rattle.elf_load.specs.declared.ElfFault.{ElfFault}
@@ -68,7 +68,7 @@ rows_on file segments sections areas =
     ∷ entry_row PackedLines (first_section (λ s. holds_lines file s && is_compressed s) sections)
     ∷ entry_row Interp (first_segment is_interp segments)
     ∷ entry_row SizeOrder (first_segment (λ s. is_load s && nat_lt s.memsz s.filesz) segments)
-    ∷ entry_row AddressOut (first_segment (λ s. nat_lt (PAGE * first_page s) 0x1000 || nat_lt 0x2000000000 (PAGE * end_page s)) areas)
+    ∷ entry_row AddressOut (first_segment (λ s. nat_lt (PAGE * first_page s) 0x1000 || nat_lt LOAD_END (PAGE * end_page s)) areas)
     ∷ entry_row WritableCode (first_segment (λ s. is_load s && is_writable s && is_executable s) segments)
     ∷ entry_row SharedPage (first_area (λ earlier s. list_any (share_page s) earlier) areas)
     ∷ entry_row TooMuch (first_area (λ earlier s. nat_lt 0x4000000 (PAGE * sum_by pages (s ∷ earlier))) areas)

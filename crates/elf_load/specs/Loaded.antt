@@ -32,8 +32,8 @@ image file = record {
 }
 
 -- the image, or the fault
-unfoldable pub loaded : List ℕ → Result ImageParts ElfFault
-loaded file = elim (fault file) [ None ↦ Ok (image file) | Some f ↦ Err f ]
+unfoldable pub load_answer : List ℕ → Result ImageParts ElfFault
+load_answer file = elim (fault file) [ None ↦ Ok (image file) | Some f ↦ Err f ]
 
 -- the byte of an area at an address: the file's, or zero outside of the file bytes
 abbrev pub byte_at : List ℕ → Area → ℕ → ℕ

@@ -11,13 +11,14 @@ use crate::fields::{double_at, runs_past};
 use crate::pages::{no_shared_page, not_too_much};
 use crate::tables::{Section, Segment, names};
 use crate::{ElfFault, ElfKind, LoadError};
-use coz_types::PAGE;
+use coz_types::{LOAD_END, PAGE};
 use std::alloc::Global;
 
-/// The pages of a program are from 0x1000 to 0x20_0000_0000, whose end this page is.
+/// The least page that a load area may have: the one at 0 stays free.
 const FIRST_PAGE: u64 = 0x1000 / PAGE;
 
-const END_PAGE: u64 = 0x20_0000_0000 / PAGE;
+/// The page that ends the load areas.
+const END_PAGE: u64 = LOAD_END / PAGE;
 
 /// The fault at a program header, if one was found.
 pub fn at_segment(kind: ElfKind, found: Option<&Segment>) -> Result<(), ElfFault>
@@ -123,7 +124,7 @@ fn sizes_in_order(segments: &[Segment]) -> Result<(), ElfFault>
 
 /// Each load area is where a program may be.
 fn areas_in_range(areas: &[Segment]) -> Result<(), ElfFault>
-    ensures { Judges result (entry_row ElfKind.AddressOut (first_segment (λ s. nat_lt (PAGE * first_page s) 0x1000 || nat_lt 0x2000000000 (PAGE * end_page s)) areas.now)) }
+    ensures { Judges result (entry_row ElfKind.AddressOut (first_segment (λ s. nat_lt (PAGE * first_page s) 0x1000 || nat_lt LOAD_END (PAGE * end_page s)) areas.now)) }
 {
     let found = areas
         .iter()

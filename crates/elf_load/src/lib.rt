@@ -14,7 +14,7 @@ ghost use Rattle.std.specs.Prelude.{◌≡◌, None, IfOk};
 ghost use Rattle.std.specs.Option.{option_copied};
 ghost use Rattle.elf_load.specs.declared.LoadError.TheVariants.{Fault, Memory};
 ghost use Rattle.elf_load.specs.Faults.{fault};
-ghost use Rattle.elf_load.specs.Loaded.{Loads, loaded, section};
+ghost use Rattle.elf_load.specs.Loaded.{Loads, load_answer, section};
 
 use crate::areas::{headers, image_areas, load_areas};
 use crate::codes::{E_ENTRY, E_PHNUM};
@@ -106,7 +106,7 @@ impl<T: Drop> From<AllocFailed<T>> for LoadError {
 /// The image of an ELF64 file for RISC-V, or the first fault that it has (ELF-64 Object File Format, version 1.5).
 /// The areas are those of its program headers, in their order. Want of memory may come in place of either.
 pub fn load<'a>(alloc: Global, file: &'a [u8]) -> Result<Image<'a>, LoadError>
-    ensures answer { Loads result (loaded file.now) }
+    ensures answer { Loads result (load_answer file.now) }
     ensures faultless { IfOk result (λ image. fault image.file ≡ None) }
 {
     check_header(file)?;

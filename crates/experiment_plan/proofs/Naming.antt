@@ -8,7 +8,7 @@ use Rattle.std.proofs.lemmas.List.Quantifiers.{position-Some}
 use Rattle.std.proofs.Math.Seq.{take-append_seam, drop-append_seam}
 use Rattle.coz_types.specs.declared.LineId.{LineId}
 use Rattle.line_index.specs.Changes.{or_else}
-use Rattle.line_index.specs.Lines.{Line, is_line_named as is_whole, is_line_below, found}
+use Rattle.line_index.specs.Lines.{Line, is_line_named as is_whole, is_line_below, position_named}
 use Rattle.line_index.proofs.Pieces.{Among, among_map}
 use Rattle.experiment_plan.specs.Lists.{Text, is_line, line_parts, pieces, pieces_left, IsCut}
 use Rattle.experiment_plan.specs.Selected.{id_of, ids, line_found, is_missing, rising, selected, bytes_before, IsMissingAt}
@@ -121,7 +121,7 @@ either_below : (m : ℕ) (first second : Option ℕ) (k : ℕ) → ((j : ℕ) �
 either_below m None second k one two is = two k is
 either_below m (Some n) second k one two is = one k is
 
-pub found_below : (text : List ℕ) (number : ℕ) (lines : List Line) (k : ℕ) → found text number lines ≡ Some k → k < length lines
+pub found_below : (text : List ℕ) (number : ℕ) (lines : List Line) (k : ℕ) → position_named text number lines ≡ Some k → k < length lines
 found_below text number lines k is =
     let some : Line = record { path = []; number = 0 } in
     let whole = is_whole text number in

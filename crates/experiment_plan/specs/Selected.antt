@@ -4,7 +4,7 @@ use Rattle.std.specs.List.{filter_map}
 use Rattle.std.specs.Ordering.{nat_cmp}
 use Rattle.std.specs.Global.{Vec}
 use Rattle.coz_types.specs.declared.LineId.{LineId}
-use Rattle.line_index.specs.Lines.{Line, found}
+use Rattle.line_index.specs.Lines.{Line, position_named}
 use Rattle.line_index.specs.Listed.{in_order}
 use Rattle.experiment_plan.specs.Lists.{Text, line_parts, pieces}
 use Rattle.experiment_plan.specs.declared.selection.SelectError.{SelectError}
@@ -22,7 +22,7 @@ rising numbers = in_order nat_cmp numbers
 
 -- the position of the line that a text names, if there is one
 abbrev pub line_found : List Line → Text → Option ℕ
-line_found lines text = found (line_parts text).0 (line_parts text).1 lines
+line_found lines text = position_named (line_parts text).0 (line_parts text).1 lines
 
 abbrev pub is_missing : List Line → Text → Bool
 is_missing lines text = is_none (line_found lines text)

@@ -3,7 +3,7 @@ use Rattle.std.proofs.Common.{ℕ, ◌≡◌, ◌-◌, ◌*◌, ◌%◌, ◌≤�
 use Rattle.std.specs.Prelude.{pos, if◌then◌else◌}
 use Rattle.std.proofs.lemmas.Bool.{cond-true, cond-false, and_from, leb-true, ltb-true, le-leb, lt-ltb, eq-eqb, ne_eqb, false_from_ne_true, and_parts}
 use Rattle.guest_memory.specs.Regions.{page_size, page_of, pages_for, brk_base, brk_end}
-use Rattle.guest_memory.specs.Memory.{MemoryMap, no_rights, read_and_write, given, zeroed}
+use Rattle.guest_memory.specs.Memory.{MemoryMap, no_rights, read_and_write, with_rights_from, with_zeros}
 use Rattle.guest_areas.specs.Answers.{no_memory, no_access, invalid}
 use Rattle.guest_areas.specs.Space.{Space, space, Answered, refused, has, rights_of, is_page_start, is_each, free_run, is_known, memory_between, with_break, with_run, map, is_in_map, without_run, unmap, protect}
 
@@ -40,23 +40,23 @@ within to s low high =
     (and_from (leb brk_base to) (leb to (brk_end s.regions.layout)) (le-leb brk_base to low) (le-leb to (brk_end s.regions.layout) high))
 
 pub with_break-up : (to : ℕ) (s : Space) → brk_base ≤ to → to ≤ brk_end s.regions.layout → pages_for s.regions.break < pages_for to
-    → with_break to s ≡ space (record s.regions { break = to }) (zeroed (pages_for s.regions.break) (pages_for to - pages_for s.regions.break) (given (pages_for s.regions.break) (pages_for to - pages_for s.regions.break) read_and_write s.memory))
+    → with_break to s ≡ space (record s.regions { break = to }) (with_zeros (pages_for s.regions.break) (pages_for to - pages_for s.regions.break) (with_rights_from (pages_for s.regions.break) (pages_for to - pages_for s.regions.break) read_and_write s.memory))
 with_break-up to s low high up =
     within to s low high
     ∙ ap (λ (m : MemoryMap). space (record s.regions { break = to }) m)
     (cond-true (ltb (pages_for s.regions.break) (pages_for to))
-    (zeroed (pages_for s.regions.break) (pages_for to - pages_for s.regions.break) (given (pages_for s.regions.break) (pages_for to - pages_for s.regions.break) read_and_write s.memory))
-    (given (pages_for to) (pages_for s.regions.break - pages_for to) no_rights s.memory)
+    (with_zeros (pages_for s.regions.break) (pages_for to - pages_for s.regions.break) (with_rights_from (pages_for s.regions.break) (pages_for to - pages_for s.regions.break) read_and_write s.memory))
+    (with_rights_from (pages_for to) (pages_for s.regions.break - pages_for to) no_rights s.memory)
     (lt-ltb (pages_for s.regions.break) (pages_for to) up))
 
 pub with_break-down : (to : ℕ) (s : Space) → brk_base ≤ to → to ≤ brk_end s.regions.layout → pages_for to ≤ pages_for s.regions.break
-    → with_break to s ≡ space (record s.regions { break = to }) (given (pages_for to) (pages_for s.regions.break - pages_for to) no_rights s.memory)
+    → with_break to s ≡ space (record s.regions { break = to }) (with_rights_from (pages_for to) (pages_for s.regions.break - pages_for to) no_rights s.memory)
 with_break-down to s low high down =
     within to s low high
     ∙ ap (λ (m : MemoryMap). space (record s.regions { break = to }) m)
     (cond-false (ltb (pages_for s.regions.break) (pages_for to))
-    (zeroed (pages_for s.regions.break) (pages_for to - pages_for s.regions.break) (given (pages_for s.regions.break) (pages_for to - pages_for s.regions.break) read_and_write s.memory))
-    (given (pages_for to) (pages_for s.regions.break - pages_for to) no_rights s.memory)
+    (with_zeros (pages_for s.regions.break) (pages_for to - pages_for s.regions.break) (with_rights_from (pages_for s.regions.break) (pages_for to - pages_for s.regions.break) read_and_write s.memory))
+    (with_rights_from (pages_for to) (pages_for s.regions.break - pages_for to) no_rights s.memory)
     (false_from_ne_true (ltb (pages_for s.regions.break) (pages_for to)) (λ e. let l : pages_for s.regions.break < pages_for to = ltb-true (pages_for s.regions.break) (pages_for to) e in omega arith)))
 
 -- mmap
@@ -112,7 +112,7 @@ unmap-done address length s h =
 abbrev protect_known : ℕ → ℕ → ℕ → Space → Bool → Answered
 protect_known address length protection s known =
     if not known then refused no_memory s
-    else record { answer = pos 0; space = space s.regions (given (page_of address) (pages_for length) (rights_of protection) s.memory) }
+    else record { answer = pos 0; space = space s.regions (with_rights_from (page_of address) (pages_for length) (rights_of protection) s.memory) }
 
 abbrev protect_access : ℕ → ℕ → ℕ → Space → Bool → Answered
 protect_access address length protection s asks =
@@ -154,7 +154,7 @@ protect-unknown address length protection s a h x k =
     ∙ ap (λ (b : Bool). protect_known address length protection s b) k
 
 pub protect-done : (address length protection : ℕ) (s : Space) → address % 4096 ≡ 0 → (length ≡ 0 → ⊥) → has protection 4 ≡ false → is_each (is_known s.regions) (page_of address) (pages_for length) ≡ true
-    → protect address length protection s ≡ record { answer = pos 0; space = space s.regions (given (page_of address) (pages_for length) (rights_of protection) s.memory) }
+    → protect address length protection s ≡ record { answer = pos 0; space = space s.regions (with_rights_from (page_of address) (pages_for length) (rights_of protection) s.memory) }
 protect-done address length protection s a h x k =
     protect_is address length protection s ∙ ap (λ (b : Bool). protect_start address length protection s b) (eq-eqb (address % 4096) 0 a)
     ∙ ap (λ (b : Bool). protect_empty address length protection s b) (ne_eqb length 0 h)

@@ -9,7 +9,7 @@ use Rattle.std.proofs.lemmas.List.{with_items_is, length-append, length-take, le
 use Rattle.coz_types.specs.declared.image.Area.{Area}
 use Rattle.guest_memory.specs.declared.Layout.{Layout}
 use Rattle.guest_memory.specs.Regions.{page_of, pages_for, brk_base, brk_end, map_base, map_end, IsLayout}
-use Rattle.guest_memory.specs.Memory.{MemoryMap, no_rights, read_and_write, given, zeroed}
+use Rattle.guest_memory.specs.Memory.{MemoryMap, no_rights, read_and_write, with_rights_from, with_zeros}
 use Rattle.guest_areas.specs.Answers.{invalid}
 use Rattle.guest_areas.specs.Marks.{marked}
 use Rattle.guest_areas.specs.Space.{Space, space, Answered, refused, has, rights_of, is_page_start, is_in_run, free_run, run, with_break, map, is_in_map, unmap}
@@ -27,23 +27,23 @@ back : (page : ℕ) → page_of (page * 4096) ≡ page
 back page = omega arith
 
 pub moved_up : (areas : List Area) (layout : Layout) (break : ℕ) (flags : List Bool) (m now : MemoryMap) (to old new : ℕ) → brk_base ≤ to → to ≤ brk_end layout → old ≡ pages_for break → new ≡ pages_for to → old < new
-    → now ≡ zeroed (page_of (old * 4096)) (new - old) (given (page_of (old * 4096)) (new - old) read_and_write m)
+    → now ≡ with_zeros (page_of (old * 4096)) (new - old) (with_rights_from (page_of (old * 4096)) (new - old) read_and_write m)
     → space (regions_of areas layout to flags) now ≡ with_break to (space (regions_of areas layout break flags) m)
 moved_up areas layout break flags m now to old new low high is_old is_new up e =
-    let last : space (regions_of areas layout to flags) now ≡ space (regions_of areas layout to flags) (zeroed (pages_for break) (pages_for to - pages_for break) (given (pages_for break) (pages_for to - pages_for break) read_and_write m)) =
+    let last : space (regions_of areas layout to flags) now ≡ space (regions_of areas layout to flags) (with_zeros (pages_for break) (pages_for to - pages_for break) (with_rights_from (pages_for break) (pages_for to - pages_for break) read_and_write m)) =
     ap (λ (x : MemoryMap). space (regions_of areas layout to flags) x)
-    (e ∙ ap (λ (p : ℕ). zeroed p (new - old) (given p (new - old) read_and_write m)) (back old ∙ is_old)
-    ∙ ap (λ (n : ℕ). zeroed (pages_for break) n (given (pages_for break) n read_and_write m)) (let f : new - old ≡ pages_for to - pages_for break = omega arith in f)) in
+    (e ∙ ap (λ (p : ℕ). with_zeros p (new - old) (with_rights_from p (new - old) read_and_write m)) (back old ∙ is_old)
+    ∙ ap (λ (n : ℕ). with_zeros (pages_for break) n (with_rights_from (pages_for break) n read_and_write m)) (let f : new - old ≡ pages_for to - pages_for break = omega arith in f)) in
     last ∙ sym (with_break-up to (space (regions_of areas layout break flags) m) low high (omega arith))
 
 pub moved_down : (areas : List Area) (layout : Layout) (break : ℕ) (flags : List Bool) (m now : MemoryMap) (to old new : ℕ) → brk_base ≤ to → to ≤ brk_end layout → old ≡ pages_for break → new ≡ pages_for to → new ≤ old
-    → now ≡ given (page_of (new * 4096)) (old - new) no_rights m
+    → now ≡ with_rights_from (page_of (new * 4096)) (old - new) no_rights m
     → space (regions_of areas layout to flags) now ≡ with_break to (space (regions_of areas layout break flags) m)
 moved_down areas layout break flags m now to old new low high is_old is_new down e =
-    let last : space (regions_of areas layout to flags) now ≡ space (regions_of areas layout to flags) (given (pages_for to) (pages_for break - pages_for to) no_rights m) =
+    let last : space (regions_of areas layout to flags) now ≡ space (regions_of areas layout to flags) (with_rights_from (pages_for to) (pages_for break - pages_for to) no_rights m) =
     ap (λ (x : MemoryMap). space (regions_of areas layout to flags) x)
-    (e ∙ ap (λ (p : ℕ). given p (old - new) no_rights m) (back new ∙ is_new)
-    ∙ ap (λ (n : ℕ). given (pages_for to) n no_rights m) (let f : old - new ≡ pages_for break - pages_for to = omega arith in f)) in
+    (e ∙ ap (λ (p : ℕ). with_rights_from p (old - new) no_rights m) (back new ∙ is_new)
+    ∙ ap (λ (n : ℕ). with_rights_from (pages_for to) n no_rights m) (let f : old - new ≡ pages_for break - pages_for to = omega arith in f)) in
     last ∙ sym (with_break-down to (space (regions_of areas layout break flags) m) low high (omega arith))
 
 not_false : (b : Bool) → not b ≡ true → b ≡ false
@@ -53,7 +53,7 @@ not_false false h = refl
 -- a run that is found is mapped
 pub map_done : (areas : List Area) (layout : Layout) (break : ℕ) (flags filled : List Bool) (m now : MemoryMap) (len protection count place k : ℕ) → IsKept layout break flags → (len ≡ 0 → ⊥) → has protection 4 ≡ false → count ≡ pages_for len
     → free_run (regions_of areas layout break flags) count ≡ Some (34603008 + place) → k ≡ count → filled ≡ replicate k true
-    → now ≡ zeroed (page_of (141733920768 + place * 4096)) count (given (page_of (141733920768 + place * 4096)) count (rights_of protection) m)
+    → now ≡ with_zeros (page_of (141733920768 + place * 4096)) count (with_rights_from (page_of (141733920768 + place * 4096)) count (rights_of protection) m)
     → record { answer = pos (141733920768 + place * 4096); space = space (regions_of areas layout break (put_mid place k flags filled)) now } ≡ map len protection (space (regions_of areas layout break flags) m)
 map_done areas layout break flags filled m now len protection count place k kept some safe is found size full e =
     let some_pages : 0 < count = omega arith in
@@ -66,9 +66,9 @@ map_done areas layout break flags filled m now len protection count place k kept
     let mapped : marked 34603008 (put_mid place k flags filled) ≡ filter (λ p. ltb p (34603008 + place)) (marked 34603008 flags) ++ run (34603008 + place) (pages_for len) ++ filter (λ p. ltb (34603008 + place) p) (marked 34603008 flags) =
     ap (λ (fs : List Bool). marked 34603008 (put_mid place k flags fs)) full ∙ marked-taken 34603008 place k flags more within free
     ∙ ap (λ (n : ℕ). filter (λ p. ltb p (34603008 + place)) (marked 34603008 flags) ++ run (34603008 + place) n ++ filter (λ p. ltb (34603008 + place) p) (marked 34603008 flags)) (size ∙ is) in
-    let memory : now ≡ zeroed (34603008 + place) (pages_for len) (given (34603008 + place) (pages_for len) (rights_of protection) m) =
-    e ∙ ap (λ (p : ℕ). zeroed p count (given p count (rights_of protection) m)) (let f : page_of (141733920768 + place * 4096) ≡ 34603008 + place = omega arith in f)
-    ∙ ap (λ (n : ℕ). zeroed (34603008 + place) n (given (34603008 + place) n (rights_of protection) m)) is in
+    let memory : now ≡ with_zeros (34603008 + place) (pages_for len) (with_rights_from (34603008 + place) (pages_for len) (rights_of protection) m) =
+    e ∙ ap (λ (p : ℕ). with_zeros p count (with_rights_from p count (rights_of protection) m)) (let f : page_of (141733920768 + place * 4096) ≡ 34603008 + place = omega arith in f)
+    ∙ ap (λ (n : ℕ). with_zeros (34603008 + place) n (with_rights_from (34603008 + place) n (rights_of protection) m)) is in
     ap (λ (a : ℕ). answered a areas layout break (marked 34603008 (put_mid place k flags filled)) now) (let f : 141733920768 + place * 4096 ≡ (34603008 + place) * 4096 = omega arith in f)
     ∙ ap (λ (ps : List ℕ). answered ((34603008 + place) * 4096) areas layout break ps now) mapped
     ∙ ap (λ (x : MemoryMap). answered ((34603008 + place) * 4096) areas layout break
@@ -111,7 +111,7 @@ outside_above layout address len count valid aligned is h =
 -- a run of the region is unmapped
 pub unmap_done : (areas : List Area) (layout : Layout) (break : ℕ) (flags filled : List Bool) (m now : MemoryMap) (address len count place k : ℕ) → IsKept layout break flags → address % 4096 ≡ 0 → (len ≡ 0 → ⊥) → map_base ≤ address → count ≡ pages_for len
     → address / 4096 + count ≤ (map_base + layout.map) / 4096 → place ≡ address / 4096 - 34603008 → k ≡ count → filled ≡ replicate k false
-    → now ≡ given (page_of address) count no_rights m
+    → now ≡ with_rights_from (page_of address) count no_rights m
     → record { answer = pos 0; space = space (regions_of areas layout break (put_mid place k flags filled)) now } ≡ unmap address len (space (regions_of areas layout break flags) m)
 unmap_done areas layout break flags filled m now address len count place k kept aligned some low is high at size empty e =
     let valid = kept.valid.whole_map in
@@ -128,7 +128,7 @@ unmap_done areas layout break flags filled m now address len count place k kept 
     ∙ ap (λ (n : ℕ). filter (λ p. not (is_in_run (page_of address) n p)) (marked 34603008 flags)) (size ∙ is) in
     ap (λ (ps : List ℕ). answered 0 areas layout break ps now) mapped
     ∙ ap (λ (x : MemoryMap). answered 0 areas layout break (filter (λ p. not (is_in_run (page_of address) (pages_for len) p)) (marked 34603008 flags)) x)
-    (e ∙ ap (λ (n : ℕ). given (page_of address) n no_rights m) is)
+    (e ∙ ap (λ (n : ℕ). with_rights_from (page_of address) n no_rights m) is)
     ∙ sym (unmap-done address len (space (regions_of areas layout break flags) m) passes)
 
 -- the flags after a part of them was filled

@@ -7,12 +7,12 @@ use Rattle.coz_types.specs.declared.image.Rights.{Rights}
 use Rattle.coz_types.specs.Image.{ImageParts}
 use Rattle.coz_types.specs.Maps.{Map, value_or, with_value, without}
 use Rattle.guest_memory.specs.declared.Layout.{Layout}
-use Rattle.guest_memory.specs.Entries.{put}
-use Rattle.guest_memory.specs.Memory.{MemoryMap, no_rights, read_and_write, is_any_right, rights_at, is_allowed, with_byte, with_bytes, with_number, with_rights, given, with_area, empty_memory, first_memory}
+use Rattle.guest_memory.specs.Entries.{with_kept}
+use Rattle.guest_memory.specs.Memory.{MemoryMap, no_rights, read_and_write, is_any_right, rights_at, is_allowed, with_byte, with_bytes, with_number, with_rights, with_rights_from, with_area, empty_memory, first_memory}
 use Rattle.guest_memory.specs.Regions.{page_of, stack_base, IsLayout}
 use Rattle.guest_areas.specs.Entry.{with_numbers}
 use Rattle.std.specs.Prelude.{fold}
-use Rattle.guest_memory.proofs.Maps.{value_or-here, value_or-there, with_value-same, with_value-above, without-same, without-other, put-kept, put-left}
+use Rattle.guest_memory.proofs.Maps.{value_or-here, value_or-there, with_value-same, with_value-above, without-same, without-other, with_kept-kept, with_kept-left}
 use Rattle.guest_memory.proofs.Runs.{allowed_from}
 
 -- a value before the first entry
@@ -83,30 +83,30 @@ value_or-without_other {X = X} d k (e ∷ es) q h =
     ∙ beyond d e.0 e.1 es (without (λ p. eqb p k) es) q (value_or-without_other d k es q h))
     (cases_order e.0 k)
 
-pub value_or-put_other : {X : Type 0} (keeps : X → Bool) (d : X) (k : ℕ) (x : X) (m : Map X) (q : ℕ) → (k ≡ q → ⊥) → value_or d (put keeps k x m) q ≡ value_or d m q
-value_or-put_other {X = X} keeps d k x m q h =
+pub value_or-with_kept_other : {X : Type 0} (keeps : X → Bool) (d : X) (k : ℕ) (x : X) (m : Map X) (q : ℕ) → (k ≡ q → ⊥) → value_or d (with_kept keeps k x m) q ≡ value_or d m q
+value_or-with_kept_other {X = X} keeps d k x m q h =
     ⊎_elim
-    (λ (e : keeps x ≡ true). ap (λ (es : Map X). value_or d es q) (put-kept keeps k x m e) ∙ value_or-with_value_other d k x m q h)
-    (λ (e : keeps x ≡ false). ap (λ (es : Map X). value_or d es q) (put-left keeps k x m e) ∙ value_or-without_other d k m q h)
+    (λ (e : keeps x ≡ true). ap (λ (es : Map X). value_or d es q) (with_kept-kept keeps k x m e) ∙ value_or-with_value_other d k x m q h)
+    (λ (e : keeps x ≡ false). ap (λ (es : Map X). value_or d es q) (with_kept-left keeps k x m e) ∙ value_or-without_other d k m q h)
     (cases_Bool (keeps x))
 
 -- rights that are given to pages in a row leave those of lower pages
-pub rights-given_below : (first n : ℕ) (r : Rights) (m : MemoryMap) (q : ℕ) → q < first → value_or no_rights (given first n r m).rights q ≡ value_or no_rights m.rights q
-rights-given_below first zero r m q h = refl
-rights-given_below first (suc n) r m q h =
-    rights-given_below (first + 1) n r (with_rights first r m) q (omega arith)
-    ∙ value_or-put_other is_any_right no_rights first r m.rights q (λ s. omega arith)
+pub rights-with_rights_from_below : (first n : ℕ) (r : Rights) (m : MemoryMap) (q : ℕ) → q < first → value_or no_rights (with_rights_from first n r m).rights q ≡ value_or no_rights m.rights q
+rights-with_rights_from_below first zero r m q h = refl
+rights-with_rights_from_below first (suc n) r m q h =
+    rights-with_rights_from_below (first + 1) n r (with_rights first r m) q (omega arith)
+    ∙ value_or-with_kept_other is_any_right no_rights first r m.rights q (λ s. omega arith)
 
-pub rights-given : (first n : ℕ) (r : Rights) (m : MemoryMap) (q : ℕ) → is_any_right r ≡ true → first ≤ q → q < first + n → value_or no_rights (given first n r m).rights q ≡ r
-rights-given first zero r m q some from below = absurd (omega arith)
-rights-given first (suc n) r m q some from below =
+pub rights-with_rights_from : (first n : ℕ) (r : Rights) (m : MemoryMap) (q : ℕ) → is_any_right r ≡ true → first ≤ q → q < first + n → value_or no_rights (with_rights_from first n r m).rights q ≡ r
+rights-with_rights_from first zero r m q some from below = absurd (omega arith)
+rights-with_rights_from first (suc n) r m q some from below =
     ⊎_elim
     (λ (s : first ≡ q).
-    rights-given_below (first + 1) n r (with_rights first r m) q (omega arith)
-    ∙ ap (λ (k : ℕ). value_or no_rights (put is_any_right first r m.rights) k) (sym s)
-    ∙ ap (λ (es : Map Rights). value_or no_rights es first) (put-kept is_any_right first r m.rights some)
+    rights-with_rights_from_below (first + 1) n r (with_rights first r m) q (omega arith)
+    ∙ ap (λ (k : ℕ). value_or no_rights (with_kept is_any_right first r m.rights) k) (sym s)
+    ∙ ap (λ (es : Map Rights). value_or no_rights es first) (with_kept-kept is_any_right first r m.rights some)
     ∙ value_or-with_value no_rights first r m.rights)
-    (λ (o : (first < q) ⊎ (q < first)). rights-given (first + 1) n r (with_rights first r m) q some (omega arith) (omega arith))
+    (λ (o : (first < q) ⊎ (q < first)). rights-with_rights_from (first + 1) n r (with_rights first r m) q some (omega arith) (omega arith))
     (cases_order first q)
 
 -- the highest page of the stack of a first memory
@@ -115,7 +115,7 @@ stack_rights image layout valid =
     let p = valid.whole_stack in
     let q = valid.some_stack in
     let s = valid.stack in
-    rights-given (page_of (stack_base layout)) (page_of layout.stack) read_and_write (fold (with_area image) (empty_memory image layout) image.areas) 0x3FFFFFF refl (omega arith) (omega arith)
+    rights-with_rights_from (page_of (stack_base layout)) (page_of layout.stack) read_and_write (fold (with_area image) (empty_memory image layout) image.areas) 0x3FFFFFF refl (omega arith) (omega arith)
 
 rights-with_bytes : (m : MemoryMap) (a : ℕ) (bs : List ℕ) → (with_bytes a bs m).rights ≡ m.rights
 rights-with_bytes m a [] = refl

@@ -2,9 +2,9 @@
 use Rattle.std.proofs.Common.{ℕ, ◌≡◌, ◌+◌, ◌-◌, [], ◌∷◌, Bool, true, false, not, ◌&&◌, ◌||◌, cond, leb, ltb, eqb, List, refl, sym, ap, ◌∙◌, Option, Some, None}
 use Rattle.std.specs.Prelude.{pos}
 use Rattle.std.specs.Int.{bytes_low_first}
-use Rattle.guest_memory.specs.Memory.{MemoryMap, no_rights, read_and_write, given, zeroed, with_number, with_bytes, first_memory}
+use Rattle.guest_memory.specs.Memory.{MemoryMap, no_rights, read_and_write, with_rights_from, with_zeros, with_number, with_bytes, first_memory}
 use Rattle.guest_memory.specs.Regions.{page_of, pages_for, brk_base, brk_end, stack_top}
-use Rattle.guest_memory.proofs.Runs.{same_regions-given, same_regions-with_bytes, same_regions-first}
+use Rattle.guest_memory.proofs.Runs.{same_regions-with_rights_from, same_regions-with_bytes, same_regions-first}
 use Rattle.coz_types.specs.Image.{ImageParts}
 use Rattle.guest_memory.specs.declared.Layout.{Layout}
 use Rattle.guest_areas.specs.Entry.{with_numbers, stack_pointer, name, entry_numbers, with_entry, first_space}
@@ -28,10 +28,10 @@ same s = record { areas = refl; regions = refl; image = refl; layout = refl }
 
 between_same : (m : MemoryMap) (old new : ℕ) → ((memory_between old new m).image ≡ m.image) × ((memory_between old new m).layout ≡ m.layout)
 between_same m old new =
-    let up = same_regions-given m old (new - old) read_and_write in
-    either (λ (x : MemoryMap). (x.image ≡ m.image) × (x.layout ≡ m.layout)) (ltb old new) (zeroed old (new - old) (given old (new - old) read_and_write m)) (given new (old - new) no_rights m)
+    let up = same_regions-with_rights_from m old (new - old) read_and_write in
+    either (λ (x : MemoryMap). (x.image ≡ m.image) × (x.layout ≡ m.layout)) (ltb old new) (with_zeros old (new - old) (with_rights_from old (new - old) read_and_write m)) (with_rights_from new (old - new) no_rights m)
     (up.0, up.1)
-    (same_regions-given m new (old - new) no_rights)
+    (same_regions-with_rights_from m new (old - new) no_rights)
 
 pub with_break-steady : (to : ℕ) (s : Space) → IsSteady s (with_break to s)
 unfolding with_break
@@ -43,7 +43,7 @@ with_break-steady to s =
 chosen_steady : (length protection : ℕ) (s : Space) (o : Option ℕ) → IsSteady s (map_chosen length protection s o).space
 chosen_steady length protection s None = same s
 chosen_steady length protection s (Some first) =
-    let new = same_regions-given s.memory first (pages_for length) (rights_of protection) in record { areas = refl; regions = refl; image = new.0; layout = new.1 }
+    let new = same_regions-with_rights_from s.memory first (pages_for length) (rights_of protection) in record { areas = refl; regions = refl; image = new.0; layout = new.1 }
 
 pub map-steady : (length protection : ℕ) (s : Space) → IsSteady s (map length protection s).space
 unfolding map
@@ -55,15 +55,15 @@ map-steady length protection s =
 pub unmap-steady : (address length : ℕ) (s : Space) → IsSteady s (unmap address length s).space
 unfolding unmap
 unmap-steady address length s =
-    let new = same_regions-given s.memory (page_of address) (pages_for length) no_rights in
+    let new = same_regions-with_rights_from s.memory (page_of address) (pages_for length) no_rights in
     either (λ (a : Answered). IsSteady s a.space) (not (is_page_start address) || eqb length 0 || not (is_in_map s.regions.layout address length)) (refused invalid s)
     (record { answer = pos 0; space = without_run (page_of address) (pages_for length) s }) (same s) (record { areas = refl; regions = refl; image = new.0; layout = new.1 })
 
 pub protect-steady : (address length protection : ℕ) (s : Space) → IsSteady s (protect address length protection s).space
 unfolding protect
 protect-steady address length protection s =
-    let new = same_regions-given s.memory (page_of address) (pages_for length) (rights_of protection) in
-    let done : Answered = record { answer = pos 0; space = space s.regions (given (page_of address) (pages_for length) (rights_of protection) s.memory) } in
+    let new = same_regions-with_rights_from s.memory (page_of address) (pages_for length) (rights_of protection) in
+    let done : Answered = record { answer = pos 0; space = space s.regions (with_rights_from (page_of address) (pages_for length) (rights_of protection) s.memory) } in
     let unless_known : Answered = cond (not (is_each (is_known s.regions) (page_of address) (pages_for length))) (refused no_memory s) done in
     let unless_execute : Answered = cond (has protection 4) (refused no_access s) unless_known in
     let Keeps : Answered → Type 0 = λ a. IsSteady s a.space in

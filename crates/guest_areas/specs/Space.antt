@@ -5,7 +5,7 @@ use Rattle.coz_types.specs.declared.image.Area.{Area}
 use Rattle.coz_types.specs.declared.image.Rights.{Rights}
 use Rattle.guest_memory.specs.declared.Layout.{Layout}
 use Rattle.guest_memory.specs.Regions.{page_size, page_of, pages_for, brk_base, brk_end, map_base, map_end, stack_base}
-use Rattle.guest_memory.specs.Memory.{MemoryMap, no_rights, read_and_write, given, zeroed}
+use Rattle.guest_memory.specs.Memory.{MemoryMap, no_rights, read_and_write, with_rights_from, with_zeros}
 use Rattle.guest_areas.specs.Answers.{no_memory, no_access, invalid}
 
 -- which pages a program has
@@ -89,8 +89,8 @@ is_known r page =
 abbrev pub memory_between : ℕ → ℕ → MemoryMap → MemoryMap
 memory_between old new m =
     if nat_lt old new
-    then zeroed old (new - old) (given old (new - old) read_and_write m)
-    else given new (old - new) no_rights m
+    then with_zeros old (new - old) (with_rights_from old (new - old) read_and_write m)
+    else with_rights_from new (old - new) no_rights m
 
 -- brk: the break, if it may stand there; it answers with the break after it
 unfoldable pub with_break : ℕ → Space → Space
@@ -102,7 +102,7 @@ with_break to s =
 abbrev pub with_run : ℕ → ℕ → ℕ → Space → Space
 with_run first count protection s =
     space (record s.regions { mapped = filter (λ p. nat_lt p first) s.regions.mapped ++ run first count ++ filter (λ p. nat_lt first p) s.regions.mapped })
-    (zeroed first count (given first count (rights_of protection) s.memory))
+    (with_zeros first count (with_rights_from first count (rights_of protection) s.memory))
 
 -- mmap of so many bytes
 unfoldable pub map : ℕ → ℕ → Space → Answered
@@ -121,7 +121,7 @@ is_in_map layout address length = nat_le map_base address && nat_le (address + p
 abbrev pub without_run : ℕ → ℕ → Space → Space
 without_run first count s =
     space (record s.regions { mapped = filter (λ p. not (is_in_run first count p)) s.regions.mapped })
-    (given first count no_rights s.memory)
+    (with_rights_from first count no_rights s.memory)
 
 -- munmap of so many bytes from an address on
 unfoldable pub unmap : ℕ → ℕ → Space → Answered
@@ -136,4 +136,4 @@ protect address length protection s =
     else if length == 0 then refused (pos 0) s
     else if has protection 4 then refused no_access s
     else if not (is_each (is_known s.regions) (page_of address) (pages_for length)) then refused no_memory s
-    else record { answer = pos 0; space = space s.regions (given (page_of address) (pages_for length) (rights_of protection) s.memory) }
+    else record { answer = pos 0; space = space s.regions (with_rights_from (page_of address) (pages_for length) (rights_of protection) s.memory) }

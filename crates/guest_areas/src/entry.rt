@@ -14,16 +14,18 @@ const NAME: Address = STACK_TOP - 32;
 const RANDOM: Address = STACK_TOP - 16;
 
 // The auxiliary vector's keys (System V ABI).
+
+/// AT_PHDR: the address of the program headers.
 const PROGRAM_HEADERS: u64 = 3;
-
+/// AT_PHENT: the bytes of one.
 const HEADER_SIZE: u64 = 4;
-
+/// AT_PHNUM: how many there are.
 const HEADER_COUNT: u64 = 5;
-
+/// AT_PAGESZ: the bytes of a page.
 const PAGE_SIZE: u64 = 6;
-
+/// AT_ENTRY: the address of the first instruction.
 const ENTRY: u64 = 9;
-
+/// AT_RANDOM: the address of 16 random bytes.
 const RANDOM_BYTES: u64 = 25;
 
 /// Writes what a program finds on the stack at its entry.

@@ -22,21 +22,25 @@ use guest_memory::{BRK_BASE, Layout, MAP_BASE, Memory, STACK_TOP};
 use std::alloc::{AllocError, Global};
 use std::marker::Model;
 
+/// The stack pointer at a program's entry: below the entry stack's 176 bytes.
 const STACK_POINTER: Address = STACK_TOP - 176;
 
 // The errors of Linux's calls.
+
+/// -ENOMEM: no room for it.
 const NO_MEMORY: i64 = -12;
-
+/// -EACCES: such rights are not given.
 const NO_ACCESS: i64 = -13;
-
+/// -EINVAL: no such range or protection.
 const INVALID: i64 = -22;
-
+/// The rights of pages that are free.
 const NO_RIGHTS: Rights = Rights {
     read: false,
     write: false,
     execute: false,
 };
 
+/// The rights of the pages below the break.
 const READ_AND_WRITE: Rights = Rights {
     read: true,
     write: true,

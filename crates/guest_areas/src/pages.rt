@@ -6,10 +6,12 @@ ghost use Rattle.guest_areas.specs.Space.{has, rights_of, is_in_run};
 use coz_types::{PAGE, Rights};
 
 // The bits of a protection (Linux: mprotect(2)).
+
+/// PROT_READ.
 const READ: u64 = 1;
-
+/// PROT_WRITE.
 const WRITE: u64 = 2;
-
+/// PROT_EXEC.
 const EXECUTE: u64 = 4;
 
 /// The pages that hold so many bytes.

@@ -11,7 +11,7 @@ use Rattle.guest_memory.specs.declared.Layout.{Layout}
 use Rattle.std.specs.Prelude.{fold, if◌then◌else◌}
 use Rattle.coz_types.specs.Maps.{value_or}
 use Rattle.byteorder.specs.Endian.{little_from}
-use Rattle.guest_memory.specs.Memory.{empty_memory, first_memory, read_and_write, MemoryMap, no_rights, byte_at, with_byte, rights_at, is_allowed, is_readable, is_writable, is_executable, number_at, with_number, with_bytes, with_rights, with_area, area_bytes, given, bytes_at, load, store, fetch}
+use Rattle.guest_memory.specs.Memory.{empty_memory, first_memory, read_and_write, MemoryMap, no_rights, byte_at, with_byte, rights_at, is_allowed, is_readable, is_writable, is_executable, number_at, with_number, with_bytes, with_rights, with_area, area_bytes, with_rights_from, bytes_at, load, store, fetch}
 use Rattle.guest_memory.specs.Regions.{page_of, stack_base}
 
 pub allowed_from : (right : Rights → Bool) (m : MemoryMap) (a n : ℕ) → ((j : ℕ) → j < n → right (rights_at m (a + j)) ≡ true) → is_allowed right m a n ≡ true
@@ -152,16 +152,16 @@ bytes_more m after a i bs h e =
     ∙ ap (λ (xs : List ℕ). with_bytes (a + i) xs m) (sym (drop_more bs i 0 h))
 
 -- one page more
-pub given_more : (m after : MemoryMap) (first count i : ℕ) (r : Rights) → i < count → after ≡ with_rights (first + i) r m → given (first + (i + 1)) (count - (i + 1)) r after ≡ given (first + i) (count - i) r m
-given_more m after first count i r h e =
-    ap (λ (x : MemoryMap). given (first + (i + 1)) (count - (i + 1)) r x) e
-    ∙ ap (λ (q : ℕ). given q (count - (i + 1)) r (with_rights (first + i) r m)) (let f : first + (i + 1) ≡ first + i + 1 = omega arith in f)
-    ∙ ap (λ (k : ℕ). given (first + i) k r m) (let f : suc (count - (i + 1)) ≡ count - i = omega arith in f)
+pub with_rights_from_more : (m after : MemoryMap) (first count i : ℕ) (r : Rights) → i < count → after ≡ with_rights (first + i) r m → with_rights_from (first + (i + 1)) (count - (i + 1)) r after ≡ with_rights_from (first + i) (count - i) r m
+with_rights_from_more m after first count i r h e =
+    ap (λ (x : MemoryMap). with_rights_from (first + (i + 1)) (count - (i + 1)) r x) e
+    ∙ ap (λ (q : ℕ). with_rights_from q (count - (i + 1)) r (with_rights (first + i) r m)) (let f : first + (i + 1) ≡ first + i + 1 = omega arith in f)
+    ∙ ap (λ (k : ℕ). with_rights_from (first + i) k r m) (let f : suc (count - (i + 1)) ≡ count - i = omega arith in f)
 
 -- neither the rights nor the bytes that are given change the image and the layout
-pub same_regions-given : (m : MemoryMap) (first count : ℕ) (r : Rights) → ((given first count r m).image ≡ m.image) × ((given first count r m).layout ≡ m.layout)
-same_regions-given m first zero r = (refl, refl)
-same_regions-given m first (suc count) r = same_regions-given (with_rights first r m) (first + 1) count r
+pub same_regions-with_rights_from : (m : MemoryMap) (first count : ℕ) (r : Rights) → ((with_rights_from first count r m).image ≡ m.image) × ((with_rights_from first count r m).layout ≡ m.layout)
+same_regions-with_rights_from m first zero r = (refl, refl)
+same_regions-with_rights_from m first (suc count) r = same_regions-with_rights_from (with_rights first r m) (first + 1) count r
 
 pub same_regions-with_bytes : (m : MemoryMap) (a : ℕ) (bs : List ℕ) → ((with_bytes a bs m).image ≡ m.image) × ((with_bytes a bs m).layout ≡ m.layout)
 same_regions-with_bytes m a [] = (refl, refl)
@@ -169,8 +169,8 @@ same_regions-with_bytes m a (b ∷ bs) = same_regions-with_bytes (with_byte a b 
 
 pub same_regions-with_area : (image : ImageParts) (m : MemoryMap) (area : Area) → ((with_area image m area).image ≡ m.image) × ((with_area image m area).layout ≡ m.layout)
 same_regions-with_area image m area =
-    let g = same_regions-given m (page_of area.start) (page_of area.size) area.rights in
-    let w = same_regions-with_bytes (given (page_of area.start) (page_of area.size) area.rights m) area.vaddr (area_bytes image area) in
+    let g = same_regions-with_rights_from m (page_of area.start) (page_of area.size) area.rights in
+    let w = same_regions-with_bytes (with_rights_from (page_of area.start) (page_of area.size) area.rights m) area.vaddr (area_bytes image area) in
     (w.0 ∙ g.0, w.1 ∙ g.1)
 
 same_regions-areas : (image : ImageParts) (m : MemoryMap) (areas : List Area) → ((fold (with_area image) m areas).image ≡ m.image) × ((fold (with_area image) m areas).layout ≡ m.layout)
@@ -184,7 +184,7 @@ same_regions-areas image m (a ∷ as_) =
 pub same_regions-first : (image : ImageParts) (layout : Layout) → ((first_memory image layout).image ≡ image) × ((first_memory image layout).layout ≡ layout)
 same_regions-first image layout =
     let m = fold (with_area image) (empty_memory image layout) image.areas in
-    let g = same_regions-given m (page_of (stack_base layout)) (page_of layout.stack) read_and_write in
+    let g = same_regions-with_rights_from m (page_of (stack_base layout)) (page_of layout.stack) read_and_write in
     let a = same_regions-areas image (empty_memory image layout) image.areas in
     (g.0 ∙ a.0, g.1 ∙ a.1)
 

@@ -6,7 +6,7 @@ use Rattle.coz_types.specs.declared.image.Area.{Area}
 use Rattle.guest_memory.specs.declared.Layout.{Layout}
 use Rattle.coz_types.specs.Maps.{Map, value_or, without}
 use Rattle.coz_types.specs.Image.{ImageParts}
-use Rattle.guest_memory.specs.Entries.{put}
+use Rattle.guest_memory.specs.Entries.{with_kept}
 use Rattle.guest_memory.specs.Regions.{page_of, stack_base, IsKnown}
 
 pub record MemoryMap : Type 0 where
@@ -37,10 +37,10 @@ abbrev pub rights_at : MemoryMap → ℕ → Rights
 rights_at m a = value_or no_rights m.rights (page_of a)
 
 abbrev pub with_byte : ℕ → ℕ → MemoryMap → MemoryMap
-with_byte a b m = record m { bytes = put is_any_byte a b m.bytes }
+with_byte a b m = record m { bytes = with_kept is_any_byte a b m.bytes }
 
 abbrev pub with_rights : ℕ → Rights → MemoryMap → MemoryMap
-with_rights page r m = record m { rights = put is_any_right page r m.rights }
+with_rights page r m = record m { rights = with_kept is_any_right page r m.rights }
 
 -- so many bytes from an address on have the right
 abbrev pub is_allowed : (Rights → Bool) → MemoryMap → ℕ → ℕ → Bool
@@ -92,13 +92,13 @@ abbrev pub fetch : MemoryMap → ℕ → Option ℕ
 fetch m a = if is_executable m a 4 then Some (number_at m a 4) else None
 
 -- so many pages from one on have these rights
-abbrev pub given : ℕ → ℕ → Rights → MemoryMap → MemoryMap
-given page zero r m = m
-given page (suc n) r m = given (page + 1) n r (with_rights page r m)
+abbrev pub with_rights_from : ℕ → ℕ → Rights → MemoryMap → MemoryMap
+with_rights_from page zero r m = m
+with_rights_from page (suc n) r m = with_rights_from (page + 1) n r (with_rights page r m)
 
 -- so many pages from one on are zeros
-abbrev pub zeroed : ℕ → ℕ → MemoryMap → MemoryMap
-zeroed page n m = record m { bytes = without (λ a. nat_le page (page_of a) && nat_lt (page_of a) (page + n)) m.bytes }
+abbrev pub with_zeros : ℕ → ℕ → MemoryMap → MemoryMap
+with_zeros page n m = record m { bytes = without (λ a. nat_le page (page_of a) && nat_lt (page_of a) (page + n)) m.bytes }
 
 abbrev pub area_bytes : ImageParts → Area → List ℕ
 area_bytes image area = take area.filled (drop area.offset image.file)
@@ -106,7 +106,7 @@ area_bytes image area = take area.filled (drop area.offset image.file)
 -- with a load area of an image
 abbrev pub with_area : ImageParts → MemoryMap → Area → MemoryMap
 with_area image m area =
-    with_bytes area.vaddr (area_bytes image area) (given (page_of area.start) (page_of area.size) area.rights m)
+    with_bytes area.vaddr (area_bytes image area) (with_rights_from (page_of area.start) (page_of area.size) area.rights m)
 
 abbrev pub empty_memory : ImageParts → Layout → MemoryMap
 empty_memory image layout = record { image = image; layout = layout; rights = []; bytes = [] }
@@ -114,5 +114,5 @@ empty_memory image layout = record { image = image; layout = layout; rights = []
 -- the load areas of an image, and a stack of zeros
 abbrev pub first_memory : ImageParts → Layout → MemoryMap
 first_memory image layout =
-    given (page_of (stack_base layout)) (page_of layout.stack) read_and_write
+    with_rights_from (page_of (stack_base layout)) (page_of layout.stack) read_and_write
     (fold (with_area image) (empty_memory image layout) image.areas)

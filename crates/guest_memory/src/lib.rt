@@ -13,7 +13,7 @@ mod pages;
 ghost use Rattle.std.specs.Prelude.{ℕ, ◌≡◌, ◌%◌, if◌then◌else◌, length, false, ◌≤◌, ◌+◌, ◌-◌, ◌<◌, ◌^◌, IfOk, MatchOption, MatchResult, IsTrue};
 ghost use Rattle.std.specs.Result.{result_ok};
 ghost use Rattle.coz_types.specs.Maps.{value_or};
-ghost use Rattle.guest_memory.specs.Memory.{empty_memory, first_memory, with_area, given, zeroed, IsSize, load, store, fetch, is_allowed, is_readable, is_writable, byte_at, number_at, with_rights, with_byte, with_bytes, bytes_at, rights_at, no_rights, IsHeld};
+ghost use Rattle.guest_memory.specs.Memory.{empty_memory, first_memory, with_area, with_rights_from, with_zeros, IsSize, load, store, fetch, is_allowed, is_readable, is_writable, byte_at, number_at, with_rights, with_byte, with_bytes, bytes_at, rights_at, no_rights, IsHeld};
 ghost use Rattle.guest_memory.specs.Right.{has_right};
 ghost use Rattle.guest_memory.specs.Regions.{IsLayout, IsKnown, usual, page_of};
 ghost use Rattle.std.specs.List.{Contains};
@@ -23,14 +23,15 @@ use crate::find::{find, find_from, pick};
 use crate::lay::lay;
 use crate::numbers::{number_of, put_number, zero_from};
 use crate::pages::Pages;
-use coz_types::{Address, Area, Image, PAGE, Rights};
+use coz_types::{Address, Area, Image, LOAD_END, PAGE, Rights};
 use std::alloc::{AllocError, Global};
 use std::marker::Model;
 
+/// The bytes of a mebibyte.
 const MIB: u64 = 1024 * 1024;
 
-/// Where the region below the break begins.
-pub const BRK_BASE: Address = 0x20_0000_0000;
+/// Where the region below the break begins: at the end of the load areas.
+pub const BRK_BASE: Address = LOAD_END;
 
 /// Where the region of the mappings begins.
 pub const MAP_BASE: Address = 0x21_0000_0000;
@@ -82,6 +83,7 @@ struct Page {
     touched: bool,
 }
 
+/// The rights of a page that has none.
 const NO_RIGHTS: Rights = Rights {
     read: false,
     write: false,
@@ -111,11 +113,11 @@ pub struct Memory<'a> {
 impl<'a> Model for Memory<'a> {
     ghost use Rattle.std.specs.Prelude.{◌<◌, length};
     ghost use Rattle.guest_memory.specs.Memory.{MemoryMap};
-    ghost use Rattle.guest_memory.specs.Shown.{shown, IsMemory};
+    ghost use Rattle.guest_memory.specs.Shown.{map_of, IsMemory};
 
     ghost Value = { MemoryMap };
 
-    ghost view = { λ m. shown m.image.now m.layout m.spans.items m.pages.each.items m.bytes.items };
+    ghost view = { λ m. map_of m.image.now m.layout m.spans.items m.pages.each.items m.bytes.items };
 
     ghost invariant = { λ m. IsMemory m.image.now m.layout m.spans.items m.pages.each.items m.bytes.items × (m.code < length m.spans.items) };
 }
@@ -189,7 +191,7 @@ impl<'a> Memory<'a> {
     /// Gives pages in a row their rights.
     fn give_run(&mut self, first: u64, count: u64, rights: Rights)
         requires { (q : ℕ) → first ≤ q → q < first + count → IsKnown self.old.image.areas self.old.layout q }
-        ensures { self.new ≡ given first count rights self.old }
+        ensures { self.new ≡ with_rights_from first count rights self.old }
     {
         for i in 0..count {
             // The invariant of `self` is known to a proof once a field is used, here in each turn.
@@ -204,8 +206,8 @@ impl<'a> Memory<'a> {
         requires known { (q : ℕ) → page_of page ≤ q → q < page_of page + pages → IsKnown self.old.image.areas self.old.layout q }
         requires no_execute { rights.execute ≡ false }
         ensures { self.new ≡ (if zero
-            then zeroed (page_of page) pages (given (page_of page) pages rights self.old)
-            else given (page_of page) pages rights self.old) }
+            then with_zeros (page_of page) pages (with_rights_from (page_of page) pages rights self.old)
+            else with_rights_from (page_of page) pages rights self.old) }
     {
         self.give_run(page / PAGE, pages, rights);
         if zero {
@@ -215,7 +217,7 @@ impl<'a> Memory<'a> {
 
     fn zero_run(&mut self, first: u64, count: u64)
         requires { (q : ℕ) → first ≤ q → q < first + count → IsKnown self.old.image.areas self.old.layout q }
-        ensures { self.new ≡ zeroed first count self.old }
+        ensures { self.new ≡ with_zeros first count self.old }
     {
         for i in 0..count {
             // The invariant of `self` is known to a proof once a field is used, here in each turn.
@@ -227,7 +229,7 @@ impl<'a> Memory<'a> {
     /// Makes a page one of zeros.
     fn zero_page(&mut self, page: u64)
         requires { IsKnown self.old.image.areas self.old.layout page }
-        ensures { self.new ≡ zeroed page 1 self.old }
+        ensures { self.new ≡ with_zeros page 1 self.old }
     {
         match find(&self.spans, page) {
             None => unreachable!(),

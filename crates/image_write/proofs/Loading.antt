@@ -11,7 +11,7 @@ use Rattle.elf_load.specs.declared.tables.Segment.{Segment}
 use Rattle.elf_load.specs.declared.tables.Section.{Section}
 use Rattle.elf_load.specs.Tables.{entry, phoff, phnum, shnum, segment_at, section_at, places, segments, sections, runs_past, is_area, is_load, is_executable, is_writable, is_interp, first_page, end_page, pages, share_page, has_address, has_place, has_bytes, is_compressed, holds_lines, load_areas}
 use Rattle.elf_load.specs.Faults.{row, entry_row, first_segment, first_section, first_after, first_row, header_rows, rows_on, fault}
-use Rattle.elf_load.specs.Loaded.{area_of, headers, image, loaded}
+use Rattle.elf_load.specs.Loaded.{area_of, headers, image, load_answer}
 use Rattle.elf_load.proofs.Rows.{table_fault}
 use Rattle.elf_load.proofs.LoadLemmas.{WereRead, rows_same, parts_are, headed}
 use Rattle.rv_asm.specs.Assembled.{Program, IsProgram, up_to_multiple}
@@ -294,11 +294,11 @@ count_most : (content : Bool) → (if content then 2 else 1) ≤ 2
 count_most true = omega arith
 count_most false = omega arith
 
-loaded_when : (file : List ℕ) → fault file ≡ None → loaded file ≡ Ok (image file)
-unfolding loaded
-loaded_when file e = rw (e, loaded) refl
+load_answer_when : (file : List ℕ) → fault file ≡ None → load_answer file ≡ Ok (image file)
+unfolding load_answer
+load_answer_when file e = rw (e, load_answer) refl
 
-loads_laid : (unit : List ℕ) (p : Program) (file : List ℕ) → IsProgram p → IsLaid unit p file → loaded file ≡ Ok (image_of p file)
+loads_laid : (unit : List ℕ) (p : Program) (file : List ℕ) → IsProgram p → IsLaid unit p file → load_answer file ≡ Ok (image_of p file)
 unfolding image_of
 loads_laid unit p file is laid_out =
     let content = has_content p in
@@ -314,7 +314,7 @@ loads_laid unit p file is laid_out =
     let parts = parts_are file ss (section_headers unit p) ss (text_area p ∷ (if content then data_area p ∷ [] else [])) p.entry 0 (segment_count p) read
     (sym (areas_made content p file (omega (arith, small.text_in)) (λ e. omega (arith, small.content_in, small.room e))))
     (sym laid_out.is_headed.has_entry) (sym (no_headers unit p file laid_out)) (sym laid_out.is_headed.has_phnum) in
-    loaded_when file none ∙ ap (λ (x : ImageParts). Ok x) (sym parts)
+    load_answer_when file none ∙ ap (λ (x : ImageParts). Ok x) (sym parts)
 
 pub unit_is_small : (p : Program) (name : List ℕ) (version : ℕ) → IsProgram p → IsName name → length (unit p.lines name version) < 2 ^ 33
 unfolding unit
@@ -328,13 +328,13 @@ written_short p name version is named =
     let long = (laid u p is (unit_is_small p name version is named)).is_long in
     omega (arith, long, unit_length p.lines name version, small_room p, is.text_fits, is.content_fits, is.whole, named.1)
 
-pub written_loads : (p : Program) (name : List ℕ) (version : ℕ) → IsProgram p → IsName name → loaded (written_file p name version) ≡ Ok (image_of p (written_file p name version))
+pub written_loads : (p : Program) (name : List ℕ) (version : ℕ) → IsProgram p → IsName name → load_answer (written_file p name version) ≡ Ok (image_of p (written_file p name version))
 unfolding written_file
 written_loads p name version is named =
     let u = unit p.lines name version in
     loads_laid u p (file_with u p) is (laid u p is (unit_is_small p name version is named))
 
 -- what a call wrote, if it is the written file
-pub given_loads : {V E : Type 0} (bytes : V → List ℕ) (p : Program) (name : List ℕ) (version : ℕ) (r : Result V E) → IsName name → IfOk r (λ v. bytes v ≡ written_file p name version) → IsProgram p → IfOk r (λ v. loaded (bytes v) ≡ Ok (image_of p (bytes v)))
-given_loads bytes p name version (Ok v) named e is = subst (λ (file : List ℕ). loaded file ≡ Ok (image_of p file)) (sym e) (written_loads p name version is named)
+pub given_loads : {V E : Type 0} (bytes : V → List ℕ) (p : Program) (name : List ℕ) (version : ℕ) (r : Result V E) → IsName name → IfOk r (λ v. bytes v ≡ written_file p name version) → IsProgram p → IfOk r (λ v. load_answer (bytes v) ≡ Ok (image_of p (bytes v)))
+given_loads bytes p name version (Ok v) named e is = subst (λ (file : List ℕ). load_answer file ≡ Ok (image_of p file)) (sym e) (written_loads p name version is named)
 given_loads bytes p name version (Err x) named e is = tt

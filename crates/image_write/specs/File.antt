@@ -2,6 +2,7 @@
 use Rattle.std.specs.Prelude.{◌≡◌, ℕ, ◌+◌, ◌-◌, ◌*◌, ◌<◌, ◌≤◌, Bool, List, [], ◌∷◌, ◌++◌, length, replicate, nat_lt, not, ◌==◌, if◌then◌else◌, codes}
 use Rattle.std.specs.List.{AllPass}
 use Rattle.coz_types.specs.declared.TheConstants.{PAGE}
+use Rattle.rv_asm.specs.declared.TheConstants.{TEXT_START}
 use Rattle.rv_asm.specs.Assembled.{Program, up_to_multiple}
 use Rattle.image_write.specs.Unit.{half, word, double, unit}
 
@@ -80,8 +81,8 @@ segment flags place address size =
 
 unfoldable pub segments : Program → List ℕ
 segments p =
-    segment 5 PAGE 0x10000 (length p.text)
-    ++ (if has_content p then segment 6 (PAGE + whole_pages p) (0x10000 + whole_pages p) (length p.content) else [])
+    segment 5 PAGE TEXT_START (length p.text)
+    ++ (if has_content p then segment 6 (PAGE + whole_pages p) (TEXT_START + whole_pages p) (length p.content) else [])
 
 unfoldable pub section : ℕ → ℕ → ℕ → ℕ → ℕ → ℕ → List ℕ
 section name kind flags place size align =

@@ -3,16 +3,17 @@ use Rattle.std.specs.Prelude.{ℕ, ◌+◌, true, false, List, [], ◌∷◌, le
 use Rattle.coz_types.specs.declared.TheConstants.{PAGE}
 use Rattle.coz_types.specs.declared.image.Area.{Area}
 use Rattle.coz_types.specs.Image.{ImageParts}
+use Rattle.rv_asm.specs.declared.TheConstants.{TEXT_START}
 use Rattle.rv_asm.specs.Assembled.{Program, up_to_multiple}
 use Rattle.image_write.specs.File.{has_content, whole_pages, segment_count}
 
 -- the text is read and executed
 abbrev pub text_area : Program → Area
 text_area p = record {
-  start = 0x10000;
+  start = TEXT_START;
   size = whole_pages p;
   rights = record { read = true; write = false; execute = true };
-  vaddr = 0x10000;
+  vaddr = TEXT_START;
   offset = PAGE;
   filled = length p.text;
 }
@@ -20,10 +21,10 @@ text_area p = record {
 -- the data is read and written, on the pages behind it
 abbrev pub data_area : Program → Area
 data_area p = record {
-  start = 0x10000 + whole_pages p;
+  start = TEXT_START + whole_pages p;
   size = up_to_multiple PAGE (length p.content);
   rights = record { read = true; write = true; execute = false };
-  vaddr = 0x10000 + whole_pages p;
+  vaddr = TEXT_START + whole_pages p;
   offset = PAGE + whole_pages p;
   filled = length p.content;
 }

@@ -2,6 +2,7 @@
 use Rattle.std.specs.Prelude.{ℕ, ◌+◌, ◌==◌, Bool, true, false, List, [], ◌∷◌, Some, if◌then◌else◌}
 use Rattle.dwarf_lines.specs.declared.Row.{Row}
 use Rattle.dwarf_lines.specs.Registers.{File, Table}
+use Rattle.rv_asm.specs.declared.TheConstants.{TEXT_START}
 
 -- the source, twice in version 5
 abbrev pub files_of : ℕ → List ℕ → List File
@@ -27,8 +28,8 @@ rows_from version address line (l ∷ more) =
 
 -- the first word has a row
 abbrev pub rows_of : ℕ → List ℕ → List Row
-rows_of version [] = row_at version 0x10000 1 true ∷ []
-rows_of version (l ∷ more) = row_at version 0x10000 l false ∷ rows_from version 0x10004 l more
+rows_of version [] = row_at version TEXT_START 1 true ∷ []
+rows_of version (l ∷ more) = row_at version TEXT_START l false ∷ rows_from version (TEXT_START + 4) l more
 
 -- of the lines of a program's words, and the name of its source
 unfoldable pub table_of : List ℕ → List ℕ → ℕ → Table

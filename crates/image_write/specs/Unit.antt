@@ -2,6 +2,7 @@
 use Rattle.std.specs.Prelude.{ℕ, zero, suc, ◌+◌, ◌*◌, ◌/◌, ◌%◌, ◌^◌, Bool, List, [], ◌∷◌, ◌++◌, length, find, ℤ, pos, ◌-ℤ◌, unwrap_or, nat_lt, ◌==◌, if◌then◌else◌}
 use Rattle.std.specs.Int.{w16, w32, w64, to_le_bytes}
 use Rattle.rv_decode.specs.Fields.{twos, is_signed}
+use Rattle.rv_asm.specs.declared.TheConstants.{TEXT_START}
 
 -- ---- numbers, the lowest byte first
 
@@ -59,8 +60,8 @@ rows words line (l ∷ more) = if l == line then rows (words + 1) line more else
 
 -- the line register begins as 1
 abbrev pub line_program : List ℕ → List ℕ
-line_program [] = set_address 0x10000 ++ end_sequence
-line_program (l ∷ more) = set_address 0x10000 ++ row 0 1 l ++ rows 1 l more
+line_program [] = set_address TEXT_START ++ end_sequence
+line_program (l ∷ more) = set_address TEXT_START ++ row 0 1 l ++ rows 1 l more
 
 -- ---- the unit
 

@@ -7,22 +7,21 @@ ghost use Rattle.image_write.specs.File.{IsWritable, has_content, whole_pages, t
 use crate::numbers::{push_double, push_half, push_word};
 use coz_types::PAGE;
 use elf_load::codes::{EHDR_SIZE, EM_RISCV, ET_EXEC, PHDR_SIZE, PT_LOAD, SHDR_SIZE};
-use rv_asm::Assembled;
+use rv_asm::{Assembled, TEXT_START};
 use std::alloc::{AllocError, Global};
-
-/// Where the text begins in memory.
-pub const TEXT_START: u64 = 0x1_0000;
 
 /// The names of the sections, each with a zero behind it.
 pub const NAMES: [u8; 35] = *b"\0.text\0.data\0.debug_line\0.shstrtab\0";
 
 // The places of the names.
+
+/// That of `.text`.
 const TEXT_NAME: u32 = 1;
-
+/// That of `.data`.
 const DATA_NAME: u32 = 7;
-
+/// That of `.debug_line`.
 const LINES_NAME: u32 = 13;
-
+/// That of `.shstrtab`.
 const NAMES_NAME: u32 = 25;
 
 /// How many sections there are, with the null one.
@@ -41,8 +40,10 @@ const TEXT_RIGHTS: u32 = 5;
 const DATA_RIGHTS: u32 = 6;
 
 // The types of sections.
-const SHT_PROGBITS: u32 = 1;
 
+/// The program's own bytes.
+const SHT_PROGBITS: u32 = 1;
+/// Names.
 const SHT_STRTAB: u32 = 3;
 
 /// SHF_ALLOC and SHF_EXECINSTR.

@@ -6,7 +6,7 @@ mod numbers;
 mod unit;
 
 ghost use Rattle.std.specs.Prelude.{◌≡◌, ◌<◌, ◌≤◌, ◌-◌, ◌^◌, ◌++◌, [], length, replicate, nat_lt, option_map, IfOk, Ok, Some, codes};
-ghost use Rattle.elf_load.specs.Loaded.{loaded, section};
+ghost use Rattle.elf_load.specs.Loaded.{load_answer, section};
 ghost use Rattle.dwarf_lines.specs.Names.{strings};
 ghost use Rattle.dwarf_lines.specs.Reading.{reading};
 ghost use Rattle.rv_asm.specs.Assembled.{IsProgram, view};
@@ -92,7 +92,7 @@ pub fn write_elf(
     requires named { IsName name.now }
     requires version { IsVersion version }
     ensures bytes { IfOk result (λ v. v.items ≡ written_file (view assembled.now) name.now version) }
-    ensures loads { IsProgram (view assembled.now) → IfOk result (λ v. loaded v.items ≡ Ok (image_of (view assembled.now) v.items)) }
+    ensures loads { IsProgram (view assembled.now) → IfOk result (λ v. load_answer v.items ≡ Ok (image_of (view assembled.now) v.items)) }
     ensures line_unit { IsProgram (view assembled.now) → IfOk result (λ v. section v.items (codes ".debug_line") ≡ Some (unit (view assembled.now).lines name.now version)) }
     ensures lines { IsProgram (view assembled.now) → IfOk result (λ v. option_map (reading (strings [] [])) (section v.items (codes ".debug_line")) ≡ Some (Ok (table_of (view assembled.now).lines name.now version))) }
 {

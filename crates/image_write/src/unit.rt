@@ -3,11 +3,11 @@
 ghost use Rattle.std.specs.Prelude.{◌≡◌, ◌<◌, ◌≤◌, ◌+◌, ◌*◌, ◌^◌, ◌++◌, length, IfOk};
 ghost use Rattle.image_write.specs.Unit.{set_address, end_sequence, advance_pc, advance_line, row, rows, line_program, numbers, sizes, ended_files, counted_files, files, counted, unit_body, unit};
 
-use crate::headers::TEXT_START;
 use crate::numbers::{push_double, push_half, push_sleb, push_uleb, push_word};
 use dwarf_lines::codes::{
     DW_LNE_END_SEQUENCE, DW_LNE_SET_ADDRESS, DW_LNS_ADVANCE_LINE, DW_LNS_ADVANCE_PC, DW_LNS_COPY,
 };
+use rv_asm::TEXT_START;
 use std::alloc::{AllocError, Global};
 
 /// minimum_instruction_length, maximum_operations_per_instruction, default_is_stmt, line_base, line_range, opcode_base, and the lengths of the opcodes from 1 to 12.

@@ -10,7 +10,7 @@ use Rattle.dwarf_lines.specs.declared.Row.{Row}
 use Rattle.dwarf_lines.specs.Registers.{File, Table}
 use Rattle.line_index.specs.declared.changes.Change.{Change}
 use Rattle.line_index.specs.declared.lines.Key.{Key}
-use Rattle.line_index.specs.Changes.{value_at, IsRising, holds}
+use Rattle.line_index.specs.Changes.{value_at, IsRising, is_in_span}
 use Rattle.line_index.specs.Lines.{label, entry_path, is_executable}
 use Rattle.line_index.specs.Spans.{row_spans}
 use Rattle.line_index.specs.Keys.{key_cmp, path_cmp, path_place, texts, key_at, change_keys, key_change, line_change, AreStarts}
@@ -25,7 +25,7 @@ pub is_built : (table : Table) (areas areas1 : List Area) (rows1 : List Row) (fi
     → areas1 ≡ areas → rows1 ≡ table.rows → files1 ≡ table.files → paths1 ≡ paths → positions2 ≡ positions → positions4 ≡ positions → keys5 ≡ keys → covering3 ≡ covering → covering6 ≡ covering
     → IsStrictlySortedBy path_cmp paths
     → map (path_place paths1) positions ≡ map (λ (file : File). option_map Some (entry_path file)) files1
-    → ((a : ℕ) → value_at a None covering ≡ cond (is_executable areas1 a) (position_from (holds a) 0 (row_spans rows1)) None)
+    → ((a : ℕ) → value_at a None covering ≡ cond (is_executable areas1 a) (position_from (is_in_span a) 0 (row_spans rows1)) None)
     → IsRising 0 covering
     → IsStrictlySortedBy key_cmp keys
     → ((key : Key) → Contains keys key ↔ Contains (change_keys rows1 positions2 covering3) key)
@@ -38,7 +38,7 @@ is_built table areas areas1 rows1 files1 paths paths1 positions positions2 posit
     record {
       paths_rise = sorted_map (λ (path : Vec ℕ). path.items) (slice_cmp nat_cmp) paths paths_rise;
       placed = ap (λ ps. map (path_place ps) positions) (sym same_paths) ∙ placed ∙ ap (map (λ (file : File). option_map Some (entry_path file))) same_files;
-      values = λ a. values a ∙ ap (λ ranges. cond (is_executable ranges a) (position_from (holds a) 0 (row_spans rows1)) None) same_areas ∙ ap (λ rows. cond (is_executable areas a) (position_from (holds a) 0 (row_spans rows)) None) same_rows;
+      values = λ a. values a ∙ ap (λ ranges. cond (is_executable ranges a) (position_from (is_in_span a) 0 (row_spans rows1)) None) same_areas ∙ ap (λ rows. cond (is_executable areas a) (position_from (is_in_span a) 0 (row_spans rows)) None) same_rows;
       rise = rise;
       keys_rise = keys_rise;
       each = λ key. subst (λ (ks : List Key). Contains keys key ↔ Contains ks key) keys_same (each key);

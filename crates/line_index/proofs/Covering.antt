@@ -6,8 +6,8 @@ use Rattle.std.proofs.lemmas.List.{length-reverse}
 use Rattle.coz_types.specs.declared.image.Area.{Area}
 use Rattle.dwarf_lines.specs.declared.Row.{Row}
 use Rattle.line_index.specs.declared.spans.Span.{Span}
-use Rattle.line_index.specs.Changes.{holds, or_else}
-use Rattle.line_index.specs.Lines.{next_address, covers, first_covering, is_executable}
+use Rattle.line_index.specs.Changes.{is_in_span, or_else}
+use Rattle.line_index.specs.Lines.{next_address, is_covered, first_covering, is_executable}
 use Rattle.line_index.specs.Spans.{row_span, row_spans, area_span, code_spans}
 
 step_append : (t : Bool) (n : ℕ) (x y : Option ℕ) → cond t (Some n) (or_else x y) ≡ or_else (cond t (Some n) x) y
@@ -46,8 +46,8 @@ covers_span : (a s : ℕ) (next : Option ℕ) → (elim next as (λ n. Bool) [ S
 covers_span a s None = empty_span s a
 covers_span a s (Some end) = refl
 
-pub covers_is : (a : ℕ) (row : Row) (later : List Row) → covers a row later ≡ holds a (row_span row later)
-covers_is a row later = covers_span a row.address (next_address row.sequence later)
+pub is_covered-span : (a : ℕ) (row : Row) (later : List Row) → is_covered a row later ≡ is_in_span a (row_span row later)
+is_covered-span a row later = covers_span a row.address (next_address row.sequence later)
 
 get_later : (row : Row) (rows : List Row) (x : Option ℕ) → option_and_then (slice_get (row ∷ rows)) (option_map (λ k. suc k) x) ≡ option_and_then (slice_get rows) x
 get_later row rows None = refl
@@ -57,13 +57,13 @@ covering_step : (t : Bool) (row : Row) (rows : List Row) (x : Option ℕ) → op
 covering_step true row rows x = refl
 covering_step false row rows x = get_later row rows x
 
-pub covering : (a : ℕ) (rows : List Row) → option_and_then (slice_get rows) (position_from (holds a) 0 (row_spans rows)) ≡ first_covering a rows
+pub covering : (a : ℕ) (rows : List Row) → option_and_then (slice_get rows) (position_from (is_in_span a) 0 (row_spans rows)) ≡ first_covering a rows
 covering a [] = refl
 covering a (row ∷ rows) =
-    ap (λ z. option_and_then (slice_get (row ∷ rows)) (cond (holds a (row_span row rows)) (Some 0) z)) (position_from-shift (holds a) 0 (row_spans rows))
-    ∙ covering_step (holds a (row_span row rows)) row rows (position_from (holds a) 0 (row_spans rows))
-    ∙ ap (λ z. cond (holds a (row_span row rows)) (Some row) z) (covering a rows)
-    ∙ ap (λ t. cond t (Some row) (first_covering a rows)) (sym (covers_is a row rows))
+    ap (λ z. option_and_then (slice_get (row ∷ rows)) (cond (is_in_span a (row_span row rows)) (Some 0) z)) (position_from-shift (is_in_span a) 0 (row_spans rows))
+    ∙ covering_step (is_in_span a (row_span row rows)) row rows (position_from (is_in_span a) 0 (row_spans rows))
+    ∙ ap (λ z. cond (is_in_span a (row_span row rows)) (Some row) z) (covering a rows)
+    ∙ ap (λ t. cond t (Some row) (first_covering a rows)) (sym (is_covered-span a row rows))
 
 -- ---- areas
 
@@ -72,12 +72,12 @@ within_step true n x y b e = refl
 within_step false n x y b e = e
 
 within_area : (w : Bool) (a n : ℕ) (area : Area) (areas : List Area) (y : Option ℕ) → area.rights.execute ≡ w
-    → ((m : ℕ) → option_and_then (λ (_ : ℕ). y) (position_from (holds a) m (code_spans areas)) ≡ cond (is_executable areas a) y None)
-    → option_and_then (λ (_ : ℕ). y) (position_from (holds a) n (map area_span (cond w (area ∷ filter (λ (area : Area). area.rights.execute) areas) (filter (λ (area : Area). area.rights.execute) areas)))) ≡ cond ((w && (nat_le area.start a && nat_lt a (area.start + area.size))) || is_executable areas a) y None
-within_area true a n area areas y e rest = within_step (holds a (area_span area)) n (position_from (holds a) (n + 1) (code_spans areas)) y (is_executable areas a) (rest (n + 1))
+    → ((m : ℕ) → option_and_then (λ (_ : ℕ). y) (position_from (is_in_span a) m (code_spans areas)) ≡ cond (is_executable areas a) y None)
+    → option_and_then (λ (_ : ℕ). y) (position_from (is_in_span a) n (map area_span (cond w (area ∷ filter (λ (area : Area). area.rights.execute) areas) (filter (λ (area : Area). area.rights.execute) areas)))) ≡ cond ((w && (nat_le area.start a && nat_lt a (area.start + area.size))) || is_executable areas a) y None
+within_area true a n area areas y e rest = within_step (is_in_span a (area_span area)) n (position_from (is_in_span a) (n + 1) (code_spans areas)) y (is_executable areas a) (rest (n + 1))
 within_area false a n area areas y e rest = rest n
 
-pub within : (areas : List Area) (a n : ℕ) (y : Option ℕ) → option_and_then (λ (_ : ℕ). y) (position_from (holds a) n (code_spans areas)) ≡ cond (is_executable areas a) y None
+pub within : (areas : List Area) (a n : ℕ) (y : Option ℕ) → option_and_then (λ (_ : ℕ). y) (position_from (is_in_span a) n (code_spans areas)) ≡ cond (is_executable areas a) y None
 within [] a n y = refl
 within (area ∷ areas) a n y = within_area area.rights.execute a n area areas y refl (λ m. within areas a m y)
 
@@ -93,12 +93,12 @@ length-row_spans [] = refl
 length-row_spans (row ∷ rows) = ap (λ n. suc n) (length-row_spans rows)
 
 -- the first covering row, within the executable areas
-pub within_code : (areas : List Area) (rows : List Row) (a : ℕ) (code spans : List Span) (x y : Option ℕ) → code ≡ code_spans areas → spans ≡ row_spans rows → x ≡ position_from (holds a) 0 code → y ≡ position_from (holds a) 0 spans
-    → option_and_then (λ (_ : ℕ). y) x ≡ cond (is_executable areas a) (position_from (holds a) 0 (row_spans rows)) None
+pub within_code : (areas : List Area) (rows : List Row) (a : ℕ) (code spans : List Span) (x y : Option ℕ) → code ≡ code_spans areas → spans ≡ row_spans rows → x ≡ position_from (is_in_span a) 0 code → y ≡ position_from (is_in_span a) 0 spans
+    → option_and_then (λ (_ : ℕ). y) x ≡ cond (is_executable areas a) (position_from (is_in_span a) 0 (row_spans rows)) None
 within_code areas rows a code spans x y is are e f =
-    ap (λ z. option_and_then (λ (_ : ℕ). y) z) (e ∙ ap (position_from (holds a) 0) is)
+    ap (λ z. option_and_then (λ (_ : ℕ). y) z) (e ∙ ap (position_from (is_in_span a) 0) is)
     ∙ within areas a 0 y
-    ∙ ap (λ z. cond (is_executable areas a) z None) (f ∙ ap (position_from (holds a) 0) are)
+    ∙ ap (λ z. cond (is_executable areas a) z None) (f ∙ ap (position_from (is_in_span a) 0) are)
 
 -- the spans that were made from the last row on
 pub reversed_many : (rows : List Row) (i : ℕ) (spans turned : List Span) → i ≤ 0 → spans ≡ reverse (row_spans (drop i rows)) → turned ≡ reverse spans → length turned ≡ length rows

@@ -8,7 +8,7 @@ use Rattle.dwarf_lines.specs.Names.{strings, form_for}
 use Rattle.dwarf_lines.specs.Reading.{texts, files, pass, header, operation, program, unit_body, unit, units, reading, formats, values, entries, listed}
 use Rattle.dwarf_lines.specs.Registers.{File, Table}
 use Rattle.line_index.specs.declared.changes.Change.{Change}
-use Rattle.line_index.specs.Lines.{Line, line_of, label, found, path}
+use Rattle.line_index.specs.Lines.{Line, line_of, label, position_named, path}
 use Rattle.line_index.specs.Listed.{lines_in, entries_in, position_in}
 use Rattle.line_index.specs.Turns.{turns, is_within}
 
@@ -121,7 +121,7 @@ in_written_order = refl
 abbrev some_lines : List Line
 some_lines = record { path = 98 ∷ 47 ∷ 97 ∷ []; number = 1 } ∷ record { path = 99 ∷ 47 ∷ 97 ∷ []; number = 1 } ∷ record { path = 99 ∷ 47 ∷ 97 ∷ []; number = 2 } ∷ record { path = 99 ∷ 97 ∷ []; number = 1 } ∷ []
 
-found_lines : found (97 ∷ []) 1 some_lines ∷ found (97 ∷ []) 2 some_lines ∷ found (99 ∷ 47 ∷ 97 ∷ []) 1 some_lines ∷ found (99 ∷ 97 ∷ []) 1 some_lines ∷ found (97 ∷ []) 3 some_lines ∷ found (47 ∷ 97 ∷ []) 1 some_lines ∷ found [] 1 some_lines ∷ []
+found_lines : position_named (97 ∷ []) 1 some_lines ∷ position_named (97 ∷ []) 2 some_lines ∷ position_named (99 ∷ 47 ∷ 97 ∷ []) 1 some_lines ∷ position_named (99 ∷ 97 ∷ []) 1 some_lines ∷ position_named (97 ∷ []) 3 some_lines ∷ position_named (47 ∷ 97 ∷ []) 1 some_lines ∷ position_named [] 1 some_lines ∷ []
     ≡ Some 0 ∷ Some 2 ∷ Some 1 ∷ Some 3 ∷ None ∷ None ∷ None ∷ []
 found_lines = refl
 

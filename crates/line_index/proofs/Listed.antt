@@ -17,7 +17,7 @@ use Rattle.coz_types.specs.declared.image.Area.{Area}
 use Rattle.dwarf_lines.specs.Registers.{Table}
 use Rattle.line_index.specs.Lines.{Line, line_of, line_cmp, is_line_named, Begins}
 use Rattle.line_index.specs.Index.{Index, AreEntries, IsIndex, position_at}
-use Rattle.line_index.specs.Listed.{in_order, bounds, lines_in, is_same, begins, entries_in, position_in, IsListed}
+use Rattle.line_index.specs.Listed.{in_order, bounds, lines_in, is_same, is_beginning, entries_in, position_in, IsListed}
 use Rattle.line_index.proofs.Pieces.{Among, to_among, from_among, in_front, in_rest}
 use Rattle.line_index.proofs.Beginnings.{both_parts, parts_both}
 use Rattle.line_index.proofs.Order.{one_place}
@@ -61,7 +61,7 @@ true_is_same l line e = ap (is_same l) e ∙ true_is_line l
 
 -- ---- where a line begins
 
-line_begins : (table : Table) (areas : List Area) (l : Line) (a : ℕ) → begins table areas l a ≡ true → Begins table areas l a
+line_begins : (table : Table) (areas : List Area) (l : Line) (a : ℕ) → is_beginning table areas l a ≡ true → Begins table areas l a
 line_begins table areas l zero e = (is_same_true l (line_of table areas zero) e, λ b no same. absurd (omega arith))
 line_begins table areas l (suc a) e =
     let parts = both_parts (is_same l (line_of table areas (suc a))) (is_same l (line_of table areas a)) e in (
@@ -73,7 +73,7 @@ line_begins table areas l (suc a) e =
           cc,
     )
 
-begins_line : (table : Table) (areas : List Area) (l : Line) (a : ℕ) → Begins table areas l a → begins table areas l a ≡ true
+begins_line : (table : Table) (areas : List Area) (l : Line) (a : ℕ) → Begins table areas l a → is_beginning table areas l a ≡ true
 begins_line table areas l zero h = true_is_same l (line_of table areas zero) h.0
 begins_line table areas l (suc a) h =
     parts_both (is_same l (line_of table areas (suc a))) (is_same l (line_of table areas a)) (true_is_same l (line_of table areas (suc a)) h.0)
@@ -156,12 +156,12 @@ pub entries_of : (table : Table) (areas : List Area) (l : Line) (es : List ℕ) 
 unfolding entries_in
 entries_of table areas l es are =
     let places : List ℕ = in_order nat_cmp (bounds table areas) in
-    same_sorted nat_cmp_total es (filter (begins table areas l) places) (sorted_from_strictly_increasing es are.rising) (IsStrictlySortedBy-filter nat_cmp (begins table areas l) places (in_order_sorted nat_cmp_total (bounds table areas)))
+    same_sorted nat_cmp_total es (filter (is_beginning table areas l) places) (sorted_from_strictly_increasing es are.rising) (IsStrictlySortedBy-filter nat_cmp (is_beginning table areas l) places (in_order_sorted nat_cmp_total (bounds table areas)))
     (λ a h.
     let here = (are.each a).0 (from_among a es h) in
-    to_filter (begins table areas l) a places (to_in_order nat_cmp_total nat_cmp-IsAntisymmetric a (bounds table areas) (begins_at_bound table areas l a here)) (begins_line table areas l a here))
+    to_filter (is_beginning table areas l) a places (to_in_order nat_cmp_total nat_cmp-IsAntisymmetric a (bounds table areas) (begins_at_bound table areas l a here)) (begins_line table areas l a here))
     (λ a h.
-    let parts = of_filter (begins table areas l) a places h in
+    let parts = of_filter (is_beginning table areas l) a places h in
     let one = (are.each a).1 (line_begins table areas l a parts.1) in
     to_among a es one.0 one.1 one.2)
 

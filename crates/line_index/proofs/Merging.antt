@@ -6,7 +6,7 @@ use Rattle.std.proofs.lemmas.List.{append-nil}
 use Rattle.line_index.specs.declared.changes.Change.{Change}
 use Rattle.line_index.specs.declared.changes.Join.{Join}
 use Rattle.line_index.specs.declared.changes.Join.TheVariants as joins
-use Rattle.line_index.specs.Changes.{value_at, IsRising, joined, next, least, position_after, ahead_after}
+use Rattle.line_index.specs.Changes.{value_at, IsRising, joined_position, next, least, position_after, ahead_after}
 
 -- no change ahead is before this address
 abbrev pub NoneBefore : ℕ → List Change → Type 0
@@ -83,16 +83,16 @@ pub record Goes (join : Join) (first second out : List Change) (x y : Option ℕ
   pub first_rises : IsRising low cs
   pub second_rises : IsRising low ds
   -- whatever says the rest completes them
-  pub values : (r : List Change) → ((a : ℕ) → value_at a (joined join x y) r ≡ joined join (value_at a x cs) (value_at a y ds)) → (a : ℕ) → value_at a None (out ++ r) ≡ joined join (value_at a None first) (value_at a None second)
+  pub values : (r : List Change) → ((a : ℕ) → value_at a (joined_position join x y) r ≡ joined_position join (value_at a x cs) (value_at a y ds)) → (a : ℕ) → value_at a None (out ++ r) ≡ joined_position join (value_at a None first) (value_at a None second)
   pub rises : (r : List Change) → IsRising low r → IsRising 0 (out ++ r)
   pub few : length out + length cs + length ds ≤ length first + length second
 
-pub goes_first : (join : Join) (first second : List Change) → IsRising 0 first → IsRising 0 second → joined join None None ≡ None → Goes join first second [] None None first second
+pub goes_first : (join : Join) (first second : List Change) → IsRising 0 first → IsRising 0 second → joined_position join None None ≡ None → Goes join first second [] None None first second
 goes_first join first second up down none = record {
   low = 0;
   first_rises = up;
   second_rises = down;
-  values = λ r h a. subst (λ z. value_at a z r ≡ joined join (value_at a None first) (value_at a None second)) none (h a);
+  values = λ r h a. subst (λ z. value_at a z r ≡ joined_position join (value_at a None first) (value_at a None second)) none (h a);
   rises = λ r h. h;
   few = omega arith;
 }
@@ -105,8 +105,8 @@ pub ahead_fewer : (cs ds : List Change) (a : ℕ) → least (next cs) (next ds) 
 ahead_fewer cs ds a e = fewer cs ds a (is_least cs ds a e).one
 
 value_step : (join : Join) (t : Bool) (cs ds r : List Change) (x y : Option ℕ) (a b : ℕ) → IsLeast a cs ds → nat_lt b a ≡ t
-    → value_at b (joined join (position_after a x cs) (position_after a y ds)) r ≡ joined join (value_at b (position_after a x cs) (ahead_after a cs)) (value_at b (position_after a y ds) (ahead_after a ds))
-    → cond t (joined join x y) (value_at b (joined join (position_after a x cs) (position_after a y ds)) r) ≡ joined join (value_at b x cs) (value_at b y ds)
+    → value_at b (joined_position join (position_after a x cs) (position_after a y ds)) r ≡ joined_position join (value_at b (position_after a x cs) (ahead_after a cs)) (value_at b (position_after a y ds) (ahead_after a ds))
+    → cond t (joined_position join x y) (value_at b (joined_position join (position_after a x cs) (position_after a y ds)) r) ≡ joined_position join (value_at b x cs) (value_at b y ds)
 value_step join true cs ds r x y a b h t e =
     let lt : b < a = grind (arith, nat_tests) in
     let one = before_next cs a b x h.first lt in
@@ -116,7 +116,7 @@ value_step join false cs ds r x y a b h t e =
     let le : a ≤ b = grind (arith, nat_tests) in
     let one = passed_value cs a b x le in
     let two = passed_value ds a b y le in
-    e ∙ ap (λ z. joined join z (value_at b (position_after a y ds) (ahead_after a ds))) (sym one) ∙ ap (λ z. joined join (value_at b x cs) z) (sym two)
+    e ∙ ap (λ z. joined_position join z (value_at b (position_after a y ds) (ahead_after a ds))) (sym one) ∙ ap (λ z. joined_position join (value_at b x cs) z) (sym two)
 
 lowest : (cs ds : List Change) (low a : ℕ) → IsRising low cs → IsRising low ds → IsNext a cs ⊎ IsNext a ds → low ≤ a
 lowest cs ds low a up down (inl h) = low_of cs low a up h
@@ -124,15 +124,15 @@ lowest cs ds low a up down (inr h) = low_of ds low a down h
 
 -- one more change
 pub goes_on : (join : Join) (first second out : List Change) (x y : Option ℕ) (cs ds : List Change) (a : ℕ) → least (next cs) (next ds) ≡ Some a → Goes join first second out x y cs ds
-    → Goes join first second (out ++ record { address = a; position = joined join (position_after a x cs) (position_after a y ds) } ∷ []) (position_after a x cs) (position_after a y ds) (ahead_after a cs) (ahead_after a ds)
+    → Goes join first second (out ++ record { address = a; position = joined_position join (position_after a x cs) (position_after a y ds) } ∷ []) (position_after a x cs) (position_after a y ds) (ahead_after a cs) (ahead_after a ds)
 goes_on join first second out x y cs ds a e so_far =
     let h = is_least cs ds a e in
-    let c : Change = record { address = a; position = joined join (position_after a x cs) (position_after a y ds) } in
+    let c : Change = record { address = a; position = joined_position join (position_after a x cs) (position_after a y ds) } in
     record {
       low = suc a;
       first_rises = passed_rises cs so_far.low a h.first so_far.first_rises;
       second_rises = passed_rises ds so_far.low a h.second so_far.second_rises;
-      values = λ r rest b. subst (λ zs. value_at b None zs ≡ joined join (value_at b None first) (value_at b None second)) (sym (append_assoc out (c ∷ []) r)) (so_far.values (c ∷ r) (λ d. value_step join (nat_lt d a) cs ds r x y a d h refl (rest d)) b);
+      values = λ r rest b. subst (λ zs. value_at b None zs ≡ joined_position join (value_at b None first) (value_at b None second)) (sym (append_assoc out (c ∷ []) r)) (so_far.values (c ∷ r) (λ d. value_step join (nat_lt d a) cs ds r x y a d h refl (rest d)) b);
       rises = λ r rest. subst (λ zs. IsRising 0 zs) (sym (append_assoc out (c ∷ []) r)) (so_far.rises (c ∷ r) (lowest cs ds so_far.low a so_far.first_rises so_far.second_rises h.one, rest));
       few = omega (arith, length-append out (c ∷ []), fewer cs ds a h.one, so_far.few);
     }
@@ -149,7 +149,7 @@ none_left (c ∷ cs) (d ∷ ds) e = absurd (not_none (nat_le c.address d.address
 
 -- where nothing is ahead, all is done
 pub record Done (join : Join) (first second out : List Change) : Type 0 where
-  pub values : (a : ℕ) → value_at a None out ≡ joined join (value_at a None first) (value_at a None second)
+  pub values : (a : ℕ) → value_at a None out ≡ joined_position join (value_at a None first) (value_at a None second)
   pub rises : IsRising 0 out
   pub few : length out ≤ length first + length second
 
@@ -159,11 +159,11 @@ goes_end join first second out x y cs ds e so_far =
     let one : (a : ℕ) → value_at a x cs ≡ x = λ a. ap (value_at a x) none.0 in
     let two : (a : ℕ) → value_at a y ds ≡ y = λ a. ap (value_at a y) none.1 in
     record {
-      values = λ a. subst (λ zs. value_at a None zs ≡ joined join (value_at a None first) (value_at a None second)) (append-nil out) (so_far.values [] (λ b. ap (λ z. joined join z y) (sym (one b)) ∙ ap (λ z. joined join (value_at b x cs) z) (sym (two b))) a);
+      values = λ a. subst (λ zs. value_at a None zs ≡ joined_position join (value_at a None first) (value_at a None second)) (append-nil out) (so_far.values [] (λ b. ap (λ z. joined_position join z y) (sym (one b)) ∙ ap (λ z. joined_position join (value_at b x cs) z) (sym (two b))) a);
       rises = subst (λ zs. IsRising 0 zs) (append-nil out) (so_far.rises [] tt);
       few = omega (arith, so_far.few);
     }
 
-pub joined_none : (join : Join) → joined join None None ≡ None
-joined_none joins.Over = refl
-joined_none joins.Within = refl
+pub joined_position_none : (join : Join) → joined_position join None None ≡ None
+joined_position_none joins.Over = refl
+joined_position_none joins.Within = refl

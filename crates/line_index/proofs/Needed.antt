@@ -9,8 +9,8 @@ use Rattle.dwarf_lines.specs.declared.Row.{Row}
 use Rattle.dwarf_lines.specs.declared.FileName.{FileName}
 use Rattle.dwarf_lines.specs.Registers.{File, Table, file_view, files_view}
 use Rattle.line_index.specs.declared.changes.Change.{Change}
-use Rattle.line_index.specs.Changes.{value_at, holds}
-use Rattle.line_index.specs.Lines.{Line, entry_path, numbered, first_covering, line_of_row, is_executable, line_of}
+use Rattle.line_index.specs.Changes.{value_at, is_in_span}
+use Rattle.line_index.specs.Lines.{Line, entry_path, line_with, first_covering, line_of_row, is_executable, line_of}
 use Rattle.line_index.specs.Spans.{row_spans}
 use Rattle.line_index.specs.Keys.{named_file}
 use Rattle.line_index.specs.Index.{Index, IsIndex}
@@ -45,10 +45,10 @@ viewed files None = refl
 viewed files (Some k) = slice_get-map file_view files k
 
 row_by : (named files : List File) (number : ℕ) (zero_line : Bool) (file : Option ℕ) → option_and_then (slice_get named) (cond zero_line None file) ≡ option_and_then (slice_get files) (cond zero_line None file)
-    → cond zero_line None (option_and_then (λ k. option_and_then (λ file. option_map (numbered number) (entry_path file)) (slice_get named k)) file) ≡ cond zero_line None (option_and_then (λ k. option_and_then (λ file. option_map (numbered number) (entry_path file)) (slice_get files k)) file)
+    → cond zero_line None (option_and_then (λ k. option_and_then (λ file. option_map (line_with number) (entry_path file)) (slice_get named k)) file) ≡ cond zero_line None (option_and_then (λ k. option_and_then (λ file. option_map (line_with number) (entry_path file)) (slice_get files k)) file)
 row_by named files number true file e = refl
 row_by named files number false None e = refl
-row_by named files number false (Some k) e = ap (option_and_then (λ file. option_map (numbered number) (entry_path file))) e
+row_by named files number false (Some k) e = ap (option_and_then (λ file. option_map (line_with number) (entry_path file))) e
 
 same_views : (named files : List FileName) (file : Option ℕ) → option_and_then (slice_get named) file ≡ option_and_then (slice_get files) file → option_and_then (slice_get (files_view named)) file ≡ option_and_then (slice_get (files_view files)) file
 same_views named files file e = viewed named file ∙ ap (option_map file_view) e ∙ sym (viewed files file)
@@ -68,11 +68,11 @@ within_by : (rows : List Row) (named files : List FileName) (t : Bool) (position
 within_by rows named files true position row e names = ap (option_and_then (line_of_row (files_view named))) (sym e) ∙ line_at rows named files position names ∙ ap (option_and_then (line_of_row (files_view files))) e
 within_by rows named files false position row e names = refl
 
-pub same_line : (table : Table) (areas : List Area) (named files : List FileName) (changes : List Change) → table.files ≡ files_view files → ((a : ℕ) → value_at a None changes ≡ cond (is_executable areas a) (position_from (holds a) 0 (row_spans table.rows)) None)
+pub same_line : (table : Table) (areas : List Area) (named files : List FileName) (changes : List Change) → table.files ≡ files_view files → ((a : ℕ) → value_at a None changes ≡ cond (is_executable areas a) (position_from (is_in_span a) 0 (row_spans table.rows)) None)
     → All (λ (c : Change). Names table.rows named files c.position) changes → (a : ℕ) → line_of (record table { files = files_view named }) areas a ≡ line_of table areas a
 unfolding line_of
 same_line table areas named files changes same values all a =
-    within_by table.rows named files (is_executable areas a) (position_from (holds a) 0 (row_spans table.rows)) (first_covering a table.rows) (covering a table.rows)
+    within_by table.rows named files (is_executable areas a) (position_from (is_in_span a) 0 (row_spans table.rows)) (first_covering a table.rows) (covering a table.rows)
     (subst (Names table.rows named files) (values a) (named_at table.rows named files a None changes refl (recursion_from_All (λ (c : Change). Names table.rows named files c.position) changes all)))
     ∙ ap (λ fs. cond (is_executable areas a) (option_and_then (line_of_row fs) (first_covering a table.rows)) None) (sym same)
 

@@ -9,7 +9,7 @@ use Rattle.dwarf_lines.specs.declared.Row.{Row}
 use Rattle.dwarf_lines.specs.Registers.{File, Table}
 use Rattle.line_index.specs.declared.changes.Change.{Change}
 use Rattle.line_index.specs.declared.lines.Key.{Key}
-use Rattle.line_index.specs.Lines.{Line, IsRight, path, entry_path, numbered, first_covering, line_of_row, is_executable, line_of}
+use Rattle.line_index.specs.Lines.{Line, IsRight, path, entry_path, line_with, first_covering, line_of_row, is_executable, line_of}
 use Rattle.line_index.specs.Keys.{HasPath, IsNumbered, texts}
 use Rattle.line_index.specs.Index.{line_at}
 use Rattle.line_index.proofs.Pieces.{Among, from_among, among_map}
@@ -18,15 +18,15 @@ use Rattle.line_index.proofs.Whole.{Built, all_among, has_path, used_by}
 
 -- ---- a line has a path
 
-entry_named : (t : Bool) (text : Text) (number : ℕ) (l : Line) → is_empty text ≡ t → option_map (numbered number) (cond t None (Some text)) ≡ Some l → is_empty l.path ≡ false
+entry_named : (t : Bool) (text : Text) (number : ℕ) (l : Line) → is_empty text ≡ t → option_map (line_with number) (cond t None (Some text)) ≡ Some l → is_empty l.path ≡ false
 entry_named true text number l e is = let no : ⊥ = cc in absurd no
-entry_named false text number l e is = let same : numbered number text ≡ l = cc in ap (λ (m : Line). is_empty m.path) (sym same) ∙ e
+entry_named false text number l e is = let same : line_with number text ≡ l = cc in ap (λ (m : Line). is_empty m.path) (sym same) ∙ e
 
-file_named : (number : ℕ) (file : Option File) (l : Line) → option_and_then (λ file. option_map (numbered number) (entry_path file)) file ≡ Some l → is_empty l.path ≡ false
+file_named : (number : ℕ) (file : Option File) (l : Line) → option_and_then (λ file. option_map (line_with number) (entry_path file)) file ≡ Some l → is_empty l.path ≡ false
 file_named number None l e = let no : ⊥ = cc in absurd no
 file_named number (Some file) l e = entry_named (is_empty (path file)) (path file) number l refl e
 
-row_named : (files : List File) (number : ℕ) (zero_line : Bool) (file : Option ℕ) (l : Line) → cond zero_line None (option_and_then (λ k. option_and_then (λ file. option_map (numbered number) (entry_path file)) (slice_get files k)) file) ≡ Some l → is_empty l.path ≡ false
+row_named : (files : List File) (number : ℕ) (zero_line : Bool) (file : Option ℕ) (l : Line) → cond zero_line None (option_and_then (λ k. option_and_then (λ file. option_map (line_with number) (entry_path file)) (slice_get files k)) file) ≡ Some l → is_empty l.path ≡ false
 row_named files number true file l e = let no : ⊥ = cc in absurd no
 row_named files number false None l e = let no : ⊥ = cc in absurd no
 row_named files number false (Some k) l e = file_named number (slice_get files k) l e

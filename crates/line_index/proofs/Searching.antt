@@ -1,9 +1,11 @@
 -- What stands at an address, by places.
-use Rattle.std.proofs.Common.{◌≡◌, ℕ, zero, suc, ◌-◌, ◌≤◌, ◌<◌, true, false, List, [], ◌∷◌, length, get_or, Option, None, nat_lt, leb, refl, sym, arith}
+use Rattle.std.proofs.Common.{◌≡◌, ℕ, zero, suc, ◌-◌, ◌≤◌, ◌<◌, true, false, List, [], ◌∷◌, length, get_or, Option, None, nat_lt, leb, refl, sym, ap, ◌∙◌, subst, arith}
+use Rattle.std.proofs.lemmas.List.{length-map, get_or-map}
 use Rattle.std.proofs.lemmas.Bool.Decides.{nat_tests}
 use Rattle.std.specs.List.Sorted.{IsNonDecreasingBy, IsPartitionPoint}
 use Rattle.line_index.specs.declared.changes.Change.{Change}
-use Rattle.line_index.specs.Changes.{value_at, IsRising}
+use Rattle.line_index.specs.declared.changes.LineChange.{LineChange}
+use Rattle.line_index.specs.Changes.{value_at, IsRising, place_of, change_of, changes_of}
 
 pub low_at : (cs : List Change) (low k : ℕ) (d : Change) → IsRising low cs → k < length cs → low ≤ (get_or cs k d).address
 low_at [] low k d up lt = absurd (omega arith)
@@ -41,3 +43,33 @@ none_passed cs a n e h = sym (before_first cs a None (λ d lt. h.1 0 d (omega ar
 
 pub some_passed : (cs : List Change) (a n : ℕ) (d : Change) → 0 < n → n ≤ length cs → IsPoint a cs n → (get_or cs (n - 1) d).position ≡ value_at a None cs
 some_passed cs a n d lt le h = sym (at_place cs a (n - 1) None d (omega arith) (λ k e less. h.0 k e (omega arith) (omega arith)) (λ e less. h.1 (suc (n - 1)) e (omega arith) less))
+
+-- ---- the same of changes of lines
+
+pub lines_by_place : (cs : List LineChange) → IsRising 0 (changes_of cs) → IsNonDecreasingBy (λ (c : LineChange). c.address) cs
+lines_by_place cs up i j d le lt =
+    let one : (get_or (changes_of cs) i (change_of d)).address ≡ (get_or cs i d).address = ap (λ (c : Change). c.address) (get_or-map change_of cs i d (change_of d) (omega arith)) in
+    let other : (get_or (changes_of cs) j (change_of d)).address ≡ (get_or cs j d).address = ap (λ (c : Change). c.address) (get_or-map change_of cs j d (change_of d) lt) in
+    omega (arith, rising_by_place (changes_of cs) 0 up i j (change_of d) le (omega (arith, length-map cs change_of)))
+
+abbrev pub IsPlace : ℕ → List LineChange → ℕ → Type 0
+IsPlace a cs n = IsPartitionPoint (λ (c : LineChange). leb c.address a ≡ true) (λ (c : LineChange). leb c.address a ≡ false) cs n
+
+no_line : LineChange
+no_line = record { address = 0; line = None }
+
+is_point : (cs : List LineChange) (a n : ℕ) → n ≤ length cs → IsPlace a cs n → IsPoint a (changes_of cs) n
+is_point cs a n within h = (
+  λ k e low less. subst (λ (c : Change). leb c.address a ≡ true) (sym (get_or-map change_of cs k no_line e (omega arith))) (h.0 k no_line low less),
+  λ k e le lt.
+      let inside : k < length cs = omega (arith, length-map cs change_of) in
+      subst (λ (c : Change). leb c.address a ≡ false) (sym (get_or-map change_of cs k no_line e inside)) (h.1 k no_line le inside),
+)
+
+pub no_line_passed : (cs : List LineChange) (a n : ℕ) → n ≡ 0 → IsPlace a cs n → None ≡ value_at a None (changes_of cs)
+no_line_passed cs a n e h = none_passed (changes_of cs) a n e (is_point cs a n (omega arith) h)
+
+pub line_passed : (cs : List LineChange) (a n : ℕ) (d : LineChange) → 0 < n → n ≤ length cs → IsPlace a cs n → place_of (get_or cs (n - 1) d).line ≡ value_at a None (changes_of cs)
+line_passed cs a n d lt le h =
+    ap (λ (c : Change). c.position) (sym (get_or-map change_of cs (n - 1) d (change_of d) (omega arith)))
+    ∙ some_passed (changes_of cs) a n (change_of d) lt (omega (arith, length-map cs change_of)) (is_point cs a n le h)

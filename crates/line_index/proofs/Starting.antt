@@ -3,10 +3,13 @@ use Rattle.std.proofs.Common.{◌≡◌, ℕ, zero, suc, ◌+◌, ◌≤◌, ◌
 use Rattle.std.specs.Global.{Vec}
 use Rattle.std.proofs.lemmas.Bool.{eqb-true}
 use Rattle.std.proofs.lemmas.Bool.Decides.{nat_tests}
-use Rattle.std.proofs.lemmas.List.{append-nil, get_or-set_same, get_or-set_other, length-set, drop_more, get_or-map, map-set}
+use Rattle.std.proofs.lemmas.List.{append-nil, get_or-set_same, get_or-set_other, length-set, drop_more, get_or-map, length-map, map-set}
 use Rattle.std.proofs.lemmas.List.Elements.{All-get_or}
 use Rattle.std.proofs.lemmas.Option.{slice_get-get_or}
+use Rattle.coz_types.specs.declared.LineId.{LineId}
 use Rattle.line_index.specs.declared.changes.Change.{Change}
+use Rattle.line_index.specs.declared.changes.LineChange.{LineChange}
+use Rattle.line_index.specs.Changes.{place_of, change_of, changes_of}
 use Rattle.line_index.specs.Keys.{texts, is_at, starts, with_start, IsBelow, AreStarts}
 
 -- what is noted, and what is still ahead
@@ -78,6 +81,23 @@ nothing_ahead [] (suc i) le = refl
 nothing_ahead (c ∷ cs) zero le = absurd (omega arith)
 nothing_ahead (c ∷ cs) (suc i) le = nothing_ahead cs i (omega arith)
 
+-- a change of lines is the change that it is seen as
+pub line_change_at : (cs : List LineChange) (i : ℕ) (d : LineChange) → i < length cs → get_or (changes_of cs) i (change_of d) ≡ change_of (get_or cs i d)
+line_change_at cs i d lt = get_or-map change_of cs i d (change_of d) lt
+
+-- the line of each change is one of so many
+pub line_within : (count : ℕ) (cs : List LineChange) (lists : List (Vec ℕ)) (i : ℕ) (d : LineChange) → i < length cs → All (IsBelow count) (changes_of cs) → length (texts lists) ≡ count → IsBelow (length lists) (change_of (get_or cs i d))
+line_within count cs lists i d lt all many =
+    subst (λ n. IsBelow n (change_of (get_or cs i d))) (sym many ∙ length-map lists (λ (v : Vec ℕ). v.items))
+    (subst (IsBelow count) (line_change_at cs i d lt) (All-get_or (IsBelow count) (changes_of cs) i (change_of d) (omega (arith, length-map cs change_of)) all))
+
+pub noted_change : (count : ℕ) (cs : List LineChange) (lists after : List (List ℕ)) (before : Option LineId) (i : ℕ) (d : LineChange) → i < length cs → All (IsBelow count) (changes_of cs) → after ≡ with_start (place_of before) (change_of (get_or cs i d)) lists
+    → Starting count (changes_of cs) lists (place_of before) (drop i (changes_of cs)) → Starting count (changes_of cs) after (place_of (get_or cs i d).line) (drop (i + 1) (changes_of cs))
+noted_change count cs lists after before i d lt below is so_far =
+    subst (λ (c : Change). Starting count (changes_of cs) after c.position (drop (i + 1) (changes_of cs))) (line_change_at cs i d lt)
+    (noted count (changes_of cs) lists after (place_of before) i (change_of d) (omega (arith, length-map cs change_of)) below
+    (is ∙ ap (λ (c : Change). with_start (place_of before) c lists) (sym (line_change_at cs i d lt))) so_far)
+
 -- and all are
 pub all_noted : (count : ℕ) (changes : List Change) (lists : List (List ℕ)) (before : Option ℕ) (i : ℕ) → length changes ≤ i → Starting count changes lists before (drop i changes) → AreStarts count changes lists
 all_noted count changes lists before i le so_far = record {
@@ -101,3 +121,7 @@ start_added lists line grown old d before c at off lt is grows =
     ∙ ap (λ xs. set (texts lists) line xs) items
     ∙ position_start before c.address line (texts lists) off
     ∙ ap (λ p. with_start before (record { address = c.address; position = p }) (texts lists)) (sym at)
+
+pub change_added : (lists : List (Vec ℕ)) (line : LineId) (grown old d : Vec ℕ) (before : Option LineId) (c : LineChange) → c.line ≡ Some line → is_at line.0 (place_of before) ≡ false → line.0 < length lists → old ≡ get_or lists line.0 d → grown.items ≡ old.items ++ c.address ∷ []
+    → texts (set lists line.0 grown) ≡ with_start (place_of before) (change_of c) (texts lists)
+change_added lists line grown old d before c at off lt is grows = start_added lists line.0 grown old d (place_of before) (change_of c) (ap place_of at) off lt is grows

@@ -6,17 +6,19 @@ use Rattle.std.proofs.lemmas.Bool.{cases_lt, eqb-true}
 use Rattle.std.proofs.lemmas.Bool.Decides.{nat_tests}
 use Rattle.std.proofs.lemmas.List.{append-nil, get_or-set_same, get_or-set_other, length-map, length-set, drop_more, get_or-map, get_or_past, map-set}
 use Rattle.std.proofs.lemmas.List.Elements.{All-get_or}
+use Rattle.coz_types.specs.declared.LineId.{LineId}
 use Rattle.line_index.specs.declared.changes.Change.{Change}
-use Rattle.line_index.specs.Changes.{value_at, IsRising}
+use Rattle.line_index.specs.declared.changes.LineChange.{LineChange}
+use Rattle.line_index.specs.Changes.{value_at, IsRising, place_of, change_of, changes_of}
 use Rattle.line_index.specs.Keys.{texts, is_at, IsBelow}
-use Rattle.line_index.specs.Turns.{Rises, differ, is_within, turns, with_turn}
-use Rattle.line_index.proofs.Starting.{nothing_ahead}
+use Rattle.line_index.specs.Turns.{Rises, is_different, is_within, turns, with_turn}
+use Rattle.line_index.proofs.Starting.{nothing_ahead, line_change_at}
 
 -- ---- what the turns tell
 
-differ_none : (p : Bool) → p ≡ differ p false
-differ_none true = refl
-differ_none false = refl
+is_different_none : (p : Bool) → p ≡ is_different p false
+is_different_none true = refl
+is_different_none false = refl
 
 not_not : (p : Bool) → not (not p) ≡ p
 not_not true = refl
@@ -28,22 +30,22 @@ not_passed false a b rest lt none = none
 
 none_within : (k a low : ℕ) (x : Option ℕ) (cs : List Change) → IsRising low cs → a < low → is_within a (turns k x cs) ≡ false
 none_within k a low x [] up lt = refl
-none_within k a low x (c ∷ cs) up lt = not_passed (differ (is_at k x) (is_at k c.position)) a c.address (turns k c.position cs) (omega (arith, up.0)) (none_within k a (suc c.address) c.position cs up.1 (omega (arith, up.0)))
+none_within k a low x (c ∷ cs) up lt = not_passed (is_different (is_at k x) (is_at k c.position)) a c.address (turns k c.position cs) (omega (arith, up.0)) (none_within k a (suc c.address) c.position cs up.1 (omega (arith, up.0)))
 
-passed : (p q : Bool) (a b : ℕ) (rest : List ℕ) → b ≤ a → differ q (is_within a rest) ≡ differ p (is_within a (cond (differ p q) (b ∷ []) [] ++ rest))
+passed : (p q : Bool) (a b : ℕ) (rest : List ℕ) → b ≤ a → is_different q (is_within a rest) ≡ is_different p (is_within a (cond (is_different p q) (b ∷ []) [] ++ rest))
 passed true true a b rest le = refl
 passed true false a b rest le = let t : nat_le b a ≡ true = grind (arith, nat_tests) in rw t (sym (not_not (is_within a rest)))
 passed false true a b rest le = let t : nat_le b a ≡ true = grind (arith, nat_tests) in rw t refl
 passed false false a b rest le = refl
 
-has_turned_from : (k a low : ℕ) (x : Option ℕ) (cs : List Change) → IsRising low cs → is_at k (value_at a x cs) ≡ differ (is_at k x) (is_within a (turns k x cs))
-has_turned_from k a low x [] up = differ_none (is_at k x)
+has_turned_from : (k a low : ℕ) (x : Option ℕ) (cs : List Change) → IsRising low cs → is_at k (value_at a x cs) ≡ is_different (is_at k x) (is_within a (turns k x cs))
+has_turned_from k a low x [] up = is_different_none (is_at k x)
 has_turned_from k a low x (c ∷ cs) up =
     ⊎_elim
     (λ lt.
     let t : nat_lt a c.address ≡ true = grind (arith, nat_tests) in
-    let none = not_passed (differ (is_at k x) (is_at k c.position)) a c.address (turns k c.position cs) lt (none_within k a (suc c.address) c.position cs up.1 (omega arith)) in
-    ap (λ z. is_at k (cond z x (value_at a c.position cs))) t ∙ differ_none (is_at k x) ∙ ap (differ (is_at k x)) (sym none))
+    let none = not_passed (is_different (is_at k x) (is_at k c.position)) a c.address (turns k c.position cs) lt (none_within k a (suc c.address) c.position cs up.1 (omega arith)) in
+    ap (λ z. is_at k (cond z x (value_at a c.position cs))) t ∙ is_different_none (is_at k x) ∙ ap (is_different (is_at k x)) (sym none))
     (λ le.
     let f : nat_lt a c.address ≡ false = grind (arith, nat_tests) in
     ap (λ z. is_at k (cond z x (value_at a c.position cs))) f ∙ has_turned_from k a (suc c.address) c.position cs up.1 ∙ passed (is_at k x) (is_at k c.position) a c.address (turns k c.position cs) le)
@@ -63,7 +65,7 @@ rises_step false low a xs le up = rises_lower low (suc a) xs (omega arith) up
 
 pub turns_rise : (k low : ℕ) (x : Option ℕ) (cs : List Change) → IsRising low cs → Rises low (turns k x cs)
 turns_rise k low x [] up = tt
-turns_rise k low x (c ∷ cs) up = rises_step (differ (is_at k x) (is_at k c.position)) low c.address (turns k c.position cs) up.0 (turns_rise k (suc c.address) c.position cs up.1)
+turns_rise k low x (c ∷ cs) up = rises_step (is_different (is_at k x) (is_at k c.position)) low c.address (turns k c.position cs) up.0 (turns_rise k (suc c.address) c.position cs up.1)
 
 -- ---- how many are passed
 
@@ -136,7 +138,7 @@ not_both k None q e f = let no : ⊥ = cc in absurd no
 not_both k (Some i) None e f = let no : ⊥ = cc in absurd no
 not_both k (Some i) (Some j) e f = ap (λ n. Some n) (eqb-true i k e ∙ sym (eqb-true j k f))
 
-one_turn : (p q : Bool) (a : ℕ) (xs : List ℕ) → (p ≡ true → q ≡ true → ⊥) → (xs ++ cond p (a ∷ []) []) ++ cond q (a ∷ []) [] ≡ xs ++ cond (differ p q) (a ∷ []) []
+one_turn : (p q : Bool) (a : ℕ) (xs : List ℕ) → (p ≡ true → q ≡ true → ⊥) → (xs ++ cond p (a ∷ []) []) ++ cond q (a ∷ []) [] ≡ xs ++ cond (is_different p q) (a ∷ []) []
 one_turn true true a xs other = absurd (other refl refl)
 one_turn true false a xs other = append-nil (xs ++ a ∷ [])
 one_turn false true a xs other = ap (λ ys. ys ++ a ∷ []) (append-nil xs)
@@ -144,20 +146,20 @@ one_turn false false a xs other = append-nil (xs ++ [])
 
 -- and both turns of a change
 pub turns_noted : (before position : Option ℕ) (k a : ℕ) (lists : List (List ℕ)) → (before ≡ position → ⊥) → IfSome before (λ line. line < length lists) → IfSome position (λ line. line < length lists)
-    → get_or (with_turn position a (with_turn before a lists)) k [] ≡ get_or lists k [] ++ cond (differ (is_at k before) (is_at k position)) (a ∷ []) []
+    → get_or (with_turn position a (with_turn before a lists)) k [] ≡ get_or lists k [] ++ cond (is_different (is_at k before) (is_at k position)) (a ∷ []) []
 turns_noted before position k a lists other below within =
     turn_noted position k a (with_turn before a lists) (subst (λ n. IfSome position (λ line. line < n)) (sym (turn_many before a lists)) within)
     ∙ ap (λ xs. xs ++ cond (is_at k position) (a ∷ []) []) (turn_noted before k a lists below)
     ∙ one_turn (is_at k before) (is_at k position) a (get_or lists k []) (λ e f. other (not_both k before position e f))
 
-differ_same : (p : Bool) → differ p p ≡ false
-differ_same true = refl
-differ_same false = refl
+is_different_same : (p : Bool) → is_different p p ≡ false
+is_different_same true = refl
+is_different_same false = refl
 
 -- none where nothing changes
-pub no_turns : (before position : Option ℕ) (k a : ℕ) (xs : List ℕ) → before ≡ position → xs ≡ xs ++ cond (differ (is_at k before) (is_at k position)) (a ∷ []) []
+pub no_turns : (before position : Option ℕ) (k a : ℕ) (xs : List ℕ) → before ≡ position → xs ≡ xs ++ cond (is_different (is_at k before) (is_at k position)) (a ∷ []) []
 no_turns before position k a xs same =
-    sym (append-nil xs) ∙ ap (λ t. xs ++ cond t (a ∷ []) []) (sym (ap (λ p. differ (is_at k before) (is_at k p)) (sym same) ∙ differ_same (is_at k before)))
+    sym (append-nil xs) ∙ ap (λ t. xs ++ cond t (a ∷ []) []) (sym (ap (λ p. is_different (is_at k before) (is_at k p)) (sym same) ∙ is_different_same (is_at k before)))
 
 -- what is noted, and what is still ahead
 pub record Turning (count : ℕ) (changes : List Change) (lists : List (List ℕ)) (before : Option ℕ) (ahead : List Change) : Type 0 where
@@ -178,7 +180,7 @@ turning count changes lists many empty = record {
 
 -- one change is noted
 pub turned : (count : ℕ) (changes : List Change) (lists after : List (List ℕ)) (before : Option ℕ) (i : ℕ) (d : Change) → i < length changes → All (IsBelow count) changes → length after ≡ length lists
-    → ((k : ℕ) → get_or after k [] ≡ get_or lists k [] ++ cond (differ (is_at k before) (is_at k (get_or changes i d).position)) ((get_or changes i d).address ∷ []) [])
+    → ((k : ℕ) → get_or after k [] ≡ get_or lists k [] ++ cond (is_different (is_at k before) (is_at k (get_or changes i d).position)) ((get_or changes i d).address ∷ []) [])
     → Turning count changes lists before (drop i changes) → Turning count changes after (get_or changes i d).position (drop (i + 1) changes)
 turned count changes lists after before i d lt below many added so_far = record {
   as_many = many ∙ so_far.as_many;
@@ -186,10 +188,19 @@ turned count changes lists after before i d lt below many added so_far = record 
   each = λ k.
       let front : drop i changes ≡ get_or changes i d ∷ drop (i + 1) changes = drop_more changes i d lt in
       ap (λ xs. xs ++ turns k (get_or changes i d).position (drop (i + 1) changes)) (added k)
-      ∙ append_assoc (get_or lists k []) (cond (differ (is_at k before) (is_at k (get_or changes i d).position)) ((get_or changes i d).address ∷ []) []) (turns k (get_or changes i d).position (drop (i + 1) changes))
+      ∙ append_assoc (get_or lists k []) (cond (is_different (is_at k before) (is_at k (get_or changes i d).position)) ((get_or changes i d).address ∷ []) []) (turns k (get_or changes i d).position (drop (i + 1) changes))
       ∙ ap (λ cs. get_or lists k [] ++ turns k before cs) (sym front)
       ∙ so_far.each k;
 }
+
+pub turned_change : (count : ℕ) (cs : List LineChange) (lists after : List (Vec ℕ)) (before : Option LineId) (i : ℕ) (d : LineChange) → i < length cs → All (IsBelow count) (changes_of cs) → length after ≡ length lists
+    → ((k : ℕ) → get_or (texts after) k [] ≡ get_or (texts lists) k [] ++ cond (is_different (is_at k (place_of before)) (is_at k (place_of (get_or cs i d).line))) ((get_or cs i d).address ∷ []) [])
+    → Turning count (changes_of cs) (texts lists) (place_of before) (drop i (changes_of cs)) → Turning count (changes_of cs) (texts after) (place_of (get_or cs i d).line) (drop (i + 1) (changes_of cs))
+turned_change count cs lists after before i d lt below many added so_far =
+    subst (λ (c : Change). Turning count (changes_of cs) (texts after) c.position (drop (i + 1) (changes_of cs))) (line_change_at cs i d lt)
+    (turned count (changes_of cs) (texts lists) (texts after) (place_of before) i (change_of d) (omega (arith, length-map cs change_of)) below
+    (length-map after (λ (v : Vec ℕ). v.items) ∙ many ∙ sym (length-map lists (λ (v : Vec ℕ). v.items)))
+    (λ k. added k ∙ ap (λ (c : Change). get_or (texts lists) k [] ++ cond (is_different (is_at k (place_of before)) (is_at k c.position)) (c.address ∷ []) []) (sym (line_change_at cs i d lt))) so_far)
 
 -- and all are
 pub all_turned : (count : ℕ) (changes : List Change) (lists : List (List ℕ)) (before : Option ℕ) (i : ℕ) → length changes ≤ i → Turning count changes lists before (drop i changes) → (k : ℕ) → get_or lists k [] ≡ turns k None changes

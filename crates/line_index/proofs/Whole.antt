@@ -13,8 +13,8 @@ use Rattle.dwarf_lines.specs.declared.Row.{Row}
 use Rattle.dwarf_lines.specs.Registers.{File, Table}
 use Rattle.line_index.specs.declared.changes.Change.{Change}
 use Rattle.line_index.specs.declared.lines.Key.{Key}
-use Rattle.line_index.specs.Changes.{value_at, IsRising, holds}
-use Rattle.line_index.specs.Lines.{Line, path, entry_path, numbered, first_covering, line_of_row, is_executable, line_of, Begins, line_cmp}
+use Rattle.line_index.specs.Changes.{value_at, IsRising, is_in_span}
+use Rattle.line_index.specs.Lines.{Line, path, entry_path, line_with, first_covering, line_of_row, is_executable, line_of, Begins, line_cmp}
 use Rattle.line_index.specs.Spans.{row_spans}
 use Rattle.line_index.specs.Keys.{HasPath, key_cmp, row_key, with_path, key_at, change_keys, key_change, line_change, is_at, starts, AreStarts}
 use Rattle.line_index.specs.Index.{IsIndex, AreEntries, line_at}
@@ -27,7 +27,7 @@ use Rattle.line_index.proofs.Order.{lines_in_order, one_place}
 pub record Built (files : List File) (rows : List Row) (areas : List Area) (paths : List (List ℕ)) (positions : List (Option ℕ)) (keys : List Key) (changes lines : List Change) : Type 0 where
   pub paths_rise : IsStrictlySortedBy (slice_cmp nat_cmp) paths
   pub placed : map (option_map (slice_get paths)) positions ≡ map (λ (file : File). option_map Some (entry_path file)) files
-  pub values : (a : ℕ) → value_at a None changes ≡ cond (is_executable areas a) (position_from (holds a) 0 (row_spans rows)) None
+  pub values : (a : ℕ) → value_at a None changes ≡ cond (is_executable areas a) (position_from (is_in_span a) 0 (row_spans rows)) None
   pub rise : IsRising 0 changes
   pub keys_rise : IsStrictlySortedBy key_cmp keys
   pub each : (key : Key) → Contains keys key ↔ Contains (change_keys rows positions changes) key
@@ -35,20 +35,20 @@ pub record Built (files : List File) (rows : List Row) (areas : List Area) (path
 
 -- ---- the line of a row
 
-same_path : (paths : List (List ℕ)) (number place : ℕ) (path : List ℕ) → Some (slice_get paths place) ≡ Some (Some path) → Some (line_at paths (with_path number place)) ≡ Some (numbered number path)
+same_path : (paths : List (List ℕ)) (number place : ℕ) (path : List ℕ) → Some (slice_get paths place) ≡ Some (Some path) → Some (line_at paths (with_path number place)) ≡ Some (line_with number path)
 same_path paths number place path e =
     let found : slice_get paths place ≡ Some path = cc in
-    ap (λ p. Some (numbered number p)) (get_or_from_slice_get paths place path [] found)
+    ap (λ p. Some (line_with number p)) (get_or_from_slice_get paths place path [] found)
 
 entry_line : (paths : List (List ℕ)) (number : ℕ) (position : Option ℕ) (entry : Option (List ℕ)) → option_map (slice_get paths) position ≡ option_map Some entry
-    → option_map (line_at paths) (option_map (with_path number) position) ≡ option_map (numbered number) entry
+    → option_map (line_at paths) (option_map (with_path number) position) ≡ option_map (line_with number) entry
 entry_line paths number None None e = refl
 entry_line paths number None (Some path) e = let no : ⊥ = cc in absurd no
 entry_line paths number (Some place) None e = let no : ⊥ = cc in absurd no
 entry_line paths number (Some place) (Some path) e = same_path paths number place path e
 
 file_line : (paths : List (List ℕ)) (number : ℕ) (position : Option (Option ℕ)) (file : Option File) → option_map (option_map (slice_get paths)) position ≡ option_map (λ (file : File). option_map Some (entry_path file)) file
-    → option_map (line_at paths) (option_and_then (λ rank. option_map (with_path number) rank) position) ≡ option_and_then (λ file. option_map (numbered number) (entry_path file)) file
+    → option_map (line_at paths) (option_and_then (λ rank. option_map (with_path number) rank) position) ≡ option_and_then (λ file. option_map (line_with number) (entry_path file)) file
 file_line paths number None None e = refl
 file_line paths number None (Some file) e = let no : ⊥ = cc in absurd no
 file_line paths number (Some position) None e = let no : ⊥ = cc in absurd no
@@ -57,7 +57,7 @@ file_line paths number (Some position) (Some file) e =
     entry_line paths number position (entry_path file) same
 
 row_line_by : (paths : List (List ℕ)) (positions : List (Option ℕ)) (files : List File) (number : ℕ) (zero_line : Bool) (file : Option ℕ) → map (option_map (slice_get paths)) positions ≡ map (λ (file : File). option_map Some (entry_path file)) files
-    → option_map (line_at paths) (cond zero_line None (option_and_then (λ k. option_and_then (λ rank. option_map (with_path number) rank) (slice_get positions k)) file)) ≡ cond zero_line None (option_and_then (λ k. option_and_then (λ file. option_map (numbered number) (entry_path file)) (slice_get files k)) file)
+    → option_map (line_at paths) (cond zero_line None (option_and_then (λ k. option_and_then (λ rank. option_map (with_path number) rank) (slice_get positions k)) file)) ≡ cond zero_line None (option_and_then (λ k. option_and_then (λ file. option_map (line_with number) (entry_path file)) (slice_get files k)) file)
 row_line_by paths positions files number true file e = refl
 row_line_by paths positions files number false None e = refl
 row_line_by paths positions files number false (Some k) e =
@@ -87,11 +87,11 @@ pub line_is : (table : Table) (areas : List Area) (paths : List (List ℕ)) (pos
     → option_map (line_at paths) (key_at table.rows positions (value_at a None changes)) ≡ line_of table areas a
 unfolding line_of
 line_is table areas paths positions keys changes lines a built =
-    let row : option_and_then (slice_get table.rows) (position_from (holds a) 0 (row_spans table.rows)) ≡ first_covering a table.rows = covering a table.rows in
-    let here : option_map (line_at paths) (key_at table.rows positions (position_from (holds a) 0 (row_spans table.rows))) ≡ option_and_then (line_of_row table.files) (first_covering a table.rows)
-    = ap (option_map (line_at paths)) (chained table.rows positions (position_from (holds a) 0 (row_spans table.rows)) ∙ ap (option_and_then (row_key positions)) row) ∙ lines_of paths positions table.files (first_covering a table.rows) built.placed in
+    let row : option_and_then (slice_get table.rows) (position_from (is_in_span a) 0 (row_spans table.rows)) ≡ first_covering a table.rows = covering a table.rows in
+    let here : option_map (line_at paths) (key_at table.rows positions (position_from (is_in_span a) 0 (row_spans table.rows))) ≡ option_and_then (line_of_row table.files) (first_covering a table.rows)
+    = ap (option_map (line_at paths)) (chained table.rows positions (position_from (is_in_span a) 0 (row_spans table.rows)) ∙ ap (option_and_then (row_key positions)) row) ∙ lines_of paths positions table.files (first_covering a table.rows) built.placed in
     ap (λ place. option_map (line_at paths) (key_at table.rows positions place)) (built.values a)
-    ∙ inside table.rows positions paths (is_executable areas a) (position_from (holds a) 0 (row_spans table.rows)) (option_and_then (line_of_row table.files) (first_covering a table.rows)) here
+    ∙ inside table.rows positions paths (is_executable areas a) (position_from (is_in_span a) 0 (row_spans table.rows)) (option_and_then (line_of_row table.files) (first_covering a table.rows)) here
 
 -- ---- positions
 

@@ -1,6 +1,8 @@
 -- What stands at each address, as the list of where it changes.
-use Rattle.std.specs.Prelude.{ℕ, suc, ◌≤◌, Bool, ◌&&◌, List, [], ◌∷◌, Option, Some, None, option_and_then, nat_lt, nat_le, ◌==◌, if◌then◌else◌}
+use Rattle.std.specs.Prelude.{ℕ, suc, ◌≤◌, Bool, ◌&&◌, List, [], ◌∷◌, map, Option, Some, None, option_map, option_and_then, nat_lt, nat_le, ◌==◌, if◌then◌else◌}
 use Rattle.line_index.specs.declared.changes.Change.{Change}
+use Rattle.coz_types.specs.declared.LineId.{LineId}
+use Rattle.line_index.specs.declared.changes.LineChange.{LineChange}
 use Rattle.line_index.specs.declared.changes.Join.{Join}
 use Rattle.line_index.specs.declared.changes.Join.TheVariants.{Over, Within}
 use Rattle.line_index.specs.declared.spans.Span.{Span}
@@ -9,6 +11,19 @@ use Rattle.line_index.specs.declared.spans.Span.{Span}
 abbrev pub value_at : ℕ → Option ℕ → List Change → Option ℕ
 value_at a before [] = before
 value_at a before (c ∷ cs) = if nat_lt a c.address then before else value_at a c.position cs
+
+-- ---- changes of lines, by the positions of the lines
+
+abbrev pub place_of : Option LineId → Option ℕ
+place_of line = option_map (λ (l : LineId). l.0) line
+
+abbrev pub change_of : LineChange → Change
+change_of c = record { address = c.address; position = place_of c.line }
+
+abbrev pub changes_of : List LineChange → List Change
+changes_of cs = map change_of cs
+
+-- ---- what lists of changes are and say together
 
 -- each address is greater than the one before it, and the first is no less than this one
 abbrev pub IsRising : ℕ → List Change → Type 0
@@ -20,13 +35,13 @@ or_else None second = second
 or_else (Some x) second = Some x
 
 -- the first, and where there is none the second; or the second, where there is a first
-abbrev pub joined : Join → Option ℕ → Option ℕ → Option ℕ
-joined Over first second = or_else first second
-joined Within first second = option_and_then (λ (_ : ℕ). second) first
+abbrev pub joined_position : Join → Option ℕ → Option ℕ → Option ℕ
+joined_position Over first second = or_else first second
+joined_position Within first second = option_and_then (λ (_ : ℕ). second) first
 
 -- the address lies in the span
-abbrev pub holds : ℕ → Span → Bool
-holds a span = nat_le span.start a && nat_lt a span.end
+abbrev pub is_in_span : ℕ → Span → Bool
+is_in_span a span = nat_le span.start a && nat_lt a span.end
 
 -- ---- going through a list of changes
 

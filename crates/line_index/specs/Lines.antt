@@ -21,12 +21,12 @@ is_rooted [] = false
 is_rooted (b ∷ bs) = b == 47
 
 -- its name, behind its directory and a slash where it has one and doesn't begin at the root itself
-abbrev pub joined : File → List ℕ
-joined file = if is_empty file.directory || is_rooted file.name then file.name else file.directory ++ 47 ∷ file.name
+abbrev pub full_name : File → List ℕ
+full_name file = if is_empty file.directory || is_rooted file.name then file.name else file.directory ++ 47 ∷ file.name
 
 -- the written path of a file
 abbrev pub path : File → List ℕ
-path file = written (joined file)
+path file = written (full_name file)
 
 -- a file whose written path is empty counts as no entry
 abbrev pub entry_path : File → Option (List ℕ)
@@ -39,21 +39,21 @@ abbrev pub next_address : ℕ → List Row → Option ℕ
 next_address sequence later = option_map (λ (next : Row). next.address) (find (λ (next : Row). next.sequence == sequence) later)
 
 -- a row covers the addresses from its own up to that of the next row of its sequence, which is not among them
-abbrev pub covers : ℕ → Row → List Row → Bool
-covers a row later = elim (next_address row.sequence later) [ Some end ↦ nat_le row.address a && nat_lt a end | None ↦ false ]
+abbrev pub is_covered : ℕ → Row → List Row → Bool
+is_covered a row later = elim (next_address row.sequence later) [ Some end ↦ nat_le row.address a && nat_lt a end | None ↦ false ]
 
 abbrev pub first_covering : ℕ → List Row → Option Row
 first_covering a [] = None
-first_covering a (row ∷ rows) = if covers a row rows then Some row else first_covering a rows
+first_covering a (row ∷ rows) = if is_covered a row rows then Some row else first_covering a rows
 
-abbrev pub numbered : ℕ → List ℕ → Line
-numbered number path = record { path = path; number = number }
+abbrev pub line_with : ℕ → List ℕ → Line
+line_with number path = record { path = path; number = number }
 
 -- line 0, and a file number without an entry, are no line
 abbrev pub line_of_row : List File → Row → Option Line
 line_of_row files row =
     if row.line == 0 then None
-    else option_and_then (λ k. option_and_then (λ file. option_map (numbered row.line) (entry_path file)) (slice_get files k)) row.file
+    else option_and_then (λ k. option_and_then (λ file. option_map (line_with row.line) (entry_path file)) (slice_get files k)) row.file
 
 abbrev pub is_executable : List Area → ℕ → Bool
 is_executable areas a = list_any (λ (area : Area). area.rights.execute && (nat_le area.start a && nat_lt a (area.start + area.size))) areas
@@ -96,5 +96,5 @@ abbrev pub is_line_below : List ℕ → ℕ → Line → Bool
 is_line_below text number line = line.number == number && ends_with line.path text
 
 -- where in a list of lines in order: that of the path, else the first whose path ends with it
-abbrev pub found : List ℕ → ℕ → List Line → Option ℕ
-found text number lines = or_else (position (is_line_named text number) lines) (position (is_line_below text number) lines)
+abbrev pub position_named : List ℕ → ℕ → List Line → Option ℕ
+position_named text number lines = or_else (position (is_line_named text number) lines) (position (is_line_below text number) lines)

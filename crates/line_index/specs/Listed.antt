@@ -11,14 +11,14 @@ use Rattle.line_index.specs.Lines.{Line, line_of, line_cmp, is_line_named}
 use Rattle.line_index.specs.Index.{Index, position_at}
 
 -- a list in order with one more element, unless it is there
-abbrev pub placed : {K : Type 0} → (K → K → Ordering) → K → List K → List K
-placed R x [] = x ∷ []
-placed R x (y ∷ ys) = by_order (R x y) (x ∷ y ∷ ys) (y ∷ ys) (y ∷ placed R x ys)
+abbrev pub with_element : {K : Type 0} → (K → K → Ordering) → K → List K → List K
+with_element R x [] = x ∷ []
+with_element R x (y ∷ ys) = by_order (R x y) (x ∷ y ∷ ys) (y ∷ ys) (y ∷ with_element R x ys)
 
 -- the elements in order, each once
 abbrev pub in_order : {K : Type 0} → (K → K → Ordering) → List K → List K
 in_order R [] = []
-in_order R (x ∷ xs) = placed R x (in_order R xs)
+in_order R (x ∷ xs) = with_element R x (in_order R xs)
 
 -- where a row or an area starts: a line begins at no other address
 abbrev pub bounds : Table → List Area → List ℕ
@@ -33,13 +33,13 @@ is_same line None = false
 is_same line (Some other) = is_line_named line.path line.number other
 
 -- the address has the line, and the address before it has not
-abbrev pub begins : Table → List Area → Line → ℕ → Bool
-begins table areas line zero = is_same line (line_of table areas zero)
-begins table areas line (suc b) = is_same line (line_of table areas (suc b)) && not (is_same line (line_of table areas b))
+abbrev pub is_beginning : Table → List Area → Line → ℕ → Bool
+is_beginning table areas line zero = is_same line (line_of table areas zero)
+is_beginning table areas line (suc b) = is_same line (line_of table areas (suc b)) && not (is_same line (line_of table areas b))
 
 -- the addresses at which the line begins, rising
 unfoldable pub entries_in : Table → List Area → Line → List ℕ
-entries_in table areas line = filter (begins table areas line) (in_order nat_cmp (bounds table areas))
+entries_in table areas line = filter (is_beginning table areas line) (in_order nat_cmp (bounds table areas))
 
 -- the position of the line of an address, if it has one
 unfoldable pub position_in : Table → List Area → ℕ → Option ℕ

@@ -8,14 +8,14 @@ abbrev pub Rises : ℕ → List ℕ → Type 0
 Rises low [] = Unit {0}
 Rises low (x ∷ xs) = (low ≤ x) × Rises (suc x) xs
 
-abbrev pub differ : Bool → Bool → Bool
-differ true other = not other
-differ false other = other
+abbrev pub is_different : Bool → Bool → Bool
+is_different true other = not other
+is_different false other = other
 
 -- where the line at this position begins and, in turn with that, ends
 abbrev pub turns : ℕ → Option ℕ → List Change → List ℕ
 turns k before [] = []
-turns k before (c ∷ cs) = (if differ (is_at k before) (is_at k c.position) then c.address ∷ [] else []) ++ turns k c.position cs
+turns k before (c ∷ cs) = (if is_different (is_at k before) (is_at k c.position) then c.address ∷ [] else []) ++ turns k c.position cs
 
 -- behind a beginning and before the end that follows: the first turn is passed, and it is not so of the others
 abbrev pub is_within : ℕ → List ℕ → Bool

@@ -2,7 +2,7 @@
 use Rattle.std.specs.Prelude.{◌≡◌, ℕ, ◌<◌, ◌^◌, [], None, length, map, get_or, All}
 use Rattle.std.specs.List.Sorted.{IsStrictlySortedBy}
 use Rattle.line_index.specs.declared.LineIndex.TheInside.{Inside}
-use Rattle.line_index.specs.Changes.{IsRising}
+use Rattle.line_index.specs.Changes.{IsRising, changes_of}
 use Rattle.line_index.specs.Lines.{IsRight, label}
 use Rattle.line_index.specs.Keys.{HasPath, key_cmp, path_cmp, texts}
 use Rattle.line_index.specs.Backwards.{AreBackwards}
@@ -13,7 +13,7 @@ abbrev pub index_view : Inside → Index
 index_view inside = record {
   lines = map (line_at (texts inside.paths.items)) inside.lines.items;
   entries = texts inside.entries.items;
-  changes = inside.changes.items;
+  changes = changes_of inside.changes.items;
 }
 
 pub record IsWhole (inside : Inside) : Type 0 where
@@ -26,5 +26,5 @@ pub record IsWhole (inside : Inside) : Type 0 where
   pub right : All IsRight (map (line_at (texts inside.paths.items)) inside.lines.items)
   pub labels : inside.labels.items ≡ map label (map (line_at (texts inside.paths.items)) inside.lines.items)
   pub as_many : length inside.entries.items ≡ length inside.lines.items
-  pub rising : IsRising 0 inside.changes.items
-  pub turns : (k : ℕ) → get_or (texts inside.turns.items) k [] ≡ turns k None inside.changes.items
+  pub rising : IsRising 0 (changes_of inside.changes.items)
+  pub turns : (k : ℕ) → get_or (texts inside.turns.items) k [] ≡ turns k None (changes_of inside.changes.items)

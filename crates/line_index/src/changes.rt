@@ -1,18 +1,27 @@
 //! What stands at each address, as the list of where it changes.
 
 ghost use Rattle.std.specs.Prelude.{◌≡◌, ℕ, ◌+◌, ◌≤◌, ◌<◌, ◌^◌, length, IfOk, None};
-ghost use Rattle.line_index.specs.Changes.{value_at, IsRising, joined, next, least, position_after, ahead_after};
+ghost use Rattle.line_index.specs.Changes.{value_at, IsRising, joined_position, next, least, position_after, ahead_after, place_of, changes_of};
 
-use coz_types::Address;
+use coz_types::{Address, LineId};
 use std::alloc::{AllocError, Global};
 
-/// From this address on, up to the next change, a position in some list, or none.
+/// From this address on, up to the next change, a span, or none.
 #[derive(Clone, Copy, Debug, PartialEq, Eq)]
 pub struct Change {
     /// The first address.
     pub address: Address,
-    /// The position, if there is one.
+    /// The position of the span in the list of spans, if there is one.
     pub position: Option<u32>,
+}
+
+/// From this address on, up to the next change, a line, or none.
+#[derive(Clone, Copy, Debug, PartialEq, Eq)]
+pub struct LineChange {
+    /// The first address.
+    pub address: Address,
+    /// The line, if there is one.
+    pub line: Option<LineId>,
 }
 
 /// How two lists of changes become one.
@@ -26,7 +35,7 @@ pub enum Join {
 
 impl Join {
     fn position(self, first: Option<u32>, second: Option<u32>) -> Option<u32>
-        ensures { result ≡ joined self first second }
+        ensures { result ≡ joined_position self first second }
     {
         match self {
             Join::Over => first.or(second),
@@ -86,7 +95,7 @@ pub fn merged(
 ) -> Result<Vec<Change>, AllocError>
     requires first_rises { IsRising 0 first.now }
     requires second_rises { IsRising 0 second.now }
-    ensures values { IfOk result (λ changes. (a : ℕ) → value_at a None changes.items ≡ joined join (value_at a None first.now) (value_at a None second.now)) }
+    ensures values { IfOk result (λ changes. (a : ℕ) → value_at a None changes.items ≡ joined_position join (value_at a None first.now) (value_at a None second.now)) }
     ensures rises { IfOk result (λ changes. IsRising 0 changes.items) }
     ensures few { IfOk result (λ changes. length changes.items ≤ length first.now + length second.now) }
 {
@@ -110,15 +119,15 @@ pub fn merged(
     Ok(changes)
 }
 
-/// What stands at an address. None where nothing does.
-pub fn position_at(changes: &[Change], address: Address) -> Option<u32>
-    requires { IsRising 0 changes.now }
-    ensures { result ≡ value_at address None changes.now }
+/// The line that stands at an address. None where none does.
+pub fn line_at(changes: &[LineChange], address: Address) -> Option<LineId>
+    requires { IsRising 0 (changes_of changes.now) }
+    ensures { place_of result ≡ value_at address None (changes_of changes.now) }
 {
     let passed = changes.partition_point(|change| change.address <= address);
     if passed == 0 {
         None
     } else {
-        changes[passed - 1].position
+        changes[passed - 1].line
     }
 }

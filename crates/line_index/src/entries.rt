@@ -1,10 +1,11 @@
 //! Where each line begins.
 
 ghost use Rattle.std.specs.Prelude.{◌≡◌, ℕ, List, [], length, IfOk, OnOk, All};
+ghost use Rattle.line_index.specs.Changes.{place_of, change_of, changes_of};
 ghost use Rattle.line_index.specs.Keys.{IsBelow, AreStarts, is_at, texts, with_start};
 
-use crate::changes::Change;
-use coz_types::Address;
+use crate::changes::LineChange;
+use coz_types::{Address, LineId};
 use std::alloc::{AllocError, Global};
 
 /// So many empty lists. Only want of memory stands against it.
@@ -19,12 +20,12 @@ pub fn empty_lists(alloc: Global, count: usize) -> Result<Vec<Vec<Address>>, All
     Ok(lists)
 }
 
-/// This line stands at an address where this position stands.
-fn is_at(line: u32, position: Option<u32>) -> bool
-    ensures { result ≡ is_at line position }
+/// This line stands where this other one stands, if one does.
+fn is_at(line: LineId, other: Option<LineId>) -> bool
+    ensures { result ≡ is_at line.0 (place_of other) }
 {
-    match position {
-        Some(other) => other == line,
+    match other {
+        Some(other) => other.0 == line.0,
         None => false,
     }
 }
@@ -32,16 +33,16 @@ fn is_at(line: u32, position: Option<u32>) -> bool
 /// The address of a change is one more start of its line, unless that stood there before.
 fn add_start(
     lists: &mut Vec<Vec<Address>>,
-    before: Option<u32>,
-    change: Change,
+    before: Option<LineId>,
+    change: LineChange,
 ) -> Result<(), AllocError>
-    requires { IsBelow (length lists.old.items) change }
-    ensures { OnOk result (texts lists.new.items ≡ with_start before change (texts lists.old.items)) }
+    requires { IsBelow (length lists.old.items) (change_of change) }
+    ensures { OnOk result (texts lists.new.items ≡ with_start (place_of before) (change_of change) (texts lists.old.items)) }
 {
-    match change.position {
+    match change.line {
         Some(line) => {
             if !is_at(line, before) {
-                lists[line as usize].push(change.address)?;
+                lists[line.0 as usize].push(change.address)?;
             }
             Ok(())
         }
@@ -52,17 +53,17 @@ fn add_start(
 /// The addresses at which each line begins. Only want of memory stands against it.
 pub fn entries(
     alloc: Global,
-    changes: &[Change],
+    changes: &[LineChange],
     count: usize,
 ) -> Result<Vec<Vec<Address>>, AllocError>
-    requires { All (IsBelow count) changes.now }
-    ensures { IfOk result (λ lists. AreStarts count changes.now (texts lists.items)) }
+    requires { All (IsBelow count) (changes_of changes.now) }
+    ensures { IfOk result (λ lists. AreStarts count (changes_of changes.now) (texts lists.items)) }
 {
     let mut lists = empty_lists(alloc, count)?;
     let mut before = None;
     for change in changes {
         add_start(&mut lists, before, *change)?;
-        before = change.position;
+        before = change.line;
     }
     Ok(lists)
 }

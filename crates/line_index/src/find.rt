@@ -2,7 +2,7 @@
 
 ghost use Rattle.std.specs.Prelude.{◌≡◌, ◌<◌, ◌^◌, length, map, position, All};
 ghost use Rattle.std.specs.List.Sorted.{IsStrictlySortedBy};
-ghost use Rattle.line_index.specs.Lines.{ends_with, is_line_named, is_line_below, found};
+ghost use Rattle.line_index.specs.Lines.{ends_with, is_line_named, is_line_below, position_named};
 ghost use Rattle.line_index.specs.Keys.{HasPath, is_key, key_cmp, path_cmp, texts, with_path};
 ghost use Rattle.line_index.specs.Index.{line_at};
 ghost use Rattle.line_index.specs.Backwards.{AreBackwards};
@@ -100,7 +100,7 @@ pub fn find(
     requires in_order { IsStrictlySortedBy key_cmp keys.now }
     requires have_paths { All (HasPath (texts paths.now)) keys.now }
     requires few { length keys.now < 2 ^ 32 }
-    ensures { result ≡ found path.now number (map (line_at (texts paths.now)) keys.now) }
+    ensures { result ≡ position_named path.now number (map (line_at (texts paths.now)) keys.now) }
 {
     match line_of_text(paths, keys, path, number) {
         Some(line) => Some(line),

@@ -19,12 +19,12 @@ mod written;
 ghost use Rattle.std.specs.Prelude.{◌≡◌, ◌≤◌, ◌<◌, ℕ, true, length, IfOk, Some, option_map, map, slice_get};
 ghost use Rattle.coz_types.specs.Labels.{Text, is_label, label_before};
 ghost use Rattle.dwarf_lines.specs.Registers.{view};
-ghost use Rattle.line_index.specs.Lines.{label, found};
+ghost use Rattle.line_index.specs.Lines.{label, position_named};
 ghost use Rattle.line_index.specs.Index.{Index, IsIndex, has_line, position_at};
 ghost use Rattle.line_index.specs.Listed.{IsListed};
 
 use crate::backwards::{Backward, backwards};
-use crate::changes::Change;
+use crate::changes::{LineChange, line_at};
 use crate::entries::entries;
 use crate::entry::{file_positions, sorted_entries};
 use crate::labels::labels;
@@ -46,7 +46,7 @@ pub struct LineIndex {
     lines: Vec<Key>,
     labels: Vec<Label>,
     entries: Vec<Vec<Address>>,
-    changes: Vec<Change>,
+    changes: Vec<LineChange>,
     turns: Vec<Vec<Address>>,
 }
 
@@ -74,7 +74,7 @@ impl LineIndex {
     pub fn line_of(&self, address: Address) -> Option<LineId>
         ensures { result ≡ option_map (λ k. record { 0 = k }) (position_at self.now address) }
     {
-        changes::position_at(&self.changes, address).map(LineId)
+        line_at(&self.changes, address)
     }
 
     /// Whether an address has this line. Its own turns alone are asked, and not those of all lines.
@@ -108,7 +108,7 @@ impl LineIndex {
 
     /// The line of this written path and number, else the first whose path ends with a slash and the text.
     pub fn find(&self, path: &[u8], number: u32) -> Option<LineId>
-        ensures { result ≡ option_map (λ k. record { 0 = k }) (found path.now number self.now.lines) }
+        ensures { result ≡ option_map (λ k. record { 0 = k }) (position_named path.now number self.now.lines) }
     {
         find::find(&self.paths, &self.backwards, &self.lines, path, number).map(LineId)
     }

@@ -6,10 +6,11 @@ ghost use Rattle.std.specs.Option.{ForSome};
 ghost use Rattle.std.specs.List.Sorted.{IsStrictlySortedBy};
 ghost use Rattle.line_index.specs.declared.changes.Change.{Change};
 ghost use Rattle.line_index.specs.declared.lines.Key.{Key};
-ghost use Rattle.line_index.specs.Changes.{IsRising};
+ghost use Rattle.line_index.specs.Changes.{IsRising, place_of, changes_of};
 ghost use Rattle.line_index.specs.Keys.{IsNumbered, key_cmp, row_key, key_at, change_keys, key_change, line_change};
 
-use crate::changes::Change;
+use crate::changes::{Change, LineChange};
+use coz_types::LineId;
 use dwarf_lines::Row;
 use std::alloc::{AllocError, Global};
 
@@ -98,41 +99,41 @@ pub fn sorted_keys(
     Ok(keys)
 }
 
-/// The position of a line.
-fn key_position(keys: &[Key], key: Option<Key>) -> Option<u32>
+/// The line of a key, by its position among them.
+fn key_line(keys: &[Key], key: Option<Key>) -> Option<LineId>
     requires in_order { IsStrictlySortedBy key_cmp keys.now }
     requires one { ForSome key (Contains keys.now) }
     requires few { length keys.now < 2 ^ 32 }
-    ensures { option_map (slice_get keys.now) result ≡ option_map Some key }
+    ensures { option_map (slice_get keys.now) (place_of result) ≡ option_map Some key }
 {
     match key {
         Some(key) => match keys.binary_search(&key) {
-            Ok(place) => Some(place as u32),
+            Ok(place) => Some(LineId(place as u32)),
             Err(_) => None,
         },
         None => None,
     }
 }
 
-/// The changes with the positions of lines in place of rows. Only want of memory stands against it.
+/// The changes with lines in place of rows. Only want of memory stands against it.
 pub fn line_changes(
     alloc: Global,
     rows: &[Row],
     positions: &[Option<u32>],
     keys: &[Key],
     changes: &[Change],
-) -> Result<Vec<Change>, AllocError>
+) -> Result<Vec<LineChange>, AllocError>
     requires in_order { IsStrictlySortedBy key_cmp keys.now }
     requires each { (key : Key) → Contains (change_keys rows.now positions.now changes.now) key → Contains keys.now key }
     requires few { length keys.now < 2 ^ 32 }
-    ensures { IfOk result (λ lines. map (line_change keys.now) lines.items ≡ map (key_change rows.now positions.now) changes.now) }
+    ensures { IfOk result (λ lines. map (line_change keys.now) (changes_of lines.items) ≡ map (key_change rows.now positions.now) changes.now) }
 {
     let mut lines = Vec::with_capacity(alloc, changes.len())?;
     for change in changes {
-        let position = key_position(keys, key_at(rows, positions, change.position));
-        lines.push(Change {
+        let line = key_line(keys, key_at(rows, positions, change.position));
+        lines.push(LineChange {
             address: change.address,
-            position,
+            line,
         })?;
     }
     Ok(lines)

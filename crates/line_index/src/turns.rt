@@ -1,26 +1,27 @@
 //! Where each line begins and ends.
 
 ghost use Rattle.std.specs.Prelude.{◌≡◌, ℕ, ◌++◌, [], ◌∷◌, length, get_or, IfOk, OnOk, All, IfSome, None, ◌<◌, if◌then◌else◌};
+ghost use Rattle.line_index.specs.Changes.{place_of, change_of, changes_of};
 ghost use Rattle.line_index.specs.Keys.{IsBelow, texts, is_at};
-ghost use Rattle.line_index.specs.Turns.{Rises, differ, is_within, turns, with_turn};
+ghost use Rattle.line_index.specs.Turns.{Rises, is_different, is_within, turns, with_turn};
 
-use crate::changes::Change;
+use crate::changes::LineChange;
 use crate::entries::empty_lists;
-use coz_types::Address;
+use coz_types::{Address, LineId};
 use std::alloc::{AllocError, Global};
 
-/// An address is one more turn of the line at a position, where there is one.
+/// An address is one more turn of a line, where there is one.
 fn add_turn(
     lists: &mut Vec<Vec<Address>>,
-    position: Option<u32>,
+    line: Option<LineId>,
     address: Address,
 ) -> Result<(), AllocError>
-    requires { IfSome position (λ line. line < length lists.old.items) }
-    ensures { OnOk result (texts lists.new.items ≡ with_turn position address (texts lists.old.items)) }
+    requires { IfSome (place_of line) (λ k. k < length lists.old.items) }
+    ensures { OnOk result (texts lists.new.items ≡ with_turn (place_of line) address (texts lists.old.items)) }
 {
-    match position {
+    match line {
         Some(line) => {
-            lists[line as usize].push(address)?;
+            lists[line.0 as usize].push(address)?;
             Ok(())
         }
         None => Ok(()),
@@ -30,36 +31,36 @@ fn add_turn(
 /// The address of a change is one more turn of the line that ends there and of the one that begins.
 fn add_turns(
     lists: &mut Vec<Vec<Address>>,
-    before: Option<u32>,
-    change: Change,
+    before: Option<LineId>,
+    change: LineChange,
 ) -> Result<(), AllocError>
-    requires before { IfSome before (λ line. line < length lists.old.items) }
-    requires change { IsBelow (length lists.old.items) change }
+    requires before { IfSome (place_of before) (λ k. k < length lists.old.items) }
+    requires change { IsBelow (length lists.old.items) (change_of change) }
     ensures as_many { OnOk result (length lists.new.items ≡ length lists.old.items) }
-    ensures added { OnOk result ((k : ℕ) → get_or (texts lists.new.items) k [] ≡ get_or (texts lists.old.items) k [] ++ (if differ (is_at k before) (is_at k change.position) then change.address ∷ [] else [])) }
+    ensures added { OnOk result ((k : ℕ) → get_or (texts lists.new.items) k [] ≡ get_or (texts lists.old.items) k [] ++ (if is_different (is_at k (place_of before)) (is_at k (place_of change.line)) then change.address ∷ [] else [])) }
 {
-    if before == change.position {
+    if before == change.line {
         return Ok(());
     }
     add_turn(lists, before, change.address)?;
-    add_turn(lists, change.position, change.address)
+    add_turn(lists, change.line, change.address)
 }
 
 /// The addresses at which each line begins and, in turn with these, ends.
 /// Only want of memory stands against it.
 pub fn turns(
     alloc: Global,
-    changes: &[Change],
+    changes: &[LineChange],
     count: usize,
 ) -> Result<Vec<Vec<Address>>, AllocError>
-    requires { All (IsBelow count) changes.now }
-    ensures { IfOk result (λ lists. (k : ℕ) → get_or (texts lists.items) k [] ≡ turns k None changes.now) }
+    requires { All (IsBelow count) (changes_of changes.now) }
+    ensures { IfOk result (λ lists. (k : ℕ) → get_or (texts lists.items) k [] ≡ turns k None (changes_of changes.now)) }
 {
     let mut lists = empty_lists(alloc, count)?;
     let mut before = None;
     for change in changes {
         add_turns(&mut lists, before, *change)?;
-        before = change.position;
+        before = change.line;
     }
     Ok(lists)
 }

@@ -7,8 +7,9 @@ ghost use Rattle.profile_reader.specs.Reading.{Tells, cause_in, ending_in_parts,
 use crate::numbers::{address, decimal};
 use coz_types::{Ending, HARTS, HartId, Trap, TrapCause};
 
+/// The greatest code of an exit.
 const MOST_CODE: u64 = 255;
-
+/// The greatest number of a hart.
 const MOST_HART: u64 = HARTS as u64 - 1;
 
 /// What stands before the first colon, and what stands behind it, if there is one.

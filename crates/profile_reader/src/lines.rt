@@ -11,8 +11,9 @@ use coz_types::{Digest, Label, Outcome, Summary};
 /// Times, and numbers of instructions, of starts and of bytes, are at most that.
 const MOST: u64 = 100_000_000_000_000_000;
 
+/// The most progress points of a profile.
 const MOST_POINTS: u64 = 64;
-
+/// The most visits of a point.
 const MOST_VISITS: u64 = 1_000_000_000;
 
 /// The budget and the number of points. Err tells the first wrong item.

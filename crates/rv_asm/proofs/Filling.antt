@@ -8,63 +8,63 @@ use Rattle.asm_tokens.specs.declared.form.Section.{Section}
 use Rattle.asm_tokens.specs.declared.form.Section.TheVariants as sections
 use Rattle.rv_asm.specs.declared.state.Put.{Put as CodePut}
 use Rattle.asm_tokens.specs.Tokens.{◌>>=◌}
-use Rattle.rv_asm.specs.Assembled.{State, Filled, Fails, filled, all_filled, joined, text_of, content_of, lines_of}
-use Rattle.rv_asm.specs.Views.{Parts, no_parts, with_filled, then_filled, all_parts, filled_on, put_of}
+use Rattle.rv_asm.specs.Assembled.{State, Filled, Fails, filled_piece, filled_pieces, all_bytes, text_of, content_of, lines_of}
+use Rattle.rv_asm.specs.Views.{Parts, no_parts, with_filled, with_next, all_parts, with_all, put_of}
 
 -- two words, one after the other
 pub two_words : (out one two first second : List ℕ) → one ≡ out ++ first → two ≡ one ++ second → two ≡ out ++ (first ++ second)
 two_words out one two first second e f = f ∙ ap (λ xs. xs ++ second) e ∙ append_assoc out first second
 
 one_more : (parts : Parts) (section : Section) (line : ℕ) (bytes : List ℕ) (rest : Result (List Filled) AsmFault)
-    → filled_on parts (rest >>= λ more. Ok (record { section = section; line = line; bytes = bytes } ∷ more)) ≡ filled_on (with_filled parts (record { section = section; line = line; bytes = bytes })) rest
+    → with_all parts (rest >>= λ more. Ok (record { section = section; line = line; bytes = bytes } ∷ more)) ≡ with_all (with_filled parts (record { section = section; line = line; bytes = bytes })) rest
 one_more parts section line bytes (Err e) = refl
 one_more parts sections.Text line bytes (Ok fs) =
-    ap₂ (λ text lines. Ok (record { text = text; content = parts.content ++ joined (content_of fs); lines = lines }))
-    (sym (append_assoc parts.text bytes (joined (text_of fs))))
+    ap₂ (λ text lines. Ok (record { text = text; content = parts.content ++ all_bytes (content_of fs); lines = lines }))
+    (sym (append_assoc parts.text bytes (all_bytes (text_of fs))))
     (sym (append_assoc parts.lines (replicate (length bytes / 4) line) (lines_of fs)))
 one_more parts sections.Data line bytes (Ok fs) =
-    ap (λ content. Ok (record { text = parts.text ++ joined (text_of fs); content = content; lines = parts.lines ++ lines_of fs })) (sym (append_assoc parts.content bytes (joined (content_of fs))))
+    ap (λ content. Ok (record { text = parts.text ++ all_bytes (text_of fs); content = content; lines = parts.lines ++ lines_of fs })) (sym (append_assoc parts.content bytes (all_bytes (content_of fs))))
 
-over : (parts new : Parts) (first : Result Filled AsmFault) (rest : Result (List Filled) AsmFault) → then_filled parts first ≡ Ok new
-    → filled_on parts (first >>= λ f. rest >>= λ more. Ok (f ∷ more)) ≡ filled_on new rest
+over : (parts new : Parts) (first : Result Filled AsmFault) (rest : Result (List Filled) AsmFault) → with_next parts first ≡ Ok new
+    → with_all parts (first >>= λ f. rest >>= λ more. Ok (f ∷ more)) ≡ with_all new rest
 over parts new (Err e) rest h = absurd cc
 over parts new (Ok f) rest h =
     let same : with_filled parts f ≡ new = cc in
-    one_more parts f.section f.line f.bytes rest ∙ ap (λ p. filled_on p rest) same
+    one_more parts f.section f.line f.bytes rest ∙ ap (λ p. with_all p rest) same
 
 -- the loop's equation goes on over a piece
 pub over_put : (s : State) (ps : List CodePut) (i : ℕ) (p : CodePut) (parts new : Parts) (all : Result Parts AsmFault)
-    → i < length ps → p ≡ slice_index_or ps i p → then_filled parts (filled s (put_of p)) ≡ Ok new
-    → filled_on parts (all_filled s (map put_of (drop i ps))) ≡ all
-    → filled_on new (all_filled s (map put_of (drop (i + 1) ps))) ≡ all
-unfolding all_filled
+    → i < length ps → p ≡ slice_index_or ps i p → with_next parts (filled_piece s (put_of p)) ≡ Ok new
+    → with_all parts (filled_pieces s (map put_of (drop i ps))) ≡ all
+    → with_all new (filled_pieces s (map put_of (drop (i + 1) ps))) ≡ all
+unfolding filled_pieces
 over_put s ps i p parts new all more at h kept =
-    sym (over parts new (filled s (put_of p)) (all_filled s (map put_of (drop (i + 1) ps))) h)
-    ∙ ap (λ xs. filled_on parts (all_filled s (map put_of xs))) (sym (drop_more ps i p more ∙ ap (λ x. x ∷ drop (i + 1) ps) (sym at)))
+    sym (over parts new (filled_piece s (put_of p)) (filled_pieces s (map put_of (drop (i + 1) ps))) h)
+    ∙ ap (λ xs. with_all parts (filled_pieces s (map put_of xs))) (sym (drop_more ps i p more ∙ ap (λ x. x ∷ drop (i + 1) ps) (sym at)))
     ∙ kept
 
-failed : (parts : Parts) (first : Result Filled AsmFault) (rest : Result (List Filled) AsmFault) (f : AsmFault) → then_filled parts first ≡ Err f
-    → filled_on parts (first >>= λ x. rest >>= λ more. Ok (x ∷ more)) ≡ Err f
+failed : (parts : Parts) (first : Result Filled AsmFault) (rest : Result (List Filled) AsmFault) (f : AsmFault) → with_next parts first ≡ Err f
+    → with_all parts (first >>= λ x. rest >>= λ more. Ok (x ∷ more)) ≡ Err f
 failed parts (Err e) rest f h = cc
 failed parts (Ok x) rest f h = absurd cc
 
 -- and ends at a fault
 pub at_fault : (s : State) (ps : List CodePut) (i : ℕ) (p : CodePut) (parts : Parts) (all : Result Parts AsmFault) (e : AsmError)
-    → i < length ps → p ≡ slice_index_or ps i p → Fails e (then_filled parts (filled s (put_of p)))
-    → filled_on parts (all_filled s (map put_of (drop i ps))) ≡ all
+    → i < length ps → p ≡ slice_index_or ps i p → Fails e (with_next parts (filled_piece s (put_of p)))
+    → with_all parts (filled_pieces s (map put_of (drop i ps))) ≡ all
     → Fails e all
-unfolding all_filled
+unfolding filled_pieces
 at_fault s ps i p parts all faults.Memory more at h kept = tt
 at_fault s ps i p parts all (faults.Fault f) more at h kept =
     sym kept
-    ∙ ap (λ xs. filled_on parts (all_filled s (map put_of xs))) (drop_more ps i p more ∙ ap (λ x. x ∷ drop (i + 1) ps) (sym at))
-    ∙ failed parts (filled s (put_of p)) (all_filled s (map put_of (drop (i + 1) ps))) f h
+    ∙ ap (λ xs. with_all parts (filled_pieces s (map put_of xs))) (drop_more ps i p more ∙ ap (λ x. x ∷ drop (i + 1) ps) (sym at))
+    ∙ failed parts (filled_piece s (put_of p)) (filled_pieces s (map put_of (drop (i + 1) ps))) f h
 
-pub from_nothing : (read : Result (List Filled) AsmFault) → filled_on no_parts read ≡ all_parts read
+pub from_nothing : (read : Result (List Filled) AsmFault) → with_all no_parts read ≡ all_parts read
 from_nothing read = refl
 
-pub at_end : (s : State) (parts : Parts) (ps : List CodePut) → ps ≡ [] → filled_on parts (all_filled s (map put_of ps)) ≡ Ok parts
-unfolding all_filled
+pub at_end : (s : State) (parts : Parts) (ps : List CodePut) → ps ≡ [] → with_all parts (filled_pieces s (map put_of ps)) ≡ Ok parts
+unfolding filled_pieces
 at_end s parts ps e =
-    ap (λ xs. filled_on parts (all_filled s (map put_of xs))) e
+    ap (λ xs. with_all parts (filled_pieces s (map put_of xs))) e
     ∙ (λ i. Ok (record { text = append-nil parts.text i; content = append-nil parts.content i; lines = append-nil parts.lines i }))

@@ -4,14 +4,14 @@ use Rattle.asm_tokens.specs.declared.line.LineError.{LineError}
 use Rattle.asm_tokens.specs.declared.line.LineError.TheVariants as errors
 use Rattle.asm_tokens.specs.Tokens.{Read, ◌>>=◌, Placed}
 use Rattle.rv_asm.specs.Statements.{Use}
-use Rattle.rv_asm.specs.Assembled.{State, with_label, stated, label_in, take_tokens}
+use Rattle.rv_asm.specs.Assembled.{State, with_label, with_statement, label_in, take_tokens}
 use Rattle.asm_tokens.specs.Views.{FailsLine}
 use Rattle.rv_asm.specs.Views.{label_front}
 
 module _ (line end : ℕ) where
   pick : (t c : Placed) (ts : List Placed) (s : State) → Option (List ℕ) → Read State
   pick t c ts s (Some name) = with_label name t.column s >>= λ more. take_tokens line end ts more
-  pick t c ts s None = stated line end t (c ∷ ts) s
+  pick t c ts s None = with_statement line end t (c ∷ ts) s
 
   two : (t c : Placed) (ts : List Placed) (s : State) → take_tokens line end (t ∷ c ∷ ts) s ≡ pick t c ts s (label_in t.token c.token)
   unfolding take_tokens pick
@@ -34,13 +34,13 @@ module _ (line end : ℕ) where
   over_label (t ∷ []) u s e = absurd cc
   over_label (t ∷ c ∷ ts) u s e = two t c ts s ∙ picked t c ts s u (label_in t.token c.token) e
 
-  not_picked : (t c : Placed) (ts : List Placed) (s : State) (o : Option (List ℕ)) → use_in t o ≡ None → pick t c ts s o ≡ stated line end t (c ∷ ts) s
+  not_picked : (t c : Placed) (ts : List Placed) (s : State) (o : Option (List ℕ)) → use_in t o ≡ None → pick t c ts s o ≡ with_statement line end t (c ∷ ts) s
   unfolding pick use_in
   not_picked t c ts s None e = refl
   not_picked t c ts s (Some name) e = absurd cc
 
   -- no label: a statement
-  pub at_statement : (t : Placed) (ts : List Placed) (s : State) → label_front (t ∷ ts) ≡ None → take_tokens line end (t ∷ ts) s ≡ stated line end t ts s
+  pub at_statement : (t : Placed) (ts : List Placed) (s : State) → label_front (t ∷ ts) ≡ None → take_tokens line end (t ∷ ts) s ≡ with_statement line end t ts s
   unfolding use_in take_tokens
   at_statement t [] s e = refl
   at_statement t (c ∷ ts) s e = two t c ts s ∙ not_picked t c ts s (label_in t.token c.token) e

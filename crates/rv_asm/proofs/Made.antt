@@ -12,7 +12,7 @@ use Rattle.asm_tokens.specs.declared.form.Section.TheVariants as sections
 use Rattle.rv_asm.specs.declared.state.Place.{Place}
 use Rattle.asm_tokens.specs.Tokens.{lines}
 use Rattle.rv_asm.specs.Statements.{Piece, Encoded, BranchTo, JumpTo, AddressTo, AddressOf, Bytes, Zeros, size}
-use Rattle.rv_asm.specs.Assembled.{Put, State, start, take_lines, target, reach, load_address, bytes_at, Filled, at_line, address, filled, all_filled, Program, IsProgram, text_of, content_of, joined, lines_of, begin_of, entry, program, assembled}
+use Rattle.rv_asm.specs.Assembled.{Put, State, start, take_lines, target, reach, load_address, bytes_at, Filled, at_line, address, filled_piece, filled_pieces, Program, IsProgram, text_of, content_of, all_bytes, lines_of, begin_of, entry, program, assembly}
 use Rattle.rv_asm.proofs.WholeWords.{then_ok, and_ok}
 use Rattle.rv_asm.proofs.States.{text_size, content_size, total, IsLine, IsPut, IsRight, start_right, at_line_ok, lines_right}
 
@@ -32,7 +32,7 @@ as_long s from (Zeros count) = length-replicate count 0
 abbrev Fills : Put → Filled → Type 0
 Fills p f = (bytes : List ℕ) × (length bytes ≡ size p.piece) × (f ≡ record { section = p.place.section; line = p.line; bytes = bytes })
 
-fills : (s : State) (p : Put) → IfOk (filled s p) (Fills p)
+fills : (s : State) (p : Put) → IfOk (filled_piece s p) (Fills p)
 fills s p =
     then_ok (λ (bytes : List ℕ). length bytes ≡ size p.piece) (Fills p) (at_line p.line (bytes_at s (address s p.place) p.piece)) _
     (at_line_ok (λ (bytes : List ℕ). length bytes ≡ size p.piece) p.line (bytes_at s (address s p.place) p.piece) (as_long s (address s p.place) p.piece))
@@ -40,8 +40,8 @@ fills s p =
 
 -- both sections are as long as their pieces, and the words have their lines
 record AreFilled (ps : List Put) (fs : List Filled) : Type 0 where
-  text : length (joined (text_of fs)) ≡ total text_size ps
-  content : length (joined (content_of fs)) ≡ total content_size ps
+  text : length (all_bytes (text_of fs)) ≡ total text_size ps
+  content : length (all_bytes (content_of fs)) ≡ total content_size ps
   words : 4 * length (lines_of fs) ≡ total text_size ps
   lines : AllByRecursion IsLine (lines_of fs)
 
@@ -56,24 +56,24 @@ one_more line sections.Text offset piece bytes ps fs long is so_far =
     let whole : size piece % 4 ≡ 0 = is.0 refl in
     let words : 4 * (length bytes / 4) ≡ size piece = omega arith in
     record {
-      text = omega (arith, length-append bytes (joined (text_of fs)), so_far.text);
+      text = omega (arith, length-append bytes (all_bytes (text_of fs)), so_far.text);
       content = omega (arith, so_far.content);
       words = omega (arith, length-append (replicate (length bytes / 4) line) (lines_of fs), length-replicate (length bytes / 4) line, so_far.words);
       lines = lines_behind (length bytes / 4) line (lines_of fs) is.1 so_far.lines;
     }
 one_more line sections.Data offset piece bytes ps fs long is so_far = record {
   text = omega (arith, so_far.text);
-  content = omega (arith, length-append bytes (joined (content_of fs)), so_far.content);
+  content = omega (arith, length-append bytes (all_bytes (content_of fs)), so_far.content);
   words = omega (arith, so_far.words);
   lines = so_far.lines;
 }
 
-all_fill : (s : State) (ps : List Put) → AllByRecursion IsPut ps → IfOk (all_filled s ps) (AreFilled ps)
-unfolding all_filled
+all_fill : (s : State) (ps : List Put) → AllByRecursion IsPut ps → IfOk (filled_pieces s ps) (AreFilled ps)
+unfolding filled_pieces
 all_fill s [] is = record { text = refl; content = refl; words = refl; lines = tt }
 all_fill s (p ∷ ps) is =
-    then_ok (Fills p) (AreFilled (p ∷ ps)) (filled s p) _ (fills s p) (λ f (bytes, long, same).
-    then_ok (AreFilled ps) (AreFilled (p ∷ ps)) (all_filled s ps) _ (all_fill s ps is.1) (λ fs so_far.
+    then_ok (Fills p) (AreFilled (p ∷ ps)) (filled_piece s p) _ (fills s p) (λ f (bytes, long, same).
+    then_ok (AreFilled ps) (AreFilled (p ∷ ps)) (filled_pieces s ps) _ (all_fill s ps is.1) (λ fs so_far.
     subst (λ (g : Filled). AreFilled (p ∷ ps) (g ∷ fs)) (sym same) (one_more p.line p.place.section p.place.offset p.piece bytes ps fs long is.0 so_far)))
 
 -- ---- the entry
@@ -98,8 +98,8 @@ begins (Some p) s some whole = at_place p.section p.offset s some (whole p refl)
 made : (s : State) (fs : List Filled) → IsRight s → AreFilled s.puts fs → 0 < s.text → IsProgram (program s fs)
 made s fs right parts some =
     let start = begins (s.labels (codes "_start")) s some (right.labels_whole (codes "_start")) in
-    let text : length (joined (text_of fs)) ≡ s.text = parts.text ∙ right.text_total in
-    let content : length (joined (content_of fs)) ≡ s.content = parts.content ∙ right.content_total in
+    let text : length (all_bytes (text_of fs)) ≡ s.text = parts.text ∙ right.text_total in
+    let content : length (all_bytes (content_of fs)) ≡ s.content = parts.content ∙ right.content_total in
     record {
       some = omega arith;
       text_fits = omega (arith, right.text_fits);
@@ -118,13 +118,13 @@ not_empty false s fs e right parts =
     let other = eqb-false s.text 0 e in
     made s fs right parts (omega (arith, other))
 
-is_program : (source : List ℕ) → IfOk (assembled source) IsProgram
-unfolding assembled
+is_program : (source : List ℕ) → IfOk (assembly source) IsProgram
+unfolding assembly
 is_program source =
     then_ok IsRight IsProgram (take_lines 1 (lines source) start) _ (lines_right 1 (lines source) start (omega arith) start_right) (λ s right.
-    then_ok (AreFilled s.puts) IsProgram (all_filled s s.puts) _ (all_fill s s.puts right.puts_right) (λ fs parts.
+    then_ok (AreFilled s.puts) IsProgram (filled_pieces s s.puts) _ (all_fill s s.puts right.puts_right) (λ fs parts.
     not_empty (s.text == 0) s fs refl right parts))
 
 -- what a call gave, if it is what the source stands for
-pub given : (source : List ℕ) (p : Program) → assembled source ≡ Ok p → IsProgram p
+pub given : (source : List ℕ) (p : Program) → assembly source ≡ Ok p → IsProgram p
 given source p e = subst (λ r. IfOk r IsProgram) e (is_program source)

@@ -10,8 +10,8 @@ use Rattle.asm_tokens.specs.declared.form.Section.{Section}
 use Rattle.asm_tokens.specs.declared.form.Section.TheVariants as sections
 use Rattle.rv_asm.specs.declared.state.Place.{Place}
 use Rattle.asm_tokens.specs.Tokens.{Read, wrong, ◌>>=◌, Placed, tokens, is_allowed}
-use Rattle.rv_asm.specs.Statements.{Piece, Zeros, Statement, Puts, Aligns, Enters, size, belongs, statement}
-use Rattle.rv_asm.specs.Assembled.{Put, State, start, here, next_place, with_label, grown, with_piece, with_pieces, up_to_multiple, done, may_stand, formed, name_in, label_in, stated, take_tokens, wanted, bytes_wanted, take_line, at_line, take_lines}
+use Rattle.rv_asm.specs.Statements.{Piece, Zeros, Statement, Puts, Aligns, Enters, size, section_of, statement}
+use Rattle.rv_asm.specs.Assembled.{Put, State, start, section_length, next_place, with_label, with_more, with_piece, with_pieces, up_to_multiple, with_effect, is_in_place, form_named, name_in, label_in, with_statement, take_tokens, check, byte_check, take_line, at_line, take_lines}
 use Rattle.rv_asm.proofs.WholeWords.{then_ok, and_ok, IsWhole, IsCode, code_stands}
 
 abbrev pub text_size : Put → ℕ
@@ -64,15 +64,15 @@ start_right = record {
 abbrev Keeps : Section → State → Type 0
 Keeps section s = IsRight s × (s.section ≡ section)
 
-grown_right : (section : Section) (s : State) (line : ℕ) (piece : Piece) → IsLine line → IsRight s → (section ≡ sections.Text → IsWhole piece)
-    → here (record s { section = section }) + size piece ≤ 1048576
-    → Keeps section (grown (size piece) (record s { section = section; puts = s.puts ++ record { line = line; place = next_place (record s { section = section }); piece = piece } ∷ [] }))
-grown_right sections.Text s line piece is right whole room =
+with_more_right : (section : Section) (s : State) (line : ℕ) (piece : Piece) → IsLine line → IsRight s → (section ≡ sections.Text → IsWhole piece)
+    → section_length (record s { section = section }) + size piece ≤ 1048576
+    → Keeps section (with_more (size piece) (record s { section = section; puts = s.puts ++ record { line = line; place = next_place (record s { section = section }); piece = piece } ∷ [] }))
+with_more_right sections.Text s line piece is right whole room =
     let p : Put = record { line = line; place = record { section = sections.Text; offset = s.text }; piece = piece } in
     let words : size piece % 4 ≡ 0 = whole refl in
-    let grown_whole : (s.text + size piece) % 4 ≡ 0 = omega (arith, right.text_whole) in (
+    let with_more_whole : (s.text + size piece) % 4 ≡ 0 = omega (arith, right.text_whole) in (
       record {
-        text_whole = grown_whole;
+        text_whole = with_more_whole;
         text_fits = room;
         content_fits = right.content_fits;
         labels_whole = right.labels_whole;
@@ -82,7 +82,7 @@ grown_right sections.Text s line piece is right whole room =
       },
       refl,
     )
-grown_right sections.Data s line piece is right whole room =
+with_more_right sections.Data s line piece is right whole room =
     let p : Put = record { line = line; place = record { section = sections.Data; offset = s.content }; piece = piece } in (
       record {
         text_whole = right.text_whole;
@@ -96,13 +96,13 @@ grown_right sections.Data s line piece is right whole room =
       refl,
     )
 
-placed_by : (much : Bool) (line column : ℕ) (piece : Piece) (s : State) → nat_lt 1048576 (here s + size piece) ≡ much → IsLine line → IsRight s → (s.section ≡ sections.Text → IsWhole piece)
-    → IfOk (if much then wrong kinds.Much column else Ok (grown (size piece) (record s { puts = s.puts ++ record { line = line; place = next_place s; piece = piece } ∷ [] }))) (Keeps s.section)
+placed_by : (much : Bool) (line column : ℕ) (piece : Piece) (s : State) → nat_lt 1048576 (section_length s + size piece) ≡ much → IsLine line → IsRight s → (s.section ≡ sections.Text → IsWhole piece)
+    → IfOk (if much then wrong kinds.Much column else Ok (with_more (size piece) (record s { puts = s.puts ++ record { line = line; place = next_place s; piece = piece } ∷ [] }))) (Keeps s.section)
 placed_by true line column piece s e is right whole = tt
-placed_by false line column piece s e is right whole = grown_right s.section s line piece is right whole (ltb-false _ _ e)
+placed_by false line column piece s e is right whole = with_more_right s.section s line piece is right whole (ltb-false _ _ e)
 
 piece_right : (line column : ℕ) (piece : Piece) (s : State) → IsLine line → IsRight s → (s.section ≡ sections.Text → IsWhole piece) → IfOk (with_piece line column piece s) (Keeps s.section)
-piece_right line column piece s is right whole = placed_by (nat_lt 1048576 (here s + size piece)) line column piece s refl is right whole
+piece_right line column piece s is right whole = placed_by (nat_lt 1048576 (section_length s + size piece)) line column piece s refl is right whole
 
 pieces_right : (line column : ℕ) (pieces : List Piece) (s : State) → IsLine line → IsRight s → (s.section ≡ sections.Text → AllByRecursion IsWhole pieces) → IfOk (with_pieces line column pieces s) IsRight
 unfolding with_pieces
@@ -132,46 +132,46 @@ all_ok : {A E : Type 0} (P : A → Type 0) (r : Result A E) → ((x : A) → P x
 all_ok P (Ok x) all = all x
 all_ok P (Err e) all = tt
 
-done_right : (line column : ℕ) (what : Statement) (s : State) → IsLine line → IsRight s → (s.section ≡ sections.Text → IsCode what) → IfOk (done line column what s) IsRight
-done_right line column (Puts pieces) s is right code = pieces_right line column pieces s is right code
-done_right line column (Aligns bits) s is right code =
-    let zeros : Piece = Zeros (up_to_multiple (2 ^ bits) (here s) - here s) in
+with_effect_right : (line column : ℕ) (what : Statement) (s : State) → IsLine line → IsRight s → (s.section ≡ sections.Text → IsCode what) → IfOk (with_effect line column what s) IsRight
+with_effect_right line column (Puts pieces) s is right code = pieces_right line column pieces s is right code
+with_effect_right line column (Aligns bits) s is right code =
+    let zeros : Piece = Zeros (up_to_multiple (2 ^ bits) (section_length s) - section_length s) in
     first_of (Keeps s.section) IsRight (with_piece line column zeros s) (λ t kept. kept.0) (piece_right line column zeros s is right (λ e. absurd {0} (code e)))
-done_right line column (Enters section) s is right code = entered s section right
+with_effect_right line column (Enters section) s is right code = entered s section right
 
-in_section : (section : Section) (end : ℕ) (form : Form) (ts : List Placed) → may_stand (belongs form) section ≡ true → IfOk (statement end form ts) (λ what. section ≡ sections.Text → IsCode what)
+in_section : (section : Section) (end : ℕ) (form : Form) (ts : List Placed) → is_in_place (section_of form) section ≡ true → IfOk (statement end form ts) (λ what. section ≡ sections.Text → IsCode what)
 in_section sections.Text end form ts stands = first_of IsCode (λ what. sections.Text ≡ sections.Text → IsCode what) (statement end form ts) (λ what code e. code) (code_stands end form ts stands)
 in_section sections.Data end form ts stands = all_ok (λ what. sections.Data ≡ sections.Text → IsCode what) (statement end form ts) (λ what e. absurd cc)
 
-stands_right : (stands : Bool) (form : Form) (line end : ℕ) (t : Placed) (ts : List Placed) (s : State) → may_stand (belongs form) s.section ≡ stands → IsLine line → IsRight s
-    → IfOk (elim stands as (λ b. Read State) [ false ↦ wrong kinds.Section t.column | true ↦ statement end form ts >>= λ what. done line t.column what s ]) IsRight
+stands_right : (stands : Bool) (form : Form) (line end : ℕ) (t : Placed) (ts : List Placed) (s : State) → is_in_place (section_of form) s.section ≡ stands → IsLine line → IsRight s
+    → IfOk (elim stands as (λ b. Read State) [ false ↦ wrong kinds.Section t.column | true ↦ statement end form ts >>= λ what. with_effect line t.column what s ]) IsRight
 stands_right false form line end t ts s e is right = tt
 stands_right true form line end t ts s e is right =
-    then_ok (λ what. s.section ≡ sections.Text → IsCode what) IsRight (statement end form ts) _ (in_section s.section end form ts e) (λ what code. done_right line t.column what s is right code)
+    then_ok (λ what. s.section ≡ sections.Text → IsCode what) IsRight (statement end form ts) _ (in_section s.section end form ts e) (λ what code. with_effect_right line t.column what s is right code)
 
-formed_right : (o : Option Form) (line end : ℕ) (t : Placed) (ts : List Placed) (s : State) → IsLine line → IsRight s
+form_named_right : (o : Option Form) (line end : ℕ) (t : Placed) (ts : List Placed) (s : State) → IsLine line → IsRight s
     → IfOk (elim o as (λ x. Read State) [
       | None ↦ wrong kinds.Name t.column
-      | Some form ↦ elim (may_stand (belongs form) s.section) [ false ↦ wrong kinds.Section t.column | true ↦ statement end form ts >>= λ what. done line t.column what s ]
+      | Some form ↦ elim (is_in_place (section_of form) s.section) [ false ↦ wrong kinds.Section t.column | true ↦ statement end form ts >>= λ what. with_effect line t.column what s ]
     ]) IsRight
-formed_right None line end t ts s is right = tt
-formed_right (Some form) line end t ts s is right = stands_right (may_stand (belongs form) s.section) form line end t ts s refl is right
+form_named_right None line end t ts s is right = tt
+form_named_right (Some form) line end t ts s is right = stands_right (is_in_place (section_of form) s.section) form line end t ts s refl is right
 
-stated_right : (line end : ℕ) (t : Placed) (ts : List Placed) (s : State) → IsLine line → IsRight s → IfOk (stated line end t ts s) IsRight
-stated_right line end t ts s is right = formed_right (formed (name_in t.token)) line end t ts s is right
+with_statement_right : (line end : ℕ) (t : Placed) (ts : List Placed) (s : State) → IsLine line → IsRight s → IfOk (with_statement line end t ts s) IsRight
+with_statement_right line end t ts s is right = form_named_right (form_named (name_in t.token)) line end t ts s is right
 
 -- ---- a label
 
-at_name : (same : Bool) (here p : Place) (old : Option Place) → (here.section ≡ sections.Text → here.offset % 4 ≡ 0) → (old ≡ Some p → p.section ≡ sections.Text → p.offset % 4 ≡ 0)
-    → (if same then Some here else old) ≡ Some p → p.section ≡ sections.Text → p.offset % 4 ≡ 0
-at_name true here p old whole others e text =
-    let same : here ≡ p = cc in
+at_name : (same : Bool) (section_length p : Place) (old : Option Place) → (section_length.section ≡ sections.Text → section_length.offset % 4 ≡ 0) → (old ≡ Some p → p.section ≡ sections.Text → p.offset % 4 ≡ 0)
+    → (if same then Some section_length else old) ≡ Some p → p.section ≡ sections.Text → p.offset % 4 ≡ 0
+at_name true section_length p old whole others e text =
+    let same : section_length ≡ p = cc in
     ap (λ (q : Place). q.offset % 4) (sym same) ∙ whole (ap (λ (q : Place). q.section) same ∙ text)
-at_name false here p old whole others e text = others e text
+at_name false section_length p old whole others e text = others e text
 
-here_whole : (section : Section) (s : State) → IsRight s → section ≡ sections.Text → here (record s { section = section }) % 4 ≡ 0
-here_whole sections.Text s right e = right.text_whole
-here_whole sections.Data s right e = absurd cc
+section_length_whole : (section : Section) (s : State) → IsRight s → section ≡ sections.Text → section_length (record s { section = section }) % 4 ≡ 0
+section_length_whole sections.Text s right e = right.text_whole
+section_length_whole sections.Data s right e = absurd cc
 
 labelled_right : (there : Bool) (name : List ℕ) (column : ℕ) (s : State) → IsRight s → IfOk (if there then wrong kinds.Twice column else Ok (record s { labels = update bytes_eq s.labels name (Some (next_place s)) })) IsRight
 labelled_right true name column s right = tt
@@ -179,7 +179,7 @@ labelled_right false name column s right = record {
   text_whole = right.text_whole;
   text_fits = right.text_fits;
   content_fits = right.content_fits;
-  labels_whole = λ q p e text. at_name (bytes_eq name q) (next_place s) p (s.labels q) (here_whole s.section s right) (right.labels_whole q p) e text;
+  labels_whole = λ q p e text. at_name (bytes_eq name q) (next_place s) p (s.labels q) (section_length_whole s.section s right) (right.labels_whole q p) e text;
   text_total = right.text_total;
   content_total = right.content_total;
   puts_right = right.puts_right;
@@ -193,24 +193,24 @@ label_right name column s right = labelled_right (is_some (s.labels name)) name 
 tokens_right : (line end : ℕ) (ts : List Placed) (s : State) → IsLine line → IsRight s → IfOk (take_tokens line end ts s) IsRight
 unfolding take_tokens
 tokens_right line end [] s is right = right
-tokens_right line end (t ∷ []) s is right = stated_right line end t [] s is right
+tokens_right line end (t ∷ []) s is right = with_statement_right line end t [] s is right
 tokens_right line end (t ∷ c ∷ ts) s is right =
     elim (label_in t.token c.token) as (λ o. IfOk (elim o as (λ x. Read State) [
       | Some name ↦ with_label name t.column s >>= λ more. take_tokens line end ts more
-      | None ↦ stated line end t (c ∷ ts) s
+      | None ↦ with_statement line end t (c ∷ ts) s
     ]) IsRight) [
       | Some name ↦ then_ok IsRight IsRight (with_label name t.column s) _ (label_right name t.column s right) (λ more kept. tokens_right line end ts more is kept)
-      | None ↦ stated_right line end t (c ∷ ts) s is right
+      | None ↦ with_statement_right line end t (c ∷ ts) s is right
     ]
 
-few_by : (few : Bool) (n : ℕ) → nat_le n 65536 ≡ few → IfOk (wanted few kinds.Lines 1) (λ b. n ≤ 65536)
+few_by : (few : Bool) (n : ℕ) → nat_le n 65536 ≡ few → IfOk (check few kinds.Lines 1) (λ b. n ≤ 65536)
 few_by true n e = leb-true _ _ e
 few_by false n e = tt
 
 line_right : (n : ℕ) (line : List ℕ) (s : State) → 1 ≤ n → IsRight s → IfOk (take_line n line s) IsRight
 line_right n line s some right =
-    then_ok (λ b. n ≤ 65536) IsRight (wanted (nat_le n 65536) kinds.Lines 1) _ (few_by (nat_le n 65536) n refl) (λ b few.
-    and_ok IsRight (bytes_wanted (position (λ b. not (is_allowed b)) line)) _ (λ allowed.
+    then_ok (λ b. n ≤ 65536) IsRight (check (nat_le n 65536) kinds.Lines 1) _ (few_by (nat_le n 65536) n refl) (λ b few.
+    and_ok IsRight (byte_check (position (λ b. not (is_allowed b)) line)) _ (λ allowed.
     and_ok IsRight (tokens line) _ (λ ts. tokens_right n _ ts s (some, few) right)))
 
 pub at_line_ok : {A : Type 0} (P : A → Type 0) (n : ℕ) (r : Read A) → IfOk r P → IfOk (at_line n r) P

@@ -10,8 +10,8 @@ use Rattle.asm_tokens.specs.declared.form.Form.{Form}
 use Rattle.asm_tokens.specs.declared.form.Form.TheVariants as forms
 use Rattle.asm_tokens.specs.declared.form.Section.TheVariants as sections
 use Rattle.asm_tokens.specs.Tokens.{◌>>=◌, Placed}
-use Rattle.rv_asm.specs.Statements.{Piece, Statement, Puts, Aligns, Enters, size, belongs, load_number, encoded, upper, lower, name, number, register, mark, base, then_name, then_register, then_immediate, then_up_to, then_base, then_second, whole, statement}
-use Rattle.rv_asm.specs.Assembled.{may_stand}
+use Rattle.rv_asm.specs.Statements.{Piece, Statement, Puts, Aligns, Enters, size, section_of, load_number, encoded_piece, upper, lower, name, number, register, mark, base, then_name, then_register, then_immediate, then_up_to, then_base, then_second, whole, statement}
+use Rattle.rv_asm.specs.Assembled.{is_in_place}
 
 -- what follows has a property if what is read first has another
 pub then_ok : {A B E : Type 0} (P : A → Type 0) (Q : B → Type 0) (r : Result A E) (f : A → Result B E) → IfOk r P → ((x : A) → P x → IfOk (f x) Q) → IfOk (r >>= f) Q
@@ -37,11 +37,11 @@ code end s (t ∷ ts) is = tt
 
 number_code : (rd : ℕ) (n : ℤ) → AllByRecursion IsWhole (load_number rd n)
 number_code rd n =
-    let one = encoded (instr.Imm Addi rd 0 n) ∷ [] in
-    let two = encoded (instr.Upper Lui rd (upper n)) ∷ encoded (instr.Imm Addiw rd rd (lower n)) ∷ [] in
+    let one = encoded_piece (instr.Imm Addi rd 0 n) ∷ [] in
+    let two = encoded_piece (instr.Upper Lui rd (upper n)) ∷ encoded_piece (instr.Imm Addiw rd rd (lower n)) ∷ [] in
     elim (is_signed 12 n) as (λ b. AllByRecursion IsWhole (if b then one else two)) [ true ↦ (refl, tt) | false ↦ (refl, (refl, tt)) ]
 
-pub code_stands : (end : ℕ) (form : Form) (ts : List Placed) → may_stand (belongs form) sections.Text ≡ true → IfOk (statement end form ts) IsCode
+pub code_stands : (end : ℕ) (form : Form) (ts : List Placed) → is_in_place (section_of form) sections.Text ≡ true → IfOk (statement end form ts) IsCode
 unfolding statement
 code_stands end (forms.Register op) ts stands =
     and_ok IsCode (register end ts) _ (λ rd. and_ok IsCode (then_register end rd.1) _ (λ rs1. and_ok IsCode (then_register end rs1.1) _ (λ rs2. code end _ rs2.1 (refl, tt))))

@@ -11,6 +11,7 @@ use Rattle.rv_decode.specs.Fields.{is_signed, is_even}
 use Rattle.rv_decode.specs.Instructions.{word_of}
 use Rattle.asm_tokens.specs.declared.AsmKind.{AsmKind}
 use Rattle.asm_tokens.specs.declared.AsmKind.TheVariants as kinds
+use Rattle.rv_asm.specs.declared.TheConstants.{TEXT_START}
 use Rattle.rv_asm.specs.declared.AsmFault.{AsmFault}
 use Rattle.rv_asm.specs.declared.AsmError.{AsmError}
 use Rattle.rv_asm.specs.declared.AsmError.TheVariants as errors
@@ -21,7 +22,7 @@ use Rattle.asm_tokens.specs.declared.form.Section.{Section}
 use Rattle.asm_tokens.specs.declared.form.Section.TheVariants as sections
 use Rattle.asm_tokens.specs.Tokens.{Read, wrong, ◌>>=◌, is_allowed, lines, Token, Name, Number, Text, Mark, Placed, tokens}
 use Rattle.asm_tokens.specs.Table.{form_of}
-use Rattle.rv_asm.specs.Statements.{Use, Piece, Encoded, BranchTo, JumpTo, AddressTo, AddressOf, Bytes, Zeros, size, Statement, Puts, Aligns, Enters, belongs, statement, upper, lower}
+use Rattle.rv_asm.specs.Statements.{Use, Piece, Encoded, BranchTo, JumpTo, AddressTo, AddressOf, Bytes, Zeros, size, Statement, Puts, Aligns, Enters, section_of, statement, upper, lower}
 
 -- ---- the lines so far
 
@@ -43,11 +44,11 @@ abbrev pub start : State
 start = record { labels = λ name. None; section = sections.Text; text = 0; content = 0; puts = [] }
 
 -- how long the section is that is written now
-abbrev pub here : State → ℕ
-here s = elim (s.section) [ sections.Text ↦ s.text | sections.Data ↦ s.content ]
+abbrev pub section_length : State → ℕ
+section_length s = elim (s.section) [ sections.Text ↦ s.text | sections.Data ↦ s.content ]
 
 abbrev pub next_place : State → Place
-next_place s = record { section = s.section; offset = here s }
+next_place s = record { section = s.section; offset = section_length s }
 
 -- ---- one more label, or one more statement
 
@@ -56,13 +57,13 @@ with_label name column s =
     if is_some (s.labels name) then wrong kinds.Twice column
     else Ok (record s { labels = update bytes_eq s.labels name (Some (next_place s)) })
 
-abbrev pub grown : ℕ → State → State
-grown n s = elim (s.section) [ sections.Text ↦ record s { text = s.text + n } | sections.Data ↦ record s { content = s.content + n } ]
+abbrev pub with_more : ℕ → State → State
+with_more n s = elim (s.section) [ sections.Text ↦ record s { text = s.text + n } | sections.Data ↦ record s { content = s.content + n } ]
 
 abbrev pub with_piece : ℕ → ℕ → Piece → State → Read State
 with_piece line column piece s =
-    if nat_lt 1048576 (here s + size piece) then wrong kinds.Much column
-    else Ok (grown (size piece) (record s { puts = s.puts ++ record { line = line; place = next_place s; piece = piece } ∷ [] }))
+    if nat_lt 1048576 (section_length s + size piece) then wrong kinds.Much column
+    else Ok (with_more (size piece) (record s { puts = s.puts ++ record { line = line; place = next_place s; piece = piece } ∷ [] }))
 
 -- one after the other
 unfoldable pub with_pieces : ℕ → ℕ → List Piece → State → Read State
@@ -73,16 +74,16 @@ with_pieces line column (piece ∷ pieces) s = with_piece line column piece s >>
 abbrev pub up_to_multiple : ℕ → ℕ → ℕ
 up_to_multiple m n = (n + (m - 1)) / m * m
 
-abbrev pub done : ℕ → ℕ → Statement → State → Read State
-done line column (Puts pieces) s = with_pieces line column pieces s
-done line column (Aligns bits) s = with_piece line column (Zeros (up_to_multiple (2 ^ bits) (here s) - here s)) s
-done line column (Enters section) s = Ok (record s { section = section })
+abbrev pub with_effect : ℕ → ℕ → Statement → State → Read State
+with_effect line column (Puts pieces) s = with_pieces line column pieces s
+with_effect line column (Aligns bits) s = with_piece line column (Zeros (up_to_multiple (2 ^ bits) (section_length s) - section_length s)) s
+with_effect line column (Enters section) s = Ok (record s { section = section })
 
-abbrev pub may_stand : Option Section → Section → Bool
-may_stand None now = true
-may_stand (Some sections.Text) sections.Text = true
-may_stand (Some sections.Data) sections.Data = true
-may_stand wanted now = false
+abbrev pub is_in_place : Option Section → Section → Bool
+is_in_place None now = true
+is_in_place (Some sections.Text) sections.Text = true
+is_in_place (Some sections.Data) sections.Data = true
+is_in_place check now = false
 
 -- ---- a line
 
@@ -98,18 +99,18 @@ is_colon (Name n) = false
 is_colon (Number n) = false
 is_colon (Text bytes) = false
 
-abbrev pub formed : Option (List ℕ) → Option Form
-formed None = None
-formed (Some name) = form_of name
+abbrev pub form_named : Option (List ℕ) → Option Form
+form_named None = None
+form_named (Some name) = form_of name
 
 -- the statement that begins with this token; the line's bytes end before this column
-abbrev pub stated : ℕ → ℕ → Placed → List Placed → State → Read State
-stated line end t ts s =
-    elim (formed (name_in t.token)) [
+abbrev pub with_statement : ℕ → ℕ → Placed → List Placed → State → Read State
+with_statement line end t ts s =
+    elim (form_named (name_in t.token)) [
       | None ↦ wrong kinds.Name t.column
-      | Some form ↦ elim (may_stand (belongs form) s.section) [
+      | Some form ↦ elim (is_in_place (section_of form) s.section) [
         | false ↦ wrong kinds.Section t.column
-        | true ↦ statement end form ts >>= λ what. done line t.column what s
+        | true ↦ statement end form ts >>= λ what. with_effect line t.column what s
       ]
     ]
 
@@ -120,25 +121,25 @@ label_in t c = if is_colon c then name_in t else None
 -- labels, and then at most one statement
 unfoldable pub take_tokens : ℕ → ℕ → List Placed → State → Read State
 take_tokens line end [] s = Ok s
-take_tokens line end (t ∷ []) s = stated line end t [] s
+take_tokens line end (t ∷ []) s = with_statement line end t [] s
 take_tokens line end (t ∷ c ∷ ts) s =
     elim (label_in t.token c.token) [
       | Some name ↦ with_label name t.column s >>= λ more. take_tokens line end ts more
-      | None ↦ stated line end t (c ∷ ts) s
+      | None ↦ with_statement line end t (c ∷ ts) s
     ]
 
-abbrev pub wanted : Bool → AsmKind → ℕ → Read Bool
-wanted holds kind column = if holds then Ok holds else wrong kind column
+abbrev pub check : Bool → AsmKind → ℕ → Read Bool
+check holds kind column = if holds then Ok holds else wrong kind column
 
 -- each byte may stand in a line
-abbrev pub bytes_wanted : Option ℕ → Read Bool
-bytes_wanted None = Ok true
-bytes_wanted (Some k) = wrong kinds.Byte (k + 1)
+abbrev pub byte_check : Option ℕ → Read Bool
+byte_check None = Ok true
+byte_check (Some k) = wrong kinds.Byte (k + 1)
 
 abbrev pub take_line : ℕ → List ℕ → State → Read State
 take_line n line s = do
-  few ← wanted (nat_le n 65536) kinds.Lines 1
-  allowed ← bytes_wanted (position (λ b. not (is_allowed b)) line)
+  few ← check (nat_le n 65536) kinds.Lines 1
+  allowed ← byte_check (position (λ b. not (is_allowed b)) line)
   ts ← tokens line
   take_tokens n (length line + 1) ts s
 
@@ -154,7 +155,7 @@ take_lines n (line ∷ more) s = at_line n (take_line n line s) >>= λ t. take_l
 
 -- data begins at the first page that isn't below the text's end
 abbrev pub address : State → Place → ℕ
-address s p = elim (p.section) [ sections.Text ↦ 0x10000 + p.offset | sections.Data ↦ 0x10000 + up_to_multiple 4096 s.text + p.offset ]
+address s p = elim (p.section) [ sections.Text ↦ TEXT_START + p.offset | sections.Data ↦ TEXT_START + up_to_multiple 4096 s.text + p.offset ]
 
 abbrev pub address_in : State → ℕ → Option Place → Read ℕ
 address_in s column None = wrong kinds.Missing column
@@ -191,14 +192,14 @@ pub record Filled : Type 0 where
   pub line : ℕ
   pub bytes : List ℕ
 
-abbrev pub filled : State → Put → Result Filled AsmFault
-filled s p = at_line p.line (bytes_at s (address s p.place) p.piece) >>= λ bytes. Ok (record { section = p.place.section; line = p.line; bytes = bytes })
+abbrev pub filled_piece : State → Put → Result Filled AsmFault
+filled_piece s p = at_line p.line (bytes_at s (address s p.place) p.piece) >>= λ bytes. Ok (record { section = p.place.section; line = p.line; bytes = bytes })
 
-unfoldable pub all_filled : State → List Put → Result (List Filled) AsmFault
-all_filled s [] = Ok []
-all_filled s (p ∷ ps) = do
-  first ← filled s p
-  more ← all_filled s ps
+unfoldable pub filled_pieces : State → List Put → Result (List Filled) AsmFault
+filled_pieces s [] = Ok []
+filled_pieces s (p ∷ ps) = do
+  first ← filled_piece s p
+  more ← filled_pieces s ps
   Ok (first ∷ more)
 
 -- ---- the whole
@@ -220,16 +221,16 @@ text_of fs = filter (λ f. is_text f.section) fs
 abbrev pub content_of : List Filled → List Filled
 content_of fs = filter (λ f. not (is_text f.section)) fs
 
-abbrev pub joined : List Filled → List ℕ
-joined fs = flat_map (λ f. f.bytes) fs
+abbrev pub all_bytes : List Filled → List ℕ
+all_bytes fs = flat_map (λ f. f.bytes) fs
 
 -- the line of each word of the text
 abbrev pub lines_of : List Filled → List ℕ
 lines_of fs = flat_map (λ f. replicate (length f.bytes / 4) f.line) (text_of fs)
 
 abbrev pub begin_of : State → Option Place → ℕ
-begin_of s None = 0x10000
-begin_of s (Some p) = if is_text p.section && nat_lt p.offset s.text then address s p else 0x10000
+begin_of s None = TEXT_START
+begin_of s (Some p) = if is_text p.section && nat_lt p.offset s.text then address s p else TEXT_START
 
 -- where the program begins
 abbrev pub entry : State → ℕ
@@ -237,8 +238,8 @@ entry s = begin_of s (s.labels (codes "_start"))
 
 abbrev pub program : State → List Filled → Program
 program s fs = record {
-  text = joined (text_of fs);
-  content = joined (content_of fs);
+  text = all_bytes (text_of fs);
+  content = all_bytes (content_of fs);
   lines = lines_of fs;
   entry = entry s;
 }
@@ -251,13 +252,13 @@ pub record IsProgram (p : Program) : Type 0 where
   pub whole : length p.text ≡ 4 * length p.lines
   pub lines_fit : All (λ line. (1 ≤ line) × (line ≤ 65536)) p.lines
   pub entry_whole : p.entry % 4 ≡ 0
-  pub entry_starts : 0x10000 ≤ p.entry
-  pub entry_within : p.entry < 0x10000 + length p.text
+  pub entry_starts : TEXT_START ≤ p.entry
+  pub entry_within : p.entry < TEXT_START + length p.text
 
-unfoldable pub assembled : List ℕ → Result Program AsmFault
-assembled source = do
+unfoldable pub assembly : List ℕ → Result Program AsmFault
+assembly source = do
   s ← take_lines 1 (lines source) start
-  fs ← all_filled s s.puts
+  fs ← filled_pieces s s.puts
   if s.text == 0 then Err (record { kind = kinds.Empty; line = 1; column = 1 }) else Ok (program s fs)
 
 -- ---- what a call answered

@@ -49,14 +49,14 @@ pub data Statement : Type 0 where
   Enters : (section : Section) → Statement
 
 -- the section that a statement has to stand in, if it has one
-abbrev pub belongs : Form → Option Section
-belongs (forms.Enter section) = None
-belongs forms.Global = None
-belongs (forms.Numbers size) = Some sections.Data
-belongs forms.Ascii = Some sections.Data
-belongs forms.Zeros = Some sections.Data
-belongs forms.Align = Some sections.Data
-belongs form = Some sections.Text
+abbrev pub section_of : Form → Option Section
+section_of (forms.Enter section) = None
+section_of forms.Global = None
+section_of (forms.Numbers size) = Some sections.Data
+section_of forms.Ascii = Some sections.Data
+section_of forms.Zeros = Some sections.Data
+section_of forms.Align = Some sections.Data
+section_of form = Some sections.Text
 
 abbrev pub size : Piece → ℕ
 size (Encoded word) = 4
@@ -79,17 +79,17 @@ abbrev pub is_wide : Width → Bool
 is_wide widths.Word = false
 is_wide widths.Double = true
 
-abbrev pub acquires : Order → Bool
-acquires orders.Relaxed = false
-acquires orders.Acquire = true
-acquires orders.Release = false
-acquires orders.Both = true
+abbrev pub is_acquire : Order → Bool
+is_acquire orders.Relaxed = false
+is_acquire orders.Acquire = true
+is_acquire orders.Release = false
+is_acquire orders.Both = true
 
-abbrev pub releases : Order → Bool
-releases orders.Relaxed = false
-releases orders.Acquire = false
-releases orders.Release = true
-releases orders.Both = true
+abbrev pub is_release : Order → Bool
+is_release orders.Relaxed = false
+is_release orders.Acquire = false
+is_release orders.Release = true
+is_release orders.Both = true
 
 -- the instructions without operands; a fence is of all accesses, before and behind it
 abbrev pub instruction_alone : Alone → Instr
@@ -107,13 +107,13 @@ lower n = signed 12 (twos 12 n)
 abbrev pub upper : ℤ → ℕ
 upper n = part (twos 32 (n -ℤ lower n)) 12 20
 
-abbrev pub encoded : Instr → Piece
-encoded i = Encoded (word_of i)
+abbrev pub encoded_piece : Instr → Piece
+encoded_piece i = Encoded (word_of i)
 
 abbrev pub load_number : ℕ → ℤ → List Piece
 load_number rd n =
-    if is_signed 12 n then encoded (instr.Imm Addi rd 0 n) ∷ []
-    else encoded (instr.Upper Lui rd (upper n)) ∷ encoded (instr.Imm Addiw rd rd (lower n)) ∷ []
+    if is_signed 12 n then encoded_piece (instr.Imm Addi rd 0 n) ∷ []
+    else encoded_piece (instr.Upper Lui rd (upper n)) ∷ encoded_piece (instr.Imm Addiw rd rd (lower n)) ∷ []
 
 -- ---- operands
 
@@ -124,9 +124,9 @@ Taking A = Read (A × List Placed)
 abbrev pub is_within : ℤ → ℤ → ℤ → Bool
 is_within low high n = int_le low n && int_le n high
 
-abbrev pub found : {A : Type 0} → Option A → ℕ → List Placed → Taking A
-found (Some x) column ts = Ok (x, ts)
-found None column ts = wrong kinds.Operand column
+abbrev pub operand_or_fault : {A : Type 0} → Option A → ℕ → List Placed → Taking A
+operand_or_fault (Some x) column ts = Ok (x, ts)
+operand_or_fault None column ts = wrong kinds.Operand column
 
 -- operands of a line whose bytes end before this column
 module _ (end : ℕ) where
@@ -174,7 +174,7 @@ module _ (end : ℕ) where
   abbrev pub register : List Placed → Taking ℕ
   register ts = do
     n ← name ts
-    found (register_of n.0.name) n.0.column n.1
+    operand_or_fault (register_of n.0.name) n.0.column n.1
 
   abbrev pub number_up_to : ℕ → List Placed → Taking ℕ
   number_up_to high ts = do
@@ -222,7 +222,7 @@ module _ (end : ℕ) where
   puts pieces ts = whole (Puts pieces) ts
 
   abbrev pub one : Instr → List Placed → Read Statement
-  one i ts = puts (encoded i ∷ []) ts
+  one i ts = puts (encoded_piece i ∷ []) ts
 
   -- a number of this size
   abbrev pub number_item : Size → ℤ → ℕ → Read Piece
@@ -304,7 +304,7 @@ module _ (end : ℕ) where
     rd ← register ts
     rs2 ← then_second op rd.1
     rs1 ← then_base rs2.1
-    one (instr.Atomic op (is_wide width) (acquires order) (releases order) rd.0 rs1.0 rs2.0) rs1.1
+    one (instr.Atomic op (is_wide width) (is_acquire order) (is_release order) rd.0 rs1.0 rs2.0) rs1.1
   statement (forms.Plain name) ts = one (instruction_alone name) ts
   statement forms.Move ts = do
     rd ← register ts

@@ -8,21 +8,18 @@ ghost use Rattle.rv_decode.specs.declared.Instr.TheVariants as instr;
 ghost use Rattle.rv_decode.specs.declared.UpperOp.TheVariants.{Auipc};
 ghost use Rattle.rv_decode.specs.declared.ImmOp.TheVariants.{Addi};
 ghost use Rattle.rv_asm.specs.Statements.{upper, lower};
-ghost use Rattle.rv_asm.specs.Assembled.{Gives, address, target, reach, word, load_address, bytes_at, filled, all_filled, begin_of, entry};
+ghost use Rattle.rv_asm.specs.Assembled.{Gives, address, target, reach, word, load_address, bytes_at, filled_piece, filled_pieces, begin_of, entry};
 ghost use Rattle.asm_tokens.specs.Views.{GivesLine, with_front};
-ghost use Rattle.rv_asm.specs.Views.{Steps, StepsAll, state_of, use_of, piece_of, put_of, with_filled, parts_of, then_filled, all_parts};
+ghost use Rattle.rv_asm.specs.Views.{Steps, StepsAll, state_of, use_of, piece_of, put_of, with_filled, parts_of, with_next, all_parts};
 
 use crate::lines::error_at;
 use crate::operands::NameUse;
 use crate::pieces::{Piece, lower, upper};
 use crate::state::{Place, Put, State, up_to_multiple};
-use crate::{AsmError, AsmKind};
+use crate::{AsmError, AsmKind, TEXT_START};
 use asm_tokens::{LineError, Section, number_of};
 use rv_decode::{ImmOp, Instr, UpperOp, encode};
 use std::alloc::{AllocError, Global};
-
-/// Where the text begins.
-pub const TEXT_START: u64 = 0x1_0000;
 
 /// The bytes of both sections, and the line of each word of the text.
 #[derive(Drop)]
@@ -212,7 +209,7 @@ fn push_lines(lines: &mut Vec<u32>, line: u32, words: usize) -> Result<(), Alloc
 
 /// The bytes of a piece in its place.
 fn fill_one(parts: &mut Filled, state: &State, put: &Put) -> Result<(), AsmError>
-    ensures { StepsAll result (parts_of parts.new) (then_filled (parts_of parts.old) (filled (state_of state.now) (put_of put.now))) }
+    ensures { StepsAll result (parts_of parts.new) (with_next (parts_of parts.old) (filled_piece (state_of state.now) (put_of put.now))) }
 {
     let from = address(state, put.place);
     match put.place.section {
@@ -237,7 +234,7 @@ fn fill_one(parts: &mut Filled, state: &State, put: &Put) -> Result<(), AsmError
 /// The bytes of all pieces in the order of the source.
 /// Err tells the first label that is missing or too far, or want of memory.
 pub fn fill(alloc: Global, state: &State) -> Result<Filled, AsmError>
-    ensures { Gives parts_of result (all_parts (all_filled (state_of state.now) (state_of state.now).puts)) }
+    ensures { Gives parts_of result (all_parts (filled_pieces (state_of state.now) (state_of state.now).puts)) }
 {
     let mut parts = Filled {
         text: Vec::new(alloc),

@@ -7,9 +7,9 @@ ghost use Rattle.rv_decode.specs.Instructions.{amount_bits, InRange, is_second, 
 ghost use Rattle.rv_decode.specs.declared.Instr.TheVariants as instr;
 ghost use Rattle.rv_decode.specs.declared.UpperOp.TheVariants.{Lui};
 ghost use Rattle.asm_tokens.specs.Registers.{number_of};
-ghost use Rattle.rv_asm.specs.Statements.{lower, upper, load_number, encoded, whole, puts, one, number_item, label_item, item, items, statement, bytes_of, is_wide, acquires, releases, instruction_alone, is_within, BranchTo, JumpTo, AddressTo, Bytes, Zeros, Puts, Aligns, Enters};
+ghost use Rattle.rv_asm.specs.Statements.{lower, upper, load_number, encoded_piece, whole, puts, one, number_item, label_item, item, items, statement, bytes_of, is_wide, is_acquire, is_release, instruction_alone, is_within, BranchTo, JumpTo, AddressTo, Bytes, Zeros, Puts, Aligns, Enters};
 ghost use Rattle.asm_tokens.specs.Views.{GivesLine, all_placed, placed_of};
-ghost use Rattle.rv_asm.specs.Views.{left, piece_of, statement_of, AlignsWithin};
+ghost use Rattle.rv_asm.specs.Views.{tokens_left, piece_of, statement_of, AlignsWithin};
 ghost use Rattle.asm_tokens.specs.declared.form.Form.TheVariants as forms;
 
 use crate::AsmKind;
@@ -25,7 +25,7 @@ use std::alloc::{AllocError, Global};
 
 /// This statement, if nothing is left.
 fn whole<'s>(operands: Operands<'_, 's>, what: Statement<'s>) -> Result<Statement<'s>, LineError>
-    ensures value { GivesLine statement_of result (whole operands.entry.end (statement_of what.entry) (left operands.entry)) }
+    ensures value { GivesLine statement_of result (whole operands.entry.end (statement_of what.entry) (tokens_left operands.entry)) }
     ensures same { IfOk result (λ x. x ≡ what.entry) }
 {
     operands.finish()?;
@@ -38,7 +38,7 @@ fn puts<'s>(
     operands: Operands<'_, 's>,
     piece: Piece<'s>,
 ) -> Result<Statement<'s>, LineError>
-    ensures value { GivesLine statement_of result (puts operands.entry.end (piece_of piece.entry ∷ []) (left operands.entry)) }
+    ensures value { GivesLine statement_of result (puts operands.entry.end (piece_of piece.entry ∷ []) (tokens_left operands.entry)) }
     ensures within { IfOk result AlignsWithin }
 {
     let pieces = vec![in alloc; piece]?;
@@ -52,7 +52,7 @@ fn one<'s>(
     instr: Instr,
 ) -> Result<Statement<'s>, LineError>
     requires { InRange instr }
-    ensures value { GivesLine statement_of result (one operands.entry.end instr (left operands.entry)) }
+    ensures value { GivesLine statement_of result (one operands.entry.end instr (tokens_left operands.entry)) }
     ensures within { IfOk result AlignsWithin }
 {
     puts(alloc, operands, Piece::Encoded(encode(instr)))
@@ -65,7 +65,7 @@ fn register_form<'s>(
     op: RegOp,
     mut operands: Operands<'_, 's>,
 ) -> Result<Statement<'s>, LineError>
-    ensures value { GivesLine statement_of result (statement operands.entry.end (forms.Register op) (left operands.entry)) }
+    ensures value { GivesLine statement_of result (statement operands.entry.end (forms.Register op) (tokens_left operands.entry)) }
     ensures within { IfOk result AlignsWithin }
 {
     let rd = operands.register()?;
@@ -87,7 +87,7 @@ fn immediate_form<'s>(
     op: ImmOp,
     mut operands: Operands<'_, 's>,
 ) -> Result<Statement<'s>, LineError>
-    ensures value { GivesLine statement_of result (statement operands.entry.end (forms.Immediate op) (left operands.entry)) }
+    ensures value { GivesLine statement_of result (statement operands.entry.end (forms.Immediate op) (tokens_left operands.entry)) }
     ensures within { IfOk result AlignsWithin }
 {
     let rd = operands.register()?;
@@ -119,7 +119,7 @@ fn shift_form<'s>(
     op: ShiftOp,
     mut operands: Operands<'_, 's>,
 ) -> Result<Statement<'s>, LineError>
-    ensures value { GivesLine statement_of result (statement operands.entry.end (forms.Shift op) (left operands.entry)) }
+    ensures value { GivesLine statement_of result (statement operands.entry.end (forms.Shift op) (tokens_left operands.entry)) }
     ensures within { IfOk result AlignsWithin }
 {
     let rd = operands.register()?;
@@ -141,7 +141,7 @@ fn load_form<'s>(
     op: LoadOp,
     mut operands: Operands<'_, 's>,
 ) -> Result<Statement<'s>, LineError>
-    ensures value { GivesLine statement_of result (statement operands.entry.end (forms.Load op) (left operands.entry)) }
+    ensures value { GivesLine statement_of result (statement operands.entry.end (forms.Load op) (tokens_left operands.entry)) }
     ensures within { IfOk result AlignsWithin }
 {
     let rd = operands.register()?;
@@ -159,7 +159,7 @@ fn load_form<'s>(
 /// `jalr rd, n(rs1)`
 #[tactic(auto, unfolding(crate::specs::Statements::statement))]
 fn jalr_form<'s>(alloc: Global, mut operands: Operands<'_, 's>) -> Result<Statement<'s>, LineError>
-    ensures value { GivesLine statement_of result (statement operands.entry.end forms.Jalr (left operands.entry)) }
+    ensures value { GivesLine statement_of result (statement operands.entry.end forms.Jalr (tokens_left operands.entry)) }
     ensures within { IfOk result AlignsWithin }
 {
     let rd = operands.register()?;
@@ -180,7 +180,7 @@ fn store_form<'s>(
     op: StoreOp,
     mut operands: Operands<'_, 's>,
 ) -> Result<Statement<'s>, LineError>
-    ensures value { GivesLine statement_of result (statement operands.entry.end (forms.Store op) (left operands.entry)) }
+    ensures value { GivesLine statement_of result (statement operands.entry.end (forms.Store op) (tokens_left operands.entry)) }
     ensures within { IfOk result AlignsWithin }
 {
     let rs2 = operands.register()?;
@@ -202,7 +202,7 @@ fn branch_form<'s>(
     op: BranchOp,
     mut operands: Operands<'_, 's>,
 ) -> Result<Statement<'s>, LineError>
-    ensures value { GivesLine statement_of result (statement operands.entry.end (forms.Branch op) (left operands.entry)) }
+    ensures value { GivesLine statement_of result (statement operands.entry.end (forms.Branch op) (tokens_left operands.entry)) }
     ensures within { IfOk result AlignsWithin }
 {
     let rs1 = operands.register()?;
@@ -220,7 +220,7 @@ fn branch_form<'s>(
 /// `jal rd, label`
 #[tactic(auto, unfolding(crate::specs::Statements::statement))]
 fn jal_form<'s>(alloc: Global, mut operands: Operands<'_, 's>) -> Result<Statement<'s>, LineError>
-    ensures value { GivesLine statement_of result (statement operands.entry.end forms.Jal (left operands.entry)) }
+    ensures value { GivesLine statement_of result (statement operands.entry.end forms.Jal (tokens_left operands.entry)) }
     ensures within { IfOk result AlignsWithin }
 {
     let rd = operands.register()?;
@@ -235,7 +235,7 @@ fn upper_form<'s>(
     op: UpperOp,
     mut operands: Operands<'_, 's>,
 ) -> Result<Statement<'s>, LineError>
-    ensures value { GivesLine statement_of result (statement operands.entry.end (forms.Upper op) (left operands.entry)) }
+    ensures value { GivesLine statement_of result (statement operands.entry.end (forms.Upper op) (tokens_left operands.entry)) }
     ensures within { IfOk result AlignsWithin }
 {
     let rd = operands.register()?;
@@ -254,14 +254,14 @@ fn is_wide(width: Width) -> bool
     matches!(width, Width::Double)
 }
 
-fn acquires(order: Order) -> bool
-    ensures { result ≡ acquires order }
+fn is_acquire(order: Order) -> bool
+    ensures { result ≡ is_acquire order }
 {
     matches!(order, Order::Acquire | Order::Both)
 }
 
-fn releases(order: Order) -> bool
-    ensures { result ≡ releases order }
+fn is_release(order: Order) -> bool
+    ensures { result ≡ is_release order }
 {
     matches!(order, Order::Release | Order::Both)
 }
@@ -275,7 +275,7 @@ fn atomic_form<'s>(
     order: Order,
     mut operands: Operands<'_, 's>,
 ) -> Result<Statement<'s>, LineError>
-    ensures value { GivesLine statement_of result (statement operands.entry.end (forms.Atomic op width order) (left operands.entry)) }
+    ensures value { GivesLine statement_of result (statement operands.entry.end (forms.Atomic op width order) (tokens_left operands.entry)) }
     ensures within { IfOk result AlignsWithin }
 {
     let rd = operands.register()?;
@@ -284,8 +284,8 @@ fn atomic_form<'s>(
     let instr = Instr::Atomic {
         op,
         wide: is_wide(width),
-        aq: acquires(order),
-        rl: releases(order),
+        aq: is_acquire(order),
+        rl: is_release(order),
         rd: number_of(rd),
         rs1: number_of(rs1),
         rs2: number_of(rs2),
@@ -323,7 +323,7 @@ fn instruction_alone(name: Alone) -> Instr
 /// `mv rd, rs`
 #[tactic(auto, unfolding(crate::specs::Statements::statement))]
 fn move_form<'s>(alloc: Global, mut operands: Operands<'_, 's>) -> Result<Statement<'s>, LineError>
-    ensures value { GivesLine statement_of result (statement operands.entry.end forms.Move (left operands.entry)) }
+    ensures value { GivesLine statement_of result (statement operands.entry.end forms.Move (tokens_left operands.entry)) }
     ensures within { IfOk result AlignsWithin }
 {
     let rd = operands.register()?;
@@ -340,7 +340,7 @@ fn move_form<'s>(alloc: Global, mut operands: Operands<'_, 's>) -> Result<Statem
 /// `j label`
 #[tactic(auto, unfolding(crate::specs::Statements::statement))]
 fn jump_form<'s>(alloc: Global, mut operands: Operands<'_, 's>) -> Result<Statement<'s>, LineError>
-    ensures value { GivesLine statement_of result (statement operands.entry.end forms.Jump (left operands.entry)) }
+    ensures value { GivesLine statement_of result (statement operands.entry.end forms.Jump (tokens_left operands.entry)) }
     ensures within { IfOk result AlignsWithin }
 {
     let label = operands.name()?;
@@ -408,7 +408,7 @@ fn load_number_form<'s>(
     alloc: Global,
     mut operands: Operands<'_, 's>,
 ) -> Result<Statement<'s>, LineError>
-    ensures value { GivesLine statement_of result (statement operands.entry.end forms.LoadNumber (left operands.entry)) }
+    ensures value { GivesLine statement_of result (statement operands.entry.end forms.LoadNumber (tokens_left operands.entry)) }
     ensures within { IfOk result AlignsWithin }
 {
     let rd = operands.register()?;
@@ -424,7 +424,7 @@ fn load_address_form<'s>(
     alloc: Global,
     mut operands: Operands<'_, 's>,
 ) -> Result<Statement<'s>, LineError>
-    ensures value { GivesLine statement_of result (statement operands.entry.end forms.LoadAddress (left operands.entry)) }
+    ensures value { GivesLine statement_of result (statement operands.entry.end forms.LoadAddress (tokens_left operands.entry)) }
     ensures within { IfOk result AlignsWithin }
 {
     let rd = operands.register()?;
@@ -438,7 +438,7 @@ fn global_form<'s>(
     alloc: Global,
     mut operands: Operands<'_, 's>,
 ) -> Result<Statement<'s>, LineError>
-    ensures value { GivesLine statement_of result (statement operands.entry.end forms.Global (left operands.entry)) }
+    ensures value { GivesLine statement_of result (statement operands.entry.end forms.Global (tokens_left operands.entry)) }
     ensures within { IfOk result AlignsWithin }
 {
     operands.name()?;
@@ -448,7 +448,7 @@ fn global_form<'s>(
 /// `.ascii "text"`
 #[tactic(auto, unfolding(crate::specs::Statements::statement))]
 fn ascii_form<'s>(alloc: Global, mut operands: Operands<'_, 's>) -> Result<Statement<'s>, LineError>
-    ensures value { GivesLine statement_of result (statement operands.entry.end forms.Ascii (left operands.entry)) }
+    ensures value { GivesLine statement_of result (statement operands.entry.end forms.Ascii (tokens_left operands.entry)) }
     ensures within { IfOk result AlignsWithin }
 {
     let bytes = operands.text()?;
@@ -459,7 +459,7 @@ fn ascii_form<'s>(alloc: Global, mut operands: Operands<'_, 's>) -> Result<State
 /// `.zero n`
 #[tactic(auto, unfolding(crate::specs::Statements::statement))]
 fn zeros_form<'s>(alloc: Global, mut operands: Operands<'_, 's>) -> Result<Statement<'s>, LineError>
-    ensures value { GivesLine statement_of result (statement operands.entry.end forms.Zeros (left operands.entry)) }
+    ensures value { GivesLine statement_of result (statement operands.entry.end forms.Zeros (tokens_left operands.entry)) }
     ensures within { IfOk result AlignsWithin }
 {
     let count = operands.number_up_to(1_048_576)?;
@@ -469,7 +469,7 @@ fn zeros_form<'s>(alloc: Global, mut operands: Operands<'_, 's>) -> Result<State
 /// `.align n`
 #[tactic(auto, unfolding(crate::specs::Statements::statement))]
 fn align_form<'s>(mut operands: Operands<'_, 's>) -> Result<Statement<'s>, LineError>
-    ensures value { GivesLine statement_of result (statement operands.entry.end forms.Align (left operands.entry)) }
+    ensures value { GivesLine statement_of result (statement operands.entry.end forms.Align (tokens_left operands.entry)) }
     ensures within { IfOk result AlignsWithin }
 {
     let bits = operands.number_up_to(12)?;

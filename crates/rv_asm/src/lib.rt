@@ -9,13 +9,16 @@ mod pieces;
 mod state;
 
 ghost use Rattle.std.specs.Prelude.{◌≡◌, ◌≤◌, length, IfOk};
-ghost use Rattle.rv_asm.specs.Assembled.{Gives, IsProgram, assembled, view};
+ghost use Rattle.rv_asm.specs.Assembled.{Gives, IsProgram, assembly, view};
 
 use crate::fill::{entry, fill};
 use crate::lines::take_lines;
 pub use asm_tokens::AsmKind;
 use coz_lists::Items;
 use std::alloc::Global;
+
+/// The address at which the text begins.
+pub const TEXT_START: u64 = 0x1_0000;
 
 /// A fault, and where in the source it is: its line and the column of its first byte, both counted from 1.
 #[derive(Clone, Copy, Debug, PartialEq, Eq)]
@@ -51,10 +54,10 @@ pub struct Assembled {
 }
 
 /// What a source of at most 4,194,304 bytes stands for, or its first fault.
-#[tactic(auto, unfolding(crate::specs::Assembled::assembled))]
+#[tactic(auto, unfolding(crate::specs::Assembled::assembly))]
 pub fn assemble(alloc: Global, source: &[u8]) -> Result<Assembled, AsmError>
     requires { length source.now ≤ 4194304 }
-    ensures value { Gives view result (assembled source.now) }
+    ensures value { Gives view result (assembly source.now) }
     ensures program { IfOk result (λ a. IsProgram (view a)) }
 {
     let state = take_lines(alloc, source)?;

@@ -4,8 +4,8 @@ ghost use Rattle.std.specs.Prelude.{◌≡◌, ◌≤◌, ◌<◌, ◌+◌, ◌-
 ghost use Rattle.std.specs.List.{prefix_len};
 ghost use Rattle.std.specs.Str.{byte};
 ghost use Rattle.asm_tokens.specs.Tokens.{is_allowed, lines};
-ghost use Rattle.rv_asm.specs.Statements.{belongs};
-ghost use Rattle.rv_asm.specs.Assembled.{Gives, start, may_stand, formed, name_in, stated, take_tokens, take_line, take_lines};
+ghost use Rattle.rv_asm.specs.Statements.{section_of};
+ghost use Rattle.rv_asm.specs.Assembled.{Gives, start, is_in_place, form_named, name_in, with_statement, take_tokens, take_line, take_lines};
 ghost use Rattle.asm_tokens.specs.Views.{placed_of, all_placed, token_of};
 ghost use Rattle.rv_asm.specs.Views.{Steps, state_of, use_of, label_front, error_at};
 
@@ -27,8 +27,8 @@ fn is_allowed(byte: u8) -> bool
 }
 
 /// The section that a statement has to stand in, if it has one.
-fn belongs(form: Form) -> Option<Section>
-    ensures { result ≡ belongs form }
+fn section_of(form: Form) -> Option<Section>
+    ensures { result ≡ section_of form }
 {
     match form {
         Form::Enter(_) | Form::Global => None,
@@ -38,10 +38,10 @@ fn belongs(form: Form) -> Option<Section>
 }
 
 /// Whether a statement may stand in this section.
-fn may_stand(form: Form, now: Section) -> bool
-    ensures { result ≡ may_stand (belongs form) now }
+fn is_in_place(form: Form, now: Section) -> bool
+    ensures { result ≡ is_in_place (section_of form) now }
 {
-    match belongs(form) {
+    match section_of(form) {
         None => true,
         Some(Section::Text) => matches!(now, Section::Text),
         Some(Section::Data) => matches!(now, Section::Data),
@@ -50,7 +50,7 @@ fn may_stand(form: Form, now: Section) -> bool
 
 /// The form of the statement that begins with this token.
 fn form_in(first: &Token) -> Option<Form>
-    ensures { result ≡ formed (name_in (token_of first.now)) }
+    ensures { result ≡ form_named (name_in (token_of first.now)) }
 {
     match first {
         Token::Name(name) => form_of(*name),
@@ -91,7 +91,7 @@ fn take_statement<'s>(
     operands: &[Placed<'s>],
     state: &mut State<'s>,
 ) -> Result<(), LineError>
-    ensures { Steps result (state_of state.new) (stated line end (placed_of first.now) (all_placed operands.now) (state_of state.old)) }
+    ensures { Steps result (state_of state.new) (with_statement line end (placed_of first.now) (all_placed operands.now) (state_of state.old)) }
 {
     let column = first.column;
     let Some(form) = form_in(&first.token) else {
@@ -100,7 +100,7 @@ fn take_statement<'s>(
             column,
         });
     };
-    if !may_stand(form, state.section) {
+    if !is_in_place(form, state.section) {
         return Err(LineError::Fault {
             kind: AsmKind::Section,
             column,

@@ -1,7 +1,7 @@
 //! What the lines so far have made: labels with their places, and pieces in their places.
 
 ghost use Rattle.std.specs.Prelude.{◌≡◌, ◌≤◌, ◌<◌, ◌+◌, ◌-◌, ◌^◌, [], map};
-ghost use Rattle.rv_asm.specs.Assembled.{here, next_place, start, with_label, with_piece, with_pieces, up_to_multiple, done};
+ghost use Rattle.rv_asm.specs.Assembled.{section_length, next_place, start, with_label, with_piece, with_pieces, up_to_multiple, with_effect};
 ghost use Rattle.rv_asm.specs.Statements.{size};
 ghost use Rattle.rv_asm.specs.Views.{Steps, state_of, piece_of, statement_of, AlignsWithin};
 
@@ -87,8 +87,8 @@ impl<'s> State<'s> {
         }
     }
 
-    fn here(&self) -> u32
-        ensures { result ≡ here (state_of self.now) }
+    fn section_length(&self) -> u32
+        ensures { result ≡ section_length (state_of self.now) }
     {
         match self.section {
             Section::Text => self.text,
@@ -101,7 +101,7 @@ impl<'s> State<'s> {
     {
         Place {
             section: self.section,
-            offset: self.here(),
+            offset: self.section_length(),
         }
     }
 
@@ -124,7 +124,7 @@ impl<'s> State<'s> {
     fn put(&mut self, line: u32, column: u32, piece: Piece<'s>) -> Result<(), LineError>
         ensures { Steps result (state_of self.new) (with_piece line column (piece_of piece.entry) (state_of self.old)) }
     {
-        let end = (self.here() as usize).saturating_add(size(&piece));
+        let end = (self.section_length() as usize).saturating_add(size(&piece));
         if end > MOST_BYTES {
             return Err(LineError::Fault {
                 kind: AsmKind::Much,
@@ -155,13 +155,13 @@ impl<'s> State<'s> {
     /// Err where its section may not have it or would be too long, or for want of memory.
     pub fn perform(&mut self, line: u32, column: u32, what: Statement<'s>) -> Result<(), LineError>
         requires { AlignsWithin what }
-        ensures { Steps result (state_of self.new) (done line column (statement_of what.entry) (state_of self.old)) }
+        ensures { Steps result (state_of self.new) (with_effect line column (statement_of what.entry) (state_of self.old)) }
     {
         match what {
             Statement::Puts(pieces) => self.put_all(line, column, pieces),
             Statement::Aligns(bits) => {
-                let here = u64::from(self.here());
-                let zeros = up_to_multiple(1 << bits, here) - here;
+                let length = u64::from(self.section_length());
+                let zeros = up_to_multiple(1 << bits, length) - length;
                 self.put(line, column, Piece::Zeros(zeros as u32))
             }
             Statement::Enters(section) => {

@@ -64,9 +64,9 @@ blocks_short (suc count) i state few =
 
 -- ---- the whole
 
-joined_short : (ls : List Line) → AreShort ls → length (joined ls) ≤ 41 * length ls
-joined_short [] all = omega arith
-joined_short (l ∷ ls) all = omega (arith, length-append (l ++ codes "\n") (joined ls), length-append l (codes "\n"), all.0, joined_short ls all.1)
+all_bytes_short : (ls : List Line) → AreShort ls → length (joined ls) ≤ 41 * length ls
+all_bytes_short [] all = omega arith
+all_bytes_short (l ∷ ls) all = omega (arith, length-append (l ++ codes "\n") (joined ls), length-append l (codes "\n"), all.0, all_bytes_short ls all.1)
 
 middle : List Line
 middle = statements ("la a0, ended" ∷ "li a1, 1" ∷ [])
@@ -79,4 +79,4 @@ generated_short seed size few =
     let blocks_are = blocks_short size 0 seed (omega arith) in
     let before = both_short opening (blocks 0 size seed ++ middle) (tested opening refl) (both_short (blocks 0 size seed) middle blocks_are (tested middle refl)) in
     let all = both_short (before_point seed size) ending before (tested ending refl) in
-    omega (arith, joined_short whole all, length-append (before_point seed size) ending, length-append opening (blocks 0 size seed ++ middle), length-append (blocks 0 size seed) middle, some.few)
+    omega (arith, all_bytes_short whole all, length-append (before_point seed size) ending, length-append opening (blocks 0 size seed ++ middle), length-append (blocks 0 size seed) middle, some.few)

@@ -4,6 +4,7 @@ use Rattle.coz_types.specs.declared.image.Area.{Area}
 use Rattle.dwarf_lines.specs.declared.FileName.{FileName}
 use Rattle.dwarf_lines.specs.declared.Row.{Row}
 use Rattle.dwarf_lines.specs.Registers.{File, Table, files_view, view}
+use Rattle.line_index.specs.Changes.{changes_of}
 use Rattle.line_index.specs.declared.changes.Change.{Change}
 use Rattle.line_index.specs.declared.entry.Entry.{Entry}
 use Rattle.line_index.specs.declared.lines.Key.{Key}
@@ -58,8 +59,8 @@ line_changes-requires-clause-few c =
 pub entries-requires : goal.entries-requires
 entries-requires c =
     let count : length c.deref-12.result.now ≡ c.len.result = ap length c.deref-12.ensures.value ∙ sym (c.len.ensures ∙ c.in_ok-lines.lines.ok.0) in
-    let below = all_below c.as_slice-rows.result.now c.deref-11.result.now c.deref-12.result.now c.deref-13.result.now c.in_ok-changes.changes.items c.in_ok-changes.ensures in
-    subst (λ n. All (IsBelow n) c.deref-14.result.now) count (subst (λ (changes : List Change). All (IsBelow (length c.deref-12.result.now)) changes) (sym c.deref-14.ensures.value) below)
+    let below = all_below c.as_slice-rows.result.now c.deref-11.result.now c.deref-12.result.now c.deref-13.result.now (changes_of c.in_ok-changes.changes.items) c.in_ok-changes.ensures in
+    subst (λ n. All (IsBelow n) (changes_of c.deref-14.result.now)) count (subst (λ (changes : List Change). All (IsBelow (length c.deref-12.result.now)) changes) (sym (ap changes_of c.deref-14.ensures.value)) below)
 
 abbrev needed : (c : goal.In_ok-turns) → Table
 needed c = record (view c.args.table.now) { files = files_view c.in_ok-named.named.items }
@@ -70,8 +71,8 @@ placed c =
     (subst (λ (positions : List (Option ℕ)). ArePlaces c.deref-4.result.now positions (entries_view c.deref-6.result.now)) (sym c.deref-7.ensures.value)
     (subst (λ (entries : List Entry). ArePlaces c.deref-4.result.now c.in_ok-ranks.ranks.items (entries_view entries)) (c.deref-5.ensures.value ∙ sym c.deref-6.ensures.value) c.in_ok-ranks.ensures))
 
-built : (c : goal.In_ok-turns) → Built (needed c).files (needed c).rows c.args.image.now.areas (texts c.in_ok-paths.paths.items) c.in_ok-positions.positions.items c.in_ok-lines.lines.items c.in_ok-covering.covering.items c.in_ok-changes.changes.items
-built c = is_built (needed c) c.args.image.now.areas c.areas.result.now c.as_slice-rows.result.now (files_view c.deref-8.result.now) c.in_ok-paths.paths.items c.deref-4.result.now c.in_ok-positions.positions.items c.deref-9.result.now c.deref-11.result.now c.in_ok-lines.lines.items c.deref-12.result.now c.in_ok-covering.covering.items c.deref-10.result.now c.deref-13.result.now c.in_ok-changes.changes.items
+built : (c : goal.In_ok-turns) → Built (needed c).files (needed c).rows c.args.image.now.areas (texts c.in_ok-paths.paths.items) c.in_ok-positions.positions.items c.in_ok-lines.lines.items c.in_ok-covering.covering.items (changes_of c.in_ok-changes.changes.items)
+built c = is_built (needed c) c.args.image.now.areas c.areas.result.now c.as_slice-rows.result.now (files_view c.deref-8.result.now) c.in_ok-paths.paths.items c.deref-4.result.now c.in_ok-positions.positions.items c.deref-9.result.now c.deref-11.result.now c.in_ok-lines.lines.items c.deref-12.result.now c.in_ok-covering.covering.items c.deref-10.result.now c.deref-13.result.now (changes_of c.in_ok-changes.changes.items)
     c.areas.ensures.areas c.as_slice-rows.ensures (ap files_view c.deref-8.ensures.value) c.deref-4.ensures.value c.deref-9.ensures.value c.deref-11.ensures.value c.deref-12.ensures.value c.deref-10.ensures.value c.deref-13.ensures.value
     c.in_ok-paths.ensures.in_order (placed c) c.in_ok-covering.ensures.values c.in_ok-covering.ensures.rises c.in_ok-lines.ensures.in_order c.in_ok-lines.ensures.each c.in_ok-changes.ensures
 
@@ -89,12 +90,12 @@ invariant_of-result c =
       backwards = subst (λ (paths : List (Vec ℕ)). AreBackwards (texts paths) c.in_ok-backwards.backwards.items) c.deref-17.ensures.value c.in_ok-backwards.ensures;
       keys_rise = c.in_ok-lines.ensures.in_order;
       few_paths = omega (arith, c.in_ok-paths.ensures.few, distinct, c.in_ok-distinct.ensures.few, named, c.in_ok-named.ensures.as_many, files, c.requires.few_files);
-      have_paths = have_paths (needed c) c.args.image.now.areas c.in_ok-paths.paths.items c.in_ok-positions.positions.items c.in_ok-lines.lines.items c.in_ok-covering.covering.items c.in_ok-changes.changes.items (built c);
-      right = right_lines (needed c) c.args.image.now.areas c.in_ok-paths.paths.items c.in_ok-positions.positions.items c.in_ok-lines.lines.items c.in_ok-covering.covering.items c.in_ok-changes.changes.items (built c) c.in_ok-paths.ensures.right c.in_ok-lines.ensures.numbered;
+      have_paths = have_paths (needed c) c.args.image.now.areas c.in_ok-paths.paths.items c.in_ok-positions.positions.items c.in_ok-lines.lines.items c.in_ok-covering.covering.items (changes_of c.in_ok-changes.changes.items) (built c);
+      right = right_lines (needed c) c.args.image.now.areas c.in_ok-paths.paths.items c.in_ok-positions.positions.items c.in_ok-lines.lines.items c.in_ok-covering.covering.items (changes_of c.in_ok-changes.changes.items) (built c) c.in_ok-paths.ensures.right c.in_ok-lines.ensures.numbered;
       labels = labels_are c.in_ok-labels.labels.items c.deref-15.result.now c.in_ok-paths.paths.items c.deref-16.result.now c.in_ok-lines.lines.items c.deref-15.ensures.value c.deref-16.ensures.value c.in_ok-labels.ensures;
-      as_many = entries_many c.in_ok-entries.entries.items c.deref-14.result.now c.len.result (length c.in_ok-lines.lines.items) (c.len.ensures ∙ c.in_ok-lines.lines.ok.0) c.in_ok-entries.ensures;
-      rising = rise_of c.as_slice-rows.result.now c.deref-11.result.now c.deref-12.result.now c.deref-13.result.now c.in_ok-covering.covering.items c.in_ok-changes.changes.items c.deref-13.ensures.value c.in_ok-covering.ensures.rises c.in_ok-changes.ensures;
-      turns = λ k. c.in_ok-turns.ensures k ∙ ap (turns k None) c.deref-18.ensures.value;
+      as_many = entries_many c.in_ok-entries.entries.items (changes_of c.deref-14.result.now) c.len.result (length c.in_ok-lines.lines.items) (c.len.ensures ∙ c.in_ok-lines.lines.ok.0) c.in_ok-entries.ensures;
+      rising = rise_of c.as_slice-rows.result.now c.deref-11.result.now c.deref-12.result.now c.deref-13.result.now c.in_ok-covering.covering.items (changes_of c.in_ok-changes.changes.items) c.deref-13.ensures.value c.in_ok-covering.ensures.rises c.in_ok-changes.ensures;
+      turns = λ k. c.in_ok-turns.ensures k ∙ ap (λ cs. turns k None (changes_of cs)) c.deref-18.ensures.value;
     }
 
 the_lines : (c : goal.In_ok-turns) → (a : ℕ) → line_of (needed c) c.args.image.now.areas a ≡ line_of (view c.args.table.now) c.args.image.now.areas a
@@ -103,11 +104,11 @@ the_lines c =
     (subst (λ (rows : List Row). All (λ (change : Change). Names rows c.in_ok-named.named.items c.as_slice-files.result.now change.position) c.in_ok-covering.covering.items) c.as_slice-rows.ensures
     (subst (λ (changes : List Change). All (λ (change : Change). Names c.as_slice-rows.result.now c.in_ok-named.named.items c.as_slice-files.result.now change.position) changes) c.deref.ensures.value c.in_ok-named.ensures.named))
 
-the_index : (c : goal.In_ok-turns) → IsIndex (view c.args.table.now) c.args.image.now.areas (record { lines = map (line_at (texts c.in_ok-paths.paths.items)) c.in_ok-lines.lines.items; entries = texts c.in_ok-entries.entries.items; changes = c.in_ok-changes.changes.items })
+the_index : (c : goal.In_ok-turns) → IsIndex (view c.args.table.now) c.args.image.now.areas (record { lines = map (line_at (texts c.in_ok-paths.paths.items)) c.in_ok-lines.lines.items; entries = texts c.in_ok-entries.entries.items; changes = (changes_of c.in_ok-changes.changes.items) })
 the_index c =
     same_index (needed c) (view c.args.table.now) c.args.image.now.areas _ (the_lines c)
-    (is_index (needed c) c.args.image.now.areas (texts c.in_ok-paths.paths.items) c.in_ok-positions.positions.items c.in_ok-lines.lines.items c.in_ok-covering.covering.items c.in_ok-changes.changes.items (texts c.in_ok-entries.entries.items) (built c)
-    (are_starts_of c.len.result (length c.in_ok-lines.lines.items) c.deref-14.result.now c.in_ok-changes.changes.items (texts c.in_ok-entries.entries.items) (c.len.ensures ∙ c.in_ok-lines.lines.ok.0) c.deref-14.ensures.value c.in_ok-entries.ensures))
+    (is_index (needed c) c.args.image.now.areas (texts c.in_ok-paths.paths.items) c.in_ok-positions.positions.items c.in_ok-lines.lines.items c.in_ok-covering.covering.items (changes_of c.in_ok-changes.changes.items) (texts c.in_ok-entries.entries.items) (built c)
+    (are_starts_of c.len.result (length c.in_ok-lines.lines.items) (changes_of c.deref-14.result.now) (changes_of c.in_ok-changes.changes.items) (texts c.in_ok-entries.entries.items) (c.len.ensures ∙ c.in_ok-lines.lines.ok.0) (ap changes_of c.deref-14.ensures.value) c.in_ok-entries.ensures))
 
 pub returns-clause-index : goal.returns-clause-index
 returns-clause-index c = the_index c.before.before.before.before.before
@@ -118,5 +119,5 @@ returns-clause-listed c = is_listed (the_index c.before.before.before.before.bef
 pub turns-requires : goal.turns-requires
 turns-requires c =
     let count : length c.deref-12.result.now ≡ c.len-2.result = ap length c.deref-12.ensures.value ∙ sym (c.len-2.ensures ∙ c.in_ok-lines.lines.ok.0) in
-    let below = all_below c.as_slice-rows.result.now c.deref-11.result.now c.deref-12.result.now c.deref-13.result.now c.in_ok-changes.changes.items c.in_ok-changes.ensures in
-    subst (λ n. All (IsBelow n) c.deref-18.result.now) count (subst (λ (changes : List Change). All (IsBelow (length c.deref-12.result.now)) changes) (sym c.deref-18.ensures.value) below)
+    let below = all_below c.as_slice-rows.result.now c.deref-11.result.now c.deref-12.result.now c.deref-13.result.now (changes_of c.in_ok-changes.changes.items) c.in_ok-changes.ensures in
+    subst (λ n. All (IsBelow n) (changes_of c.deref-18.result.now)) count (subst (λ (changes : List Change). All (IsBelow (length c.deref-12.result.now)) changes) (sym (ap changes_of c.deref-18.ensures.value)) below)

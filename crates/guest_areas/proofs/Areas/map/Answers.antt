@@ -5,7 +5,7 @@ use Rattle.std.proofs.Common.{w64}
 use Rattle.std.proofs.lemmas.Int.{to_z_pos}
 use Rattle.std.proofs.lemmas.List.{length-replicate, length-take, length-drop}
 use Rattle.coz_types.specs.declared.image.Rights.{Rights}
-use Rattle.guest_memory.specs.Memory.{given, zeroed}
+use Rattle.guest_memory.specs.Memory.{with_rights_from, with_zeros}
 use Rattle.guest_memory.specs.Regions.{page_of, pages_for}
 use Rattle.guest_areas.specs.Space.{RegionMap, Space, space, Answered, free_run, map}
 use Rattle.guest_areas.specs.Kept.{regions_of}
@@ -67,7 +67,7 @@ mapped c =
     let found : free_run (regions_of c.self.inside.areas.items c.self.inside.layout c.self.inside.end c.self.inside.mapped.items) c.pages_for-count.result ≡ Some (34603008 + c.in-Some.place) =
     ap (λ (r : RegionMap). free_run r c.pages_for-count.result) c.self.view_is ∙ sym c.in-Some.ensures.page in
     let given_ = c.give.ensures
-    ∙ ap (λ (r : Rights). zeroed (page_of (141733920768 + c.in-Some.place * 4096)) c.pages_for-count.result (given (page_of (141733920768 + c.in-Some.place * 4096)) c.pages_for-count.result r c.args.memory.now)) c.rights_of.ensures in
+    ∙ ap (λ (r : Rights). with_zeros (page_of (141733920768 + c.in-Some.place * 4096)) c.pages_for-count.result (with_rights_from (page_of (141733920768 + c.in-Some.place * 4096)) c.pages_for-count.result r c.args.memory.now)) c.rights_of.ensures in
     subst (λ (r : RegionMap). (let a : Answered = record {
       answer = pos (141733920768 + c.in-Some.place * 4096);
       space = space (regions_of c.self.inside.areas.items c.self.inside.layout c.self.inside.end (put_mid c.in-Some.place (c.in-Some.place + c.pages_for-count.result - c.in-Some.place) c.self.inside.mapped.items c.fill.new.self)) c.give.new.self;

@@ -1,7 +1,7 @@
 use Rattle.std.proofs.Common.{ℕ, ◌≡◌, Bool, true, false, sym, ap, ◌∙◌, subst}
 use Rattle.std.specs.Prelude.{pos}
 use Rattle.coz_types.specs.declared.image.Rights.{Rights}
-use Rattle.guest_memory.specs.Memory.{MemoryMap, given}
+use Rattle.guest_memory.specs.Memory.{MemoryMap, with_rights_from}
 use Rattle.guest_memory.specs.Regions.{page_of, pages_for, IsKnown}
 use Rattle.guest_areas.specs.Space.{RegionMap, Space, space, Answered, rights_of, is_each, is_known, protect}
 use Rattle.guest_areas.specs.Kept.{regions_of}
@@ -65,10 +65,10 @@ give-requires-clause-known c q from below =
 -- the space after the rights were set
 set_ : (c : goal.After-give) → (let a : Answered = record { answer = pos 0; space = space c.args.self.now c.give.new.self } in a) ≡ protect c.args.address c.args.length c.args.protection (space c.args.self.now c.args.memory.now)
 set_ c =
-    let memory : c.give.new.self ≡ given (page_of c.args.address) (pages_for c.args.length) (rights_of c.args.protection) c.args.memory.now =
+    let memory : c.give.new.self ≡ with_rights_from (page_of c.args.address) (pages_for c.args.length) (rights_of c.args.protection) c.args.memory.now =
     c.give.ensures
-    ∙ ap (λ (r : Rights). given (page_of c.args.address) c.pages_for-count.result r c.args.memory.now) c.rights_of.ensures
-    ∙ ap (λ (n : ℕ). given (page_of c.args.address) n (rights_of c.args.protection) c.args.memory.now) c.pages_for-count.ensures.value in
+    ∙ ap (λ (r : Rights). with_rights_from (page_of c.args.address) c.pages_for-count.result r c.args.memory.now) c.rights_of.ensures
+    ∙ ap (λ (n : ℕ). with_rights_from (page_of c.args.address) n (rights_of c.args.protection) c.args.memory.now) c.pages_for-count.ensures.value in
     ap (λ (m : MemoryMap). let a : Answered = record { answer = pos 0; space = space c.args.self.now m } in a) memory
     ∙ sym (protect-done c.args.address c.args.length c.args.protection (space c.args.self.now c.args.memory.now) c.if-address-ne0.false c.if-length-eq0.false
     (sym c.asks_execute.ensures ∙ c.if-asks_execute.false)

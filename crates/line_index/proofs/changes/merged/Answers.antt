@@ -1,10 +1,10 @@
 use Rattle.std.proofs.Common.{◌≡◌, Some, None}
 use Rattle.line_index.specs.Changes.{next, least}
-use Rattle.line_index.proofs.Merging.{goes_first, goes_on, goes_end, ahead_fewer, joined_none}
+use Rattle.line_index.proofs.Merging.{goes_first, goes_on, goes_end, ahead_fewer, joined_position_none}
 use Rattle.line_index.proofs.changes.merged.Goals as goal
 
 pub loop-address-init : goal.loop-address-init
-loop-address-init c = rw c.new-changes.ensures.items (goes_first c.args.join c.args.first.now c.args.second.now c.requires.first_rises c.requires.second_rises (joined_none c.args.join))
+loop-address-init c = rw c.new-changes.ensures.items (goes_first c.args.join c.args.first.now c.args.second.now c.requires.first_rises c.requires.second_rises (joined_position_none c.args.join))
 
 pub loop-address-preserved : goal.loop-address-preserved
 loop-address-preserved c =
