@@ -38,7 +38,9 @@ fn push_filled_up(out: &mut Vec<u8>, room: u32, bytes: &[u8]) -> Result<(), Allo
 fn both_headers(alloc: Global, assembled: &Assembled, unit: &[u8]) -> Result<Vec<u8>, AllocError>
     requires writable { IsWritable (view assembled.now) }
     requires unit { length unit.now < 2 ^ 33 }
-    ensures { IfOk result (λ v. v.items ≡ file_header assembled.now.entry (headers_place unit.now (view assembled.now)) (segment_count (view assembled.now)) ++ segments (view assembled.now)) }
+    ensures { IfOk result (λ v.
+        v.items ≡ file_header assembled.now.entry (headers_place unit.now (view assembled.now))
+        (segment_count (view assembled.now)) ++ segments (view assembled.now)) }
 {
     let place = headers_place(assembled, unit);
     let mut out = file_header(alloc, assembled.entry, place, segment_count(assembled))?;
@@ -79,8 +81,8 @@ fn file_with(alloc: Global, assembled: &Assembled, unit: &[u8]) -> Result<Vec<u8
     Ok(out)
 }
 
-/// The file that loads as what was assembled, with its line table of version 4 or 5: `name` is the name of the source in it.
-/// Only want of memory stands against it.
+/// The file that loads as what was assembled, with its line table of version 4 or 5:
+/// `name` is the name of the source in it. Only want of memory stands against it.
 #[tactic(auto, unfolding(crate::specs::File::written_file))]
 pub fn write_elf(
     alloc: Global,
@@ -91,10 +93,16 @@ pub fn write_elf(
     requires writable { IsWritable (view assembled.now) }
     requires named { IsName name.now }
     requires version { IsVersion version }
-    ensures bytes { IfOk result (λ v. v.items ≡ written_file (view assembled.now) name.now version) }
-    ensures loads { IsProgram (view assembled.now) → IfOk result (λ v. loaded v.items ≡ Ok (image_of (view assembled.now) v.items)) }
-    ensures line_unit { IsProgram (view assembled.now) → IfOk result (λ v. section v.items (codes ".debug_line") ≡ Some (unit (view assembled.now).lines name.now version)) }
-    ensures lines { IsProgram (view assembled.now) → IfOk result (λ v. option_map (reading (strings [] [])) (section v.items (codes ".debug_line")) ≡ Some (Ok (table_of (view assembled.now).lines name.now version))) }
+    ensures bytes { IfOk result (λ v.
+        v.items ≡ written_file (view assembled.now) name.now version) }
+    ensures loads { IsProgram (view assembled.now)
+        → IfOk result (λ v. loaded v.items ≡ Ok (image_of (view assembled.now) v.items)) }
+    ensures line_unit { IsProgram (view assembled.now)
+        → IfOk result (λ v. section v.items (codes ".debug_line")
+        ≡ Some (unit (view assembled.now).lines name.now version)) }
+    ensures lines { IsProgram (view assembled.now) → IfOk result (λ v.
+        option_map (reading (strings [] [])) (section v.items (codes ".debug_line"))
+        ≡ Some (Ok (table_of (view assembled.now).lines name.now version))) }
 {
     let unit = unit(alloc, assembled.lines.as_slice(), name, version)?;
     file_with(alloc, assembled, unit.as_slice())
