@@ -45,7 +45,10 @@ with_rights page r m = record m { rights = put is_any_right page r m.rights }
 -- so many bytes from an address on have the right
 abbrev pub is_allowed : (Rights → Bool) → MemoryMap → ℕ → ℕ → Bool
 is_allowed right m a zero = true
-is_allowed right m a (suc n) = elim (right (rights_at m a)) [ true ↦ is_allowed right m (a + 1) n | false ↦ false ]
+is_allowed right m a (suc n) = elim (right (rights_at m a)) [
+  | true ↦ is_allowed right m (a + 1) n
+  | false ↦ false
+]
 
 abbrev pub is_readable : MemoryMap → ℕ → ℕ → Bool
 is_readable m a n = is_allowed (λ r. r.read) m a n
@@ -98,7 +101,9 @@ given page (suc n) r m = given (page + 1) n r (with_rights page r m)
 
 -- so many pages from one on are zeros
 abbrev pub zeroed : ℕ → ℕ → MemoryMap → MemoryMap
-zeroed page n m = record m { bytes = without (λ a. nat_le page (page_of a) && nat_lt (page_of a) (page + n)) m.bytes }
+zeroed page n m = record m {
+  bytes = without (λ a. nat_le page (page_of a) && nat_lt (page_of a) (page + n)) m.bytes;
+}
 
 abbrev pub area_bytes : ImageParts → Area → List ℕ
 area_bytes image area = take area.filled (drop area.offset image.file)
@@ -106,7 +111,8 @@ area_bytes image area = take area.filled (drop area.offset image.file)
 -- with a load area of an image
 abbrev pub with_area : ImageParts → MemoryMap → Area → MemoryMap
 with_area image m area =
-    with_bytes area.vaddr (area_bytes image area) (given (page_of area.start) (page_of area.size) area.rights m)
+    with_bytes area.vaddr (area_bytes image area)
+    (given (page_of area.start) (page_of area.size) area.rights m)
 
 abbrev pub empty_memory : ImageParts → Layout → MemoryMap
 empty_memory image layout = record { image = image; layout = layout; rights = []; bytes = [] }
