@@ -22,7 +22,9 @@ is_rooted (b ∷ bs) = b == 47
 
 -- its name, behind its directory and a slash where it has one and doesn't begin at the root itself
 abbrev pub joined : File → List ℕ
-joined file = if is_empty file.directory || is_rooted file.name then file.name else file.directory ++ 47 ∷ file.name
+joined file =
+    if is_empty file.directory || is_rooted file.name then file.name
+    else file.directory ++ 47 ∷ file.name
 
 -- the written path of a file
 abbrev pub path : File → List ℕ
@@ -36,11 +38,17 @@ entry_path file = if is_empty (path file) then None else Some (path file)
 
 -- the address of the next row of the sequence
 abbrev pub next_address : ℕ → List Row → Option ℕ
-next_address sequence later = option_map (λ (next : Row). next.address) (find (λ (next : Row). next.sequence == sequence) later)
+next_address sequence later =
+    option_map (λ (next : Row). next.address)
+    (find (λ (next : Row). next.sequence == sequence) later)
 
--- a row covers the addresses from its own up to that of the next row of its sequence, which is not among them
+-- a row covers the addresses from its own up to that of the next row of its sequence,
+-- which is not among them
 abbrev pub covers : ℕ → Row → List Row → Bool
-covers a row later = elim (next_address row.sequence later) [ Some end ↦ nat_le row.address a && nat_lt a end | None ↦ false ]
+covers a row later = elim (next_address row.sequence later) [
+  | Some end ↦ nat_le row.address a && nat_lt a end
+  | None ↦ false
+]
 
 abbrev pub first_covering : ℕ → List Row → Option Row
 first_covering a [] = None
@@ -53,18 +61,26 @@ numbered number path = record { path = path; number = number }
 abbrev pub line_of_row : List File → Row → Option Line
 line_of_row files row =
     if row.line == 0 then None
-    else option_and_then (λ k. option_and_then (λ file. option_map (numbered row.line) (entry_path file)) (slice_get files k)) row.file
+    else option_and_then (λ k.
+    option_and_then (λ file. option_map (numbered row.line) (entry_path file))
+    (slice_get files k)) row.file
 
 abbrev pub is_executable : List Area → ℕ → Bool
-is_executable areas a = list_any (λ (area : Area). area.rights.execute && (nat_le area.start a && nat_lt a (area.start + area.size))) areas
+is_executable areas a =
+    list_any (λ (area : Area).
+    area.rights.execute && (nat_le area.start a && nat_lt a (area.start + area.size))) areas
 
 -- the line of an address, if it has one
 unfoldable pub line_of : Table → List Area → ℕ → Option Line
-line_of table areas a = if is_executable areas a then option_and_then (line_of_row table.files) (first_covering a table.rows) else None
+line_of table areas a =
+    if is_executable areas a
+    then option_and_then (line_of_row table.files) (first_covering a table.rows)
+    else None
 
 -- the address has the line, and the address before it has not
 abbrev pub Begins : Table → List Area → Line → ℕ → Type 0
-Begins table areas line a = (line_of table areas a ≡ Some line) × ((b : ℕ) → suc b ≡ a → line_of table areas b ≢ Some line)
+Begins table areas line a =
+    (line_of table areas a ≡ Some line) × ((b : ℕ) → suc b ≡ a → line_of table areas b ≢ Some line)
 
 -- ---- labels
 
@@ -97,4 +113,6 @@ is_line_below text number line = line.number == number && ends_with line.path te
 
 -- where in a list of lines in order: that of the path, else the first whose path ends with it
 abbrev pub found : List ℕ → ℕ → List Line → Option ℕ
-found text number lines = or_else (position (is_line_named text number) lines) (position (is_line_below text number) lines)
+found text number lines =
+    or_else (position (is_line_named text number) lines)
+    (position (is_line_below text number) lines)

@@ -36,7 +36,8 @@ fn add_start(
     change: Change,
 ) -> Result<(), AllocError>
     requires { IsBelow (length lists.old.items) change }
-    ensures { OnOk result (texts lists.new.items ≡ with_start before change (texts lists.old.items)) }
+    ensures { OnOk result
+        (texts lists.new.items ≡ with_start before change (texts lists.old.items)) }
 {
     match change.position {
         Some(line) => {

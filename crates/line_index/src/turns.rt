@@ -16,7 +16,8 @@ fn add_turn(
     address: Address,
 ) -> Result<(), AllocError>
     requires { IfSome position (λ line. line < length lists.old.items) }
-    ensures { OnOk result (texts lists.new.items ≡ with_turn position address (texts lists.old.items)) }
+    ensures { OnOk result
+        (texts lists.new.items ≡ with_turn position address (texts lists.old.items)) }
 {
     match position {
         Some(line) => {
@@ -36,7 +37,10 @@ fn add_turns(
     requires before { IfSome before (λ line. line < length lists.old.items) }
     requires change { IsBelow (length lists.old.items) change }
     ensures as_many { OnOk result (length lists.new.items ≡ length lists.old.items) }
-    ensures added { OnOk result ((k : ℕ) → get_or (texts lists.new.items) k [] ≡ get_or (texts lists.old.items) k [] ++ (if differ (is_at k before) (is_at k change.position) then change.address ∷ [] else [])) }
+    ensures added { OnOk result
+        ((k : ℕ) → get_or (texts lists.new.items) k [] ≡ get_or (texts lists.old.items) k []
+        ++ (if differ (is_at k before) (is_at k change.position) then change.address ∷ []
+        else [])) }
 {
     if before == change.position {
         return Ok(());
@@ -53,7 +57,8 @@ pub fn turns(
     count: usize,
 ) -> Result<Vec<Vec<Address>>, AllocError>
     requires { All (IsBelow count) changes.now }
-    ensures { IfOk result (λ lists. (k : ℕ) → get_or (texts lists.items) k [] ≡ turns k None changes.now) }
+    ensures { IfOk result (λ lists.
+        (k : ℕ) → get_or (texts lists.items) k [] ≡ turns k None changes.now) }
 {
     let mut lists = empty_lists(alloc, count)?;
     let mut before = None;
@@ -64,7 +69,8 @@ pub fn turns(
     Ok(lists)
 }
 
-/// An address lies behind a beginning and before the end that follows: it has passed an odd number of turns.
+/// An address lies behind a beginning and before the end that follows: it has passed
+/// an odd number of turns.
 #[inline]
 pub fn is_within(turns: &[Address], address: Address) -> bool
     requires { Rises 0 turns.now }
