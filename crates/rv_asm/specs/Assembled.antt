@@ -31,7 +31,8 @@ pub record Put : Type 0 where
   pub place : Place
   pub piece : Piece
 
--- the places of the labels by their names, the section and how long each one is, and the pieces in the order of the source
+-- the places of the labels by their names, the section and how long each one is, and the pieces
+-- in the order of the source
 pub record State : Type 0 where
   pub labels : List ℕ → Option Place
   pub section : Section
@@ -57,17 +58,23 @@ with_label name column s =
     else Ok (record s { labels = update bytes_eq s.labels name (Some (next_place s)) })
 
 abbrev pub grown : ℕ → State → State
-grown n s = elim (s.section) [ sections.Text ↦ record s { text = s.text + n } | sections.Data ↦ record s { content = s.content + n } ]
+grown n s = elim (s.section) [
+  | sections.Text ↦ record s { text = s.text + n }
+  | sections.Data ↦ record s { content = s.content + n }
+]
 
 abbrev pub with_piece : ℕ → ℕ → Piece → State → Read State
 with_piece line column piece s =
     if nat_lt 1048576 (here s + size piece) then wrong kinds.Much column
-    else Ok (grown (size piece) (record s { puts = s.puts ++ record { line = line; place = next_place s; piece = piece } ∷ [] }))
+    else Ok (grown (size piece) (record s {
+      puts = s.puts ++ record { line = line; place = next_place s; piece = piece } ∷ [];
+    }))
 
 -- one after the other
 unfoldable pub with_pieces : ℕ → ℕ → List Piece → State → Read State
 with_pieces line column [] s = Ok s
-with_pieces line column (piece ∷ pieces) s = with_piece line column piece s >>= λ more. with_pieces line column pieces more
+with_pieces line column (piece ∷ pieces) s =
+    with_piece line column piece s >>= λ more. with_pieces line column pieces more
 
 -- the least multiple that isn't below n
 abbrev pub up_to_multiple : ℕ → ℕ → ℕ
@@ -75,7 +82,8 @@ up_to_multiple m n = (n + (m - 1)) / m * m
 
 abbrev pub done : ℕ → ℕ → Statement → State → Read State
 done line column (Puts pieces) s = with_pieces line column pieces s
-done line column (Aligns bits) s = with_piece line column (Zeros (up_to_multiple (2 ^ bits) (here s) - here s)) s
+done line column (Aligns bits) s =
+    with_piece line column (Zeros (up_to_multiple (2 ^ bits) (here s) - here s)) s
 done line column (Enters section) s = Ok (record s { section = section })
 
 abbrev pub may_stand : Option Section → Section → Bool
@@ -154,7 +162,10 @@ take_lines n (line ∷ more) s = at_line n (take_line n line s) >>= λ t. take_l
 
 -- data begins at the first page that isn't below the text's end
 abbrev pub address : State → Place → ℕ
-address s p = elim (p.section) [ sections.Text ↦ 0x10000 + p.offset | sections.Data ↦ 0x10000 + up_to_multiple 4096 s.text + p.offset ]
+address s p = elim (p.section) [
+  | sections.Text ↦ 0x10000 + p.offset
+  | sections.Data ↦ 0x10000 + up_to_multiple 4096 s.text + p.offset
+]
 
 abbrev pub address_in : State → ℕ → Option Place → Read ℕ
 address_in s column None = wrong kinds.Missing column
@@ -167,20 +178,25 @@ target s label = address_in s label.column (s.labels label.name)
 abbrev pub reach : State → ℕ → Use → ℕ → Read ℤ
 reach s bits label from = do
   a ← target s label
-  let far = pos a -ℤ pos from in if is_signed bits far && is_even far then Ok far else wrong kinds.Far label.column
+  let far = pos a -ℤ pos from in
+      if is_signed bits far && is_even far then Ok far
+      else wrong kinds.Far label.column
 
 abbrev pub word : Instr → List ℕ
 word i = to_le_bytes w32 (word_of i)
 
 -- an address as auipc and addi make it
 unfoldable pub load_address : ℕ → ℤ → List ℕ
-load_address rd far = word (instr.Upper Auipc rd (upper far)) ++ word (instr.Imm Addi rd rd (lower far))
+load_address rd far =
+    word (instr.Upper Auipc rd (upper far)) ++ word (instr.Imm Addi rd rd (lower far))
 
 abbrev pub bytes_at : State → ℕ → Piece → Read (List ℕ)
 bytes_at s from (Encoded w) = Ok (to_le_bytes w32 w)
-bytes_at s from (BranchTo op rs1 rs2 label) = reach s 13 label from >>= λ far. Ok (word (instr.Branch op rs1 rs2 far))
+bytes_at s from (BranchTo op rs1 rs2 label) =
+    reach s 13 label from >>= λ far. Ok (word (instr.Branch op rs1 rs2 far))
 bytes_at s from (JumpTo rd label) = reach s 21 label from >>= λ far. Ok (word (instr.Jal rd far))
-bytes_at s from (AddressTo rd label) = target s label >>= λ a. Ok (load_address rd (pos a -ℤ pos from))
+bytes_at s from (AddressTo rd label) =
+    target s label >>= λ a. Ok (load_address rd (pos a -ℤ pos from))
 bytes_at s from (AddressOf label) = target s label >>= λ a. Ok (to_le_bytes w64 a)
 bytes_at s from (Bytes bytes) = Ok bytes
 bytes_at s from (Zeros count) = Ok (replicate count 0)
@@ -192,7 +208,9 @@ pub record Filled : Type 0 where
   pub bytes : List ℕ
 
 abbrev pub filled : State → Put → Result Filled AsmFault
-filled s p = at_line p.line (bytes_at s (address s p.place) p.piece) >>= λ bytes. Ok (record { section = p.place.section; line = p.line; bytes = bytes })
+filled s p =
+    at_line p.line (bytes_at s (address s p.place) p.piece) >>= λ bytes.
+    Ok (record { section = p.place.section; line = p.line; bytes = bytes })
 
 unfoldable pub all_filled : State → List Put → Result (List Filled) AsmFault
 all_filled s [] = Ok []
@@ -243,7 +261,8 @@ program s fs = record {
   entry = entry s;
 }
 
--- what every source without a fault stands for: some words, each with its line, and the entry at one of them
+-- what every source without a fault stands for: some words, each with its line,
+-- and the entry at one of them
 pub record IsProgram (p : Program) : Type 0 where
   pub some : 0 < length p.text
   pub text_fits : length p.text ≤ 1048576
@@ -258,7 +277,8 @@ unfoldable pub assembled : List ℕ → Result Program AsmFault
 assembled source = do
   s ← take_lines 1 (lines source) start
   fs ← all_filled s s.puts
-  if s.text == 0 then Err (record { kind = kinds.Empty; line = 1; column = 1 }) else Ok (program s fs)
+  if s.text == 0 then Err (record { kind = kinds.Empty; line = 1; column = 1 })
+      else Ok (program s fs)
 
 -- ---- what a call answered
 

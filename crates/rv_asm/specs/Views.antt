@@ -28,7 +28,8 @@ use Rattle.std.specs.BTreeMap.{BTreeMap, get_by}
 use Rattle.std.specs.Cmp.Lexicographic.{slice_cmp}
 use Rattle.std.specs.Ordering.{nat_cmp}
 
--- What was done: now this is what is read of the line, or the line has a fault, unless memory ran out.
+-- What was done: now this is what is read of the line, or the line has a fault,
+-- unless memory ran out.
 abbrev pub Steps : {U A : Type 0} → Result U LineError → A → Read A → Type 0
 Steps (Ok u) new read = read ≡ Ok new
 Steps (Err e) new read = FailsLine e read
@@ -40,13 +41,16 @@ use_of u = record { name = u.name.now; column = u.column }
 abbrev pub left : Operands → List Placed
 left operands = all_placed (drop operands.next operands.tokens.now)
 
--- What was answered is taken of the old operands, and the new ones are left of the same line, unless memory ran out.
-abbrev pub Takes : {X A : Type 0} → (X → A) → Result X LineError → Operands → Operands → Taking A → Type 0
+-- What was answered is taken of the old operands, and the new ones are left of the same line,
+-- unless memory ran out.
+abbrev pub Takes : {X A : Type 0} → (X → A) → Result X LineError → Operands
+    → Operands → Taking A → Type 0
 Takes view (Ok x) old new taking = (taking ≡ Ok (view x, left new)) × (new.end ≡ old.end)
 Takes view (Err e) old new taking = FailsLine e taking
 
 -- the same where nothing is answered
-abbrev pub Passes : {U : Type 0} → Result U LineError → Operands → Operands → Read (List Placed) → Type 0
+abbrev pub Passes : {U : Type 0} → Result U LineError → Operands → Operands
+    → Read (List Placed) → Type 0
 Passes (Ok u) old new passing = (passing ≡ Ok (left new)) × (new.end ≡ old.end)
 Passes (Err e) old new passing = FailsLine e passing
 
@@ -88,17 +92,25 @@ abbrev pub labels_of : BTreeMap (Bor (List ℕ)) Place → List ℕ → Option P
 labels_of labels name = get_by (λ k. slice_cmp nat_cmp name k.now) labels
 
 abbrev pub state_of : CodeState → State
-state_of s = record { labels = labels_of s.labels; section = s.section; text = s.text; content = s.content; puts = map put_of s.puts.items }
+state_of s = record {
+  labels = labels_of s.labels;
+  section = s.section;
+  text = s.text;
+  content = s.content;
+  puts = map put_of s.puts.items;
+}
 
 -- the label that a colon ends, if one begins there
 abbrev pub label_front : List Placed → Option Use
 label_front [] = None
 label_front (t ∷ []) = None
-label_front (t ∷ c ∷ ts) = option_map (λ name. record { name = name; column = t.column }) (label_in t.token c.token)
+label_front (t ∷ c ∷ ts) =
+    option_map (λ name. record { name = name; column = t.column }) (label_in t.token c.token)
 
 abbrev pub error_at : ℕ → LineError → AsmError
 error_at line errors.Memory = faults.Memory
-error_at line (errors.Fault kind column) = faults.Fault (record { kind = kind; line = line; column = column })
+error_at line (errors.Fault kind column) =
+    faults.Fault (record { kind = kind; line = line; column = column })
 
 -- ---- after all lines
 
@@ -117,8 +129,16 @@ parts_of f = record { text = f.text.items; content = f.content.items; lines = f.
 -- with the bytes of one more piece
 abbrev pub with_filled : Parts → Filled → Parts
 with_filled parts f = elim (f.section) [
-  | sections.Text ↦ record { text = parts.text ++ f.bytes; content = parts.content; lines = parts.lines ++ replicate (length f.bytes / 4) f.line }
-  | sections.Data ↦ record { text = parts.text; content = parts.content ++ f.bytes; lines = parts.lines }
+  | sections.Text ↦ record {
+    text = parts.text ++ f.bytes;
+    content = parts.content;
+    lines = parts.lines ++ replicate (length f.bytes / 4) f.line;
+  }
+  | sections.Data ↦ record {
+    text = parts.text;
+    content = parts.content ++ f.bytes;
+    lines = parts.lines;
+  }
 ]
 
 abbrev pub then_filled : Parts → Result Filled AsmFault → Result Parts AsmFault
@@ -126,11 +146,23 @@ then_filled parts read = read >>= λ f. Ok (with_filled parts f)
 
 -- the parts that these make together
 abbrev pub all_parts : Result (List Filled) AsmFault → Result Parts AsmFault
-all_parts read = read >>= λ fs. Ok (record { text = joined (text_of fs); content = joined (content_of fs); lines = lines_of fs })
+all_parts read =
+    read >>= λ fs.
+    Ok (record {
+      text = joined (text_of fs);
+      content = joined (content_of fs);
+      lines = lines_of fs;
+    })
 
 -- behind these parts
 abbrev pub filled_on : Parts → Result (List Filled) AsmFault → Result Parts AsmFault
-filled_on parts read = read >>= λ fs. Ok (record { text = parts.text ++ joined (text_of fs); content = parts.content ++ joined (content_of fs); lines = parts.lines ++ lines_of fs })
+filled_on parts read =
+    read >>= λ fs.
+    Ok (record {
+      text = parts.text ++ joined (text_of fs);
+      content = parts.content ++ joined (content_of fs);
+      lines = parts.lines ++ lines_of fs;
+    })
 
 -- What was done: now this is what is read, or the source has a fault, unless memory ran out.
 abbrev pub StepsAll : {U A : Type 0} → Result U AsmError → A → Result A AsmFault → Type 0

@@ -25,7 +25,8 @@ use std::alloc::{AllocError, Global};
 
 /// This statement, if nothing is left.
 fn whole<'s>(operands: Operands<'_, 's>, what: Statement<'s>) -> Result<Statement<'s>, LineError>
-    ensures value { GivesLine statement_of result (whole operands.entry.end (statement_of what.entry) (left operands.entry)) }
+    ensures value { GivesLine statement_of result
+        (whole operands.entry.end (statement_of what.entry) (left operands.entry)) }
     ensures same { IfOk result (λ x. x ≡ what.entry) }
 {
     operands.finish()?;
@@ -38,7 +39,8 @@ fn puts<'s>(
     operands: Operands<'_, 's>,
     piece: Piece<'s>,
 ) -> Result<Statement<'s>, LineError>
-    ensures value { GivesLine statement_of result (puts operands.entry.end (piece_of piece.entry ∷ []) (left operands.entry)) }
+    ensures value { GivesLine statement_of result
+        (puts operands.entry.end (piece_of piece.entry ∷ []) (left operands.entry)) }
     ensures within { IfOk result AlignsWithin }
 {
     let pieces = vec![in alloc; piece]?;
@@ -52,7 +54,8 @@ fn one<'s>(
     instr: Instr,
 ) -> Result<Statement<'s>, LineError>
     requires { InRange instr }
-    ensures value { GivesLine statement_of result (one operands.entry.end instr (left operands.entry)) }
+    ensures value { GivesLine statement_of result
+        (one operands.entry.end instr (left operands.entry)) }
     ensures within { IfOk result AlignsWithin }
 {
     puts(alloc, operands, Piece::Encoded(encode(instr)))
@@ -65,7 +68,8 @@ fn register_form<'s>(
     op: RegOp,
     mut operands: Operands<'_, 's>,
 ) -> Result<Statement<'s>, LineError>
-    ensures value { GivesLine statement_of result (statement operands.entry.end (forms.Register op) (left operands.entry)) }
+    ensures value { GivesLine statement_of result
+        (statement operands.entry.end (forms.Register op) (left operands.entry)) }
     ensures within { IfOk result AlignsWithin }
 {
     let rd = operands.register()?;
@@ -87,7 +91,8 @@ fn immediate_form<'s>(
     op: ImmOp,
     mut operands: Operands<'_, 's>,
 ) -> Result<Statement<'s>, LineError>
-    ensures value { GivesLine statement_of result (statement operands.entry.end (forms.Immediate op) (left operands.entry)) }
+    ensures value { GivesLine statement_of result
+        (statement operands.entry.end (forms.Immediate op) (left operands.entry)) }
     ensures within { IfOk result AlignsWithin }
 {
     let rd = operands.register()?;
@@ -119,7 +124,8 @@ fn shift_form<'s>(
     op: ShiftOp,
     mut operands: Operands<'_, 's>,
 ) -> Result<Statement<'s>, LineError>
-    ensures value { GivesLine statement_of result (statement operands.entry.end (forms.Shift op) (left operands.entry)) }
+    ensures value { GivesLine statement_of result
+        (statement operands.entry.end (forms.Shift op) (left operands.entry)) }
     ensures within { IfOk result AlignsWithin }
 {
     let rd = operands.register()?;
@@ -141,7 +147,8 @@ fn load_form<'s>(
     op: LoadOp,
     mut operands: Operands<'_, 's>,
 ) -> Result<Statement<'s>, LineError>
-    ensures value { GivesLine statement_of result (statement operands.entry.end (forms.Load op) (left operands.entry)) }
+    ensures value { GivesLine statement_of result
+        (statement operands.entry.end (forms.Load op) (left operands.entry)) }
     ensures within { IfOk result AlignsWithin }
 {
     let rd = operands.register()?;
@@ -159,7 +166,8 @@ fn load_form<'s>(
 /// `jalr rd, n(rs1)`
 #[tactic(auto, unfolding(crate::specs::Statements::statement))]
 fn jalr_form<'s>(alloc: Global, mut operands: Operands<'_, 's>) -> Result<Statement<'s>, LineError>
-    ensures value { GivesLine statement_of result (statement operands.entry.end forms.Jalr (left operands.entry)) }
+    ensures value { GivesLine statement_of result
+        (statement operands.entry.end forms.Jalr (left operands.entry)) }
     ensures within { IfOk result AlignsWithin }
 {
     let rd = operands.register()?;
@@ -180,7 +188,8 @@ fn store_form<'s>(
     op: StoreOp,
     mut operands: Operands<'_, 's>,
 ) -> Result<Statement<'s>, LineError>
-    ensures value { GivesLine statement_of result (statement operands.entry.end (forms.Store op) (left operands.entry)) }
+    ensures value { GivesLine statement_of result
+        (statement operands.entry.end (forms.Store op) (left operands.entry)) }
     ensures within { IfOk result AlignsWithin }
 {
     let rs2 = operands.register()?;
@@ -202,7 +211,8 @@ fn branch_form<'s>(
     op: BranchOp,
     mut operands: Operands<'_, 's>,
 ) -> Result<Statement<'s>, LineError>
-    ensures value { GivesLine statement_of result (statement operands.entry.end (forms.Branch op) (left operands.entry)) }
+    ensures value { GivesLine statement_of result
+        (statement operands.entry.end (forms.Branch op) (left operands.entry)) }
     ensures within { IfOk result AlignsWithin }
 {
     let rs1 = operands.register()?;
@@ -220,7 +230,8 @@ fn branch_form<'s>(
 /// `jal rd, label`
 #[tactic(auto, unfolding(crate::specs::Statements::statement))]
 fn jal_form<'s>(alloc: Global, mut operands: Operands<'_, 's>) -> Result<Statement<'s>, LineError>
-    ensures value { GivesLine statement_of result (statement operands.entry.end forms.Jal (left operands.entry)) }
+    ensures value { GivesLine statement_of result
+        (statement operands.entry.end forms.Jal (left operands.entry)) }
     ensures within { IfOk result AlignsWithin }
 {
     let rd = operands.register()?;
@@ -235,7 +246,8 @@ fn upper_form<'s>(
     op: UpperOp,
     mut operands: Operands<'_, 's>,
 ) -> Result<Statement<'s>, LineError>
-    ensures value { GivesLine statement_of result (statement operands.entry.end (forms.Upper op) (left operands.entry)) }
+    ensures value { GivesLine statement_of result
+        (statement operands.entry.end (forms.Upper op) (left operands.entry)) }
     ensures within { IfOk result AlignsWithin }
 {
     let rd = operands.register()?;
@@ -275,7 +287,8 @@ fn atomic_form<'s>(
     order: Order,
     mut operands: Operands<'_, 's>,
 ) -> Result<Statement<'s>, LineError>
-    ensures value { GivesLine statement_of result (statement operands.entry.end (forms.Atomic op width order) (left operands.entry)) }
+    ensures value { GivesLine statement_of result
+        (statement operands.entry.end (forms.Atomic op width order) (left operands.entry)) }
     ensures within { IfOk result AlignsWithin }
 {
     let rd = operands.register()?;
@@ -323,7 +336,8 @@ fn instruction_alone(name: Alone) -> Instr
 /// `mv rd, rs`
 #[tactic(auto, unfolding(crate::specs::Statements::statement))]
 fn move_form<'s>(alloc: Global, mut operands: Operands<'_, 's>) -> Result<Statement<'s>, LineError>
-    ensures value { GivesLine statement_of result (statement operands.entry.end forms.Move (left operands.entry)) }
+    ensures value { GivesLine statement_of result
+        (statement operands.entry.end forms.Move (left operands.entry)) }
     ensures within { IfOk result AlignsWithin }
 {
     let rd = operands.register()?;
@@ -340,7 +354,8 @@ fn move_form<'s>(alloc: Global, mut operands: Operands<'_, 's>) -> Result<Statem
 /// `j label`
 #[tactic(auto, unfolding(crate::specs::Statements::statement))]
 fn jump_form<'s>(alloc: Global, mut operands: Operands<'_, 's>) -> Result<Statement<'s>, LineError>
-    ensures value { GivesLine statement_of result (statement operands.entry.end forms.Jump (left operands.entry)) }
+    ensures value { GivesLine statement_of result
+        (statement operands.entry.end forms.Jump (left operands.entry)) }
     ensures within { IfOk result AlignsWithin }
 {
     let label = operands.name()?;
@@ -387,7 +402,8 @@ fn load_upper(rd: u8, value: u32) -> u32
     encode(instr)
 }
 
-/// The instructions that put a number into a register: one where it has 12 bits with its sign, else two.
+/// The instructions that put a number into a register: one where it has 12 bits
+/// with its sign, else two.
 fn load_number<'s>(alloc: Global, rd: u8, value: i128) -> Result<Vec<Piece<'s>>, AllocError>
     requires register { rd < 32 }
     requires low { neg_ℤ (pos (2 ^ 31)) ≤ℤ value }
@@ -408,7 +424,8 @@ fn load_number_form<'s>(
     alloc: Global,
     mut operands: Operands<'_, 's>,
 ) -> Result<Statement<'s>, LineError>
-    ensures value { GivesLine statement_of result (statement operands.entry.end forms.LoadNumber (left operands.entry)) }
+    ensures value { GivesLine statement_of result
+        (statement operands.entry.end forms.LoadNumber (left operands.entry)) }
     ensures within { IfOk result AlignsWithin }
 {
     let rd = operands.register()?;
@@ -424,7 +441,8 @@ fn load_address_form<'s>(
     alloc: Global,
     mut operands: Operands<'_, 's>,
 ) -> Result<Statement<'s>, LineError>
-    ensures value { GivesLine statement_of result (statement operands.entry.end forms.LoadAddress (left operands.entry)) }
+    ensures value { GivesLine statement_of result
+        (statement operands.entry.end forms.LoadAddress (left operands.entry)) }
     ensures within { IfOk result AlignsWithin }
 {
     let rd = operands.register()?;
@@ -438,7 +456,8 @@ fn global_form<'s>(
     alloc: Global,
     mut operands: Operands<'_, 's>,
 ) -> Result<Statement<'s>, LineError>
-    ensures value { GivesLine statement_of result (statement operands.entry.end forms.Global (left operands.entry)) }
+    ensures value { GivesLine statement_of result
+        (statement operands.entry.end forms.Global (left operands.entry)) }
     ensures within { IfOk result AlignsWithin }
 {
     operands.name()?;
@@ -448,7 +467,8 @@ fn global_form<'s>(
 /// `.ascii "text"`
 #[tactic(auto, unfolding(crate::specs::Statements::statement))]
 fn ascii_form<'s>(alloc: Global, mut operands: Operands<'_, 's>) -> Result<Statement<'s>, LineError>
-    ensures value { GivesLine statement_of result (statement operands.entry.end forms.Ascii (left operands.entry)) }
+    ensures value { GivesLine statement_of result
+        (statement operands.entry.end forms.Ascii (left operands.entry)) }
     ensures within { IfOk result AlignsWithin }
 {
     let bytes = operands.text()?;
@@ -459,7 +479,8 @@ fn ascii_form<'s>(alloc: Global, mut operands: Operands<'_, 's>) -> Result<State
 /// `.zero n`
 #[tactic(auto, unfolding(crate::specs::Statements::statement))]
 fn zeros_form<'s>(alloc: Global, mut operands: Operands<'_, 's>) -> Result<Statement<'s>, LineError>
-    ensures value { GivesLine statement_of result (statement operands.entry.end forms.Zeros (left operands.entry)) }
+    ensures value { GivesLine statement_of result
+        (statement operands.entry.end forms.Zeros (left operands.entry)) }
     ensures within { IfOk result AlignsWithin }
 {
     let count = operands.number_up_to(1_048_576)?;
@@ -469,7 +490,8 @@ fn zeros_form<'s>(alloc: Global, mut operands: Operands<'_, 's>) -> Result<State
 /// `.align n`
 #[tactic(auto, unfolding(crate::specs::Statements::statement))]
 fn align_form<'s>(mut operands: Operands<'_, 's>) -> Result<Statement<'s>, LineError>
-    ensures value { GivesLine statement_of result (statement operands.entry.end forms.Align (left operands.entry)) }
+    ensures value { GivesLine statement_of result
+        (statement operands.entry.end forms.Align (left operands.entry)) }
     ensures within { IfOk result AlignsWithin }
 {
     let bits = operands.number_up_to(12)?;
@@ -478,7 +500,8 @@ fn align_form<'s>(mut operands: Operands<'_, 's>) -> Result<Statement<'s>, LineE
 
 /// The bytes of a number of this size.
 fn number_bytes(alloc: Global, size: Size, value: i128) -> Result<Vec<u8>, AllocError>
-    ensures { IfOk result (λ v. v.items ≡ bytes_low_first 0 (bytes_of size) (twos (8 * bytes_of size) value)) }
+    ensures { IfOk result (λ v.
+        v.items ≡ bytes_low_first 0 (bytes_of size) (twos (8 * bytes_of size) value)) }
 {
     match size {
         Size::One => Ok(vec![in alloc; low_bits(value, 8) as u8]?),
@@ -489,7 +512,8 @@ fn number_bytes(alloc: Global, size: Size, value: i128) -> Result<Vec<u8>, Alloc
 
 /// Whether a number of this size, with or without a sign, can be this.
 fn is_in_size(size: Size, value: i128) -> bool
-    ensures { result ≡ is_within (neg_ℤ (pos (2 ^ (8 * bytes_of size - 1)))) (pos (2 ^ (8 * bytes_of size) - 1)) value }
+    ensures { result ≡ is_within (neg_ℤ (pos (2 ^ (8 * bytes_of size - 1))))
+        (pos (2 ^ (8 * bytes_of size) - 1)) value }
 {
     match size {
         Size::One => -0x80 <= value && value <= 0xFF,
@@ -554,7 +578,8 @@ fn items<'s>(
     size: Size,
     tokens: &[Placed<'s>],
 ) -> Result<Vec<Piece<'s>>, LineError>
-    ensures { GivesLine (λ v. map piece_of v.items) result (items end size (all_placed tokens.now)) }
+    ensures { GivesLine (λ v. map piece_of v.items) result
+        (items end size (all_placed tokens.now)) }
 {
     let mut pieces = Vec::new(alloc);
     let mut place = 0;
@@ -578,7 +603,8 @@ fn numbers_form<'s>(
     size: Size,
     tokens: &[Placed<'s>],
 ) -> Result<Statement<'s>, LineError>
-    ensures value { GivesLine statement_of result (statement end (forms.Numbers size) (all_placed tokens.now)) }
+    ensures value { GivesLine statement_of result
+        (statement end (forms.Numbers size) (all_placed tokens.now)) }
     ensures within { IfOk result AlignsWithin }
 {
     let pieces = items(alloc, end, size, tokens)?;

@@ -17,7 +17,8 @@ pub use asm_tokens::AsmKind;
 use coz_lists::Items;
 use std::alloc::Global;
 
-/// A fault, and where in the source it is: its line and the column of its first byte, both counted from 1.
+/// A fault, and where in the source it is: its line and the column of its first byte,
+/// both counted from 1.
 #[derive(Clone, Copy, Debug, PartialEq, Eq)]
 pub struct AsmFault {
     /// What is wrong.
