@@ -50,13 +50,17 @@ experiment_from first position point choice = record {
 }
 
 -- the run of an image on an input
-abbrev pub experiment : ImageParts → (ℕ → Option ℕ) → (ℕ → Option ℕ) → List ℕ → Choice → Experiment Guest
+abbrev pub experiment : ImageParts → (ℕ → Option ℕ) → (ℕ → Option ℕ) → List ℕ
+    → Choice → Experiment Guest
 experiment image position point input choice =
-    experiment_from (first_guest image input choice.output_limit choice.layout) position point choice
+    experiment_from (first_guest image input choice.output_limit choice.layout)
+    position point choice
 
 -- in a setting, the guest of a run
 abbrev pub experiment_in : Setting → Guest → Experiment Guest
-experiment_in setting first = experiment_from first (position_at setting.index.now) (point_of setting.points.now) setting.choice
+experiment_in setting first =
+    experiment_from first (position_at setting.index.now)
+    (point_of setting.points.now) setting.choice
 
 -- whether an address has the selected line
 abbrev pub selects : Setting → ℕ → Bool
@@ -74,7 +78,8 @@ selected_of setting g = filter (λ hart. selects setting (pc_of g hart))
 abbrev pub events_of : Run → ℕ
 events_of run = run.retired + run.wakes
 
--- the state of the shortened machine that the code's fields stand for, with these moments at which harts are due
+-- the state of the shortened machine that the code's fields stand for, with these moments
+-- at which harts are due
 abbrev pub state_of : Run → List (Option ℕ) → Shortened Guest
 state_of run dues = record {
   time = run.time;
@@ -125,8 +130,10 @@ pub record IsReached (x : Experiment Guest) (run : Run) : Type 0 where
   pub within : AreWithin (10 ^ 16 + 4000 * (events_of run + 1)) run.schedule
 
 -- as the run of an image on an input begins
-pub record IsFirst (setting : Setting) (image : ImageParts) (input : List ℕ) (run : Run) : Type 0 where
-  pub reached : IsReached (experiment_in setting (first_guest image input setting.choice.output_limit setting.choice.layout)) run
+pub record IsFirst (setting : Setting) (image : ImageParts) (input : List ℕ)
+    (run : Run) : Type 0 where
+  pub reached : IsReached (experiment_in setting
+      (first_guest image input setting.choice.output_limit setting.choice.layout)) run
   pub retired : run.retired ≡ 0
   pub wakes : run.wakes ≡ 0
   pub ending : run.ending ≡ None

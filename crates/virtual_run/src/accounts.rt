@@ -15,7 +15,8 @@ use coz_types::{HartId, Tick};
 use delay_credits::Credits;
 use guest_calls::{Fate, Guest};
 
-/// Each of these harts is credited with what its total lacks of its waker's, which is all that was raised.
+/// Each of these harts is credited with what its total lacks of its waker's,
+/// which is all that was raised.
 fn credit_each(credits: &mut Credits, harts: &[HartId], waker: HartId)
     requires rest { AllRest credits.old (map (λ hart. hart.0) harts.now) }
     requires waker_below { waker.0 < length credits.old.harts }
@@ -31,7 +32,8 @@ fn credit_each(credits: &mut Credits, harts: &[HartId], waker: HartId)
 fn start_again(credits: &mut Credits, hart: HartId, fate: Fate, now: Tick)
     requires below { IsTrue (goes_on fate) → hart.0 < length credits.old.harts }
     requires now { credits.old.latest ≡ now }
-    ensures { credits.new ≡ (if goes_on fate then with_starts (hart.0 ∷ []) credits.old else credits.old) }
+    ensures { credits.new
+        ≡ (if goes_on fate then with_starts (hart.0 ∷ []) credits.old else credits.old) }
 {
     if let Fate::Goes = fate {
         credits.start(hart, now);
@@ -49,7 +51,8 @@ fn start_each(credits: &mut Credits, harts: &[HartId], now: Tick)
     }
 }
 
-/// The ticks by which a hart's next instruction raises the delay where it is selected, at a speedup in per cent.
+/// The ticks by which a hart's next instruction raises the delay where it is selected,
+/// at a speedup in per cent.
 pub fn raised_by(guest: &Guest, hart: HartId, speedup: u8) -> Tick
     requires made { IsMade guest.now hart.0 }
     requires speedup { speedup ≤ GREATEST_SPEEDUP }
@@ -67,7 +70,8 @@ pub fn raise_harts(credits: &mut Credits, guest: &Guest, harts: &[HartId], speed
     requires speedup { speedup ≤ GREATEST_SPEEDUP }
     requires now { credits.old.latest ≡ now }
     requires few { credits.old.raised + 3800 * length (map (λ hart. hart.0) harts.now) ≤ 10 ^ 17 }
-    ensures { credits.new ≡ with_raises (raise_ticks guest.now speedup) (map (λ hart. hart.0) harts.now) credits.old }
+    ensures { credits.new
+        ≡ with_raises (raise_ticks guest.now speedup) (map (λ hart. hart.0) harts.now) credits.old }
 {
     for hart in harts {
         credits.raise(*hart, raised_by(guest, *hart, speedup), now);
@@ -81,20 +85,24 @@ pub fn raise_selected(credits: &mut Credits, run: &Run, speedup: u8, now: Tick)
     requires speedup { speedup ≤ GREATEST_SPEEDUP }
     requires now { credits.old.latest ≡ now }
     requires few { credits.old.raised + 3800 * length run.now.selected ≤ 10 ^ 17 }
-    ensures { credits.new ≡ with_raises (raise_ticks run.now.guest speedup) run.now.selected credits.old }
+    ensures { credits.new
+        ≡ with_raises (raise_ticks run.now.guest speedup) run.now.selected credits.old }
 {
     let harts = run.selected.harts();
     raise_harts(credits, &run.guest, harts, speedup, now);
 }
 
-/// What follows a retirement from which the run goes on: the harts that it made or woke are credited, all that it started
-/// run, and only then those of them that are selected raise the delay in turn.
+/// What follows a retirement from which the run goes on: the harts that it made
+/// or woke are credited, all that it started run, and only then those of them that are selected
+/// raise the delay in turn.
 #[inline(never)]
 fn credit_started(credits: &mut Credits, run: &Run, retired: Retired, speedup: u8, now: Tick)
-    requires can { CanBegin credits.old run.now.guest retired.hart.0 retired.fate run.now.started run.now.selected }
+    requires can { CanBegin credits.old run.now.guest retired.hart.0 retired.fate
+        run.now.started run.now.selected }
     requires speedup { speedup ≤ GREATEST_SPEEDUP }
     requires now { credits.old.latest ≡ now }
-    ensures { credits.new ≡ with_begun (raise_ticks run.now.guest speedup) retired.hart.0 retired.fate run.now.started run.now.selected credits.old }
+    ensures { credits.new ≡ with_begun (raise_ticks run.now.guest speedup)
+        retired.hart.0 retired.fate run.now.started run.now.selected credits.old }
 {
     credit_each(credits, run.started.harts(), retired.hart);
     start_again(credits, retired.hart, retired.fate, now);
@@ -110,15 +118,18 @@ fn is_alone(run: &Run) -> bool
     run.ending.is_none() && run.started.harts().is_empty()
 }
 
-/// The hart that retired goes on, and nothing else begins: it still runs, and raises the delay if it is selected.
+/// The hart that retired goes on, and nothing else begins: it still runs, and raises the delay
+/// if it is selected.
 #[inline(always)]
 fn go_on(credits: &mut Credits, run: &Run, hart: HartId, speedup: u8, now: Tick)
     requires alone { IsAlone run.now.ending Fate.Goes run.now.started }
     requires below { hart.0 < length credits.old.harts }
     requires later { credits.old.latest ≤ now }
-    requires can { CanBegin (with_rest hart.0 Fate.Goes now credits.old) run.now.guest hart.0 Fate.Goes run.now.started run.now.selected }
+    requires can { CanBegin (with_rest hart.0 Fate.Goes now credits.old)
+        run.now.guest hart.0 Fate.Goes run.now.started run.now.selected }
     requires speedup { speedup ≤ GREATEST_SPEEDUP }
-    ensures { credits.new ≡ with_begun (raise_ticks run.now.guest speedup) hart.0 Fate.Goes run.now.started run.now.selected
+    ensures { credits.new ≡ with_begun (raise_ticks run.now.guest speedup)
+        hart.0 Fate.Goes run.now.started run.now.selected
         (with_rest hart.0 Fate.Goes now credits.old) }
 {
     credits.start(hart, now);
@@ -128,7 +139,8 @@ fn go_on(credits: &mut Credits, run: &Run, hart: HartId, speedup: u8, now: Tick)
     }
 }
 
-/// The hart that retired stops at a moment. One that sleeps counts as one that runs, so it starts again at once.
+/// The hart that retired stops at a moment. One that sleeps counts as one that runs,
+/// so it starts again at once.
 #[inline(never)]
 fn rest(credits: &mut Credits, hart: HartId, fate: Fate, now: Tick)
     requires below { hart.0 < length credits.old.harts }
@@ -143,8 +155,8 @@ fn rest(credits: &mut Credits, hart: HartId, fate: Fate, now: Tick)
     }
 }
 
-/// What a wake makes of the accounts and pauses: the hart starts again at its moment, and raises the delay if it is
-/// selected.
+/// What a wake makes of the accounts and pauses: the hart starts again at its moment,
+/// and raises the delay if it is selected.
 #[inline(never)]
 fn wake_up(credits: &mut Credits, run: &Run, hart: HartId, speedup: u8, now: Tick)
     requires below { hart.0 < length credits.old.harts }
@@ -153,14 +165,15 @@ fn wake_up(credits: &mut Credits, run: &Run, hart: HartId, speedup: u8, now: Tic
     requires made { AllMade run.now.guest run.now.selected }
     requires speedup { speedup ≤ GREATEST_SPEEDUP }
     requires few { credits.old.raised + 3800 * length run.now.selected ≤ 10 ^ 17 }
-    ensures { credits.new ≡ with_wake (raise_ticks run.now.guest speedup) hart.0 run.now.selected (at now credits.old) }
+    ensures { credits.new ≡ with_wake (raise_ticks run.now.guest speedup) hart.0 run.now.selected
+        (at now credits.old) }
 {
     credits.start(hart, now);
     raise_selected(credits, run, speedup, now);
 }
 
-/// What a retirement at a moment and the starts after it make of the accounts and pauses: the hart stops, and where the run
-/// goes on what it started begins.
+/// What a retirement at a moment and the starts after it make of the accounts and pauses:
+/// the hart stops, and where the run goes on what it started begins.
 #[inline(never)]
 fn account_retirement(credits: &mut Credits, run: &Run, retired: Retired, speedup: u8, now: Tick)
     requires below { retired.hart.0 < length credits.old.harts }
@@ -168,9 +181,11 @@ fn account_retirement(credits: &mut Credits, run: &Run, retired: Retired, speedu
     requires running { IsTrue (is_running (hart_at credits.old retired.hart.0)) }
     requires unpaused { pause_of (hart_at (at now credits.old) retired.hart.0) ≡ 0 }
     requires can { run.now.ending ≡ None →
-        CanBegin (with_rest retired.hart.0 retired.fate now credits.old) run.now.guest retired.hart.0 retired.fate run.now.started run.now.selected }
+        CanBegin (with_rest retired.hart.0 retired.fate now credits.old)
+        run.now.guest retired.hart.0 retired.fate run.now.started run.now.selected }
     requires speedup { speedup ≤ GREATEST_SPEEDUP }
-    ensures { credits.new ≡ credits_after run.now.ending (raise_ticks run.now.guest speedup) retired.hart.0 retired.fate run.now.started run.now.selected
+    ensures { credits.new ≡ credits_after run.now.ending (raise_ticks run.now.guest speedup)
+        retired.hart.0 retired.fate run.now.started run.now.selected
         (with_rest retired.hart.0 retired.fate now credits.old) }
 {
     rest(credits, retired.hart, retired.fate, now);
@@ -187,9 +202,11 @@ fn account_going(credits: &mut Credits, run: &Run, hart: HartId, speedup: u8, no
     requires running { IsTrue (is_running (hart_at credits.old hart.0)) }
     requires unpaused { pause_of (hart_at (at now credits.old) hart.0) ≡ 0 }
     requires can { run.now.ending ≡ None →
-        CanBegin (with_rest hart.0 Fate.Goes now credits.old) run.now.guest hart.0 Fate.Goes run.now.started run.now.selected }
+        CanBegin (with_rest hart.0 Fate.Goes now credits.old)
+        run.now.guest hart.0 Fate.Goes run.now.started run.now.selected }
     requires speedup { speedup ≤ GREATEST_SPEEDUP }
-    ensures { credits.new ≡ credits_after run.now.ending (raise_ticks run.now.guest speedup) hart.0 Fate.Goes run.now.started run.now.selected
+    ensures { credits.new ≡ credits_after run.now.ending
+        (raise_ticks run.now.guest speedup) hart.0 Fate.Goes run.now.started run.now.selected
         (with_rest hart.0 Fate.Goes now credits.old) }
 {
     let retired = Retired {
@@ -207,9 +224,11 @@ fn account_plain(credits: &mut Credits, run: &Run, hart: HartId, speedup: u8, no
     requires running { IsTrue (is_running (hart_at credits.old hart.0)) }
     requires unpaused { pause_of (hart_at (at now credits.old) hart.0) ≡ 0 }
     requires can { run.now.ending ≡ None →
-        CanBegin (with_rest hart.0 Fate.Goes now credits.old) run.now.guest hart.0 Fate.Goes run.now.started run.now.selected }
+        CanBegin (with_rest hart.0 Fate.Goes now credits.old)
+        run.now.guest hart.0 Fate.Goes run.now.started run.now.selected }
     requires speedup { speedup ≤ GREATEST_SPEEDUP }
-    ensures { credits.new ≡ credits_after run.now.ending (raise_ticks run.now.guest speedup) hart.0 Fate.Goes run.now.started run.now.selected
+    ensures { credits.new ≡ credits_after run.now.ending
+        (raise_ticks run.now.guest speedup) hart.0 Fate.Goes run.now.started run.now.selected
         (with_rest hart.0 Fate.Goes now credits.old) }
 {
     if is_alone(run) {
@@ -219,15 +238,16 @@ fn account_plain(credits: &mut Credits, run: &Run, hart: HartId, speedup: u8, no
     }
 }
 
-/// What an event and the starts after it make of the accounts and pauses, where so much was raised before it. Gives its real
-/// moment.
+/// What an event and the starts after it make of the accounts and pauses, where so much was raised
+/// before it. Gives its real moment.
 #[inline(always)]
 pub fn follow(credits: &mut Credits, run: &Run, event: Event, speedup: u8, raised: Tick) -> Tick
     requires can { CanFollow event credits.old run.now (moment_of event run.now + raised) }
     requires few { moment_of event run.now + raised ≤ 10 ^ 17 }
     requires speedup { speedup ≤ GREATEST_SPEEDUP }
     ensures moment { result ≡ moment_of event run.now + raised }
-    ensures credits { credits.new ≡ credited_by event run.now (raise_ticks run.now.guest speedup) (moment_of event run.now + raised) credits.old }
+    ensures credits { credits.new ≡ credited_by event run.now (raise_ticks run.now.guest speedup)
+        (moment_of event run.now + raised) credits.old }
 {
     match event {
         Event::Retired(
