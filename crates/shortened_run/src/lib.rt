@@ -39,7 +39,8 @@ impl<'a> Model for Short<'a> {
       points = short.setting.points.now;
       input = short.input.now;
       choice = short.setting.choice;
-      state = shortened (experiment_with short.image.now short.input.now short.setting) (events_of short.run);
+      state = shortened (experiment_with short.image.now short.input.now short.setting)
+          (events_of short.run);
     } };
 
     ghost invariant = { λ short. IsShort short.image.now short.input.now short.setting short.run };
@@ -69,7 +70,9 @@ impl<'a> Short<'a> {
           points = points.now;
           input = input.now;
           choice = choice;
-          state = shortened (experiment image.now (position_at index.now) (point_of points.now) input.now choice) 0;
+          state = shortened
+              (experiment image.now (position_at index.now)
+              (point_of points.now) input.now choice) 0;
         }) }
     {
         let setting = Setting {
@@ -89,7 +92,8 @@ impl<'a> Short<'a> {
     /// Runs to the end, and gives it. A further run changes nothing and gives the same.
     pub fn run(&mut self) -> Ending
         ensures ended { self.new.state.ending ≡ Some result }
-        ensures record { let x = experiment_of self.old in net_record_of x self.new.state result ≡ shortened_record x }
+        ensures record { let x = experiment_of self.old in
+            net_record_of x self.new.state result ≡ shortened_record x }
         ensures shortened { let x = experiment_of self.old in IsShortened x (shortened_record x) }
         ensures last { let x = experiment_of self.old in self.new.state ≡ shortened x (enough x) }
         ensures rest { self.new ≡ record self.old { state = self.new.state } }
