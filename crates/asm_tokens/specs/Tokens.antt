@@ -36,7 +36,9 @@ is_hex_digit b = is_digit b || is_from (byte "a") (byte "f") b || is_from (byte 
 
 -- a byte that may stand in a name
 abbrev pub is_of_name : ℕ → Bool
-is_of_name b = is_digit b || is_from (byte "a") (byte "z") b || is_from (byte "A") (byte "Z") b || b == byte "_" || b == byte "."
+is_of_name b =
+    is_digit b || is_from (byte "a") (byte "z") b || is_from (byte "A") (byte "Z") b
+    || b == byte "_" || b == byte "."
 
 abbrev pub is_blank : ℕ → Bool
 is_blank b = b == byte " " || b == byte "\t" || b == byte "\r"
@@ -62,7 +64,10 @@ lines (b ∷ bs) = if b == byte "\n" then [] ∷ lines bs else before b (lines b
 -- ---- numbers
 
 abbrev pub digit : ℕ → ℕ
-digit b = if is_digit b then b - byte "0" else if is_from (byte "A") (byte "F") b then b - byte "A" + 10 else b - byte "a" + 10
+digit b =
+    if is_digit b then b - byte "0"
+    else if is_from (byte "A") (byte "F") b then b - byte "A" + 10
+    else b - byte "a" + 10
 
 -- the number whose digits these are; one that is larger counts as 2^64, which no range has
 abbrev pub number_in : ℕ → List ℕ → ℕ
@@ -75,7 +80,8 @@ are_some test bs = list_all test bs && nat_lt 0 (length bs)
 abbrev pub spelled : List ℕ → Option ℕ
 spelled word =
     if are_some is_digit word then Some (number_in 10 word)
-    else if starts_with nat_eq word (codes "0x") && are_some is_hex_digit (drop 2 word) then Some (number_in 16 (drop 2 word))
+    else if starts_with nat_eq word (codes "0x") && are_some is_hex_digit (drop 2 word)
+    then Some (number_in 16 (drop 2 word))
     else None
 
 -- ---- tokens
@@ -100,7 +106,9 @@ pub data Front : Type 0 where
 
 -- what a byte behind a backslash stands for
 abbrev pub escapes : List (ℕ × ℕ)
-escapes = (byte "n", 10) ∷ (byte "t", 9) ∷ (byte "\\", byte "\\") ∷ (byte "\"", byte "\"") ∷ (byte "0", 0) ∷ []
+escapes =
+    (byte "n", 10) ∷ (byte "t", 9) ∷ (byte "\\", byte "\\")
+    ∷ (byte "\"", byte "\"") ∷ (byte "0", 0) ∷ []
 
 abbrev pub escaped : ℕ → Option ℕ
 escaped b = option_map (λ e. e.1) (find (λ e. e.0 == b) escapes)
@@ -147,8 +155,10 @@ front (b ∷ bs) =
     else if b == byte "#" then Comment
     else if is_mark b then Begins (Mark b) 1
     else if b == byte "\"" then text_front (text false bs)
-    else if b == byte "-" then number_front (spelled (word bs)) (λ n. neg_ℤ (pos n)) (1 + length (word bs))
-    else if is_digit b then number_front (spelled (word (b ∷ bs))) (λ n. pos n) (length (word (b ∷ bs)))
+    else if b == byte "-"
+    then number_front (spelled (word bs)) (λ n. neg_ℤ (pos n)) (1 + length (word bs))
+    else if is_digit b
+    then number_front (spelled (word (b ∷ bs))) (λ n. pos n) (length (word (b ∷ bs)))
     else if is_of_name b then Begins (Name (word (b ∷ bs))) (length (word (b ∷ bs)))
     else Wrong
 
@@ -160,7 +170,8 @@ tokens_from column zero (b ∷ bs) =
     elim (front (b ∷ bs)) [
       | Blank ↦ tokens_from (column + 1) 0 bs
       | Comment ↦ Ok []
-      | Begins token n ↦ tokens_from (column + 1) (n - 1) bs >>= λ more. Ok (record { column = column; token = token } ∷ more)
+      | Begins token n ↦ tokens_from (column + 1) (n - 1) bs >>= λ more.
+          Ok (record { column = column; token = token } ∷ more)
       | Wrong ↦ wrong kinds.Token column
     ]
 

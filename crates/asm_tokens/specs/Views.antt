@@ -17,7 +17,8 @@ abbrev pub seen : {A : Type 0} → Bor (List ℕ) × A → Named A
 seen r = (r.0.now, r.1)
 
 -- What was answered is this text, or this want of one, unless memory ran out.
-abbrev pub GivesText : {V : Type 0} → (V → List ℕ) → Result (Option (V × ℕ)) AllocError → Option Spelling → Type 0
+abbrev pub GivesText : {V : Type 0} → (V → List ℕ) → Result (Option (V × ℕ)) AllocError
+    → Option Spelling → Type 0
 GivesText items (Ok answer) spelling = option_map (λ t. (items t.0, t.1)) answer ≡ spelling
 GivesText items (Err e) spelling = Unit {0}
 

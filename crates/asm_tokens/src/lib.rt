@@ -1,4 +1,5 @@
-//! The tokens of a line of assembly, the registers, and the table of the statements by their first words.
+//! The tokens of a line of assembly, the registers, and the table of the statements
+//! by their first words.
 #![tactic(auto)]
 
 mod form;
@@ -12,8 +13,9 @@ pub use line::{LineError, Placed, Token, is_blank, tokens};
 pub use register::{Register, number_of};
 pub use table::{form_of, register_of};
 
-/// What is wrong with a source: in each line `Lines`, `Byte` and `Token` are judged first, and then what stands in it from left
-/// to right; `Missing` and `Far` come after all lines, and `Empty` last.
+/// What is wrong with a source: in each line `Lines`, `Byte` and `Token` are judged first,
+/// and then what stands in it from left to right; `Missing` and `Far` come after
+/// all lines, and `Empty` last.
 #[derive(Clone, Copy, Debug, PartialEq, Eq)]
 pub enum AsmKind {
     /// There are more than 65,536 lines.

@@ -56,7 +56,8 @@ pub struct Placed<'a> {
     pub token: Token<'a>,
 }
 
-/// The bytes of a text behind its opening quote, and how many bytes spell them with the closing one.
+/// The bytes of a text behind its opening quote, and how many bytes spell them
+/// with the closing one.
 /// None where no closing quote follows, or an escape is none. Err is want of memory.
 pub fn text(alloc: Global, bytes: &[u8]) -> Result<Option<(Vec<u8>, usize)>, AllocError>
     ensures within { IfOk result (λ found. IfSome found (λ t. t.1 ≤ length bytes.now)) }
@@ -99,7 +100,8 @@ pub enum Found<'a> {
 
 /// The number that a word spells, of so many bytes with its sign.
 fn number<'a>(word: &[u8], is_negative: bool, bytes: usize) -> Found<'a>
-    ensures { front_of token_of result ≡ number_front (spelled word.now) (if is_negative then (λ n. neg_ℤ (pos n)) else (λ n. pos n)) bytes }
+    ensures { front_of token_of result ≡ number_front (spelled word.now)
+        (if is_negative then (λ n. neg_ℤ (pos n)) else (λ n. pos n)) bytes }
 {
     match spelled(word) {
         None => Found::Wrong,

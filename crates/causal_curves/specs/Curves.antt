@@ -65,7 +65,8 @@ greater a b = if is_lt (option_cmp int_cmp a b) then b else a
 -- the greatest value at a speedup over 0
 unfoldable pub gain_of : List CurveStep → Option ℤ
 gain_of [] = None
-gain_of (step ∷ steps) = if step.speedup == 0 then gain_of steps else greater (gain_of steps) step.value
+gain_of (step ∷ steps) =
+    if step.speedup == 0 then gain_of steps else greater (gain_of steps) step.value
 
 -- the curve of a point over the summaries of one line
 abbrev pub curve_of : ℕ → List Summary → Curve
@@ -81,13 +82,15 @@ curves_at summaries point = map (curve_of point) (groups summaries)
 
 -- the curves of each point, in the profile's order
 unfoldable pub curves_of : Profile → List Curve
-curves_of p = flat_map (λ (place : ℕ × Text). curves_at p.summaries place.0) (enumerate_from 0 p.points)
+curves_of p =
+    flat_map (λ (place : ℕ × Text). curves_at p.summaries place.0) (enumerate_from 0 p.points)
 
 -- ---- ranks
 
 -- by point, then by falling gain; an absent one is the least
 abbrev pub ranks_before : Curve → Curve → Bool
-ranks_before a b = is_lt (ordering_then (nat_cmp a.point b.point) (option_cmp int_cmp b.gain a.gain))
+ranks_before a b =
+    is_lt (ordering_then (nat_cmp a.point b.point) (option_cmp int_cmp b.gain a.gain))
 
 -- the curves by rank, those of one rank in the order that they had
 pub record IsRanking (curves ranked : List Curve) : Type 0 where

@@ -8,7 +8,10 @@ goes_with same x (y ∷ group) = same x y
 
 abbrev pub join : {A : Type 0} → (A → A → Bool) → A → List (List A) → List (List A)
 join same x [] = (x ∷ []) ∷ []
-join same x (group ∷ groups) = elim (goes_with same x group) [ true ↦ (x ∷ group) ∷ groups | false ↦ (x ∷ []) ∷ group ∷ groups ]
+join same x (group ∷ groups) = elim (goes_with same x group) [
+  | true ↦ (x ∷ group) ∷ groups
+  | false ↦ (x ∷ []) ∷ group ∷ groups
+]
 
 -- the elements, cut before each that isn't the same as the one before it
 unfoldable pub groups_by : {A : Type 0} → (A → A → Bool) → List A → List (List A)

@@ -22,7 +22,8 @@ bar (Some v) = replicate (min (nat_abs v / 250) 40) (mark v)
 
 abbrev pub step_text : CurveStep → Text
 step_text s =
-    codes "step" ++ number_field (codes "speedup") s.speedup ++ field (codes "value") (value_text s.value)
+    codes "step" ++ number_field (codes "speedup") s.speedup
+    ++ field (codes "value") (value_text s.value)
     ++ field (codes "bar") (bar s.value) ++ codes "\n"
 
 abbrev pub curve_text : Curve → Text

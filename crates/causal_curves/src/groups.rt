@@ -16,7 +16,8 @@ pub fn group_length(summaries: &[Summary]) -> usize
     requires { 0 < length summaries.now }
     ensures some { 0 < result }
     ensures within { result ≤ length summaries.now }
-    ensures group { groups summaries.now ≡ take result summaries.now ∷ groups (drop result summaries.now) }
+    ensures group { groups summaries.now
+        ≡ take result summaries.now ∷ groups (drop result summaries.now) }
 {
     for i in 1..summaries.len() {
         if !have_one_label(&summaries[i - 1], &summaries[i]) {

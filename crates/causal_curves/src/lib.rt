@@ -1,4 +1,5 @@
-//! Curves: how much sooner a progress point is reached for each speedup of a line, and which line gains most.
+//! Curves: how much sooner a progress point is reached for each speedup of a line,
+//! and which line gains most.
 #![tactic(auto)]
 
 mod curve;

@@ -34,7 +34,8 @@ fn push_curves(
 
 fn all_curves(alloc: Global, profile: &Profile) -> Result<Vec<Curve>, AllocError>
     requires points { length profile.now.points ≤ 64 }
-    requires summaries { AllByRecursion (IsSummary (length profile.now.points)) profile.now.summaries }
+    requires summaries { AllByRecursion (IsSummary (length profile.now.points))
+        profile.now.summaries }
     ensures { IfOk result (λ curves. curves.items ≡ curves_of profile.now) }
 {
     let mut curves = Vec::new(alloc);
@@ -49,7 +50,8 @@ fn all_curves(alloc: Global, profile: &Profile) -> Result<Vec<Curve>, AllocError
 /// Only want of memory stands against it.
 pub fn curves(alloc: Global, profile: &Profile) -> Result<Items<Curve>, AllocError>
     requires points { length profile.now.points ≤ 64 }
-    requires summaries { AllByRecursion (IsSummary (length profile.now.points)) profile.now.summaries }
+    requires summaries { AllByRecursion (IsSummary (length profile.now.points))
+        profile.now.summaries }
     ensures ranking { IfOk result (IsRanking (curves_of profile.now)) }
     ensures ranked { IfOk result (λ curves. curves ≡ ranked (curves_of profile.now)) }
 {

@@ -64,7 +64,8 @@ fn steps_of(
 ) -> Result<Vec<CurveStep>, AllocError>
     requires base { IfSome (option_copied base) (IsMeasured point) }
     requires group { All (IsMeasured point) group.now }
-    ensures { IfOk result (λ steps. steps.items ≡ map (step_of point (option_copied base.entry)) group.now) }
+    ensures { IfOk result (λ steps.
+        steps.items ≡ map (step_of point (option_copied base.entry)) group.now) }
 {
     let mut steps = Vec::with_capacity(alloc, group.len())?;
     for summary in group {

@@ -35,7 +35,8 @@ fn bar(value: Option<i128>) -> &'static [u8]
 }
 
 fn put_value<O: Sink>(to: &mut PutBuffer, out: &mut O, name: &[u8], value: Option<i128>)
-    ensures { Gathers O.holds O.faults out.old out.new to.old to.new (name.now ++ value_text value) }
+    ensures { Gathers O.holds O.faults out.old out.new to.old to.new
+        (name.now ++ value_text value) }
 {
     match value {
         Some(value) => {
@@ -56,7 +57,8 @@ fn put_step<O: Sink>(to: &mut PutBuffer, out: &mut O, step: &CurveStep)
 }
 
 fn put_steps<O: Sink>(to: &mut PutBuffer, out: &mut O, steps: &[CurveStep])
-    ensures { Gathers O.holds O.faults out.old out.new to.old to.new (flat_map step_text steps.now) }
+    ensures { Gathers O.holds O.faults out.old out.new to.old to.new
+        (flat_map step_text steps.now) }
 {
     for step in steps {
         put_step(to, out, step);
@@ -74,7 +76,8 @@ fn put_curve<O: Sink>(to: &mut PutBuffer, out: &mut O, curve: &Curve)
 }
 
 fn put_curves<O: Sink>(to: &mut PutBuffer, out: &mut O, curves: &[Curve])
-    ensures { Gathers O.holds O.faults out.old out.new to.old to.new (flat_map curve_text curves.now) }
+    ensures { Gathers O.holds O.faults out.old out.new to.old to.new
+        (flat_map curve_text curves.now) }
 {
     for curve in curves {
         put_curve(to, out, curve);

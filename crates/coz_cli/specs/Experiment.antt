@@ -11,7 +11,8 @@ use Rattle.virtual_run.specs.declared.choice.Choice.{Choice}
 use Rattle.virtual_run.specs.Run.{experiment}
 pub use Rattle.profile_pool.specs.Choices.{choice_of}
 
--- the runs of a program on an input: the experiment of a choice, with the lines at these positions as points
+-- the runs of a program on an input: the experiment of a choice, with the lines at these
+-- positions as points
 abbrev pub Runs : Type 0
 Runs = Choice → List ℕ → Experiment Guest
 
@@ -19,12 +20,15 @@ Runs = Choice → List ℕ → Experiment Guest
 abbrev pub entries_of : ImageParts → Table → List (List ℕ)
 entries_of image table = map (entries_in table image.areas) (lines_in table image.areas)
 
--- the run of a program with its line table on an input, under a choice and with the lines at these positions as points:
--- each address has the line that the table says, and the entry addresses of the points' lines are those points
+-- the run of a program with its line table on an input, under a choice and with the lines
+-- at these positions as points: each address has the line that the table says,
+-- and the entry addresses of the points' lines are those points
 unfoldable pub experiment_by_table : ImageParts → Table → List ℕ → Runs
 experiment_by_table image table input choice points =
-    experiment image (position_in table image.areas) (point_in (entries_of image table) points) input choice
+    experiment image (position_in table image.areas)
+    (point_in (entries_of image table) points) input choice
 
 -- the same by an index of its lines
 abbrev pub runs_in : ImageParts → Index → List ℕ → Runs
-runs_in image index input choice points = experiment image (position_at index) (point_in index.entries points) input choice
+runs_in image index input choice points =
+    experiment image (position_at index) (point_in index.entries points) input choice

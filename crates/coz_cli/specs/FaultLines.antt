@@ -1,4 +1,5 @@
--- The lines of the faults of a program, of its line table, of a selection, a plan, a source and a profile.
+-- The lines of the faults of a program, of its line table, of a selection, a plan,
+-- a source and a profile.
 use Rattle.std.specs.Prelude.{ℕ, List, ◌++◌, codes, decimal}
 use Rattle.elf_load.specs.declared.ElfKind.{ElfKind}
 use Rattle.elf_load.specs.declared.ElfKind.TheVariants.{NotElf, NotClass64, NotLittle, NotExec, NotRiscv, Compressed, HeaderOut, PackedLines, Interp, SizeOrder, AddressOut, WritableCode, SharedPage, TooMuch, EntryOut}
@@ -30,7 +31,8 @@ elf_kind_name TooMuch = codes "TooMuch"
 elf_kind_name EntryOut = codes "EntryOut"
 
 abbrev pub program_line : ElfFault → List ℕ
-program_line fault = codes "coz: program: " ++ elf_kind_name fault.kind ++ codes " at " ++ decimal fault.place
+program_line fault =
+    codes "coz: program: " ++ elf_kind_name fault.kind ++ codes " at " ++ decimal fault.place
 
 abbrev pub line_kind_name : LineKind → List ℕ
 line_kind_name Short = codes "Short"
@@ -49,7 +51,8 @@ line_kind_name EmptyEntries = codes "EmptyEntries"
 line_kind_name TextOut = codes "TextOut"
 
 abbrev pub table_line : LineFault → List ℕ
-table_line fault = codes "coz: lines: " ++ line_kind_name fault.kind ++ codes " at " ++ decimal fault.place
+table_line fault =
+    codes "coz: lines: " ++ line_kind_name fault.kind ++ codes " at " ++ decimal fault.place
 
 abbrev pub asm_kind_name : AsmKind → List ℕ
 asm_kind_name Lines = codes "Lines"
@@ -66,7 +69,9 @@ asm_kind_name Far = codes "Far"
 asm_kind_name Empty = codes "Empty"
 
 abbrev pub source_line : AsmFault → List ℕ
-source_line fault = codes "coz: source: " ++ asm_kind_name fault.kind ++ codes " at line " ++ decimal fault.line ++ codes " column " ++ decimal fault.column
+source_line fault =
+    codes "coz: source: " ++ asm_kind_name fault.kind ++ codes " at line " ++ decimal fault.line
+    ++ codes " column " ++ decimal fault.column
 
 abbrev pub no_line_line : List ℕ → List ℕ
 no_line_line piece = codes "coz: selection: no line " ++ piece
@@ -78,4 +83,5 @@ abbrev pub plan_line : ℕ → List ℕ
 plan_line count = codes "coz: plan: " ++ decimal count ++ codes " experiments"
 
 abbrev pub book_line : BookFault → List ℕ
-book_line fault = codes "coz: profile: " ++ item_name fault.field ++ codes " at " ++ decimal fault.place
+book_line fault =
+    codes "coz: profile: " ++ item_name fault.field ++ codes " at " ++ decimal fault.place

@@ -1,4 +1,5 @@
--- The headline: what is printed of a delayed run is that of the shortened run, and for any number of workers the bytes are those of one.
+-- The headline: what is printed of a delayed run is that of the shortened run, and for any number
+-- of workers the bytes are those of one.
 use Rattle.std.specs.Prelude.{◌≡◌, List, ℕ, [], Option, None, Some, Ok, All, ◌≤◌, length}
 use Rattle.std.specs.Io.KnownBytes.{Appends}
 use Rattle.coz_types.specs.Image.{ImageParts}
@@ -27,8 +28,8 @@ abbrev pub IsInput : Held → Option (List ℕ) → List ℕ → Type 0
 IsInput held None input = input ≡ []
 IsInput held (Some path) input = file_at held path ≡ Some input
 
--- The experiment that a request asks for: its path names a file that is a program with a line table,
--- its input is that of the named file, and each line that it names is one of the program's.
+-- The experiment that a request asks for: its path names a file that is a program with a line
+-- table, its input is that of the named file, and each line that it names is one of the program's.
 pub record IsAsked (held : Held) (asked : Request) (x : Experiment Guest) : Type 0 where
   pub file : List ℕ
   pub input : List ℕ
@@ -43,11 +44,13 @@ pub record IsAsked (held : Held) (asked : Request) (x : Experiment Guest) : Type
   pub line_is : line_named (lines_in table image.areas) asked.line ≡ Ok selected
   pub points_are : lines_named (lines_in table image.areas) [] asked.progress ≡ Ok points
   pub few : length points ≤ 64
-  pub experiment : x ≡ experiment_by_table image table input (choice_of selected asked.speedup asked.budget) points
+  pub experiment : x
+      ≡ experiment_by_table image table input (choice_of selected asked.speedup asked.budget) points
 
--- Behind what was held before there is now the text of the record that the delayed machine ends with, and the
--- net part of that record (its end, output, counts, and each time less the global delay then) is what the
--- shortened machine ends with, whose selected line really costs less and which knows no delays.
+-- Behind what was held before there is now the text of the record that the delayed machine ends
+-- with, and the net part of that record (its end, output, counts, and each time less the global
+-- delay then) is what the shortened machine ends with, whose selected line really costs less
+-- and which knows no delays.
 pub record PrintsRun (held : Held) (asked : Request) (before now : Option (List ℕ)) : Type 0 where
   pub experiment : Experiment Guest
   pub run : Record
@@ -56,18 +59,21 @@ pub record PrintsRun (held : Held) (asked : Request) (before now : Option (List 
   pub delayed : IsDelayed experiment run
   pub shortened : IsShortened experiment (net run)
 
--- behind what was held before there is now the text of the record that the shortened machine ends with
-pub record PrintsReally (held : Held) (asked : Request) (before now : Option (List ℕ)) : Type 0 where
+-- behind what was held before there is now the text of the record that
+-- the shortened machine ends with
+pub record PrintsReally (held : Held) (asked : Request)
+    (before now : Option (List ℕ)) : Type 0 where
   pub experiment : Experiment Guest
   pub run : NetRecord
   pub is_asked : IsAsked held asked experiment
   pub printed : Appends before now (really_text run)
   pub shortened : IsShortened experiment run
 
--- The plan that a request for a profile asks for: its path names a file that is a program with a line table, its
--- input is that of the named file, the lines that it names are the program's, and the pairs are each of the lines to
--- be selected with each speedup.
-pub record IsPlanned (held : Held) (asked : Request) (runs : Runs) (lines : List Line) (points : List ℕ) (pairs : List Pair) : Type 0 where
+-- The plan that a request for a profile asks for: its path names a file that is a program with
+-- a line table, its input is that of the named file, the lines that it names are the program's,
+-- and the pairs are each of the lines to be selected with each speedup.
+pub record IsPlanned (held : Held) (asked : Request) (runs : Runs) (lines : List Line)
+    (points : List ℕ) (pairs : List Pair) : Type 0 where
   pub file : List ℕ
   pub input : List ℕ
   pub image : ImageParts
@@ -85,26 +91,33 @@ pub record IsPlanned (held : Held) (asked : Request) (runs : Runs) (lines : List
   pub planned : pairs ≡ pairs_of selected asked.speedups
   pub few_pairs : length pairs ≤ 100000
 
--- Behind what was held before there is now the text of a profile: of the budget, the points' labels, and of each pair
--- of the plan, in its order, the summary of the record with which the delayed machine ends on the pair's experiment.
--- The net part of each such record is what the shortened machine ends with, whose selected line really costs less and
--- which knows no delays.
-pub record PrintsProfile (held : Held) (asked : Request) (before now : Option (List ℕ)) : Type 0 where
+-- Behind what was held before there is now the text of a profile: of the budget,
+-- the points' labels, and of each pair of the plan, in its order, the summary of the record with
+-- which the delayed machine ends on the pair's experiment. The net part of each such record is what
+-- the shortened machine ends with, whose selected line really costs less and which knows no delays.
+pub record PrintsProfile (held : Held) (asked : Request)
+    (before now : Option (List ℕ)) : Type 0 where
   pub runs : Runs
   pub lines : List Line
   pub points : List ℕ
   pub pairs : List Pair
   pub is_planned : IsPlanned held asked runs lines points pairs
   pub run : Pair → Record
-  pub delayed : All (λ pair. IsDelayed (experiment_on runs asked.budget points pair) (run pair)) pairs
-  pub shortened : All (λ pair. IsShortened (experiment_on runs asked.budget points pair) (net (run pair))) pairs
+  pub delayed : All (λ pair.
+      IsDelayed (experiment_on runs asked.budget points pair) (run pair)) pairs
+  pub shortened : All (λ pair.
+      IsShortened (experiment_on runs asked.budget points pair) (net (run pair))) pairs
   pub printed : Appends before now (profile_text (profile_with run lines asked.budget points pairs))
 
 -- where the words ask for a run or a profile, such a run or profile is printed
-pub record PrintsShortened (words : List (List ℕ)) (held : Held) (before now : Option (List ℕ)) : Type 0 where
-  pub runs : (asked : Request) → request_of words ≡ Some asked → asked.command ≡ Run → PrintsRun held asked before now
-  pub profiles : (asked : Request) → request_of words ≡ Some asked → asked.command ≡ Profile → PrintsProfile held asked before now
-  pub really : (asked : Request) → request_of words ≡ Some asked → asked.command ≡ Really → PrintsReally held asked before now
+pub record PrintsShortened (words : List (List ℕ)) (held : Held)
+    (before now : Option (List ℕ)) : Type 0 where
+  pub runs : (asked : Request) → request_of words ≡ Some asked → asked.command ≡ Run
+      → PrintsRun held asked before now
+  pub profiles : (asked : Request) → request_of words ≡ Some asked → asked.command ≡ Profile
+      → PrintsProfile held asked before now
+  pub really : (asked : Request) → request_of words ≡ Some asked → asked.command ≡ Really
+      → PrintsReally held asked before now
 
 -- words that ask for the same as others, but for the number of workers
 pub record AskAlike (words others : List (List ℕ)) : Type 0 where
@@ -113,8 +126,12 @@ pub record AskAlike (words others : List (List ℕ)) : Type 0 where
   pub these : request_of words ≡ Some asked
   pub those : request_of others ≡ Some (record asked { workers = workers })
 
--- For any number of workers the bytes are the same: words that ask for the same, but for that number, come to one verdict,
--- in its status, its text and its line; and what is printed is the text of each of them.
-pub record PrintsForAnyWorkers (words : List (List ℕ)) (held : Held) (status : ℕ) (before now : Option (List ℕ)) : Type 0 where
-  pub same : (others : List (List ℕ)) → AskAlike words others → verdict words held ≡ verdict others held
-  pub printed : (others : List (List ℕ)) → AskAlike words others → status ≤ 1 → Appends before now (verdict others held).text
+-- For any number of workers the bytes are the same: words that ask for the same,
+-- but for that number, come to one verdict, in its status, its text and its line;
+-- and what is printed is the text of each of them.
+pub record PrintsForAnyWorkers (words : List (List ℕ)) (held : Held) (status : ℕ)
+    (before now : Option (List ℕ)) : Type 0 where
+  pub same : (others : List (List ℕ)) → AskAlike words others
+      → verdict words held ≡ verdict others held
+  pub printed : (others : List (List ℕ)) → AskAlike words others → status ≤ 1
+      → Appends before now (verdict others held).text

@@ -12,7 +12,8 @@ bytes_in file name = unwrap_or (section file name) []
 
 -- the two sections that texts of lines may stand in
 abbrev pub strings_in : List ℕ → Strings
-strings_in file = strings (bytes_in file (codes ".debug_str")) (bytes_in file (codes ".debug_line_str"))
+strings_in file =
+    strings (bytes_in file (codes ".debug_str")) (bytes_in file (codes ".debug_line_str"))
 
 -- the table of a file that is a program, or the table's first fault
 unfoldable pub table_in : List ℕ → Result Table LineFault

@@ -11,7 +11,8 @@ each_text (line ∷ lines) [] = []
 each_text (line ∷ lines) (es ∷ entries) = line_text line es ++ each_text lines entries
 
 abbrev pub index_text : ℕ → Index → List ℕ
-index_text skipped index = number_line (codes "skipped ") skipped ++ each_text index.lines index.entries
+index_text skipped index =
+    number_line (codes "skipped ") skipped ++ each_text index.lines index.entries
 
 -- a text has got the line at this position, with its entries
 pub record HasLine (index : Index) (k : ℕ) (old new : List ℕ) : Type 0 where

@@ -1,4 +1,5 @@
--- What a request for a profile asks for: the lines that are selected in turn, the pairs of the plan, and the profile of their runs.
+-- What a request for a profile asks for: the lines that are selected in turn, the pairs
+-- of the plan, and the profile of their runs.
 use Rattle.std.specs.Prelude.{ℕ, List, [], length, map, get_or, Some}
 use Rattle.std.specs.List.{range_with_len}
 use Rattle.coz_types.specs.declared.record.Summary.{Summary}
@@ -28,11 +29,13 @@ label_at lines k = get_or (map label lines) k []
 
 -- the experiment of a pair
 abbrev pub experiment_on : Runs → ℕ → List ℕ → Pair → Experiment Guest
-experiment_on runs budget points pair = runs (choice_of (Some pair.line.0) pair.speedup budget) points
+experiment_on runs budget points pair =
+    runs (choice_of (Some pair.line.0) pair.speedup budget) points
 
 -- the summary of a pair's run that left this record
 abbrev pub summary_on : List Line → List ℕ → Pair → Record → Summary
-summary_on lines points pair run = summary_of (label_at lines pair.line.0) pair.speedup (length points) run
+summary_on lines points pair run =
+    summary_of (label_at lines pair.line.0) pair.speedup (length points) run
 
 -- the profile of the pairs of a plan, of which each left this record
 abbrev pub profile_with : (Pair → Record) → List Line → ℕ → List ℕ → List Pair → Profile
@@ -44,4 +47,6 @@ profile_with run lines budget points pairs = record {
 
 -- the profile of the pairs' delayed runs
 abbrev pub profile_of : Runs → List Line → ℕ → List ℕ → List Pair → Profile
-profile_of runs lines budget points pairs = profile_with (λ pair. delayed_record (experiment_on runs budget points pair)) lines budget points pairs
+profile_of runs lines budget points pairs =
+    profile_with (λ pair. delayed_record (experiment_on runs budget points pair))
+    lines budget points pairs

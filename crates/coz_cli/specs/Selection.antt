@@ -7,9 +7,13 @@ use Rattle.line_index.specs.Lines.{Line}
 -- the position of the line that a text names, if there is a text; or the text, where it names none
 abbrev pub line_named : List Line → Option Text → Result (Option ℕ) Text
 line_named lines None = Ok None
-line_named lines (Some text) = elim (line_found lines text) [ Some l ↦ Ok (Some l) | None ↦ Err text ]
+line_named lines (Some text) = elim (line_found lines text) [
+  | Some l ↦ Ok (Some l)
+  | None ↦ Err text
+]
 
--- the positions of the lines that a list names, or the usual ones where there is no list; or the first piece that names none
+-- the positions of the lines that a list names, or the usual ones where there is no list;
+-- or the first piece that names none
 abbrev pub lines_named : List Line → List ℕ → Option Text → Result (List ℕ) Text
 lines_named lines usual None = Ok usual
 lines_named lines usual (Some list) = selected lines list

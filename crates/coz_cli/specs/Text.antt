@@ -33,7 +33,8 @@ hart_text number account = codes "hart " ++ decimal number
 
 unfoldable pub harts_text : ℕ → List Account → List ℕ
 harts_text number [] = []
-harts_text number (account ∷ accounts) = hart_text number account ++ harts_text (number + 1) accounts
+harts_text number (account ∷ accounts) =
+    hart_text number account ++ harts_text (number + 1) accounts
 
 unfoldable pub visit_text : Visit → List ℕ
 visit_text v = codes "visit " ++ decimal v.point
@@ -51,7 +52,8 @@ output_text output = number_line (codes "output ") (length output) ++ output ++ 
 
 -- what `run` prints
 unfoldable pub run_text : Record → List ℕ
-run_text r = outcome_text r ++ harts_text 0 r.accounts ++ visits_text r.visits ++ output_text r.output
+run_text r =
+    outcome_text r ++ harts_text 0 r.accounts ++ visits_text r.visits ++ output_text r.output
 
 -- ---- of a run that knows no delays
 
@@ -93,7 +95,8 @@ labelled_text label addresses = label ++ codes "\t" ++ addresses_text addresses 
 abbrev pub line_text : Line → List ℕ → List ℕ
 line_text line entries = labelled_text (label line) entries
 
--- what `lines` prints: the units that were passed over, and each line in order with its entry addresses
+-- what `lines` prints: the units that were passed over, and each line in order
+-- with its entry addresses
 unfoldable pub lines_text : Table → List Area → List ℕ
 lines_text table areas =
     number_line (codes "skipped ") table.skipped

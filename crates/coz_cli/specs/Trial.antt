@@ -1,4 +1,5 @@
--- A trial: the program that a seed and a size make, its profile over at most ten of its lines, and the five lines of that.
+-- A trial: the program that a seed and a size make, its profile over at most ten of its lines,
+-- and the five lines of that.
 use Rattle.std.specs.Prelude.{◌≡◌, ℕ, ◌+◌, ◌*◌, ◌/◌, nat_lt, List, [], ◌∷◌, ◌++◌, length, map, filter, Contains, Option, None, Some, Result, Ok, Err, codes, decimal, ℤ}
 use Rattle.std.specs.List.{range_with_len}
 use Rattle.std.specs.Fmt.{signed_decimal}
@@ -30,7 +31,8 @@ trial_program source = assembly source.text
 unfoldable pub trial_file : Program → List ℕ
 trial_file program = written_file program trial_name 4
 
--- a file is that of the program that the source stands for, of which a word has the line of the progress point
+-- a file is that of the program that the source stands for, of which a word has the line
+-- of the progress point
 pub record IsTrialFile (source : Source) (file : List ℕ) : Type 0 where
   pub program : Program
   pub stands : trial_program source ≡ Ok program
@@ -44,7 +46,8 @@ trial_point point lines = elim (position_named trial_name point lines) [ Some li
 
 -- of n positions the multiples of a tenth of n, rounded up: ten of these are n or more
 unfoldable pub tenths : ℕ → List ℕ
-tenths n = let tenth = (n + 9) / 10 in filter (λ position. nat_lt position n) (map (λ i. i * tenth) (range_with_len 0 10))
+tenths n = let tenth = (n + 9) / 10 in
+    filter (λ position. nat_lt position n) (map (λ i. i * tenth) (range_with_len 0 10))
 
 unfoldable pub trial_plan : List Line → List Pair
 trial_plan lines = pairs_of (tenths (length lines)) (0 ∷ 25 ∷ 50 ∷ 75 ∷ [])
@@ -57,11 +60,13 @@ trial_profile runs lines point = profile_of runs lines 100000000 (point ∷ []) 
 
 -- the length of some bytes, and their digest
 abbrev pub digest_line : Text → List ℕ → Text
-digest_line name bytes = name ++ decimal (length bytes) ++ codes " " ++ hex_text (sha256 bytes) ++ codes "\n"
+digest_line name bytes =
+    name ++ decimal (length bytes) ++ codes " " ++ hex_text (sha256 bytes) ++ codes "\n"
 
 abbrev pub gain_line : Text → Option ℤ → Text
 gain_line label None = codes "best none\n"
-gain_line label (Some gain) = codes "best " ++ label ++ codes " " ++ signed_decimal gain ++ codes "\n"
+gain_line label (Some gain) =
+    codes "best " ++ label ++ codes " " ++ signed_decimal gain ++ codes "\n"
 
 -- of the first of ranked curves
 abbrev pub best_line : List Curve → Text

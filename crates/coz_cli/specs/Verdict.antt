@@ -1,4 +1,5 @@
--- What the words and the files that the paths hold come to: a status, a text for the output and a line for the errors.
+-- What the words and the files that the paths hold come to: a status, a text for the output
+-- and a line for the errors.
 use Rattle.std.specs.Prelude.{ℕ, List, [], ◌++◌, length, nat_lt, codes, Bool, true, false, Option, None, Some, Result, Ok, Err, if◌then◌else◌}
 use Rattle.std.specs.List.{list_all}
 use Rattle.coz_types.specs.declared.ending.Ending.{Ending}
@@ -73,7 +74,11 @@ really_verdict r = ended_verdict r.ending (really_text r)
 
 -- of a profile
 abbrev pub profile_verdict : Book → Verdict
-profile_verdict p = record { status = if list_all (λ (s : Summary). has_exited s.outcome.ending) p.summaries then 0 else 1; text = profile_text p; line = [] }
+profile_verdict p = record {
+  status = if list_all (λ (s : Summary). has_exited s.outcome.ending) p.summaries then 0 else 1;
+  text = profile_text p;
+  line = [];
+}
 
 -- of the program that a file is, if it is one, and of what follows
 abbrev pub loaded_verdict : Result ImageParts ElfFault → (ImageParts → Verdict) → Verdict
@@ -96,7 +101,8 @@ named_verdict (Ok named) next = next named
 
 -- of progress points, if there are at most 64, and of what follows
 abbrev pub points_verdict : List ℕ → (List ℕ → Verdict) → Verdict
-points_verdict points next = if nat_lt 64 (length points) then refused 7 (points_line (length points)) else next points
+points_verdict points next =
+    if nat_lt 64 (length points) then refused 7 (points_line (length points)) else next points
 
 -- of a program's lines and its runs
 abbrev pub Judging : Type 0
@@ -112,7 +118,8 @@ asked_verdict asked print lines runs =
 
 -- of a plan, if there are at most 100,000 pairs, and of what follows
 abbrev pub plan_verdict : List Pair → (List Pair → Verdict) → Verdict
-plan_verdict pairs next = if nat_lt 100000 (length pairs) then refused 9 (plan_line (length pairs)) else next pairs
+plan_verdict pairs next =
+    if nat_lt 100000 (length pairs) then refused 9 (plan_line (length pairs)) else next pairs
 
 -- of the profile that a request asks for
 unfoldable pub profiled_verdict : Request → Judging
@@ -125,12 +132,16 @@ profiled_verdict asked lines runs =
 
 -- on a program's file and an input
 abbrev pub file_verdict : Judging → List ℕ → List ℕ → Verdict
-file_verdict next file input = program_verdict file (λ image table. next (lines_in table image.areas) (experiment_by_table image table input))
+file_verdict next file input =
+    program_verdict file (λ image table.
+    next (lines_in table image.areas) (experiment_by_table image table input))
 
--- of a path's file that may have so many bytes, and of what follows where it is there and has no more
+-- of a path's file that may have so many bytes, and of what follows where it is
+-- there and has no more
 abbrev pub read_verdict : ℕ → List ℕ → Option (List ℕ) → (List ℕ → Verdict) → Verdict
 read_verdict most path None next = refused 5 (codes "coz: read: " ++ path)
-read_verdict most path (Some file) next = if nat_lt most (length file) then refused 8 (codes "coz: long: " ++ path) else next file
+read_verdict most path (Some file) next =
+    if nat_lt most (length file) then refused 8 (codes "coz: long: " ++ path) else next file
 
 -- of the input, which is empty where none is named
 abbrev pub input_verdict : Option (List ℕ) → Held → (List ℕ → Verdict) → Verdict
@@ -168,21 +179,30 @@ assembled_verdict (Ok program) next = next program
 
 -- of the profile of a trial
 abbrev pub trial_printed : Source → List Line → Book → Verdict
-trial_printed source lines p = record { status = (profile_verdict p).status; text = trial_text source lines p; line = [] }
+trial_printed source lines p = record {
+  status = (profile_verdict p).status;
+  text = trial_text source lines p;
+  line = [];
+}
 
 -- of a trial on the lines and runs of its program
 unfoldable pub trial_judging : Source → Judging
-trial_judging source lines runs = named_verdict (trial_point source.point lines) (λ point. trial_printed source lines (trial_profile runs lines point))
+trial_judging source lines runs =
+    named_verdict (trial_point source.point lines) (λ point.
+    trial_printed source lines (trial_profile runs lines point))
 
 -- of the trial of a seed and a size
 unfoldable pub trial_verdict : ℕ → ℕ → Verdict
 trial_verdict seed size =
     let source = generated seed size in
-    assembled_verdict (trial_program source) (λ program. file_verdict (trial_judging source) (trial_file program) [])
+    assembled_verdict (trial_program source) (λ program.
+    file_verdict (trial_judging source) (trial_file program) [])
 
 abbrev pub command_verdict : Command → Request → Held → Verdict
-command_verdict Run asked held = files_verdict asked held (asked_verdict asked (λ x. run_verdict (delayed_record x)))
-command_verdict Really asked held = files_verdict asked held (asked_verdict asked (λ x. really_verdict (shortened_record x)))
+command_verdict Run asked held =
+    files_verdict asked held (asked_verdict asked (λ x. run_verdict (delayed_record x)))
+command_verdict Really asked held =
+    files_verdict asked held (asked_verdict asked (λ x. really_verdict (shortened_record x)))
 command_verdict Profile asked held = files_verdict asked held (profiled_verdict asked)
 command_verdict Lines asked held = read_verdict 33554432 asked.target (file_at held asked.target) lines_verdict
 command_verdict Plot asked held = read_verdict MAX_PROFILE asked.target (file_at held asked.target) plot_verdict

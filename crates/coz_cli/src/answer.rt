@@ -67,10 +67,13 @@ pub fn judge<'r, R: Threads + Sync, F: Files, G: Gate>(
     ensures same { F.held files.new ≡ F.held files.old }
     ensures suits { Suits request.now result }
     ensures settled { IfSome (F.held files.old) (λ held. (IsMemory result → ⊥) →
-        Settles (command_verdict request.now.command request.now held) (F.faults files.old) (F.faults files.new) result) }
-    ensures untold { IsRead result → IfNone (F.held files.old) (Rose (F.faults files.old) (F.faults files.new)) }
+        Settles (command_verdict request.now.command request.now held)
+        (F.faults files.old) (F.faults files.new) result) }
+    ensures untold { IsRead result
+        → IfNone (F.held files.old) (Rose (F.faults files.old) (F.faults files.new)) }
     ensures no_fault { (IsRead result → ⊥) → F.faults files.new ≡ F.faults files.old }
-    ensures trial { request.now.command ≡ Trial → (files.new ≡ files.old) × IfErr result IsMemoryFault }
+    ensures trial { request.now.command ≡ Trial
+        → (files.new ≡ files.old) × IfErr result IsMemoryFault }
 {
     match request.command {
         Command::Run => judge_experiment(rt, alloc, request, Kind::Delayed, files, gate),

@@ -60,8 +60,10 @@ pub fn judge_experiment<'r, R: Threads + Sync, F: Files, G: Gate>(
     ensures same { F.held files.new ≡ F.held files.old }
     ensures suits { Suits request.now result }
     ensures settled { IfSome (F.held files.old) (λ held. (IsMemory result → ⊥) →
-        Settles (files_verdict request.now held (judging kind request.now)) (F.faults files.old) (F.faults files.new) result) }
-    ensures untold { IsRead result → IfNone (F.held files.old) (Rose (F.faults files.old) (F.faults files.new)) }
+        Settles (files_verdict request.now held (judging kind request.now))
+        (F.faults files.old) (F.faults files.new) result) }
+    ensures untold { IsRead result
+        → IfNone (F.held files.old) (Rose (F.faults files.old) (F.faults files.new)) }
     ensures no_fault { (IsRead result → ⊥) → F.faults files.new ≡ F.faults files.old }
 {
     let file = read_file(alloc, files, request.target.text(), MAX_PROGRAM)?;
@@ -87,7 +89,8 @@ fn file_answer<'r, R: Threads + Sync, G: Gate>(
     requires some_budget { 1 ≤ request.now.budget }
     requires some_workers { kind ≡ Profiled → 1 ≤ request.now.workers }
     ensures no_read { IsRead result → ⊥ }
-    ensures settled { (IsMemory result → ⊥) → answered result ≡ file_verdict (judging kind request.now) file.now input.now }
+    ensures settled { (IsMemory result → ⊥)
+        → answered result ≡ file_verdict (judging kind request.now) file.now input.now }
 {
     let program = read_program(alloc, file)?;
     index_answer(
@@ -117,7 +120,8 @@ fn index_answer<'r, R: Threads + Sync, G: Gate>(
     requires some_budget { 1 ≤ request.now.budget }
     requires some_workers { kind ≡ Profiled → 1 ≤ request.now.workers }
     ensures no_read { IsRead result → ⊥ }
-    ensures settled { (IsMemory result → ⊥) → answered result ≡ judging kind request.now index.now.lines (runs_in image.now index.now input.now) }
+    ensures settled { (IsMemory result → ⊥) → answered result
+        ≡ judging kind request.now index.now.lines (runs_in image.now index.now input.now) }
 {
     match kind {
         Kind::Delayed => delayed_answer(alloc, image, index, input, request),
@@ -161,7 +165,8 @@ fn delayed_answer<'r>(
     requires some_budget { 1 ≤ request.now.budget }
     ensures no_read { IsRead result → ⊥ }
     ensures settled { (IsMemory result → ⊥) → answered result ≡
-        asked_verdict request.now run_printed index.now.lines (runs_in image.now index.now input.now) }
+        asked_verdict request.now run_printed index.now.lines
+        (runs_in image.now index.now input.now) }
 {
     let asked = asked_of(alloc, index, request)?;
     run_answer(alloc, image, index, &asked.points, input, asked.choice)
@@ -179,7 +184,8 @@ fn shortened_answer<'r>(
     requires some_budget { 1 ≤ request.now.budget }
     ensures no_read { IsRead result → ⊥ }
     ensures settled { (IsMemory result → ⊥) → answered result ≡
-        asked_verdict request.now really_printed index.now.lines (runs_in image.now index.now input.now) }
+        asked_verdict request.now really_printed index.now.lines
+        (runs_in image.now index.now input.now) }
 {
     let asked = asked_of(alloc, index, request)?;
     really_answer(alloc, image, index, &asked.points, input, asked.choice)

@@ -32,7 +32,8 @@ fn status_of(fault: Fault) -> u8
 
 /// Puts three pieces, one behind the other.
 fn put_three<S: Sink>(sink: &mut S, first: &[u8], second: &[u8], third: &[u8]) -> PutAnswer
-    ensures { Puts S.holds S.faults sink.old sink.new result (first.now ++ second.now ++ third.now) }
+    ensures { Puts S.holds S.faults sink.old sink.new result
+        (first.now ++ second.now ++ third.now) }
 {
     match sink.put(first) {
         PutAnswer::Done => match sink.put(second) {
@@ -86,7 +87,8 @@ fn put_source<S: Sink>(sink: &mut S, fault: AsmFault) -> PutAnswer
 
 /// Puts a fault's line.
 fn put_line<S: Sink>(sink: &mut S, fault: Fault) -> PutAnswer
-    ensures { Puts S.holds S.faults sink.old sink.new result (fault_line fault.entry ++ codes "\n") }
+    ensures { Puts S.holds S.faults sink.old sink.new result
+        (fault_line fault.entry ++ codes "\n") }
 {
     match fault {
         Fault::Usage => put_three(sink, b"coz: usage", b"", b"\n"),

@@ -18,8 +18,10 @@ pub fn judge_lines<'r, F: Files>(alloc: Global, request: &'r Request, files: &mu
     ensures same { F.held files.new ≡ F.held files.old }
     ensures suits { Suits request.now result }
     ensures settled { IfSome (F.held files.old) (λ held. (IsMemory result → ⊥) →
-        Settles (command_verdict Lines request.now held) (F.faults files.old) (F.faults files.new) result) }
-    ensures untold { IsRead result → IfNone (F.held files.old) (Rose (F.faults files.old) (F.faults files.new)) }
+        Settles (command_verdict Lines request.now held)
+        (F.faults files.old) (F.faults files.new) result) }
+    ensures untold { IsRead result
+        → IfNone (F.held files.old) (Rose (F.faults files.old) (F.faults files.new)) }
     ensures no_fault { (IsRead result → ⊥) → F.faults files.new ≡ F.faults files.old }
 {
     let file = read_file(alloc, files, request.target.text(), MAX_PROGRAM)?;

@@ -35,7 +35,8 @@ fn push_addresses(text: &mut Vec<u8>, addresses: &[Address]) -> Result<(), Alloc
 
 #[tactic(auto, unfolding(crate::specs::Text::labelled_text))]
 fn push_labelled(text: &mut Vec<u8>, label: &[u8], addresses: &[Address]) -> Result<(), AllocError>
-    ensures { OnOk result (text.new.items ≡ text.old.items ++ labelled_text label.now addresses.now) }
+    ensures { OnOk result
+        (text.new.items ≡ text.old.items ++ labelled_text label.now addresses.now) }
 {
     text.extend_from_slice(label)?;
     text.extend_from_slice(b"\t")?;

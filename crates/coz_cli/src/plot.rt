@@ -19,8 +19,10 @@ pub fn judge_plot<'r, F: Files>(alloc: Global, request: &'r Request, files: &mut
     ensures same { F.held files.new ≡ F.held files.old }
     ensures suits { Suits request.now result }
     ensures settled { IfSome (F.held files.old) (λ held. (IsMemory result → ⊥) →
-        Settles (command_verdict Plot request.now held) (F.faults files.old) (F.faults files.new) result) }
-    ensures untold { IsRead result → IfNone (F.held files.old) (Rose (F.faults files.old) (F.faults files.new)) }
+        Settles (command_verdict Plot request.now held)
+        (F.faults files.old) (F.faults files.new) result) }
+    ensures untold { IsRead result
+        → IfNone (F.held files.old) (Rose (F.faults files.old) (F.faults files.new)) }
     ensures no_fault { (IsRead result → ⊥) → F.faults files.new ≡ F.faults files.old }
 {
     let file = read_file(alloc, files, request.target.text(), MAX_PROFILE)?;

@@ -123,7 +123,8 @@ fn plan_answer<'r, R: Threads + Sync, G: Gate>(
     requires lines { All (λ (pair : Experiment). pair.line.0 < length index.now.lines) plan.now }
     ensures no_read { IsRead result → ⊥ }
     ensures settled { (IsMemory result → ⊥) → answered result ≡ profile_verdict
-        (profile_of (runs_in image.now index.now input.now) index.now.lines request.now.budget points.now.lines plan.now) }
+        (profile_of (runs_in image.now index.now input.now)
+        index.now.lines request.now.budget points.now.lines plan.now) }
 {
     let labels = point_labels(alloc, index, points)?;
     let summaries = run_plan(
@@ -145,7 +146,8 @@ fn plan_answer<'r, R: Threads + Sync, G: Gate>(
     }))
 }
 
-/// What is written of the runs of a program with these lines, if it has those that are named and the plan isn't too large.
+/// What is written of the runs of a program with these lines, if it has those that are named
+/// and the plan isn't too large.
 pub fn profile_answer<'r, R: Threads + Sync, G: Gate>(
     rt: &R,
     alloc: Global,

@@ -33,9 +33,13 @@ pub fn read_file<'a, F: Files>(
     ensures same { F.held files.new ≡ F.held files.old }
     ensures short { IfOk result (λ file. length file.items ≤ most) }
     ensures of_path { IfErr result (IsOfPath path.now) }
-    ensures settled { IfSome (F.held files.old) (λ held. (IsMemory result → ⊥) → (next : List ℕ → Verdict) →
-        SettlesThen (λ file. next file.items) (read_verdict most path.now (file_at held path.now) next) (F.faults files.old) (F.faults files.new) result) }
-    ensures untold { IsRead result → IfNone (F.held files.old) (Rose (F.faults files.old) (F.faults files.new)) }
+    ensures settled { IfSome (F.held files.old) (λ held.
+        (IsMemory result → ⊥) → (next : List ℕ → Verdict) →
+        SettlesThen (λ file. next file.items)
+        (read_verdict most path.now (file_at held path.now) next)
+        (F.faults files.old) (F.faults files.new) result) }
+    ensures untold { IsRead result
+        → IfNone (F.held files.old) (Rose (F.faults files.old) (F.faults files.new)) }
     ensures no_fault { (IsRead result → ⊥) → F.faults files.new ≡ F.faults files.old }
 {
     let mut file = Vec::new(alloc);
@@ -66,7 +70,8 @@ pub fn read_program<'a, 'f>(alloc: Global, file: &'f [u8]) -> Result<Program<'f>
         follows result (λ program. next program.image (view program.table)) ≡ program_verdict file.now next }
     ensures loads { IfOk result (λ program. load_answer file.now ≡ Ok program.image) }
     ensures reads { IfOk result (λ program. table_in file.now ≡ Ok (view program.table)) }
-    ensures indexed { IfOk result (λ program. IsIndex (view program.table) program.image.areas program.index) }
+    ensures indexed { IfOk result (λ program.
+        IsIndex (view program.table) program.image.areas program.index) }
 {
     let image = load(alloc, file)?;
     let table = read_table(alloc, &image)?;

@@ -36,7 +36,8 @@ fn ending_status(ending: Ending) -> u8
 
 /// The account of each hart that was made.
 fn accounts(alloc: Global, machine: &Machine) -> Result<Vec<Account>, AllocError>
-    ensures { IfOk result (λ accounts. map account_as accounts.items ≡ map (λ (hart : Hart). hart.account) machine.now.state.harts) }
+    ensures { IfOk result (λ accounts. map account_as accounts.items
+        ≡ map (λ (hart : Hart). hart.account) machine.now.state.harts) }
 {
     let mut accounts = Vec::new(alloc);
     for number in 0..machine.harts() {
@@ -51,7 +52,8 @@ fn accounts(alloc: Global, machine: &Machine) -> Result<Vec<Account>, AllocError
 /// What `run` prints of a run that has ended.
 fn machine_text(alloc: Global, machine: &Machine) -> Result<Vec<u8>, AllocError>
     requires { IsSome machine.now.state.ending }
-    ensures { (ending : Ending) → machine.now.state.ending ≡ Some ending → IfOk result (λ text. text.items ≡
+    ensures { (ending : Ending) → machine.now.state.ending ≡ Some ending
+        → IfOk result (λ text. text.items ≡
         run_text (record_of (experiment_of machine.now) machine.now.state ending)) }
 {
     let Some(outcome) = machine.outcome() else {
@@ -100,7 +102,8 @@ pub fn run_answer<'r>(
     requires { IsChoice choice }
     ensures no_read { IsRead result → ⊥ }
     ensures settled { (IsMemory result → ⊥) → answered result ≡
-        run_verdict (delayed_record (experiment image.now (position_at index.now) (point_of points.now) input.now choice)) }
+        run_verdict (delayed_record
+        (experiment image.now (position_at index.now) (point_of points.now) input.now choice)) }
 {
     let mut machine = Machine::new(alloc, image, index, points, input, choice)?;
     let answer = machine_answer(alloc, &mut machine);
@@ -148,7 +151,8 @@ pub fn really_answer<'r>(
     requires { IsChoice choice }
     ensures no_read { IsRead result → ⊥ }
     ensures settled { (IsMemory result → ⊥) → answered result ≡
-        really_verdict (shortened_record (experiment image.now (position_at index.now) (point_of points.now) input.now choice)) }
+        really_verdict (shortened_record
+        (experiment image.now (position_at index.now) (point_of points.now) input.now choice)) }
 {
     let mut short = Short::new(alloc, image, index, points, input, choice)?;
     let answer = short_answer(alloc, &mut short);

@@ -38,7 +38,8 @@ pub fn line_named<'r>(
     requires { IfSome line (λ text. is_line text.now ≡ true) }
     ensures no_read { IsRead result → ⊥ }
     ensures settled { (next : Option ℕ → Verdict) →
-        follows result (λ line. next (option_map id_of line)) ≡ named_verdict (line_named index.now.lines (option_copied line.entry)) next }
+        follows result (λ line. next (option_map id_of line))
+        ≡ named_verdict (line_named index.now.lines (option_copied line.entry)) next }
 {
     let Some(text) = line else {
         return Ok(None);
@@ -55,9 +56,11 @@ fn lines_of<'r>(alloc: Global, index: &LineIndex, list: &'r [u8]) -> Result<Vec<
     requires { is_list list.now ≡ true }
     ensures no_read { IsRead result → ⊥ }
     ensures settled { (IsMemory result → ⊥) → (next : List ℕ → Verdict) →
-        follows result (λ lines. next (ids lines.items)) ≡ named_verdict (selected index.now.lines list.now) next }
+        follows result (λ lines. next (ids lines.items))
+        ≡ named_verdict (selected index.now.lines list.now) next }
     ensures rising { IfOk result (λ lines. IsStrictlySortedBy nat_cmp (ids lines.items)) }
-    ensures below { IfOk result (λ lines. All (λ (line : LineId). line.0 < length index.now.lines) lines.items) }
+    ensures below { IfOk result (λ lines.
+        All (λ (line : LineId). line.0 < length index.now.lines) lines.items) }
 {
     match select(alloc, index, list) {
         Ok(lines) => Ok(lines),
@@ -73,7 +76,8 @@ fn lines_of<'r>(alloc: Global, index: &LineIndex, list: &'r [u8]) -> Result<Vec<
 fn all_lines(alloc: Global, index: &LineIndex) -> Result<Vec<LineId>, AllocError>
     ensures all { IfOk result (λ lines. ids lines.items ≡ all_lines index.now.lines) }
     ensures rising { IfOk result (λ lines. IsStrictlySortedBy nat_cmp (ids lines.items)) }
-    ensures below { IfOk result (λ lines. All (λ (line : LineId). line.0 < length index.now.lines) lines.items) }
+    ensures below { IfOk result (λ lines.
+        All (λ (line : LineId). line.0 < length index.now.lines) lines.items) }
 {
     let mut lines = Vec::new(alloc);
     for line in 0..index.count() {
@@ -92,9 +96,11 @@ pub fn selected_lines<'r>(
     ensures no_read { IsRead result → ⊥ }
     ensures settled { (IsMemory result → ⊥) → (next : List ℕ → Verdict) →
         follows result (λ lines. next (ids lines.items))
-        ≡ named_verdict (lines_named index.now.lines (all_lines index.now.lines) (option_copied list.entry)) next }
+        ≡ named_verdict
+        (lines_named index.now.lines (all_lines index.now.lines) (option_copied list.entry)) next }
     ensures rising { IfOk result (λ lines. IsStrictlySortedBy nat_cmp (ids lines.items)) }
-    ensures below { IfOk result (λ lines. All (λ (line : LineId). line.0 < length index.now.lines) lines.items) }
+    ensures below { IfOk result (λ lines.
+        All (λ (line : LineId). line.0 < length index.now.lines) lines.items) }
 {
     match list {
         Some(list) => lines_of(alloc, index, list),
@@ -113,7 +119,8 @@ fn progress_lines<'r>(
     ensures settled { (IsMemory result → ⊥) → (next : List ℕ → Verdict) →
         follows result (λ lines. next (ids lines.items))
         ≡ named_verdict (lines_named index.now.lines [] (option_copied list.entry)) next }
-    ensures below { IfOk result (λ lines. All (λ (line : LineId). line.0 < length index.now.lines) lines.items) }
+    ensures below { IfOk result (λ lines.
+        All (λ (line : LineId). line.0 < length index.now.lines) lines.items) }
 {
     match list {
         Some(list) => lines_of(alloc, index, list),
@@ -146,9 +153,11 @@ pub fn progress_points<'r>(
     ensures no_read { IsRead result → ⊥ }
     ensures settled { (IsMemory result → ⊥) → (next : List ℕ → Verdict) →
         follows result (λ points. next points.lines)
-        ≡ named_verdict (lines_named index.now.lines [] (option_copied list.entry)) (λ named. points_verdict named next) }
+        ≡ named_verdict (lines_named index.now.lines [] (option_copied list.entry))
+        (λ named. points_verdict named next) }
     ensures points { IfOk result (λ points. IsPoints index.now points.lines points) }
-    ensures below { IfOk result (λ points. All (λ line. line < length index.now.lines) points.lines) }
+    ensures below { IfOk result (λ points.
+        All (λ line. line < length index.now.lines) points.lines) }
 {
     let lines = progress_lines(alloc, index, list)?;
     points_of(alloc, index, &lines)

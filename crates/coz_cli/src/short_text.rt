@@ -12,7 +12,8 @@ use std::alloc::{AllocError, Global};
 
 #[tactic(auto, unfolding(crate::specs::Text::net_outcome_text))]
 fn push_outcome<'a>(text: &mut Vec<u8>, run: ShortRecord<'a>) -> Result<(), AllocError>
-    ensures { OnOk result (text.new.items ≡ text.old.items ++ net_outcome_text (net_record_of run.entry)) }
+    ensures { OnOk result
+        (text.new.items ≡ text.old.items ++ net_outcome_text (net_record_of run.entry)) }
 {
     text.extend_from_slice(b"end ")?;
     push_ending(text, run.ending)?;
@@ -37,7 +38,8 @@ fn push_visit(text: &mut Vec<u8>, visit: Visit) -> Result<(), AllocError>
 #[tactic(auto, unfolding(crate::specs::Text::net_visits_text))]
 fn push_visits(text: &mut Vec<u8>, visits: &[Visit]) -> Result<(), AllocError>
     requires { All (λ (v : Visit). v.delay ≤ v.time) visits.now }
-    ensures { OnOk result (text.new.items ≡ text.old.items ++ net_visits_text (map net_of visits.now)) }
+    ensures { OnOk result
+        (text.new.items ≡ text.old.items ++ net_visits_text (map net_of visits.now)) }
 {
     for visit in visits {
         push_visit(text, *visit)?;

@@ -26,15 +26,18 @@ pub fn judge_source<'r, F: Files>(alloc: Global, request: &'r Request, files: &m
     ensures same { F.held files.new ≡ F.held files.old }
     ensures suits { Suits request.now result }
     ensures settled { IfSome (F.held files.old) (λ held. (IsMemory result → ⊥) →
-        Settles (command_verdict Asm request.now held) (F.faults files.old) (F.faults files.new) result) }
-    ensures untold { IsRead result → IfNone (F.held files.old) (Rose (F.faults files.old) (F.faults files.new)) }
+        Settles (command_verdict Asm request.now held)
+        (F.faults files.old) (F.faults files.new) result) }
+    ensures untold { IsRead result
+        → IfNone (F.held files.old) (Rose (F.faults files.old) (F.faults files.new)) }
     ensures no_fault { (IsRead result → ⊥) → F.faults files.new ≡ F.faults files.old }
 {
     let source = read_file(alloc, files, request.target.text(), MAX_SOURCE)?;
     source_answer(alloc, &source, request.target.text(), request.dwarf)
 }
 
-/// The file of what a source stands for, with the source's name in it and a line table of this version.
+/// The file of what a source stands for, with the source's name in it and a line
+/// table of this version.
 fn source_answer<'r>(alloc: Global, source: &[u8], name: &str, version: u8) -> Answer<'r>
     requires short { length source.now ≤ 4194304 }
     requires named { IsName name.now }

@@ -84,7 +84,8 @@ fn push_outcome<'a>(text: &mut Vec<u8>, run: RunRecord<'a>) -> Result<(), AllocE
 
 #[tactic(auto, unfolding(crate::specs::Text::hart_text))]
 fn push_hart(text: &mut Vec<u8>, number: u64, account: Account) -> Result<(), AllocError>
-    ensures { OnOk result (text.new.items ≡ text.old.items ++ hart_text number (account_as account)) }
+    ensures { OnOk result
+        (text.new.items ≡ text.old.items ++ hart_text number (account_as account)) }
 {
     text.extend_from_slice(b"hart ")?;
     push_number(text, number)?;
@@ -97,7 +98,8 @@ fn push_hart(text: &mut Vec<u8>, number: u64, account: Account) -> Result<(), Al
 
 #[tactic(auto, unfolding(crate::specs::Text::harts_text))]
 fn push_harts(text: &mut Vec<u8>, accounts: &[Account]) -> Result<(), AllocError>
-    ensures { OnOk result (text.new.items ≡ text.old.items ++ harts_text 0 (map account_as accounts.now)) }
+    ensures { OnOk result
+        (text.new.items ≡ text.old.items ++ harts_text 0 (map account_as accounts.now)) }
 {
     for (number, account) in accounts.iter().enumerate() {
         push_hart(text, number as u64, *account)?;
@@ -124,7 +126,8 @@ fn push_visit(text: &mut Vec<u8>, visit: Visit) -> Result<(), AllocError>
 #[tactic(auto, unfolding(crate::specs::Text::visits_text))]
 fn push_visits(text: &mut Vec<u8>, visits: &[Visit]) -> Result<(), AllocError>
     requires { All (λ (v : Visit). v.delay ≤ v.time) visits.now }
-    ensures { OnOk result (text.new.items ≡ text.old.items ++ visits_text (map visit_as visits.now)) }
+    ensures { OnOk result
+        (text.new.items ≡ text.old.items ++ visits_text (map visit_as visits.now)) }
 {
     for visit in visits {
         push_visit(text, *visit)?;

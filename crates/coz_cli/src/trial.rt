@@ -115,10 +115,12 @@ fn trial_profile<'r, R: Threads + Sync, G: Gate>(
     requires point { point.0 < length index.now.lines }
     requires some_workers { 1 ≤ workers }
     requires few_workers { workers ≤ 16 }
-    ensures profile { IfOk result (λ profile. profile ≡ trial_profile (runs_in image.now index.now []) index.now.lines point.0) }
+    ensures profile { IfOk result (λ profile.
+        profile ≡ trial_profile (runs_in image.now index.now []) index.now.lines point.0) }
     ensures points { IfOk result (λ profile. length profile.points ≡ 1) }
     ensures ranges { IfOk result (λ profile. AllByRecursion (IsSummary 1) profile.summaries) }
-    ensures whole { IfOk result (λ profile. length profile.summaries ≡ length (trial_plan index.now.lines)) }
+    ensures whole { IfOk result (λ profile.
+        length profile.summaries ≡ length (trial_plan index.now.lines)) }
     ensures memory { IfErr result IsMemoryFault }
 {
     let lines = tenths(alloc, index.count())?;

@@ -72,7 +72,8 @@ pub fn trial_text(
     requires points { length profile.now.points ≤ 64 }
     requires ranges { AllByRecursion (IsSummary (length profile.now.points)) profile.now.summaries }
     requires whole { length profile.now.summaries ≡ length (trial_plan index.now.lines) }
-    ensures { IfOk result (λ text. text.items ≡ trial_text (view source.now) index.now.lines profile.now) }
+    ensures { IfOk result (λ text.
+        text.items ≡ trial_text (view source.now) index.now.lines profile.now) }
 {
     let book = profile_text(alloc, profile)?;
     let curves = curves(alloc, profile)?;

@@ -10,8 +10,9 @@ use std::marker::Model;
 /// How many bytes are gathered before they are put.
 const ROOM: usize = 4096;
 
-/// Bytes on their way to a sink: they are gathered in a fixed room, and put where it is full. Once a put has failed,
-/// nothing more is put. The sink is passed at each call, and is to be the same one.
+/// Bytes on their way to a sink: they are gathered in a fixed room, and put where it is full.
+/// Once a put has failed, nothing more is put. The sink is passed at each call,
+/// and is to be the same one.
 #[derive(Drop)]
 pub struct PutBuffer {
     bytes: ArrayVec<u8, ROOM>,

@@ -78,7 +78,8 @@ Suits (Some path) _ = Unit {0}
 
 -- a step, and what follows it, is this verdict's, or it is a read that failed with a counted fault
 abbrev pub SettlesThen : {A : Type 0} → (A → Verdict) → Verdict → ℕ → ℕ → Result A Fault → Type 0
-SettlesThen next verdict before now step = (follows step next ≡ verdict) ⊎ (IsRead step × Rose before now)
+SettlesThen next verdict before now step =
+    (follows step next ≡ verdict) ⊎ (IsRead step × Rose before now)
 
 -- an answer is this verdict's, or that of a read that failed with a counted fault
 abbrev pub Settles : Verdict → ℕ → ℕ → Answer → Type 0

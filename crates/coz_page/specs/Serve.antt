@@ -22,5 +22,6 @@ pub record IsLine (status : ℕ) (words : List Text) (told : Option Held) (line 
   pub write : status ≡ 6 → line ≡ codes "coz-page: write"
   pub memory : status ≡ 10 → line ≡ codes "coz-page: memory"
   -- the path that the words name
-  pub read : status ≡ 5 → (path : Text) × (path_in words ≡ Some path) × (line ≡ codes "coz-page: read: " ++ path)
+  pub read : status ≡ 5
+      → (path : Text) × (path_in words ≡ Some path) × (line ≡ codes "coz-page: read: " ++ path)
   pub verdict : IsOfVerdict status → IfSome told (λ held. line ≡ (verdict words held).line)

@@ -6,7 +6,8 @@ use Rattle.coz_types.specs.Labels.{Text}
 
 -- so many hundredths of a per cent
 abbrev pub size_text : ℕ → Text
-size_text n = decimal (n / 100) ++ codes "." ++ decimal (n / 10 % 10) ++ decimal (n % 10) ++ codes "%"
+size_text n =
+    decimal (n / 100) ++ codes "." ++ decimal (n / 10 % 10) ++ decimal (n % 10) ++ codes "%"
 
 abbrev pub sign : ℤ → Text
 sign (pos n) = []

@@ -1,4 +1,5 @@
--- What the words and the files that the paths hold come to: a status, a text for the output and a line for the errors.
+-- What the words and the files that the paths hold come to: a status, a text for the output
+-- and a line for the errors.
 use Rattle.std.specs.Prelude.{ℕ, List, [], ◌∷◌, ◌++◌, length, map, nat_le, codes, decimal, Option, Some, None, if◌then◌else◌, string_bytes}
 use Rattle.std.specs.declared.string.String.{String}
 use Rattle.std.specs.declared.alloc.Global.{Global}
@@ -37,7 +38,8 @@ path_in _ = None
 -- ---- the profile
 
 abbrev pub profile_line : BookFault → Text
-profile_line fault = codes "coz-page: profile: " ++ item_name fault.field ++ codes " at " ++ decimal fault.place
+profile_line fault =
+    codes "coz-page: profile: " ++ item_name fault.field ++ codes " at " ++ decimal fault.place
 
 -- of the profile that is told, if the text has no fault
 abbrev pub book_verdict : Option BookFault → Book → Verdict
@@ -51,7 +53,8 @@ profile_verdict bytes = book_verdict (book_fault bytes) (told bytes)
 abbrev pub file_verdict : Text → Option Text → Verdict
 file_verdict path None = refused 5 (codes "coz-page: read: " ++ path)
 file_verdict path (Some bytes) =
-    if nat_le (length bytes) MAX_PROFILE then profile_verdict bytes else refused 8 (codes "coz-page: long: " ++ path)
+    if nat_le (length bytes) MAX_PROFILE then profile_verdict bytes
+    else refused 8 (codes "coz-page: long: " ++ path)
 
 abbrev pub path_verdict : Option Text → Held → Verdict
 path_verdict None held = refused 2 (codes "coz-page: usage")

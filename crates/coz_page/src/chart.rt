@@ -70,7 +70,8 @@ fn across(speedup: u8) -> u64
 
 fn put_place<O: Sink>(to: &mut PutBuffer, out: &mut O, top: u64, speedup: u8, value: i128)
     requires { IsTop top }
-    ensures { Gathers O.holds O.faults out.old out.new to.old to.new (place_text top speedup value) }
+    ensures { Gathers O.holds O.faults out.old out.new to.old to.new
+        (place_text top speedup value) }
 {
     put_number(to, out, b" ", across(speedup));
     put_number(to, out, b",", height(top, value));
@@ -108,7 +109,8 @@ fn put_dot_at<O: Sink>(to: &mut PutBuffer, out: &mut O, top: u64, step: &CurveSt
 
 fn put_places<O: Sink>(to: &mut PutBuffer, out: &mut O, top: u64, steps: &[CurveStep])
     requires { IsTop top }
-    ensures { Gathers O.holds O.faults out.old out.new to.old to.new (flat_map (place_at top) steps.now) }
+    ensures { Gathers O.holds O.faults out.old out.new to.old to.new
+        (flat_map (place_at top) steps.now) }
 {
     for step in steps {
         put_place_at(to, out, top, step);
@@ -117,7 +119,8 @@ fn put_places<O: Sink>(to: &mut PutBuffer, out: &mut O, top: u64, steps: &[Curve
 
 fn put_dots<O: Sink>(to: &mut PutBuffer, out: &mut O, top: u64, steps: &[CurveStep])
     requires { IsTop top }
-    ensures { Gathers O.holds O.faults out.old out.new to.old to.new (flat_map (dot_at top) steps.now) }
+    ensures { Gathers O.holds O.faults out.old out.new to.old to.new
+        (flat_map (dot_at top) steps.now) }
 {
     for step in steps {
         put_dot_at(to, out, top, step);

@@ -48,7 +48,8 @@ fn put_profile<S: Sink>(sink: &mut S, fault: BookFault) -> PutAnswer
 }
 
 fn put_path<S: Sink>(sink: &mut S, before: &[u8], path: &str) -> PutAnswer
-    ensures { Puts S.holds S.faults sink.old sink.new result (before.now ++ path.now ++ codes "\n") }
+    ensures { Puts S.holds S.faults sink.old sink.new result
+        (before.now ++ path.now ++ codes "\n") }
 {
     let answer = put_next(sink, PutAnswer::Done, before);
     let answer = put_next(sink, answer, path.as_bytes());
@@ -56,7 +57,8 @@ fn put_path<S: Sink>(sink: &mut S, before: &[u8], path: &str) -> PutAnswer
 }
 
 fn put_line<S: Sink>(sink: &mut S, fault: Fault) -> PutAnswer
-    ensures { Puts S.holds S.faults sink.old sink.new result (fault_line fault.entry ++ codes "\n") }
+    ensures { Puts S.holds S.faults sink.old sink.new result
+        (fault_line fault.entry ++ codes "\n") }
 {
     match fault {
         Fault::Usage => sink.put(b"coz-page: usage\n"),

@@ -39,7 +39,8 @@ pub const NOTHING: &[u8] =
 /// What stands behind all.
 pub const FOOT: &[u8] = b"</body>\n</html>\n";
 
-/// A picture up to the number at the upper end of its axis of values: both axes, and the middle of the upper half.
+/// A picture up to the number at the upper end of its axis of values: both axes, and the middle
+/// of the upper half.
 pub const AXES: &[u8] = b"<svg viewBox=\"0 0 1400 640\" role=\"img\">\
 <path d=\"M200 40V540M200 40H1340M200 240H1340\"/><path d=\"M200 440H1340\" style=\"stroke:var(--ink)\"/>\
 <text x=\"200\" y=\"610\" text-anchor=\"middle\">0%</text><text x=\"740\" y=\"610\" text-anchor=\"middle\">line 50% faster</text>\

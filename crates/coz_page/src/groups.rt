@@ -15,7 +15,8 @@ pub fn group_length(curves: &[Curve]) -> usize
     requires { 0 < length curves.now }
     ensures some { 0 < result }
     ensures within { result ≤ length curves.now }
-    ensures group { by_point curves.now ≡ take result curves.now ∷ by_point (drop result curves.now) }
+    ensures group { by_point curves.now
+        ≡ take result curves.now ∷ by_point (drop result curves.now) }
 {
     for i in 1..curves.len() {
         if !have_one_point(&curves[i - 1], &curves[i]) {

@@ -44,8 +44,11 @@ fn read_file<'a, F: Files>(
     ensures same { F.held files.new ≡ F.held files.old }
     ensures of_path { IfErr result (IsOfPath path.now) }
     ensures settled { IfSome (F.held files.old) (λ held. (IsMemory result → ⊥) →
-        SettlesThen (λ file. profile_verdict file.items) (file_verdict path.now (file_at held path.now)) (F.faults files.old) (F.faults files.new) result) }
-    ensures untold { IsRead result → IfNone (F.held files.old) (Rose (F.faults files.old) (F.faults files.new)) }
+        SettlesThen (λ file. profile_verdict file.items)
+        (file_verdict path.now (file_at held path.now))
+        (F.faults files.old) (F.faults files.new) result) }
+    ensures untold { IsRead result
+        → IfNone (F.held files.old) (Rose (F.faults files.old) (F.faults files.new)) }
     ensures no_fault { (IsRead result → ⊥) → F.faults files.new ≡ F.faults files.old }
 {
     let mut file = Vec::new(alloc);
@@ -73,8 +76,10 @@ pub fn judge<'w, F: Files>(alloc: Global, words: &'w [String], files: &mut F) ->
     ensures same { F.held files.new ≡ F.held files.old }
     ensures suits { Suits (path_in (bytes_of words.now)) result }
     ensures settled { IfSome (F.held files.old) (λ held. (IsMemory result → ⊥) →
-        Settles (verdict (bytes_of words.now) held) (F.faults files.old) (F.faults files.new) result) }
-    ensures untold { IsRead result → IfNone (F.held files.old) (Rose (F.faults files.old) (F.faults files.new)) }
+        Settles (verdict (bytes_of words.now) held)
+        (F.faults files.old) (F.faults files.new) result) }
+    ensures untold { IsRead result
+        → IfNone (F.held files.old) (Rose (F.faults files.old) (F.faults files.new)) }
     ensures no_fault { (IsRead result → ⊥) → F.faults files.new ≡ F.faults files.old }
 {
     let Some(path) = path_in(words) else {

@@ -1,4 +1,5 @@
-//! The page of a profile: its curves as tables and pictures, in one HTML text that needs nothing else.
+//! The page of a profile: its curves as tables and pictures, in one HTML text
+//! that needs nothing else.
 #![tactic(auto)]
 
 mod chart;

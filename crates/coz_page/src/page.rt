@@ -15,7 +15,8 @@ use coz_types::Label;
 use profile_book::put_number;
 
 fn put_choice<O: Sink>(to: &mut PutBuffer, out: &mut O, index: usize, label: &Label)
-    ensures { Gathers O.holds O.faults out.old out.new to.old to.new (choice_text (index, label.now)) }
+    ensures { Gathers O.holds O.faults out.old out.new to.old to.new
+        (choice_text (index, label.now)) }
 {
     put_number(to, out, b"<li><a href=\"#p", index as u64);
     put_label(to, out, b"\">", label.bytes());
@@ -23,7 +24,8 @@ fn put_choice<O: Sink>(to: &mut PutBuffer, out: &mut O, index: usize, label: &La
 }
 
 fn put_choices<O: Sink>(to: &mut PutBuffer, out: &mut O, points: &[Label])
-    ensures { Gathers O.holds O.faults out.old out.new to.old to.new (flat_map choice_text (enumerate_from 0 points.now)) }
+    ensures { Gathers O.holds O.faults out.old out.new to.old to.new
+        (flat_map choice_text (enumerate_from 0 points.now)) }
 {
     for (index, label) in points.iter().enumerate() {
         put_choice(to, out, index, label);
@@ -39,7 +41,8 @@ fn put_nothing<O: Sink>(to: &mut PutBuffer, out: &mut O, curves: &[Curve])
 }
 
 fn put_points<O: Sink>(to: &mut PutBuffer, out: &mut O, points: &[Label], curves: &[Curve])
-    ensures { Gathers O.holds O.faults out.old out.new to.old to.new (flat_map (point_text points.now) (by_point curves.now)) }
+    ensures { Gathers O.holds O.faults out.old out.new to.old to.new
+        (flat_map (point_text points.now) (by_point curves.now)) }
 {
     let mut rest = curves;
     while !rest.is_empty() {

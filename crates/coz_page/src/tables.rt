@@ -25,7 +25,8 @@ fn put_row<O: Sink>(to: &mut PutBuffer, out: &mut O, curve: &Curve)
 }
 
 fn put_rows<O: Sink>(to: &mut PutBuffer, out: &mut O, curves: &[Curve])
-    ensures { Gathers O.holds O.faults out.old out.new to.old to.new (flat_map row_text curves.now) }
+    ensures { Gathers O.holds O.faults out.old out.new to.old to.new
+        (flat_map row_text curves.now) }
 {
     for curve in curves {
         put_row(to, out, curve);
@@ -46,7 +47,8 @@ fn put_figure<O: Sink>(to: &mut PutBuffer, out: &mut O, top: u64, curve: &Curve)
 
 fn put_figures<O: Sink>(to: &mut PutBuffer, out: &mut O, top: u64, curves: &[Curve])
     requires { IsTop top }
-    ensures { Gathers O.holds O.faults out.old out.new to.old to.new (flat_map (figure_text top) curves.now) }
+    ensures { Gathers O.holds O.faults out.old out.new to.old to.new
+        (flat_map (figure_text top) curves.now) }
 {
     for curve in curves {
         put_figure(to, out, top, curve);
@@ -96,7 +98,8 @@ fn top_of(curves: &[Curve]) -> u64
 
 /// What the page has of the point that these curves are of.
 pub fn put_point<O: Sink>(to: &mut PutBuffer, out: &mut O, points: &[Label], curves: &[Curve])
-    ensures { Gathers O.holds O.faults out.old out.new to.old to.new (point_text points.now curves.now) }
+    ensures { Gathers O.holds O.faults out.old out.new to.old to.new
+        (point_text points.now curves.now) }
 {
     let count = MOST_SHOWN.min(curves.len());
     let shown = &curves[..count];

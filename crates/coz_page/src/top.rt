@@ -24,7 +24,8 @@ pub fn serve<F: Files, O: Sink, E: Sink>(
     // The words alone decide on usage.
     ensures usage { (result ≡ 2) ↔ (path_in (bytes_of words.now) ≡ None) }
 
-    // Where the files are told, the status is the verdict's, but for a counted fault and want of memory.
+    // Where the files are told, the status is the verdict's, but for a counted fault
+    // and want of memory.
     ensures verdict { IfSome (F.held files.old) (λ held.
         IsOfVerdict result → result ≡ (verdict (bytes_of words.now) held).status) }
 
@@ -39,7 +40,8 @@ pub fn serve<F: Files, O: Sink, E: Sink>(
     ensures text { IfSome (F.held files.old) (λ held. result ≡ 0 →
         Appends (O.holds out.old) (O.holds out.new) (verdict (bytes_of words.now) held).text) }
     ensures torn { IfSome (F.held files.old) (λ held. result ≡ 6 →
-        AppendsPrefix (O.holds out.old) (O.holds out.new) (verdict (bytes_of words.now) held).text) }
+        AppendsPrefix (O.holds out.old) (O.holds out.new)
+        (verdict (bytes_of words.now) held).text) }
     ensures nothing { result ≢ 0 → result ≢ 6 → O.holds out.new ≡ O.holds out.old }
 
     // The line on the error sink.

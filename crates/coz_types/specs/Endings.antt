@@ -19,7 +19,9 @@ address_text address = codes "0x" ++ digits 16 false address
 
 abbrev pub ending_text : Ending → Text
 ending_text (Exited code) = codes "exited:" ++ decimal code
-ending_text (Trapped trap) = codes "trapped:" ++ cause_text trap.cause ++ codes ":" ++ decimal trap.hart.0 ++ codes ":" ++ address_text trap.pc
+ending_text (Trapped trap) =
+    codes "trapped:" ++ cause_text trap.cause ++ codes ":" ++ decimal trap.hart.0
+    ++ codes ":" ++ address_text trap.pc
 ending_text (Unsupported number) = codes "unsupported:" ++ decimal number
 ending_text Clock = codes "clock"
 ending_text OutputFull = codes "output-full"

@@ -15,7 +15,8 @@ is_empty text = length text == 0
 
 -- the text is the one spelling of a number of at most so much
 abbrev pub is_decimal : ℕ → Text → Bool
-is_decimal most text = bytes_eq text (decimal (digits_value 10 text)) && nat_le (digits_value 10 text) most
+is_decimal most text =
+    bytes_eq text (decimal (digits_value 10 text)) && nat_le (digits_value 10 text) most
 
 -- ---- written paths
 
@@ -40,15 +41,18 @@ is_hex_digit b = (nat_le 48 b && nat_le b 57) || (nat_le 65 b && nat_le b 70)
 abbrev pub hex_value : ℕ → ℕ
 hex_value b = if nat_lt b 65 then b - 48 else b - 55
 
--- where a scan of a path stands: between two bytes, behind a `%`, or behind a `%` and a digit of this value
+-- where a scan of a path stands: between two bytes, behind a `%`, or behind a `%`
+-- and a digit of this value
 abbrev pub Scan : Type 0
 Scan = Option (Option ℕ)
 
--- where it stands behind this byte; an escape is a `%` and the two digits of a byte that has to be escaped
+-- where it stands behind this byte; an escape is a `%` and the two digits of a byte
+-- that has to be escaped
 abbrev pub step : Scan → ℕ → Option Scan
 step None b = if b == 37 then Some (Some None) else (if is_escaped b then None else Some None)
 step (Some None) b = if is_hex_digit b then Some (Some (Some (hex_value b))) else None
-step (Some (Some high)) b = if is_hex_digit b && is_escaped (16 * high + hex_value b) then Some None else None
+step (Some (Some high)) b =
+    if is_hex_digit b && is_escaped (16 * high + hex_value b) then Some None else None
 
 abbrev pub scans : Option Scan → Text → Bool
 scans None text = false
@@ -68,7 +72,10 @@ label_of path number = path ++ 58 ∷ decimal number
 -- what stands before the last colon and what stands behind it, where there is one
 abbrev pub parts_of : Text → Option (Text × Text)
 parts_of [] = None
-parts_of (b ∷ rest) = elim (parts_of rest) [ Some p ↦ Some (b ∷ p.0, p.1) | None ↦ if b == 58 then Some ([], rest) else None ]
+parts_of (b ∷ rest) = elim (parts_of rest) [
+  | Some p ↦ Some (b ∷ p.0, p.1)
+  | None ↦ if b == 58 then Some ([], rest) else None
+]
 
 -- the number of a line, or 0 where the text is no spelling of one
 abbrev pub line_number : Text → ℕ
@@ -83,8 +90,13 @@ number_of label = elim (parts_of label) [ Some p ↦ line_number p.1 | None ↦ 
 
 -- a written path that isn't empty, a colon and the spelling of a number from 1 below 2^32
 abbrev pub is_label : Text → Bool
-is_label label = elim (parts_of label) [ Some p ↦ not (is_empty p.0) && (is_written p.0 && nat_lt 0 (line_number p.1)) | None ↦ false ]
+is_label label = elim (parts_of label) [
+  | Some p ↦ not (is_empty p.0) && (is_written p.0 && nat_lt 0 (line_number p.1))
+  | None ↦ false
+]
 
 -- by the written path's bytes, then by number
 abbrev pub label_before : Text → Text → Bool
-label_before a b = is_lt (ordering_then (slice_cmp nat_cmp (path_of a) (path_of b)) (nat_cmp (number_of a) (number_of b)))
+label_before a b =
+    is_lt (ordering_then (slice_cmp nat_cmp (path_of a) (path_of b))
+    (nat_cmp (number_of a) (number_of b)))

@@ -65,7 +65,8 @@ abbrev pub run_options : List Text
 run_options = input_name ∷ line_name ∷ speedup_name ∷ progress_name ∷ budget_name ∷ []
 
 abbrev pub profile_options : List Text
-profile_options = input_name ∷ lines_name ∷ progress_name ∷ speedups_name ∷ budget_name ∷ workers_name ∷ []
+profile_options =
+    input_name ∷ lines_name ∷ progress_name ∷ speedups_name ∷ budget_name ∷ workers_name ∷ []
 
 -- the options of a command
 abbrev pub option_names : Command → List Text
@@ -124,7 +125,8 @@ has_text item = is_some_text (text_of item)
 
 -- options of the command, each at most once, and no text is empty
 abbrev pub are_items_of : Command → List Item → Bool
-are_items_of c items = list_all (belongs (option_names c)) items && is_once items && list_all has_text items
+are_items_of c items =
+    list_all (belongs (option_names c)) items && is_once items && list_all has_text items
 
 -- ---- values
 
@@ -136,7 +138,8 @@ none_or test (Some text) = test text
 abbrev pub has_option : Command → Text → Bool
 has_option c name = is_among (option_names c) name
 
--- the number of an option that comes; where it doesn't, the usual one, or 0 where the command hasn't the option
+-- the number of an option that comes; where it doesn't, the usual one,
+-- or 0 where the command hasn't the option
 abbrev pub number_or : Command → Text → ℕ → ℕ → ℕ → Option Text → Option ℕ
 number_or c name usual least most None = Some (if has_option c name then usual else 0)
 number_or c name usual least most (Some number) = number_in least most number
@@ -160,10 +163,15 @@ o >>= f = option_and_then f o
 -- the numbers of a list of texts, where each is one
 abbrev pub numbers_in : ℕ → ℕ → List Text → Option (List ℕ)
 numbers_in least most [] = Some []
-numbers_in least most (text ∷ texts) = number_in least most text >>= λ number. numbers_in least most texts >>= λ numbers. Some (number ∷ numbers)
+numbers_in least most (text ∷ texts) =
+    number_in least most text >>= λ number.
+    numbers_in least most texts >>= λ numbers.
+    Some (number ∷ numbers)
 
 abbrev pub all_speedups : List ℕ
-all_speedups = 0 ∷ 5 ∷ 10 ∷ 15 ∷ 20 ∷ 25 ∷ 30 ∷ 35 ∷ 40 ∷ 45 ∷ 50 ∷ 55 ∷ 60 ∷ 65 ∷ 70 ∷ 75 ∷ 80 ∷ 85 ∷ 90 ∷ 95 ∷ []
+all_speedups =
+    0 ∷ 5 ∷ 10 ∷ 15 ∷ 20 ∷ 25 ∷ 30 ∷ 35 ∷ 40 ∷ 45 ∷ 50 ∷ 55 ∷ 60 ∷ 65 ∷ 70 ∷ 75
+    ∷ 80 ∷ 85 ∷ 90 ∷ 95 ∷ []
 
 -- the speedups, as they were given
 abbrev pub speedups_in : Command → Option Text → Option (List ℕ)
@@ -175,7 +183,8 @@ speedups_in c (Some numbers) = numbers_in 0 GREATEST_SPEEDUP (pieces numbers)
 -- the request of a command, a positional, and the values of options by their names
 abbrev pub request_with : Command → Option Text → (Text → Option Text) → Option Request
 request_with c path value =
-    if none_or is_line (value line_name) && none_or is_list (value lines_name) && none_or is_list (value progress_name) then (
+    if none_or is_line (value line_name) && none_or is_list (value lines_name)
+    && none_or is_list (value progress_name) then (
     path >>= λ target.
     speedup_in (value line_name) (value speedup_name) >>= λ speedup.
     speedups_in c (value speedups_name) >>= λ speedups.
@@ -203,7 +212,9 @@ request_with c path value =
 
 -- the request that the items make, where they are right
 unfoldable pub asked : Command → List Item → Option Request
-asked c items = if are_items_of c items then request_with c (target_of items) (λ name. value_of name items) else None
+asked c items =
+    if are_items_of c items then request_with c (target_of items) (λ name. value_of name items)
+    else None
 
 abbrev pub has_no_zero : Text → Bool
 has_no_zero word = list_all (λ b. not (b == 0)) word

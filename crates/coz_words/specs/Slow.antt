@@ -28,7 +28,10 @@ value_in rest = after_first (λ b. b == 61) rest
 unfoldable pub items_in : List Text → Option Text → List Text → Option (List Item)
 items_in names None [] = Some []
 items_in names (Some name) [] = None
-items_in names (Some name) (word ∷ words) = elim (stands word) [ true ↦ put (option name word) (items_in names None words) | false ↦ None ]
+items_in names (Some name) (word ∷ words) = elim (stands word) [
+  | true ↦ put (option name word) (items_in names None words)
+  | false ↦ None
+]
 items_in names None (word ∷ words) = elim (stands word) [
   | true ↦ put (target word) (items_in names None words)
   | false ↦ elim (bytes_eq word dashes) [
@@ -36,7 +39,8 @@ items_in names None (word ∷ words) = elim (stands word) [
     | false ↦ elim (bytes_eq (take 2 word) dashes && is_among names (name_in (drop 2 word))) [
       | false ↦ None
       | true ↦ elim (list_any (λ b. b == 61) (drop 2 word)) [
-        | true ↦ put (option (name_in (drop 2 word)) (value_in (drop 2 word))) (items_in names None words)
+        | true ↦ put (option (name_in (drop 2 word)) (value_in (drop 2 word)))
+            (items_in names None words)
         | false ↦ items_in names (Some (name_in (drop 2 word))) words
       ]
     ]

@@ -9,7 +9,8 @@ use std::alloc::{AllocError, Global};
 
 /// A command of these options, each with a value, and no help or version flags.
 fn with_options<'a>(alloc: Global, names: &[&'a str]) -> Result<Command<'a>, AllocError>
-    ensures { IfOk result (λ c. app_of c ≡ app_with (map asked_option (map (λ s. s.now) names.now))) }
+    ensures { IfOk result (λ c.
+        app_of c ≡ app_with (map asked_option (map (λ s. s.now) names.now))) }
 {
     let mut command = Command::new(alloc, "coz")
         .disable_help_flag(true)
@@ -41,7 +42,8 @@ pub fn parsed<'a>(
     words: &'a [String],
 ) -> Result<Option<ArgMatches<'a>>, AllocError>
     requires { AreNames (map (λ s. s.now) names.now) }
-    ensures { IfOk result (λ found. Finds (map (λ s. s.now) names.now) (map string_bytes words.entry.now) (option_map (λ m. first_value (found_of m)) found)) }
+    ensures { IfOk result (λ found. Finds (map (λ s. s.now) names.now)
+        (map string_bytes words.entry.now) (option_map (λ m. first_value (found_of m)) found)) }
 {
     match command_with(alloc, names)?.try_get_matches_from(words) {
         Ok(matches) => Ok(Some(matches)),

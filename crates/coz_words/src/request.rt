@@ -89,7 +89,8 @@ impl<T: Drop> From<AllocFailed<T>> for WordsError {
 
 /// The text of the command's option of that name, if the command has it and it is given.
 fn text_of<'a>(command: Command, matches: &ArgMatches<'a>, name: &str) -> Option<&'a str>
-    ensures { option_copied result ≡ option_value command (first_value (found_of matches.now)) name.now }
+    ensures { option_copied result
+        ≡ option_value command (first_value (found_of matches.now)) name.now }
 {
     if has_option(command, name) {
         matches.get_str(name)
@@ -100,7 +101,8 @@ fn text_of<'a>(command: Command, matches: &ArgMatches<'a>, name: &str) -> Option
 
 /// The request that the values make.
 fn request_of(alloc: Global, command: Command, matches: &ArgMatches) -> Result<Request, WordsError>
-    ensures { Answers (request_with command (first_value (found_of matches.now) target_id) (option_value command (first_value (found_of matches.now)))) result }
+    ensures { Answers (request_with command (first_value (found_of matches.now) target_id)
+        (option_value command (first_value (found_of matches.now)))) result }
 {
     let line = text_of(command, matches, "line");
     let lines = text_of(command, matches, "lines");
@@ -162,7 +164,10 @@ fn has_text(text: Option<&str>) -> bool
 
 /// Whether no text is empty.
 fn are_texts(command: Command, matches: &ArgMatches) -> bool
-    ensures { result ≡ (none_or is_some_text (first_value (found_of matches.now) target_id) && list_all (λ name. none_or is_some_text (option_value command (first_value (found_of matches.now)) name)) (option_names command)) }
+    ensures { result ≡ (none_or is_some_text (first_value (found_of matches.now) target_id)
+        && list_all (λ name.
+        none_or is_some_text (option_value command (first_value (found_of matches.now)) name))
+        (option_names command)) }
 {
     has_text(matches.get_str("target"))
         && option_names(command)
@@ -188,26 +193,32 @@ fn request_in(alloc: Global, words: &[String]) -> Result<Request, WordsError>
 
 /// The request that the words after the program's name make:
 ///
-/// - `run` or `really`, the program's path, and `--input FILE`, `--line LINE`, `--speedup P`, `--progress LIST` and
-///   `--budget N` in any order, each at most once;
-/// - `profile`, the program's path, and `--input FILE`, `--lines LIST`, `--progress LIST`, `--speedups NUMBERS`,
-///   `--budget N` and `--workers W` likewise;
+/// - `run` or `really`, the program's path, and `--input FILE`, `--line LINE`, `--speedup P`,
+///   `--progress LIST` and `--budget N` in any order, each at most once;
+/// - `profile`, the program's path, and `--input FILE`, `--lines LIST`, `--progress LIST`,
+///   `--speedups NUMBERS`, `--budget N` and `--workers W` likewise;
 /// - `lines` and the program's path;
 /// - `plot` and the profile's path;
 /// - `asm`, the source's path, and `--dwarf V`;
 /// - `trial`, a number below 2^64, and `--size N` and `--workers W` likewise.
 ///
 /// A value may stand in the option's word behind a `=`; a word `--` ends the options.
-/// A number has 1 to 20 digits. A speedup is 0 to 95, and stands beside a line; a budget is 1 to 10^12; there are 1 to
-/// 16 workers, 4 where none is given; a version is 4 or 5, and 4 where none is given; a size is 1 to 2,000, and 100
-/// where none is given.
-/// A line is a path without a comma, `:` and a number from 1 to 2^32 - 1; a list is one line or more, with a comma between,
-/// and so are NUMBERS of speedups, which are 0, 5, 10 and so on to 95 where none are given.
-/// All other words are `Usage`. Want of memory can stand against any words, and is then the answer in place of either.
+/// A number has 1 to 20 digits. A speedup is 0 to 95, and stands beside a line;
+/// a budget is 1 to 10^12; there are 1 to 16 workers, 4 where none is given; a version is 4 or 5,
+/// and 4 where none is given; a size is 1 to 2,000, and 100 where none is given.
+/// A line is a path without a comma, `:` and a number from 1 to 2^32 - 1; a list is one line
+/// or more, with a comma between, and so are NUMBERS of speedups, which are 0, 5, 10
+/// and so on to 95 where none are given.
+/// All other words are `Usage`. Want of memory can stand against any words, and is then the answer
+/// in place of either.
 pub fn read_words(alloc: Global, words: &[String]) -> Result<Request, WordsError>
     ensures given { IfOk result (λ request. Requests (bytes_of words.now) request) }
-    ensures only { (request : Request) → Requests (bytes_of words.now) request → (result ≡ Ok request) ⊎ (result ≡ Err Memory) }
-    ensures usage { (result ≡ Err Usage → (request : Request) → Requests (bytes_of words.now) request → ⊥) × (((request : Request) → Requests (bytes_of words.now) request → ⊥) → (result ≡ Err Usage) ⊎ (result ≡ Err Memory)) }
+    ensures only { (request : Request) → Requests (bytes_of words.now) request
+        → (result ≡ Ok request) ⊎ (result ≡ Err Memory) }
+    ensures usage { (result ≡ Err Usage
+        → (request : Request) → Requests (bytes_of words.now) request → ⊥)
+        × (((request : Request) → Requests (bytes_of words.now) request → ⊥)
+        → (result ≡ Err Usage) ⊎ (result ≡ Err Memory)) }
     ensures fit { IfOk result IsFit }
 {
     request_in(alloc, words)

@@ -24,14 +24,17 @@ static ALL_SPEEDUPS: [u8; 20] = [
 
 /// Whether the line and the lists are such, where they are given.
 pub fn are_lines(line: Option<&str>, lines: Option<&str>, progress: Option<&str>) -> bool
-    ensures { result ≡ (none_or is_line (option_copied line.entry) && none_or is_list (option_copied lines.entry) && none_or is_list (option_copied progress.entry)) }
+    ensures { result
+        ≡ (none_or is_line (option_copied line.entry) && none_or is_list (option_copied lines.entry)
+        && none_or is_list (option_copied progress.entry)) }
 {
     line.is_none_or(|text| is_line(text.as_bytes()))
         && lines.is_none_or(|text| is_list(text.as_bytes()))
         && progress.is_none_or(|text| is_list(text.as_bytes()))
 }
 
-/// A number from `least` to `most`. Where no text is given, it is the usual one, or 0 where the command lacks the option.
+/// A number from `least` to `most`. Where no text is given, it is the usual one,
+/// or 0 where the command lacks the option.
 pub fn number_or(
     command: Command,
     name: &str,
@@ -40,7 +43,8 @@ pub fn number_or(
     most: u64,
     text: Option<&str>,
 ) -> Result<u64, WordsError>
-    ensures { Answers (number_or command name.now usual least most (option_copied text.entry)) result }
+    ensures { Answers (number_or command name.now usual least most (option_copied text.entry))
+        result }
 {
     match text {
         Some(number) => number_in(number.as_bytes(), least, most).ok_or(WordsError::Usage),
@@ -69,7 +73,8 @@ fn speedup_in(text: &[u8]) -> Result<u8, WordsError>
     }
 }
 
-/// The version of a line table. Where no text is given, it is the least, or 0 where the command lacks the option.
+/// The version of a line table. Where no text is given, it is the least,
+/// or 0 where the command lacks the option.
 pub fn version_of(command: Command, text: Option<&str>) -> Result<u8, WordsError>
     ensures { Answers (number_or command dwarf_name 4 4 5 (option_copied text.entry)) result }
 {
@@ -121,7 +126,8 @@ fn speedups_in(alloc: Global, text: &[u8]) -> Result<Items<u8>, WordsError>
     Ok(Items::new(speedups))
 }
 
-/// The speedups, in percent: those given, all where none are, and none where the command lacks the option.
+/// The speedups, in percent: those given, all where none are, and none where
+/// the command lacks the option.
 pub fn speedups_of(
     alloc: Global,
     command: Command,

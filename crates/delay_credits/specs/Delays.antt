@@ -1,4 +1,5 @@
--- The accounts and pauses of harts at a moment, as the delayed machine has them. The work of a running hart is left out: it is 0 here.
+-- The accounts and pauses of harts at a moment, as the delayed machine has them.
+-- The work of a running hart is left out: it is 0 here.
 use Rattle.std.specs.Prelude.{ℕ, ◌+◌, ◌-◌, List, map, replicate, slice_index_or, Some, None}
 use Rattle.coz_types.specs.declared.record.Account.{Account as GivenAccount}
 use Rattle.machines.specs.Places.{change, change_from}
@@ -38,11 +39,16 @@ with_stop h now d = record (at now d) { harts = change fresh h stop (at now d).h
 
 -- a hart raises the global delay
 abbrev pub with_raise : ℕ → ℕ → ℕ → Delays → Delays
-with_raise h ticks now d = record (at now d) { raised = d.raised + ticks; harts = change_from 0 (raise_hart ticks h) (at now d).harts }
+with_raise h ticks now d = record (at now d) {
+  raised = d.raised + ticks;
+  harts = change_from 0 (raise_hart ticks h) (at now d).harts;
+}
 
 -- a hart's total becomes that of another
 abbrev pub with_credit : ℕ → ℕ → Delays → Delays
-with_credit woken waker d = record d { harts = change fresh woken (credit (total (hart_at d waker).account)) d.harts }
+with_credit woken waker d = record d {
+  harts = change fresh woken (credit (total (hart_at d waker).account)) d.harts;
+}
 
 -- so many harts before any moment was given
 abbrev pub none_raised : ℕ → Delays

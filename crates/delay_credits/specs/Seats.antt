@@ -10,7 +10,8 @@ abbrev pub hart_of_seat : ℕ → Seat → Hart
 hart_of_seat moment seat =
     elim (seat.pending) [
       | None ↦ record { account = account_as seat.account; load = None }
-      | Some p ↦ sit_load (moment - p.since) (account_as seat.account) (record { work = 0; pause = p.pause })
+      | Some p ↦ sit_load (moment - p.since) (account_as seat.account)
+          (record { work = 0; pause = p.pause })
     ]
 
 abbrev pub owed : Seat → ℕ
@@ -26,7 +27,9 @@ pub record IsSound (latest raised : ℕ) (seat : Seat) : Type 0 where
 
 -- no hart from a place on runs
 abbrev pub AreIdleFrom : ℕ → List Seat → Type 0
-AreIdleFrom first seats = (place : ℕ) → first ≤ place → place < length seats → (d : Seat) → (slice_index_or seats place d).pending ≡ None
+AreIdleFrom first seats =
+    (place : ℕ) → first ≤ place → place < length seats
+    → (d : Seat) → (slice_index_or seats place d).pending ≡ None
 
 -- the seat of the same hart, looked at at a moment
 abbrev pub settled : ℕ → Seat → Seat
@@ -34,7 +37,9 @@ settled now seat =
     elim (seat.pending) [
       | None ↦ seat
       | Some p ↦ record {
-        account = record seat.account { paused = seat.account.paused + min (now - p.since) p.pause };
+        account = record seat.account {
+          paused = seat.account.paused + min (now - p.since) p.pause;
+        };
         pending = Some (record { since = now; pause = p.pause - (now - p.since) });
       }
     ]
@@ -51,4 +56,5 @@ Fits ticks seat = total (account_as seat.account) + owed seat + ticks < 2 ^ 64
 pub record IsRaised (ticks now raiser place : ℕ) (old new : Seat) : Type 0 where
   pub stands : hart_of_seat now new ≡ raise_hart ticks raiser place (hart_of_seat now old)
   pub past : since_of new ≤ now
-  pub within : total (account_as new.account) + owed new ≤ total (account_as old.account) + owed old + ticks
+  pub within : total (account_as new.account) + owed new
+      ≤ total (account_as old.account) + owed old + ticks

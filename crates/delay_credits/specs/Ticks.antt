@@ -4,7 +4,10 @@ use Rattle.machines.specs.Delayed.{Hart, tick_hart}
 
 -- a hart with no work before it
 abbrev pub without_work : Hart → Hart
-without_work hart = elim (hart.load) [ None ↦ hart | Some l ↦ record hart { load = Some (record l { work = 0 }) } ]
+without_work hart = elim (hart.load) [
+  | None ↦ hart
+  | Some l ↦ record hart { load = Some (record l { work = 0 }) }
+]
 
 -- a hart after so many single ticks
 abbrev pub ticked : ℕ → Hart → Hart

@@ -1,8 +1,8 @@
 //! The delay that each hart has raised, paused and been credited.
 //!
-//! After C. Curtsinger and E. D. Berger, "Coz: finding code that counts with causal profiling", SOSP
-//! 2015, whose threads count the delays that they owe: a thread that is woken by another one owes none
-//! of those that the waker has paid.
+//! After C. Curtsinger and E. D. Berger, "Coz: finding code that counts with causal profiling",
+//! SOSP 2015, whose threads count the delays that they owe: a thread that is woken
+//! by another one owes none of those that the waker has paid.
 #![tactic(auto)]
 
 mod seat;
@@ -16,11 +16,12 @@ use coz_types::{Account, HartId, Tick};
 use std::alloc::{AllocError, Global};
 use std::marker::Model;
 
-/// The accounts and pauses of harts of a number given at making, and the delay that they raised. A hart that sleeps counts
-/// as one that runs.
+/// The accounts and pauses of harts of a number given at making, and the delay that they raised.
+/// A hart that sleeps counts as one that runs.
 ///
-/// Contracts see each hart as it is at the latest moment that `start`, `stop` or `raise` got. The code keeps a hart as it
-/// was at an earlier moment, and works out a later one when it is asked for. Beside its making no call takes memory.
+/// Contracts see each hart as it is at the latest moment that `start`, `stop` or `raise` got.
+/// The code keeps a hart as it was at an earlier moment, and works out a later one when it is asked
+/// for. Beside its making no call takes memory.
 #[derive(Drop)]
 pub struct Credits {
     seats: Vec<Seat>,
@@ -38,9 +39,14 @@ impl Model for Credits {
 
     ghost use Rattle.delay_credits.specs.Seats.{hart_of_seat, AreIdleFrom, IsSound};
 
-    ghost view = { λ c. record { latest = c.latest; raised = c.raised; harts = map (hart_of_seat c.latest) c.seats.items } };
+    ghost view = { λ c. record {
+      latest = c.latest;
+      raised = c.raised;
+      harts = map (hart_of_seat c.latest) c.seats.items;
+    } };
 
-    ghost invariant = { λ c. (c.raised ≤ 10 ^ 17) × All (IsSound c.latest c.raised) c.seats.items × (c.used ≤ length c.seats.items) × AreIdleFrom c.used c.seats.items };
+    ghost invariant = { λ c. (c.raised ≤ 10 ^ 17) × All (IsSound c.latest c.raised) c.seats.items
+        × (c.used ≤ length c.seats.items) × AreIdleFrom c.used c.seats.items };
 }
 
 /// The seat of a hart that does not run, with nothing in its account.
@@ -54,7 +60,8 @@ const NOT_RUNNING: Seat = Seat {
 };
 
 impl Credits {
-    /// Harts that don't run, with accounts of zeros. Fails exactly where there is no memory for so many.
+    /// Harts that don't run, with accounts of zeros. Fails exactly where there is
+    /// no memory for so many.
     pub fn new(alloc: Global, harts: u32) -> Result<Credits, AllocError>
         ensures { IfOk result (λ credits. credits ≡ none_raised harts) }
     {
@@ -66,7 +73,8 @@ impl Credits {
         })
     }
 
-    /// A hart runs, or sleeps, from a moment on, with no pause. One that runs with no pause owed is only looked at.
+    /// A hart runs, or sleeps, from a moment on, with no pause. One that runs with no pause owed
+    /// is only looked at.
     pub fn start(&mut self, hart: HartId, now: Tick)
         requires below { hart.0 < length self.old.harts }
         requires later { self.old.latest ≤ now }
@@ -107,7 +115,8 @@ impl Credits {
         self.latest = now;
     }
 
-    /// A running hart raises the delay at a moment: its own grows, and the pause of every other running hart.
+    /// A running hart raises the delay at a moment: its own grows, and the pause of every
+    /// other running hart.
     pub fn raise(&mut self, hart: HartId, ticks: Tick, now: Tick)
         requires below { hart.0 < length self.old.harts }
         requires later { self.old.latest ≤ now }
@@ -120,7 +129,8 @@ impl Credits {
         self.latest = now;
     }
 
-    /// Credits a hart that doesn't run with what its total lacks of its waker's, which is all that was raised.
+    /// Credits a hart that doesn't run with what its total lacks of its waker's,
+    /// which is all that was raised.
     pub fn take_credit(&mut self, woken: HartId, waker: HartId)
         requires woken_below { woken.0 < length self.old.harts }
         requires waker_below { waker.0 < length self.old.harts }

@@ -4,7 +4,8 @@ ghost use Rattle.delay_credits.specs.Seats.{settled, since_of, AreIdleFrom, Fits
 
 use coz_types::{Account, Tick};
 
-/// Of a running hart, the moment at which it was looked at last, and the pause that it had before it then.
+/// Of a running hart, the moment at which it was looked at last, and the pause that it
+/// had before it then.
 #[derive(Clone, Copy, Drop)]
 pub(crate) struct Pending {
     pub(crate) since: Tick,
@@ -28,7 +29,8 @@ pub(crate) fn is_unpaused(seat: Seat) -> bool
     }
 }
 
-/// The seat worked out up to a moment: of the ticks since it was looked at, the first go to its pause.
+/// The seat worked out up to a moment: of the ticks since it was looked at,
+/// the first go to its pause.
 pub(crate) fn settle(seat: Seat, now: Tick) -> Seat
     requires past { since_of seat ≤ now }
     requires fits { Fits 0 seat }
@@ -50,7 +52,8 @@ pub(crate) fn settle(seat: Seat, now: Tick) -> Seat
     }
 }
 
-/// The seat of a running hart after a raise at a moment: its own delay grows if the hart raised it, else its pause.
+/// The seat of a running hart after a raise at a moment: its own delay grows if the hart raised
+/// it, else its pause.
 pub(crate) fn raise_seat(seat: Seat, ticks: Tick, now: Tick, raiser: usize, place: usize) -> Seat
     requires past { since_of seat ≤ now }
     requires fits { Fits ticks seat }
@@ -86,7 +89,8 @@ pub(crate) fn raise_each(seats: &mut [Seat], used: usize, ticks: Tick, now: Tick
     requires past { All (λ seat. since_of seat ≤ now) seats.old }
     requires fits { All (Fits ticks) seats.old }
     ensures raised { (place : ℕ) → place < length seats.old → (d : Seat) →
-        IsRaised ticks now raiser place (slice_index_or seats.old place d) (slice_index_or seats.new place d) }
+        IsRaised ticks now raiser place
+        (slice_index_or seats.old place d) (slice_index_or seats.new place d) }
     ensures idle { AreIdleFrom used seats.new }
 {
     for place in 0..used {

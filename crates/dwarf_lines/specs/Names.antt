@@ -21,7 +21,12 @@ pub record FormLine : Type 0 where
   pub form : Form
 
 abbrev pub line : ℕ → Bool → Bool → Form → FormLine
-line code path directory form = record { code = code; is_path = path; is_directory = directory; form = form }
+line code path directory form = record {
+  code = code;
+  is_path = path;
+  is_directory = directory;
+  form = form;
+}
 
 abbrev pub forms : List FormLine
 forms =
@@ -39,7 +44,9 @@ forms =
 
 -- content 1 is the path, 2 the directory's number
 abbrev pub is_allowed : ℕ → ℕ → FormLine → Bool
-is_allowed content code f = f.code == code && (if content == 1 then f.is_path else if content == 2 then f.is_directory else true)
+is_allowed content code f =
+    f.code == code
+    && (if content == 1 then f.is_path else if content == 2 then f.is_directory else true)
 
 -- the form of a content, if it may have it
 unfoldable pub form_for : ℕ → ℕ → Option Form
@@ -81,4 +88,5 @@ paths entries = map (λ (e : Entry). e.path) entries
 
 abbrev pub files_of : List (List ℕ) → List Entry → List File
 files_of directories entries =
-    map (λ (e : Entry). record { directory = directory_of directories e.directory; name = e.path }) entries
+    map (λ (e : Entry).
+    record { directory = directory_of directories e.directory; name = e.path }) entries

@@ -57,7 +57,8 @@ byte_that test kind a = do
 
 -- the next so many bytes on their own; if there are fewer, Short at this place
 abbrev pub announced : ℕ → ℕ → Ahead → Reading Ahead LineFault
-announced place n a = if nat_le n (length a.bytes) then field (part_at n a) else Err (fault kinds.Short place)
+announced place n a =
+    if nat_le n (length a.bytes) then field (part_at n a) else Err (fault kinds.Short place)
 
 -- so many unsigned numbers, of whatever value
 unfoldable pub pass : ℕ → Ahead → Result Ahead LineFault
@@ -96,7 +97,9 @@ files (suc n) directories a = do
   name ← field (text_at a)
   elim (name.0) [
     | [] ↦ Ok ([], name.1)
-    | b ∷ bs ↦ named directories name.0 name.1 >>= λ first. files n directories first.1 >>= λ more. Ok (first.0 ∷ more.0, more.1)
+    | b ∷ bs ↦ named directories name.0 name.1 >>= λ first.
+        files n directories first.1 >>= λ more.
+        Ok (first.0 ∷ more.0, more.1)
   ]
 
 -- ---- directories and files of version 5 (DWARF 5, 6.2.4.1)
@@ -206,7 +209,10 @@ abbrev pub names_5 : Strings → Ahead → Reading Names LineFault
 names_5 strings a = do
   directories ← listed strings a
   files ← listed strings directories.1
-  Ok (record { directories = paths directories.0; files = files_of (paths directories.0) files.0 }, files.1)
+  Ok (
+    record { directories = paths directories.0; files = files_of (paths directories.0) files.0 },
+    files.1,
+  )
 
 abbrev pub names : Bool → Strings → Ahead → Reading Names LineFault
 names true strings a = names_5 strings a
@@ -216,7 +222,9 @@ names false strings a = names_before_5 a
 abbrev pub sizes : ℕ → Ahead → Result Ahead LineFault
 sizes version a =
     elim (version == 5) [
-      | true ↦ byte_that (λ n. n == 8) kinds.AddressSize a >>= λ size. byte_that (λ n. n == 0) kinds.SegmentSize size.1 >>= λ segment. Ok segment.1
+      | true ↦ byte_that (λ n. n == 8) kinds.AddressSize a >>= λ size.
+          byte_that (λ n. n == 0) kinds.SegmentSize size.1 >>= λ segment.
+          Ok segment.1
       | false ↦ Ok a
     ]
 
@@ -305,14 +313,18 @@ extended h place size =
     (λ a. Ok Pass)
     ∷ (λ a. Ok EndSequence)
     ∷ address place size
-    ∷ (λ a. elim (h.version == 5) [ true ↦ Ok Pass | false ↦ file h.directories a >>= λ f. Ok (DefineFile f.0) ])
+    ∷ (λ a. elim (h.version == 5) [
+      | true ↦ Ok Pass
+      | false ↦ file h.directories a >>= λ f. Ok (DefineFile f.0)
+    ])
     ∷ []
 
 abbrev pub body : Header → ℕ → Ahead → Result Operation LineFault
 body h place a =
     elim (a.bytes) [
       | [] ↦ Ok Pass
-      | b ∷ bs ↦ byte a >>= λ e. get_or (extended h place (length a.bytes)) e.0 (λ rest. Ok Pass) e.1
+      | b ∷ bs ↦ byte a >>= λ e.
+          get_or (extended h place (length a.bytes)) e.0 (λ rest. Ok Pass) e.1
     ]
 
 -- after the zero byte at this place
@@ -342,7 +354,9 @@ program zero h s a = Ok s
 program (suc n) h s a =
     elim (a.bytes) [
       | [] ↦ wanted (not (is_open s.table.rows)) kinds.Unended a.place s
-      | b ∷ bs ↦ operation h a >>= λ op. wanted (has_line h op.0 s) kinds.LineOut a.place (after h op.0 s) >>= λ next. program n h next op.1
+      | b ∷ bs ↦ operation h a >>= λ op.
+          wanted (has_line h op.0 s) kinds.LineOut a.place (after h op.0 s) >>= λ next.
+          program n h next op.1
     ]
 
 -- the table when a program is done
@@ -369,7 +383,10 @@ unit strings t a = do
   long ← wanted (nat_lt size.0 0xFFFFFFF0) kinds.LongForm a.place size
   inside ← announced a.place long.0 long.1
   version ← half inside.0
-  u ← elim (is_read version.0) [ true ↦ unit_body version.0 strings t version.1 | false ↦ Ok (record t { skipped = t.skipped + 1 }) ]
+  u ← elim (is_read version.0) [
+    | true ↦ unit_body version.0 strings t version.1
+    | false ↦ Ok (record t { skipped = t.skipped + 1 })
+  ]
   Ok (u, inside.1)
 
 unfoldable pub units : ℕ → Strings → Table → Ahead → Result Table LineFault
@@ -382,7 +399,8 @@ units (suc n) strings t a =
 
 -- the table of a section, or its first fault
 unfoldable pub reading : Strings → List ℕ → Result Table LineFault
-reading strings section = units (suc (length section)) strings empty_table (record { place = 0; bytes = section })
+reading strings section =
+    units (suc (length section)) strings empty_table (record { place = 0; bytes = section })
 
 -- ---- what calls answer
 
@@ -402,7 +420,8 @@ Finds view (Ok x) reads = reads ≡ Ok (view x)
 Finds view (Err e) reads = reads ≡ Err e
 
 -- The same of a walk over a cursor. After a fault the cursor is anywhere.
-abbrev pub Walks : {X A : Type 0} → (X → A) → Result X LineFault → Ahead → Reading A LineFault → Type 0
+abbrev pub Walks : {X A : Type 0} → (X → A) → Result X LineFault → Ahead
+    → Reading A LineFault → Type 0
 Walks view (Ok x) new reads = reads ≡ Ok (view x, new)
 Walks view (Err e) new reads = reads ≡ Err e
 
@@ -411,6 +430,7 @@ WalksOn (Ok x) new reads = reads ≡ Ok new
 WalksOn (Err e) new reads = reads ≡ Err e
 
 -- The same where memory may run out.
-abbrev pub WalksOver : {X A : Type 0} → (X → A) → Result X LineError → Ahead → Reading A LineFault → Type 0
+abbrev pub WalksOver : {X A : Type 0} → (X → A) → Result X LineError → Ahead
+    → Reading A LineFault → Type 0
 WalksOver view (Ok x) new reads = reads ≡ Ok (view x, new)
 WalksOver view (Err e) new reads = Fails e reads

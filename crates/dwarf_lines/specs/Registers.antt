@@ -105,7 +105,8 @@ pub record State : Type 0 where
 -- the position of a file of the unit, counted from 1, if there is an entry
 abbrev pub file_position : State → ℕ → Option ℕ
 file_position s zero = None
-file_position s (suc k) = if nat_lt (s.first_file + k) (length s.table.files) then Some (s.first_file + k) else None
+file_position s (suc k) =
+    if nat_lt (s.first_file + k) (length s.table.files) then Some (s.first_file + k) else None
 
 abbrev pub natural : ℤ → ℕ
 natural (pos n) = n
@@ -118,7 +119,8 @@ fits_line (negsuc n) = false
 
 -- the position of a file of the unit, counted from 0, if there is an entry
 abbrev pub file_from_0 : State → ℕ → Option ℕ
-file_from_0 s k = if nat_lt (s.first_file + k) (length s.table.files) then Some (s.first_file + k) else None
+file_from_0 s k =
+    if nat_lt (s.first_file + k) (length s.table.files) then Some (s.first_file + k) else None
 
 -- files count from 0 in version 5, and from 1 before
 abbrev pub file_of : Header → State → ℕ → Option ℕ

@@ -1,4 +1,5 @@
--- Which sections spell which tables. A section is a concatenation of units, and a program one of opcodes.
+-- Which sections spell which tables. A section is a concatenation of units,
+-- and a program one of opcodes.
 use Rattle.std.specs.Prelude.{◌≡◌, ℕ, ◌+◌, ◌-◌, ◌^◌, ◌<◌, ◌≤◌, ◌≢◌, ◌⊎◌, true, false, List, [], ◌∷◌, ◌++◌, length, slice_index, ℤ, not, ◌==◌, nat_le, drop, Bool, Some}
 use Rattle.std.specs.List.{concat, AllByRecursion}
 use Rattle.std.specs.Int.{w16, w32, w64, to_le_bytes, cast_signed, w8}
@@ -23,7 +24,8 @@ SpellsText text bytes = AllByRecursion (λ b. 0 < b) text × (bytes ≡ text ++ 
 -- a name, the number of its directory, a time and a length
 abbrev pub SpellsFile : List (List ℕ) → File → List ℕ → Type 0
 SpellsFile directories file bytes =
-    (name : List ℕ) × (number : List ℕ) × (time : List ℕ) × (size : List ℕ) × (n : ℕ) × (t : ℕ) × (z : ℕ)
+    (name : List ℕ) × (number : List ℕ) × (time : List ℕ) × (size : List ℕ)
+    × (n : ℕ) × (t : ℕ) × (z : ℕ)
     × (bytes ≡ name ++ (number ++ (time ++ size)))
     × SpellsText file.name name × IsUleb n number × IsUleb t time × IsUleb z size
     × (file.directory ≡ directory directories n)
@@ -31,13 +33,16 @@ SpellsFile directories file bytes =
 -- one spelling after the other
 abbrev pub SpellsAll : {A : Type 0} → (A → List ℕ → Type 0) → List A → List ℕ → Type 0
 SpellsAll Spells [] bytes = bytes ≡ []
-SpellsAll Spells (x ∷ xs) bytes = (front : List ℕ) × (rest : List ℕ) × (bytes ≡ front ++ rest) × Spells x front × SpellsAll Spells xs rest
+SpellsAll Spells (x ∷ xs) bytes =
+    (front : List ℕ) × (rest : List ℕ) × (bytes ≡ front ++ rest) × Spells x front
+    × SpellsAll Spells xs rest
 
 -- ---- opcodes (DWARF 4, 6.2.5)
 
 -- an opcode below opcode_base, and its operands
 abbrev pub SpellsStandard : Header → ℕ → (List ℕ → Type 0) → List ℕ → Type 0
-SpellsStandard h o Operands code = (operands : List ℕ) × (code ≡ o ∷ operands) × (0 < o) × (o < h.opcode_base) × Operands operands
+SpellsStandard h o Operands code =
+    (operands : List ℕ) × (code ≡ o ∷ operands) × (0 < o) × (o < h.opcode_base) × Operands operands
 
 abbrev pub IsNothing : List ℕ → Type 0
 IsNothing operands = operands ≡ []
@@ -66,7 +71,8 @@ IsPassed h code =
     ⊎ SpellsStandard h 12 (AreUlebs 1) code
     ⊎ ((o : ℕ) × (12 < o) × SpellsStandard h o (AreUlebs (operand_count h o)) code)
     ⊎ SpellsExtended [] code
-    ⊎ ((e : ℕ) × (body : List ℕ) × (e ≢ 1) × (e ≢ 2) × (e ≡ 3 → h.version ≡ 5) × SpellsExtended (e ∷ body) code)
+    ⊎ ((e : ℕ) × (body : List ℕ) × (e ≢ 1) × (e ≢ 2) × (e ≡ 3 → h.version ≡ 5)
+    × SpellsExtended (e ∷ body) code)
 
 -- the bytes are a spelling of the operation
 abbrev pub Spells : Header → Operation → List ℕ → Type 0
@@ -77,7 +83,8 @@ Spells h (SetFile n) code = SpellsStandard h 4 (IsUleb n) code
 Spells h (SetColumn n) code = SpellsStandard h 5 (IsUleb n) code
 Spells h NegateStmt code = SpellsStandard h 6 IsNothing code
 Spells h ConstAddPc code = SpellsStandard h 8 IsNothing code
-Spells h (FixedAdvancePc n) code = SpellsStandard h 9 (λ operands. operands ≡ to_le_bytes w16 n) code × (n < 2 ^ 16)
+Spells h (FixedAdvancePc n) code =
+    SpellsStandard h 9 (λ operands. operands ≡ to_le_bytes w16 n) code × (n < 2 ^ 16)
 Spells h (Special o) code = (code ≡ o ∷ []) × (h.opcode_base ≤ o)
 Spells h EndSequence code = (spare : List ℕ) × SpellsExtended (1 ∷ spare) code
 Spells h (SetAddress a) code = SpellsExtended (2 ∷ to_le_bytes w64 a) code × (a < 2 ^ 64)
@@ -89,31 +96,36 @@ Spells h Pass code = IsPassed h code
 -- opcodes one after the other take a state to another
 abbrev pub Goes : Header → List (List ℕ) → State → State → Type 0
 Goes h [] s t = t ≡ s
-Goes h (code ∷ codes) s t = (op : Operation) × Spells h op code × (has_line h op s ≡ true) × Goes h codes (after h op s) t
+Goes h (code ∷ codes) s t =
+    (op : Operation) × Spells h op code × (has_line h op s ≡ true) × Goes h codes (after h op s) t
 
 -- ---- directories and files of version 5 (DWARF 5, 6.2.4.1)
 
 -- the text from a place of a section of texts up to a zero byte
 abbrev pub IsTextAt : List ℕ → ℕ → List ℕ → Type 0
-IsTextAt texts n text = (rest : List ℕ) × (drop n texts ≡ (text ++ 0 ∷ []) ++ rest) × AllByRecursion (λ b. 0 < b) text
+IsTextAt texts n text =
+    (rest : List ℕ) × (drop n texts ≡ (text ++ 0 ∷ []) ++ rest) × AllByRecursion (λ b. 0 < b) text
 
 -- four bytes, the place of a text
 abbrev pub SpellsPlace : List ℕ → Value → List ℕ → Type 0
 SpellsPlace texts v bytes =
-    (n : ℕ) × (text : List ℕ) × (bytes ≡ to_le_bytes w32 n) × (n < 2 ^ 32) × IsTextAt texts n text × (v ≡ Text text)
+    (n : ℕ) × (text : List ℕ) × (bytes ≡ to_le_bytes w32 n) × (n < 2 ^ 32)
+    × IsTextAt texts n text × (v ≡ Text text)
 
 abbrev pub SpellsValue : Strings → Form → Value → List ℕ → Type 0
 SpellsValue strings Own v bytes = (text : List ℕ) × SpellsText text bytes × (v ≡ Text text)
 SpellsValue strings General v bytes = SpellsPlace strings.general v bytes
 SpellsValue strings Line v bytes = SpellsPlace strings.line v bytes
 SpellsValue strings Byte v bytes = (n : ℕ) × (bytes ≡ n ∷ []) × (v ≡ Number n)
-SpellsValue strings Half v bytes = (n : ℕ) × (bytes ≡ to_le_bytes w16 n) × (n < 2 ^ 16) × (v ≡ Number n)
+SpellsValue strings Half v bytes =
+    (n : ℕ) × (bytes ≡ to_le_bytes w16 n) × (n < 2 ^ 16) × (v ≡ Number n)
 SpellsValue strings Leb v bytes = (n : ℕ) × IsUleb n bytes × (v ≡ Number n)
 SpellsValue strings Four v bytes = (length bytes ≡ 4) × (v ≡ Other)
 SpellsValue strings Eight v bytes = (length bytes ≡ 8) × (v ≡ Other)
 SpellsValue strings Sixteen v bytes = (length bytes ≡ 16) × (v ≡ Other)
 SpellsValue strings Block v bytes =
-    (size : List ℕ) × (block : List ℕ) × (bytes ≡ size ++ block) × IsUleb (length block) size × (v ≡ Other)
+    (size : List ℕ) × (block : List ℕ) × (bytes ≡ size ++ block)
+    × IsUleb (length block) size × (v ≡ Other)
 
 -- a content and the number of a form that it may have
 abbrev pub SpellsFormat : Format → List ℕ → Type 0
@@ -131,14 +143,16 @@ SpellsValues strings (f ∷ fs) (v ∷ vs) bytes =
     × SpellsValue strings f.form v front × SpellsValues strings fs vs rest
 
 abbrev pub SpellsEntry : Strings → List Format → Entry → List ℕ → Type 0
-SpellsEntry strings fs e bytes = (vs : List Value) × SpellsValues strings fs vs bytes × (e ≡ entry_of fs vs empty_entry)
+SpellsEntry strings fs e bytes =
+    (vs : List Value) × SpellsValues strings fs vs bytes × (e ≡ entry_of fs vs empty_entry)
 
 -- the formats with their count, and the entries with theirs; without formats there are no entries
 abbrev pub SpellsListed : Strings → List Entry → List ℕ → Type 0
 SpellsListed strings entries bytes =
     (fs : List Format) × (formats : List ℕ) × (count : List ℕ) × (spelled : List ℕ)
     × (bytes ≡ length fs ∷ (formats ++ (count ++ spelled)))
-    × SpellsAll SpellsFormat fs formats × IsUleb (length entries) count × SpellsAll (SpellsEntry strings fs) entries spelled
+    × SpellsAll SpellsFormat fs formats × IsUleb (length entries) count
+    × SpellsAll (SpellsEntry strings fs) entries spelled
     × ((0 < length fs) ⊎ (length entries ≡ 0))
 
 -- ---- units (DWARF 4, 6.2.4; DWARF 5, 6.2.4)
@@ -161,13 +175,15 @@ SpellsNames false strings directories files bytes =
     (front : List ℕ) × (rest : List ℕ)
     × (bytes ≡ (front ++ 0 ∷ []) ++ (rest ++ 0 ∷ []))
     × SpellsAll SpellsText directories front × SpellsAll (SpellsFile directories) files rest
-    × AllByRecursion (λ d. 0 < length d) directories × AllByRecursion (λ (f : File). 0 < length f.name) files
+    × AllByRecursion (λ d. 0 < length d) directories
+    × AllByRecursion (λ (f : File). 0 < length f.name) files
 
 -- the header's bytes from minimum_instruction_length on, up to where header_length ends it
 abbrev pub SpellsHeader : ℕ → Strings → Header → List ℕ → Type 0
 SpellsHeader version strings h bytes =
     (is_stmt : ℕ) × (base : ℕ) × (names : List ℕ) × (spare : List ℕ)
-    × (bytes ≡ (h.minimum_length ∷ operations version) ++ (is_stmt ∷ base ∷ h.line_range ∷ h.opcode_base ∷ h.lengths) ++ names ++ spare)
+    × (bytes ≡ (h.minimum_length ∷ operations version)
+    ++ (is_stmt ∷ base ∷ h.line_range ∷ h.opcode_base ∷ h.lengths) ++ names ++ spare)
     × (h.version ≡ version)
     × (h.is_stmt ≡ not (is_stmt == 0))
     × (h.line_base ≡ cast_signed w8 base)
@@ -194,11 +210,13 @@ TakesUnit strings unit t u =
     (version : ℕ) × (bytes : List ℕ)
     × (unit ≡ to_le_bytes w32 (2 + length bytes) ++ to_le_bytes w16 version ++ bytes)
     × (2 + length bytes < 0xFFFFFFF0) × (version < 2 ^ 16)
-    × ((IsRead version × ReadsUnit version strings bytes t u) ⊎ ((IsRead version → ⊥) × (u ≡ record t { skipped = t.skipped + 1 })))
+    × ((IsRead version × ReadsUnit version strings bytes t u)
+    ⊎ ((IsRead version → ⊥) × (u ≡ record t { skipped = t.skipped + 1 })))
 
 abbrev pub Takes : Strings → List (List ℕ) → Table → Table → Type 0
 Takes strings [] t u = u ≡ t
-Takes strings (unit ∷ units) t u = (m : Table) × TakesUnit strings unit t m × Takes strings units m u
+Takes strings (unit ∷ units) t u =
+    (m : Table) × TakesUnit strings unit t m × Takes strings units m u
 
 -- the table of a section
 pub record IsTable (strings : Strings) (section : List ℕ) (table : Table) : Type 0 where

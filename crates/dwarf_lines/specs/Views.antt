@@ -50,7 +50,11 @@ so_far d = record { files = files_view d.files.items; rows = d.rows.items; skipp
 
 -- within a unit whose files begin at this position, with these registers
 abbrev pub state_of : Draft → ℕ → Registers → State
-state_of d first_file registers = record { table = so_far d; first_file = first_file; registers = registers }
+state_of d first_file registers = record {
+  table = so_far d;
+  first_file = first_file;
+  registers = registers;
+}
 
 -- ---- version 5
 
@@ -66,7 +70,10 @@ abbrev pub entries_view : List Entry → List named.Entry
 entries_view es = map entry_view es
 
 abbrev pub names_view : coded_names.Names → reading.Names
-names_view n = record { directories = texts_view n.directories.items; files = files_view n.files.items }
+names_view n = record {
+  directories = texts_view n.directories.items;
+  files = files_view n.files.items;
+}
 
 abbrev pub strings_view : Strings → named.Strings
 strings_view s = named.strings s.general.bytes.now s.line.bytes.now

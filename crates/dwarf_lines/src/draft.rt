@@ -68,9 +68,11 @@ impl<'a> Draft<'a> {
         cursor: &mut Cursor<'a>,
     ) -> Result<(), LineError>
         requires { weight (so_far self.old) + length cursor.old.bytes ≤ 2 ^ 25 }
-        ensures exact { WalksOver (λ _. so_far self.new) result cursor.new (unit (sections_view sections.old) (so_far self.old) cursor.old) }
+        ensures exact { WalksOver (λ _. so_far self.new) result cursor.new
+            (unit (sections_view sections.old) (so_far self.old) cursor.old) }
         ensures kept { sections_view sections.new ≡ sections_view sections.old }
-        ensures room { OnOk result (weight (so_far self.new) + length cursor.new.bytes ≤ weight (so_far self.old) + length cursor.old.bytes) }
+        ensures room { OnOk result (weight (so_far self.new) + length cursor.new.bytes
+            ≤ weight (so_far self.old) + length cursor.old.bytes) }
     {
         let place = cursor.place();
         let size = word(cursor)?;
@@ -100,9 +102,11 @@ impl<'a> Draft<'a> {
         mut body: Cursor<'a>,
     ) -> Result<(), LineError>
         requires { weight (so_far self.old) + length body.bytes ≤ 2 ^ 25 }
-        ensures exact { Gives (λ _. so_far self.new) result (unit_body version (sections_view sections.old) (so_far self.old) body.entry) }
+        ensures exact { Gives (λ _. so_far self.new) result
+            (unit_body version (sections_view sections.old) (so_far self.old) body.entry) }
         ensures kept { sections_view sections.new ≡ sections_view sections.old }
-        ensures room { OnOk result (weight (so_far self.new) ≤ weight (so_far self.old) + length body.entry.bytes) }
+        ensures room { OnOk result
+            (weight (so_far self.new) ≤ weight (so_far self.old) + length body.entry.bytes) }
     {
         address_sizes(version, &mut body)?;
         let place = body.place();
@@ -122,8 +126,11 @@ impl<'a> Draft<'a> {
         mut opcodes: Cursor<'a>,
     ) -> Result<(), LineError>
         requires { weight (so_far self.old) + length opcodes.bytes ≤ 2 ^ 25 }
-        ensures exact { Gives (λ _. so_far self.new) result (finished (program (suc (length opcodes.entry.bytes)) (header_view header.now) (state_of self.old first_file (fresh (header_view header.now))) opcodes.entry)) }
-        ensures room { OnOk result (weight (so_far self.new) ≤ weight (so_far self.old) + length opcodes.entry.bytes) }
+        ensures exact { Gives (λ _. so_far self.new) result
+            (finished (program (suc (length opcodes.entry.bytes)) (header_view header.now)
+            (state_of self.old first_file (fresh (header_view header.now))) opcodes.entry)) }
+        ensures room { OnOk result
+            (weight (so_far self.new) ≤ weight (so_far self.old) + length opcodes.entry.bytes) }
     {
         let mut registers = Registers::fresh(header);
         while opcodes.left() > 0 {
@@ -151,8 +158,12 @@ impl<'a> Draft<'a> {
     ) -> Result<Registers, LineError>
         requires line { IsLineWithin (2 ^ 100) before.line }
         requires room { weight (so_far self.old) < 2 ^ 25 }
-        ensures exact { let s = state_of self.old first_file before in Gives (λ r. state_of self.new first_file r) result (wanted (has_line (header_view header.now) (operation_view operation.entry) s) LineOut place (after (header_view header.now) (operation_view operation.entry) s)) }
-        ensures line { (n : ℕ) → IsLineWithin n before.line → IfOk result (λ r. IsLineWithin (n + 2 ^ 63) r.line) }
+        ensures exact { let s = state_of self.old first_file before in
+            Gives (λ r. state_of self.new first_file r) result
+            (wanted (has_line (header_view header.now) (operation_view operation.entry) s)
+            LineOut place (after (header_view header.now) (operation_view operation.entry) s)) }
+        ensures line { (n : ℕ) → IsLineWithin n before.line
+            → IfOk result (λ r. IsLineWithin (n + 2 ^ 63) r.line) }
         ensures room { OnOk result (weight (so_far self.new) ≤ weight (so_far self.old) + 1) }
     {
         let registers = before.changed(header, &operation);
@@ -191,7 +202,12 @@ impl<'a> Draft<'a> {
         ends: bool,
     ) -> Result<(), LineError>
         requires { weight (so_far self.old) < 2 ^ 25 }
-        ensures exact { Gives (λ _. so_far self.new) result (wanted (fits_line registers.line) LineOut place (record (so_far self.old) { rows = self.old.rows.items ++ row (header_view header.now) (state_of self.old first_file registers) ends registers ∷ [] })) }
+        ensures exact { Gives (λ _. so_far self.new) result
+            (wanted (fits_line registers.line) LineOut place (record (so_far self.old) {
+              rows = self.old.rows.items
+                  ++ row (header_view header.now) (state_of self.old first_file registers)
+                  ends registers ∷ [];
+            })) }
     {
         let line = match u32::try_from(registers.line) {
             Ok(line) => line,
@@ -221,7 +237,8 @@ impl<'a> Draft<'a> {
     /// The position of the unit's file of that number, if there is an entry.
     fn file_of(&self, header: &Header, first_file: usize, number: u64) -> Option<u32>
         requires { length self.now.files.items ≤ 2 ^ 25 }
-        ensures { (registers : _) → result ≡ file_of (header_view header.now) (state_of self.now first_file registers) number }
+        ensures { (registers : _) → result
+            ≡ file_of (header_view header.now) (state_of self.now first_file registers) number }
     {
         let first_number = if header.version == 5 { 0 } else { 1 };
         if number < first_number {

@@ -15,7 +15,8 @@ pub fn read_directories<'a>(
     alloc: Global,
     cursor: &mut Cursor<'a>,
 ) -> Result<Vec<&'a [u8]>, LineError>
-    ensures { WalksOver (λ v. texts_view v.items) result cursor.new (texts (suc (length cursor.old.bytes)) cursor.old) }
+    ensures { WalksOver (λ v. texts_view v.items) result cursor.new
+        (texts (suc (length cursor.old.bytes)) cursor.old) }
 {
     let mut directories = Vec::new(alloc);
     loop {
@@ -33,7 +34,8 @@ pub fn read_files<'a>(
     directories: &[&'a [u8]],
     cursor: &mut Cursor<'a>,
 ) -> Result<Vec<FileName<'a>>, LineError>
-    ensures { WalksOver (λ v. files_view v.items) result cursor.new (files (suc (length cursor.old.bytes)) (texts_view directories.now) cursor.old) }
+    ensures { WalksOver (λ v. files_view v.items) result cursor.new
+        (files (suc (length cursor.old.bytes)) (texts_view directories.now) cursor.old) }
 {
     let mut files = Vec::new(alloc);
     loop {
@@ -63,7 +65,8 @@ fn named<'a>(
     name: &'a [u8],
     cursor: &mut Cursor<'a>,
 ) -> Result<FileName<'a>, LineFault>
-    ensures { Walks file_view result cursor.new (named (texts_view directories.now) name.now cursor.old) }
+    ensures { Walks file_view result cursor.new
+        (named (texts_view directories.now) name.now cursor.old) }
 {
     let number = unsigned(cursor)?;
     let _time = unsigned(cursor)?;

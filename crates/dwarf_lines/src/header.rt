@@ -57,7 +57,8 @@ impl<'a> Header<'a> {
         sections: &mut Sections<'a>,
         mut fields: Cursor<'a>,
     ) -> Result<Header<'a>, LineError>
-        ensures exact { Gives header_view result (header version (sections_view sections.old) fields.entry) }
+        ensures exact { Gives header_view result
+            (header version (sections_view sections.old) fields.entry) }
         ensures kept { sections_view sections.new ≡ sections_view sections.old }
     {
         let minimum_length = byte(&mut fields)?;
@@ -94,7 +95,8 @@ impl<'a> Names<'a> {
         sections: &mut Sections<'a>,
         cursor: &mut Cursor<'a>,
     ) -> Result<Names<'a>, LineError>
-        ensures exact { WalksOver names_view result cursor.new (names (version == 5) (sections_view sections.old) cursor.old) }
+        ensures exact { WalksOver names_view result cursor.new
+            (names (version == 5) (sections_view sections.old) cursor.old) }
         ensures kept { sections_view sections.new ≡ sections_view sections.old }
     {
         if version == 5 {
@@ -119,7 +121,8 @@ impl<'a> Names<'a> {
         sections: &mut Sections<'a>,
         cursor: &mut Cursor<'a>,
     ) -> Result<Names<'a>, LineError>
-        ensures exact { WalksOver names_view result cursor.new (names_5 (sections_view sections.old) cursor.old) }
+        ensures exact { WalksOver names_view result cursor.new
+            (names_5 (sections_view sections.old) cursor.old) }
         ensures kept { sections_view sections.new ≡ sections_view sections.old }
     {
         let strings = sections.lend(alloc)?;

@@ -1,4 +1,5 @@
-//! Reads the line programs of a `.debug_line` section, versions 2 to 5 (DWARF 4 and 5, section 6.2).
+//! Reads the line programs of a `.debug_line` section, versions 2 to 5
+//! (DWARF 4 and 5, section 6.2).
 #![tactic(auto)]
 
 pub mod codes;
@@ -196,8 +197,10 @@ pub fn read_lines<'a>(
     // What is read is a table of the section.
     ensures found { IfOk result (λ t. IsTable (strings general.now line.now) section.now (view t)) }
     // A table of the section is read, unless memory runs out.
-    ensures only { (t : Table) → IsTable (strings general.now line.now) section.now t → Gives view result (Ok t) }
-    // With given texts each section has exactly one table and no fault, or exactly one fault and no table.
+    ensures only { (t : Table) → IsTable (strings general.now line.now) section.now t
+        → Gives view result (Ok t) }
+    // With given texts each section has exactly one table and no fault,
+    // or exactly one fault and no table.
     ensures one { HasOne (strings general.now line.now) section.now }
 {
     let mut cursor = Cursor::new(section);

@@ -62,7 +62,8 @@ fn read_value<'a>(
     form: Form,
     cursor: &mut Cursor<'a>,
 ) -> Result<Value<'a>, LineFault>
-    ensures { Walks value_view result cursor.new (value (strings_view strings.now) form cursor.old) }
+    ensures { Walks value_view result cursor.new
+        (value (strings_view strings.now) form cursor.old) }
 {
     match form {
         Form::Own => Ok(Value::Text(text(cursor)?)),
@@ -93,7 +94,8 @@ fn read_value<'a>(
 
 /// Of several values with one content the last counts.
 fn with_value<'a>(content: u64, value: Value<'a>, entry: Entry<'a>) -> Entry<'a>
-    ensures { entry_view result ≡ with_value content (value_view value.entry) (entry_view entry.entry) }
+    ensures { entry_view result
+        ≡ with_value content (value_view value.entry) (entry_view entry.entry) }
 {
     match value {
         Value::Text(path) if content == DW_LNCT_PATH => Entry { path, ..entry },
@@ -111,7 +113,8 @@ fn read_entry<'a>(
     formats: &[Format],
     cursor: &mut Cursor<'a>,
 ) -> Result<Entry<'a>, LineFault>
-    ensures { Walks entry_view result cursor.new (entry (strings_view strings.now) formats.now cursor.old) }
+    ensures { Walks entry_view result cursor.new
+        (entry (strings_view strings.now) formats.now cursor.old) }
 {
     let mut entry = Entry {
         path: b"".as_slice(),
@@ -133,7 +136,8 @@ fn read_entries<'a>(
     formats: &[Format],
     cursor: &mut Cursor<'a>,
 ) -> Result<Vec<Entry<'a>>, LineError>
-    ensures { WalksOver (λ v. entries_view v.items) result cursor.new (entries count (strings_view strings.now) formats.now cursor.old) }
+    ensures { WalksOver (λ v. entries_view v.items) result cursor.new
+        (entries count (strings_view strings.now) formats.now cursor.old) }
 {
     let mut entries = Vec::new(alloc);
     for _ in 0..count {
@@ -151,7 +155,8 @@ pub fn read_listed<'a>(
     strings: &Strings<'a>,
     cursor: &mut Cursor<'a>,
 ) -> Result<Vec<Entry<'a>>, LineError>
-    ensures { WalksOver (λ v. entries_view v.items) result cursor.new (listed (strings_view strings.now) cursor.old) }
+    ensures { WalksOver (λ v. entries_view v.items) result cursor.new
+        (listed (strings_view strings.now) cursor.old) }
 {
     let format_count = byte(cursor)?;
     let formats = read_formats(alloc, format_count, cursor)?;
@@ -183,7 +188,8 @@ pub fn files_of<'a>(
     directories: &[&'a [u8]],
     entries: &[Entry<'a>],
 ) -> Result<Vec<FileName<'a>>, AllocError>
-    ensures { IfOk result (λ v. files_view v.items ≡ files_of (texts_view directories.now) (entries_view entries.now)) }
+    ensures { IfOk result (λ v.
+        files_view v.items ≡ files_of (texts_view directories.now) (entries_view entries.now)) }
 {
     let mut files = Vec::with_capacity(alloc, entries.len())?;
     for entry in entries {

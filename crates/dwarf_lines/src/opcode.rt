@@ -51,7 +51,8 @@ impl<'a> Operation<'a> {
     /// The next opcode and its operands. Err tells the first wrong field.
     #[tactic(auto, unfolding(crate::specs::Reading::operation))]
     pub fn read(header: &Header<'a>, cursor: &mut Cursor<'a>) -> Result<Operation<'a>, LineFault>
-        ensures { Walks operation_view result cursor.new (operation (header_view header.now) cursor.old) }
+        ensures { Walks operation_view result cursor.new
+            (operation (header_view header.now) cursor.old) }
     {
         let place = cursor.place();
         let opcode = byte(cursor)?;
@@ -72,7 +73,8 @@ impl<'a> Operation<'a> {
     ) -> Result<Operation<'a>, LineFault>
         requires positive { 0 < opcode }
         requires below { opcode < header.now.opcode_base }
-        ensures { Walks operation_view result cursor.new (below_base (header_view header.now) 0 opcode cursor.old) }
+        ensures { Walks operation_view result cursor.new
+            (below_base (header_view header.now) 0 opcode cursor.old) }
     {
         match opcode {
             DW_LNS_COPY => Ok(Operation::Copy),
@@ -103,7 +105,8 @@ impl<'a> Operation<'a> {
         place: u64,
         cursor: &mut Cursor<'a>,
     ) -> Result<Operation<'a>, LineFault>
-        ensures { Walks operation_view result cursor.new (extended_at (header_view header.now) place cursor.old) }
+        ensures { Walks operation_view result cursor.new
+            (extended_at (header_view header.now) place cursor.old) }
     {
         let size = unsigned(cursor)?;
         let inside = cursor.part(size)?;

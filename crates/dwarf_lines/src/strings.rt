@@ -33,7 +33,8 @@ impl<'a> Texts<'a> {
     /// The text from this place up to the next zero byte, in logarithmic time.
     /// None where the place isn't in the section, or no zero byte follows.
     pub fn text(&self, place: u64) -> Option<&'a [u8]>
-        ensures { option_map (λ (t : Bor (List ℕ)). t.now) result ≡ text_from place self.now.bytes.now }
+        ensures { option_map (λ (t : Bor (List ℕ)). t.now) result
+            ≡ text_from place self.now.bytes.now }
     {
         match first_from(self.zeros.as_slice(), place) {
             Some(end) => Some(between(self.bytes, place, end)),
@@ -79,7 +80,8 @@ pub struct Sections<'a> {
     general: &'a [u8],
     line: &'a [u8],
     gathered: Option<Strings<'a>>,
-    ghost same: { option_map (λ s. strings s.general.bytes.now s.line.bytes.now) gathered ≡ option_map (λ _. strings general.now line.now) gathered },
+    ghost same: { option_map (λ s. strings s.general.bytes.now s.line.bytes.now) gathered
+        ≡ option_map (λ _. strings general.now line.now) gathered },
 }
 
 impl<'a> Sections<'a> {

@@ -28,7 +28,8 @@ first_section test ss = option_map (λ s. s.place) (find test ss)
 -- the first of these areas that has the property beside the ones before it
 abbrev pub first_after : (List Segment → Segment → Bool) → List Segment → List Segment → Option ℕ
 first_after test earlier [] = None
-first_after test earlier (s ∷ ss) = if test earlier s then Some s.place else first_after test (s ∷ earlier) ss
+first_after test earlier (s ∷ ss) =
+    if test earlier s then Some s.place else first_after test (s ∷ earlier) ss
 
 abbrev pub first_area : (List Segment → Segment → Bool) → List Segment → Option ℕ
 first_area test ss = first_after test [] ss
@@ -63,16 +64,20 @@ HasHeaders file = first_row (header_rows file) ≡ None
 -- the rows on program headers, sections and load areas
 abbrev pub rows_on : List ℕ → List Segment → List Section → List Segment → List (Option ElfFault)
 rows_on file segments sections areas =
-    entry_row HeaderOut (first_segment (λ s. is_load s && runs_past file s.offset s.filesz) segments)
-    ∷ entry_row HeaderOut (first_section (λ s. has_bytes s && runs_past file s.offset s.size) sections)
+    entry_row HeaderOut
+    (first_segment (λ s. is_load s && runs_past file s.offset s.filesz) segments)
+    ∷ entry_row HeaderOut
+    (first_section (λ s. has_bytes s && runs_past file s.offset s.size) sections)
     ∷ entry_row PackedLines (first_section (λ s. holds_lines file s && is_compressed s) sections)
     ∷ entry_row Interp (first_segment is_interp segments)
     ∷ entry_row SizeOrder (first_segment (λ s. is_load s && nat_lt s.memsz s.filesz) segments)
     ∷ entry_row AddressOut (first_segment (λ s. nat_lt (PAGE * first_page s) 0x1000 || nat_lt LOAD_END (PAGE * end_page s)) areas)
     ∷ entry_row WritableCode (first_segment (λ s. is_load s && is_writable s && is_executable s) segments)
     ∷ entry_row SharedPage (first_area (λ earlier s. list_any (share_page s) earlier) areas)
-    ∷ entry_row TooMuch (first_area (λ earlier s. nat_lt 0x4000000 (PAGE * sum_by pages (s ∷ earlier))) areas)
-    ∷ row EntryOut (not (entry file % 4 == 0 && list_any (λ s. is_load s && is_executable s && has_address (entry file) s) segments)) 24
+    ∷ entry_row TooMuch
+    (first_area (λ earlier s. nat_lt 0x4000000 (PAGE * sum_by pages (s ∷ earlier))) areas)
+    ∷ row EntryOut (not (entry file % 4 == 0
+    && list_any (λ s. is_load s && is_executable s && has_address (entry file) s) segments)) 24
     ∷ []
 
 abbrev pub table_rows : List ℕ → List (Option ElfFault)

@@ -12,15 +12,30 @@ use Rattle.elf_load.specs.Tables.{entry, phoff, phnum, segments, sections, is_lo
 use Rattle.elf_load.specs.Faults.{fault}
 
 abbrev pub rights_of : Segment → Rights
-rights_of s = record { read = is_readable s || is_writable s; write = is_writable s; execute = is_executable s }
+rights_of s = record {
+  read = is_readable s || is_writable s;
+  write = is_writable s;
+  execute = is_executable s;
+}
 
--- The area of a program header. Where it has no bytes in the file, its offset may be anything, and is taken for the file's end at most.
+-- The area of a program header. Where it has no bytes in the file, its offset may be anything,
+-- and is taken for the file's end at most.
 abbrev pub area_of : List ℕ → Segment → Area
-area_of file s = record { start = PAGE * first_page s; size = PAGE * pages s; rights = rights_of s; vaddr = s.vaddr; offset = min s.offset (length file); filled = s.filesz }
+area_of file s = record {
+  start = PAGE * first_page s;
+  size = PAGE * pages s;
+  rights = rights_of s;
+  vaddr = s.vaddr;
+  offset = min s.offset (length file);
+  filled = s.filesz;
+}
 
--- the address of the program headers: in the first PT_LOAD whose file bytes hold their place, else 0
+-- the address of the program headers: in the first PT_LOAD whose file bytes hold
+-- their place, else 0
 abbrev pub headers : List ℕ → ℕ
-headers file = unwrap_or (option_map (λ s. s.vaddr + phoff file - s.offset) (find (λ s. is_load s && has_place (phoff file) s) (segments file))) 0
+headers file =
+    unwrap_or (option_map (λ s. s.vaddr + phoff file - s.offset)
+    (find (λ s. is_load s && has_place (phoff file) s) (segments file))) 0
 
 unfoldable pub image : List ℕ → ImageParts
 image file = record {
@@ -37,11 +52,15 @@ load_answer file = elim (fault file) [ None ↦ Ok (image file) | Some f ↦ Err
 
 -- the byte of an area at an address: the file's, or zero outside of the file bytes
 abbrev pub byte_at : List ℕ → Area → ℕ → ℕ
-byte_at file area a = if nat_le area.vaddr a && nat_lt a (area.vaddr + area.filled) then slice_index file (area.offset + (a - area.vaddr)) else 0
+byte_at file area a =
+    if nat_le area.vaddr a && nat_lt a (area.vaddr + area.filled)
+    then slice_index file (area.offset + (a - area.vaddr))
+    else 0
 
 -- the bytes of the first section of that name
 unfoldable pub section : List ℕ → List ℕ → Option (List ℕ)
-section file name = option_map (bytes_of file) (find (λ s. has_bytes s && is_named file name s) (sections file))
+section file name =
+    option_map (bytes_of file) (find (λ s. has_bytes s && is_named file name s) (sections file))
 
 -- What loading answered is what the file holds, unless memory ran out.
 abbrev pub Fails : LoadError → Result ImageParts ElfFault → Type 0

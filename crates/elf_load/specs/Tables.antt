@@ -1,5 +1,5 @@
--- The fields of an ELF64 file, its program headers and its section headers (ELF-64 Object File Format, version 1.5).
--- A field past the file's end counts as zero.
+-- The fields of an ELF64 file, its program headers and its section headers (ELF-64 Object File
+-- Format, version 1.5). A field past the file's end counts as zero.
 use Rattle.std.specs.Prelude.{ℕ, zero, suc, ◌+◌, ◌-◌, ◌*◌, ◌/◌, Bool, false, not, ◌&&◌, ◌||◌, List, [], ◌∷◌, map, filter, length, take, drop, Option, Some, None, option_map, position, nat_lt, nat_le, ◌==◌, if◌then◌else◌, bytes_eq, codes}
 use Rattle.std.specs.List.{list_any}
 use Rattle.std.specs.Int.{Width, w16, w32, w64, from_le_bytes, bit_at}
@@ -145,7 +145,9 @@ bytes_of file s = take s.size (drop s.offset file)
 abbrev pub names : List ℕ → List ℕ
 names file =
     let s = section_at file (shoff file + 64 * shstrndx file) in
-    if nat_lt 0 (shstrndx file) && nat_lt (shstrndx file) (shnum file) && has_bytes s then bytes_of file s else []
+    if nat_lt 0 (shstrndx file) && nat_lt (shstrndx file) (shnum file) && has_bytes s
+    then bytes_of file s
+    else []
 
 -- the bytes before the first zero byte
 abbrev pub text : List ℕ → Option (List ℕ)

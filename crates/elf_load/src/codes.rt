@@ -1,4 +1,5 @@
-//! The places of a file's fields and the codes in them (ELF64 object file format; System V ABI; RISC-V ELF psABI).
+//! The places of a file's fields and the codes in them (ELF64 object file format; System V ABI;
+//! RISC-V ELF psABI).
 
 /// The bytes of a file's header.
 pub const EHDR_SIZE: usize = 64;

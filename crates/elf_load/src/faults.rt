@@ -22,7 +22,8 @@ const END_PAGE: u64 = LOAD_END / PAGE;
 
 /// The fault at a program header, if one was found.
 pub fn at_segment(kind: ElfKind, found: Option<&Segment>) -> Result<(), ElfFault>
-    ensures { Judges result (entry_row kind (option_map (λ s. s.place) (option_copied found.entry))) }
+    ensures { Judges result
+        (entry_row kind (option_map (λ s. s.place) (option_copied found.entry))) }
 {
     match found {
         Some(header) => Err(ElfFault {
@@ -35,7 +36,8 @@ pub fn at_segment(kind: ElfKind, found: Option<&Segment>) -> Result<(), ElfFault
 
 /// The fault at a section header, if one was found.
 fn at_section(kind: ElfKind, found: Option<&Section>) -> Result<(), ElfFault>
-    ensures { Judges result (entry_row kind (option_map (λ s. s.place) (option_copied found.entry))) }
+    ensures { Judges result
+        (entry_row kind (option_map (λ s. s.place) (option_copied found.entry))) }
 {
     match found {
         Some(header) => Err(ElfFault {
@@ -48,7 +50,8 @@ fn at_section(kind: ElfKind, found: Option<&Section>) -> Result<(), ElfFault>
 
 /// No file bytes of a PT_LOAD run past the file.
 fn segments_in_file(file: &[u8], segments: &[Segment]) -> Result<(), ElfFault>
-    ensures { Judges result (entry_row ElfKind.HeaderOut (first_segment (λ s. is_load s && runs_past file.now s.offset s.filesz) segments.now)) }
+    ensures { Judges result (entry_row ElfKind.HeaderOut
+        (first_segment (λ s. is_load s && runs_past file.now s.offset s.filesz) segments.now)) }
 {
     let found = segments
         .iter()
@@ -58,7 +61,8 @@ fn segments_in_file(file: &[u8], segments: &[Segment]) -> Result<(), ElfFault>
 
 /// No bytes of a section run past the file.
 fn sections_in_file(file: &[u8], sections: &[Section]) -> Result<(), ElfFault>
-    ensures { Judges result (entry_row ElfKind.HeaderOut (first_section (λ s. has_bytes s && runs_past file.now s.offset s.size) sections.now)) }
+    ensures { Judges result (entry_row ElfKind.HeaderOut
+        (first_section (λ s. has_bytes s && runs_past file.now s.offset s.size) sections.now)) }
 {
     let found = sections
         .iter()
@@ -97,7 +101,8 @@ fn holds_lines(names: &[u8], section: &Section) -> bool
 /// The line table and its texts are not compressed.
 fn lines_unpacked(file: &[u8], sections: &[Section]) -> Result<(), ElfFault>
     requires { HasHeaders file.now }
-    ensures { Judges result (entry_row ElfKind.PackedLines (first_section (λ s. holds_lines file.now s && is_compressed s) sections.now)) }
+    ensures { Judges result (entry_row ElfKind.PackedLines
+        (first_section (λ s. holds_lines file.now s && is_compressed s) sections.now)) }
 {
     let names = names(file);
     let found = sections
@@ -116,7 +121,8 @@ fn no_interp(segments: &[Segment]) -> Result<(), ElfFault>
 
 /// No PT_LOAD has more bytes in the file than in memory.
 fn sizes_in_order(segments: &[Segment]) -> Result<(), ElfFault>
-    ensures { Judges result (entry_row ElfKind.SizeOrder (first_segment (λ s. is_load s && nat_lt s.memsz s.filesz) segments.now)) }
+    ensures { Judges result (entry_row ElfKind.SizeOrder
+        (first_segment (λ s. is_load s && nat_lt s.memsz s.filesz) segments.now)) }
 {
     let found = segments.iter().find(|s| s.is_load() && s.filesz > s.memsz);
     at_segment(ElfKind::SizeOrder, found)
@@ -134,7 +140,8 @@ fn areas_in_range(areas: &[Segment]) -> Result<(), ElfFault>
 
 /// No PT_LOAD may be written and executed.
 fn no_writable_code(segments: &[Segment]) -> Result<(), ElfFault>
-    ensures { Judges result (entry_row ElfKind.WritableCode (first_segment (λ s. is_load s && is_writable s && is_executable s) segments.now)) }
+    ensures { Judges result (entry_row ElfKind.WritableCode
+        (first_segment (λ s. is_load s && is_writable s && is_executable s) segments.now)) }
 {
     let found = segments
         .iter()
@@ -144,7 +151,8 @@ fn no_writable_code(segments: &[Segment]) -> Result<(), ElfFault>
 
 /// Whether a program that begins there begins in its code.
 fn is_entered(segments: &[Segment], entry: u64) -> bool
-    ensures { result ≡ list_any (λ s. is_load s && is_executable s && has_address entry s) segments.now }
+    ensures { result
+        ≡ list_any (λ s. is_load s && is_executable s && has_address entry s) segments.now }
 {
     segments.iter().any(|s| s.is_load() && s.is_executable() && s.has_address(entry))
 }
@@ -152,7 +160,8 @@ fn is_entered(segments: &[Segment], entry: u64) -> bool
 /// The program begins with an instruction of its code.
 fn entry_in_code(file: &[u8], segments: &[Segment]) -> Result<(), ElfFault>
     requires { HasHeaders file.now }
-    ensures { Judges result (row ElfKind.EntryOut (not (entry file.now % 4 == 0 && list_any (λ s. is_load s && is_executable s && has_address (entry file.now) s) segments.now)) 24) }
+    ensures { Judges result (row ElfKind.EntryOut (not (entry file.now % 4 == 0 && list_any (λ s.
+        is_load s && is_executable s && has_address (entry file.now) s) segments.now)) 24) }
 {
     let entry = double_at(file, E_ENTRY);
     if entry % 4 == 0 && is_entered(segments, entry) {
@@ -176,7 +185,8 @@ pub fn check_tables(
 ) -> Result<(), LoadError>
     requires headers { HasHeaders file.now }
     requires areas { All (λ s. is_area s ≡ true) areas.now }
-    ensures { JudgesOrFails result (first_row (rows_on file.now segments.now sections.now areas.now)) }
+    ensures { JudgesOrFails result
+        (first_row (rows_on file.now segments.now sections.now areas.now)) }
 {
     segments_in_file(file, segments)?;
     sections_in_file(file, sections)?;

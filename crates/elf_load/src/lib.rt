@@ -1,4 +1,5 @@
-//! Reads an ELF64 file of a static RISC-V program: its image, or the first thing that is wrong with it.
+//! Reads an ELF64 file of a static RISC-V program: its image, or the first thing
+//! that is wrong with it.
 #![tactic(auto)]
 
 mod areas;
@@ -61,7 +62,8 @@ pub enum ElfKind {
     EntryOut,
 }
 
-/// A fault, and its place: the offset of the field or of the table entry that has it, in bytes from the file's start.
+/// A fault, and its place: the offset of the field or of the table entry that has it, in bytes
+/// from the file's start.
 #[derive(Clone, Copy, Debug, PartialEq, Eq)]
 pub struct ElfFault {
     /// What is wrong.
@@ -103,8 +105,9 @@ impl<T: Drop> From<AllocFailed<T>> for LoadError {
     }
 }
 
-/// The image of an ELF64 file for RISC-V, or the first fault that it has (ELF-64 Object File Format, version 1.5).
-/// The areas are those of its program headers, in their order. Want of memory may come in place of either.
+/// The image of an ELF64 file for RISC-V, or the first fault that it has (ELF-64 Object
+/// File Format, version 1.5). The areas are those of its program headers, in their order.
+/// Want of memory may come in place of either.
 pub fn load<'a>(alloc: Global, file: &'a [u8]) -> Result<Image<'a>, LoadError>
     ensures answer { Loads result (load_answer file.now) }
     ensures faultless { IfOk result (λ image. fault image.file ≡ None) }
@@ -121,7 +124,8 @@ pub fn load<'a>(alloc: Global, file: &'a [u8]) -> Result<Image<'a>, LoadError>
     Ok(Image::new(file, areas, entry, headers, count))
 }
 
-/// The bytes of the first section of that name, for an image whose file has no fault. NULL and NOBITS sections are not found.
+/// The bytes of the first section of that name, for an image whose file has no fault.
+/// NULL and NOBITS sections are not found.
 pub fn section<'a>(image: &Image<'a>, name: &[u8]) -> Option<&'a [u8]>
     requires { fault image.now.file ≡ None }
     ensures { option_copied result ≡ section image.now.file name.now }

@@ -14,7 +14,8 @@ use crate::{ElfFault, ElfKind, LoadError};
 use std::alloc::Global;
 use std::collections::BTreeMap;
 
-/// Whether an area has a page of one of these spans. A span is the number of its first page, and that after its last one.
+/// Whether an area has a page of one of these spans. A span is the number of its first page,
+/// and that after its last one.
 fn has_page_of(spans: &BTreeMap<u64, u64>, area: &Segment) -> bool
     requires { AreSpans (get nat_cmp spans.now) }
     ensures { IsTrue result ↔ HasPageOf (get nat_cmp spans.now) area.now }
@@ -28,7 +29,8 @@ fn has_page_of(spans: &BTreeMap<u64, u64>, area: &Segment) -> bool
 /// No area has a page of an earlier one. Err tells the first that has, or want of memory.
 pub fn no_shared_page(alloc: Global, areas: &[Segment]) -> Result<(), LoadError>
     requires { All (λ s. is_area s ≡ true) areas.now }
-    ensures { JudgesOrFails result (entry_row ElfKind.SharedPage (first_area (λ earlier s. list_any (share_page s) earlier) areas.now)) }
+    ensures { JudgesOrFails result (entry_row ElfKind.SharedPage
+        (first_area (λ earlier s. list_any (share_page s) earlier) areas.now)) }
 {
     let mut spans = BTreeMap::new(alloc);
     for area in areas {
@@ -45,7 +47,8 @@ pub fn no_shared_page(alloc: Global, areas: &[Segment]) -> Result<(), LoadError>
 
 /// All areas have at most 64 MiB together. Err tells the area with which they have more.
 pub fn not_too_much(areas: &[Segment]) -> Result<(), ElfFault>
-    ensures { Judges result (entry_row ElfKind.TooMuch (first_area (λ earlier s. nat_lt 0x4000000 (PAGE * sum_by pages (s ∷ earlier))) areas.now)) }
+    ensures { Judges result (entry_row ElfKind.TooMuch (first_area (λ earlier s.
+        nat_lt 0x4000000 (PAGE * sum_by pages (s ∷ earlier))) areas.now)) }
 {
     let mut pages: u64 = 0;
     for area in areas {

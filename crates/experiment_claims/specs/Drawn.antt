@@ -1,4 +1,5 @@
--- What the seats drew: the rule on the claim word and on the hands of all seats, and what a draw tells.
+-- What the seats drew: the rule on the claim word and on the hands of all seats,
+-- and what a draw tells.
 use Rattle.std.specs.Prelude.{◌≡◌, ℕ, ◌+◌, ◌-◌, ◌^◌, ◌<◌, ◌≤◌, ◌==◌, nat_lt, cond, List, [], ◌∷◌, ◌++◌, length, slice_index, All}
 use Rattle.std.specs.List.{count_by}
 use Rattle.atomic_table.specs.Table.{State, Me, Step}
@@ -20,8 +21,8 @@ abbrev pub total : (Hand → ℕ) → List Hand → ℕ
 total f [] = 0
 total f (h ∷ hs) = f h + total f hs
 
--- where the claim word is w: the turns of all seats and w are 2^40 together, as many numbers were drawn as w says,
--- and the lists of all seats have each number below w once and no other
+-- where the claim word is w: the turns of all seats and w are 2^40 together, as many numbers were
+-- drawn as w says, and the lists of all seats have each number below w once and no other
 pub record Fits (w : ℕ) (hands : List Hand) : Type 0 where
   pub turns : total (λ h. h.turns) hands + w ≡ 2 ^ 40
   pub count : total (λ h. length h.numbers) hands ≡ w
@@ -31,7 +32,8 @@ pub record Fits (w : ℕ) (hands : List Hand) : Type 0 where
 abbrev pub Drawn : State (Unit {0}) Hand → Type 0
 Drawn s = (length s.words ≡ 1) × Fits (slice_index s.words 0) s.views
 
--- what one step of a draw tells: the number that was found, which is greater than all that the seat has
+-- what one step of a draw tells: the number that was found, which is greater
+-- than all that the seat has
 abbrev pub drew : Step (Unit {0}) → Me (Unit {0}) Hand → ℕ → Me (Unit {0}) Hand → Type 0
 drew st m number m' =
     (number < 2 ^ 40)

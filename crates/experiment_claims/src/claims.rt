@@ -10,7 +10,8 @@ use std::alloc::{AllocError, Global};
 use std::marker::Brand;
 
 impl Claims {
-    /// Claims of the numbers below a bound, and the first seat, which has 2^40 turns and no numbers.
+    /// Claims of the numbers below a bound, and the first seat, which has 2^40
+    /// turns and no numbers.
     /// Only want of memory stands against it.
     pub fn new(alloc: Global, bound: u32) -> Result<(Claims, ClaimSeat), AllocError>
         ensures seat { IfOk result (λ made. IsSeatOf made.0 made.1) }
@@ -21,7 +22,8 @@ impl Claims {
         Ok((Claims { table, bound }, ClaimSeat { seat }))
     }
 
-    /// Spends one turn of the seat on the next number, which no other seat gets. `None` comes where it is the bound or more.
+    /// Spends one turn of the seat on the next number, which no other seat gets. `None` comes
+    /// where it is the bound or more.
     pub fn draw(&self, seat: &mut ClaimSeat) -> Option<u32>
         requires seat { IsSeatOf self.now seat.old }
         requires turn { 0 < (hand_of seat.old).turns }
@@ -35,12 +37,14 @@ impl Claims {
         None
     }
 
-    /// Divides a seat in two: the second has that many of its turns and no numbers, and the first keeps the rest.
+    /// Divides a seat in two: the second has that many of its turns and no numbers,
+    /// and the first keeps the rest.
     pub fn split(&self, seat: ClaimSeat, turns: u64) -> (ClaimSeat, ClaimSeat)
         requires seat { IsSeatOf self.now seat }
         requires turns { turns ≤ (hand_of seat).turns }
         ensures seats { IsSeatOf self.now result.0 × IsSeatOf self.now result.1 }
-        ensures first { hand_of result.0 ≡ hand ((hand_of seat).turns - turns) (hand_of seat).numbers }
+        ensures first { hand_of result.0
+            ≡ hand ((hand_of seat).turns - turns) (hand_of seat).numbers }
         ensures second { hand_of result.1 ≡ hand turns [] }
     {
         self.split_by::<Brand>(seat, turns)
@@ -52,7 +56,8 @@ impl Claims {
         requires seat { IsSeatOf self.now seat }
         requires turns { _turns ≤ (hand_of seat).turns }
         ensures seats { IsSeatOf self.now result.0 × IsSeatOf self.now result.1 }
-        ensures first { hand_of result.0 ≡ hand ((hand_of seat).turns - _turns) (hand_of seat).numbers }
+        ensures first { hand_of result.0
+            ≡ hand ((hand_of seat).turns - _turns) (hand_of seat).numbers }
         ensures second { hand_of result.1 ≡ hand _turns [] }
     {
         let ClaimSeat { mut seat } = seat;
@@ -65,7 +70,8 @@ impl Claims {
         requires seats { IsSeatOf self.now first × IsSeatOf self.now second }
         ensures seat { IsSeatOf self.now result }
         ensures turns { (hand_of result).turns ≡ (hand_of first).turns + (hand_of second).turns }
-        ensures numbers { (hand_of result).numbers ≡ (hand_of first).numbers ++ (hand_of second).numbers }
+        ensures numbers { (hand_of result).numbers
+            ≡ (hand_of first).numbers ++ (hand_of second).numbers }
     {
         let ClaimSeat { mut seat } = first;
         let ClaimSeat { seat: other } = second;
@@ -73,7 +79,8 @@ impl Claims {
         ClaimSeat { seat }
     }
 
-    /// The count of all draws. The seat, to which all others were joined, has each number below it once and no other.
+    /// The count of all draws. The seat, to which all others were joined, has each number below it
+    /// once and no other.
     pub fn finish(self, seat: ClaimSeat) -> u64
         requires seat { IsSeatOf self seat }
         requires all { owns_all (hand_of seat) }

@@ -13,7 +13,8 @@ pub struct Hand {
     pub numbers: LinkedList<u64>,
 }
 
-/// The rule on the claim word and all seats: each number below the word is in one of their lists, once.
+/// The rule on the claim word and all seats: each number below the word is
+/// in one of their lists, once.
 pub struct EachOnce;
 
 impl TableRule<(), Hand, ()> for EachOnce {

@@ -5,7 +5,8 @@ use crate::hand::{EachOnce, Hand};
 use atomic_table::{Seat, Table};
 use std::alloc::Global;
 
-/// A count that begins at 0, from which seats draw numbers, and a bound: the numbers below it are claims.
+/// A count that begins at 0, from which seats draw numbers, and a bound:
+/// the numbers below it are claims.
 #[derive(Drop)]
 pub struct Claims {
     pub(crate) table: Table<(), Hand, (), EachOnce, Global>,

@@ -9,10 +9,12 @@ abbrev pub goes_on : Experiment → List Experiment → Bool
 goes_on pair [] = false
 goes_on pair (next ∷ pairs) = pair.line.0 == next.line.0
 
--- the maximal runs of pairs of one line, in their order: a pair stands in the run of the next one where that has its line
+-- the maximal runs of pairs of one line, in their order: a pair stands in the run of the next
+-- one where that has its line
 abbrev pub by_line : List Experiment → List (List Experiment)
 by_line [] = []
-by_line (pair ∷ pairs) = if goes_on pair pairs then onto_first pair (by_line pairs) else (pair ∷ []) ∷ by_line pairs
+by_line (pair ∷ pairs) =
+    if goes_on pair pairs then onto_first pair (by_line pairs) else (pair ∷ []) ∷ by_line pairs
 
 -- all pairs of some lines, one behind the other
 abbrev pub joined : List (List Experiment) → List Experiment

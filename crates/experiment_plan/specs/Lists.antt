@@ -33,7 +33,9 @@ is_path path = nat_lt 0 (length path) && list_all (λ b. not (is_comma b)) path
 
 -- a path, the last `:`, and a number from 1 to 2^32 - 1
 unfoldable pub is_line : Text → Bool
-is_line text = is_path (before_last is_colon text) && is_some (number_in 1 4294967295 (after_last is_colon text))
+is_line text =
+    is_path (before_last is_colon text)
+    && is_some (number_in 1 4294967295 (after_last is_colon text))
 
 -- the path of a line, and its number
 unfoldable pub line_parts : Text → Text × ℕ

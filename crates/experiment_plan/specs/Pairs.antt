@@ -25,7 +25,8 @@ planned lines speedups = pairs_of lines (rising (0 ∷ speedups))
 abbrev pub pair_cmp : Experiment → Experiment → Ordering
 pair_cmp e f = ordering_then (nat_cmp e.line.0 f.line.0) (nat_cmp e.speedup f.speedup)
 
--- the pairs of a plan: lines that rise, each at so many speedups, none above the greatest speedup, and at most 100,000 pairs
+-- the pairs of a plan: lines that rise, each at so many speedups, none above the greatest speedup,
+-- and at most 100,000 pairs
 pub record ArePlanned (count : ℕ) (pairs : List Experiment) : Type 0 where
   pub lines : List LineId
   pub speedups : List ℕ
@@ -39,5 +40,6 @@ pub record ArePlanned (count : ℕ) (pairs : List Experiment) : Type 0 where
 -- all pairs, or how many they are, which is above 100,000
 abbrev pub IsPlan : List LineId → List ℕ → Result (List Experiment) PlanError → Type 0
 IsPlan lines speedups (Ok plan) = (plan ≡ planned lines speedups) × (length plan ≤ 100000)
-IsPlan lines speedups (Err (TooMany count)) = (count ≡ length (planned lines speedups)) × (100000 < count)
+IsPlan lines speedups (Err (TooMany count)) =
+    (count ≡ length (planned lines speedups)) × (100000 < count)
 IsPlan lines speedups (Err Memory) = Unit {0}

@@ -27,14 +27,20 @@ line_found lines text = position_named (line_parts text).0 (line_parts text).1 l
 abbrev pub is_missing : List Line → Text → Bool
 is_missing lines text = is_none (line_found lines text)
 
--- the positions of the lines that a list names, as they rise and each once; else the first piece that names none
+-- the positions of the lines that a list names, as they rise and each once; else the first
+-- piece that names none
 abbrev pub selected : List Line → Text → Result (List ℕ) Text
 selected lines text =
-    elim (find (is_missing lines) (pieces text)) [ Some piece ↦ Err piece | None ↦ Ok (rising (filter_map (line_found lines) (pieces text))) ]
+    elim (find (is_missing lines) (pieces text)) [
+      | Some piece ↦ Err piece
+      | None ↦ Ok (rising (filter_map (line_found lines) (pieces text)))
+    ]
 
--- how many bytes stand in front of the first missing piece: the pieces before it, each with its comma
+-- how many bytes stand in front of the first missing piece: the pieces before it,
+-- each with its comma
 abbrev pub bytes_before : List Line → List Text → ℕ
-bytes_before lines texts = sum_by (λ piece. length piece + 1) (take_while (λ piece. not (is_missing lines piece)) texts)
+bytes_before lines texts =
+    sum_by (λ piece. length piece + 1) (take_while (λ piece. not (is_missing lines piece)) texts)
 
 -- the first missing piece stands at this place, and has so many bytes
 pub record IsMissingAt (lines : List Line) (text : Text) (start size : ℕ) : Type 0 where
@@ -50,5 +56,6 @@ IsSelection lines text (Err Memory) = Unit {0}
 -- the lines of the pieces, one after the other; else the place of the first that is missing
 abbrev pub AreNamed : List Line → Text → Result (Vec LineId) SelectError → Type 0
 AreNamed lines text (Ok found) =
-    (find (is_missing lines) (pieces text) ≡ None) × (ids found.items ≡ filter_map (line_found lines) (pieces text))
+    (find (is_missing lines) (pieces text) ≡ None)
+    × (ids found.items ≡ filter_map (line_found lines) (pieces text))
 AreNamed lines text (Err error) = IsSelection lines text (Err error)

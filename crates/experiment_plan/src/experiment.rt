@@ -34,7 +34,8 @@ impl From<AllocError> for PlanError {
     }
 }
 
-/// The experiments of a profile, by line and then by speedup: at most 100,000. Contracts see the list of them.
+/// The experiments of a profile, by line and then by speedup: at most 100,000.
+/// Contracts see the list of them.
 #[derive(Drop)]
 pub struct Plan {
     pub(crate) pairs: Vec<Experiment>,

@@ -1,5 +1,6 @@
-//! What a line and a list of lines are, as an experiment's words name them, and the numbers in them; which lines of a
-//! program such a list selects; and the plan of the experiments on lines at speedups.
+//! What a line and a list of lines are, as an experiment's words name them, and the numbers
+//! in them; which lines of a program such a list selects; and the plan of the experiments
+//! on lines at speedups.
 #![tactic(auto)]
 
 mod by_line;

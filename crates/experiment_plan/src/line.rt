@@ -42,8 +42,8 @@ fn is_path(path: &[u8]) -> bool
     !path.is_empty() && has_no_comma(path)
 }
 
-/// Whether a text is a line: a path that isn't empty and has no comma, `:`, and a number from 1 to 2^32 - 1.
-/// The last `:` divides them.
+/// Whether a text is a line: a path that isn't empty and has no comma, `:`, and a number
+/// from 1 to 2^32 - 1. The last `:` divides them.
 #[tactic(auto, unfolding(crate::specs::Lists::is_line))]
 pub fn is_line(text: &[u8]) -> bool
     ensures { result ≡ is_line text.now }

@@ -15,8 +15,8 @@ use std::alloc::{AllocError, AllocFailed, Global};
 /// Why lines that a list names are not selected.
 #[derive(Clone, Copy, Debug, PartialEq, Eq)]
 pub enum SelectError {
-    /// The program has no such line: the first piece of the list that names none begins at the byte `start` of the
-    /// list's text, and has `length` bytes.
+    /// The program has no such line: the first piece of the list that names none begins
+    /// at the byte `start` of the list's text, and has `length` bytes.
     NoLine { start: u64, length: u64 },
     /// Memory was wanting.
     Memory,
@@ -77,13 +77,14 @@ fn rising_lines(lines: &mut Vec<LineId>) -> Result<(), AllocError>
     Ok(())
 }
 
-/// The lines of the pieces of a list, as they rise and each once. A list of `n` pieces costs `n` searches and one sort.
-/// Err tells the first piece that names none, or want of memory.
+/// The lines of the pieces of a list, as they rise and each once. A list of `n` pieces costs
+/// `n` searches and one sort. Err tells the first piece that names none, or want of memory.
 pub fn select(alloc: Global, index: &LineIndex, text: &[u8]) -> Result<Vec<LineId>, SelectError>
     requires { is_list text.now ≡ true }
     ensures selection { IsSelection index.now.lines text.now result }
     ensures rising { IfOk result (λ lines. IsStrictlySortedBy nat_cmp (ids lines.items)) }
-    ensures below { IfOk result (λ lines. All (λ (line : LineId). line.0 < length index.now.lines) lines.items) }
+    ensures below { IfOk result (λ lines.
+        All (λ (line : LineId). line.0 < length index.now.lines) lines.items) }
 {
     let mut lines = lines_named(alloc, index, text)?;
     rising_lines(&mut lines)?;

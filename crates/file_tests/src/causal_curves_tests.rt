@@ -4,8 +4,8 @@ use coz_files::{MemorySink, PutAnswer};
 use profile_reader::read_profile;
 use std::test::Fail;
 
-// Two points and four lines: visits that fail at the second point, a time that falls by less than a ten thousandth, no run
-// at speedup 0, and no net time there.
+// Two points and four lines: visits that fail at the second point, a time that falls by less
+// than a ten thousandth, no run at speedup 0, and no net time there.
 const PROFILE: &[u8] = b"coz-ticks\tversion=1\tbudget=1000\tpoints=2\n\
 point\tindex=0\tname=p.s:1\n\
 point\tindex=1\tname=p.s:2\n\

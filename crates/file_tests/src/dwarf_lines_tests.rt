@@ -115,7 +115,8 @@ fn files_are_read(rt: HostRuntime) -> Result<(), Fail> {
     Ok(())
 }
 
-/// The first and the last length, and the place of what is short, where the unit of four rows is cut to such a length.
+/// The first and the last length, and the place of what is short, where the unit of four rows is
+/// cut to such a length.
 static CUTS: [(usize, usize, u64); 13] = [
     (4, 5, 4),
     (6, 36, 6),
@@ -194,8 +195,8 @@ fn a_byte_that_is_set_makes_a_fault(rt: HostRuntime) -> Result<(), Fail> {
     Ok(())
 }
 
-/// Programs under the header of the unit of four rows, and their faults: an operand of more than 64 bits, a line below
-/// zero, and no end of the sequence.
+/// Programs under the header of the unit of four rows, and their faults: an operand of more
+/// than 64 bits, a line below zero, and no end of the sequence.
 static PROGRAMS: [(&[u8], LineKind, u64); 3] = [
     (
         b"\x02\xFF\xFF\xFF\xFF\xFF\xFF\xFF\xFF\xFF\x7F",

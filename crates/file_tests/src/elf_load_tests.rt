@@ -274,7 +274,8 @@ const LARGE: Area = Area {
     ..WRITABLE
 };
 
-/// Changes of the good file, its areas, where its program headers are, and how many bytes of lines it has.
+/// Changes of the good file, its areas, where its program headers are, and how many
+/// bytes of lines it has.
 type Loaded = (&'static [Change], &'static [Area], u64, usize);
 
 static LOADED: [Loaded; 8] = [

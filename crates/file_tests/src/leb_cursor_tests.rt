@@ -5,8 +5,8 @@ const SHORT: LebFault = LebFault::Short(Short { place: 0 });
 
 const WIDE: LebFault = LebFault::Wide { place: 0 };
 
-// Bytes, the number that they begin with, and the cursor's place after: the standard's examples, padded ones, and
-// the edges of 64 bits.
+// Bytes, the number that they begin with, and the cursor's place after: the standard's examples,
+// padded ones, and the edges of 64 bits.
 static UNSIGNED: [(&[u8], Result<u64, LebFault>, u64); 13] = [
     (b"\x02", Ok(2), 1),
     (b"\x7F", Ok(127), 1),
@@ -80,7 +80,8 @@ fn signed_numbers_are_read(rt: HostRuntime) {
     }
 }
 
-/// Numbers of 1, 2, 4 and 8 bytes, two texts from 15 on, two bytes, and from 22 on a part and one byte more.
+/// Numbers of 1, 2, 4 and 8 bytes, two texts from 15 on, two bytes, and from 22 on a part
+/// and one byte more.
 const FIELDS: &[u8] = b"\x01\x02\x03\x04\x05\x06\x07\x08\x09\x0A\x0B\x0C\x0D\x0E\x0Fa.s\0\0??tail";
 
 /// A cursor at that place of the fields.

@@ -1,4 +1,5 @@
-//! Tests of line tables whose files are named by entries of described formats, and in sections of texts.
+//! Tests of line tables whose files are named by entries of described formats,
+//! and in sections of texts.
 ghost use Rattle.std.specs.Prelude.{◌≤◌, length};
 
 use crate::dwarf_lines_tests::FOUR_ROWS;
@@ -6,8 +7,8 @@ use dwarf_lines::{FileName, LineError, LineFault, LineKind, LineTable, Row, read
 use std::alloc::Global;
 use std::test::Fail;
 
-/// A unit of version 5: the directory `.`, twice the file `one.s`, of which the rows have the second. Its program
-/// begins at 56. llvm-dwarfdump prints its rows.
+/// A unit of version 5: the directory `.`, twice the file `one.s`, of which the rows have
+/// the second. Its program begins at 56. llvm-dwarfdump prints its rows.
 static FIVE: [u8; 83] = [
     0x4F, 0x00, 0x00, 0x00, 0x05, 0x00, 0x08, 0x00, 0x2C, 0x00, 0x00, 0x00, 0x04, 0x01, 0x01, 0xFB,
     0x0E, 0x0D, 0x00, 0x01, 0x01, 0x01, 0x01, 0x00, 0x00, 0x00, 0x01, 0x00, 0x00, 0x01, 0x01, 0x01,
@@ -25,7 +26,8 @@ const LINE: &[u8] = b"l\0";
 
 /// How a section is made.
 enum Made {
-    /// The unit, cut to each length from the first to the last of these, and its first byte adjusted.
+    /// The unit, cut to each length from the first to the last of these,
+    /// and its first byte adjusted.
     Cut(usize, usize),
     /// The unit with a byte set.
     Set(usize, u8),
@@ -40,7 +42,8 @@ enum Made {
 /// What a section is read as.
 enum Wanted {
     Fault(LineKind, u64),
-    /// The directory and name of each file, the file and line of each row, and how many units were passed over.
+    /// The directory and name of each file, the file and line of each row,
+    /// and how many units were passed over.
     Table(&'static [(&'static [u8], &'static [u8])], &'static [(Option<u32>, u32)], u32),
 }
 
@@ -265,7 +268,8 @@ static CASES: [(Made, Wanted); 88] = [
         Made::Names(&[1, 1, 8, 2, 46, 0, 100, 0, 2, 1, 8, 2, 11, 1, 97, 0, 2]),
         Wanted::Table(&[(b"", b"a")], &[], 0),
     ),
-    // A place past a section of texts, at its end, without a zero byte behind it, and in the other section.
+    // A place past a section of texts, at its end, without a zero byte behind it,
+    // and in the other section.
     (
         Made::Names(&[0, 0, 1, 1, 31, 1, 3, 0, 0, 0]),
         Wanted::Fault(LineKind::TextOut, 24),
@@ -311,7 +315,8 @@ static CASES: [(Made, Wanted); 88] = [
         Made::Names(&[0, 255, 255, 255, 255, 255, 255, 255, 255, 255, 1, 0, 0]),
         Wanted::Fault(LineKind::EmptyEntries, 19),
     ),
-    // The file registers 0, 1 and 2, which is past the end, and an extended opcode 3, which is passed.
+    // The file registers 0, 1 and 2, which is past the end, and an extended opcode
+    // 3, which is passed.
     (
         Made::Program(&[4, 0, 1, 0, 1, 1]),
         Wanted::Table(

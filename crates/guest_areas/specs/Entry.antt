@@ -1,4 +1,5 @@
--- What a program finds at its entry: the stack of the System V ABI, with one argument and an auxiliary vector.
+-- What a program finds at its entry: the stack of the System V ABI, with one argument
+-- and an auxiliary vector.
 use Rattle.std.specs.Prelude.{ℕ, ◌+◌, ◌-◌, List, [], ◌∷◌}
 use Rattle.coz_types.specs.declared.TheConstants.{PAGE}
 use Rattle.coz_types.specs.Image.{ImageParts}
@@ -19,8 +20,8 @@ stack_pointer = stack_top - 176
 abbrev pub name : List ℕ
 name = 0x70 ∷ 0x72 ∷ 0x6F ∷ 0x67 ∷ []
 
--- one argument, no environment, and the auxiliary vector: the program headers with their size and count, the size
--- of a page, the entry, 16 bytes of zeros in the place of random ones, and the end
+-- one argument, no environment, and the auxiliary vector: the program headers with their size and
+-- count, the size of a page, the entry, 16 bytes of zeros in the place of random ones, and the end
 abbrev pub entry_numbers : ImageParts → List ℕ
 entry_numbers image =
     1 ∷ (stack_top - 32) ∷ 0
@@ -35,11 +36,18 @@ entry_numbers image =
     ∷ []
 
 unfoldable pub with_entry : ImageParts → MemoryMap → MemoryMap
-with_entry image m = with_numbers stack_pointer (entry_numbers image) (with_bytes (stack_top - 32) name m)
+with_entry image m =
+    with_numbers stack_pointer (entry_numbers image) (with_bytes (stack_top - 32) name m)
 
 abbrev pub first_regions : ImageParts → Layout → RegionMap
-first_regions image layout = record { areas = image.areas; layout = layout; break = brk_base; mapped = [] }
+first_regions image layout = record {
+  areas = image.areas;
+  layout = layout;
+  break = brk_base;
+  mapped = [];
+}
 
 -- nothing is mapped, the break is at its base, and the stack has what the entry wants
 abbrev pub first_space : ImageParts → Layout → Space
-first_space image layout = space (first_regions image layout) (with_entry image (first_memory image layout))
+first_space image layout =
+    space (first_regions image layout) (with_entry image (first_memory image layout))

@@ -1,4 +1,5 @@
--- The address space of a guest, and the calls that change it (Linux: brk(2), mmap(2), munmap(2), mprotect(2)).
+-- The address space of a guest, and the calls that change it (Linux: brk(2), mmap(2),
+-- munmap(2), mprotect(2)).
 use Rattle.std.specs.Prelude.{◌≡◌, ℕ, zero, suc, ◌+◌, ◌-◌, ◌*◌, ◌/◌, ◌%◌, Bool, true, false, not, ◌&&◌, ◌||◌, if◌then◌else◌, nat_le, nat_lt, ◌==◌, List, [], ◌∷◌, ◌++◌, filter, find, Option, Some, None, ℤ, pos}
 use Rattle.std.specs.List.{list_any}
 use Rattle.coz_types.specs.declared.image.Area.{Area}
@@ -44,7 +45,11 @@ has number power = number / power % 2 == 1
 
 -- 1 is read and 2 is write, which gives read too
 abbrev pub rights_of : ℕ → Rights
-rights_of protection = record { read = has protection 1 || has protection 2; write = has protection 2; execute = false }
+rights_of protection = record {
+  read = has protection 1 || has protection 2;
+  write = has protection 2;
+  execute = false;
+}
 
 abbrev pub is_page_start : ℕ → Bool
 is_page_start address = address % page_size == 0
@@ -61,7 +66,10 @@ run first (suc count) = first ∷ run (first + 1) count
 -- each of so many pages from one on passes the test
 abbrev pub is_each : (ℕ → Bool) → ℕ → ℕ → Bool
 is_each test first zero = true
-is_each test first (suc count) = elim (test first) [ true ↦ is_each test (first + 1) count | false ↦ false ]
+is_each test first (suc count) = elim (test first) [
+  | true ↦ is_each test (first + 1) count
+  | false ↦ false
+]
 
 abbrev pub is_free_run : RegionMap → ℕ → ℕ → Bool
 is_free_run r first count = not (list_any (is_in_run first count) r.mapped)
@@ -96,7 +104,8 @@ memory_between old new m =
 unfoldable pub with_break : ℕ → Space → Space
 with_break to s =
     if nat_le brk_base to && nat_le to (brk_end s.regions.layout)
-    then space (record s.regions { break = to }) (memory_between (pages_for s.regions.break) (pages_for to) s.memory)
+    then space (record s.regions { break = to })
+    (memory_between (pages_for s.regions.break) (pages_for to) s.memory)
     else s
 
 abbrev pub with_run : ℕ → ℕ → ℕ → Space → Space
@@ -111,12 +120,16 @@ map length protection s =
     else if has protection 4 then refused no_access s
     else elim (free_run s.regions (pages_for length)) [
       | None ↦ refused no_memory s
-      | Some first ↦ record { answer = pos (first * page_size); space = with_run first (pages_for length) protection s }
+      | Some first ↦ record {
+        answer = pos (first * page_size);
+        space = with_run first (pages_for length) protection s;
+      }
     ]
 
 -- so many bytes from an address on, in whole pages, are in the map region
 abbrev pub is_in_map : Layout → ℕ → ℕ → Bool
-is_in_map layout address length = nat_le map_base address && nat_le (address + pages_for length * page_size) (map_end layout)
+is_in_map layout address length =
+    nat_le map_base address && nat_le (address + pages_for length * page_size) (map_end layout)
 
 abbrev pub without_run : ℕ → ℕ → Space → Space
 without_run first count s =
@@ -126,7 +139,8 @@ without_run first count s =
 -- munmap of so many bytes from an address on
 unfoldable pub unmap : ℕ → ℕ → Space → Answered
 unmap address length s =
-    if not (is_page_start address) || length == 0 || not (is_in_map s.regions.layout address length) then refused invalid s
+    if not (is_page_start address) || length == 0 || not (is_in_map s.regions.layout address length)
+    then refused invalid s
     else record { answer = pos 0; space = without_run (page_of address) (pages_for length) s }
 
 -- mprotect of so many bytes from an address on

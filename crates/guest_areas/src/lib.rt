@@ -1,7 +1,8 @@
-//! The regions of a guest: what its entry finds on the stack, and the calls that give and take pages.
+//! The regions of a guest: what its entry finds on the stack, and the calls
+//! that give and take pages.
 //!
-//! The break moves in a region of its own, and mappings are runs of whole pages of the map region. A memory keeps the
-//! bytes and the rights; these areas keep which pages the program has.
+//! The break moves in a region of its own, and mappings are runs of whole pages of the map region.
+//! A memory keeps the bytes and the rights; these areas keep which pages the program has.
 #![tactic(auto)]
 
 mod entry;
@@ -47,8 +48,8 @@ const READ_AND_WRITE: Rights = Rights {
     execute: false,
 };
 
-/// Which pages a program has: its load areas, the pages below the break, the mapped pages and the stack. All room is
-/// taken when it is made.
+/// Which pages a program has: its load areas, the pages below the break, the mapped pages
+/// and the stack. All room is taken when it is made.
 #[derive(Drop)]
 pub struct Areas {
     /// In the image's order.
@@ -75,11 +76,12 @@ impl Model for Areas {
 }
 
 impl Areas {
-    /// The regions at a program's entry, whose stack is written. The memory is the first one of the image. If room is
-    /// wanting, it stays as it is.
+    /// The regions at a program's entry, whose stack is written. The memory is the first one
+    /// of the image. If room is wanting, it stays as it is.
     pub fn new(alloc: Global, memory: &mut Memory, image: &Image) -> Result<Areas, AllocError>
         requires { memory.old ≡ first_memory image.now memory.old.layout }
-        ensures ok { IfOk result (λ areas. space areas memory.new ≡ first_space image.now memory.old.layout) }
+        ensures ok { IfOk result (λ areas.
+            space areas memory.new ≡ first_space image.now memory.old.layout) }
         ensures shared { IfOk result (λ areas. SharesRegions areas memory.new) }
         ensures err { OnErr result (memory.new ≡ memory.old) }
     {
@@ -105,8 +107,9 @@ impl Areas {
         STACK_POINTER
     }
 
-    /// Moves the break, if it may stand there, and answers with the break after it. Pages that come to lie below it are
-    /// zeros that may be read and written; those that no longer do lose their rights (Linux: brk(2)).
+    /// Moves the break, if it may stand there, and answers with the break after it. Pages that come
+    /// to lie below it are zeros that may be read and written; those that no longer do lose their
+    /// rights (Linux: brk(2)).
     pub fn brk(&mut self, memory: &mut Memory, to: Address) -> Address
         requires { SharesRegions self.old memory.old }
         ensures answer { result ≡ (with_break to (space self.old memory.old)).regions.break }
@@ -127,12 +130,14 @@ impl Areas {
         to
     }
 
-    /// Maps so many bytes as zeros, at the lowest free run of pages that is long enough, and answers with its address.
-    /// Refused are no bytes, execution, and more than are free (Linux: mmap(2)).
+    /// Maps so many bytes as zeros, at the lowest free run of pages that is long enough,
+    /// and answers with its address. Refused are no bytes, execution, and more
+    /// than are free (Linux: mmap(2)).
     pub fn map(&mut self, memory: &mut Memory, length: u64, protection: u64) -> i64
         requires { SharesRegions self.old memory.old }
         ensures answer { result ≡ (map length protection (space self.old memory.old)).answer }
-        ensures space { space self.new memory.new ≡ (map length protection (space self.old memory.old)).space }
+        ensures space { space self.new memory.new
+            ≡ (map length protection (space self.old memory.old)).space }
         ensures shared { SharesRegions self.new memory.new }
     {
         if length == 0 {
@@ -153,12 +158,14 @@ impl Areas {
         }
     }
 
-    /// Unmaps so many bytes from an address on, in whole pages: they lose their rights, mapped or not. Refused are an
-    /// address that starts no page, no bytes, and pages outside of the map region (Linux: munmap(2)).
+    /// Unmaps so many bytes from an address on, in whole pages: they lose their rights,
+    /// mapped or not. Refused are an address that starts no page, no bytes, and pages outside
+    /// of the map region (Linux: munmap(2)).
     pub fn unmap(&mut self, memory: &mut Memory, address: Address, length: u64) -> i64
         requires { SharesRegions self.old memory.old }
         ensures answer { result ≡ (unmap address length (space self.old memory.old)).answer }
-        ensures space { space self.new memory.new ≡ (unmap address length (space self.old memory.old)).space }
+        ensures space { space self.new memory.new
+            ≡ (unmap address length (space self.old memory.old)).space }
         ensures shared { SharesRegions self.new memory.new }
     {
         let first = address / PAGE;
@@ -176,8 +183,9 @@ impl Areas {
         0
     }
 
-    /// Gives so many bytes from an address on, in whole pages, the rights of a protection, and never execution. Refused
-    /// are an address that starts no page, execution, and a page that the program doesn't have (Linux: mprotect(2)).
+    /// Gives so many bytes from an address on, in whole pages, the rights of a protection,
+    /// and never execution. Refused are an address that starts no page, execution,
+    /// and a page that the program doesn't have (Linux: mprotect(2)).
     pub fn protect(
         &mut self,
         memory: &mut Memory,
@@ -186,8 +194,10 @@ impl Areas {
         protection: u64,
     ) -> i64
         requires { SharesRegions self.old memory.old }
-        ensures answer { result ≡ (protect address length protection (space self.old memory.old)).answer }
-        ensures space { space self.new memory.new ≡ (protect address length protection (space self.old memory.old)).space }
+        ensures answer { result
+            ≡ (protect address length protection (space self.old memory.old)).answer }
+        ensures space { space self.new memory.new
+            ≡ (protect address length protection (space self.old memory.old)).space }
         ensures shared { SharesRegions self.new memory.new }
     {
         // The invariant of `self` is known to a proof once a field is used.
@@ -222,7 +232,8 @@ impl Areas {
     /// The place in the map region of the lowest run of so many free pages.
     fn free_run(&self, count: u64) -> Option<usize>
         requires { 0 < count }
-        ensures page { option_map (λ place. page_of map_base + place) result ≡ free_run self.now count }
+        ensures page { option_map (λ place. page_of map_base + place) result
+            ≡ free_run self.now count }
         ensures within { IfSome result (λ place. place + count ≤ page_of self.now.layout.map) }
     {
         let mut free = 0;

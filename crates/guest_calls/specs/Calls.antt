@@ -1,4 +1,5 @@
--- The system calls of a guest (Linux on riscv64): each by its number in a7, with its arguments in a0 to a5 and its answer in a0. The checks of each are in the order in which they are made.
+-- The system calls of a guest (Linux on riscv64): each by its number in a7, with its arguments
+-- in a0 to a5 and its answer in a0. The checks of each are in the order in which they are made.
 use Rattle.std.specs.Prelude.{ℕ, zero, suc, ◌+◌, ◌-◌, ◌*◌, ◌%◌, ◌^◌, Bool, not, ◌&&◌, ◌||◌, if◌then◌else◌, nat_le, nat_lt, ◌==◌, min, max, List, [], ◌∷◌, ◌++◌, length, take, drop, replicate, Some, None, ℤ, pos, negsuc, slice_index}
 use Rattle.std.specs.Int.{w32, to_le_bytes}
 use Rattle.std.specs.Int.RustNames.{bit_and, bit_or}
@@ -28,7 +29,10 @@ retirement guest fate others = record { guest = guest; fate = fate; others = oth
 
 -- the piece that the pair of numbers at an address names
 abbrev pub piece_at : MemoryMap → ℕ → Piece
-piece_at m address = record { address = number_at m address 8; length = number_at m (address + 8) 8 }
+piece_at m address = record {
+  address = number_at m address 8;
+  length = number_at m (address + 8) 8;
+}
 
 abbrev pub pieces_at : MemoryMap → ℕ → ℕ → List Piece
 pieces_at m address zero = []
@@ -37,7 +41,8 @@ pieces_at m address (suc count) = piece_at m address ∷ pieces_at m (address + 
 -- what so many bytes fill of each piece, in order
 abbrev pub filled : List Piece → ℕ → List Piece
 filled [] n = []
-filled (p ∷ ps) n = record { address = p.address; length = min p.length n } ∷ filled ps (n - p.length)
+filled (p ∷ ps) n =
+    record { address = p.address; length = min p.length n } ∷ filled ps (n - p.length)
 
 abbrev pub total : List Piece → ℕ
 total [] = 0
@@ -55,7 +60,8 @@ bytes_of m (p ∷ ps) = bytes_at m p.address p.length ++ bytes_of m ps
 
 -- so many bytes of the input that is left are stored from an address on
 abbrev pub with_filled : ℕ → ℕ → Guest → Guest
-with_filled address count g = with_stored address (take count g.input) (record g { input = drop count g.input })
+with_filled address count g =
+    with_stored address (take count g.input) (record g { input = drop count g.input })
 
 -- the input fills the pieces
 abbrev pub with_read : List Piece → Guest → Guest
@@ -76,7 +82,8 @@ is_output number = number == 1 || number == 2
 abbrev pub is_mapping : ℕ → Bool
 is_mapping flags = has flags 0x20 && not (has flags 0x10) && (flags % 4 == 1 || flags % 4 == 2)
 
--- the flags that a clone must have: memory, files and handlers are shared, and the child is a thread
+-- the flags that a clone must have: memory, files and handlers are shared,
+-- and the child is a thread
 abbrev pub required_flags : ℕ
 required_flags = 0x10F00
 
@@ -92,20 +99,27 @@ child_clear_tid = 0x200000
 abbrev pub child_set_tid : ℕ
 child_set_tid = 0x1000000
 
--- those that it may have: a signal in the low 8 bits, SYSVSEM and DETACHED, which change nothing, and those above
+-- those that it may have: a signal in the low 8 bits, SYSVSEM and DETACHED,
+-- which change nothing, and those above
 abbrev pub accepted_flags : ℕ
-accepted_flags = 0xFF + required_flags + 0x40000 + 0x400000 + set_tls + parent_set_tid + child_clear_tid + child_set_tid
+accepted_flags =
+    0xFF + required_flags + 0x40000 + 0x400000 + set_tls + parent_set_tid
+    + child_clear_tid + child_set_tid
 
 abbrev pub is_accepted : ℕ → Bool
-is_accepted flags = bit_and flags required_flags == required_flags && bit_or flags accepted_flags == accepted_flags
+is_accepted flags =
+    bit_and flags required_flags == required_flags && bit_or flags accepted_flags == accepted_flags
 
 -- a word is stored, where its 4 bytes may be written
 abbrev pub with_word : ℕ → ℕ → Guest → Guest
-with_word address n g = if is_writable (memory_of g) address 4 then with_stored address (to_le_bytes w32 n) g else g
+with_word address n g =
+    if is_writable (memory_of g) address 4 then with_stored address (to_le_bytes w32 n) g else g
 
 -- the eldest harts that wait for an address run, at most so many
 abbrev pub with_woken : ℕ → ℕ → Guest → Guest
-with_woken address count g = with_running (woken address g.waiters count) (record g { waiters = left address g.waiters count })
+with_woken address count g =
+    with_running (woken address g.waiters count)
+    (record g { waiters = left address g.waiters count })
 
 -- how many a wake takes at most
 abbrev pub wake_count : ℤ → ℕ
@@ -129,12 +143,14 @@ answered z h g = replied (twos 64 z) h g
 
 -- the guest after a hart has left
 abbrev pub left_by : ℕ → Guest → Guest
-left_by h g = with_hart h (record (hart_at g h) { state = after_call (state_of g h); status = Gone }) g
+left_by h g =
+    with_hart h (record (hart_at g h) { state = after_call (state_of g h); status = Gone }) g
 
 -- a hart leaves; if it is the last, the run ends
 abbrev pub leave : ℕ → List ℕ → Guest → Retirement Guest
 leave h others g =
-    retirement (left_by h g) (if is_over (left_by h g) then Ends (Exited (argument g h 0 % 256)) else Leaves) others
+    retirement (left_by h g)
+    (if is_over (left_by h g) then Ends (Exited (argument g h 0 % 256)) else Leaves) others
 
 -- a call of hart h
 module _ (g : Guest) (h : ℕ) where
@@ -196,7 +212,8 @@ module _ (g : Guest) (h : ℕ) where
   unfoldable pub read_pieces : List Piece → Retirement Guest
   read_pieces ps =
       if not (is_each_writable (memory_of g) (filled ps (length g.input))) then answer bad_address
-      else answered (pos (total (filled ps (length g.input)))) h (with_read (filled ps (length g.input)) g)
+      else answered (pos (total (filled ps (length g.input)))) h
+      (with_read (filled ps (length g.input)) g)
 
   unfoldable pub readv : Retirement Guest
   readv =
@@ -238,12 +255,14 @@ module _ (g : Guest) (h : ℕ) where
   exit = if is_cleared then leave h woken_at_exit cleared else leave h [] g
 
   unfoldable pub set_tid_address : Retirement Guest
-  set_tid_address = answered (pos (thread_id h)) h (with_hart h (record (hart_at g h) { clear = a0 }) g)
+  set_tid_address =
+      answered (pos (thread_id h)) h (with_hart h (record (hart_at g h) { clear = a0 }) g)
 
   -- the hart waits for an address, and has 0 as its answer once it is woken
   abbrev pub waiting_for : ℕ → Guest
   waiting_for address =
-      with_hart h (record (hart_at g h) { state = with_result 0 (state_of g h); status = Waiting }) (record g { waiters = with_waiter address h g.waiters })
+      with_hart h (record (hart_at g h) { state = with_result 0 (state_of g h); status = Waiting })
+      (record g { waiters = with_waiter address h g.waiters })
 
   unfoldable pub wait : Retirement Guest
   wait =
@@ -263,7 +282,9 @@ module _ (g : Guest) (h : ℕ) where
   unfoldable pub wake : Retirement Guest
   wake =
       if not (a0 % 4 == 0) then answer invalid
-      else record (answered (pos (length woken_here)) h (with_woken a0 most_woken g)) { others = woken_here }
+      else record (answered (pos (length woken_here)) h (with_woken a0 most_woken g)) {
+        others = woken_here;
+      }
 
   -- 0 waits and 1 wakes; the flag 128 says that the waiters are threads of one program
   unfoldable pub futex : Retirement Guest
@@ -271,16 +292,23 @@ module _ (g : Guest) (h : ℕ) where
 
   -- the hart sleeps, and has 0 as its answer
   abbrev pub asleep : Guest
-  asleep = with_hart h (record (hart_at g h) { state = with_result 0 (state_of g h); status = Sleeping }) g
+  asleep =
+      with_hart h (record (hart_at g h) { state = with_result 0 (state_of g h); status = Sleeping })
+      g
 
   abbrev pub sleep_until : ℕ → Retirement Guest
-  sleep_until moment = if nat_lt last_moment moment then retirement g (Ends Clock) [] else retirement asleep (Sleeps moment) []
+  sleep_until moment =
+      if nat_lt last_moment moment then retirement g (Ends Clock) []
+      else retirement asleep (Sleeps moment) []
 
   -- at net time v
   unfoldable pub nanosleep : ℕ → Retirement Guest
   nanosleep v =
       if not (is_readable (memory_of g) a0 16) then answer bad_address
-      else elim (span_at (memory_of g) a0) [ None ↦ answer invalid | Some span ↦ sleep_until (wake_moment v span) ]
+      else elim (span_at (memory_of g) a0) [
+        | None ↦ answer invalid
+        | Some span ↦ sleep_until (wake_moment v span)
+      ]
 
   -- at net time v
   unfoldable pub clock_gettime : ℕ → Retirement Guest
@@ -302,16 +330,19 @@ module _ (g : Guest) (h : ℕ) where
   -- it goes on behind the call, with 0 as its answer
   abbrev pub child_hart : Hart
   child_hart =
-      hart_from (child_tls (child_stack (with_result 0 (state_of g h)))) (if has a0 child_clear_tid then a4 else 0)
+      hart_from (child_tls (child_stack (with_result 0 (state_of g h))))
+      (if has a0 child_clear_tid then a4 else 0)
 
   abbrev pub with_child : Guest
   with_child = record g { harts = g.harts ++ child_hart ∷ [] }
 
   abbrev pub with_parent_tid : Guest → Guest
-  with_parent_tid changed = if has a0 parent_set_tid then with_word a2 (thread_id child) changed else changed
+  with_parent_tid changed =
+      if has a0 parent_set_tid then with_word a2 (thread_id child) changed else changed
 
   abbrev pub with_child_tid : Guest → Guest
-  with_child_tid changed = if has a0 child_set_tid then with_word a4 (thread_id child) changed else changed
+  with_child_tid changed =
+      if has a0 child_set_tid then with_word a4 (thread_id child) changed else changed
 
   -- the guest with the child, whose thread id is stored where the flags ask for it
   abbrev pub cloned : Guest
@@ -340,7 +371,8 @@ module _ (g : Guest) (h : ℕ) where
       else answered (pos 0) h (with_stored a2 (replicate 8 0) g)
 
   unfoldable pub brk : Retirement Guest
-  brk = let space : Space = with_break a0 g.space in answered (pos space.regions.break) h (record g { space = space })
+  brk = let space : Space = with_break a0 g.space in
+      answered (pos space.regions.break) h (record g { space = space })
 
   unfoldable pub munmap : Retirement Guest
   munmap = of_space (unmap a0 a1 g.space)
@@ -391,4 +423,7 @@ calls =
 
 -- the retirement of a hart at an ecall, at a net time
 unfoldable pub call_of : Guest → ℕ → ℕ → Retirement Guest
-call_of g h v = elim (value_at calls (number g h)) [ None ↦ unsupported g h | Some call ↦ call g h v ]
+call_of g h v = elim (value_at calls (number g h)) [
+  | None ↦ unsupported g h
+  | Some call ↦ call g h v
+]

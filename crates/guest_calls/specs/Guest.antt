@@ -75,7 +75,8 @@ with_state h state g = with_hart h (record (hart_at g h) { state = state }) g
 -- these harts run
 abbrev pub with_running_each : List ℕ → List Hart → List Hart
 with_running_each [] harts = harts
-with_running_each (h ∷ hs) harts = with_running_each hs (set harts h (record (get_or harts h no_hart) { status = Running }))
+with_running_each (h ∷ hs) harts =
+    with_running_each hs (set harts h (record (get_or harts h no_hart) { status = Running }))
 
 abbrev pub with_running : List ℕ → Guest → Guest
 with_running hs g = record g { harts = with_running_each hs g.harts }
@@ -126,7 +127,9 @@ with_memory memory g = record g { space = space g.space.regions memory }
 -- bytes are stored from an address on
 abbrev pub with_stored : ℕ → List ℕ → Guest → Guest
 with_stored address bytes g =
-    record (with_memory (with_bytes address bytes (memory_of g)) g) { reservations = without_touched address (length bytes) g.reservations }
+    record (with_memory (with_bytes address bytes (memory_of g)) g) {
+      reservations = without_touched address (length bytes) g.reservations;
+    }
 
 -- bytes are written, up to the limit
 abbrev pub with_written : List ℕ → Guest → Guest
@@ -136,11 +139,14 @@ abbrev pub setting_of : Guest → ℕ → Setting
 setting_of g h = setting (state_of g h) (memory_of g) g.reservations
 
 abbrev pub with_setting : ℕ → Setting → Guest → Guest
-with_setting h s g = record (with_memory s.memory (with_state h s.hart g)) { reservations = s.reservations }
+with_setting h s g = record (with_memory s.memory (with_state h s.hart g)) {
+  reservations = s.reservations;
+}
 
 -- the first hart of a program: its stack pointer is x2
 abbrev pub first_hart : ImageParts → Hart
-first_hart image = hart_from (record { registers = set (replicate 32 0) 2 stack_pointer; pc = image.entry }) 0
+first_hart image =
+    hart_from (record { registers = set (replicate 32 0) 2 stack_pointer; pc = image.entry }) 0
 
 unfoldable pub first_guest : ImageParts → List ℕ → ℕ → Layout → Guest
 first_guest image input output_limit layout = record {

@@ -11,7 +11,8 @@ use Rattle.guest_calls.specs.Output.{Written}
 use Rattle.guest_calls.specs.Guest.{Guest}
 use Rattle.guest_calls.specs.Orderly.{AreWaiting}
 
-abbrev pub guest_of : List Hart → RegionMap → MemoryMap → Reservations → List Waiter → List ℕ → List ℕ → Written → Guest
+abbrev pub guest_of : List Hart → RegionMap → MemoryMap → Reservations → List Waiter → List ℕ
+    → List ℕ → Written → Guest
 guest_of harts regions memory reservations waiters input whole_input written = record {
   harts = harts;
   space = space regions memory;
@@ -23,7 +24,8 @@ guest_of harts regions memory reservations waiters input whole_input written = r
   output_limit = written.limit;
 }
 
-pub record IsKept (harts : List Hart) (capacity : ℕ) (waiters : List Waiter) (regions : RegionMap) (memory : MemoryMap) : Type 0 where
+pub record IsKept (harts : List Hart) (capacity : ℕ) (waiters : List Waiter) (regions : RegionMap)
+    (memory : MemoryMap) : Type 0 where
   pub few : length harts ≤ HARTS
   -- no call takes memory
   pub room : HARTS ≤ capacity

@@ -39,11 +39,15 @@ unfoldable pub step : Guest → ℕ → Stepped
 step g h =
     elim (word_at g h) [
       | None ↦ stepped g (Fault Fetch)
-      | Some w ↦ elim (instruction_of w) [ None ↦ stepped g (Fault Illegal) | Some i ↦ stepped_by g h (execute h i (setting_of g h)) ]
+      | Some w ↦ elim (instruction_of w) [
+        | None ↦ stepped g (Fault Illegal)
+        | Some i ↦ stepped_by g h (execute h i (setting_of g h))
+      ]
     ]
 
 abbrev pub trap_of : Guest → ℕ → TrapCause → Fate
-trap_of g h cause = Ends (Trapped (record { cause = cause; hart = record { 0 = h }; pc = pc_of g h }))
+trap_of g h cause =
+    Ends (Trapped (record { cause = cause; hart = record { 0 = h }; pc = pc_of g h }))
 
 -- what follows a step of a hart at a net time
 abbrev pub follows : ℕ → ℕ → Stepped → Retirement Guest

@@ -8,12 +8,15 @@ use Rattle.guest_calls.specs.declared.times.Span.{Span}
 -- the span of so many seconds and nanoseconds, if both are in their ranges
 abbrev pub span_of : ℤ → ℤ → Option Span
 span_of (pos seconds) (pos nanoseconds) =
-    if nat_lt nanoseconds 1000000000 then Some (record { seconds = seconds; nanoseconds = nanoseconds }) else None
+    if nat_lt nanoseconds 1000000000
+    then Some (record { seconds = seconds; nanoseconds = nanoseconds })
+    else None
 span_of seconds nanoseconds = None
 
 -- the span that stands at an address: two numbers of 8 bytes with signs
 abbrev pub span_at : MemoryMap → ℕ → Option Span
-span_at m address = span_of (signed 64 (number_at m address 8)) (signed 64 (number_at m (address + 8) 8))
+span_at m address =
+    span_of (signed 64 (number_at m address 8)) (signed 64 (number_at m (address + 8) 8))
 
 abbrev pub span_bytes : Span → List ℕ
 span_bytes span = to_le_bytes w64 span.seconds ++ to_le_bytes w64 span.nanoseconds

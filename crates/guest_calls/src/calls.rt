@@ -40,7 +40,8 @@ fn is_output(file: u64) -> bool
     file == 1 || file == 2
 }
 
-/// Whether a mapping with these flags is anonymous, at no fixed address, and either shared or private.
+/// Whether a mapping with these flags is anonymous, at no fixed address,
+/// and either shared or private.
 fn is_mapping(flags: u64) -> bool
     ensures { result ≡ calls.is_mapping flags }
 {
@@ -149,8 +150,10 @@ impl<'a> Guest<'a> {
     /// Err is just that.
     pub(crate) fn store(&mut self, address: Address, bytes: &[u8]) -> Result<(), Access>
         ensures { MatchResult result
-            (λ _. IsTrue (is_writable (memory_of self.old) address (length bytes.now)) × (self.new ≡ with_stored address bytes.now self.old))
-            (λ _. (is_writable (memory_of self.old) address (length bytes.now) ≡ false) × (self.new ≡ self.old)) }
+            (λ _. IsTrue (is_writable (memory_of self.old) address (length bytes.now))
+            × (self.new ≡ with_stored address bytes.now self.old))
+            (λ _. (is_writable (memory_of self.old) address (length bytes.now) ≡ false)
+            × (self.new ≡ self.old)) }
     {
         self.memory.copy_in(address, bytes)?;
         self.reservations.end_at(address, bytes.len() as u64);
@@ -227,12 +230,15 @@ impl<'a> Guest<'a> {
         self.answer_count(hart, thread_id(hart))
     }
 
-    /// Stores so many bytes of the input that is left; nothing is done where some byte may not be written.
+    /// Stores so many bytes of the input that is left; nothing is done where some byte
+    /// may not be written.
     fn fill(&mut self, address: Address, count: u64) -> Result<(), Access>
         requires { count ≤ length self.old.input }
         ensures { MatchResult result
-            (λ _. IsTrue (is_writable (memory_of self.old) address count) × (self.new ≡ with_filled address count self.old))
-            (λ _. (is_writable (memory_of self.old) address count ≡ false) × (self.new ≡ self.old)) }
+            (λ _. IsTrue (is_writable (memory_of self.old) address count)
+            × (self.new ≡ with_filled address count self.old))
+            (λ _. (is_writable (memory_of self.old) address count ≡ false)
+            × (self.new ≡ self.old)) }
     {
         let input = self.input;
         self.store(address, &input[..count as usize])?;
@@ -280,7 +286,8 @@ impl<'a> Guest<'a> {
         requires { IsMade self.now hart.0 }
         ensures { MatchResult result
             (λ pieces. IsTrue (are_few self.now hart.0) × IsTrue (is_named self.now hart.0)
-            × (pieces.items ≡ calls.pieces_at (memory_of self.now) (a1 self.now hart.0) (a2 self.now hart.0)))
+            × (pieces.items
+            ≡ calls.pieces_at (memory_of self.now) (a1 self.now hart.0) (a2 self.now hart.0)))
             (λ fault. ((are_few self.now hart.0 && is_named self.now hart.0) ≡ false)
             × (fault ≡ (if are_few self.now hart.0 then bad_address else invalid))) }
     {
@@ -323,10 +330,13 @@ impl<'a> Guest<'a> {
         self.answer_count(hart, count)
     }
 
-    /// Fills pieces that may all be written with the input that is left, in order, and gives the count of the bytes.
+    /// Fills pieces that may all be written with the input that is left, in order,
+    /// and gives the count of the bytes.
     fn fill_each(&mut self, pieces: &[Piece]) -> u64
-        requires { IsTrue (calls.is_each_writable (memory_of self.old) (calls.filled pieces.now (length self.old.input))) }
-        ensures filled { self.new ≡ calls.with_read (calls.filled pieces.now (length self.old.input)) self.old }
+        requires { IsTrue (calls.is_each_writable (memory_of self.old)
+            (calls.filled pieces.now (length self.old.input))) }
+        ensures filled { self.new
+            ≡ calls.with_read (calls.filled pieces.now (length self.old.input)) self.old }
         ensures count { result ≡ calls.total (calls.filled pieces.now (length self.old.input)) }
     {
         let before = self.input_left();

@@ -35,7 +35,8 @@ pub struct Hart {
 impl Hart {
     /// A program's first hart.
     pub fn first(stack_pointer: Address, entry: Address) -> Hart
-        ensures { result ≡ hart_from (record { registers = set (replicate 32 0) 2 stack_pointer; pc = entry }) 0 }
+        ensures { result ≡ hart_from
+            (record { registers = set (replicate 32 0) 2 stack_pointer; pc = entry }) 0 }
     {
         let mut registers = [0; 32];
         registers[SP] = stack_pointer;
@@ -81,7 +82,8 @@ impl Hart {
 
     /// The hart waits, behind the call, whose answer is 0.
     pub fn wait(&mut self)
-        ensures { self.new ≡ record self.old { state = with_result 0 self.old.state; status = Waiting } }
+        ensures { self.new
+            ≡ record self.old { state = with_result 0 self.old.state; status = Waiting } }
     {
         self.answer(0);
         self.status = HartStatus::Waiting;
@@ -89,7 +91,8 @@ impl Hart {
 
     /// The hart sleeps, behind the call, whose answer is 0.
     pub fn sleep(&mut self)
-        ensures { self.new ≡ record self.old { state = with_result 0 self.old.state; status = Sleeping } }
+        ensures { self.new
+            ≡ record self.old { state = with_result 0 self.old.state; status = Sleeping } }
     {
         self.answer(0);
         self.status = HartStatus::Sleeping;

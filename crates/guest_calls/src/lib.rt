@@ -55,14 +55,15 @@ impl<'a> Model for Guest<'a> {
     ghost use Rattle.std.specs.Vec.{vec_capacity};
     ghost use Rattle.guest_calls.specs.Kept.{guest_of, IsKept};
 
-    ghost view = { λ g. guest_of g.harts.items g.areas g.memory g.reservations g.queue g.input.now g.whole_input.now g.output };
+    ghost view = { λ g. guest_of g.harts.items g.areas g.memory g.reservations g.queue g.input.now
+        g.whole_input.now g.output };
 
     ghost invariant = { λ g. IsKept g.harts.items (vec_capacity g.harts) g.queue g.areas g.memory };
 }
 
 impl<'a> Guest<'a> {
-    /// The guest that begins to run an image, with its first hart at the entry. The output's limit is from 1 to
-    /// 67,108,864 bytes. Only want of memory stands against it.
+    /// The guest that begins to run an image, with its first hart at the entry.
+    /// The output's limit is from 1 to 67,108,864 bytes. Only want of memory stands against it.
     pub fn new(
         alloc: Global,
         image: &'a Image<'a>,
@@ -73,7 +74,8 @@ impl<'a> Guest<'a> {
         requires some_output { 1 ≤ output_limit }
         requires output { output_limit ≤ 67108864 }
         requires layout { IsLayout layout }
-        ensures { IfOk result (λ guest. guest ≡ first_guest image.now input.now output_limit layout) }
+        ensures { IfOk result (λ guest.
+            guest ≡ first_guest image.now input.now output_limit layout) }
     {
         let mut memory = Memory::new(alloc, image, layout)?;
         let areas = Areas::new(alloc, &mut memory, image)?;
@@ -93,7 +95,8 @@ impl<'a> Guest<'a> {
         })
     }
 
-    /// The next instruction of a hart that was made, or none where it can't be fetched or is not supported.
+    /// The next instruction of a hart that was made, or none where it can't be fetched
+    /// or is not supported.
     pub fn next(&self, hart: HartId) -> Option<Instr>
         requires { IsMade self.now hart.0 }
         ensures { result ≡ next_of self.now hart.0 }
@@ -141,8 +144,8 @@ impl<'a> Guest<'a> {
         self.output.bytes()
     }
 
-    /// Retires the next instruction of a running hart, at a net time. `started` gets the harts that it makes or wakes,
-    /// in order.
+    /// Retires the next instruction of a running hart, at a net time. `started` gets the harts
+    /// that it makes or wakes, in order.
     #[inline(always)]
     pub fn retire(&mut self, hart: HartId, net: Tick, started: &mut HartList) -> Fate
         requires running { IsTrue (is_running self.old hart.0) }
@@ -176,8 +179,8 @@ impl<'a> Guest<'a> {
         self.hart(hart).is_sleeping()
     }
 
-    /// Makes this guest equal to another one that was made with the same image, layout, input and output limit, and takes
-    /// no memory.
+    /// Makes this guest equal to another one that was made with the same image, layout, input
+    /// and output limit, and takes no memory.
     pub fn copy_from(&mut self, other: &Guest<'a>)
         requires { making self.old ≡ making other.now }
         ensures { self.new ≡ other.now }

@@ -1,5 +1,6 @@
-//! Codes of Linux on riscv64, and the registers by which a call is made: asm-generic/unistd.h, linux/sched.h,
-//! linux/futex.h, linux/time.h, asm-generic/mman-common.h, asm-generic/errno-base.h, and the RISC-V calling convention.
+//! Codes of Linux on riscv64, and the registers by which a call is made: asm-generic/unistd.h,
+//! linux/sched.h, linux/futex.h, linux/time.h, asm-generic/mman-common.h, asm-generic/errno-base.h,
+//! and the RISC-V calling convention.
 
 // The numbers of the calls.
 

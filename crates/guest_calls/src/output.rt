@@ -23,9 +23,11 @@ impl Model for Output {
 
     ghost Value = { Written };
 
-    ghost view = { λ o. record { bytes = take o.written o.places.items; limit = length o.places.items } };
+    ghost view = { λ o.
+        record { bytes = take o.written o.places.items; limit = length o.places.items } };
 
-    ghost invariant = { λ o. (o.written ≤ length o.places.items) × (length o.places.items ≤ 67108864) };
+    ghost invariant = { λ o.
+        (o.written ≤ length o.places.items) × (length o.places.items ≤ 67108864) };
 }
 
 /// Copies the first bytes of a list over those of another one of the same length.
@@ -57,7 +59,8 @@ impl Output {
         &self.places[..self.written]
     }
 
-    /// Makes this equal to another one of the same limit. Of the places only those that were written are copied.
+    /// Makes this equal to another one of the same limit. Of the places only those
+    /// that were written are copied.
     pub fn copy_from(&mut self, other: &Output)
         requires { self.old.limit ≡ other.now.limit }
         ensures { self.new ≡ other.now }
@@ -79,8 +82,8 @@ impl Output {
         self.written = end;
     }
 
-    /// Appends the bytes of pieces that may all be read, in order, as far as there is room. Gives the sum of their
-    /// lengths, in 64 bits.
+    /// Appends the bytes of pieces that may all be read, in order, as far as there is room.
+    /// Gives the sum of their lengths, in 64 bits.
     pub fn append_each(&mut self, memory: &Memory, pieces: &[Piece]) -> u64
         requires { IsTrue (is_each_readable memory.now pieces.now) }
         ensures output { self.new ≡ with_bytes_written (bytes_of memory.now pieces.now) self.old }

@@ -68,8 +68,8 @@ impl<'a> Guest<'a> {
         place < self.harts.len() && matches!(self.harts[place].status, HartStatus::Running)
     }
 
-    /// What becomes of a hart as it retires an instruction at a net time, and its a0 then; `started` gets the harts that
-    /// it makes or wakes.
+    /// What becomes of a hart as it retires an instruction at a net time, and its a0 then;
+    /// `started` gets the harts that it makes or wakes.
     fn ask_at(
         &mut self,
         net: Tick,
@@ -293,7 +293,8 @@ fn calls_end_the_run(rt: HostRuntime) -> Result<(), Fail> {
     Ok(())
 }
 
-/// A call of a hart with its arguments, and what becomes of the hart, its a0 then, and the harts that are started.
+/// A call of a hart with its arguments, and what becomes of the hart, its a0 then,
+/// and the harts that are started.
 type Asked = (u16, u64, [u64; 5], Fate, i64, &'static [HartId]);
 
 const NONE: &[HartId] = &[];
@@ -395,8 +396,8 @@ fn threads_wait_and_are_woken(rt: HostRuntime) -> Result<(), Fail> {
     Ok(())
 }
 
-/// The second hart waits, half of the input is read, three bytes of it are written, the break has moved, and pages are
-/// mapped.
+/// The second hart waits, half of the input is read, three bytes of it are written,
+/// the break has moved, and pages are mapped.
 static BEGUN: [Asked; 6] = [
     (0, 220, [0x10F00, 0, 0, 0, 0], Fate::Goes, 2, &[HartId(1)]),
     (1, 98, [STACK, 0, 0, 0, 0], Fate::Waits, 0, NONE),
@@ -440,7 +441,8 @@ const WENT_ON: [Asked; 6] = [
     (1, 215, [MAP, 4096, 0, 0, 0], Fate::Goes, 0, NONE),
 ];
 
-/// What a guest answers that stands where the rows before leave it: the store finds the word reserved, and 0.
+/// What a guest answers that stands where the rows before leave it: the store finds
+/// the word reserved, and 0.
 static STORED: [Asked; 1] = [(0, 0, [9, STACK + 0x40, 7, 0, 0], Fate::Goes, 0, NONE)];
 
 static ANSWERED: [Asked; 7] = [
@@ -477,8 +479,9 @@ fn a_copied_guest_answers_as_the_other(rt: HostRuntime) -> Result<(), Fail> {
     Ok(())
 }
 
-/// The numbers that are stored on the stack, if any are; the net time, the pc, the number and the first two arguments of
-/// a retirement of the first hart; and what becomes of the hart, its a0 then, and the numbers on the stack.
+/// The numbers that are stored on the stack, if any are; the net time, the pc, the number
+/// and the first two arguments of a retirement of the first hart; and what becomes of the hart,
+/// its a0 then, and the numbers on the stack.
 type Timed = (
     Option<[u64; 2]>,
     Tick,

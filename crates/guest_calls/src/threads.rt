@@ -56,7 +56,8 @@ fn wake_count(value: u64) -> u32
 
 /// These harts, of those that were made, run.
 fn run_each(harts: &mut [Hart], woken: &[HartId])
-    requires { EachIndex (map (λ hart. hart.0) woken.now) (λ k. slice_index (map (λ hart. hart.0) woken.now) k < length harts.old) }
+    requires { EachIndex (map (λ hart. hart.0) woken.now) (λ k.
+        slice_index (map (λ hart. hart.0) woken.now) k < length harts.old) }
     ensures { harts.new ≡ with_running_each (map (λ hart. hart.0) woken.now) harts.old }
 {
     for hart in woken {
@@ -76,13 +77,15 @@ impl<'a> Guest<'a> {
         self.leave(hart)
     }
 
-    /// Stores 0 at the hart's clear address and wakes the eldest hart that waits for it; where it has none, or it may
-    /// not be written, nothing is done.
+    /// Stores 0 at the hart's clear address and wakes the eldest hart that waits for it;
+    /// where it has none, or it may not be written, nothing is done.
     fn clear(&mut self, hart: HartId, started: &mut HartList)
         requires made { IsMade self.old hart.0 }
         requires started { started.old ≡ [] }
-        ensures woken { started.new ≡ (if calls.is_cleared self.old hart.0 then calls.woken_at_exit self.old hart.0 else []) }
-        ensures cleared { self.new ≡ (if calls.is_cleared self.old hart.0 then calls.cleared self.old hart.0 else self.old) }
+        ensures woken { started.new ≡ (if calls.is_cleared self.old hart.0
+            then calls.woken_at_exit self.old hart.0 else []) }
+        ensures cleared { self.new ≡ (if calls.is_cleared self.old hart.0
+            then calls.cleared self.old hart.0 else self.old) }
     {
         let address = self.hart(hart).clear;
         if address == 0 {
@@ -170,7 +173,8 @@ impl<'a> Guest<'a> {
     /// The hart waits for an address from now on.
     fn suspend(&mut self, hart: HartId, address: Address) -> Fate
         requires { IsTrue (is_running self.old hart.0) }
-        ensures { retirement self.new result [] ≡ retirement (calls.waiting_for self.old hart.0 address) Waits [] }
+        ensures { retirement self.new result []
+            ≡ retirement (calls.waiting_for self.old hart.0 address) Waits [] }
     {
         self.queue.wait(address, hart);
         self.harts[hart.0 as usize].wait();
@@ -193,7 +197,8 @@ impl<'a> Guest<'a> {
         self.answer_count(hart, started.harts().len() as u64)
     }
 
-    /// The eldest harts that wait for an address run, at most so many; `started` gets them in order.
+    /// The eldest harts that wait for an address run, at most so many; `started`
+    /// gets them in order.
     fn rouse(&mut self, address: Address, count: u32, started: &mut HartList)
         requires { started.old ≡ [] }
         ensures woken { started.new ≡ woken address self.old.waiters count }
@@ -222,7 +227,8 @@ impl<'a> Guest<'a> {
         self.answer_count(hart, thread_id(child))
     }
 
-    /// Makes the next hart, the child of this one, and stores its thread id where the flags ask for it.
+    /// Makes the next hart, the child of this one, and stores its thread id where
+    /// the flags ask for it.
     fn make_child(&mut self, hart: HartId, child: HartId)
         requires made { IsMade self.old hart.0 }
         requires few { length self.old.harts < HARTS }

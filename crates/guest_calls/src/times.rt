@@ -1,5 +1,5 @@
-//! The calls of time: clocks are read, and harts sleep (Linux on riscv64). Both know the net time alone, of which 100
-//! ticks are one nanosecond.
+//! The calls of time: clocks are read, and harts sleep (Linux on riscv64). Both know the net time
+//! alone, of which 100 ticks are one nanosecond.
 ghost use Rattle.std.specs.Prelude.{◌≡◌, ◌≤◌, ◌+◌, ◌^◌, [], false, IsTrue, MatchResult};
 ghost use Rattle.rv_decode.specs.Fields.{signed};
 ghost use Rattle.guest_memory.specs.Memory.{is_readable, is_writable};
@@ -55,7 +55,8 @@ fn span_at(memory: &Memory, address: Address) -> Option<Span>
     span_of(number(memory, address), number(memory, address + 8))
 }
 
-/// The net moment at which a sleep that begins at a net time ends, which may be past all numbers of 64 bits.
+/// The net moment at which a sleep that begins at a net time ends, which may be past
+/// all numbers of 64 bits.
 fn wake_moment(net: Tick, span: Span) -> u128
     ensures { result ≡ wake_moment net span }
 {
@@ -108,7 +109,8 @@ impl<'a> Guest<'a> {
     /// The hart sleeps until a net moment.
     fn sleep(&mut self, hart: HartId, moment: Tick) -> Fate
         requires { IsTrue (is_running self.old hart.0) }
-        ensures { retirement self.new result [] ≡ retirement (calls.asleep self.old hart.0) (Sleeps moment) [] }
+        ensures { retirement self.new result []
+            ≡ retirement (calls.asleep self.old hart.0) (Sleeps moment) [] }
     {
         self.harts[hart.0 as usize].sleep();
         Fate::Sleeps(moment)
@@ -117,7 +119,8 @@ impl<'a> Guest<'a> {
     /// Stores a span, where its 16 bytes may be written.
     fn store_span(&mut self, address: Address, span: Span) -> Result<(), Access>
         ensures { MatchResult result
-            (λ _. IsTrue (is_writable (memory_of self.old) address 16) × (self.new ≡ with_stored address (span_bytes span) self.old))
+            (λ _. IsTrue (is_writable (memory_of self.old) address 16)
+            × (self.new ≡ with_stored address (span_bytes span) self.old))
             (λ _. (is_writable (memory_of self.old) address 16 ≡ false) × (self.new ≡ self.old)) }
     {
         self.store(address, &bytes_of(span))

@@ -1,4 +1,5 @@
--- The harts that wait for an address (Linux, futex(2), FUTEX_WAIT and FUTEX_WAKE), the eldest first.
+-- The harts that wait for an address (Linux, futex(2), FUTEX_WAIT
+-- and FUTEX_WAKE), the eldest first.
 use Rattle.std.specs.Prelude.{ℕ, ◌==◌, not, List, [], ◌∷◌, ◌++◌, take, map, filter}
 use Rattle.std.specs.List.{list_any}
 

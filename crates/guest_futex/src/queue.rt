@@ -37,16 +37,18 @@ impl Model for Queue {
 
     ghost view = { λ q. waiters_of q.places.items };
 
-    ghost invariant = { λ q. AreApart (waiters_of q.places.items) × (HARTS ≤ vec_capacity q.places) };
+    ghost invariant = { λ q.
+        AreApart (waiters_of q.places.items) × (HARTS ≤ vec_capacity q.places) };
 }
 
-/// Appends the harts of the eldest waiters for an address to a list, at most `count`, and moves those that are left to
-/// the front. Returns how many are left.
+/// Appends the harts of the eldest waiters for an address to a list, at most `count`,
+/// and moves those that are left to the front. Returns how many are left.
 fn take_eldest(places: &mut [Place], address: Address, count: u32, into: &mut HartList) -> usize
     requires apart { AreApart (waiters_of places.old) }
     requires room { length into.old + length (woken address (waiters_of places.old) count) ≤ HARTS }
     ensures woken { into.new ≡ into.old ++ woken address (waiters_of places.old) count }
-    ensures left { waiters_of (take result places.new) ≡ left address (waiters_of places.old) count }
+    ensures left { waiters_of (take result places.new)
+        ≡ left address (waiters_of places.old) count }
 {
     let mut wanted = count;
     let mut kept = 0;
@@ -64,7 +66,8 @@ fn take_eldest(places: &mut [Place], address: Address, count: u32, into: &mut Ha
 }
 
 impl Queue {
-    /// No waiters, with room for `HARTS` of them. An error is want of memory, and no clause says when that comes.
+    /// No waiters, with room for `HARTS` of them. An error is want of memory,
+    /// and no clause says when that comes.
     pub fn new(alloc: Global) -> Result<Queue, AllocError>
         ensures { IfOk result (λ queue. queue ≡ []) }
     {

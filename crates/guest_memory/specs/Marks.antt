@@ -6,7 +6,8 @@ use Rattle.guest_memory.specs.declared.Page.{Page}
 -- each page that is touched lies in a chunk of 64 that is marked
 pub record AreMarked (pages : List Page) (marks : List Bool) : Type 0 where
   pub many : length marks ≡ length pages / 64 + 1
-  pub marked : (k : ℕ) (d : Page) → k < length pages → (get_or pages k d).touched ≡ true → get_or marks (k / 64) false ≡ true
+  pub marked : (k : ℕ) (d : Page) → k < length pages → (get_or pages k d).touched ≡ true
+      → get_or marks (k / 64) false ≡ true
 
 abbrev pub touched_with : Rights → Page
 touched_with rights = record { rights = rights; touched = true }

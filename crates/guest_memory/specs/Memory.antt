@@ -45,7 +45,10 @@ with_rights page r m = record m { rights = with_kept is_any_right page r m.right
 -- so many bytes from an address on have the right
 abbrev pub is_allowed : (Rights → Bool) → MemoryMap → ℕ → ℕ → Bool
 is_allowed right m a zero = true
-is_allowed right m a (suc n) = elim (right (rights_at m a)) [ true ↦ is_allowed right m (a + 1) n | false ↦ false ]
+is_allowed right m a (suc n) = elim (right (rights_at m a)) [
+  | true ↦ is_allowed right m (a + 1) n
+  | false ↦ false
+]
 
 abbrev pub is_readable : MemoryMap → ℕ → ℕ → Bool
 is_readable m a n = is_allowed (λ r. r.read) m a n

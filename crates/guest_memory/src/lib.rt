@@ -1,7 +1,8 @@
 //! The memory of a guest: a byte at each address, and the rights of each page of 4,096 bytes.
 //!
-//! Contracts see a memory as two finite maps, the bytes that aren't zero by their addresses and the rights by the
-//! numbers of their pages. The code keeps flat lists of all pages and bytes of the load areas and the three regions.
+//! Contracts see a memory as two finite maps, the bytes that aren't zero by their addresses
+//! and the rights by the numbers of their pages. The code keeps flat lists of all pages and bytes
+//! of the load areas and the three regions.
 #![tactic(auto)]
 
 mod copies;
@@ -119,7 +120,9 @@ impl<'a> Model for Memory<'a> {
 
     ghost view = { λ m. map_of m.image.now m.layout m.spans.items m.pages.each.items m.bytes.items };
 
-    ghost invariant = { λ m. IsMemory m.image.now m.layout m.spans.items m.pages.each.items m.bytes.items × (m.code < length m.spans.items) };
+    ghost invariant = { λ m.
+        IsMemory m.image.now m.layout m.spans.items m.pages.each.items m.bytes.items
+        × (m.code < length m.spans.items) };
 }
 
 fn has(rights: Rights, right: Right) -> bool
@@ -140,8 +143,8 @@ fn room_in_page(address: Address) -> usize
 }
 
 impl<'a> Memory<'a> {
-    /// The memory that a program begins with: the load areas with their rights and the file's bytes in them, and
-    /// a stack of zeros that may be read and written. Everything else has no rights.
+    /// The memory that a program begins with: the load areas with their rights and the file's bytes
+    /// in them, and a stack of zeros that may be read and written. Everything else has no rights.
     pub fn new(
         alloc: Global,
         image: &'a Image<'a>,
@@ -200,10 +203,11 @@ impl<'a> Memory<'a> {
         }
     }
 
-    /// Gives so many pages in a row these rights, and makes them zeros if asked for. `page` is the address of the
-    /// first one.
+    /// Gives so many pages in a row these rights, and makes them zeros if asked for.
+    /// `page` is the address of the first one.
     pub fn give(&mut self, page: Address, pages: u64, rights: Rights, zero: bool)
-        requires known { (q : ℕ) → page_of page ≤ q → q < page_of page + pages → IsKnown self.old.image.areas self.old.layout q }
+        requires known { (q : ℕ) → page_of page ≤ q → q < page_of page + pages
+            → IsKnown self.old.image.areas self.old.layout q }
         requires no_execute { rights.execute ≡ false }
         ensures { self.new ≡ (if zero
             then with_zeros (page_of page) pages (with_rights_from (page_of page) pages rights self.old)
@@ -271,8 +275,8 @@ impl<'a> Memory<'a> {
         }
     }
 
-    /// Makes this memory equal to another one of the same image and layout, and takes no memory. A page that neither
-    /// has touched is as it was at first in both.
+    /// Makes this memory equal to another one of the same image and layout, and takes no memory.
+    /// A page that neither has touched is as it was at first in both.
     pub fn copy_from(&mut self, other: &Memory<'a>)
         requires image { self.old.image ≡ other.now.image }
         requires layout { self.old.layout ≡ other.now.layout }
@@ -282,7 +286,8 @@ impl<'a> Memory<'a> {
             .copy_from(&mut self.bytes, &other.pages, &other.bytes);
     }
 
-    /// The pages of an image and a layout, zeros with no rights, all of them touched: none is as in a first memory yet.
+    /// The pages of an image and a layout, zeros with no rights, all of them touched:
+    /// none is as in a first memory yet.
     fn empty(alloc: Global, image: &'a Image<'a>, layout: Layout) -> Result<Memory<'a>, AllocError>
         requires { IsLayout layout }
         ensures { IfOk result (λ memory. memory ≡ empty_memory image.now layout) }
@@ -451,7 +456,8 @@ impl<'a> Memory<'a> {
     /// The last of some bytes, or none where it would be past all addresses.
     fn last_of(&self, address: Address, count: u64) -> Option<Address>
         requires { 0 < count }
-        ensures { MatchOption result (rights_at self.now (address + (count - 1)) ≡ no_rights) (λ last. last + 1 ≡ address + count) }
+        ensures { MatchOption result (rights_at self.now (address + (count - 1)) ≡ no_rights)
+            (λ last. last + 1 ≡ address + count) }
     {
         // The invariant of `self` is known to a proof once a field is used.
         let _ = &self.spans;
@@ -539,8 +545,10 @@ impl<'a> Memory<'a> {
     /// Err is just that.
     pub fn read_at(&self, address: Address, into: &mut [u8]) -> Result<(), Access>
         ensures { MatchResult result
-            (λ _. IsTrue (is_readable self.now address (length into.old)) × (into.new ≡ bytes_at self.now address (length into.old)))
-            (λ _. (is_readable self.now address (length into.old) ≡ false) × (into.new ≡ into.old)) }
+            (λ _. IsTrue (is_readable self.now address (length into.old))
+            × (into.new ≡ bytes_at self.now address (length into.old)))
+            (λ _. (is_readable self.now address (length into.old) ≡ false)
+            × (into.new ≡ into.old)) }
     {
         if !self.readable(address, into.len() as u64) {
             return Err(Access);
@@ -573,8 +581,10 @@ impl<'a> Memory<'a> {
     /// Err is just that.
     pub fn copy_in(&mut self, address: Address, bytes: &[u8]) -> Result<(), Access>
         ensures { MatchResult result
-            (λ _. IsTrue (is_writable self.old address (length bytes.now)) × (self.new ≡ with_bytes address bytes.now self.old))
-            (λ _. (is_writable self.old address (length bytes.now) ≡ false) × (self.new ≡ self.old)) }
+            (λ _. IsTrue (is_writable self.old address (length bytes.now))
+            × (self.new ≡ with_bytes address bytes.now self.old))
+            (λ _. (is_writable self.old address (length bytes.now) ≡ false)
+            × (self.new ≡ self.old)) }
     {
         if !self.writable(address, bytes.len() as u64) {
             return Err(Access);

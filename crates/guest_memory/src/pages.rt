@@ -14,7 +14,8 @@ use std::alloc::{AllocError, Global};
 /// The pages that share a mark.
 pub const CHUNK: usize = 64;
 
-/// The pages of a memory, with a mark for each chunk of them that has a touched page: a copy looks at no others.
+/// The pages of a memory, with a mark for each chunk of them that has a touched page:
+/// a copy looks at no others.
 #[derive(Drop)]
 pub struct Pages {
     /// The pages in their order.
@@ -27,7 +28,8 @@ pub struct Pages {
 impl Pages {
     /// So many pages with no rights, all of them touched. Only want of memory stands against it.
     pub fn new(alloc: Global, total: usize) -> Result<Pages, AllocError>
-        ensures { IfOk result (λ pages. pages.each.items ≡ replicate total (touched_with no_rights)) }
+        ensures { IfOk result (λ pages.
+            pages.each.items ≡ replicate total (touched_with no_rights)) }
     {
         let page = Page {
             rights: NO_RIGHTS,
@@ -41,7 +43,8 @@ impl Pages {
     /// Makes a page a touched one.
     pub fn touch(&mut self, index: usize)
         requires { index < length self.old.each.items }
-        ensures { (d : Page) → self.new.each.items ≡ set self.old.each.items index (touched_with (get_or self.old.each.items index d).rights) }
+        ensures { (d : Page) → self.new.each.items ≡ set self.old.each.items index
+            (touched_with (get_or self.old.each.items index d).rights) }
     {
         if !self.each[index].touched {
             self.each[index].touched = true;
@@ -76,7 +79,8 @@ impl Pages {
         requires same_pages { length other.now.each.items ≡ length self.old.each.items }
         requires same_bytes { length from.now ≡ length bytes.old }
         requires each_byte { length bytes.old ≡ PAGE * length self.old.each.items }
-        ensures { AreCopied (length self.old.each.items) self.old.each.items other.now.each.items self.new.each.items bytes.old from.now bytes.new }
+        ensures { AreCopied (length self.old.each.items) self.old.each.items other.now.each.items
+            self.new.each.items bytes.old from.now bytes.new }
     {
         copy_touched(&mut self.each, bytes, &self.marks, other, from);
         self.marks.copy_from_slice(&other.marks);

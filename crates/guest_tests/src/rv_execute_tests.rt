@@ -218,8 +218,8 @@ const DIV: Instr = Instr::Reg {
     rs2: 6,
 };
 
-/// A hart, its instruction, x5 and x6 before it; what follows, and x7 and the pc after it, by the manual. Memory and
-/// reservations go on from row to row.
+/// A hart, its instruction, x5 and x6 before it; what follows, and x7 and the pc after it,
+/// by the manual. Memory and reservations go on from row to row.
 static ROWS: [(u16, Instr, u64, u64, Step, u64, Address); 67] = [
     // Another hart stores to the last of the reserved bytes.
     (0, LR_D, DATA, 0, DONE, 0, NEXT),

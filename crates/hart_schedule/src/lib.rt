@@ -15,8 +15,9 @@ use std::marker::Model;
 
 /// Harts of a number given at making, each with a key or not in it.
 ///
-/// Contracts see the list of the keys by the numbers of the harts. Beside its making no call takes memory.
-/// `key` and `least` read one place. `put` and `take` move entries on one way between a place and the root or a leaf.
+/// Contracts see the list of the keys by the numbers of the harts. Beside its making no call takes
+/// memory. `key` and `least` read one place. `put` and `take` move entries on one way between
+/// a place and the root or a leaf.
 #[derive(Drop)]
 pub struct Schedule {
     keys: Vec<Option<Tick>>,
@@ -39,7 +40,8 @@ impl Model for Schedule {
 }
 
 impl Schedule {
-    /// An empty schedule of 1 to `HARTS` harts. Fails exactly where there is no memory for their keys and the heap.
+    /// An empty schedule of 1 to `HARTS` harts. Fails exactly where there is no memory
+    /// for their keys and the heap.
     pub fn new(alloc: Global, harts: u32) -> Result<Schedule, AllocError>
         requires some { 1 ≤ harts }
         requires few { harts ≤ HARTS }
@@ -73,7 +75,8 @@ impl Schedule {
         );
     }
 
-    /// The hart with the least key, among equal keys the least-numbered one; None exactly where the schedule is empty.
+    /// The hart with the least key, among equal keys the least-numbered one; None exactly
+    /// where the schedule is empty.
     #[inline]
     pub fn least(&self) -> Option<HartId>
         ensures { MatchOption result (IsEmpty self.now) (λ hart. IsLeast self.now hart.0) }
@@ -88,7 +91,8 @@ impl Schedule {
     /// The same hart, with its key. None exactly where the schedule is empty.
     #[inline]
     pub fn first(&self) -> Option<Contender>
-        ensures { MatchOption result (IsEmpty self.now) (λ first. IsLeast self.now first.hart.0 × (key_of self.now first.hart.0 ≡ Some first.key)) }
+        ensures { MatchOption result (IsEmpty self.now) (λ first.
+            IsLeast self.now first.hart.0 × (key_of self.now first.hart.0 ≡ Some first.key)) }
     {
         if self.count == 0 {
             None
@@ -116,7 +120,8 @@ impl Schedule {
         key
     }
 
-    /// Gives a hart a key in place of the one that it has, if it has one: what `take` and then `put` would leave, by one walk.
+    /// Gives a hart a key in place of the one that it has, if it has one: what `take`
+    /// and then `put` would leave, by one walk.
     #[inline(always)]
     pub fn rekey(&mut self, hart: HartId, key: Tick)
         requires below { hart.0 < length self.old }

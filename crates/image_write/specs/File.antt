@@ -37,7 +37,9 @@ abbrev pub ended : List ℕ → List ℕ
 ended name = name ++ 0 ∷ []
 
 abbrev pub names : List ℕ
-names = 0 ∷ [] ++ ended (codes ".text") ++ ended (codes ".data") ++ ended (codes ".debug_line") ++ ended (codes ".shstrtab")
+names =
+    0 ∷ [] ++ ended (codes ".text") ++ ended (codes ".data") ++ ended (codes ".debug_line")
+    ++ ended (codes ".shstrtab")
 
 abbrev pub names_end : List ℕ → Program → ℕ
 names_end unit p = names_place unit p + length names
@@ -109,7 +111,8 @@ sections unit p =
 
 -- what is before the text
 unfoldable pub front : List ℕ → Program → List ℕ
-front unit p = filled_up PAGE (file_header p.entry (headers_place unit p) (segment_count p) ++ segments p)
+front unit p =
+    filled_up PAGE (file_header p.entry (headers_place unit p) (segment_count p) ++ segments p)
 
 -- with this line unit
 unfoldable pub file_with : List ℕ → Program → List ℕ
@@ -134,4 +137,5 @@ abbrev pub IsVersion : ℕ → Type 0
 IsVersion version = (4 ≤ version) × (version ≤ 5)
 
 abbrev pub IsWritable : Program → Type 0
-IsWritable p = (length p.text ≤ 1048576) × (length p.content ≤ 1048576) × (length p.text ≡ 4 * length p.lines)
+IsWritable p =
+    (length p.text ≤ 1048576) × (length p.content ≤ 1048576) × (length p.text ≡ 4 * length p.lines)

@@ -16,9 +16,18 @@ file_at version = if version == 5 then 1 else 0
 
 -- a row of the only sequence
 abbrev pub row_at : ℕ → ℕ → ℕ → Bool → Row
-row_at version address line ends = record { sequence = 0; address = address; file = Some (file_at version); line = line; column = 0; is_stmt = true; ends = ends }
+row_at version address line ends = record {
+  sequence = 0;
+  address = address;
+  file = Some (file_at version);
+  line = line;
+  column = 0;
+  is_stmt = true;
+  ends = ends;
+}
 
--- from the word at this address on, behind a word of this line: a row where the line changes, and one that ends the text
+-- from the word at this address on, behind a word of this line: a row where the line changes,
+-- and one that ends the text
 abbrev pub rows_from : ℕ → ℕ → ℕ → List ℕ → List Row
 rows_from version address line [] = row_at version address line true ∷ []
 rows_from version address line (l ∷ more) =
@@ -33,4 +42,8 @@ rows_of version (l ∷ more) = row_at version TEXT_START l false ∷ rows_from v
 
 -- of the lines of a program's words, and the name of its source
 unfoldable pub table_of : List ℕ → List ℕ → ℕ → Table
-table_of lines name version = record { files = files_of version name; rows = rows_of version lines; skipped = 0 }
+table_of lines name version = record {
+  files = files_of version name;
+  rows = rows_of version lines;
+  skipped = 0;
+}

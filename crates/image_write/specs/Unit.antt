@@ -56,7 +56,8 @@ row words old new = advance_pc words ++ advance_line old new ++ 1 ∷ []
 -- what follows a row of this line, so many words ago
 abbrev pub rows : ℕ → ℕ → List ℕ → List ℕ
 rows words line [] = advance_pc words ++ end_sequence
-rows words line (l ∷ more) = if l == line then rows (words + 1) line more else row words line l ++ rows 1 l more
+rows words line (l ∷ more) =
+    if l == line then rows (words + 1) line more else row words line l ++ rows 1 l more
 
 -- the line register begins as 1
 abbrev pub line_program : List ℕ → List ℕ
@@ -65,7 +66,8 @@ line_program (l ∷ more) = set_address TEXT_START ++ row 0 1 l ++ rows 1 l more
 
 -- ---- the unit
 
--- minimum_instruction_length 4, line_base -5, line_range 14, opcode_base 13, and the lengths of opcodes 1 to 12
+-- minimum_instruction_length 4, line_base -5, line_range 14, opcode_base 13, and the lengths
+-- of opcodes 1 to 12
 abbrev pub numbers : List ℕ
 numbers =
     4 ∷ 1 ∷ 1 ∷ 0xFB ∷ 14 ∷ 13 ∷ []
@@ -81,7 +83,9 @@ ended_files name = 0 ∷ [] ++ name ++ 0 ∷ 0 ∷ 0 ∷ 0 ∷ [] ++ 0 ∷ []
 
 -- the directory `.`, a text, and twice the file, a text and the number of its directory in one byte
 abbrev pub counted_files : List ℕ → List ℕ
-counted_files name = (1 ∷ 1 ∷ 8 ∷ 1 ∷ 46 ∷ 0 ∷ []) ++ (2 ∷ 1 ∷ 8 ∷ 2 ∷ 11 ∷ 2 ∷ []) ++ (name ++ 0 ∷ 0 ∷ []) ++ (name ++ 0 ∷ 0 ∷ [])
+counted_files name =
+    (1 ∷ 1 ∷ 8 ∷ 1 ∷ 46 ∷ 0 ∷ []) ++ (2 ∷ 1 ∷ 8 ∷ 2 ∷ 11 ∷ 2 ∷ []) ++ (name ++ 0 ∷ 0 ∷ [])
+    ++ (name ++ 0 ∷ 0 ∷ [])
 
 abbrev pub files : ℕ → List ℕ → List ℕ
 files version name = if version == 5 then counted_files name else ended_files name
@@ -92,7 +96,8 @@ counted bytes = word (length bytes) ++ bytes
 
 -- the version, the header behind its length, and the program
 abbrev pub unit_body : List ℕ → List ℕ → ℕ → List ℕ
-unit_body lines name version = half version ++ sizes version ++ counted (numbers ++ files version name) ++ line_program lines
+unit_body lines name version =
+    half version ++ sizes version ++ counted (numbers ++ files version name) ++ line_program lines
 
 unfoldable pub unit : List ℕ → List ℕ → ℕ → List ℕ
 unit lines name version = counted (unit_body lines name version)

@@ -147,7 +147,8 @@ pub fn segment_count(assembled: &Assembled) -> u16
     if has_content(assembled) { 2 } else { 1 }
 }
 
-/// The header of the file: its entry, the place of the section headers, and how many segments there are.
+/// The header of the file: its entry, the place of the section headers,
+/// and how many segments there are.
 /// Only want of memory stands against it.
 #[tactic(auto, unfolding(crate::specs::File::file_header))]
 pub fn file_header(

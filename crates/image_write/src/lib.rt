@@ -38,7 +38,9 @@ fn push_filled_up(out: &mut Vec<u8>, room: u32, bytes: &[u8]) -> Result<(), Allo
 fn both_headers(alloc: Global, assembled: &Assembled, unit: &[u8]) -> Result<Vec<u8>, AllocError>
     requires writable { IsWritable (view assembled.now) }
     requires unit { length unit.now < 2 ^ 33 }
-    ensures { IfOk result (λ v. v.items ≡ file_header assembled.now.entry (headers_place unit.now (view assembled.now)) (segment_count (view assembled.now)) ++ segments (view assembled.now)) }
+    ensures { IfOk result (λ v.
+        v.items ≡ file_header assembled.now.entry (headers_place unit.now (view assembled.now))
+        (segment_count (view assembled.now)) ++ segments (view assembled.now)) }
 {
     let place = headers_place(assembled, unit);
     let mut out = file_header(alloc, assembled.entry, place, segment_count(assembled))?;
@@ -79,8 +81,8 @@ fn file_with(alloc: Global, assembled: &Assembled, unit: &[u8]) -> Result<Vec<u8
     Ok(out)
 }
 
-/// The file that loads as what was assembled, with its line table of version 4 or 5: `name` is the name of the source in it.
-/// Only want of memory stands against it.
+/// The file that loads as what was assembled, with its line table of version 4 or 5:
+/// `name` is the name of the source in it. Only want of memory stands against it.
 #[tactic(auto, unfolding(crate::specs::File::written_file))]
 pub fn write_elf(
     alloc: Global,

@@ -10,7 +10,8 @@ use dwarf_lines::codes::{
 use rv_asm::TEXT_START;
 use std::alloc::{AllocError, Global};
 
-/// minimum_instruction_length, maximum_operations_per_instruction, default_is_stmt, line_base, line_range, opcode_base, and the lengths of the opcodes from 1 to 12.
+/// minimum_instruction_length, maximum_operations_per_instruction, default_is_stmt, line_base,
+/// line_range, opcode_base, and the lengths of the opcodes from 1 to 12.
 const NUMBERS: [u8; 18] = [4, 1, 1, 0xFB, 14, 13, 0, 1, 1, 1, 1, 0, 0, 0, 1, 0, 0, 1];
 
 /// One field, the path as a text; one directory, `.`.

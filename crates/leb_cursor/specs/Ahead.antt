@@ -38,7 +38,10 @@ pass_at n a = if nat_le n (length a.bytes) then Ok (tt, past n a) else Err (shor
 
 -- the next so many bytes, as what is ahead on its own
 abbrev pub part_at : ℕ → Ahead → Reading Ahead Short
-part_at n a = if nat_le n (length a.bytes) then Ok (record { place = a.place; bytes = take n a.bytes }, past n a) else Err (short a)
+part_at n a =
+    if nat_le n (length a.bytes)
+    then Ok (record { place = a.place; bytes = take n a.bytes }, past n a)
+    else Err (short a)
 
 -- a number of fixed width, lowest byte first
 abbrev pub number_at : Width → Ahead → Reading ℕ Short
@@ -52,7 +55,9 @@ up_to (Some k) a found none = found k
 
 -- the bytes before the next zero byte
 abbrev pub text_at : Ahead → Reading (List ℕ) Short
-text_at a = up_to (position (λ b. b == 0) a.bytes) a (λ k. Ok (take k a.bytes, past (suc k) a)) (Err (short a))
+text_at a =
+    up_to (position (λ b. b == 0) a.bytes) a
+    (λ k. Ok (take k a.bytes, past (suc k) a)) (Err (short a))
 
 -- the number of bytes up to the first one below 128
 abbrev pub number_length : List ℕ → Option ℕ
@@ -79,7 +84,8 @@ sleb_at a =
     (λ n. let value = signed_low_bits (take n a.bytes) in in_range (fits_64_signed value) value n a)
     (Err (leb.Short (short a)))
 
--- What a call of a cursor answered is what this reading gives, and after a refusal the cursor is as before.
+-- What a call of a cursor answered is what this reading gives, and after a refusal
+-- the cursor is as before.
 abbrev pub Reads : {X A E : Type 0} → (X → A) → Result X E → Ahead → Ahead → Reading A E → Type 0
 Reads view (Ok x) old new reading = reading ≡ Ok (view x, new)
 Reads view (Err e) old new reading = (reading ≡ Err e) × (new ≡ old)

@@ -1,4 +1,5 @@
--- LEB128 (DWARF 4, section 7.6): seven bits a byte, the lowest seven first. Every byte but the last is 128 or more, and the last is below 128.
+-- LEB128 (DWARF 4, section 7.6): seven bits a byte, the lowest seven first. Every byte
+-- but the last is 128 or more, and the last is below 128.
 use Rattle.std.specs.Prelude.{◌≡◌, ℕ, ◌+◌, ◌*◌, ◌^◌, ◌%◌, ◌<◌, ◌≤◌, List, [], ◌∷◌, length, ℤ, pos, ◌-ℤ◌, nat_lt, if◌then◌else◌}
 
 -- these bytes are those of one number

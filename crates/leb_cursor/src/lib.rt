@@ -1,4 +1,5 @@
-//! A cursor over bytes: numbers of fixed width, texts, and the LEB128 numbers of DWARF (DWARF 4, section 7.6).
+//! A cursor over bytes: numbers of fixed width, texts, and the LEB128 numbers of DWARF
+//! (DWARF 4, section 7.6).
 #![tactic(auto)]
 
 ghost use Rattle.std.specs.Prelude.{◌≡◌, ◌+◌, ◌-◌, ◌%◌, ◌<◌, ◌≤◌, ◌^◌, length, slice_index, IfSome, nat_lt, nat_le, position, ◌==◌, Some, None, if◌then◌else◌};
@@ -65,7 +66,8 @@ impl<'a> Cursor<'a> {
         self.bytes.len() as u64
     }
 
-    /// The next so many bytes; `Short` where fewer are left. After a fault a cursor stands where it stood.
+    /// The next so many bytes; `Short` where fewer are left. After a fault a cursor
+    /// stands where it stood.
     pub fn take(&mut self, count: u64) -> Result<&'a [u8], Short>
         ensures { Reads (λ x. x.now) result self.old self.new (bytes_at count self.old) }
     {
@@ -134,7 +136,8 @@ impl<'a> Cursor<'a> {
         Ok(())
     }
 
-    /// The next so many bytes, as a cursor of their own that goes on counting places; `Short` where fewer are left.
+    /// The next so many bytes, as a cursor of their own that goes on counting places; `Short`
+    /// where fewer are left.
     pub fn part(&mut self, count: u64) -> Result<Cursor<'a>, Short>
         ensures { Reads (λ x. x) result self.old self.new (part_at count self.old) }
     {
@@ -143,7 +146,8 @@ impl<'a> Cursor<'a> {
         Ok(Cursor { place, bytes })
     }
 
-    /// An unsigned LEB128 number, padded or not (DWARF 5, section 7.6). `Short` where no byte ends it, `Wide` where its value is 2^64 or more.
+    /// An unsigned LEB128 number, padded or not (DWARF 5, section 7.6). `Short` where no byte ends
+    /// it, `Wide` where its value is 2^64 or more.
     pub fn uleb(&mut self) -> Result<u64, LebFault>
         ensures { Reads (λ x. x) result self.old self.new (uleb_at self.old) }
     {
@@ -163,7 +167,8 @@ impl<'a> Cursor<'a> {
         }
     }
 
-    /// A signed LEB128 number, padded or not. `Short` where no byte ends it, `Wide` where its value doesn't fit 64 bits with a sign.
+    /// A signed LEB128 number, padded or not. `Short` where no byte ends it, `Wide`
+    /// where its value doesn't fit 64 bits with a sign.
     pub fn sleb(&mut self) -> Result<i64, LebFault>
         ensures { Reads (λ x. x) result self.old self.new (sleb_at self.old) }
     {
@@ -202,7 +207,8 @@ fn first_zero(bytes: &[u8]) -> Option<usize>
 
 /// What the low bits of these bytes make, if it fits.
 fn value_of(bytes: &[u8]) -> Option<u64>
-    ensures { result ≡ (if nat_lt (low_bits bytes.now) (2 ^ 64) then Some (low_bits bytes.now) else None) }
+    ensures { result
+        ≡ (if nat_lt (low_bits bytes.now) (2 ^ 64) then Some (low_bits bytes.now) else None) }
 {
     let mut value: u64 = 0;
     let mut i = bytes.len();
@@ -228,7 +234,8 @@ fn is_negative(bytes: &[u8]) -> bool
 
 /// What the low bits of these bytes make as two's complement, if it fits.
 fn signed_value_of(bytes: &[u8]) -> Option<i64>
-    ensures { result ≡ (if fits_64_signed (signed_low_bits bytes.now) then Some (signed_low_bits bytes.now) else None) }
+    ensures { result ≡ (if fits_64_signed (signed_low_bits bytes.now)
+        then Some (signed_low_bits bytes.now) else None) }
 {
     let mut value: i64 = if is_negative(bytes) { -1 } else { 0 };
     let mut i = bytes.len();

@@ -9,7 +9,9 @@ use Rattle.line_index.specs.declared.backwards.Backward.{Backward}
 
 -- by the bytes, then by the path's position
 abbrev pub backward_cmp : Backward → Backward → Ordering
-backward_cmp one other = ordering_then (slice_cmp nat_cmp one.bytes.items other.bytes.items) (nat_cmp one.place other.place)
+backward_cmp one other =
+    ordering_then (slice_cmp nat_cmp one.bytes.items other.bytes.items)
+    (nat_cmp one.place other.place)
 
 abbrev pub places : List Backward → List ℕ
 places list = map (λ (one : Backward). one.place) list

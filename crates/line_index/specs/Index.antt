@@ -24,16 +24,19 @@ abbrev pub has_line : Index → ℕ → ℕ → Bool
 has_line index line a = is_at line (position_at index a)
 
 -- these are the entry addresses of the line
-pub record AreEntries (table : Table) (areas : List Area) (line : Line) (addresses : List ℕ) : Type 0 where
+pub record AreEntries (table : Table) (areas : List Area) (line : Line)
+    (addresses : List ℕ) : Type 0 where
   pub rising : IsStrictlyIncreasing addresses
   pub each : (a : ℕ) → Contains addresses a ↔ Begins table areas line a
 
 pub record IsIndex (table : Table) (areas : List Area) (index : Index) : Type 0 where
   pub in_order : IsStrictlySortedBy line_cmp index.lines
   pub used : (l : Line) → Contains index.lines l ↔ ((a : ℕ) × (line_of table areas a ≡ Some l))
-  pub positions : (a : ℕ) → option_map (slice_get index.lines) (position_at index a) ≡ option_map Some (line_of table areas a)
+  pub positions : (a : ℕ) → option_map (slice_get index.lines) (position_at index a)
+      ≡ option_map Some (line_of table areas a)
   pub as_many : length index.entries ≡ length index.lines
-  pub entries : (k : ℕ) (l : Line) (es : List ℕ) → slice_get index.lines k ≡ Some l → slice_get index.entries k ≡ Some es → AreEntries table areas l es
+  pub entries : (k : ℕ) (l : Line) (es : List ℕ) → slice_get index.lines k ≡ Some l
+      → slice_get index.entries k ≡ Some es → AreEntries table areas l es
 
 -- the line of a path by its position in a list, and of a number
 abbrev pub line_at : List (List ℕ) → Key → Line

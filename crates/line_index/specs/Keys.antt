@@ -26,7 +26,9 @@ path_place paths position = option_map (slice_get (texts paths)) position
 
 -- each position is that of the file's path, if it has one
 abbrev pub ArePlaces : List (Vec ℕ) → List (Option ℕ) → List File → Type 0
-ArePlaces paths positions files = map (path_place paths) positions ≡ map (λ (file : File). option_map Some (entry_path file)) files
+ArePlaces paths positions files =
+    map (path_place paths) positions
+    ≡ map (λ (file : File). option_map Some (entry_path file)) files
 
 abbrev pub key_cmp : Key → Key → Ordering
 key_cmp k m = ordering_then (nat_cmp k.path m.path) (nat_cmp k.number m.number)
@@ -48,17 +50,22 @@ HasPath paths key = key.path < length paths
 
 -- the file that the row at a position names, unless its line is 0
 abbrev pub named_file : List Row → Option ℕ → Option ℕ
-named_file rows position = option_and_then (λ k. option_and_then (λ (row : Row). if row.line == 0 then None else row.file) (slice_get rows k)) position
+named_file rows position =
+    option_and_then (λ k.
+    option_and_then (λ (row : Row). if row.line == 0 then None else row.file)
+    (slice_get rows k)) position
 
 -- the key of a row, where these are the positions of the files' paths
 abbrev pub row_key : List (Option ℕ) → Row → Option Key
 row_key ranks row =
     if row.line == 0 then None
-    else option_and_then (λ k. option_and_then (λ rank. option_map (with_path row.line) rank) (slice_get ranks k)) row.file
+    else option_and_then (λ k.
+    option_and_then (λ rank. option_map (with_path row.line) rank) (slice_get ranks k)) row.file
 
 -- the key of the row at a position
 abbrev pub key_at : List Row → List (Option ℕ) → Option ℕ → Option Key
-key_at rows ranks position = option_and_then (λ k. option_and_then (row_key ranks) (slice_get rows k)) position
+key_at rows ranks position =
+    option_and_then (λ k. option_and_then (row_key ranks) (slice_get rows k)) position
 
 -- the keys of the rows that changes name
 abbrev pub change_keys : List Row → List (Option ℕ) → List Change → List Key
@@ -80,12 +87,18 @@ is_at k (Some j) = j == k
 
 -- the address of a change at the end of its line's starts, unless the line stood there before
 abbrev pub with_start : Option ℕ → Change → List (List ℕ) → List (List ℕ)
-with_start before c lists = elim (c.position) [ None ↦ lists | Some k ↦ if is_at k before then lists else slice_set lists k (get_or lists k [] ++ c.address ∷ []) ]
+with_start before c lists = elim (c.position) [
+  | None ↦ lists
+  | Some k ↦ if is_at k before then lists
+      else slice_set lists k (get_or lists k [] ++ c.address ∷ [])
+]
 
 -- where the line at this position begins
 abbrev pub starts : ℕ → Option ℕ → List Change → List ℕ
 starts k before [] = []
-starts k before (c ∷ cs) = (if is_at k c.position && not (is_at k before) then c.address ∷ [] else []) ++ starts k c.position cs
+starts k before (c ∷ cs) =
+    (if is_at k c.position && not (is_at k before) then c.address ∷ [] else [])
+    ++ starts k c.position cs
 
 -- for each line where it begins
 pub record AreStarts (count : ℕ) (changes : List Change) (lists : List (List ℕ)) : Type 0 where
@@ -101,7 +114,9 @@ entries_view entries = map entry_view entries
 
 -- by name, then by directory
 abbrev pub entry_cmp : Entry → Entry → Ordering
-entry_cmp entry other = ordering_then (slice_cmp nat_cmp entry.name.now other.name.now) (slice_cmp nat_cmp entry.directory.now other.directory.now)
+entry_cmp entry other =
+    ordering_then (slice_cmp nat_cmp entry.name.now other.name.now)
+    (slice_cmp nat_cmp entry.directory.now other.directory.now)
 
 -- how many bytes a file's name and that of its directory have
 abbrev pub name_size : FileName → ℕ

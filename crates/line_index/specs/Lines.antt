@@ -36,7 +36,9 @@ entry_path file = if is_empty (path file) then None else Some (path file)
 
 -- the address of the next row of the sequence
 abbrev pub next_address : ℕ → List Row → Option ℕ
-next_address sequence later = option_map (λ (next : Row). next.address) (find (λ (next : Row). next.sequence == sequence) later)
+next_address sequence later =
+    option_map (λ (next : Row). next.address)
+    (find (λ (next : Row). next.sequence == sequence) later)
 
 -- a row covers the addresses from its own up to that of the next row of its sequence, which is not among them
 abbrev pub is_covered : ℕ → Row → List Row → Bool
@@ -56,15 +58,21 @@ line_of_row files row =
     else option_and_then (λ k. option_and_then (λ file. option_map (line_with row.line) (entry_path file)) (slice_get files k)) row.file
 
 abbrev pub is_executable : List Area → ℕ → Bool
-is_executable areas a = list_any (λ (area : Area). area.rights.execute && (nat_le area.start a && nat_lt a (area.start + area.size))) areas
+is_executable areas a =
+    list_any (λ (area : Area).
+    area.rights.execute && (nat_le area.start a && nat_lt a (area.start + area.size))) areas
 
 -- the line of an address, if it has one
 unfoldable pub line_of : Table → List Area → ℕ → Option Line
-line_of table areas a = if is_executable areas a then option_and_then (line_of_row table.files) (first_covering a table.rows) else None
+line_of table areas a =
+    if is_executable areas a
+    then option_and_then (line_of_row table.files) (first_covering a table.rows)
+    else None
 
 -- the address has the line, and the address before it has not
 abbrev pub Begins : Table → List Area → Line → ℕ → Type 0
-Begins table areas line a = (line_of table areas a ≡ Some line) × ((b : ℕ) → suc b ≡ a → line_of table areas b ≢ Some line)
+Begins table areas line a =
+    (line_of table areas a ≡ Some line) × ((b : ℕ) → suc b ≡ a → line_of table areas b ≢ Some line)
 
 -- ---- labels
 

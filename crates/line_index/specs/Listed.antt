@@ -22,7 +22,8 @@ in_order R (x ∷ xs) = with_element R x (in_order R xs)
 
 -- where a row or an area starts: a line begins at no other address
 abbrev pub bounds : Table → List Area → List ℕ
-bounds table areas = map (λ (row : Row). row.address) table.rows ++ map (λ (area : Area). area.start) areas
+bounds table areas =
+    map (λ (row : Row). row.address) table.rows ++ map (λ (area : Area). area.start) areas
 
 -- the lines that some address has, in order
 unfoldable pub lines_in : Table → List Area → List Line
@@ -43,7 +44,9 @@ entries_in table areas line = filter (is_beginning table areas line) (in_order n
 
 -- the position of the line of an address, if it has one
 unfoldable pub position_in : Table → List Area → ℕ → Option ℕ
-position_in table areas a = option_and_then (λ line. position (is_line_named line.path line.number) (lines_in table areas)) (line_of table areas a)
+position_in table areas a =
+    option_and_then (λ line. position (is_line_named line.path line.number) (lines_in table areas))
+    (line_of table areas a)
 
 -- the index holds what these give
 pub record IsListed (table : Table) (areas : List Area) (index : Index) : Type 0 where

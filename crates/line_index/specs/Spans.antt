@@ -6,7 +6,10 @@ use Rattle.line_index.specs.declared.spans.Span.{Span}
 use Rattle.line_index.specs.Lines.{next_address}
 
 abbrev pub row_span : Row → List Row → Span
-row_span row later = record { start = row.address; end = unwrap_or (next_address row.sequence later) row.address }
+row_span row later = record {
+  start = row.address;
+  end = unwrap_or (next_address row.sequence later) row.address;
+}
 
 -- the span of each row
 abbrev pub row_spans : List Row → List Span

@@ -17,7 +17,8 @@ abbrev pub turns : ℕ → Option ℕ → List Change → List ℕ
 turns k before [] = []
 turns k before (c ∷ cs) = (if is_different (is_at k before) (is_at k c.position) then c.address ∷ [] else []) ++ turns k c.position cs
 
--- behind a beginning and before the end that follows: the first turn is passed, and it is not so of the others
+-- behind a beginning and before the end that follows: the first turn is passed,
+-- and it is not so of the others
 abbrev pub is_within : ℕ → List ℕ → Bool
 is_within a [] = false
 is_within a (t ∷ ts) = nat_le t a && not (is_within a ts)

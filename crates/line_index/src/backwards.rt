@@ -31,7 +31,8 @@ fn reversed(alloc: Global, path: &[u8], place: u32) -> Result<Backward, AllocErr
 fn each_backward(alloc: Global, paths: &[Vec<u8>]) -> Result<Vec<Backward>, AllocError>
     requires { length paths.now < 2 ^ 32 }
     ensures own { IfOk result (λ list. All (IsBackward (texts paths.now)) list.items) }
-    ensures each { IfOk result (λ list. (k : ℕ) → k < length (texts paths.now) → Contains (places list.items) k) }
+    ensures each { IfOk result (λ list.
+        (k : ℕ) → k < length (texts paths.now) → Contains (places list.items) k) }
 {
     let mut list = Vec::with_capacity(alloc, paths.len())?;
     for (place, path) in paths.iter().enumerate() {
@@ -80,7 +81,10 @@ fn stands_before(bytes: &[u8], text: &[u8]) -> bool
 pub fn first_ending(backwards: &[Backward], text: &[u8]) -> usize
     requires { IsSorted backward_cmp backwards.now }
     ensures bound { result ≤ length backwards.now }
-    ensures parted { IsPartitionPoint (λ (one : Backward). is_lt (start_cmp (ending text.now) one.bytes.items) ≡ true) (λ (one : Backward). is_lt (start_cmp (ending text.now) one.bytes.items) ≡ false) backwards.now result }
+    ensures parted { IsPartitionPoint
+        (λ (one : Backward). is_lt (start_cmp (ending text.now) one.bytes.items) ≡ true)
+        (λ (one : Backward). is_lt (start_cmp (ending text.now) one.bytes.items) ≡ false)
+        backwards.now result }
 {
     backwards.partition_point(|one| stands_before(&one.bytes, text))
 }

@@ -63,7 +63,8 @@ impl<'a> Side<'a> {
 
     /// Goes over the next change if it is at this address.
     fn pass(&mut self, address: Address)
-        ensures position { self.new.position ≡ position_after address self.old.position self.old.ahead.now }
+        ensures position { self.new.position
+            ≡ position_after address self.old.position self.old.ahead.now }
         ensures ahead { self.new.ahead.now ≡ ahead_after address self.old.ahead.now }
     {
         if let Some((change, rest)) = self.ahead.split_first() {
@@ -97,7 +98,8 @@ pub fn merged(
     requires second_rises { IsRising 0 second.now }
     ensures values { IfOk result (λ changes. (a : ℕ) → value_at a None changes.items ≡ joined_position join (value_at a None first.now) (value_at a None second.now)) }
     ensures rises { IfOk result (λ changes. IsRising 0 changes.items) }
-    ensures few { IfOk result (λ changes. length changes.items ≤ length first.now + length second.now) }
+    ensures few { IfOk result (λ changes.
+        length changes.items ≤ length first.now + length second.now) }
 {
     let mut changes = Vec::new(alloc);
     let mut first = Side {

@@ -47,7 +47,8 @@ pub fn sorted_entries<'a>(
     files: &[FileName<'a>],
 ) -> Result<Vec<Entry<'a>>, AllocError>
     ensures in_order { IfOk result (λ entries. IsStrictlySortedBy entry_cmp entries.items) }
-    ensures each { IfOk result (λ entries. All (Contains (entries_view entries.items)) (files_view files.now)) }
+    ensures each { IfOk result (λ entries.
+        All (Contains (entries_view entries.items)) (files_view files.now)) }
     ensures few { IfOk result (λ entries. length entries.items ≤ length files.now) }
 {
     room(alloc, files)?;
@@ -62,7 +63,8 @@ fn position_of(entries: &[Entry], positions: &[Option<u32>], file: &FileName) ->
     requires in_order { IsStrictlySortedBy entry_cmp entries.now }
     requires one { Contains (entries_view entries.now) (file_view file.now) }
     requires as_many { length positions.now ≡ length entries.now }
-    ensures { (paths : List (Vec ℕ)) → ArePlaces paths positions.now (entries_view entries.now) → path_place paths result ≡ option_map Some (entry_path (file_view file.now)) }
+    ensures { (paths : List (Vec ℕ)) → ArePlaces paths positions.now (entries_view entries.now)
+        → path_place paths result ≡ option_map Some (entry_path (file_view file.now)) }
 {
     match entries.binary_search(&entry_of(file)) {
         Ok(place) => positions[place],
@@ -81,7 +83,9 @@ pub fn file_positions(
     requires in_order { IsStrictlySortedBy entry_cmp entries.now }
     requires each { All (Contains (entries_view entries.now)) (files_view files.now) }
     requires as_many { length positions.now ≡ length entries.now }
-    ensures { IfOk result (λ placed. (paths : List (Vec ℕ)) → ArePlaces paths positions.now (entries_view entries.now) → ArePlaces paths placed.items (files_view files.now)) }
+    ensures { IfOk result (λ placed.
+        (paths : List (Vec ℕ)) → ArePlaces paths positions.now (entries_view entries.now)
+        → ArePlaces paths placed.items (files_view files.now)) }
 {
     let mut placed = Vec::with_capacity(alloc, files.len())?;
     for file in files {

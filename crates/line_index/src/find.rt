@@ -41,7 +41,8 @@ fn line_of_text(paths: &[Vec<u8>], keys: &[Key], path: &[u8], number: u32) -> Op
     requires in_order { IsStrictlySortedBy key_cmp keys.now }
     requires have_paths { All (HasPath (texts paths.now)) keys.now }
     requires few { length keys.now < 2 ^ 32 }
-    ensures { result ≡ position (is_line_named path.now number) (map (line_at (texts paths.now)) keys.now) }
+    ensures { result
+        ≡ position (is_line_named path.now number) (map (line_at (texts paths.now)) keys.now) }
 {
     match paths.binary_search_by(|other| other.as_slice().cmp(path)) {
         Ok(place) => line_of_path(keys, place as u32, number),
@@ -72,7 +73,8 @@ fn line_below(
     requires in_order { IsStrictlySortedBy key_cmp keys.now }
     requires have_paths { All (HasPath (texts paths.now)) keys.now }
     requires few { length keys.now < 2 ^ 32 }
-    ensures { result ≡ position (is_line_below path.now number) (map (line_at (texts paths.now)) keys.now) }
+    ensures { result
+        ≡ position (is_line_below path.now number) (map (line_at (texts paths.now)) keys.now) }
 {
     let rest = &backwards[first_ending(backwards, path)..];
     let mut line = None;

@@ -37,7 +37,8 @@ pub fn path_of<'a>(paths: &'a [Vec<u8>], key: Key) -> &'a [u8]
 
 /// The label of each line. Only want of memory stands against it.
 pub fn labels(alloc: Global, paths: &[Vec<u8>], keys: &[Key]) -> Result<Vec<Label>, AllocError>
-    ensures { IfOk result (λ labels. labels.items ≡ map (λ (key : Key). label (line_at (texts paths.now) key)) keys.now) }
+    ensures { IfOk result (λ labels.
+        labels.items ≡ map (λ (key : Key). label (line_at (texts paths.now) key)) keys.now) }
 {
     let mut labels = Vec::with_capacity(alloc, keys.len())?;
     for key in keys {

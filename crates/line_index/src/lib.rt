@@ -101,12 +101,15 @@ impl LineIndex {
         requires { line.0 < length self.now.lines }
         ensures label { slice_get (map label self.now.lines) line.0 ≡ Some result.now }
         ensures right { is_label result.now ≡ true }
-        ensures rises { (earlier : ℕ) (other : Text) → earlier < line.0 → slice_get (map label self.now.lines) earlier ≡ Some other → label_before other result.now ≡ true }
+        ensures rises { (earlier : ℕ) (other : Text) → earlier < line.0
+            → slice_get (map label self.now.lines) earlier ≡ Some other
+            → label_before other result.now ≡ true }
     {
         &self.labels[line.0 as usize]
     }
 
-    /// The line of this written path and number, else the first whose path ends with a slash and the text.
+    /// The line of this written path and number, else the first whose path ends
+    /// with a slash and the text.
     pub fn find(&self, path: &[u8], number: u32) -> Option<LineId>
         ensures { result ≡ option_map (λ k. record { 0 = k }) (position_named path.now number self.now.lines) }
     {

@@ -70,7 +70,8 @@ fn change_keys(
     positions: &[Option<u32>],
     changes: &[Change],
 ) -> Result<Vec<Key>, AllocError>
-    ensures keys { IfOk result (λ keys. keys.items ≡ change_keys rows.now positions.now changes.now) }
+    ensures keys { IfOk result (λ keys.
+        keys.items ≡ change_keys rows.now positions.now changes.now) }
     ensures numbered { IfOk result (λ keys. All IsNumbered keys.items) }
     ensures few { IfOk result (λ keys. length keys.items ≤ length changes.now) }
 {
@@ -89,7 +90,8 @@ pub fn sorted_keys(
     changes: &[Change],
 ) -> Result<Vec<Key>, AllocError>
     ensures in_order { IfOk result (λ keys. IsStrictlySortedBy key_cmp keys.items) }
-    ensures each { IfOk result (λ keys. (key : Key) → Contains keys.items key ↔ Contains (change_keys rows.now positions.now changes.now) key) }
+    ensures each { IfOk result (λ keys. (key : Key)
+        → Contains keys.items key ↔ Contains (change_keys rows.now positions.now changes.now) key) }
     ensures numbered { IfOk result (λ keys. All IsNumbered keys.items) }
     ensures few { IfOk result (λ keys. length keys.items ≤ length changes.now) }
 {
@@ -124,7 +126,8 @@ pub fn line_changes(
     changes: &[Change],
 ) -> Result<Vec<LineChange>, AllocError>
     requires in_order { IsStrictlySortedBy key_cmp keys.now }
-    requires each { (key : Key) → Contains (change_keys rows.now positions.now changes.now) key → Contains keys.now key }
+    requires each { (key : Key) → Contains (change_keys rows.now positions.now changes.now) key
+        → Contains keys.now key }
     requires few { length keys.now < 2 ^ 32 }
     ensures { IfOk result (λ lines. map (line_change keys.now) (changes_of lines.items) ≡ map (key_change rows.now positions.now) changes.now) }
 {

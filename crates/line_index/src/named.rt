@@ -35,8 +35,10 @@ fn nameless<'a>(alloc: Global, count: usize) -> Result<Vec<FileName<'a>>, AllocE
 fn give_name<'a>(named: &mut Vec<FileName<'a>>, files: &[FileName<'a>], file: Option<u32>)
     requires { length named.old.items ≡ length files.now }
     ensures as_many { length named.new.items ≡ length files.now }
-    ensures given { option_and_then (slice_get named.new.items) file ≡ option_and_then (slice_get files.now) file }
-    ensures others { (k : ℕ) → (slice_get named.new.items k ≡ slice_get files.now k) ⊎ (slice_get named.new.items k ≡ slice_get named.old.items k) }
+    ensures given { option_and_then (slice_get named.new.items) file
+        ≡ option_and_then (slice_get files.now) file }
+    ensures others { (k : ℕ) → (slice_get named.new.items k ≡ slice_get files.now k)
+        ⊎ (slice_get named.new.items k ≡ slice_get named.old.items k) }
 {
     if let Some(file) = file {
         let place = file as usize;
@@ -56,7 +58,10 @@ pub fn named_files<'a>(
     covering: &[Change],
 ) -> Result<Vec<FileName<'a>>, AllocError>
     ensures as_many { IfOk result (λ named. length named.items ≡ length files.now) }
-    ensures named { IfOk result (λ named. All (λ (change : Change). option_and_then (slice_get named.items) (named_file rows.now change.position) ≡ option_and_then (slice_get files.now) (named_file rows.now change.position)) covering.now) }
+    ensures named { IfOk result (λ named. All (λ (change : Change).
+        option_and_then (slice_get named.items) (named_file rows.now change.position)
+        ≡ option_and_then (slice_get files.now) (named_file rows.now change.position))
+        covering.now) }
 {
     let mut named = nameless(alloc, files.len())?;
     for change in covering {

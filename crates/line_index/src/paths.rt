@@ -39,7 +39,8 @@ fn written_path(alloc: Global, entry: &Entry) -> Result<Vec<u8>, AllocError>
 
 fn written_paths(alloc: Global, entries: &[Entry]) -> Result<Vec<Vec<u8>>, AllocError>
     ensures paths { IfOk result (λ paths. texts paths.items ≡ map path (entries_view entries.now)) }
-    ensures right { IfOk result (λ paths. All (λ (path : Vec ℕ). is_written path.items ≡ true) paths.items) }
+    ensures right { IfOk result (λ paths.
+        All (λ (path : Vec ℕ). is_written path.items ≡ true) paths.items) }
 {
     let mut paths = Vec::with_capacity(alloc, entries.len())?;
     for entry in entries {
@@ -51,8 +52,11 @@ fn written_paths(alloc: Global, entries: &[Entry]) -> Result<Vec<Vec<u8>>, Alloc
 /// The written paths in order, each once. Only want of memory stands against it.
 pub fn sorted_paths(alloc: Global, entries: &[Entry]) -> Result<Vec<Vec<u8>>, AllocError>
     ensures in_order { IfOk result (λ paths. IsStrictlySortedBy path_cmp paths.items) }
-    ensures each { IfOk result (λ paths. All (λ (file : File). Contains (texts paths.items) (path file)) (entries_view entries.now)) }
-    ensures right { IfOk result (λ paths. All (λ (path : Vec ℕ). is_written path.items ≡ true) paths.items) }
+    ensures each { IfOk result (λ paths.
+        All (λ (file : File). Contains (texts paths.items) (path file))
+        (entries_view entries.now)) }
+    ensures right { IfOk result (λ paths.
+        All (λ (path : Vec ℕ). is_written path.items ≡ true) paths.items) }
     ensures few { IfOk result (λ paths. length paths.items ≤ length entries.now) }
 {
     let mut paths = written_paths(alloc, entries)?;
@@ -66,7 +70,8 @@ fn path_position(alloc: Global, paths: &[Vec<u8>], entry: &Entry) -> Result<Opti
     requires in_order { IsStrictlySortedBy path_cmp paths.now }
     requires one { Contains (texts paths.now) (path (entry_view entry.now)) }
     requires few { length paths.now < 2 ^ 32 }
-    ensures { IfOk result (λ position. path_place paths.now position ≡ option_map Some (entry_path (entry_view entry.now))) }
+    ensures { IfOk result (λ position.
+        path_place paths.now position ≡ option_map Some (entry_path (entry_view entry.now))) }
 {
     let written = written_path(alloc, entry)?;
     if written.as_slice().is_empty() {
@@ -85,9 +90,11 @@ pub fn path_positions(
     entries: &[Entry],
 ) -> Result<Vec<Option<u32>>, AllocError>
     requires in_order { IsStrictlySortedBy path_cmp paths.now }
-    requires each { All (λ (file : File). Contains (texts paths.now) (path file)) (entries_view entries.now) }
+    requires each { All (λ (file : File). Contains (texts paths.now) (path file))
+        (entries_view entries.now) }
     requires few { length paths.now < 2 ^ 32 }
-    ensures { IfOk result (λ positions. ArePlaces paths.now positions.items (entries_view entries.now)) }
+    ensures { IfOk result (λ positions.
+        ArePlaces paths.now positions.items (entries_view entries.now)) }
 {
     let mut positions = Vec::with_capacity(alloc, entries.len())?;
     for entry in entries {

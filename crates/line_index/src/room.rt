@@ -21,10 +21,10 @@ fn named_bytes(files: &[FileName]) -> usize
     total
 }
 
-/// Room for each file's path thrice, as itself, from its last byte to its first, and in a label. The
-/// files of a table may be millions that all have one long name: no more is compared and written
-/// than there is memory for. Nothing is written into the room, so it isn't to be inlined: it would
-/// be left out.
+/// Room for each file's path thrice, as itself, from its last byte to its first,
+/// and in a label. The files of a table may be millions that all have one long name:
+/// no more is compared and written than there is memory for. Nothing is written into the room,
+/// so it isn't to be inlined: it would be left out.
 #[inline(never)]
 pub fn room(alloc: Global, files: &[FileName]) -> Result<Vec<u8>, AllocError>
     ensures { IfOk result (λ room. 3 * sum_by name_size files.now ≤ vec_capacity room) }

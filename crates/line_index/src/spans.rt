@@ -113,7 +113,8 @@ pub fn covering_rows(alloc: Global, rows: &[Row], areas: &[Area]) -> Result<Vec<
     requires few_areas { length areas.now < 2 ^ 32 }
     ensures values { IfOk result (λ changes. (a : ℕ) → value_at a None changes.items ≡ (if is_executable areas.now a then position_from (is_in_span a) 0 (row_spans rows.now) else None)) }
     ensures rises { IfOk result (λ changes. IsRising 0 changes.items) }
-    ensures few { IfOk result (λ changes. length changes.items ≤ 2 * (length areas.now + length rows.now)) }
+    ensures few { IfOk result (λ changes.
+        length changes.items ≤ 2 * (length areas.now + length rows.now)) }
 {
     let code = code_spans(alloc, areas)?;
     let executable = first_spans(alloc, &code, 0)?;

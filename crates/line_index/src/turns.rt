@@ -65,7 +65,8 @@ pub fn turns(
     Ok(lists)
 }
 
-/// An address lies behind a beginning and before the end that follows: it has passed an odd number of turns.
+/// An address lies behind a beginning and before the end that follows: it has passed
+/// an odd number of turns.
 #[inline]
 pub fn is_within(turns: &[Address], address: Address) -> bool
     requires { Rises 0 turns.now }

@@ -24,36 +24,46 @@ number_field name n = field name (decimal n)
 
 abbrev pub head_line : Profile → Text
 head_line p =
-    codes "coz-ticks" ++ field (codes "version") (codes "1") ++ number_field (codes "budget") p.budget
+    codes "coz-ticks" ++ field (codes "version") (codes "1")
+    ++ number_field (codes "budget") p.budget
     ++ number_field (codes "points") (length p.points) ++ codes "\n"
 
 abbrev pub point_line : ℕ × Text → Text
-point_line p = codes "point" ++ number_field (codes "index") p.0 ++ field (codes "name") p.1 ++ codes "\n"
+point_line p =
+    codes "point" ++ number_field (codes "index") p.0 ++ field (codes "name") p.1 ++ codes "\n"
 
 abbrev pub experiment_line : Summary → Text
 experiment_line s =
-    codes "experiment" ++ field (codes "selected") s.selected ++ number_field (codes "speedup") s.speedup
-    ++ field (codes "end") (ending_text s.outcome.ending) ++ number_field (codes "time") s.outcome.time
-    ++ number_field (codes "delay") s.outcome.delay ++ number_field (codes "retired") s.outcome.retired
+    codes "experiment" ++ field (codes "selected") s.selected
+    ++ number_field (codes "speedup") s.speedup
+    ++ field (codes "end") (ending_text s.outcome.ending)
+    ++ number_field (codes "time") s.outcome.time
+    ++ number_field (codes "delay") s.outcome.delay
+    ++ number_field (codes "retired") s.outcome.retired
     ++ number_field (codes "starts") s.outcome.starts ++ codes "\n"
 
 abbrev pub output_line : Summary → Text
 output_line s =
-    codes "output" ++ number_field (codes "length") s.length ++ field (codes "sha256") (hex_text s.output.bytes) ++ codes "\n"
+    codes "output" ++ number_field (codes "length") s.length
+    ++ field (codes "sha256") (hex_text s.output.bytes) ++ codes "\n"
 
 abbrev pub count_line : ℕ × ℕ → Text
 count_line c =
-    codes "throughput-point" ++ number_field (codes "index") c.0 ++ number_field (codes "delta") c.1 ++ codes "\n"
+    codes "throughput-point" ++ number_field (codes "index") c.0
+    ++ number_field (codes "delta") c.1 ++ codes "\n"
 
 abbrev pub visits_line : Summary → Text
 visits_line s = codes "visits" ++ field (codes "sha256") (hex_text s.visits.bytes) ++ codes "\n"
 
 abbrev pub block : Summary → Text
-block s = experiment_line s ++ output_line s ++ flat_map count_line (enumerate_from 0 s.counts) ++ visits_line s
+block s =
+    experiment_line s ++ output_line s
+    ++ flat_map count_line (enumerate_from 0 s.counts) ++ visits_line s
 
 -- the text of a profile
 unfoldable pub profile_text : Profile → Text
-profile_text p = head_line p ++ flat_map point_line (enumerate_from 0 p.points) ++ flat_map block p.summaries
+profile_text p =
+    head_line p ++ flat_map point_line (enumerate_from 0 p.points) ++ flat_map block p.summaries
 
 -- ---- ranges and orders
 
@@ -66,7 +76,8 @@ rises before (a ∷ b ∷ rest) = before a b && rises before (b ∷ rest)
 -- by label, then by speedup
 abbrev pub summary_before : Summary → Summary → Bool
 summary_before s t =
-    label_before s.selected t.selected || (bytes_eq s.selected t.selected && nat_lt s.speedup t.speedup)
+    label_before s.selected t.selected
+    || (bytes_eq s.selected t.selected && nat_lt s.speedup t.speedup)
 
 -- the budget and the points, the summaries within their ranges, and all in their orders
 pub record IsProfile (p : Profile) : Type 0 where

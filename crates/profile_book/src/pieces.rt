@@ -26,7 +26,8 @@ pub fn put_number<O: Sink>(to: &mut PutBuffer, out: &mut O, name: &[u8], number:
 
 /// A name and the digits of a digest.
 pub fn put_digest<O: Sink>(to: &mut PutBuffer, out: &mut O, name: &[u8], digest: &[u8; 32])
-    ensures { Gathers O.holds O.faults out.old out.new to.old to.new (name.now ++ hex_text digest.now) }
+    ensures { Gathers O.holds O.faults out.old out.new to.old to.new
+        (name.now ++ hex_text digest.now) }
 {
     let mut text = [0u8; 64];
     match hex::encode_to_slice(digest.as_slice(), &mut text) {

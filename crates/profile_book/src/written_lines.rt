@@ -21,7 +21,8 @@ pub fn put_head<O: Sink>(to: &mut PutBuffer, out: &mut O, profile: &Profile)
 }
 
 fn put_point<O: Sink>(to: &mut PutBuffer, out: &mut O, index: usize, label: &Label)
-    ensures { Gathers O.holds O.faults out.old out.new to.old to.new (point_line (index, label.now)) }
+    ensures { Gathers O.holds O.faults out.old out.new to.old to.new
+        (point_line (index, label.now)) }
 {
     put_number(to, out, b"point\tindex=", index as u64);
     put_field(to, out, b"\tname=", label.bytes());
@@ -30,7 +31,8 @@ fn put_point<O: Sink>(to: &mut PutBuffer, out: &mut O, index: usize, label: &Lab
 
 /// The line of each point.
 pub fn put_points<O: Sink>(to: &mut PutBuffer, out: &mut O, points: &[Label])
-    ensures { Gathers O.holds O.faults out.old out.new to.old to.new (flat_map point_line (enumerate_from 0 points.now)) }
+    ensures { Gathers O.holds O.faults out.old out.new to.old to.new
+        (flat_map point_line (enumerate_from 0 points.now)) }
 {
     for (index, label) in points.iter().enumerate() {
         put_point(to, out, index, label);
@@ -38,7 +40,8 @@ pub fn put_points<O: Sink>(to: &mut PutBuffer, out: &mut O, points: &[Label])
 }
 
 fn put_trap<O: Sink>(to: &mut PutBuffer, out: &mut O, trap: Trap)
-    ensures { Gathers O.holds O.faults out.old out.new to.old to.new (ending_text (Ending.Trapped trap)) }
+    ensures { Gathers O.holds O.faults out.old out.new to.old to.new
+        (ending_text (Ending.Trapped trap)) }
 {
     put_field(to, out, b"trapped:", trap.cause.name());
     put_number(to, out, b":", u64::from(trap.hart.0));
@@ -92,7 +95,8 @@ fn put_count<O: Sink>(to: &mut PutBuffer, out: &mut O, index: usize, count: u64)
 }
 
 fn put_counts<O: Sink>(to: &mut PutBuffer, out: &mut O, counts: &[u64])
-    ensures { Gathers O.holds O.faults out.old out.new to.old to.new (flat_map count_line (enumerate_from 0 counts.now)) }
+    ensures { Gathers O.holds O.faults out.old out.new to.old to.new
+        (flat_map count_line (enumerate_from 0 counts.now)) }
 {
     for (index, count) in counts.iter().enumerate() {
         put_count(to, out, index, *count);
@@ -117,7 +121,8 @@ fn put_block<O: Sink>(to: &mut PutBuffer, out: &mut O, summary: &Summary)
 
 /// The block of each summary.
 pub fn put_blocks<O: Sink>(to: &mut PutBuffer, out: &mut O, summaries: &[Summary])
-    ensures { Gathers O.holds O.faults out.old out.new to.old to.new (flat_map block summaries.now) }
+    ensures { Gathers O.holds O.faults out.old out.new to.old to.new
+        (flat_map block summaries.now) }
 {
     for at in 0..summaries.len() {
         put_block(to, out, &summaries[at]);

@@ -3,7 +3,8 @@ use Rattle.std.specs.Prelude.{ℕ, Option, option_map}
 use Rattle.guest_memory.specs.Regions.{usual}
 use Rattle.virtual_run.specs.declared.choice.Choice.{Choice}
 
--- the position of the selected line, if there is one, its speedup and a budget, with the limits of the commands
+-- the position of the selected line, if there is one, its speedup and a budget,
+-- with the limits of the commands
 abbrev pub choice_of : Option ℕ → ℕ → ℕ → Choice
 choice_of selected speedup budget = record {
   selected = option_map (λ l. record { 0 = l }) selected;

@@ -10,9 +10,11 @@ use Rattle.profile_pool.specs.Made.{AreFor}
 use Rattle.profile_pool.specs.Work.{work_at}
 use Rattle.profile_pool.specs.Worked.{Worked, AreSummaries}
 
--- a seat that drew nothing, with one turn more than there are claims, and what runs of the plan can be made by
+-- a seat that drew nothing, with one turn more than there are claims, and what runs
+-- of the plan can be made by
 abbrev pub IsJob : Work → Claims → Job → Type 0
-IsJob work c j = IsSeatOf c j.seat × (hand_of j.seat ≡ hand (bound_of c + 1) []) × AreFor work j.runner
+IsJob work c j =
+    IsSeatOf c j.seat × (hand_of j.seat ≡ hand (bound_of c + 1) []) × AreFor work j.runner
 
 -- the seat at the end, where one draw met the bound
 abbrev pub IsAnswer : Work → Claims → Answer → Type 0

@@ -8,7 +8,14 @@ use Rattle.profile_pool.specs.Choices.{choice_of}
 
 -- all but the state
 abbrev pub made : {State : Type 0} → Seen State → Seen (Unit {0})
-made seen = record { image = seen.image; index = seen.index; points = seen.points; input = seen.input; choice = seen.choice; state = tt }
+made seen = record {
+  image = seen.image;
+  index = seen.index;
+  points = seen.points;
+  input = seen.input;
+  choice = seen.choice;
+  state = tt;
+}
 
 -- for a run of a plan, with the line at this position selected, if one is, at this speedup
 abbrev pub made_for : Work → Option ℕ → ℕ → Seen (Unit {0})

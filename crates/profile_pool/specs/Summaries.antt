@@ -18,18 +18,26 @@ use Rattle.profile_pool.specs.Choices.{choice_of}
 
 -- the point and the hart in 2 bytes each and the net time in 8, low byte first
 abbrev pub visit_bytes : NetVisit → List ℕ
-visit_bytes visit = to_le_bytes w16 visit.point ++ to_le_bytes w16 visit.hart ++ to_le_bytes w64 visit.time
+visit_bytes visit =
+    to_le_bytes w16 visit.point ++ to_le_bytes w16 visit.hart ++ to_le_bytes w64 visit.time
 
 abbrev pub visits_bytes : List NetVisit → List ℕ
 visits_bytes visits = flat_map visit_bytes visits
 
 -- how many visits each point from 0 below k has
 abbrev pub counts_of : ℕ → List NetVisit → List ℕ
-counts_of k visits = map (λ point. count_by (λ (visit : NetVisit). visit.point == point) visits) (range_with_len 0 k)
+counts_of k visits =
+    map (λ point. count_by (λ (visit : NetVisit). visit.point == point) visits) (range_with_len 0 k)
 
 -- how the run of a record came out
 abbrev pub outcome_in : Record → Outcome
-outcome_in r = record { ending = r.ending; time = r.time; delay = r.delay; retired = r.retired; starts = r.starts }
+outcome_in r = record {
+  ending = r.ending;
+  time = r.time;
+  delay = r.delay;
+  retired = r.retired;
+  starts = r.starts;
+}
 
 -- of a run with so many points, whose selected line has that label
 unfoldable pub summary_of : List ℕ → ℕ → ℕ → Record → Summary
@@ -53,4 +61,5 @@ summary_in image index points input budget line speedup =
 -- the summary of the run of each pair, in the plan's order
 abbrev pub summaries_of : ImageParts → Index → Points → List ℕ → ℕ → List Experiment → List Summary
 summaries_of image index points input budget plan =
-    map (λ (pair : Experiment). summary_in image index points input budget pair.line.0 pair.speedup) plan
+    map (λ (pair : Experiment).
+    summary_in image index points input budget pair.line.0 pair.speedup) plan

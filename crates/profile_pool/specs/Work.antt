@@ -12,7 +12,9 @@ use Rattle.profile_pool.specs.Made.{made, made_for}
 
 -- the summary of the run of a pair
 abbrev pub summary_of_pair : Work → Experiment → Summary
-summary_of_pair work pair = summary_in work.image.now work.index.now work.points.now work.input.now work.budget pair.line.0 pair.speedup
+summary_of_pair work pair =
+    summary_in work.image.now work.index.now work.points.now work.input.now work.budget
+    pair.line.0 pair.speedup
 
 -- what the work of a claim gives: the summaries of the runs of the line at that place of the plan
 abbrev pub work_at : Work → ℕ → List Summary
@@ -24,4 +26,5 @@ pub record IsWork (work : Work) : Type 0 where
   pub some_budget : 1 ≤ work.budget
   pub few : work.budget ≤ 10 ^ 12
   pub first : made work.first.now ≡ made_for work (Some 0) 0
-  pub unbegun : work.first.now.state ≡ record { state = unbegun (experiment_of work.first.now); harts = 0 ∷ [] }
+  pub unbegun : work.first.now.state
+      ≡ record { state = unbegun (experiment_of work.first.now); harts = 0 ∷ [] }

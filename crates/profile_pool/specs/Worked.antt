@@ -1,4 +1,5 @@
--- What workers have: their seats, and the summaries of each claim. What the work of a claim is doesn't matter here: f is any.
+-- What workers have: their seats, and the summaries of each claim. What the work of a claim is
+-- doesn't matter here: f is any.
 use Rattle.std.specs.Prelude.{◌≡◌, ℕ, ◌+◌, nat_lt, nat_le, List, map, length, All}
 use Rattle.std.specs.List.{filter, count_by}
 use Rattle.coz_types.specs.declared.record.Summary.{Summary}
@@ -19,9 +20,10 @@ claims_in bound numbers = filter (λ n. nat_lt n bound) numbers
 abbrev pub past : ℕ → List ℕ → ℕ
 past bound numbers = count_by (λ n. nat_le bound n) numbers
 
--- Of some turns, spent or not: each claim that was drawn has its summaries, in the order of drawing, and so many draws met the bound.
--- It holds of a seat, and of seats that were joined.
-pub record Worked (f : ℕ → List Summary) (bound turns stops : ℕ) (h : Hand) (done : List Claimed) : Type 0 where
+-- Of some turns, spent or not: each claim that was drawn has its summaries, in the order
+-- of drawing, and so many draws met the bound. It holds of a seat, and of seats that were joined.
+pub record Worked (f : ℕ → List Summary) (bound turns stops : ℕ) (h : Hand)
+    (done : List Claimed) : Type 0 where
   pub all : h.turns + length h.numbers ≡ turns
   pub each : done ≡ map (claimed f) (claims_in bound h.numbers)
   pub stopped : past bound h.numbers ≡ stops

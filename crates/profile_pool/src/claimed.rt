@@ -70,13 +70,17 @@ fn run_pairs<'a>(
     machine: &mut Machine<'a>,
     pairs: &[Experiment],
 ) -> Result<Vec<Summary>, AllocError>
-    requires lines { All (λ (pair : Experiment). pair.line.0 < length work.now.index.now.lines) pairs.now }
+    requires lines { All (λ (pair : Experiment).
+        pair.line.0 < length work.now.index.now.lines) pairs.now }
     requires speedups { All (λ (pair : Experiment). pair.speedup ≤ GREATEST_SPEEDUP) pairs.now }
-    requires lead { All (λ (pair : Experiment). made lead.now ≡ made_for work.now (Some pair.line.0) 0) pairs.now }
+    requires lead { All (λ (pair : Experiment).
+        made lead.now ≡ made_for work.now (Some pair.line.0) 0) pairs.now }
     requires machine { IsFor work.now machine.old }
     ensures machine { IsFor work.now machine.new }
-    ensures summaries { IfOk result (λ summaries. summaries.items ≡ map (summary_of_pair work.now) pairs.now) }
-    ensures ranges { IfOk result (λ summaries. All (IsSummary (length work.now.points.now.lines)) summaries.items) }
+    ensures summaries { IfOk result (λ summaries.
+        summaries.items ≡ map (summary_of_pair work.now) pairs.now) }
+    ensures ranges { IfOk result (λ summaries.
+        All (IsSummary (length work.now.points.now.lines)) summaries.items) }
 {
     let mut summaries = Vec::with_capacity(alloc, pairs.len())?;
     for pair in pairs {
@@ -85,8 +89,8 @@ fn run_pairs<'a>(
     Ok(summaries)
 }
 
-/// What the work of a claim gives: the summary of the run of each pair of the line at that place of the plan.
-/// Only want of memory stands against it.
+/// What the work of a claim gives: the summary of the run of each pair of the line at that place
+/// of the plan. Only want of memory stands against it.
 pub fn summaries_at<'a>(
     alloc: Global,
     work: &Work<'a>,

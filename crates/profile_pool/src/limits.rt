@@ -19,7 +19,8 @@ pub fn choice(selected: Option<LineId>, speedup: u8, budget: u64) -> Choice
     requires speedup { speedup ≤ GREATEST_SPEEDUP }
     requires some_budget { 1 ≤ budget }
     requires few { budget ≤ 10 ^ 12 }
-    ensures choice { result ≡ choice_of (option_map (λ (line : LineId). line.0) selected) speedup budget }
+    ensures choice { result
+        ≡ choice_of (option_map (λ (line : LineId). line.0) selected) speedup budget }
     ensures within { IsChoice result }
 {
     Choice {

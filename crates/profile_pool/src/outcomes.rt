@@ -6,7 +6,8 @@ ghost use Rattle.virtual_run.specs.DelayedRun.{outcome_of, IsOfAHart, IsSmall};
 use coz_types::{Ending, Outcome};
 use virtual_run::Machine;
 
-/// The same ending. A trap is of one of `HARTS` harts, and the other numbers are within their types once they are read.
+/// The same ending. A trap is of one of `HARTS` harts, and the other numbers are within their types
+/// once they are read.
 fn in_range(ending: Ending) -> Ending
     requires { IsOfAHart ending }
     ensures same { result ≡ ending }

@@ -75,7 +75,8 @@ fn work_through<'a, G: Gate>(
     answer
 }
 
-/// A seat for each worker, with one turn more than there are claims, what it runs lines by, and the seat that is left.
+/// A seat for each worker, with one turn more than there are claims, what it runs lines by,
+/// and the seat that is left.
 fn deal<'a>(
     alloc: Global,
     work: &Work<'a>,
@@ -88,9 +89,12 @@ fn deal<'a>(
     requires seat { IsSeatOf claims.now first × (hand_of first ≡ hand (2 ^ 40) []) }
     requires bound { bound ≡ bound_of claims.now }
     requires workers { workers ≤ 16 }
-    ensures rest { IfOk result (λ dealt. IsSeatOf claims.now dealt.0 × ((hand_of dealt.0).numbers ≡ [])) }
-    ensures turns { IfOk result (λ dealt. (hand_of dealt.0).turns + workers * (bound + 1) ≡ 2 ^ 40) }
-    ensures jobs { IfOk result (λ dealt. (vec_len dealt.1 ≡ workers) × All (IsJob work.now claims.now) dealt.1.items) }
+    ensures rest { IfOk result (λ dealt.
+        IsSeatOf claims.now dealt.0 × ((hand_of dealt.0).numbers ≡ [])) }
+    ensures turns { IfOk result (λ dealt.
+        (hand_of dealt.0).turns + workers * (bound + 1) ≡ 2 ^ 40) }
+    ensures jobs { IfOk result (λ dealt.
+        (vec_len dealt.1 ≡ workers) × All (IsJob work.now claims.now) dealt.1.items) }
 {
     let turns = u64::from(bound) + 1;
     let mut seat = first;
@@ -119,13 +123,15 @@ fn run_jobs<'a, R: Threads + Sync, G: Gate>(
     requires work { IsWork work.now × (bound_of claims.now ≡ length (by_line work.now.plan.now)) }
     requires jobs { All (IsJob work.now claims.now) jobs.items }
     ensures len { IfOk result (λ answers. vec_len answers ≡ vec_len jobs.entry) }
-    ensures each { IfOk result (λ answers. All (λ r. IfOk r (IsAnswer work.now claims.now)) answers.items) }
+    ensures each { IfOk result (λ answers.
+        All (λ r. IfOk r (IsAnswer work.now claims.now)) answers.items) }
 {
     thread::map_vec(
         rt,
         jobs,
         &|job: Job| -> Result<Answer, AllocError>
-            requires { IsWork work.now × (bound_of claims.now ≡ length (by_line work.now.plan.now)) × IsJob work.now claims.now job }
+            requires { IsWork work.now × (bound_of claims.now ≡ length (by_line work.now.plan.now))
+                × IsJob work.now claims.now job }
             ensures { IfOk result (IsAnswer work.entry.now claims.entry.now) }
         { work_through(alloc, work, claims, job, gate) },
     )
@@ -143,8 +149,10 @@ fn gather(
     requires answers { All (λ r. IfOk r (IsAnswer work.now claims.now)) answers.items }
     ensures seat { IfOk result (λ a. IsSeatOf claims.now a.seat) }
     ensures worked { IfOk result (λ a. Worked (work_at work.now) (bound_of claims.now)
-        ((hand_of rest).turns + vec_len answers * (bound_of claims.now + 1)) (vec_len answers) (hand_of a.seat) a.done.items) }
-    ensures ranges { IfOk result (λ a. AreSummaries (length work.now.points.now.lines) a.done.items) }
+        ((hand_of rest).turns + vec_len answers * (bound_of claims.now + 1)) (vec_len answers)
+        (hand_of a.seat) a.done.items) }
+    ensures ranges { IfOk result (λ a.
+        AreSummaries (length work.now.points.now.lines) a.done.items) }
 {
     let mut seat = rest;
     let mut done = Vec::with_capacity(alloc, work.plan.line_count() as usize)?;
@@ -188,8 +196,10 @@ fn run_lines<'a, R: Threads + Sync, G: Gate>(
     requires work { IsWork work.now }
     requires some_workers { 1 ≤ workers }
     requires few_workers { workers ≤ 16 }
-    ensures summaries { IfOk result (λ summaries. summaries.items ≡ map (summary_of_pair work.now) work.now.plan.now) }
-    ensures ranges { IfOk result (λ summaries. All (IsSummary (length work.now.points.now.lines)) summaries.items) }
+    ensures summaries { IfOk result (λ summaries.
+        summaries.items ≡ map (summary_of_pair work.now) work.now.plan.now) }
+    ensures ranges { IfOk result (λ summaries.
+        All (IsSummary (length work.now.points.now.lines)) summaries.items) }
 {
     let bound = work.plan.line_count();
     let (claims, first) = Claims::new(alloc, bound)?;
@@ -200,8 +210,9 @@ fn run_lines<'a, R: Threads + Sync, G: Gate>(
     in_order(alloc, done)
 }
 
-/// The summary of the run of each pair of a plan, in the plan's order, whatever the number of workers and the gate.
-/// Only want of memory stands against it, after which the workers that are left work to their end.
+/// The summary of the run of each pair of a plan, in the plan's order, whatever the number
+/// of workers and the gate. Only want of memory stands against it, after which the workers
+/// that are left work to their end.
 pub fn run_plan<R: Threads + Sync, G: Gate>(
     rt: &R,
     alloc: Global,
@@ -219,8 +230,10 @@ pub fn run_plan<R: Threads + Sync, G: Gate>(
     requires few { budget ≤ 10 ^ 12 }
     requires some_workers { 1 ≤ workers }
     requires few_workers { workers ≤ 16 }
-    ensures summaries { IfOk result (λ summaries. summaries.items ≡ summaries_of image.now index.now points.now input.now budget plan.now) }
-    ensures ranges { IfOk result (λ summaries. All (IsSummary (length points.now.lines)) summaries.items) }
+    ensures summaries { IfOk result (λ summaries.
+        summaries.items ≡ summaries_of image.now index.now points.now input.now budget plan.now) }
+    ensures ranges { IfOk result (λ summaries.
+        All (IsSummary (length points.now.lines)) summaries.items) }
 {
     let choice = choice(Some(LineId(0)), 0, budget);
     let lead = Lead::new(alloc, image, index, points, input, choice)?;

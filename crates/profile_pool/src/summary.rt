@@ -17,8 +17,9 @@ use progress_points::Points;
 use std::alloc::{AllocError, Global};
 use virtual_run::Machine;
 
-/// What a profile keeps of a run that has ended, of a machine that was made with these points: its outcome, its output and
-/// visits as digests, and how often each point was visited. Only want of memory stands against it.
+/// What a profile keeps of a run that has ended, of a machine that was made with these points:
+/// its outcome, its output and visits as digests, and how often each point was visited.
+/// Only want of memory stands against it.
 pub fn summarise(
     alloc: Global,
     machine: &Machine,
@@ -28,9 +29,12 @@ pub fn summarise(
 ) -> Result<Summary, AllocError>
     requires points { machine.now.points ≡ points.now }
     requires ended { IsSome machine.now.state.ending }
-    ensures summary { (ending : Ending) → machine.now.state.ending ≡ Some ending → IfOk result (λ summary. summary ≡
-        summary_of label.now speedup (length points.now.lines) (record_of (experiment_of machine.now) machine.now.state ending)) }
-    ensures ranges { is_label label.now ≡ true → speedup ≤ GREATEST_SPEEDUP → IfOk result (IsSummary (length points.now.lines)) }
+    ensures summary { (ending : Ending) → machine.now.state.ending ≡ Some ending
+        → IfOk result (λ summary. summary ≡
+        summary_of label.now speedup (length points.now.lines)
+        (record_of (experiment_of machine.now) machine.now.state ending)) }
+    ensures ranges { is_label label.now ≡ true → speedup ≤ GREATEST_SPEEDUP
+        → IfOk result (IsSummary (length points.now.lines)) }
 {
     let visits = machine.visits();
     let output = machine.output();

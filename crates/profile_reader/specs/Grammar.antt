@@ -79,7 +79,10 @@ number_in kind item = digits_value 10 (value_in kind item)
 -- the value of the latest field of this kind
 abbrev pub latest : BookField → Before → Option Text
 latest kind [] = None
-latest kind (item ∷ before) = elim (is_kind kind item.0) [ true ↦ Some (value_in kind item.1) | false ↦ latest kind before ]
+latest kind (item ∷ before) = elim (is_kind kind item.0) [
+  | true ↦ Some (value_in kind item.1)
+  | false ↦ latest kind before
+]
 
 abbrev pub latest_number : BookField → Before → ℕ
 latest_number kind before = digits_value 10 (unwrap_or (latest kind before) [])
@@ -90,7 +93,10 @@ point_count before = latest_number Points before
 -- the names so far
 abbrev pub names_in : Before → ℕ
 names_in [] = 0
-names_in (item ∷ before) = elim (is_kind Name item.0) [ true ↦ suc (names_in before) | false ↦ names_in before ]
+names_in (item ∷ before) = elim (is_kind Name item.0) [
+  | true ↦ suc (names_in before)
+  | false ↦ names_in before
+]
 
 -- the counts so far in this block
 abbrev pub counts_in : Before → ℕ
@@ -106,7 +112,8 @@ abbrev pub point_or_block : Before → BookField
 point_or_block before = if nat_lt (names_in before) (point_count before) then Point else Experiment
 
 abbrev pub count_or_visits : Before → BookField
-count_or_visits before = if nat_lt (counts_in before) (point_count before) then Throughput else Visits
+count_or_visits before =
+    if nat_lt (counts_in before) (point_count before) then Throughput else Visits
 
 -- behind a newline, by the item before it and the items before that
 abbrev pub line_after : BookField → Before → BookField
@@ -116,8 +123,8 @@ line_after Digest (digest ∷ item ∷ before) =
     if is_kind Length item.0 then count_or_visits (digest ∷ item ∷ before) else Experiment
 line_after kind before = point_or_block before
 
--- the kind of the next item: by the latest kinds, and, where a line may come again, by how many points, names and
--- counts there are
+-- the kind of the next item: by the latest kinds, and, where a line may come again,
+-- by how many points, names and counts there are
 abbrev pub expected : Before → BookField
 expected [] = Head
 expected ((Newline, text) ∷ item ∷ before) = line_after item.0 (item ∷ before)
@@ -169,21 +176,24 @@ abbrev pub not_before : Option Text → Text → Bool
 not_before None label = true
 not_before (Some last) label = label_before last label || bytes_eq last label
 
--- a speedup that is greater than that of the block before, unless the label comes after that block's
+-- a speedup that is greater than that of the block before, unless the label comes
+-- after that block's
 abbrev pub goes_on : Option Text → ℕ → Text → ℕ → Bool
 goes_on None least label speedup = true
 goes_on (Some last) least label speedup = label_before last label || nat_lt least speedup
 
 -- the field with a label of which this holds
 abbrev pub has_label : BookField → (Text → Bool) → Text → Bool
-has_label kind passes item = is_field kind item && (is_label (value_in kind item) && passes (value_in kind item))
+has_label kind passes item =
+    is_field kind item && (is_label (value_in kind item) && passes (value_in kind item))
 
 -- the speedup, behind the block's label, after the blocks before
 abbrev pub has_speedup : Before → Text → Bool
 has_speedup [] item = false
 has_speedup (label ∷ before) item =
     has_number Speedup GREATEST_SPEEDUP item
-    && goes_on (latest Selected before) (latest_number Speedup before) (value_in Selected label.1) (number_in Speedup item)
+    && goes_on (latest Selected before) (latest_number Speedup before) (value_in Selected label.1)
+    (number_in Speedup item)
 
 -- the item is a spelling of this kind, after the items before it
 abbrev pub is_right : BookField → Before → Text → Bool
@@ -227,7 +237,8 @@ fault kind before = record { field = kind; place = size before }
 
 -- the first item that isn't right after those before it, or the one that is missing
 abbrev pub first_fault : Before → List Text → Option BookFault
-first_fault before [] = if may_end (expected before) then None else Some (fault (expected before) before)
+first_fault before [] =
+    if may_end (expected before) then None else Some (fault (expected before) before)
 first_fault before (item ∷ items) = elim (is_right (expected before) before item) [
   | true ↦ first_fault ((expected before, item) ∷ before) items
   | false ↦ Some (fault (expected before) before)

@@ -1,4 +1,5 @@
--- Reading a profile off a list of items, from left to right, by what a reader keeps: the values so far.
+-- Reading a profile off a list of items, from left to right, by what a reader keeps:
+-- the values so far.
 use Rattle.std.specs.Prelude.{◌≡◌, ℕ, zero, suc, ◌+◌, ◌-◌, ◌*◌, Bool, true, false, ◌&&◌, List, [], ◌∷◌, length, drop, codes, Option, Some, None, option_map, unwrap_or, Result, Ok, Err, nat_lt, ◌==◌, if◌then◌else◌}
 use Rattle.std.specs.Str.{bytes_eq}
 use Rattle.std.specs.Str.Parse.{digits_value}
@@ -27,12 +28,14 @@ pub record Ahead : Type 0 where
   pub items : List Text
   pub place : ℕ
 
-unfoldable pub bind : {A B : Type 0} → Result A BookFault → (A → Result B BookFault) → Result B BookFault
+unfoldable pub bind : {A B : Type 0} → Result A BookFault
+    → (A → Result B BookFault) → Result B BookFault
 bind (Ok x) f = f x
 bind (Err e) f = Err e
 
 infixl 10 ◌>>=◌
-abbrev pub ◌>>=◌ : {A B : Type 0} → Result A BookFault → (A → Result B BookFault) → Result B BookFault
+abbrev pub ◌>>=◌ : {A B : Type 0} → Result A BookFault
+    → (A → Result B BookFault) → Result B BookFault
 r >>= f = bind r f
 
 -- what a function returned, seen by view, is what reading gives, unless memory ran out
@@ -64,7 +67,8 @@ judged true kind x a = Ok (x, past a)
 judged false kind x a = Err (record { field = kind; place = a.place })
 
 -- the value of the next item, if it passes
-abbrev pub item_at : {X : Type 0} → BookField → (Text → Bool) → (Text → X) → Ahead → Result (X × Ahead) BookFault
+abbrev pub item_at : {X : Type 0} → BookField → (Text → Bool) → (Text → X) → Ahead
+    → Result (X × Ahead) BookFault
 item_at kind passes value a = judged (passes (next a.items)) kind (value (next a.items)) a
 
 unfoldable pub word_at : BookField → Text → Ahead → Result (Unit {0} × Ahead) BookFault
@@ -78,7 +82,8 @@ label_at kind passes a = item_at kind (has_label kind passes) (value_in kind) a
 
 -- the speedup of a block with this label, behind a block with that label and speedup
 abbrev pub is_speedup : Option Text → ℕ → Text → Text → Bool
-is_speedup last least label item = has_number Speedup GREATEST_SPEEDUP item && goes_on last least label (number_in Speedup item)
+is_speedup last least label item =
+    has_number Speedup GREATEST_SPEEDUP item && goes_on last least label (number_in Speedup item)
 
 unfoldable pub speedup_at : Option Text → ℕ → Text → Ahead → Result (ℕ × Ahead) BookFault
 speedup_at last least label a = item_at Speedup (is_speedup last least label) (number_in Speedup) a
@@ -97,9 +102,14 @@ ending_in_parts (word ∷ []) =
     else (if bytes_eq word (codes "output-full") then OutputFull
     else (if bytes_eq word (codes "visits-full") then VisitsFull else Clock)))
 ending_in_parts (word ∷ n ∷ []) =
-    if bytes_eq word (codes "exited") then Exited (digits_value 10 n) else Unsupported (digits_value 10 n)
+    if bytes_eq word (codes "exited") then Exited (digits_value 10 n)
+    else Unsupported (digits_value 10 n)
 ending_in_parts (word ∷ cause ∷ hart ∷ pc ∷ []) =
-    Trapped (record { cause = cause_in cause; hart = record { 0 = digits_value 10 hart }; pc = digits_value 16 (drop 2 pc) })
+    Trapped (record {
+      cause = cause_in cause;
+      hart = record { 0 = digits_value 10 hart };
+      pc = digits_value 16 (drop 2 pc);
+    })
 ending_in_parts _ = Spent
 
 abbrev pub ending_in : Text → Ending
@@ -107,7 +117,8 @@ ending_in text = ending_in_parts (slice_split (λ b. b == 58) text)
 
 unfoldable pub ending_at : Ahead → Result (Ending × Ahead) BookFault
 ending_at a =
-    item_at End (λ item. is_field End item && is_ending_text (value_in End item)) (λ item. ending_in (value_in End item)) a
+    item_at End (λ item. is_field End item && is_ending_text (value_in End item))
+    (λ item. ending_in (value_in End item)) a
 
 abbrev pub lower_value : ℕ → ℕ
 lower_value b = if nat_lt b 97 then b - 48 else b - 87
@@ -119,7 +130,8 @@ bytes_in _ = []
 
 unfoldable pub digest_at : Ahead → Result (List ℕ × Ahead) BookFault
 digest_at a =
-    item_at Digest (λ item. is_field Digest item && is_digest (value_in Digest item)) (λ item. bytes_in (value_in Digest item)) a
+    item_at Digest (λ item. is_field Digest item && is_digest (value_in Digest item))
+    (λ item. bytes_in (value_in Digest item)) a
 
 -- ---- lines
 
@@ -178,7 +190,16 @@ outcome_at a = do
   retired ← number_at Retired most delay.1
   starts ← number_at Starts most retired.1
   end ← word_at Newline (codes "\n") starts.1
-  Ok (record { ending = ending.0; time = time.0; delay = delay.0; retired = retired.0; starts = starts.0 }, end.1)
+  Ok (
+    record {
+      ending = ending.0;
+      time = time.0;
+      delay = delay.0;
+      retired = retired.0;
+      starts = starts.0;
+    },
+    end.1,
+  )
 
 unfoldable pub selection_at : Option Summary → Ahead → Result ((Text × ℕ) × Ahead) BookFault
 selection_at last a = do

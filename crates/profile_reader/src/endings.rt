@@ -25,7 +25,8 @@ fn cut(text: &[u8]) -> (&[u8], Option<&[u8]>)
 }
 
 fn plain(word: &[u8]) -> Option<Ending>
-    ensures { Tells (λ e. e) (ending_parts (word.now ∷ [])) (ending_in_parts (word.now ∷ [])) result }
+    ensures { Tells (λ e. e) (ending_parts (word.now ∷ []))
+        (ending_in_parts (word.now ∷ [])) result }
 {
     if word == b"stalled".as_slice() {
         Some(Ending::Stalled)

@@ -91,7 +91,8 @@ pub fn speedup<'a>(
     label: &[u8],
 ) -> Result<(u8, Cursor<'a>), BookError>
     ensures { Gives (λ x. (x.0, ahead x.1)) result
-        (speedup_at (selected_of (option_copied last.entry)) (speedup_of (option_copied last.entry)) label.now
+        (speedup_at (selected_of (option_copied last.entry))
+        (speedup_of (option_copied last.entry)) label.now
         (ahead at.entry)) }
 {
     let (word, next) = item(at);

@@ -79,7 +79,8 @@ fn is_written(path: &[u8]) -> bool
 
 fn last_colon(label: &[u8]) -> Option<usize>
     ensures { MatchOption result (parts_of label.now ≡ None) (λ i.
-        (i < length label.now) × (parts_of label.now ≡ Some (take i label.now, drop (i + 1) label.now))) }
+        (i < length label.now)
+        × (parts_of label.now ≡ Some (take i label.now, drop (i + 1) label.now))) }
 {
     for i in (0..label.len()).rev() {
         if label[i] == b':' {

@@ -36,7 +36,8 @@ pub fn name_line<'a>(
     number: u64,
     last: Option<&Label>,
 ) -> Result<(&'a [u8], Cursor<'a>), BookError>
-    ensures { Gives (λ x. (x.0.now, ahead x.1)) result (name_at number (option_copied last.entry) (ahead at.entry)) }
+    ensures { Gives (λ x. (x.0.now, ahead x.1)) result
+        (name_at number (option_copied last.entry) (ahead at.entry)) }
 {
     let at = word(at, BookField::Point, b"point")?;
     let at = index(at, number)?;

@@ -55,7 +55,8 @@ pub fn block<'a>(
     at: Cursor<'a>,
     last: Option<&Summary>,
 ) -> Result<(Summary, Cursor<'a>), BookError>
-    ensures { Gives (λ x. (x.0, ahead x.1)) result (block_at points (option_copied last.entry) (ahead at.entry)) }
+    ensures { Gives (λ x. (x.0, ahead x.1)) result
+        (block_at points (option_copied last.entry) (ahead at.entry)) }
 {
     let ((label, speedup), at) = selection(at, last)?;
     let (outcome, at) = outcome(at)?;

@@ -28,7 +28,8 @@ pub fn not_before(last: Option<&Summary>, label: &[u8]) -> bool
 
 /// Whether a speedup may stand behind this label, after the last block.
 pub fn goes_on(last: Option<&Summary>, label: &[u8], speedup: u64) -> bool
-    ensures { result ≡ goes_on (selected_of (option_copied last.entry)) (speedup_of (option_copied last.entry))
+    ensures { result
+        ≡ goes_on (selected_of (option_copied last.entry)) (speedup_of (option_copied last.entry))
         label.now speedup }
 {
     match last {

@@ -45,7 +45,8 @@ pub fn value(item: &[u8], kind: BookField) -> Option<&[u8]>
 /// The number of the field.
 /// None where the item is no such field, or its value no number of at most so much.
 pub fn number_of(item: &[u8], kind: BookField, most: u64) -> Option<u64>
-    ensures value { Tells (λ n. n) (has_number kind most item.now) (number_in kind item.now) result }
+    ensures value { Tells (λ n. n) (has_number kind most item.now)
+        (number_in kind item.now) result }
     ensures within { IfSome result (λ n. n ≤ most) }
 {
     let text = value(item, kind)?;

@@ -7,8 +7,8 @@ use std::thread::Threads;
 
 const ONE: &[u8] =
     b"end exited:0\ntime 4200\ndelay 0\nnet 4200\nretired 3\nstarts 0\nhart 0 own 0 paused 0 credited 0\noutput 0\n\n";
-/// Line tables of 13 bytes, and the lines of their faults: the beginning of a unit whose header says that it is longer,
-/// and one of the form of 64 bits.
+/// Line tables of 13 bytes, and the lines of their faults: the beginning of a unit whose header
+/// says that it is longer, and one of the form of 64 bits.
 static TABLES: [([u8; 13], &[u8]); 2] = [
     (
         [9, 0, 0, 0, 4, 0, 0x1B, 0, 0, 0, 4, 1, 1],
@@ -74,8 +74,8 @@ fn a_run_ends_as_its_output_is_full(rt: HostRuntime) -> Result<(), Fail> {
     );
     Ok(())
 }
-/// Programs of one hart and of two, one that traps, and four whose harts wait: for nobody, for an exit, for a wake,
-/// and each for the other.
+/// Programs of one hart and of two, one that traps, and four whose harts wait: for nobody,
+/// for an exit, for a wake, and each for the other.
 static LINED: [(&str, &[u8]); 7] = [
     ("d/one.s", ONE_SOURCE),
     (
@@ -153,7 +153,8 @@ const PLANNED: &[u8] =
 const SPENT_RUNS: &[u8] =
     b"coz-ticks\tversion=1\tbudget=2\tpoints=0\nexperiment\tselected=d/one.s:1\tspeedup=0\tend=spent\ttime=200\tdelay=0\tretired=2\tstarts=1\noutput\tlength=0\tsha256=e3b0c44298fc1c149afbf4c8996fb92427ae41e4649b934ca495991b7852b855\nvisits\tsha256=e3b0c44298fc1c149afbf4c8996fb92427ae41e4649b934ca495991b7852b855\nexperiment\tselected=d/one.s:1\tspeedup=50\tend=spent\ttime=200\tdelay=50\tretired=2\tstarts=1\noutput\tlength=0\tsha256=e3b0c44298fc1c149afbf4c8996fb92427ae41e4649b934ca495991b7852b855\nvisits\tsha256=e3b0c44298fc1c149afbf4c8996fb92427ae41e4649b934ca495991b7852b855\n";
 
-/// Words about these programs, and what they come to: the status, the output and the line of the fault.
+/// Words about these programs, and what they come to: the status, the output
+/// and the line of the fault.
 static NAMED: [(&[&str], u8, &[u8], &[u8]); 24] = [
     (&["lines", "d/one"], 0, ONE_LINES, b""),
     (&["lines", "five"], 0, ONE_LINES, b""),

@@ -5,9 +5,10 @@ use std::alloc::AllocError;
 use std::test::Fail;
 use std::thread::Threads;
 
-/// Programs of one hart that sleeps, that asks for a moment which is too late, and that reads the clock; and of two: one
-/// sleeps beside another that works; for no time beside another that is due at the same moment, the first in number and
-/// the second; one leaves while the other sleeps; both sleep; one wakes nobody and ends the run while the other sleeps.
+/// Programs of one hart that sleeps, that asks for a moment which is too late,
+/// and that reads the clock; and of two: one sleeps beside another that works; for no time
+/// beside another that is due at the same moment, the first in number and the second; one leaves
+/// while the other sleeps; both sleep; one wakes nobody and ends the run while the other sleeps.
 static SLEEPERS: [(&str, &[u8]); 9] = [
     (
         "nap.s",

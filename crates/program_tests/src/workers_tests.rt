@@ -19,8 +19,8 @@ const PC_BEGINNING: [u8; 32] = [
     0xD5, 0x0E, 0xDB, 0x14, 0x9A, 0xAD, 0x76, 0x0E, 0x80, 0x79, 0xB2, 0xAA, 0x61, 0xEB, 0x0E, 0x80,
 ];
 
-/// What a profile of three lines of `pc` comes to, over a sink with so much room: the status, the length of the output and
-/// its SHA-256, and the line of the fault.
+/// What a profile of three lines of `pc` comes to, over a sink with so much room: the status,
+/// the length of the output and its SHA-256, and the line of the fault.
 static PC_PROFILES: [(&str, u64, u8, usize, [u8; 32], &[u8]); 4] = [
     ("1", 100000, 0, 18018, PC_PROFILE, b""),
     ("2", 100000, 0, 18018, PC_PROFILE, b""),
@@ -59,7 +59,8 @@ fn any_number_of_workers_prints_the_same(rt: HostRuntime) -> Result<(), Fail> {
     Ok(())
 }
 
-/// Holds one claim until so many others were made, for a bounded number of turns, each one look and one yield.
+/// Holds one claim until so many others were made, for a bounded number of turns,
+/// each one look and one yield.
 #[derive(Drop)]
 struct HoldingGate {
     held: u32,
@@ -111,7 +112,8 @@ const TWO_WORDS: [&str; 4] = [
     "--speedups=0",
 ];
 
-/// By how many workers, which claim is held until how many others were made, for how many turns, and whether they are.
+/// By how many workers, which claim is held until how many others were made, for how many turns,
+/// and whether they are.
 static GATES: [([&str; 4], &str, u32, u64, u32, bool); 5] = [
     (PC_WORDS, "--workers=2", 0, 1, 10_000_000, true),
     (TWO_WORDS, "--workers=2", 0, 2, 10_000_000, true),

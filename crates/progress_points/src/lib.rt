@@ -1,4 +1,5 @@
-//! Progress points: whenever a hart retires at an entry address of a progress line, that line's point is visited.
+//! Progress points: whenever a hart retires at an entry address of a progress line,
+//! that line's point is visited.
 #![tactic(auto)]
 
 mod marks;
@@ -42,10 +43,11 @@ impl<T: Drop> From<AllocFailed<T>> for PointsError {
     }
 }
 
-/// Progress points: lines whose entry addresses are counted. A point's number is the position of its line.
+/// Progress points: lines whose entry addresses are counted. A point's number is
+/// the position of its line.
 ///
-/// After C. Curtsinger and E. D. Berger, "Coz: finding code that counts with causal profiling", SOSP 2015.
-/// Beside their making no call takes memory.
+/// After C. Curtsinger and E. D. Berger, "Coz: finding code that counts with causal profiling",
+/// SOSP 2015. Beside their making no call takes memory.
 #[derive(Drop)]
 pub struct Points {
     lines: Vec<LineId>,
@@ -65,11 +67,12 @@ impl Model for Points {
 }
 
 impl Points {
-    /// The points of these lines. An address that is an entry of several of them has the point of the first.
-    /// Err tells that there are more than 64, or want of memory.
+    /// The points of these lines. An address that is an entry of several of them has the point
+    /// of the first. Err tells that there are more than 64, or want of memory.
     pub fn new(alloc: Global, index: &LineIndex, lines: &[LineId]) -> Result<Points, PointsError>
         requires { All (λ (line : LineId). line.0 < length index.now.lines) lines.now }
-        ensures { MatchResult result (IsPoints index.now (ids lines.now)) (IsFault (length lines.now)) }
+        ensures { MatchResult result (IsPoints index.now (ids lines.now))
+            (IsFault (length lines.now)) }
     {
         if lines.len() > MOST_LINES {
             return Err(PointsError::TooMany(lines.len() as u64));

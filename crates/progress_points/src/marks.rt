@@ -40,7 +40,8 @@ fn marks_by_line(
 ) -> Result<Vec<Mark>, AllocError>
     requires below { All (λ (line : LineId). line.0 < length index.now.lines) lines.now }
     requires few { length lines.now ≤ 64 }
-    ensures { IfOk result (λ marks. (a : ℕ) → first_point a marks.items ≡ point_in index.now.entries (ids lines.now) a) }
+    ensures { IfOk result (λ marks.
+        (a : ℕ) → first_point a marks.items ≡ point_in index.now.entries (ids lines.now) a) }
 {
     let mut marks = Vec::new(alloc);
     for (point, line) in lines.iter().enumerate() {
@@ -49,13 +50,15 @@ fn marks_by_line(
     Ok(marks)
 }
 
-/// The marks of these lines in the order of their addresses, and those of one address in the order of the lines.
-/// Only want of memory stands against it.
+/// The marks of these lines in the order of their addresses, and those of one address in the order
+/// of the lines. Only want of memory stands against it.
 pub fn marks_of(alloc: Global, index: &LineIndex, lines: &[LineId]) -> Result<Vec<Mark>, AllocError>
     requires below { All (λ (line : LineId). line.0 < length index.now.lines) lines.now }
     requires few { length lines.now ≤ 64 }
-    ensures in_order { IfOk result (λ marks. IsNonDecreasingBy (λ (mark : Mark). mark.address) marks.items) }
-    ensures points { IfOk result (λ marks. (a : ℕ) → first_point a marks.items ≡ point_in index.now.entries (ids lines.now) a) }
+    ensures in_order { IfOk result (λ marks.
+        IsNonDecreasingBy (λ (mark : Mark). mark.address) marks.items) }
+    ensures points { IfOk result (λ marks.
+        (a : ℕ) → first_point a marks.items ≡ point_in index.now.entries (ids lines.now) a) }
 {
     let mut marks = marks_by_line(alloc, index, lines)?;
     marks.sort_by_key(|mark| mark.address)?;
@@ -65,7 +68,8 @@ pub fn marks_of(alloc: Global, index: &LineIndex, lines: &[LineId]) -> Result<Ve
 /// How many marks stand below an address.
 fn place_of(marks: &[Mark], address: Address) -> usize
     requires { IsNonDecreasingBy (λ (mark : Mark). mark.address) marks.now }
-    ensures { IsPartitionPoint (λ mark. mark.address < address) (λ mark. address ≤ mark.address) marks.now result }
+    ensures { IsPartitionPoint (λ mark. mark.address < address)
+        (λ mark. address ≤ mark.address) marks.now result }
 {
     marks.partition_point(|mark| mark.address < address)
 }

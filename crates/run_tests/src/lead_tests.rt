@@ -64,7 +64,8 @@ fn source_of(guest: Guest) -> &'static [u8] {
     }
 }
 
-/// A program, one of its lines and a budget; what the lead of that line answers, and how many starts a run counts.
+/// A program, one of its lines and a budget; what the lead of that line answers,
+/// and how many starts a run counts.
 type Row = (Guest, u32, u64, Option<Ending>, u64);
 
 static ROWS: [Row; 14] = [
@@ -138,7 +139,8 @@ fn step_to_the_end(machine: &mut Machine)
     }
 }
 
-/// Whether a fork of a lead that is stepped, and then one that is run, come out as a machine that is made so.
+/// Whether a fork of a lead that is stepped, and then one that is run, come out
+/// as a machine that is made so.
 fn forks_as<'a>(lead: &Lead<'a>, machine: &mut Machine<'a>, made: &Machine<'a>, speedup: u8) -> bool
     requires speedup { speedup ≤ 95 }
     requires arguments { arguments machine.old ≡ arguments lead.now }
@@ -184,7 +186,8 @@ fn run_of<'a>(
     Machine::new(alloc, image, index, points, b"", choice)
 }
 
-/// Whether both forks of a lead at a speedup come out as a machine that is made for it, with so many starts.
+/// Whether both forks of a lead at a speedup come out as a machine that is made for it,
+/// with so many starts.
 fn forks_at<'a>(
     alloc: Global,
     program: &Program<'a>,
@@ -235,10 +238,12 @@ fn forks_at_each<'a>(
     Ok(at_0 && at_50 && at_95)
 }
 
-/// Runs a lead of some line, makes it that of another one, and gives what it answers then, if it answers that twice.
+/// Runs a lead of some line, makes it that of another one, and gives what it answers then,
+/// if it answers that twice.
 fn answer_of<'a>(lead: &mut Lead<'a>, first: &Lead<'a>, line: LineId) -> Option<Option<Ending>>
     requires arguments { arguments lead.old ≡ arguments first.now }
-    requires unbegun { first.now.state ≡ record { state = unbegun (experiment_of first.now); harts = 0 ∷ [] } }
+    requires unbegun { first.now.state
+        ≡ record { state = unbegun (experiment_of first.now); harts = 0 ∷ [] } }
     ensures { arguments lead.new ≡ arguments first.now }
 {
     lead.run();
@@ -258,8 +263,8 @@ fn with_line(choice: Choice, line: LineId) -> Choice
     }
 }
 
-/// Whether a lead that was made as the first answers as the row says, once it is that of the row's line, and its forks come
-/// out right.
+/// Whether a lead that was made as the first answers as the row says, once it is that of the row's
+/// line, and its forks come out right.
 fn holds<'a>(
     alloc: Global,
     program: &Program<'a>,
@@ -272,7 +277,8 @@ fn holds<'a>(
     requires choice { IsChoice choice }
     requires arguments { arguments lead.old ≡ arguments first.now }
     requires machine { arguments machine.old ≡ arguments first.now }
-    requires unbegun { first.now.state ≡ record { state = unbegun (experiment_of first.now); harts = 0 ∷ [] } }
+    requires unbegun { first.now.state
+        ≡ record { state = unbegun (experiment_of first.now); harts = 0 ∷ [] } }
     requires line { 1 ≤ row.now.1 }
 {
     let line = LineId(row.1 - 1);
@@ -300,7 +306,8 @@ fn leads_from<'a>(
       choice = record choice { selected = None; speedup = 0 };
       state = tt;
     } }
-    requires unbegun { first.now.state ≡ record { state = unbegun (experiment_of first.now); harts = 0 ∷ [] } }
+    requires unbegun { first.now.state
+        ≡ record { state = unbegun (experiment_of first.now); harts = 0 ∷ [] } }
     requires line { 1 ≤ row.now.1 }
 {
     let Program {
@@ -324,7 +331,8 @@ fn leads_from<'a>(
     }
 }
 
-/// Whether the lead of the row's line answers so, and its forks come out right. The choice has another line.
+/// Whether the lead of the row's line answers so, and its forks come out right.
+/// The choice has another line.
 fn leads_so<'a>(
     alloc: Global,
     image: &'a Image<'a>,

@@ -1,4 +1,6 @@
--- What instructions compute (RISC-V unprivileged manual, chapters RV32I, RV64I, M and A). A register holds a number below 2 ^ 64. An operation is given for numbers of k bits, which are below 2 ^ k.
+-- What instructions compute (RISC-V unprivileged manual, chapters RV32I, RV64I, M and A).
+-- A register holds a number below 2 ^ 64. An operation is given for numbers of k bits,
+-- which are below 2 ^ k.
 use Rattle.std.specs.Prelude.{ℕ, ◌+◌, ◌-◌, ◌*◌, ◌/◌, ◌%◌, ◌^◌, Bool, true, false, not, if◌then◌else◌, nat_lt, nat_le, ◌==◌, min, max, ℤ, pos, ◌*ℤ◌, int_lt, int_div, int_rem, bit_and, bit_or, bit_xor}
 use Rattle.std.specs.Int.{int_shr, int_min, int_max}
 use Rattle.rv_decode.specs.declared.UpperOp.{UpperOp}
@@ -154,4 +156,5 @@ atomic_result Sc k old b = b
 
 -- what it stores at the width of its form: of the low halves at the narrow one
 abbrev pub stored_result : AtomicOp → Bool → ℕ → ℕ → ℕ
-stored_result op wide old b = if wide then atomic_result op 64 old b else atomic_result op 32 (low_half old) (low_half b)
+stored_result op wide old b =
+    if wide then atomic_result op 64 old b else atomic_result op 32 (low_half old) (low_half b)

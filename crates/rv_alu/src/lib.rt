@@ -1,7 +1,8 @@
 //! What instructions compute: the operations of RV64IMA on the values of registers.
 //!
-//! The RISC-V unprivileged manual has them in its chapters RV32I ("Integer Computational Instructions",
-//! "Conditional Branches"), RV64I, M and A. A register holds 64 bits, and no operation traps.
+//! The RISC-V unprivileged manual has them in its chapters RV32I ("Integer Computational
+//! Instructions", "Conditional Branches"), RV64I, M and A. A register holds 64 bits,
+//! and no operation traps.
 #![tactic(auto)]
 
 ghost use Rattle.std.specs.Prelude.{◌≡◌, ◌^◌, ◌<◌, IsTrue};
@@ -26,8 +27,8 @@ fn sign_extended(n: u32) -> u64
     i64::from(n.cast_signed()).cast_unsigned()
 }
 
-// A division by 0 gives all ones and leaves the dividend; where the quotient overflows it is the dividend, and
-// the remainder 0.
+// A division by 0 gives all ones and leaves the dividend; where the quotient overflows it is
+// the dividend, and the remainder 0.
 
 #[inline]
 fn div(left: u64, right: u64) -> u64
@@ -164,7 +165,8 @@ pub fn immediate(op: ImmOp, left: u64, value: i32) -> u64
     }
 }
 
-/// What a shift by an immediate amount puts into a register. The amount is below 64, and below 32 for a shift of words.
+/// What a shift by an immediate amount puts into a register. The amount is below 64,
+/// and below 32 for a shift of words.
 #[inline]
 pub fn shift(op: ShiftOp, left: u64, amount: u8) -> u64
     requires { amount < 2 ^ amount_bits op }
@@ -235,8 +237,8 @@ fn word_atomic(op: AtomicOp, old: u32, word: u32) -> u32
     }
 }
 
-/// What an atomic operation, neither `lr` nor `sc`, stores: of the old value in memory and that of a register,
-/// of 64 bits where it is `wide`, else of their low 32.
+/// What an atomic operation, neither `lr` nor `sc`, stores: of the old value in memory
+/// and that of a register, of 64 bits where it is `wide`, else of their low 32.
 #[inline]
 pub fn atomic(op: AtomicOp, wide: bool, old: u64, right: u64) -> u64
     requires { IsTrue (is_amo op) }

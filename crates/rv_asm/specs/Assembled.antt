@@ -32,7 +32,8 @@ pub record Put : Type 0 where
   pub place : Place
   pub piece : Piece
 
--- the places of the labels by their names, the section and how long each one is, and the pieces in the order of the source
+-- the places of the labels by their names, the section and how long each one is, and the pieces
+-- in the order of the source
 pub record State : Type 0 where
   pub labels : List ℕ → Option Place
   pub section : Section
@@ -68,7 +69,8 @@ with_piece line column piece s =
 -- one after the other
 unfoldable pub with_pieces : ℕ → ℕ → List Piece → State → Read State
 with_pieces line column [] s = Ok s
-with_pieces line column (piece ∷ pieces) s = with_piece line column piece s >>= λ more. with_pieces line column pieces more
+with_pieces line column (piece ∷ pieces) s =
+    with_piece line column piece s >>= λ more. with_pieces line column pieces more
 
 -- the least multiple that isn't below n
 abbrev pub up_to_multiple : ℕ → ℕ → ℕ
@@ -168,20 +170,25 @@ target s label = address_in s label.column (s.labels label.name)
 abbrev pub reach : State → ℕ → Use → ℕ → Read ℤ
 reach s bits label from = do
   a ← target s label
-  let far = pos a -ℤ pos from in if is_signed bits far && is_even far then Ok far else wrong kinds.Far label.column
+  let far = pos a -ℤ pos from in
+      if is_signed bits far && is_even far then Ok far
+      else wrong kinds.Far label.column
 
 abbrev pub word : Instr → List ℕ
 word i = to_le_bytes w32 (word_of i)
 
 -- an address as auipc and addi make it
 unfoldable pub load_address : ℕ → ℤ → List ℕ
-load_address rd far = word (instr.Upper Auipc rd (upper far)) ++ word (instr.Imm Addi rd rd (lower far))
+load_address rd far =
+    word (instr.Upper Auipc rd (upper far)) ++ word (instr.Imm Addi rd rd (lower far))
 
 abbrev pub bytes_at : State → ℕ → Piece → Read (List ℕ)
 bytes_at s from (Encoded w) = Ok (to_le_bytes w32 w)
-bytes_at s from (BranchTo op rs1 rs2 label) = reach s 13 label from >>= λ far. Ok (word (instr.Branch op rs1 rs2 far))
+bytes_at s from (BranchTo op rs1 rs2 label) =
+    reach s 13 label from >>= λ far. Ok (word (instr.Branch op rs1 rs2 far))
 bytes_at s from (JumpTo rd label) = reach s 21 label from >>= λ far. Ok (word (instr.Jal rd far))
-bytes_at s from (AddressTo rd label) = target s label >>= λ a. Ok (load_address rd (pos a -ℤ pos from))
+bytes_at s from (AddressTo rd label) =
+    target s label >>= λ a. Ok (load_address rd (pos a -ℤ pos from))
 bytes_at s from (AddressOf label) = target s label >>= λ a. Ok (to_le_bytes w64 a)
 bytes_at s from (Bytes bytes) = Ok bytes
 bytes_at s from (Zeros count) = Ok (replicate count 0)
@@ -244,7 +251,8 @@ program s fs = record {
   entry = entry s;
 }
 
--- what every source without a fault stands for: some words, each with its line, and the entry at one of them
+-- what every source without a fault stands for: some words, each with its line,
+-- and the entry at one of them
 pub record IsProgram (p : Program) : Type 0 where
   pub some : 0 < length p.text
   pub text_fits : length p.text ≤ 1048576

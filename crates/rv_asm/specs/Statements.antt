@@ -42,7 +42,8 @@ pub data Piece : Type 0 where
   Bytes : (bytes : List ℕ) → Piece
   Zeros : (count : ℕ) → Piece
 
--- what a statement does: it puts pieces into its section, fills up to a multiple of 2^bits, or enters a section
+-- what a statement does: it puts pieces into its section, fills up to a multiple of 2^bits,
+-- or enters a section
 pub data Statement : Type 0 where
   Puts : (pieces : List Piece) → Statement
   Aligns : (bits : ℕ) → Statement
@@ -228,7 +229,9 @@ module _ (end : ℕ) where
   abbrev pub number_item : Size → ℤ → ℕ → Read Piece
   number_item size n column =
       let bits = 8 * bytes_of size in
-      if is_within (neg_ℤ (pos (2 ^ (bits - 1)))) (pos (2 ^ bits - 1)) n then Ok (Bytes (bytes_low_first 0 (bytes_of size) (twos bits n))) else wrong kinds.Range column
+      if is_within (neg_ℤ (pos (2 ^ (bits - 1)))) (pos (2 ^ bits - 1)) n
+      then Ok (Bytes (bytes_low_first 0 (bytes_of size) (twos bits n)))
+      else wrong kinds.Range column
 
   -- a label, whose address has eight bytes
   abbrev pub label_item : Size → List ℕ → ℕ → Read Piece

@@ -28,7 +28,8 @@ use Rattle.std.specs.BTreeMap.{BTreeMap, get_by}
 use Rattle.std.specs.Cmp.Lexicographic.{slice_cmp}
 use Rattle.std.specs.Ordering.{nat_cmp}
 
--- What was done: now this is what is read of the line, or the line has a fault, unless memory ran out.
+-- What was done: now this is what is read of the line, or the line has a fault,
+-- unless memory ran out.
 abbrev pub Steps : {U A : Type 0} → Result U LineError → A → Read A → Type 0
 Steps (Ok u) new read = read ≡ Ok new
 Steps (Err e) new read = FailsLine e read
@@ -88,17 +89,25 @@ abbrev pub labels_of : BTreeMap (Bor (List ℕ)) Place → List ℕ → Option P
 labels_of labels name = get_by (λ k. slice_cmp nat_cmp name k.now) labels
 
 abbrev pub state_of : CodeState → State
-state_of s = record { labels = labels_of s.labels; section = s.section; text = s.text; content = s.content; puts = map put_of s.puts.items }
+state_of s = record {
+  labels = labels_of s.labels;
+  section = s.section;
+  text = s.text;
+  content = s.content;
+  puts = map put_of s.puts.items;
+}
 
 -- the label that a colon ends, if one begins there
 abbrev pub label_front : List Placed → Option Use
 label_front [] = None
 label_front (t ∷ []) = None
-label_front (t ∷ c ∷ ts) = option_map (λ name. record { name = name; column = t.column }) (label_in t.token c.token)
+label_front (t ∷ c ∷ ts) =
+    option_map (λ name. record { name = name; column = t.column }) (label_in t.token c.token)
 
 abbrev pub error_at : ℕ → LineError → AsmError
 error_at line errors.Memory = faults.Memory
-error_at line (errors.Fault kind column) = faults.Fault (record { kind = kind; line = line; column = column })
+error_at line (errors.Fault kind column) =
+    faults.Fault (record { kind = kind; line = line; column = column })
 
 -- ---- after all lines
 
@@ -117,8 +126,16 @@ parts_of f = record { text = f.text.items; content = f.content.items; lines = f.
 -- with the bytes of one more piece
 abbrev pub with_filled : Parts → Filled → Parts
 with_filled parts f = elim (f.section) [
-  | sections.Text ↦ record { text = parts.text ++ f.bytes; content = parts.content; lines = parts.lines ++ replicate (length f.bytes / 4) f.line }
-  | sections.Data ↦ record { text = parts.text; content = parts.content ++ f.bytes; lines = parts.lines }
+  | sections.Text ↦ record {
+    text = parts.text ++ f.bytes;
+    content = parts.content;
+    lines = parts.lines ++ replicate (length f.bytes / 4) f.line;
+  }
+  | sections.Data ↦ record {
+    text = parts.text;
+    content = parts.content ++ f.bytes;
+    lines = parts.lines;
+  }
 ]
 
 abbrev pub with_next : Parts → Result Filled AsmFault → Result Parts AsmFault

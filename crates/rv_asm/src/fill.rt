@@ -62,7 +62,8 @@ fn target(state: &State, label: NameUse) -> Result<u64, LineError>
 /// How far a label is from a branch.
 fn branch_offset(state: &State, label: NameUse, from: u64) -> Result<i32, LineError>
     requires { from < 2 ^ 34 }
-    ensures value { GivesLine (λ far. far) result (reach (state_of state.now) 13 (use_of label.entry) from) }
+    ensures value { GivesLine (λ far. far) result
+        (reach (state_of state.now) 13 (use_of label.entry) from) }
     ensures near { IfOk result (λ far. IsTrue (is_signed 13 far)) }
     ensures even { IfOk result (λ far. IsTrue (is_even far)) }
 {
@@ -77,7 +78,8 @@ fn branch_offset(state: &State, label: NameUse, from: u64) -> Result<i32, LineEr
 /// How far a label is from a jump.
 fn jump_offset(state: &State, label: NameUse, from: u64) -> Result<i32, LineError>
     requires { from < 2 ^ 34 }
-    ensures value { GivesLine (λ far. far) result (reach (state_of state.now) 21 (use_of label.entry) from) }
+    ensures value { GivesLine (λ far. far) result
+        (reach (state_of state.now) 21 (use_of label.entry) from) }
     ensures near { IfOk result (λ far. IsTrue (is_signed 21 far)) }
     ensures even { IfOk result (λ far. IsTrue (is_even far)) }
 {
@@ -112,7 +114,8 @@ fn write_upper(out: &mut Vec<u8>, rd: u8, far: i128) -> Result<(), AllocError>
     requires register { rd < 32 }
     requires low { neg_ℤ (pos (2 ^ 100)) ≤ℤ far }
     requires high { far ≤ℤ pos (2 ^ 100) }
-    ensures { IfOk result (λ _. out.new.items ≡ out.old.items ++ word (instr.Upper Auipc rd (upper far))) }
+    ensures { IfOk result (λ _.
+        out.new.items ≡ out.old.items ++ word (instr.Upper Auipc rd (upper far))) }
 {
     let auipc = Instr::Upper {
         op: UpperOp::Auipc,
@@ -125,7 +128,8 @@ fn write_upper(out: &mut Vec<u8>, rd: u8, far: i128) -> Result<(), AllocError>
 /// The second of the two.
 fn write_lower(out: &mut Vec<u8>, rd: u8, far: i128) -> Result<(), AllocError>
     requires { rd < 32 }
-    ensures { IfOk result (λ _. out.new.items ≡ out.old.items ++ word (instr.Imm Addi rd rd (lower far))) }
+    ensures { IfOk result (λ _.
+        out.new.items ≡ out.old.items ++ word (instr.Imm Addi rd rd (lower far))) }
 {
     let addi = Instr::Imm {
         op: ImmOp::Addi,
@@ -159,7 +163,8 @@ fn write_zeros(out: &mut Vec<u8>, count: u32) -> Result<(), AllocError>
 /// The bytes of a piece at this address.
 fn write_piece(out: &mut Vec<u8>, state: &State, from: u64, piece: &Piece) -> Result<(), LineError>
     requires { from < 2 ^ 34 }
-    ensures { Steps result out.new.items (with_front out.old.items (bytes_at (state_of state.now) from (piece_of piece.now))) }
+    ensures { Steps result out.new.items
+        (with_front out.old.items (bytes_at (state_of state.now) from (piece_of piece.now))) }
 {
     match piece {
         Piece::Encoded(word) => out.extend_from_slice(&word.to_le_bytes())?,

@@ -387,7 +387,8 @@ fn load_upper(rd: u8, value: u32) -> u32
     encode(instr)
 }
 
-/// The instructions that put a number into a register: one where it has 12 bits with its sign, else two.
+/// The instructions that put a number into a register: one where it has 12 bits
+/// with its sign, else two.
 fn load_number<'s>(alloc: Global, rd: u8, value: i128) -> Result<Vec<Piece<'s>>, AllocError>
     requires register { rd < 32 }
     requires low { neg_ℤ (pos (2 ^ 31)) ≤ℤ value }
@@ -478,7 +479,8 @@ fn align_form<'s>(mut operands: Operands<'_, 's>) -> Result<Statement<'s>, LineE
 
 /// The bytes of a number of this size.
 fn number_bytes(alloc: Global, size: Size, value: i128) -> Result<Vec<u8>, AllocError>
-    ensures { IfOk result (λ v. v.items ≡ bytes_low_first 0 (bytes_of size) (twos (8 * bytes_of size) value)) }
+    ensures { IfOk result (λ v.
+        v.items ≡ bytes_low_first 0 (bytes_of size) (twos (8 * bytes_of size) value)) }
 {
     match size {
         Size::One => Ok(vec![in alloc; low_bits(value, 8) as u8]?),
@@ -489,7 +491,8 @@ fn number_bytes(alloc: Global, size: Size, value: i128) -> Result<Vec<u8>, Alloc
 
 /// Whether a number of this size, with or without a sign, can be this.
 fn is_in_size(size: Size, value: i128) -> bool
-    ensures { result ≡ is_within (neg_ℤ (pos (2 ^ (8 * bytes_of size - 1)))) (pos (2 ^ (8 * bytes_of size) - 1)) value }
+    ensures { result ≡ is_within (neg_ℤ (pos (2 ^ (8 * bytes_of size - 1))))
+        (pos (2 ^ (8 * bytes_of size) - 1)) value }
 {
     match size {
         Size::One => -0x80 <= value && value <= 0xFF,
@@ -554,7 +557,8 @@ fn items<'s>(
     size: Size,
     tokens: &[Placed<'s>],
 ) -> Result<Vec<Piece<'s>>, LineError>
-    ensures { GivesLine (λ v. map piece_of v.items) result (items end size (all_placed tokens.now)) }
+    ensures { GivesLine (λ v. map piece_of v.items) result
+        (items end size (all_placed tokens.now)) }
 {
     let mut pieces = Vec::new(alloc);
     let mut place = 0;
@@ -578,7 +582,8 @@ fn numbers_form<'s>(
     size: Size,
     tokens: &[Placed<'s>],
 ) -> Result<Statement<'s>, LineError>
-    ensures value { GivesLine statement_of result (statement end (forms.Numbers size) (all_placed tokens.now)) }
+    ensures value { GivesLine statement_of result
+        (statement end (forms.Numbers size) (all_placed tokens.now)) }
     ensures within { IfOk result AlignsWithin }
 {
     let pieces = items(alloc, end, size, tokens)?;

@@ -119,7 +119,8 @@ fn take_last<'s>(
     state: &mut State<'s>,
 ) -> Result<(), LineError>
     requires { label_front (all_placed tokens.now) ≡ None }
-    ensures { Steps result (state_of state.new) (take_tokens line end (all_placed tokens.now) (state_of state.old)) }
+    ensures { Steps result (state_of state.new)
+        (take_tokens line end (all_placed tokens.now) (state_of state.old)) }
 {
     match tokens.split_first() {
         None => Ok(()),
@@ -135,7 +136,8 @@ fn take_tokens<'s>(
     tokens: &[Placed<'s>],
     state: &mut State<'s>,
 ) -> Result<(), LineError>
-    ensures { Steps result (state_of state.new) (take_tokens line end (all_placed tokens.now) (state_of state.old)) }
+    ensures { Steps result (state_of state.new)
+        (take_tokens line end (all_placed tokens.now) (state_of state.old)) }
 {
     let mut place = 0;
     while let Some(label) = label_at(tokens, place) {
@@ -162,7 +164,8 @@ fn take_line<'s>(
     state: &mut State<'s>,
 ) -> Result<(), LineError>
     requires { length line.now ≤ 4194304 }
-    ensures value { Steps result (state_of state.new) (take_line number line.now (state_of state.old)) }
+    ensures value { Steps result (state_of state.new)
+        (take_line number line.now (state_of state.old)) }
 {
     if number > MOST_LINES {
         return Err(LineError::Fault {
@@ -204,7 +207,8 @@ fn first_line(bytes: &[u8]) -> &[u8]
 /// The line that begins at this place of the source.
 fn line_at(source: &[u8], place: usize) -> &[u8]
     requires { place < length source.now }
-    ensures lines { lines (drop place source.now) ≡ result.now ∷ lines (drop (place + (length result.now + 1)) source.now) }
+    ensures lines { lines (drop place source.now)
+        ≡ result.now ∷ lines (drop (place + (length result.now + 1)) source.now) }
     ensures within { place + length result.now ≤ length source.now }
 {
     first_line(&source[place..])

@@ -108,7 +108,8 @@ impl<'s> State<'s> {
     /// A label where the next piece goes.
     /// Err where there is one of that name, or for want of memory.
     pub fn add_label(&mut self, name: &'s [u8], column: u32) -> Result<(), LineError>
-        ensures { Steps result (state_of self.new) (with_label name.now column (state_of self.old)) }
+        ensures { Steps result (state_of self.new)
+            (with_label name.now column (state_of self.old)) }
     {
         let place = self.next_place();
         match self.labels.insert(name, place)? {
@@ -122,7 +123,8 @@ impl<'s> State<'s> {
 
     /// One piece of a statement.
     fn put(&mut self, line: u32, column: u32, piece: Piece<'s>) -> Result<(), LineError>
-        ensures { Steps result (state_of self.new) (with_piece line column (piece_of piece.entry) (state_of self.old)) }
+        ensures { Steps result (state_of self.new)
+            (with_piece line column (piece_of piece.entry) (state_of self.old)) }
     {
         let end = (self.section_length() as usize).saturating_add(size(&piece));
         if end > MOST_BYTES {
@@ -143,7 +145,8 @@ impl<'s> State<'s> {
     /// The pieces of a statement.
     #[tactic(auto, unfolding(crate::specs::Assembled::with_pieces))]
     fn put_all(&mut self, line: u32, column: u32, pieces: Vec<Piece<'s>>) -> Result<(), LineError>
-        ensures { Steps result (state_of self.new) (with_pieces line column (map piece_of pieces.entry.items) (state_of self.old)) }
+        ensures { Steps result (state_of self.new)
+            (with_pieces line column (map piece_of pieces.entry.items) (state_of self.old)) }
     {
         for piece in pieces {
             self.put(line, column, piece)?;

@@ -1,5 +1,6 @@
--- What stands in a word of each opcode: the operation of the table that has the word's funct3 and funct7, with the fields that stand in the word.
--- The parts of `decode` answer these. What `decode` itself answers is said by the words of instructions alone, in Instructions.
+-- What stands in a word of each opcode: the operation of the table that has the word's funct3
+-- and funct7, with the fields that stand in the word. The parts of `decode` answer these.
+-- What `decode` itself answers is said by the words of instructions alone, in Instructions.
 use Rattle.std.specs.Prelude.{ℕ, ◌*◌, Bool, true, false, ◌||◌, if◌then◌else◌, ◌==◌, Option, Some, None}
 use Rattle.std.specs.Option.{option_map, option_and_then}
 use Rattle.rv_decode.specs.declared.Instr.{Instr}
@@ -10,7 +11,8 @@ use Rattle.rv_decode.specs.Table.{code, operation_with, branch_code, branch_ops,
 use Rattle.rv_decode.specs.Instructions.{immediate_in, store_in, branch_in, is_second}
 
 abbrev pub jalr_of : ℕ → Option Instr
-jalr_of w = if part w 12 3 == 0 then Some (Jalr (part w 7 5) (part w 15 5) (immediate_in w)) else None
+jalr_of w =
+    if part w 12 3 == 0 then Some (Jalr (part w 7 5) (part w 15 5) (immediate_in w)) else None
 
 abbrev pub branch_of : ℕ → Option Instr
 branch_of w =
@@ -53,7 +55,9 @@ word_shift_of w =
     (operation_with shift_code shift_ops (code 0x1B (part w 12 3) (part w 25 7)))
 
 abbrev pub word_shift_or_imm_of : ℕ → Option Instr
-word_shift_or_imm_of w = if part w 12 3 == 0 then Some (Imm Addiw (part w 7 5) (part w 15 5) (immediate_in w)) else word_shift_of w
+word_shift_or_imm_of w =
+    if part w 12 3 == 0 then Some (Imm Addiw (part w 7 5) (part w 15 5) (immediate_in w))
+    else word_shift_of w
 
 abbrev pub register_of : ℕ → ℕ → Option Instr
 register_of opcode w =
@@ -65,14 +69,21 @@ register_of opcode w =
 abbrev pub atomic_with : Bool → ℕ → Option Instr
 atomic_with wide w =
     option_and_then
-    (λ op. if is_second op (part w 20 5) then Some (Atomic op wide (part w 26 1 == 1) (part w 25 1 == 1) (part w 7 5) (part w 15 5) (part w 20 5)) else None)
+    (λ op. if is_second op (part w 20 5)
+    then Some (Atomic op wide (part w 26 1 == 1) (part w 25 1 == 1)
+    (part w 7 5) (part w 15 5) (part w 20 5))
+    else None)
     (operation_with atomic_code atomic_ops (code 0x2F 2 (part w 27 5 * 4)))
 
 abbrev pub atomic_of : ℕ → Option Instr
-atomic_of w = if part w 12 3 == 2 then atomic_with false w else if part w 12 3 == 3 then atomic_with true w else None
+atomic_of w =
+    if part w 12 3 == 2 then atomic_with false w
+    else if part w 12 3 == 3 then atomic_with true w
+    else None
 
 abbrev pub fence_of : ℕ → Option Instr
-fence_of w = if part w 12 3 == 0 then Some (Fence (part w 7 5) (part w 15 5) (part w 20 12)) else None
+fence_of w =
+    if part w 12 3 == 0 then Some (Fence (part w 7 5) (part w 15 5) (part w 20 12)) else None
 
 abbrev pub system_of : ℕ → Option Instr
 system_of w = if w == 0x00000073 then Some Ecall else if w == 0x00100073 then Some Ebreak else None

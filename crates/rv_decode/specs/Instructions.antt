@@ -1,5 +1,6 @@
 -- Instructions and their words of 32 bits.
--- Source: The RISC-V Instruction Set Manual, Volume I, "Base Instruction Formats" and "Immediate Encoding Variants".
+-- Source: The RISC-V Instruction Set Manual, Volume I, "Base Instruction Formats" and "Immediate
+-- Encoding Variants".
 use Rattle.std.specs.Prelude.{◌≡◌, ℕ, ◌+◌, ◌*◌, ◌%◌, ◌^◌, Bool, true, ◌&&◌, if◌then◌else◌, nat_lt, ◌==◌, ℤ, List, [], ◌∷◌, ◌++◌, map, filter, find, Option, Some, None, IsTrue, ◌≢◌, ◌↔◌}
 use Rattle.rv_decode.specs.declared.Instr.{Instr}
 use Rattle.rv_decode.specs.declared.Instr.TheVariants.{Upper, Jal, Jalr, Branch, Load, Store, Imm, Shift, Reg, Atomic, Fence, Ecall, Ebreak}
@@ -30,10 +31,12 @@ abbrev pub store_field : ℤ → ℕ
 store_field z = let n = twos 12 z in n % 2 ^ 5 * 2 ^ 7 + part n 5 7 * 2 ^ 25
 
 abbrev pub branch_field : ℤ → ℕ
-branch_field z = let n = twos 13 z in part n 11 1 * 2 ^ 7 + part n 1 4 * 2 ^ 8 + part n 5 6 * 2 ^ 25 + part n 12 1 * 2 ^ 31
+branch_field z = let n = twos 13 z in
+    part n 11 1 * 2 ^ 7 + part n 1 4 * 2 ^ 8 + part n 5 6 * 2 ^ 25 + part n 12 1 * 2 ^ 31
 
 abbrev pub jump_field : ℤ → ℕ
-jump_field z = let n = twos 21 z in part n 12 8 * 2 ^ 12 + part n 11 1 * 2 ^ 20 + part n 1 10 * 2 ^ 21 + part n 20 1 * 2 ^ 31
+jump_field z = let n = twos 21 z in
+    part n 12 8 * 2 ^ 12 + part n 11 1 * 2 ^ 20 + part n 1 10 * 2 ^ 21 + part n 20 1 * 2 ^ 31
 
 abbrev pub flag_field : Bool → ℕ → ℕ
 flag_field flag place = if flag then 2 ^ place else 0
@@ -43,13 +46,21 @@ abbrev pub word_of : Instr → ℕ
 word_of (Upper op rd value) = code_field (upper_code op) + rd_field rd + value * 2 ^ 12
 word_of (Jal rd offset) = 0x6F + rd_field rd + jump_field offset
 word_of (Jalr rd rs1 offset) = 0x67 + rd_field rd + rs1_field rs1 + immediate_field offset
-word_of (Branch op rs1 rs2 offset) = code_field (branch_code op) + rs1_field rs1 + rs2_field rs2 + branch_field offset
-word_of (Load op rd rs1 offset) = code_field (load_code op) + rd_field rd + rs1_field rs1 + immediate_field offset
-word_of (Store op rs1 rs2 offset) = code_field (store_code op) + rs1_field rs1 + rs2_field rs2 + store_field offset
-word_of (Imm op rd rs1 value) = code_field (imm_code op) + rd_field rd + rs1_field rs1 + immediate_field value
-word_of (Shift op rd rs1 amount) = code_field (shift_code op) + rd_field rd + rs1_field rs1 + amount * 2 ^ 20
-word_of (Reg op rd rs1 rs2) = code_field (register_code op) + rd_field rd + rs1_field rs1 + rs2_field rs2
-word_of (Atomic op wide aq rl rd rs1 rs2) = code_field (atomic_code op) + flag_field wide 12 + flag_field aq 26 + flag_field rl 25 + rd_field rd + rs1_field rs1 + rs2_field rs2
+word_of (Branch op rs1 rs2 offset) =
+    code_field (branch_code op) + rs1_field rs1 + rs2_field rs2 + branch_field offset
+word_of (Load op rd rs1 offset) =
+    code_field (load_code op) + rd_field rd + rs1_field rs1 + immediate_field offset
+word_of (Store op rs1 rs2 offset) =
+    code_field (store_code op) + rs1_field rs1 + rs2_field rs2 + store_field offset
+word_of (Imm op rd rs1 value) =
+    code_field (imm_code op) + rd_field rd + rs1_field rs1 + immediate_field value
+word_of (Shift op rd rs1 amount) =
+    code_field (shift_code op) + rd_field rd + rs1_field rs1 + amount * 2 ^ 20
+word_of (Reg op rd rs1 rs2) =
+    code_field (register_code op) + rd_field rd + rs1_field rs1 + rs2_field rs2
+word_of (Atomic op wide aq rl rd rs1 rs2) =
+    code_field (atomic_code op) + flag_field wide 12 + flag_field aq 26 + flag_field rl 25
+    + rd_field rd + rs1_field rs1 + rs2_field rs2
 word_of (Fence rd rs1 bits) = 0x0F + rd_field rd + rs1_field rs1 + bits * 2 ^ 20
 word_of Ecall = 0x00000073
 word_of Ebreak = 0x00100073
@@ -76,13 +87,16 @@ abbrev pub is_in_range : Instr → Bool
 is_in_range (Upper op rd value) = is_register rd && nat_lt value (2 ^ 20)
 is_in_range (Jal rd offset) = is_register rd && is_signed 21 offset && is_even offset
 is_in_range (Jalr rd rs1 offset) = is_register rd && is_register rs1 && is_signed 12 offset
-is_in_range (Branch op rs1 rs2 offset) = is_register rs1 && is_register rs2 && is_signed 13 offset && is_even offset
+is_in_range (Branch op rs1 rs2 offset) =
+    is_register rs1 && is_register rs2 && is_signed 13 offset && is_even offset
 is_in_range (Load op rd rs1 offset) = is_register rd && is_register rs1 && is_signed 12 offset
 is_in_range (Store op rs1 rs2 offset) = is_register rs1 && is_register rs2 && is_signed 12 offset
 is_in_range (Imm op rd rs1 value) = is_register rd && is_register rs1 && is_signed 12 value
-is_in_range (Shift op rd rs1 amount) = is_register rd && is_register rs1 && nat_lt amount (2 ^ amount_bits op)
+is_in_range (Shift op rd rs1 amount) =
+    is_register rd && is_register rs1 && nat_lt amount (2 ^ amount_bits op)
 is_in_range (Reg op rd rs1 rs2) = is_register rd && is_register rs1 && is_register rs2
-is_in_range (Atomic op wide aq rl rd rs1 rs2) = is_register rd && is_register rs1 && is_second op rs2
+is_in_range (Atomic op wide aq rl rd rs1 rs2) =
+    is_register rd && is_register rs1 && is_second op rs2
 is_in_range (Fence rd rs1 bits) = is_register rd && is_register rs1 && nat_lt bits (2 ^ 12)
 is_in_range Ecall = true
 is_in_range Ebreak = true
@@ -106,16 +120,20 @@ abbrev pub store_in : ℕ → ℤ
 store_in w = signed 12 (part w 7 5 + part w 25 7 * 2 ^ 5)
 
 abbrev pub branch_in : ℕ → ℤ
-branch_in w = signed 13 (part w 8 4 * 2 + part w 25 6 * 2 ^ 5 + part w 7 1 * 2 ^ 11 + part w 31 1 * 2 ^ 12)
+branch_in w =
+    signed 13 (part w 8 4 * 2 + part w 25 6 * 2 ^ 5 + part w 7 1 * 2 ^ 11 + part w 31 1 * 2 ^ 12)
 
 abbrev pub jump_in : ℕ → ℤ
-jump_in w = signed 21 (part w 21 10 * 2 + part w 20 1 * 2 ^ 11 + part w 12 8 * 2 ^ 12 + part w 31 1 * 2 ^ 20)
+jump_in w =
+    signed 21 (part w 21 10 * 2 + part w 20 1 * 2 ^ 11 + part w 12 8 * 2 ^ 12
+    + part w 31 1 * 2 ^ 20)
 
 -- the operations of a table that have the opcode of a word
 abbrev pub fitting : {Op : Type 0} → (Op → Code) → List Op → ℕ → List Op
 fitting code_of ops w = filter (λ op. (code_of op).opcode == part w 0 7) ops
 
--- each instruction of the table that has the opcode of a word, with the fields that stand in the word; and those that have no table
+-- each instruction of the table that has the opcode of a word, with the fields that stand
+-- in the word; and those that have no table
 abbrev pub candidates : ℕ → List Instr
 candidates w =
     let rd = part w 7 5 in
@@ -128,7 +146,8 @@ candidates w =
     ++ map (λ op. Imm op rd rs1 (immediate_in w)) (fitting imm_code imm_ops w)
     ++ map (λ op. Shift op rd rs1 (part w 20 (amount_bits op))) (fitting shift_code shift_ops w)
     ++ map (λ op. Reg op rd rs1 rs2) (fitting register_code register_ops w)
-    ++ map (λ op. Atomic op (part w 12 1 == 1) (part w 26 1 == 1) (part w 25 1 == 1) rd rs1 rs2) (fitting atomic_code atomic_ops w)
+    ++ map (λ op. Atomic op (part w 12 1 == 1) (part w 26 1 == 1) (part w 25 1 == 1) rd rs1 rs2)
+    (fitting atomic_code atomic_ops w)
     ++ Jal rd (jump_in w)
     ∷ Jalr rd rs1 (immediate_in w)
     ∷ Fence rd rs1 (part w 20 12)

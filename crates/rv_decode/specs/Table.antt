@@ -1,5 +1,6 @@
 -- The table of instructions of RV64IMA: what tells each of them from the others.
--- Source: The RISC-V Instruction Set Manual, Volume I, the listings of RV32I, RV64I, RV64M and RV64A.
+-- Source: The RISC-V Instruction Set Manual, Volume I, the listings of RV32I,
+-- RV64I, RV64M and RV64A.
 use Rattle.std.specs.Prelude.{ℕ, Bool, List, [], ◌∷◌, ◌&&◌, ◌==◌, find, Option}
 use Rattle.rv_decode.specs.declared.UpperOp.{UpperOp}
 use Rattle.rv_decode.specs.declared.UpperOp.TheVariants.{Lui, Auipc}
@@ -134,10 +135,13 @@ abbrev pub shift_ops : List ShiftOp
 shift_ops = Slli ∷ Srli ∷ Srai ∷ Slliw ∷ Srliw ∷ Sraiw ∷ []
 
 abbrev pub register_ops : List RegOp
-register_ops = Add ∷ Sll ∷ Slt ∷ Sltu ∷ Xor ∷ Srl ∷ Or ∷ And ∷ Sub ∷ Sra ∷ Mul ∷ Mulh ∷ Mulhsu ∷ Mulhu ∷ Div ∷ Divu ∷ Rem ∷ Remu ∷ Addw ∷ Sllw ∷ Srlw ∷ Subw ∷ Sraw ∷ Mulw ∷ Divw ∷ Divuw ∷ Remw ∷ Remuw ∷ []
+register_ops =
+    Add ∷ Sll ∷ Slt ∷ Sltu ∷ Xor ∷ Srl ∷ Or ∷ And ∷ Sub ∷ Sra ∷ Mul ∷ Mulh ∷ Mulhsu ∷ Mulhu ∷ Div
+    ∷ Divu ∷ Rem ∷ Remu ∷ Addw ∷ Sllw ∷ Srlw ∷ Subw ∷ Sraw ∷ Mulw ∷ Divw ∷ Divuw ∷ Remw ∷ Remuw ∷ []
 
 abbrev pub atomic_ops : List AtomicOp
-atomic_ops = Amoadd ∷ Amoswap ∷ Lr ∷ Sc ∷ Amoxor ∷ Amoor ∷ Amoand ∷ Amomin ∷ Amomax ∷ Amominu ∷ Amomaxu ∷ []
+atomic_ops =
+    Amoadd ∷ Amoswap ∷ Lr ∷ Sc ∷ Amoxor ∷ Amoor ∷ Amoand ∷ Amomin ∷ Amomax ∷ Amominu ∷ Amomaxu ∷ []
 
 abbrev pub is_same_code : Code → Code → Bool
 is_same_code a b = a.opcode == b.opcode && a.funct3 == b.funct3 && a.funct7 == b.funct7

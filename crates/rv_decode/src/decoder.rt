@@ -237,8 +237,8 @@ fn system(word: u32) -> Option<Instr>
     }
 }
 
-/// The instruction whose word this is, or `None` where no instruction of RV64IMA has it, in constant
-/// time.
+/// The instruction whose word this is, or `None` where no instruction of RV64IMA
+/// has it, in constant time.
 pub fn decode(word: u32) -> Option<Instr>
     // The instruction has the word; where none is answered, no instruction has it.
     ensures decoded { IsDecoded word result }

@@ -1,10 +1,11 @@
 //! The instructions of RV64IMA and their words of 32 bits.
 //!
 //! `specs/Table.antt` has one line for each instruction, `specs/Instructions.antt` the word of each
-//! form. `encode` gives the word of an instruction, `decode` the instruction of a word, each exactly.
+//! form. `encode` gives the word of an instruction, `decode` the instruction
+//! of a word, each exactly.
 //!
-//! Source: The RISC-V Instruction Set Manual, Volume I, its chapters on RV32I, RV64I, M and A and its
-//! listings of instructions.
+//! Source: The RISC-V Instruction Set Manual, Volume I, its chapters on RV32I, RV64I,
+//! M and A and its listings of instructions.
 #![tactic(auto)]
 
 ghost use Rattle.std.specs.Prelude.{◌≡◌, ◌<◌, ◌≤◌, ◌^◌, IsTrue};
@@ -262,7 +263,8 @@ pub enum Instr {
         rs1: u8,
         rs2: u8,
     },
-    /// `wide` is the form of 64 bits, `aq` and `rl` are the two flags of ordering. `rs2` of lr is 0.
+    /// `wide` is the form of 64 bits, `aq` and `rl` are the two flags
+    /// of ordering. `rs2` of lr is 0.
     Atomic {
         op: AtomicOp,
         wide: bool,

@@ -64,7 +64,8 @@ pub(crate) fn immediate_operation(funct3: u32) -> Option<ImmOp>
     }
 }
 
-/// A shift of 64 bits: the lowest bit of funct7 belongs to the amount, and funct6 are the bits above it.
+/// A shift of 64 bits: the lowest bit of funct7 belongs to the amount,
+/// and funct6 are the bits above it.
 /// None where the table has none.
 pub(crate) fn shift_operation(funct3: u32, funct6: u32) -> Option<ShiftOp>
     requires { funct6 < 2 ^ 6 }

@@ -25,7 +25,11 @@ pub record Setting : Type 0 where
   pub reservations : Reservations
 
 abbrev pub setting : HartState → MemoryMap → Reservations → Setting
-setting hart memory reservations = record { hart = hart; memory = memory; reservations = reservations }
+setting hart memory reservations = record {
+  hart = hart;
+  memory = memory;
+  reservations = reservations;
+}
 
 -- the setting after an instruction, and what follows
 pub record Executed : Type 0 where
@@ -33,7 +37,10 @@ pub record Executed : Type 0 where
   pub step : Step
 
 abbrev pub executed : HartState → MemoryMap → Reservations → Step → Executed
-executed hart memory reservations step = record { setting = setting hart memory reservations; step = step }
+executed hart memory reservations step = record {
+  setting = setting hart memory reservations;
+  step = step;
+}
 
 -- register 0 reads as 0
 abbrev pub register : HartState → ℕ → ℕ
@@ -41,7 +48,9 @@ register hart r = if r == 0 then 0 else slice_index hart.registers r
 
 -- and is never written
 abbrev pub with_register : ℕ → ℕ → HartState → HartState
-with_register rd value hart = record hart { registers = if rd == 0 then hart.registers else slice_set hart.registers rd value }
+with_register rd value hart = record hart {
+  registers = if rd == 0 then hart.registers else slice_set hart.registers rd value;
+}
 
 abbrev pub with_pc : ℕ → HartState → HartState
 with_pc pc hart = record hart { pc = pc }
@@ -108,7 +117,10 @@ put rd n s = next (record s { hart = with_register rd n s.hart })
 abbrev pub jump : ℕ → ℕ → Setting → Executed
 jump rd target s =
     if target % 4 == 0
-    then record { setting = record s { hart = with_pc target (with_register rd (pc_after s.hart) s.hart) }; step = Next }
+    then record {
+      setting = record s { hart = with_pc target (with_register rd (pc_after s.hart) s.hart) };
+      step = Next;
+    }
     else fault s Misaligned
 
 abbrev pub branch : Bool → ℕ → Setting → Executed
@@ -123,7 +135,10 @@ load_to op rd address s =
 
 -- with the memory after a store of so many bytes at an address
 abbrev pub with_store : ℕ → ℕ → MemoryMap → Setting → Setting
-with_store address size memory s = record s { memory = memory; reservations = without_touched address size s.reservations }
+with_store address size memory s = record s {
+  memory = memory;
+  reservations = without_touched address size s.reservations;
+}
 
 abbrev pub store_at : ℕ → ℕ → ℕ → Setting → Executed
 store_at address size n s =
@@ -136,7 +151,8 @@ abbrev pub reserve : ℕ → Bool → ℕ → ℕ → Setting → Executed
 reserve h wide rd address s =
     elim (load s.memory address (atomic_size wide)) [
       | None ↦ fault s Access
-      | Some n ↦ put rd (atomic_load_value wide n) (record s { reservations = with_reservation h address s.reservations })
+      | Some n ↦ put rd (atomic_load_value wide n)
+          (record s { reservations = with_reservation h address s.reservations })
     ]
 
 -- the store needs the right to write also where the hart has no reservation
@@ -144,7 +160,8 @@ abbrev pub store_reserved : Bool → Bool → ℕ → ℕ → ℕ → Setting �
 store_reserved reserved wide rd address n s =
     elim (store address (atomic_size wide) n s.memory) [
       | None ↦ fault s Access
-      | Some memory ↦ if reserved then put rd 0 (with_store address (atomic_size wide) memory s) else put rd 1 s
+      | Some memory ↦ if reserved then put rd 0 (with_store address (atomic_size wide) memory s)
+          else put rd 1 s
     ]
 
 -- rd gets the old value, and the result is stored
@@ -154,33 +171,40 @@ exchange op wide rd address n s =
       | None ↦ fault s Access
       | Some old ↦ elim (store address (atomic_size wide) (stored_result op wide old n) s.memory) [
         | None ↦ fault s Access
-        | Some memory ↦ put rd (atomic_load_value wide old) (with_store address (atomic_size wide) memory s)
+        | Some memory ↦
+            put rd (atomic_load_value wide old) (with_store address (atomic_size wide) memory s)
       ]
     ]
 
 -- an atomic of so many bytes at an address that is a multiple of them
 abbrev pub aligned : ℕ → Bool → (Setting → Executed) → Setting → Executed
-aligned address wide effect s = if address % atomic_size wide == 0 then effect s else fault s Misaligned
+aligned address wide effect s =
+    if address % atomic_size wide == 0 then effect s else fault s Misaligned
 
 -- sc ends the hart's own reservation in every case
 abbrev pub atomic : ℕ → AtomicOp → Bool → ℕ → ℕ → ℕ → Setting → Executed
 atomic h Lr wide rd address n s = aligned address wide (reserve h wide rd address) s
 atomic h Sc wide rd address n s =
-    aligned address wide (store_reserved (is_reserved h address s.reservations) wide rd address n) (record s { reservations = without_own h s.reservations })
+    aligned address wide (store_reserved (is_reserved h address s.reservations) wide rd address n)
+    (record s { reservations = without_own h s.reservations })
 atomic h op wide rd address n s = aligned address wide (exchange op wide rd address n) s
 
--- whatever the memory and the reservations are, the effect leaves them, makes of the old hart the new one, and this step follows
+-- whatever the memory and the reservations are, the effect leaves them, makes of the old hart
+-- the new one, and this step follows
 abbrev pub ChangesHart : HartState → HartState → Step → (Setting → Executed) → Type 0
-ChangesHart old new step effect = (m : MemoryMap) (r : Reservations) → executed new m r step ≡ effect (setting old m r)
+ChangesHart old new step effect =
+    (m : MemoryMap) (r : Reservations) → executed new m r step ≡ effect (setting old m r)
 
 -- the effect of an instruction of hart h
 unfoldable pub execute : ℕ → Instr → Setting → Executed
 execute h (Upper op rd n) s = put rd (upper_result op n s.hart.pc) s
 execute h (Jal rd offset) s = jump rd (address_at s.hart.pc offset) s
 execute h (Jalr rd rs1 offset) s = jump rd (address_at (value s rs1) offset / 2 * 2) s
-execute h (Branch op rs1 rs2 offset) s = branch (is_taken op (value s rs1) (value s rs2)) (address_at s.hart.pc offset) s
+execute h (Branch op rs1 rs2 offset) s =
+    branch (is_taken op (value s rs1) (value s rs2)) (address_at s.hart.pc offset) s
 execute h (Load op rd rs1 offset) s = load_to op rd (address_at (value s rs1) offset) s
-execute h (Store op rs1 rs2 offset) s = store_at (address_at (value s rs1) offset) (store_size op) (value s rs2) s
+execute h (Store op rs1 rs2 offset) s =
+    store_at (address_at (value s rs1) offset) (store_size op) (value s rs2) s
 execute h (Imm op rd rs1 n) s = put rd (immediate_result op (value s rs1) n) s
 execute h (Shift op rd rs1 amount) s = put rd (shift_result op (value s rs1) amount) s
 execute h (Reg op rd rs1 rs2) s = put rd (register_result op (value s rs1) (value s rs2)) s

@@ -1,4 +1,5 @@
--- The reservations of harts (RISC-V unprivileged manual, chapter A, "Load-Reserved/Store-Conditional Instructions").
+-- The reservations of harts (RISC-V unprivileged manual, chapter A,
+-- "Load-Reserved/Store-Conditional Instructions").
 use Rattle.std.specs.Prelude.{ℕ, ◌+◌, ◌*◌, ◌/◌, Bool, not, ◌&&◌, nat_lt, ◌==◌, min, max, filter, List, [], ◌∷◌, ◌++◌}
 use Rattle.std.specs.List.{list_any}
 

@@ -13,7 +13,8 @@ use coz_types::{Address, HartId, TrapCause};
 use guest_memory::{Access, Memory};
 use rv_decode::AtomicOp;
 
-/// What an atomic instruction accesses: 8 bytes or 4 at an address, with the value of its other register.
+/// What an atomic instruction accesses: 8 bytes or 4 at an address, with the value
+/// of its other register.
 #[derive(Clone, Copy)]
 pub struct Target {
     /// It has 8 bytes.
@@ -141,7 +142,8 @@ fn exchange(
     requires amo { IsTrue (is_amo op) }
     requires rd { target.rd < 32 }
     ensures { executed hart.new memory.new reservations.new result
-        ≡ aligned target.address target.wide (exchange op target.wide target.rd target.address target.value)
+        ≡ aligned target.address target.wide
+        (exchange op target.wide target.rd target.address target.value)
         (setting hart.old memory.old reservations.old) }
 {
     if !is_aligned(target) {

@@ -60,7 +60,8 @@ pub fn branch(hart: &mut HartState, op: BranchOp, rs1: u8, rs2: u8, offset: i32)
     requires rs1 { rs1 < 32 }
     requires rs2 { rs2 < 32 }
     ensures { ChangesHart hart.old hart.new result
-        (branch (is_taken op (value hart.old rs1) (value hart.old rs2)) (address_at hart.old.pc offset)) }
+        (branch (is_taken op (value hart.old rs1) (value hart.old rs2))
+        (address_at hart.old.pc offset)) }
 {
     if rv_alu::taken(op, hart.value(rs1), hart.value(rs2)) {
         jal(hart, 0, offset)

@@ -1,7 +1,8 @@
-//! The effect of one instruction on a hart, the memory and the reservations (RISC-V unprivileged manual, chapters RV32I,
-//! RV64I, M and A).
+//! The effect of one instruction on a hart, the memory and the reservations (RISC-V unprivileged
+//! manual, chapters RV32I, RV64I, M and A).
 //!
-//! `specs/Execution.antt` says it instruction by instruction, and `specs/Laws.antt` what a trap leaves.
+//! `specs/Execution.antt` says it instruction by instruction, and `specs/Laws.antt`
+//! what a trap leaves.
 #![tactic(auto)]
 
 mod atomic;
@@ -23,11 +24,12 @@ pub use hart::{HartState, Step};
 pub use reservations::Reservations;
 use rv_decode::Instr;
 
-/// Executes an instruction of a hart. The hart's number is below `HARTS`, and the instruction's fields are in range.
+/// Executes an instruction of a hart. The hart's number is below `HARTS`, and the instruction's
+/// fields are in range.
 ///
-/// `Call` comes exactly at `ecall`, with all unchanged: the caller serves the call, and moves the pc on. A `Fault` leaves
-/// all unchanged, but that an `sc` has ended its own reservation. `Misaligned` is judged before `Access`. Register 0
-/// reads as 0, and is never written.
+/// `Call` comes exactly at `ecall`, with all unchanged: the caller serves the call, and moves
+/// the pc on. A `Fault` leaves all unchanged, but that an `sc` has ended its own reservation.
+/// `Misaligned` is judged before `Access`. Register 0 reads as 0, and is never written.
 pub fn execute(
     hart: &mut HartState,
     number: HartId,
@@ -41,7 +43,8 @@ pub fn execute(
         ≡ execute number.0 instr (setting hart.old memory.old reservations.old) }
     ensures call { (result ≡ Step.Call) ↔ (instr ≡ Instr.Ecall) }
     ensures called { result ≡ Step.Call →
-        setting hart.new memory.new reservations.new ≡ setting hart.old memory.old reservations.old }
+        setting hart.new memory.new reservations.new
+        ≡ setting hart.old memory.old reservations.old }
     ensures fault { (cause : TrapCause) → result ≡ Step.Fault cause →
         setting hart.new memory.new reservations.new
         ≡ after_trap number.0 instr (setting hart.old memory.old reservations.old) }

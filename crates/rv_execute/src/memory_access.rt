@@ -63,7 +63,8 @@ pub fn load(hart: &mut HartState, memory: &Memory, op: LoadOp, rd: u8, rs1: u8, 
     requires rd { rd < 32 }
     requires rs1 { rs1 < 32 }
     ensures { (r : Reserved) → executed hart.new memory.now r result
-        ≡ load_to op rd (address_at (register hart.old rs1) offset) (setting hart.old memory.now r) }
+        ≡ load_to op rd (address_at (register hart.old rs1) offset)
+        (setting hart.old memory.now r) }
 {
     let address = address_at(hart.value(rs1), offset);
     match memory.load(address, load_size(op)) {
@@ -109,7 +110,8 @@ pub fn store(
     requires rs1 { rs1 < 32 }
     requires rs2 { rs2 < 32 }
     ensures { executed hart.new memory.new reservations.new result
-        ≡ store_at (address_at (register hart.old rs1) offset) (store_size op) (register hart.old rs2)
+        ≡ store_at (address_at (register hart.old rs1) offset) (store_size op)
+        (register hart.old rs2)
         (setting hart.old memory.old reservations.old) }
 {
     let address = address_at(hart.value(rs1), offset);

@@ -9,7 +9,8 @@ use std::marker::Model;
 /// The reservations of up to `HARTS` harts: each has at most one, of 8 aligned bytes.
 #[derive(Drop)]
 pub struct Reservations {
-    // Of each hart that has one, its number and the start of its 8 bytes. Few stand at a time, so a store looks at few.
+    // Of each hart that has one, its number and the start of its 8 bytes. Few stand at a time,
+    // so a store looks at few.
     held: ArrayVec<(u16, Address), HARTS>,
 }
 

@@ -73,7 +73,8 @@ impl<'a> Short<'a> {
     /// Runs to the end, and gives it. A further run changes nothing and gives the same.
     pub fn run(&mut self) -> Ending
         ensures ended { self.new.state.ending ≡ Some result }
-        ensures record { let x = experiment_of self.old in net_record_of x self.new.state result ≡ shortened_record x }
+        ensures record { let x = experiment_of self.old in
+            net_record_of x self.new.state result ≡ shortened_record x }
         ensures shortened { let x = experiment_of self.old in IsShortened x (shortened_record x) }
         ensures last { let x = experiment_of self.old in self.new.state ≡ shortened x (enough x) }
         ensures rest { self.new ≡ record self.old { state = self.new.state } }

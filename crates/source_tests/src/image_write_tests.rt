@@ -20,7 +20,8 @@ fn a_source_is_written(rt: HostRuntime) -> Result<(), Fail> {
     Ok(())
 }
 
-// The bytes of the small program's file were told by an implementation that was written apart from this one.
+// The bytes of the small program's file were told by an implementation that was written
+// apart from this one.
 
 const HEADER: [u8; 64] = [
     0x7F, 0x45, 0x4C, 0x46, 2, 1, 1, 0, 0, 0, 0, 0, 0, 0, 0, 0, 2, 0, 0xF3, 0, 1, 0, 0, 0, 0, 0, 1,

@@ -28,8 +28,8 @@ fn word_of(alloc: Global, source: &[u8]) -> Option<u32> {
     }
 }
 
-/// Sources, and the kind, line and column of their first fault. The places were told by an implementation that was
-/// written apart from this one.
+/// Sources, and the kind, line and column of their first fault. The places were told
+/// by an implementation that was written apart from this one.
 static FAULTS: [(&[u8], AsmKind, u32, u32); 22] = [
     (b"    addi a0, x0, 2048", AsmKind::Range, 1, 18),
     (b"", AsmKind::Empty, 1, 1),
@@ -84,7 +84,8 @@ fn lines_are_counted(rt: HostRuntime) -> Result<(), Fail> {
     Ok(())
 }
 
-/// Statements, and the words that the GNU assembler makes of them. The last fills a section up to its limit.
+/// Statements, and the words that the GNU assembler makes of them. The last fills
+/// a section up to its limit.
 static WORDS: [(&[u8], u32); 16] = [
     (b"add x23, x13, x21", 0x0156_8bb3),
     (b"ld x4, 1406(x24)", 0x57ec_3203),

@@ -35,7 +35,8 @@ pub record IsRetired (setting : Setting) (engine : Engine) (hart : ℕ) (fate : 
       (runs_after fate new.started (rested hart fate engine.schedule))
       new.retired setting.choice.budget
   pub unfull : new.ending ≡ None → length new.visits.kept < setting.choice.visit_limit
-  pub selected : new.ending ≡ None → new.selected ≡ selected_of setting new.guest (started_by hart fate new.started)
+  pub selected : new.ending ≡ None
+      → new.selected ≡ selected_of setting new.guest (started_by hart fate new.started)
   pub none_selected : IsSome new.ending → new.selected ≡ []
   pub room : length new.schedule ≡ HARTS
   pub retired : new.retired ≡ engine.retired + 1

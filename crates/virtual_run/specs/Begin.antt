@@ -9,16 +9,20 @@ use Rattle.machines.specs.Places.{is_among, AllApart}
 use Rattle.guest_calls.specs.Guest.{Guest, IsMade, pc_of}
 use Rattle.guest_calls.specs.Retire.{next_of}
 
--- the ticks of a hart's next instruction: fewer where its address is a selected one, as the speedup in per cent says
+-- the ticks of a hart's next instruction: fewer where its address is a selected one,
+-- as the speedup in per cent says
 abbrev pub ticks_of : (ℕ → Bool) → ℕ → Guest → ℕ → ℕ
 ticks_of is_selected speedup g hart =
-    if is_selected (pc_of g hart) then reduced_cost (cycles_of (next_of g hart)) speedup else 100 * cycles_of (next_of g hart)
+    if is_selected (pc_of g hart) then reduced_cost (cycles_of (next_of g hart)) speedup
+    else 100 * cycles_of (next_of g hart)
 
--- the harts that a retirement of this fate starts: the retiring one if it goes on, and those that it made or woke
+-- the harts that a retirement of this fate starts: the retiring one if it goes on, and those
+-- that it made or woke
 abbrev pub started_by : ℕ → Fate → List ℕ → List ℕ
 started_by hart fate others = if goes_on fate then hart ∷ others else others
 
--- the schedule once a hart has retired to this fate: it is in it no more, but if it sleeps it is due at its wake
+-- the schedule once a hart has retired to this fate: it is in it no more, but if it sleeps it
+-- is due at its wake
 abbrev pub rested : ℕ → Fate → Keys → Keys
 rested hart Goes keys = without_key hart keys
 rested hart Waits keys = without_key hart keys
@@ -37,10 +41,12 @@ pub record AreIdle (g : Guest) (keys : Keys) (harts : List ℕ) : Type 0 where
   pub apart : AllApart harts
   pub idle : (hart : ℕ) → is_among hart harts ≡ true → IsIdle g keys hart
 
--- each of these harts is due as many ticks after a moment as its next instruction takes, and each other hart as before
+-- each of these harts is due as many ticks after a moment as its next instruction takes,
+-- and each other hart as before
 abbrev pub AreBegun : (ℕ → ℕ) → ℕ → List ℕ → Keys → Keys → Type 0
 AreBegun ticks moment harts old new =
-    (hart : ℕ) → key_of new hart ≡ (if is_among hart harts then Some (moment + ticks hart) else key_of old hart)
+    (hart : ℕ) → key_of new hart
+    ≡ (if is_among hart harts then Some (moment + ticks hart) else key_of old hart)
 
 -- how many harts are in the schedule
 abbrev pub many : Keys → ℕ

@@ -17,7 +17,8 @@ use Rattle.virtual_run.specs.Begin.{started_by}
 
 -- each of these harts is held without its work
 abbrev pub AreHeld : List Hart → List Hart → Type 0
-AreHeld held harts = (k : ℕ) → slice_index_or held k fresh ≡ without_work (slice_index_or harts k fresh)
+AreHeld held harts =
+    (k : ℕ) → slice_index_or held k fresh ≡ without_work (slice_index_or harts k fresh)
 
 -- credits hold the accounts and pauses of a delayed state
 pub record Holds {G : Type 0} (c : Delays) (d : Delayed G) : Type 0 where
@@ -35,7 +36,10 @@ with_starts hs c = record c { harts = change_each fresh hs (λ _. run 0) c.harts
 
 -- a hart raises the delay at the latest moment
 abbrev pub with_one_raise : ℕ → ℕ → Delays → Delays
-with_one_raise ticks h c = record c { raised = c.raised + ticks; harts = change_from 0 (raise_hart ticks h) c.harts }
+with_one_raise ticks h c = record c {
+  raised = c.raised + ticks;
+  harts = change_from 0 (raise_hart ticks h) c.harts;
+}
 
 -- these harts raise it in turn, each by its own ticks
 abbrev pub with_raises : (ℕ → ℕ) → List ℕ → Delays → Delays
@@ -64,15 +68,19 @@ AllBelow c hs = (k : ℕ) → is_among k hs ≡ true → k < length c.harts
 abbrev pub AllMade : Guest → List ℕ → Type 0
 AllMade g hs = (k : ℕ) → is_among k hs ≡ true → IsMade g k
 
--- the ticks by which a hart's next instruction raises the delay where it is selected, at a speedup in per cent
+-- the ticks by which a hart's next instruction raises the delay where it is selected,
+-- at a speedup in per cent
 abbrev pub raise_ticks : Guest → ℕ → ℕ → ℕ
 raise_ticks g speedup hart = raise_of (cycles_of (next_of g hart)) speedup
 
--- after a retirement from which the run goes on: the harts that it made or woke are credited, all that it started run, and then the selected ones raise the delay in turn
+-- after a retirement from which the run goes on: the harts that it made or woke are credited,
+-- all that it started run, and then the selected ones raise the delay in turn
 abbrev pub with_begun : (ℕ → ℕ) → ℕ → Fate → List ℕ → List ℕ → Delays → Delays
-with_begun ticks hart fate others selected c = with_raises ticks selected (with_starts (started_by hart fate others) (with_credits others c))
+with_begun ticks hart fate others selected c =
+    with_raises ticks selected (with_starts (started_by hart fate others) (with_credits others c))
 
--- after a hart has retired to this fate at a moment it doesn't run, but if it sleeps it has no pause before it
+-- after a hart has retired to this fate at a moment it doesn't run, but if it sleeps it
+-- has no pause before it
 abbrev pub with_rest : ℕ → Fate → ℕ → Delays → Delays
 with_rest hart fate now c = if sleeps fate then with_start hart now c else with_stop hart now c
 
@@ -86,14 +94,16 @@ credits_after None ticks hart fate others selected c = with_begun ticks hart fat
 credits_after (Some ending) ticks hart fate others selected c = c
 
 -- what the harts and the credits must be where it goes on
-pub record CanBegin (c : Delays) (g : Guest) (hart : ℕ) (fate : Fate) (others raisers : List ℕ) : Type 0 where
+pub record CanBegin (c : Delays) (g : Guest) (hart : ℕ) (fate : Fate)
+    (others raisers : List ℕ) : Type 0 where
   -- the hart that retired has all that was raised, and those that it made or woke don't run
   pub below : hart < length c.harts
   pub whole : total (hart_at c hart).account ≡ c.raised
   pub rest : AllRest c others
   pub started : AllBelow c (started_by hart fate others)
   -- the selected ones were started
-  pub selected : (k : ℕ) → is_among k raisers ≡ true → is_among k (started_by hart fate others) ≡ true
+  pub selected : (k : ℕ) → is_among k raisers ≡ true
+      → is_among k (started_by hart fate others) ≡ true
   pub made : AllMade g raisers
   pub few : c.raised + 3800 * length raisers ≤ 10 ^ 17
 

@@ -27,13 +27,20 @@ use Rattle.virtual_run.specs.Credited.{Holds}
 
 -- a visit as the machine keeps it
 abbrev pub visit_as : GivenVisit → Visit
-visit_as visit = record { point = visit.point.0; hart = visit.hart.0; time = visit.time; delay = visit.delay }
+visit_as visit = record {
+  point = visit.point.0;
+  hart = visit.hart.0;
+  time = visit.time;
+  delay = visit.delay;
+}
 
--- the net moment at which a hart of a run that goes on retires: as many ticks from now on as it works and pauses before it, less the global delay
+-- the net moment at which a hart of a run that goes on retires: as many ticks from now on as it
+-- works and pauses before it, less the global delay
 abbrev pub net_due_of : Delayed Guest → ℕ → Option ℕ
 net_due_of d hart =
     elim (d.ending) [
-      | None ↦ option_map (λ load. d.now + load.work + load.pause - d.delay) (slice_index_or d.harts hart fresh).load
+      | None ↦ option_map (λ load. d.now + load.work + load.pause - d.delay)
+          (slice_index_or d.harts hart fresh).load
       | Some ending ↦ None
     ]
 
@@ -43,7 +50,14 @@ account_in d hart = option_map (λ h. h.account) (slice_get d.harts hart)
 
 -- how a run that has ended came out
 abbrev pub outcome_of : Delayed Guest → Option Outcome
-outcome_of d = option_map (λ ending. record { ending = ending; time = d.now; delay = d.delay; retired = d.retired; starts = d.starts }) d.ending
+outcome_of d =
+    option_map (λ ending. record {
+      ending = ending;
+      time = d.now;
+      delay = d.delay;
+      retired = d.retired;
+      starts = d.starts;
+    }) d.ending
 
 -- a trap is that of one of the harts
 abbrev pub IsOfAHart : Ending → Type 0
@@ -63,12 +77,14 @@ pub record IsSmall (o : Outcome) : Type 0 where
   pub retired : o.retired ≤ 10 ^ 17
   pub starts : o.starts ≤ 10 ^ 17
 
--- what an event takes the machine through: moves that end with a wake, without a retirement, or those that end with the next retirement
+-- what an event takes the machine through: moves that end with a wake, without a retirement,
+-- or those that end with the next retirement
 abbrev pub Happens : Experiment Guest → Event → Delayed Guest → Delayed Guest → Type 0
 Happens x (Woke turn) old new = Passes x old new × (new.ending ≡ None)
 Happens x (Retired retired) old new = Steps x old new
 
--- before each move of the delayed run it agrees with the shortened one after as many retirements and wakes
+-- before each move of the delayed run it agrees with the shortened one after as many
+-- retirements and wakes
 abbrev pub AgreesThroughout : Experiment Guest → Type 0
 AgreesThroughout x = (moves : ℕ) → Agrees (delayed x moves) (shortened x (events (delayed x moves)))
 

@@ -8,7 +8,8 @@ use Rattle.machines.specs.Delayed.{is_any}
 use Rattle.machines.specs.Shortened.{runs_any}
 use Rattle.hart_schedule.specs.Keys.{Keys}
 
--- how a run ends with a retirement of this fate, where the output and the visits are full or aren't, where some hart runs after it or none does, with so many retired instructions by then
+-- how a run ends with a retirement of this fate, where the output and the visits are full
+-- or aren't, where some hart runs after it or none does, with so many retired instructions by then
 abbrev pub ending_of : Fate → Bool → Bool → Bool → ℕ → ℕ → Option Ending
 ending_of fate output_full visits_full some_hart_runs retired budget =
     first_ending
@@ -19,6 +20,7 @@ ending_of fate output_full visits_full some_hart_runs retired budget =
     ∷ when (nat_le budget retired) Spent
     ∷ [])
 
--- some hart runs after a retirement of this fate: the retiring one, one that it made or woke, or one of these others
+-- some hart runs after a retirement of this fate: the retiring one, one that it made or woke,
+-- or one of these others
 abbrev pub runs_after : Fate → List ℕ → Keys → Bool
 runs_after fate started others = goes_on fate || is_any started || runs_any others

@@ -28,16 +28,19 @@ is_unstarted d = not (is_some d.ending) && (d.starts == 0)
 abbrev pub starts_next : Experiment Guest → Before Guest → Bool
 starts_next x b = is_any (filter (x.guest.is_selected b.state.guest) b.harts)
 
--- it stands before the beginning that follows some number of retirements and wakes, and no start was counted
+-- it stands before the beginning that follows some number of retirements and wakes,
+-- and no start was counted
 pub record Stands (x : Experiment Guest) (b : Before Guest) : Type 0 where
   pub events : ℕ
   pub is : b ≡ before x events
   pub none : b.state.starts ≡ 0
 
--- it stands so at every speedup, and each state that the delayed machine comes to with no start counted is one that it comes to at every speedup
+-- it stands so at every speedup, and each state that the delayed machine comes to with no start
+-- counted is one that it comes to at every speedup
 pub record IsShared (x : Experiment Guest) (b : Before Guest) : Type 0 where
   pub stands : (speedup : ℕ) → Stands (at_speedup speedup x) b
-  pub states : (speedup moves : ℕ) → (delayed x moves).starts ≡ 0 → delayed x moves ≡ delayed (at_speedup speedup x) moves
+  pub states : (speedup moves : ℕ) → (delayed x moves).starts ≡ 0
+      → delayed x moves ≡ delayed (at_speedup speedup x) moves
 
 -- a hart that is due is due so many ticks sooner
 abbrev pub sooner_by : Option ℕ → ℕ → ℕ → Keys → Keys

@@ -45,13 +45,17 @@ experiment_from first position point choice = record {
 }
 
 -- the run of an image on an input
-abbrev pub experiment : ImageParts → (ℕ → Option ℕ) → (ℕ → Option ℕ) → List ℕ → Choice → Experiment Guest
+abbrev pub experiment : ImageParts → (ℕ → Option ℕ) → (ℕ → Option ℕ) → List ℕ
+    → Choice → Experiment Guest
 experiment image position point input choice =
-    experiment_from (first_guest image input choice.output_limit choice.layout) position point choice
+    experiment_from (first_guest image input choice.output_limit choice.layout)
+    position point choice
 
 -- in a setting, the guest of a run
 abbrev pub experiment_in : Setting → Guest → Experiment Guest
-experiment_in setting first = experiment_from first (position_at setting.index.now) (point_of setting.points.now) setting.choice
+experiment_in setting first =
+    experiment_from first (position_at setting.index.now)
+    (point_of setting.points.now) setting.choice
 
 -- whether an address has the selected line
 abbrev pub selects : Setting → ℕ → Bool

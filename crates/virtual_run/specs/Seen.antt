@@ -35,8 +35,11 @@ seen_in image input setting state = seen image setting.index.now setting.points.
 
 -- the run of an image on an input in a setting
 abbrev pub experiment_with : ImageParts → List ℕ → Setting → Experiment Guest
-experiment_with image input setting = experiment image (position_at setting.index.now) (point_of setting.points.now) input setting.choice
+experiment_with image input setting =
+    experiment image (position_at setting.index.now)
+    (point_of setting.points.now) input setting.choice
 
 -- what is run
 abbrev pub experiment_of : {State : Type 0} → Seen State → Experiment Guest
-experiment_of seen = experiment seen.image (position_at seen.index) (point_of seen.points) seen.input seen.choice
+experiment_of seen =
+    experiment seen.image (position_at seen.index) (point_of seen.points) seen.input seen.choice

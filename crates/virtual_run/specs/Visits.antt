@@ -11,8 +11,14 @@ pub record Visits : Type 0 where
 -- the visit of the point of an address, if it has one, by a hart at a moment, with the delay then
 abbrev pub visits_of : Option ℕ → ℕ → ℕ → ℕ → List Visit
 visits_of point hart time delay =
-    option_to_list (option_map (λ p. record { point = record { 0 = p }; hart = record { 0 = hart }; time = time; delay = delay }) point)
+    option_to_list (option_map (λ p.
+    record { point = record { 0 = p }; hart = record { 0 = hart }; time = time; delay = delay })
+    point)
 
 -- a visit at its net time
 abbrev pub net_of : Visit → NetVisit
-net_of visit = record { point = visit.point.0; hart = visit.hart.0; time = visit.time - visit.delay }
+net_of visit = record {
+  point = visit.point.0;
+  hart = visit.hart.0;
+  time = visit.time - visit.delay;
+}

@@ -15,7 +15,8 @@ use coz_types::{HartId, Tick};
 use delay_credits::Credits;
 use guest_calls::{Fate, Guest};
 
-/// Each of these harts is credited with what its total lacks of its waker's, which is all that was raised.
+/// Each of these harts is credited with what its total lacks of its waker's,
+/// which is all that was raised.
 fn credit_each(credits: &mut Credits, harts: &[HartId], waker: HartId)
     requires rest { AllRest credits.old (map (λ hart. hart.0) harts.now) }
     requires waker_below { waker.0 < length credits.old.harts }
@@ -31,7 +32,8 @@ fn credit_each(credits: &mut Credits, harts: &[HartId], waker: HartId)
 fn start_again(credits: &mut Credits, hart: HartId, fate: Fate, now: Tick)
     requires below { IsTrue (goes_on fate) → hart.0 < length credits.old.harts }
     requires now { credits.old.latest ≡ now }
-    ensures { credits.new ≡ (if goes_on fate then with_starts (hart.0 ∷ []) credits.old else credits.old) }
+    ensures { credits.new
+        ≡ (if goes_on fate then with_starts (hart.0 ∷ []) credits.old else credits.old) }
 {
     if let Fate::Goes = fate {
         credits.start(hart, now);
@@ -49,7 +51,8 @@ fn start_each(credits: &mut Credits, harts: &[HartId], now: Tick)
     }
 }
 
-/// The ticks by which a hart's next instruction raises the delay where it is selected, at a speedup in per cent.
+/// The ticks by which a hart's next instruction raises the delay where it is selected,
+/// at a speedup in per cent.
 pub fn raised_by(guest: &Guest, hart: HartId, speedup: u8) -> Tick
     requires made { IsMade guest.now hart.0 }
     requires speedup { speedup ≤ GREATEST_SPEEDUP }
@@ -67,7 +70,8 @@ pub fn raise_harts(credits: &mut Credits, guest: &Guest, harts: &[HartId], speed
     requires speedup { speedup ≤ GREATEST_SPEEDUP }
     requires now { credits.old.latest ≡ now }
     requires few { credits.old.raised + 3800 * length (map (λ hart. hart.0) harts.now) ≤ 10 ^ 17 }
-    ensures { credits.new ≡ with_raises (raise_ticks guest.now speedup) (map (λ hart. hart.0) harts.now) credits.old }
+    ensures { credits.new
+        ≡ with_raises (raise_ticks guest.now speedup) (map (λ hart. hart.0) harts.now) credits.old }
 {
     for hart in harts {
         credits.raise(*hart, raised_by(guest, *hart, speedup), now);
@@ -87,8 +91,9 @@ pub fn raise_selected(credits: &mut Credits, engine: &Engine, speedup: u8, now: 
     raise_harts(credits, &engine.guest, harts, speedup, now);
 }
 
-/// What follows a retirement from which the run goes on: the harts that it made or woke are credited, all that it started
-/// run, and only then those of them that are selected raise the delay in turn.
+/// What follows a retirement from which the run goes on: the harts that it made
+/// or woke are credited, all that it started run, and only then those of them that are selected
+/// raise the delay in turn.
 #[inline(never)]
 fn credit_started(credits: &mut Credits, engine: &Engine, retired: Retired, speedup: u8, now: Tick)
     requires can { CanBegin credits.old engine.now.guest retired.hart.0 retired.fate engine.now.started engine.now.selected }
@@ -116,7 +121,8 @@ fn is_alone(engine: &Engine) -> bool
     engine.ending.is_none() && engine.started.harts().is_empty()
 }
 
-/// The hart that retired goes on, and nothing else begins: it still runs, and raises the delay if it is selected.
+/// The hart that retired goes on, and nothing else begins: it still runs, and raises the delay
+/// if it is selected.
 #[inline(always)]
 fn go_on(credits: &mut Credits, engine: &Engine, hart: HartId, speedup: u8, now: Tick)
     requires alone { IsAlone engine.now.ending Fate.Goes engine.now.started }
@@ -134,7 +140,8 @@ fn go_on(credits: &mut Credits, engine: &Engine, hart: HartId, speedup: u8, now:
     }
 }
 
-/// The hart that retired stops at a moment. One that sleeps counts as one that runs, so it starts again at once.
+/// The hart that retired stops at a moment. One that sleeps counts as one that runs,
+/// so it starts again at once.
 #[inline(never)]
 fn rest(credits: &mut Credits, hart: HartId, fate: Fate, now: Tick)
     requires below { hart.0 < length credits.old.harts }
@@ -149,8 +156,8 @@ fn rest(credits: &mut Credits, hart: HartId, fate: Fate, now: Tick)
     }
 }
 
-/// What a wake makes of the accounts and pauses: the hart starts again at its moment, and raises the delay if it is
-/// selected.
+/// What a wake makes of the accounts and pauses: the hart starts again at its moment,
+/// and raises the delay if it is selected.
 #[inline(never)]
 fn wake_up(credits: &mut Credits, engine: &Engine, hart: HartId, speedup: u8, now: Tick)
     requires below { hart.0 < length credits.old.harts }
@@ -165,8 +172,8 @@ fn wake_up(credits: &mut Credits, engine: &Engine, hart: HartId, speedup: u8, no
     raise_selected(credits, engine, speedup, now);
 }
 
-/// What a retirement at a moment and the starts after it make of the accounts and pauses: the hart stops, and where the run
-/// goes on what it started begins.
+/// What a retirement at a moment and the starts after it make of the accounts and pauses:
+/// the hart stops, and where the run goes on what it started begins.
 #[inline(never)]
 fn account_retirement(
     credits: &mut Credits,
@@ -231,8 +238,8 @@ fn account_plain(credits: &mut Credits, engine: &Engine, hart: HartId, speedup: 
     }
 }
 
-/// What an event and the starts after it make of the accounts and pauses, where so much was raised before it. Gives its real
-/// moment.
+/// What an event and the starts after it make of the accounts and pauses, where so much was raised
+/// before it. Gives its real moment.
 #[inline(always)]
 pub fn follow(
     credits: &mut Credits,

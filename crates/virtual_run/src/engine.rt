@@ -36,8 +36,8 @@ pub(crate) const FIRST: HartId = HartId(0);
 pub struct Engine<'a> {
     /// The program as it stands: memory, harts, and what was written.
     pub(crate) guest: Guest<'a>,
-    /// When each running hart retires and each sleeping one wakes, in net ticks. A raise changes none of these moments, so
-    /// it touches no key.
+    /// When each running hart retires and each sleeping one wakes, in net ticks.
+    /// A raise changes none of these moments, so it touches no key.
     pub(crate) schedule: Schedule,
     /// The harts that the last retirement made or woke, in order.
     pub(crate) started: HartList,
@@ -113,7 +113,8 @@ fn first_turn(schedule: &Schedule) -> Turn
 fn retire_due(guest: &mut Guest, turn: Turn, started: &mut HartList) -> Fate
     requires running { IsTrue (is_running guest.old turn.hart.0) }
     requires started { started.old ≡ [] }
-    ensures effect { retirement guest.new result started.new ≡ retire guest.old turn.hart.0 turn.due }
+    ensures effect { retirement guest.new result started.new
+        ≡ retire guest.old turn.hart.0 turn.due }
     ensures made { making guest.new ≡ making guest.old }
 {
     guest.retire(turn.hart, turn.due, started)
@@ -123,7 +124,8 @@ fn retire_due(guest: &mut Guest, turn: Turn, started: &mut HartList) -> Fate
 #[inline(always)]
 fn leave(schedule: &mut Schedule, hart: HartId, fate: Fate)
     requires { hart.0 < length schedule.old }
-    ensures { schedule.new ≡ (if goes_on fate then schedule.old else rested hart.0 fate schedule.old) }
+    ensures { schedule.new
+        ≡ (if goes_on fate then schedule.old else rested hart.0 fate schedule.old) }
 {
     match fate {
         Fate::Goes => {}
@@ -137,7 +139,8 @@ fn leave(schedule: &mut Schedule, hart: HartId, fate: Fate)
 /// One that would go on is taken out, as the run ends.
 #[inline]
 fn leave_ended(schedule: &mut Schedule, hart: HartId, fate: Fate)
-    ensures { schedule.new ≡ (if goes_on fate then without_key hart.0 schedule.old else schedule.old) }
+    ensures { schedule.new
+        ≡ (if goes_on fate then without_key hart.0 schedule.old else schedule.old) }
 {
     if let Fate::Goes = fate {
         schedule.take(hart);
@@ -156,7 +159,10 @@ fn keep_visit(
 )
     requires room { length visits.old.kept < visits.old.limit }
     requires hart { hart.0 < HARTS }
-    ensures { visits.new ≡ record visits.old { kept = visits.old.kept ++ visits_of (point_of setting.now.points.now address) hart.0 time delay } }
+    ensures { visits.new ≡ record visits.old {
+      kept = visits.old.kept
+          ++ visits_of (point_of setting.now.points.now address) hart.0 time delay;
+    } }
 {
     if let Some(point) = setting.points.point_at(address) {
         visits.push(Visit {
@@ -183,8 +189,8 @@ fn runs_any(schedule: &Schedule) -> bool
     schedule.least().is_some()
 }
 
-/// How a run ends with a retirement: as the hart's fate says, or as the output or the visits are full, no hart runs or
-/// the budget is spent.
+/// How a run ends with a retirement: as the hart's fate says, or as the output or the visits
+/// are full, no hart runs or the budget is spent.
 #[inline(never)]
 fn ending_after(
     fate: Fate,
@@ -284,8 +290,8 @@ impl<'a> Engine<'a> {
         self.starts += begun;
     }
 
-    /// A running hart whose turn it is retires, and where the run goes on the harts that this started begin. A visit is
-    /// kept with the delay that is given, at a time that is later by it.
+    /// A running hart whose turn it is retires, and where the run goes on the harts that this
+    /// started begin. A visit is kept with the delay that is given, at a time that is later by it.
     #[inline(always)]
     fn retire(&mut self, setting: &Setting, turn: Turn, delay: Tick) -> Retired
         requires steady { IsSteady self.old }
@@ -318,8 +324,8 @@ impl<'a> Engine<'a> {
         }
     }
 
-    /// After a retirement of this fate the run ends, or what was started begins. A hart that goes on has a way of its own,
-    /// on which no fate is handed on.
+    /// After a retirement of this fate the run ends, or what was started begins. A hart that goes
+    /// on has a way of its own, on which no fate is handed on.
     #[inline(always)]
     fn settle(&mut self, setting: &Setting, hart: HartId, fate: Fate)
         requires { CanSettle setting.now self.old hart.0 fate }
@@ -388,11 +394,15 @@ impl<'a> Engine<'a> {
         self.starts = self.selected.harts().len() as u64;
     }
 
-    /// The selected harts that began last are due sooner, by what a speedup in per cent takes off their next instructions.
+    /// The selected harts that began last are due sooner, by what a speedup in per cent takes
+    /// off their next instructions.
     pub(crate) fn hasten(&mut self, speedup: u8)
         requires made { AllMade self.old.guest self.old.selected }
         requires speedup { speedup ≤ GREATEST_SPEEDUP }
-        ensures { self.new ≡ record self.old { schedule = with_sooner (raise_ticks self.old.guest speedup) self.old.selected self.old.schedule } }
+        ensures { self.new ≡ record self.old {
+          schedule = with_sooner (raise_ticks self.old.guest speedup)
+              self.old.selected self.old.schedule;
+        } }
     {
         hasten_each(
             &mut self.schedule,
@@ -454,7 +464,8 @@ impl<'a> Engine<'a> {
         self.guest.output()
     }
 
-    /// Whether the run ends with a retirement of this fate. Where the hart goes on only the limits are looked at.
+    /// Whether the run ends with a retirement of this fate. Where the hart goes
+    /// on only the limits are looked at.
     #[inline(always)]
     fn ends_with(&self, choice: &Choice, fate: Fate) -> bool
         ensures { result ≡ is_some (ending_of fate
@@ -508,18 +519,30 @@ impl<'a> Engine<'a> {
     /// The harts that a retirement of this fate started begin at its moment.
     #[inline(always)]
     fn begin_started(&mut self, setting: &Setting, hart: HartId, fate: Fate)
-        requires idle { AreIdle self.old.guest (if goes_on fate then without_key hart.0 self.old.schedule else self.old.schedule) (started_by hart.0 fate self.old.started) }
+        requires idle { AreIdle self.old.guest
+            (if goes_on fate then without_key hart.0 self.old.schedule else self.old.schedule)
+            (started_by hart.0 fate self.old.started) }
         requires moment { self.old.time ≤ 2 ^ 60 }
         requires speedup { setting.now.choice.speedup ≤ GREATEST_SPEEDUP }
         requires room { length self.old.schedule ≡ HARTS }
         requires selected { self.old.selected ≡ [] }
         requires few { self.old.starts ≤ 2 ^ 62 }
-        ensures begun { AreBegun (ticks_in setting.now self.old.guest) self.old.time (started_by hart.0 fate self.old.started) (if goes_on fate then without_key hart.0 self.old.schedule else self.old.schedule) self.new.schedule }
-        ensures selected { self.new.selected ≡ selected_of setting.now self.old.guest (started_by hart.0 fate self.old.started) }
+        ensures begun { AreBegun (ticks_in setting.now self.old.guest) self.old.time
+            (started_by hart.0 fate self.old.started)
+            (if goes_on fate then without_key hart.0 self.old.schedule else self.old.schedule)
+            self.new.schedule }
+        ensures selected { self.new.selected
+            ≡ selected_of setting.now self.old.guest (started_by hart.0 fate self.old.started) }
         ensures room { length self.new.schedule ≡ HARTS }
         ensures starts { self.new.starts ≡ self.old.starts + length self.new.selected }
-        ensures few { length self.new.selected + many (if goes_on fate then without_key hart.0 self.old.schedule else self.old.schedule) ≤ many self.new.schedule }
-        ensures rest { self.new ≡ record self.old { schedule = self.new.schedule; selected = self.new.selected; starts = self.new.starts } }
+        ensures few { length self.new.selected + many
+            (if goes_on fate then without_key hart.0 self.old.schedule else self.old.schedule)
+            ≤ many self.new.schedule }
+        ensures rest { self.new ≡ record self.old {
+          schedule = self.new.schedule;
+          selected = self.new.selected;
+          starts = self.new.starts;
+        } }
     {
         begin_again(
             setting,

@@ -11,8 +11,8 @@ use progress_points::Points;
 use std::alloc::{AllocError, Global};
 use std::marker::Model;
 
-/// The delayed run of a program before a beginning, while no instruction of the selected line was begun. It is the same at
-/// every speedup, so each one is forked from it.
+/// The delayed run of a program before a beginning, while no instruction of the selected line
+/// was begun. It is the same at every speedup, so each one is forked from it.
 ///
 /// Contracts see as its state what stands before the beginning, and the harts that begin next.
 #[derive(Drop)]
@@ -76,14 +76,16 @@ impl<'a> Lead<'a> {
         })
     }
 
-    /// Runs up to, not including, the first beginning that has a hart whose next instruction has the selected line. Gives
-    /// None there, and else how the run has ended. A further call changes nothing and gives the same.
+    /// Runs up to, not including, the first beginning that has a hart whose next
+    /// instruction has the selected line. Gives None there, and else how the run has ended.
+    /// A further call changes nothing and gives the same.
     pub fn run(&mut self) -> Option<Ending>
         ensures ended { result ≡ self.new.state.state.ending }
         ensures none { is_some result ≡ not (starts_next (experiment_of self.old) self.new.state) }
         ensures stands { Stands (experiment_of self.old) self.new.state }
         ensures shared { IsShared (experiment_of self.old) self.new.state }
-        ensures stays { IsTrue (starts_next (experiment_of self.old) self.old.state) → self.new ≡ self.old }
+        ensures stays { IsTrue (starts_next (experiment_of self.old) self.old.state)
+            → self.new ≡ self.old }
         ensures over { IsSome self.old.state.state.ending → self.new ≡ self.old }
         ensures rest { self.new ≡ record self.old { state = self.new.state } }
     {
@@ -93,23 +95,27 @@ impl<'a> Lead<'a> {
     /// Makes this lead the same as one that stands where it was made, with another line selected.
     pub fn again(&mut self, first: &Lead<'a>, line: LineId)
         requires arguments { arguments self.old ≡ arguments first.now }
-        requires unbegun { first.now.state ≡ record { state = unbegun (experiment_of first.now); harts = 0 ∷ [] } }
-        ensures { self.new ≡ record first.now { choice = record first.now.choice { selected = Some line } } }
+        requires unbegun { first.now.state
+            ≡ record { state = unbegun (experiment_of first.now); harts = 0 ∷ [] } }
+        ensures { self.new
+            ≡ record first.now { choice = record first.now.choice { selected = Some line } } }
     {
         self.machine.again_from(&first.machine, line);
         self.speedup = first.speedup;
     }
 
-    /// Makes a machine the run of this lead's line at a speedup, after the beginning that comes next. Where the lead has ended,
-    /// none comes, and the machine has ended likewise.
+    /// Makes a machine the run of this lead's line at a speedup, after the beginning
+    /// that comes next. Where the lead has ended, none comes, and the machine has ended likewise.
     pub fn fork(&self, machine: &mut Machine<'a>, speedup: u8)
         requires speedup { speedup ≤ GREATEST_SPEEDUP }
         requires arguments { arguments machine.old ≡ arguments self.now }
         ensures forked { machine.new ≡ record machine.old {
           choice = record self.now.choice { speedup = speedup };
-          state = begin (at_speedup speedup (experiment_of self.now)) self.now.state.harts self.now.state.state;
+          state = begin (at_speedup speedup (experiment_of self.now))
+              self.now.state.harts self.now.state.state;
         } }
-        ensures stands { machine.new.state ≡ standing (experiment_of machine.new) (events machine.new.state) }
+        ensures stands { machine.new.state
+            ≡ standing (experiment_of machine.new) (events machine.new.state) }
     {
         machine.fork_from(&self.machine, speedup);
     }

@@ -17,8 +17,8 @@ use progress_points::Points;
 use std::alloc::{AllocError, Global};
 use std::marker::Model;
 
-/// The delayed run of a program: as an instruction of the selected line starts, every other hart that runs or sleeps is
-/// made to pause for what that instruction is to be spared.
+/// The delayed run of a program: as an instruction of the selected line starts, every other hart
+/// that runs or sleeps is made to pause for what that instruction is to be spared.
 #[derive(Drop)]
 pub struct Machine<'a> {
     image: &'a Image<'a>,
@@ -93,17 +93,21 @@ impl<'a> Machine<'a> {
         })
     }
 
-    /// Runs through all wakes before the next retirement and up to and including that, with what begins after it. Gives the
-    /// ending once the run has ended; a further step changes nothing and gives the same.
+    /// Runs through all wakes before the next retirement and up to and including that,
+    /// with what begins after it. Gives the ending once the run has ended; a further step changes
+    /// nothing and gives the same.
     /// None before.
     #[inline]
     pub fn step(&mut self) -> Option<Ending>
         ensures ended { result ≡ self.new.state.ending }
-        ensures next { self.old.state.ending ≡ None → self.new.state ≡ standing (experiment_of self.old) (events self.new.state) }
-        ensures steps { self.old.state.ending ≡ None → Steps (experiment_of self.old) self.old.state self.new.state }
+        ensures next { self.old.state.ending ≡ None
+            → self.new.state ≡ standing (experiment_of self.old) (events self.new.state) }
+        ensures steps { self.old.state.ending ≡ None
+            → Steps (experiment_of self.old) self.old.state self.new.state }
         ensures over { IsSome self.old.state.ending → self.new.state ≡ self.old.state }
         ensures rest { self.new ≡ record self.old { state = self.new.state } }
-        ensures agrees { Agrees self.new.state (shortened (experiment_of self.old) (events self.new.state)) }
+        ensures agrees { Agrees self.new.state
+            (shortened (experiment_of self.old) (events self.new.state)) }
     {
         let mut going = self.engine.ending.is_none();
         while going {
@@ -112,11 +116,13 @@ impl<'a> Machine<'a> {
         self.engine.ending
     }
 
-    /// One event of a run that goes on: the hart that is due first wakes or retires, and what this started begins.
+    /// One event of a run that goes on: the hart that is due first wakes or retires,
+    /// and what this started begins.
     #[inline(always)]
     fn event(&mut self) -> Event
         requires { self.old.state.ending ≡ None }
-        ensures next { self.new.state ≡ standing (experiment_of self.old) (events self.old.state + 1) }
+        ensures next { self.new.state
+            ≡ standing (experiment_of self.old) (events self.old.state + 1) }
         ensures count { events self.new.state ≡ events self.old.state + 1 }
         ensures happens { Happens (experiment_of self.old) result self.old.state self.new.state }
         ensures rest { self.new ≡ record self.old { state = self.new.state } }
@@ -136,15 +142,18 @@ impl<'a> Machine<'a> {
     /// Runs to the end, and gives it. A further run changes nothing and gives the same.
     pub fn run(&mut self) -> Ending
         ensures ended { self.new.state.ending ≡ Some result }
-        ensures record { let x = experiment_of self.old in record_of x self.new.state result ≡ delayed_record x }
+        ensures record { let x = experiment_of self.old in
+            record_of x self.new.state result ≡ delayed_record x }
         ensures delayed { let x = experiment_of self.old in IsDelayed x (delayed_record x) }
-        ensures law { let x = experiment_of self.old in net (delayed_record x) ≡ shortened_record x }
+        ensures law { let x = experiment_of self.old in
+            net (delayed_record x) ≡ shortened_record x }
         ensures shortened { let x = experiment_of self.old in IsShortened x (shortened_record x) }
         ensures moves { AgreesThroughout (experiment_of self.old) }
         ensures one { EndsOnce (experiment_of self.old) }
         ensures last { let x = experiment_of self.old in self.new.state ≡ standing x (enough x) }
         ensures rest { self.new ≡ record self.old { state = self.new.state } }
-        ensures agrees { let x = experiment_of self.old in Agrees self.new.state (shortened x (enough x)) }
+        ensures agrees { let x = experiment_of self.old in
+            Agrees self.new.state (shortened x (enough x)) }
     {
         let mut ending = self.engine.ending;
         while ending.is_none() {
@@ -177,7 +186,8 @@ impl<'a> Machine<'a> {
         ensures ended { result ≡ self.new.state.ending }
         ensures stops { is_unstarted self.new.state ≡ false }
         ensures none { (before (experiment_of self.old) (events self.new.state)).state.starts ≡ 0 }
-        ensures stands { self.new.state ≡ standing (experiment_of self.old) (events self.new.state) }
+        ensures stands { self.new.state
+            ≡ standing (experiment_of self.old) (events self.new.state) }
         ensures stays { is_unstarted self.old.state ≡ false → self.new ≡ self.old }
         ensures rest { self.new ≡ record self.old { state = self.new.state } }
     {
@@ -189,8 +199,9 @@ impl<'a> Machine<'a> {
         self.ending()
     }
 
-    /// Makes this machine the run, at a speedup, of a lead: one at speedup 0 that counted no start before its last beginning.
-    /// So the selected harts that began last raise the delay now, and are due sooner by as much.
+    /// Makes this machine the run, at a speedup, of a lead: one at speedup 0 that counted no start
+    /// before its last beginning. So the selected harts that began last raise the delay now,
+    /// and are due sooner by as much.
     pub(crate) fn fork_from(&mut self, lead: &Machine<'a>, speedup: u8)
         requires small { speedup ≤ GREATEST_SPEEDUP }
         requires arguments { arguments self.old ≡ arguments lead.now }
@@ -212,7 +223,8 @@ impl<'a> Machine<'a> {
         self.engine.hasten(speedup);
     }
 
-    /// Makes this machine another one at speedup 0 that stands where it was made, with another line selected.
+    /// Makes this machine another one at speedup 0 that stands where it was made,
+    /// with another line selected.
     pub(crate) fn again_from(&mut self, first: &Machine<'a>, line: LineId)
         requires arguments { arguments self.old ≡ arguments first.now }
         requires whole { first.now.choice.speedup ≡ 0 }
@@ -246,12 +258,13 @@ impl<'a> Machine<'a> {
         self.credits.raised()
     }
 
-    /// When a hart retires or wakes next, in net ticks; None exactly where it neither runs nor sleeps, or the run has
-    /// ended.
+    /// When a hart retires or wakes next, in net ticks; None exactly where it neither runs
+    /// nor sleeps, or the run has ended.
     pub fn net_due(&self, hart: HartId) -> Option<Tick>
         ensures due { result ≡ net_due_of self.now.state hart.0 }
         ensures shortened { self.now.state.ending ≡ None →
-            result ≡ key_of (shortened (experiment_of self.now) (events self.now.state)).dues hart.0 }
+            result
+            ≡ key_of (shortened (experiment_of self.now) (events self.now.state)).dues hart.0 }
     {
         match self.engine.ending {
             Some(_) => None,
@@ -279,12 +292,14 @@ impl<'a> Machine<'a> {
         self.engine.guest.harts()
     }
 
-    /// How many instructions were retired. The run stands after as many retirements and wakes as it counts, beside the
-    /// shortened machine.
+    /// How many instructions were retired. The run stands after as many retirements and wakes
+    /// as it counts, beside the shortened machine.
     pub fn retired(&self) -> u64
         ensures count { result ≡ self.now.state.retired }
-        ensures stands { self.now.state ≡ standing (experiment_of self.now) (events self.now.state) }
-        ensures agrees { Agrees self.now.state (shortened (experiment_of self.now) (events self.now.state)) }
+        ensures stands { self.now.state
+            ≡ standing (experiment_of self.now) (events self.now.state) }
+        ensures agrees { Agrees self.now.state
+            (shortened (experiment_of self.now) (events self.now.state)) }
     {
         self.engine.retired
     }
@@ -296,7 +311,8 @@ impl<'a> Machine<'a> {
         self.engine.starts
     }
 
-    /// The visits of progress points, in order, at most 1,048,576. None was before its delay was raised.
+    /// The visits of progress points, in order, at most 1,048,576. None was before
+    /// its delay was raised.
     pub fn visits(&self) -> &[Visit]
         ensures visits { map visit_as result.now ≡ self.now.state.visits }
         ensures few { length result.now ≤ 1048576 }
@@ -314,11 +330,13 @@ impl<'a> Machine<'a> {
         self.engine.guest.output()
     }
 
-    /// How the run came out; None before it has ended. Its time and its counts are at most 10^17, and a trap is of a hart below `HARTS`.
+    /// How the run came out; None before it has ended. Its time and its counts are at most 10^17,
+    /// and a trap is of a hart below `HARTS`.
     pub fn outcome(&self) -> Option<Outcome>
         ensures outcome { result ≡ outcome_of self.now.state }
         ensures small { IfSome result IsSmall }
-        ensures in_time { MatchOption result (self.now.state.ending ≡ None) (λ outcome. outcome.delay ≤ outcome.time) }
+        ensures in_time { MatchOption result (self.now.state.ending ≡ None)
+            (λ outcome. outcome.delay ≤ outcome.time) }
     {
         let ending = self.engine.ending?;
         Some(Outcome {

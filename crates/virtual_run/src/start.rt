@@ -59,7 +59,8 @@ pub fn add_if(selected: bool, harts: &mut HartList, hart: HartId)
     }
 }
 
-/// A hart's next instruction begins at a moment. Where it has the selected line the hart is put to the selected ones.
+/// A hart's next instruction begins at a moment. Where it has the selected line the hart is
+/// put to the selected ones.
 #[inline(never)]
 pub fn begin(
     setting: &Setting,
@@ -73,15 +74,18 @@ pub fn begin(
     requires moment { moment ≤ 2 ^ 60 }
     requires speedup { setting.now.choice.speedup ≤ GREATEST_SPEEDUP }
     requires few { length selected.old < HARTS }
-    ensures due { schedule.new ≡ with_key hart.0 (moment + ticks_in setting.now guest.now hart.0) schedule.old }
-    ensures selected { selected.new ≡ selected.old ++ selected_of setting.now guest.now (hart.0 ∷ []) }
+    ensures due { schedule.new
+        ≡ with_key hart.0 (moment + ticks_in setting.now guest.now hart.0) schedule.old }
+    ensures selected { selected.new
+        ≡ selected.old ++ selected_of setting.now guest.now (hart.0 ∷ []) }
 {
     let cost = cost_of(setting, guest, hart);
     add_if(cost.selected, selected, hart);
     schedule.put(hart, moment + cost.ticks);
 }
 
-/// The next instruction of the hart that retired or woke begins at a moment: the hart gets another place in the schedule.
+/// The next instruction of the hart that retired or woke begins at a moment:
+/// the hart gets another place in the schedule.
 #[inline(always)]
 pub fn begin_next(
     setting: &Setting,
@@ -95,8 +99,10 @@ pub fn begin_next(
     requires moment { moment ≤ 2 ^ 60 }
     requires speedup { setting.now.choice.speedup ≤ GREATEST_SPEEDUP }
     requires few { length selected.old < HARTS }
-    ensures due { schedule.new ≡ with_key hart.0 (moment + ticks_in setting.now guest.now hart.0) (without_key hart.0 schedule.old) }
-    ensures selected { selected.new ≡ selected.old ++ selected_of setting.now guest.now (hart.0 ∷ []) }
+    ensures due { schedule.new ≡ with_key hart.0 (moment + ticks_in setting.now guest.now hart.0)
+        (without_key hart.0 schedule.old) }
+    ensures selected { selected.new
+        ≡ selected.old ++ selected_of setting.now guest.now (hart.0 ∷ []) }
 {
     let cost = cost_of(setting, guest, hart);
     add_if(cost.selected, selected, hart);
@@ -114,12 +120,16 @@ pub fn begin_again(
     fate: Fate,
     moment: Tick,
 )
-    requires idle { IsTrue (goes_on fate) → IsIdle guest.now (without_key hart.0 schedule.old) hart.0 }
+    requires idle { IsTrue (goes_on fate)
+        → IsIdle guest.now (without_key hart.0 schedule.old) hart.0 }
     requires moment { moment ≤ 2 ^ 60 }
     requires speedup { setting.now.choice.speedup ≤ GREATEST_SPEEDUP }
     requires selected { selected.old ≡ [] }
-    ensures due { schedule.new ≡ (if goes_on fate then with_key hart.0 (moment + ticks_in setting.now guest.now hart.0) (without_key hart.0 schedule.old) else schedule.old) }
-    ensures selected { selected.new ≡ (if goes_on fate then selected_of setting.now guest.now (hart.0 ∷ []) else []) }
+    ensures due { schedule.new
+        ≡ (if goes_on fate then with_key hart.0 (moment + ticks_in setting.now guest.now hart.0)
+        (without_key hart.0 schedule.old) else schedule.old) }
+    ensures selected { selected.new
+        ≡ (if goes_on fate then selected_of setting.now guest.now (hart.0 ∷ []) else []) }
 {
     match fate {
         Fate::Goes => begin_next(setting, guest, schedule, selected, hart, moment),
@@ -141,10 +151,13 @@ pub fn begin_each(
     requires speedup { setting.now.choice.speedup ≤ GREATEST_SPEEDUP }
     requires room { length schedule.old ≡ HARTS }
     requires few { length selected.old ≤ many schedule.old }
-    ensures begun { AreBegun (ticks_in setting.now guest.now) moment (map (λ hart. hart.0) harts.now) schedule.old schedule.new }
-    ensures selected { selected.new ≡ selected.old ++ selected_of setting.now guest.now (map (λ hart. hart.0) harts.now) }
+    ensures begun { AreBegun (ticks_in setting.now guest.now) moment
+        (map (λ hart. hart.0) harts.now) schedule.old schedule.new }
+    ensures selected { selected.new
+        ≡ selected.old ++ selected_of setting.now guest.now (map (λ hart. hart.0) harts.now) }
     ensures room { length schedule.new ≡ HARTS }
-    ensures few { length selected.new + many schedule.old ≤ length selected.old + many schedule.new }
+    ensures few { length selected.new + many schedule.old
+        ≤ length selected.old + many schedule.new }
 {
     for hart in harts {
         begin(setting, guest, schedule, selected, *hart, moment);
@@ -164,7 +177,8 @@ fn hasten(schedule: &mut Schedule, hart: HartId, ticks: Tick)
 pub fn hasten_each(schedule: &mut Schedule, guest: &Guest, harts: &[HartId], speedup: u8)
     requires made { AllMade guest.now (map (λ hart. hart.0) harts.now) }
     requires speedup { speedup ≤ GREATEST_SPEEDUP }
-    ensures { schedule.new ≡ with_sooner (raise_ticks guest.now speedup) (map (λ hart. hart.0) harts.now) schedule.old }
+    ensures { schedule.new ≡ with_sooner (raise_ticks guest.now speedup)
+        (map (λ hart. hart.0) harts.now) schedule.old }
 {
     for hart in harts {
         hasten(schedule, *hart, raised_by(guest, *hart, speedup));

@@ -23,7 +23,8 @@ impl Model for Visits {
 
     ghost view = { λ v. record { kept = v.kept.items; limit = v.limit } };
 
-    ghost invariant = { λ v. (v.limit ≤ vec_capacity v.kept) × (v.limit ≤ 1048576) × (length v.kept.items ≤ v.limit)
+    ghost invariant = { λ v.
+        (v.limit ≤ vec_capacity v.kept) × (v.limit ≤ 1048576) × (length v.kept.items ≤ v.limit)
         × All (λ visit. visit.hart.0 < HARTS) v.kept.items };
 }
 

@@ -69,8 +69,8 @@ const ENDING: [&[u8]; 18] = [
     b"    .word 0",
 ];
 
-/// The text that a seed and 1 to 2,000 blocks make, of at most 2 MiB. The assembler accepts each. Only want of memory stands
-/// against it.
+/// The text that a seed and 1 to 2,000 blocks make, of at most 2 MiB. The assembler accepts each.
+/// Only want of memory stands against it.
 #[tactic(auto, unfolding(crate::specs::Text::generated))]
 pub fn source(alloc: Global, seed: u64, size: u32) -> Result<Generated, AllocError>
     requires least { 1 ≤ size }
