@@ -42,7 +42,10 @@ pub record IsTrialFile (source : Source) (file : List ℕ) : Type 0 where
 
 -- the position of the line of the progress point; or the name, where no line is found
 unfoldable pub trial_point : ℕ → List Line → Result ℕ Text
-trial_point point lines = elim (position_named trial_name point lines) [ Some line ↦ Ok line | None ↦ Err trial_name ]
+trial_point point lines = elim (position_named trial_name point lines) [
+  | Some line ↦ Ok line
+  | None ↦ Err trial_name
+]
 
 -- of n positions the multiples of a tenth of n, rounded up: ten of these are n or more
 unfoldable pub tenths : ℕ → List ℕ

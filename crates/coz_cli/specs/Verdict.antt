@@ -92,7 +92,8 @@ table_verdict (Ok table) next = next table
 
 -- of a file that is to be a program with a line table, and of what follows
 abbrev pub program_verdict : List ℕ → (ImageParts → Table → Verdict) → Verdict
-program_verdict file next = loaded_verdict (load_answer file) (λ image. table_verdict (table_in file) (next image))
+program_verdict file next =
+    loaded_verdict (load_answer file) (λ image. table_verdict (table_in file) (next image))
 
 -- of lines that are named, if the program has them, and of what follows
 abbrev pub named_verdict : {A : Type 0} → Result A Text → (A → Verdict) → Verdict
@@ -204,9 +205,13 @@ command_verdict Run asked held =
 command_verdict Really asked held =
     files_verdict asked held (asked_verdict asked (λ x. really_verdict (shortened_record x)))
 command_verdict Profile asked held = files_verdict asked held (profiled_verdict asked)
-command_verdict Lines asked held = read_verdict 33554432 asked.target (file_at held asked.target) lines_verdict
-command_verdict Plot asked held = read_verdict MAX_PROFILE asked.target (file_at held asked.target) plot_verdict
-command_verdict Asm asked held = read_verdict 4194304 asked.target (file_at held asked.target) (λ source. source_verdict asked.target asked.dwarf (assembly source))
+command_verdict Lines asked held =
+    read_verdict 33554432 asked.target (file_at held asked.target) lines_verdict
+command_verdict Plot asked held =
+    read_verdict MAX_PROFILE asked.target (file_at held asked.target) plot_verdict
+command_verdict Asm asked held =
+    read_verdict 4194304 asked.target (file_at held asked.target) (λ source.
+    source_verdict asked.target asked.dwarf (assembly source))
 command_verdict Trial asked held = trial_verdict asked.seed asked.size
 
 abbrev pub request_verdict : Option Request → Held → Verdict

@@ -143,8 +143,10 @@ fn asked_of<'r>(alloc: Global, index: &LineIndex, request: &'r Request) -> Resul
     requires some_budget { 1 ≤ request.now.budget }
     ensures no_read { IsRead result → ⊥ }
     ensures valid { IfOk result (λ asked. IsChoice asked.choice) }
-    ensures settled { (IsMemory result → ⊥) → (image : ImageParts) (input : List ℕ) (print : Experiment Guest → Verdict) →
-        follows result (λ asked. print (experiment image (position_at index.now) (point_of asked.points) input asked.choice))
+    ensures settled { (IsMemory result → ⊥)
+        → (image : ImageParts) (input : List ℕ) (print : Experiment Guest → Verdict) →
+        follows result (λ asked.
+        print (experiment image (position_at index.now) (point_of asked.points) input asked.choice))
         ≡ asked_verdict request.now print index.now.lines (runs_in image index.now input) }
 {
     let selected = line_named(index, bytes_of(&request.line))?;
@@ -153,7 +155,8 @@ fn asked_of<'r>(alloc: Global, index: &LineIndex, request: &'r Request) -> Resul
     Ok(Asked { points, choice })
 }
 
-/// What is written of the delayed run of a program with these lines, if it has those that are named.
+/// What is written of the delayed run of a program with these lines,
+/// if it has those that are named.
 fn delayed_answer<'r>(
     alloc: Global,
     image: &Image,

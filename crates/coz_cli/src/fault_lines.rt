@@ -53,7 +53,8 @@ fn put_number<S: Sink>(sink: &mut S, so_far: PutAnswer, n: u64) -> PutAnswer
 
 /// Puts the line of a fault: what it is of, its kind and its place.
 fn put_at<S: Sink>(sink: &mut S, before: &[u8], kind: &[u8], place: u64) -> PutAnswer
-    ensures { Puts S.holds S.faults sink.old sink.new result (before.now ++ kind.now ++ codes " at " ++ decimal place ++ codes "\n") }
+    ensures { Puts S.holds S.faults sink.old sink.new result
+        (before.now ++ kind.now ++ codes " at " ++ decimal place ++ codes "\n") }
 {
     let answer = put_next(sink, PutAnswer::Done, before);
     let answer = put_next(sink, answer, kind);
@@ -64,7 +65,8 @@ fn put_at<S: Sink>(sink: &mut S, before: &[u8], kind: &[u8], place: u64) -> PutA
 
 /// Puts the line of a count that is too large: what it is of, and its unit.
 fn put_count<S: Sink>(sink: &mut S, before: &[u8], count: u64, behind: &[u8]) -> PutAnswer
-    ensures { Puts S.holds S.faults sink.old sink.new result (before.now ++ decimal count ++ behind.now ++ codes "\n") }
+    ensures { Puts S.holds S.faults sink.old sink.new result
+        (before.now ++ decimal count ++ behind.now ++ codes "\n") }
 {
     let answer = put_next(sink, PutAnswer::Done, before);
     let answer = put_number(sink, answer, count);

@@ -67,7 +67,8 @@ pub fn read_program<'a, 'f>(alloc: Global, file: &'f [u8]) -> Result<Program<'f>
     requires { length file.now ≤ 33554432 }
     ensures no_read { IsRead result → ⊥ }
     ensures settled { (IsMemory result → ⊥) → (next : ImageParts → Table → Verdict) →
-        follows result (λ program. next program.image (view program.table)) ≡ program_verdict file.now next }
+        follows result (λ program. next program.image (view program.table))
+        ≡ program_verdict file.now next }
     ensures loads { IfOk result (λ program. load_answer file.now ≡ Ok program.image) }
     ensures reads { IfOk result (λ program. table_in file.now ≡ Ok (view program.table)) }
     ensures indexed { IfOk result (λ program.

@@ -43,7 +43,8 @@ fn source_answer<'r>(alloc: Global, source: &[u8], name: &str, version: u8) -> A
     requires named { IsName name.now }
     requires version { IsVersion version }
     ensures no_read { IsRead result → ⊥ }
-    ensures settled { (IsMemory result → ⊥) → answered result ≡ source_verdict name.now version (assembly source.now) }
+    ensures settled { (IsMemory result → ⊥)
+        → answered result ≡ source_verdict name.now version (assembly source.now) }
 {
     let assembled = assemble(alloc, source)?;
     let text = write_elf(alloc, &assembled, name.as_bytes(), version)?;

@@ -71,8 +71,10 @@ rows_on file segments sections areas =
     ∷ entry_row PackedLines (first_section (λ s. holds_lines file s && is_compressed s) sections)
     ∷ entry_row Interp (first_segment is_interp segments)
     ∷ entry_row SizeOrder (first_segment (λ s. is_load s && nat_lt s.memsz s.filesz) segments)
-    ∷ entry_row AddressOut (first_segment (λ s. nat_lt (PAGE * first_page s) 0x1000 || nat_lt LOAD_END (PAGE * end_page s)) areas)
-    ∷ entry_row WritableCode (first_segment (λ s. is_load s && is_writable s && is_executable s) segments)
+    ∷ entry_row AddressOut (first_segment (λ s.
+    nat_lt (PAGE * first_page s) 0x1000 || nat_lt LOAD_END (PAGE * end_page s)) areas)
+    ∷ entry_row WritableCode
+    (first_segment (λ s. is_load s && is_writable s && is_executable s) segments)
     ∷ entry_row SharedPage (first_area (λ earlier s. list_any (share_page s) earlier) areas)
     ∷ entry_row TooMuch
     (first_area (λ earlier s. nat_lt 0x4000000 (PAGE * sum_by pages (s ∷ earlier))) areas)

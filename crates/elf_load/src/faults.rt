@@ -130,7 +130,8 @@ fn sizes_in_order(segments: &[Segment]) -> Result<(), ElfFault>
 
 /// Each load area is where a program may be.
 fn areas_in_range(areas: &[Segment]) -> Result<(), ElfFault>
-    ensures { Judges result (entry_row ElfKind.AddressOut (first_segment (λ s. nat_lt (PAGE * first_page s) 0x1000 || nat_lt LOAD_END (PAGE * end_page s)) areas.now)) }
+    ensures { Judges result (entry_row ElfKind.AddressOut (first_segment (λ s.
+        nat_lt (PAGE * first_page s) 0x1000 || nat_lt LOAD_END (PAGE * end_page s)) areas.now)) }
 {
     let found = areas
         .iter()

@@ -110,7 +110,10 @@ with_break to s =
 
 abbrev pub with_run : ℕ → ℕ → ℕ → Space → Space
 with_run first count protection s =
-    space (record s.regions { mapped = filter (λ p. nat_lt p first) s.regions.mapped ++ run first count ++ filter (λ p. nat_lt first p) s.regions.mapped })
+    space (record s.regions {
+      mapped = filter (λ p. nat_lt p first) s.regions.mapped ++ run first count
+          ++ filter (λ p. nat_lt first p) s.regions.mapped;
+    })
     (with_zeros first count (with_rights_from first count (rights_of protection) s.memory))
 
 -- mmap of so many bytes
@@ -133,7 +136,8 @@ is_in_map layout address length =
 
 abbrev pub without_run : ℕ → ℕ → Space → Space
 without_run first count s =
-    space (record s.regions { mapped = filter (λ p. not (is_in_run first count p)) s.regions.mapped })
+    space
+    (record s.regions { mapped = filter (λ p. not (is_in_run first count p)) s.regions.mapped })
     (with_rights_from first count no_rights s.memory)
 
 -- munmap of so many bytes from an address on
@@ -149,5 +153,10 @@ protect address length protection s =
     if not (is_page_start address) then refused invalid s
     else if length == 0 then refused (pos 0) s
     else if has protection 4 then refused no_access s
-    else if not (is_each (is_known s.regions) (page_of address) (pages_for length)) then refused no_memory s
-    else record { answer = pos 0; space = space s.regions (with_rights_from (page_of address) (pages_for length) (rights_of protection) s.memory) }
+    else if not (is_each (is_known s.regions) (page_of address) (pages_for length))
+    then refused no_memory s
+    else record {
+      answer = pos 0;
+      space = space s.regions
+          (with_rights_from (page_of address) (pages_for length) (rights_of protection) s.memory);
+    }

@@ -101,7 +101,9 @@ with_rights_from page (suc n) r m = with_rights_from (page + 1) n r (with_rights
 
 -- so many pages from one on are zeros
 abbrev pub with_zeros : ℕ → ℕ → MemoryMap → MemoryMap
-with_zeros page n m = record m { bytes = without (λ a. nat_le page (page_of a) && nat_lt (page_of a) (page + n)) m.bytes }
+with_zeros page n m = record m {
+  bytes = without (λ a. nat_le page (page_of a) && nat_lt (page_of a) (page + n)) m.bytes;
+}
 
 abbrev pub area_bytes : ImageParts → Area → List ℕ
 area_bytes image area = take area.filled (drop area.offset image.file)
@@ -109,7 +111,8 @@ area_bytes image area = take area.filled (drop area.offset image.file)
 -- with a load area of an image
 abbrev pub with_area : ImageParts → MemoryMap → Area → MemoryMap
 with_area image m area =
-    with_bytes area.vaddr (area_bytes image area) (with_rights_from (page_of area.start) (page_of area.size) area.rights m)
+    with_bytes area.vaddr (area_bytes image area)
+    (with_rights_from (page_of area.start) (page_of area.size) area.rights m)
 
 abbrev pub empty_memory : ImageParts → Layout → MemoryMap
 empty_memory image layout = record { image = image; layout = layout; rights = []; bytes = [] }

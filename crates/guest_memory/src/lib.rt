@@ -118,7 +118,8 @@ impl<'a> Model for Memory<'a> {
 
     ghost Value = { MemoryMap };
 
-    ghost view = { λ m. map_of m.image.now m.layout m.spans.items m.pages.each.items m.bytes.items };
+    ghost view = { λ m.
+        map_of m.image.now m.layout m.spans.items m.pages.each.items m.bytes.items };
 
     ghost invariant = { λ m.
         IsMemory m.image.now m.layout m.spans.items m.pages.each.items m.bytes.items
@@ -193,7 +194,8 @@ impl<'a> Memory<'a> {
 
     /// Gives pages in a row their rights.
     fn give_run(&mut self, first: u64, count: u64, rights: Rights)
-        requires { (q : ℕ) → first ≤ q → q < first + count → IsKnown self.old.image.areas self.old.layout q }
+        requires { (q : ℕ) → first ≤ q → q < first + count
+            → IsKnown self.old.image.areas self.old.layout q }
         ensures { self.new ≡ with_rights_from first count rights self.old }
     {
         for i in 0..count {
@@ -210,7 +212,8 @@ impl<'a> Memory<'a> {
             → IsKnown self.old.image.areas self.old.layout q }
         requires no_execute { rights.execute ≡ false }
         ensures { self.new ≡ (if zero
-            then with_zeros (page_of page) pages (with_rights_from (page_of page) pages rights self.old)
+            then with_zeros (page_of page) pages
+            (with_rights_from (page_of page) pages rights self.old)
             else with_rights_from (page_of page) pages rights self.old) }
     {
         self.give_run(page / PAGE, pages, rights);
@@ -220,7 +223,8 @@ impl<'a> Memory<'a> {
     }
 
     fn zero_run(&mut self, first: u64, count: u64)
-        requires { (q : ℕ) → first ≤ q → q < first + count → IsKnown self.old.image.areas self.old.layout q }
+        requires { (q : ℕ) → first ≤ q → q < first + count
+            → IsKnown self.old.image.areas self.old.layout q }
         ensures { self.new ≡ with_zeros first count self.old }
     {
         for i in 0..count {

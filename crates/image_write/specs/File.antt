@@ -84,7 +84,8 @@ segment flags place address size =
 unfoldable pub segments : Program → List ℕ
 segments p =
     segment 5 PAGE TEXT_START (length p.text)
-    ++ (if has_content p then segment 6 (PAGE + whole_pages p) (TEXT_START + whole_pages p) (length p.content) else [])
+    ++ (if has_content p
+    then segment 6 (PAGE + whole_pages p) (TEXT_START + whole_pages p) (length p.content) else [])
 
 unfoldable pub section : ℕ → ℕ → ℕ → ℕ → ℕ → ℕ → List ℕ
 section name kind flags place size align =

@@ -38,7 +38,8 @@ rows_from version address line (l ∷ more) =
 -- the first word has a row
 abbrev pub rows_of : ℕ → List ℕ → List Row
 rows_of version [] = row_at version TEXT_START 1 true ∷ []
-rows_of version (l ∷ more) = row_at version TEXT_START l false ∷ rows_from version (TEXT_START + 4) l more
+rows_of version (l ∷ more) =
+    row_at version TEXT_START l false ∷ rows_from version (TEXT_START + 4) l more
 
 -- of the lines of a program's words, and the name of its source
 unfoldable pub table_of : List ℕ → List ℕ → ℕ → Table

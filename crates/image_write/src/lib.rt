@@ -93,10 +93,16 @@ pub fn write_elf(
     requires writable { IsWritable (view assembled.now) }
     requires named { IsName name.now }
     requires version { IsVersion version }
-    ensures bytes { IfOk result (λ v. v.items ≡ written_file (view assembled.now) name.now version) }
-    ensures loads { IsProgram (view assembled.now) → IfOk result (λ v. load_answer v.items ≡ Ok (image_of (view assembled.now) v.items)) }
-    ensures line_unit { IsProgram (view assembled.now) → IfOk result (λ v. section v.items (codes ".debug_line") ≡ Some (unit (view assembled.now).lines name.now version)) }
-    ensures lines { IsProgram (view assembled.now) → IfOk result (λ v. option_map (reading (strings [] [])) (section v.items (codes ".debug_line")) ≡ Some (Ok (table_of (view assembled.now).lines name.now version))) }
+    ensures bytes { IfOk result (λ v.
+        v.items ≡ written_file (view assembled.now) name.now version) }
+    ensures loads { IsProgram (view assembled.now)
+        → IfOk result (λ v. load_answer v.items ≡ Ok (image_of (view assembled.now) v.items)) }
+    ensures line_unit { IsProgram (view assembled.now)
+        → IfOk result (λ v. section v.items (codes ".debug_line")
+        ≡ Some (unit (view assembled.now).lines name.now version)) }
+    ensures lines { IsProgram (view assembled.now) → IfOk result (λ v.
+        option_map (reading (strings [] [])) (section v.items (codes ".debug_line"))
+        ≡ Some (Ok (table_of (view assembled.now).lines name.now version))) }
 {
     let unit = unit(alloc, assembled.lines.as_slice(), name, version)?;
     file_with(alloc, assembled, unit.as_slice())

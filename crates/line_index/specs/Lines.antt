@@ -22,7 +22,9 @@ is_rooted (b ∷ bs) = b == 47
 
 -- its name, behind its directory and a slash where it has one and doesn't begin at the root itself
 abbrev pub full_name : File → List ℕ
-full_name file = if is_empty file.directory || is_rooted file.name then file.name else file.directory ++ 47 ∷ file.name
+full_name file =
+    if is_empty file.directory || is_rooted file.name then file.name
+    else file.directory ++ 47 ∷ file.name
 
 -- the written path of a file
 abbrev pub path : File → List ℕ
@@ -40,9 +42,13 @@ next_address sequence later =
     option_map (λ (next : Row). next.address)
     (find (λ (next : Row). next.sequence == sequence) later)
 
--- a row covers the addresses from its own up to that of the next row of its sequence, which is not among them
+-- a row covers the addresses from its own up to that of the next row of its sequence,
+-- which is not among them
 abbrev pub is_covered : ℕ → Row → List Row → Bool
-is_covered a row later = elim (next_address row.sequence later) [ Some end ↦ nat_le row.address a && nat_lt a end | None ↦ false ]
+is_covered a row later = elim (next_address row.sequence later) [
+  | Some end ↦ nat_le row.address a && nat_lt a end
+  | None ↦ false
+]
 
 abbrev pub first_covering : ℕ → List Row → Option Row
 first_covering a [] = None
@@ -55,7 +61,9 @@ line_with number path = record { path = path; number = number }
 abbrev pub line_of_row : List File → Row → Option Line
 line_of_row files row =
     if row.line == 0 then None
-    else option_and_then (λ k. option_and_then (λ file. option_map (line_with row.line) (entry_path file)) (slice_get files k)) row.file
+    else option_and_then (λ k.
+    option_and_then (λ file. option_map (line_with row.line) (entry_path file)) (slice_get files k))
+    row.file
 
 abbrev pub is_executable : List Area → ℕ → Bool
 is_executable areas a =
@@ -105,4 +113,6 @@ is_line_below text number line = line.number == number && ends_with line.path te
 
 -- where in a list of lines in order: that of the path, else the first whose path ends with it
 abbrev pub position_named : List ℕ → ℕ → List Line → Option ℕ
-position_named text number lines = or_else (position (is_line_named text number) lines) (position (is_line_below text number) lines)
+position_named text number lines =
+    or_else (position (is_line_named text number) lines)
+    (position (is_line_below text number) lines)

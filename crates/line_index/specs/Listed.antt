@@ -36,11 +36,13 @@ is_same line (Some other) = is_line_named line.path line.number other
 -- the address has the line, and the address before it has not
 abbrev pub is_beginning : Table → List Area → Line → ℕ → Bool
 is_beginning table areas line zero = is_same line (line_of table areas zero)
-is_beginning table areas line (suc b) = is_same line (line_of table areas (suc b)) && not (is_same line (line_of table areas b))
+is_beginning table areas line (suc b) =
+    is_same line (line_of table areas (suc b)) && not (is_same line (line_of table areas b))
 
 -- the addresses at which the line begins, rising
 unfoldable pub entries_in : Table → List Area → Line → List ℕ
-entries_in table areas line = filter (is_beginning table areas line) (in_order nat_cmp (bounds table areas))
+entries_in table areas line =
+    filter (is_beginning table areas line) (in_order nat_cmp (bounds table areas))
 
 -- the position of the line of an address, if it has one
 unfoldable pub position_in : Table → List Area → ℕ → Option ℕ

@@ -15,7 +15,9 @@ is_different false other = other
 -- where the line at this position begins and, in turn with that, ends
 abbrev pub turns : ℕ → Option ℕ → List Change → List ℕ
 turns k before [] = []
-turns k before (c ∷ cs) = (if is_different (is_at k before) (is_at k c.position) then c.address ∷ [] else []) ++ turns k c.position cs
+turns k before (c ∷ cs) =
+    (if is_different (is_at k before) (is_at k c.position) then c.address ∷ [] else [])
+    ++ turns k c.position cs
 
 -- behind a beginning and before the end that follows: the first turn is passed,
 -- and it is not so of the others

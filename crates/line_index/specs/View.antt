@@ -28,4 +28,5 @@ pub record IsWhole (inside : Inside) : Type 0 where
       ≡ map label (map (line_at (texts inside.paths.items)) inside.lines.items)
   pub as_many : length inside.entries.items ≡ length inside.lines.items
   pub rising : IsRising 0 (changes_of inside.changes.items)
-  pub turns : (k : ℕ) → get_or (texts inside.turns.items) k [] ≡ turns k None (changes_of inside.changes.items)
+  pub turns : (k : ℕ)
+      → get_or (texts inside.turns.items) k [] ≡ turns k None (changes_of inside.changes.items)

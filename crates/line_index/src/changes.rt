@@ -96,7 +96,8 @@ pub fn merged(
 ) -> Result<Vec<Change>, AllocError>
     requires first_rises { IsRising 0 first.now }
     requires second_rises { IsRising 0 second.now }
-    ensures values { IfOk result (λ changes. (a : ℕ) → value_at a None changes.items ≡ joined_position join (value_at a None first.now) (value_at a None second.now)) }
+    ensures values { IfOk result (λ changes. (a : ℕ) → value_at a None changes.items
+        ≡ joined_position join (value_at a None first.now) (value_at a None second.now)) }
     ensures rises { IfOk result (λ changes. IsRising 0 changes.items) }
     ensures few { IfOk result (λ changes.
         length changes.items ≤ length first.now + length second.now) }

@@ -37,7 +37,8 @@ fn add_start(
     change: LineChange,
 ) -> Result<(), AllocError>
     requires { IsBelow (length lists.old.items) (change_of change) }
-    ensures { OnOk result (texts lists.new.items ≡ with_start (place_of before) (change_of change) (texts lists.old.items)) }
+    ensures { OnOk result (texts lists.new.items
+        ≡ with_start (place_of before) (change_of change) (texts lists.old.items)) }
 {
     match change.line {
         Some(line) => {

@@ -111,7 +111,8 @@ impl LineIndex {
     /// The line of this written path and number, else the first whose path ends
     /// with a slash and the text.
     pub fn find(&self, path: &[u8], number: u32) -> Option<LineId>
-        ensures { result ≡ option_map (λ k. record { 0 = k }) (position_named path.now number self.now.lines) }
+        ensures { result
+            ≡ option_map (λ k. record { 0 = k }) (position_named path.now number self.now.lines) }
     {
         find::find(&self.paths, &self.backwards, &self.lines, path, number).map(LineId)
     }

@@ -129,7 +129,8 @@ pub fn line_changes(
     requires each { (key : Key) → Contains (change_keys rows.now positions.now changes.now) key
         → Contains keys.now key }
     requires few { length keys.now < 2 ^ 32 }
-    ensures { IfOk result (λ lines. map (line_change keys.now) (changes_of lines.items) ≡ map (key_change rows.now positions.now) changes.now) }
+    ensures { IfOk result (λ lines. map (line_change keys.now) (changes_of lines.items)
+        ≡ map (key_change rows.now positions.now) changes.now) }
 {
     let mut lines = Vec::with_capacity(alloc, changes.len())?;
     for change in changes {

@@ -69,7 +69,8 @@ pub fn code_spans(alloc: Global, areas: &[Area]) -> Result<Vec<Span>, AllocError
 /// Only want of memory stands against it.
 pub fn first_spans(alloc: Global, spans: &[Span], first: u32) -> Result<Vec<Change>, AllocError>
     requires { first + length spans.now < 2 ^ 32 }
-    ensures values { IfOk result (λ changes. (a : ℕ) → value_at a None changes.items ≡ position_from (is_in_span a) first spans.now) }
+    ensures values { IfOk result (λ changes.
+        (a : ℕ) → value_at a None changes.items ≡ position_from (is_in_span a) first spans.now) }
     ensures rises { IfOk result (λ changes. IsRising 0 changes.items) }
     ensures few { IfOk result (λ changes. length changes.items ≤ 2 * length spans.now) }
 {
@@ -87,7 +88,8 @@ pub fn first_spans(alloc: Global, spans: &[Span], first: u32) -> Result<Vec<Chan
 
 /// One span, of this position.
 fn span_changes(alloc: Global, span: Span, position: u32) -> Result<Vec<Change>, AllocError>
-    ensures values { IfOk result (λ changes. (a : ℕ) → value_at a None changes.items ≡ position_from (is_in_span a) position (span ∷ [])) }
+    ensures values { IfOk result (λ changes. (a : ℕ)
+        → value_at a None changes.items ≡ position_from (is_in_span a) position (span ∷ [])) }
     ensures rises { IfOk result (λ changes. IsRising 0 changes.items) }
     ensures few { IfOk result (λ changes. length changes.items ≤ 2) }
 {
@@ -111,7 +113,9 @@ pub fn covering_rows(alloc: Global, rows: &[Row], areas: &[Area]) -> Result<Vec<
     requires within { All (λ (area : Area). area_end area < 2 ^ 64) areas.now }
     requires few_rows { length rows.now < 2 ^ 32 }
     requires few_areas { length areas.now < 2 ^ 32 }
-    ensures values { IfOk result (λ changes. (a : ℕ) → value_at a None changes.items ≡ (if is_executable areas.now a then position_from (is_in_span a) 0 (row_spans rows.now) else None)) }
+    ensures values { IfOk result (λ changes.
+        (a : ℕ) → value_at a None changes.items ≡ (if is_executable areas.now a
+        then position_from (is_in_span a) 0 (row_spans rows.now) else None)) }
     ensures rises { IfOk result (λ changes. IsRising 0 changes.items) }
     ensures few { IfOk result (λ changes.
         length changes.items ≤ 2 * (length areas.now + length rows.now)) }

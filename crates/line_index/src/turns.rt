@@ -17,7 +17,8 @@ fn add_turn(
     address: Address,
 ) -> Result<(), AllocError>
     requires { IfSome (place_of line) (λ k. k < length lists.old.items) }
-    ensures { OnOk result (texts lists.new.items ≡ with_turn (place_of line) address (texts lists.old.items)) }
+    ensures { OnOk result
+        (texts lists.new.items ≡ with_turn (place_of line) address (texts lists.old.items)) }
 {
     match line {
         Some(line) => {
@@ -37,7 +38,10 @@ fn add_turns(
     requires before { IfSome (place_of before) (λ k. k < length lists.old.items) }
     requires change { IsBelow (length lists.old.items) (change_of change) }
     ensures as_many { OnOk result (length lists.new.items ≡ length lists.old.items) }
-    ensures added { OnOk result ((k : ℕ) → get_or (texts lists.new.items) k [] ≡ get_or (texts lists.old.items) k [] ++ (if is_different (is_at k (place_of before)) (is_at k (place_of change.line)) then change.address ∷ [] else [])) }
+    ensures added { OnOk result
+        ((k : ℕ) → get_or (texts lists.new.items) k [] ≡ get_or (texts lists.old.items) k []
+        ++ (if is_different (is_at k (place_of before)) (is_at k (place_of change.line))
+        then change.address ∷ [] else [])) }
 {
     if before == change.line {
         return Ok(());
@@ -54,7 +58,8 @@ pub fn turns(
     count: usize,
 ) -> Result<Vec<Vec<Address>>, AllocError>
     requires { All (IsBelow count) (changes_of changes.now) }
-    ensures { IfOk result (λ lists. (k : ℕ) → get_or (texts lists.items) k [] ≡ turns k None (changes_of changes.now)) }
+    ensures { IfOk result (λ lists.
+        (k : ℕ) → get_or (texts lists.items) k [] ≡ turns k None (changes_of changes.now)) }
 {
     let mut lists = empty_lists(alloc, count)?;
     let mut before = None;

@@ -59,12 +59,17 @@ with_label name column s =
     else Ok (record s { labels = update bytes_eq s.labels name (Some (next_place s)) })
 
 abbrev pub with_more : ℕ → State → State
-with_more n s = elim (s.section) [ sections.Text ↦ record s { text = s.text + n } | sections.Data ↦ record s { content = s.content + n } ]
+with_more n s = elim (s.section) [
+  | sections.Text ↦ record s { text = s.text + n }
+  | sections.Data ↦ record s { content = s.content + n }
+]
 
 abbrev pub with_piece : ℕ → ℕ → Piece → State → Read State
 with_piece line column piece s =
     if nat_lt 1048576 (section_length s + size piece) then wrong kinds.Much column
-    else Ok (with_more (size piece) (record s { puts = s.puts ++ record { line = line; place = next_place s; piece = piece } ∷ [] }))
+    else Ok (with_more (size piece) (record s {
+      puts = s.puts ++ record { line = line; place = next_place s; piece = piece } ∷ [];
+    }))
 
 -- one after the other
 unfoldable pub with_pieces : ℕ → ℕ → List Piece → State → Read State
@@ -78,7 +83,9 @@ up_to_multiple m n = (n + (m - 1)) / m * m
 
 abbrev pub with_effect : ℕ → ℕ → Statement → State → Read State
 with_effect line column (Puts pieces) s = with_pieces line column pieces s
-with_effect line column (Aligns bits) s = with_piece line column (Zeros (up_to_multiple (2 ^ bits) (section_length s) - section_length s)) s
+with_effect line column (Aligns bits) s =
+    with_piece line column
+    (Zeros (up_to_multiple (2 ^ bits) (section_length s) - section_length s)) s
 with_effect line column (Enters section) s = Ok (record s { section = section })
 
 abbrev pub is_in_place : Option Section → Section → Bool
@@ -157,7 +164,10 @@ take_lines n (line ∷ more) s = at_line n (take_line n line s) >>= λ t. take_l
 
 -- data begins at the first page that isn't below the text's end
 abbrev pub address : State → Place → ℕ
-address s p = elim (p.section) [ sections.Text ↦ TEXT_START + p.offset | sections.Data ↦ TEXT_START + up_to_multiple 4096 s.text + p.offset ]
+address s p = elim (p.section) [
+  | sections.Text ↦ TEXT_START + p.offset
+  | sections.Data ↦ TEXT_START + up_to_multiple 4096 s.text + p.offset
+]
 
 abbrev pub address_in : State → ℕ → Option Place → Read ℕ
 address_in s column None = wrong kinds.Missing column
@@ -200,7 +210,9 @@ pub record Filled : Type 0 where
   pub bytes : List ℕ
 
 abbrev pub filled_piece : State → Put → Result Filled AsmFault
-filled_piece s p = at_line p.line (bytes_at s (address s p.place) p.piece) >>= λ bytes. Ok (record { section = p.place.section; line = p.line; bytes = bytes })
+filled_piece s p =
+    at_line p.line (bytes_at s (address s p.place) p.piece) >>= λ bytes.
+    Ok (record { section = p.place.section; line = p.line; bytes = bytes })
 
 unfoldable pub filled_pieces : State → List Put → Result (List Filled) AsmFault
 filled_pieces s [] = Ok []
@@ -237,7 +249,8 @@ lines_of fs = flat_map (λ f. replicate (length f.bytes / 4) f.line) (text_of fs
 
 abbrev pub begin_of : State → Option Place → ℕ
 begin_of s None = TEXT_START
-begin_of s (Some p) = if is_text p.section && nat_lt p.offset s.text then address s p else TEXT_START
+begin_of s (Some p) =
+    if is_text p.section && nat_lt p.offset s.text then address s p else TEXT_START
 
 -- where the program begins
 abbrev pub entry : State → ℕ
@@ -267,7 +280,8 @@ unfoldable pub assembly : List ℕ → Result Program AsmFault
 assembly source = do
   s ← take_lines 1 (lines source) start
   fs ← filled_pieces s s.puts
-  if s.text == 0 then Err (record { kind = kinds.Empty; line = 1; column = 1 }) else Ok (program s fs)
+  if s.text == 0 then Err (record { kind = kinds.Empty; line = 1; column = 1 })
+      else Ok (program s fs)
 
 -- ---- what a call answered
 

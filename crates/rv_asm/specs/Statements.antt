@@ -114,7 +114,8 @@ encoded_piece i = Encoded (word_of i)
 abbrev pub load_number : ℕ → ℤ → List Piece
 load_number rd n =
     if is_signed 12 n then encoded_piece (instr.Imm Addi rd 0 n) ∷ []
-    else encoded_piece (instr.Upper Lui rd (upper n)) ∷ encoded_piece (instr.Imm Addiw rd rd (lower n)) ∷ []
+    else encoded_piece (instr.Upper Lui rd (upper n))
+    ∷ encoded_piece (instr.Imm Addiw rd rd (lower n)) ∷ []
 
 -- ---- operands
 
@@ -307,7 +308,8 @@ module _ (end : ℕ) where
     rd ← register ts
     rs2 ← then_second op rd.1
     rs1 ← then_base rs2.1
-    one (instr.Atomic op (is_wide width) (is_acquire order) (is_release order) rd.0 rs1.0 rs2.0) rs1.1
+    one (instr.Atomic op (is_wide width) (is_acquire order) (is_release order) rd.0 rs1.0 rs2.0)
+        rs1.1
   statement (forms.Plain name) ts = one (instruction_alone name) ts
   statement forms.Move ts = do
     rd ← register ts

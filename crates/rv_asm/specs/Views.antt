@@ -41,19 +41,23 @@ use_of u = record { name = u.name.now; column = u.column }
 abbrev pub tokens_left : Operands → List Placed
 tokens_left operands = all_placed (drop operands.next operands.tokens.now)
 
--- What was answered is taken of the old operands, and the new ones are left of the same line, unless memory ran out.
-abbrev pub Takes : {X A : Type 0} → (X → A) → Result X LineError → Operands → Operands → Taking A → Type 0
+-- What was answered is taken of the old operands, and the new ones are left of the same line,
+-- unless memory ran out.
+abbrev pub Takes : {X A : Type 0} → (X → A) → Result X LineError → Operands
+    → Operands → Taking A → Type 0
 Takes view (Ok x) old new taking = (taking ≡ Ok (view x, tokens_left new)) × (new.end ≡ old.end)
 Takes view (Err e) old new taking = FailsLine e taking
 
 -- the same where nothing is answered
-abbrev pub Passes : {U : Type 0} → Result U LineError → Operands → Operands → Read (List Placed) → Type 0
+abbrev pub Passes : {U : Type 0} → Result U LineError → Operands → Operands
+    → Read (List Placed) → Type 0
 Passes (Ok u) old new passing = (passing ≡ Ok (tokens_left new)) × (new.end ≡ old.end)
 Passes (Err e) old new passing = FailsLine e passing
 
 -- The first token is taken, or the line has no more.
 abbrev pub TakesFirst : Result (Bor CodePlaced) LineError → Operands → Operands → Type 0
-TakesFirst (Ok first) old new = (tokens_left old ≡ placed_of first.now ∷ tokens_left new) × (new.end ≡ old.end)
+TakesFirst (Ok first) old new =
+    (tokens_left old ≡ placed_of first.now ∷ tokens_left new) × (new.end ≡ old.end)
 TakesFirst (Err e) old new = (tokens_left old ≡ []) × (e ≡ errors.Fault kinds.Operand old.end)
 
 -- Nothing is left, or the first token is one too many.
@@ -143,11 +147,23 @@ with_next parts read = read >>= λ f. Ok (with_filled parts f)
 
 -- the parts that these make together
 abbrev pub all_parts : Result (List Filled) AsmFault → Result Parts AsmFault
-all_parts read = read >>= λ fs. Ok (record { text = all_bytes (text_of fs); content = all_bytes (content_of fs); lines = lines_of fs })
+all_parts read =
+    read >>= λ fs.
+    Ok (record {
+      text = all_bytes (text_of fs);
+      content = all_bytes (content_of fs);
+      lines = lines_of fs;
+    })
 
 -- behind these parts
 abbrev pub with_all : Parts → Result (List Filled) AsmFault → Result Parts AsmFault
-with_all parts read = read >>= λ fs. Ok (record { text = parts.text ++ all_bytes (text_of fs); content = parts.content ++ all_bytes (content_of fs); lines = parts.lines ++ lines_of fs })
+with_all parts read =
+    read >>= λ fs.
+    Ok (record {
+      text = parts.text ++ all_bytes (text_of fs);
+      content = parts.content ++ all_bytes (content_of fs);
+      lines = parts.lines ++ lines_of fs;
+    })
 
 -- What was done: now this is what is read, or the source has a fault, unless memory ran out.
 abbrev pub StepsAll : {U A : Type 0} → Result U AsmError → A → Result A AsmFault → Type 0

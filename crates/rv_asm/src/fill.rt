@@ -214,7 +214,8 @@ fn push_lines(lines: &mut Vec<u32>, line: u32, words: usize) -> Result<(), Alloc
 
 /// The bytes of a piece in its place.
 fn fill_one(parts: &mut Filled, state: &State, put: &Put) -> Result<(), AsmError>
-    ensures { StepsAll result (parts_of parts.new) (with_next (parts_of parts.old) (filled_piece (state_of state.now) (put_of put.now))) }
+    ensures { StepsAll result (parts_of parts.new)
+        (with_next (parts_of parts.old) (filled_piece (state_of state.now) (put_of put.now))) }
 {
     let from = address(state, put.place);
     match put.place.section {
@@ -239,7 +240,8 @@ fn fill_one(parts: &mut Filled, state: &State, put: &Put) -> Result<(), AsmError
 /// The bytes of all pieces in the order of the source.
 /// Err tells the first label that is missing or too far, or want of memory.
 pub fn fill(alloc: Global, state: &State) -> Result<Filled, AsmError>
-    ensures { Gives parts_of result (all_parts (filled_pieces (state_of state.now) (state_of state.now).puts)) }
+    ensures { Gives parts_of result
+        (all_parts (filled_pieces (state_of state.now) (state_of state.now).puts)) }
 {
     let mut parts = Filled {
         text: Vec::new(alloc),

@@ -25,7 +25,8 @@ use std::alloc::{AllocError, Global};
 
 /// This statement, if nothing is left.
 fn whole<'s>(operands: Operands<'_, 's>, what: Statement<'s>) -> Result<Statement<'s>, LineError>
-    ensures value { GivesLine statement_of result (whole operands.entry.end (statement_of what.entry) (tokens_left operands.entry)) }
+    ensures value { GivesLine statement_of result
+        (whole operands.entry.end (statement_of what.entry) (tokens_left operands.entry)) }
     ensures same { IfOk result (λ x. x ≡ what.entry) }
 {
     operands.finish()?;
@@ -38,7 +39,8 @@ fn puts<'s>(
     operands: Operands<'_, 's>,
     piece: Piece<'s>,
 ) -> Result<Statement<'s>, LineError>
-    ensures value { GivesLine statement_of result (puts operands.entry.end (piece_of piece.entry ∷ []) (tokens_left operands.entry)) }
+    ensures value { GivesLine statement_of result
+        (puts operands.entry.end (piece_of piece.entry ∷ []) (tokens_left operands.entry)) }
     ensures within { IfOk result AlignsWithin }
 {
     let pieces = vec![in alloc; piece]?;
@@ -52,7 +54,8 @@ fn one<'s>(
     instr: Instr,
 ) -> Result<Statement<'s>, LineError>
     requires { InRange instr }
-    ensures value { GivesLine statement_of result (one operands.entry.end instr (tokens_left operands.entry)) }
+    ensures value { GivesLine statement_of result
+        (one operands.entry.end instr (tokens_left operands.entry)) }
     ensures within { IfOk result AlignsWithin }
 {
     puts(alloc, operands, Piece::Encoded(encode(instr)))
@@ -65,7 +68,8 @@ fn register_form<'s>(
     op: RegOp,
     mut operands: Operands<'_, 's>,
 ) -> Result<Statement<'s>, LineError>
-    ensures value { GivesLine statement_of result (statement operands.entry.end (forms.Register op) (tokens_left operands.entry)) }
+    ensures value { GivesLine statement_of result
+        (statement operands.entry.end (forms.Register op) (tokens_left operands.entry)) }
     ensures within { IfOk result AlignsWithin }
 {
     let rd = operands.register()?;
@@ -87,7 +91,8 @@ fn immediate_form<'s>(
     op: ImmOp,
     mut operands: Operands<'_, 's>,
 ) -> Result<Statement<'s>, LineError>
-    ensures value { GivesLine statement_of result (statement operands.entry.end (forms.Immediate op) (tokens_left operands.entry)) }
+    ensures value { GivesLine statement_of result
+        (statement operands.entry.end (forms.Immediate op) (tokens_left operands.entry)) }
     ensures within { IfOk result AlignsWithin }
 {
     let rd = operands.register()?;
@@ -119,7 +124,8 @@ fn shift_form<'s>(
     op: ShiftOp,
     mut operands: Operands<'_, 's>,
 ) -> Result<Statement<'s>, LineError>
-    ensures value { GivesLine statement_of result (statement operands.entry.end (forms.Shift op) (tokens_left operands.entry)) }
+    ensures value { GivesLine statement_of result
+        (statement operands.entry.end (forms.Shift op) (tokens_left operands.entry)) }
     ensures within { IfOk result AlignsWithin }
 {
     let rd = operands.register()?;
@@ -141,7 +147,8 @@ fn load_form<'s>(
     op: LoadOp,
     mut operands: Operands<'_, 's>,
 ) -> Result<Statement<'s>, LineError>
-    ensures value { GivesLine statement_of result (statement operands.entry.end (forms.Load op) (tokens_left operands.entry)) }
+    ensures value { GivesLine statement_of result
+        (statement operands.entry.end (forms.Load op) (tokens_left operands.entry)) }
     ensures within { IfOk result AlignsWithin }
 {
     let rd = operands.register()?;
@@ -159,7 +166,8 @@ fn load_form<'s>(
 /// `jalr rd, n(rs1)`
 #[tactic(auto, unfolding(crate::specs::Statements::statement))]
 fn jalr_form<'s>(alloc: Global, mut operands: Operands<'_, 's>) -> Result<Statement<'s>, LineError>
-    ensures value { GivesLine statement_of result (statement operands.entry.end forms.Jalr (tokens_left operands.entry)) }
+    ensures value { GivesLine statement_of result
+        (statement operands.entry.end forms.Jalr (tokens_left operands.entry)) }
     ensures within { IfOk result AlignsWithin }
 {
     let rd = operands.register()?;
@@ -180,7 +188,8 @@ fn store_form<'s>(
     op: StoreOp,
     mut operands: Operands<'_, 's>,
 ) -> Result<Statement<'s>, LineError>
-    ensures value { GivesLine statement_of result (statement operands.entry.end (forms.Store op) (tokens_left operands.entry)) }
+    ensures value { GivesLine statement_of result
+        (statement operands.entry.end (forms.Store op) (tokens_left operands.entry)) }
     ensures within { IfOk result AlignsWithin }
 {
     let rs2 = operands.register()?;
@@ -202,7 +211,8 @@ fn branch_form<'s>(
     op: BranchOp,
     mut operands: Operands<'_, 's>,
 ) -> Result<Statement<'s>, LineError>
-    ensures value { GivesLine statement_of result (statement operands.entry.end (forms.Branch op) (tokens_left operands.entry)) }
+    ensures value { GivesLine statement_of result
+        (statement operands.entry.end (forms.Branch op) (tokens_left operands.entry)) }
     ensures within { IfOk result AlignsWithin }
 {
     let rs1 = operands.register()?;
@@ -220,7 +230,8 @@ fn branch_form<'s>(
 /// `jal rd, label`
 #[tactic(auto, unfolding(crate::specs::Statements::statement))]
 fn jal_form<'s>(alloc: Global, mut operands: Operands<'_, 's>) -> Result<Statement<'s>, LineError>
-    ensures value { GivesLine statement_of result (statement operands.entry.end forms.Jal (tokens_left operands.entry)) }
+    ensures value { GivesLine statement_of result
+        (statement operands.entry.end forms.Jal (tokens_left operands.entry)) }
     ensures within { IfOk result AlignsWithin }
 {
     let rd = operands.register()?;
@@ -235,7 +246,8 @@ fn upper_form<'s>(
     op: UpperOp,
     mut operands: Operands<'_, 's>,
 ) -> Result<Statement<'s>, LineError>
-    ensures value { GivesLine statement_of result (statement operands.entry.end (forms.Upper op) (tokens_left operands.entry)) }
+    ensures value { GivesLine statement_of result
+        (statement operands.entry.end (forms.Upper op) (tokens_left operands.entry)) }
     ensures within { IfOk result AlignsWithin }
 {
     let rd = operands.register()?;
@@ -275,7 +287,8 @@ fn atomic_form<'s>(
     order: Order,
     mut operands: Operands<'_, 's>,
 ) -> Result<Statement<'s>, LineError>
-    ensures value { GivesLine statement_of result (statement operands.entry.end (forms.Atomic op width order) (tokens_left operands.entry)) }
+    ensures value { GivesLine statement_of result
+        (statement operands.entry.end (forms.Atomic op width order) (tokens_left operands.entry)) }
     ensures within { IfOk result AlignsWithin }
 {
     let rd = operands.register()?;
@@ -323,7 +336,8 @@ fn instruction_alone(name: Alone) -> Instr
 /// `mv rd, rs`
 #[tactic(auto, unfolding(crate::specs::Statements::statement))]
 fn move_form<'s>(alloc: Global, mut operands: Operands<'_, 's>) -> Result<Statement<'s>, LineError>
-    ensures value { GivesLine statement_of result (statement operands.entry.end forms.Move (tokens_left operands.entry)) }
+    ensures value { GivesLine statement_of result
+        (statement operands.entry.end forms.Move (tokens_left operands.entry)) }
     ensures within { IfOk result AlignsWithin }
 {
     let rd = operands.register()?;
@@ -340,7 +354,8 @@ fn move_form<'s>(alloc: Global, mut operands: Operands<'_, 's>) -> Result<Statem
 /// `j label`
 #[tactic(auto, unfolding(crate::specs::Statements::statement))]
 fn jump_form<'s>(alloc: Global, mut operands: Operands<'_, 's>) -> Result<Statement<'s>, LineError>
-    ensures value { GivesLine statement_of result (statement operands.entry.end forms.Jump (tokens_left operands.entry)) }
+    ensures value { GivesLine statement_of result
+        (statement operands.entry.end forms.Jump (tokens_left operands.entry)) }
     ensures within { IfOk result AlignsWithin }
 {
     let label = operands.name()?;
@@ -409,7 +424,8 @@ fn load_number_form<'s>(
     alloc: Global,
     mut operands: Operands<'_, 's>,
 ) -> Result<Statement<'s>, LineError>
-    ensures value { GivesLine statement_of result (statement operands.entry.end forms.LoadNumber (tokens_left operands.entry)) }
+    ensures value { GivesLine statement_of result
+        (statement operands.entry.end forms.LoadNumber (tokens_left operands.entry)) }
     ensures within { IfOk result AlignsWithin }
 {
     let rd = operands.register()?;
@@ -425,7 +441,8 @@ fn load_address_form<'s>(
     alloc: Global,
     mut operands: Operands<'_, 's>,
 ) -> Result<Statement<'s>, LineError>
-    ensures value { GivesLine statement_of result (statement operands.entry.end forms.LoadAddress (tokens_left operands.entry)) }
+    ensures value { GivesLine statement_of result
+        (statement operands.entry.end forms.LoadAddress (tokens_left operands.entry)) }
     ensures within { IfOk result AlignsWithin }
 {
     let rd = operands.register()?;
@@ -439,7 +456,8 @@ fn global_form<'s>(
     alloc: Global,
     mut operands: Operands<'_, 's>,
 ) -> Result<Statement<'s>, LineError>
-    ensures value { GivesLine statement_of result (statement operands.entry.end forms.Global (tokens_left operands.entry)) }
+    ensures value { GivesLine statement_of result
+        (statement operands.entry.end forms.Global (tokens_left operands.entry)) }
     ensures within { IfOk result AlignsWithin }
 {
     operands.name()?;
@@ -449,7 +467,8 @@ fn global_form<'s>(
 /// `.ascii "text"`
 #[tactic(auto, unfolding(crate::specs::Statements::statement))]
 fn ascii_form<'s>(alloc: Global, mut operands: Operands<'_, 's>) -> Result<Statement<'s>, LineError>
-    ensures value { GivesLine statement_of result (statement operands.entry.end forms.Ascii (tokens_left operands.entry)) }
+    ensures value { GivesLine statement_of result
+        (statement operands.entry.end forms.Ascii (tokens_left operands.entry)) }
     ensures within { IfOk result AlignsWithin }
 {
     let bytes = operands.text()?;
@@ -460,7 +479,8 @@ fn ascii_form<'s>(alloc: Global, mut operands: Operands<'_, 's>) -> Result<State
 /// `.zero n`
 #[tactic(auto, unfolding(crate::specs::Statements::statement))]
 fn zeros_form<'s>(alloc: Global, mut operands: Operands<'_, 's>) -> Result<Statement<'s>, LineError>
-    ensures value { GivesLine statement_of result (statement operands.entry.end forms.Zeros (tokens_left operands.entry)) }
+    ensures value { GivesLine statement_of result
+        (statement operands.entry.end forms.Zeros (tokens_left operands.entry)) }
     ensures within { IfOk result AlignsWithin }
 {
     let count = operands.number_up_to(1_048_576)?;
@@ -470,7 +490,8 @@ fn zeros_form<'s>(alloc: Global, mut operands: Operands<'_, 's>) -> Result<State
 /// `.align n`
 #[tactic(auto, unfolding(crate::specs::Statements::statement))]
 fn align_form<'s>(mut operands: Operands<'_, 's>) -> Result<Statement<'s>, LineError>
-    ensures value { GivesLine statement_of result (statement operands.entry.end forms.Align (tokens_left operands.entry)) }
+    ensures value { GivesLine statement_of result
+        (statement operands.entry.end forms.Align (tokens_left operands.entry)) }
     ensures within { IfOk result AlignsWithin }
 {
     let bits = operands.number_up_to(12)?;

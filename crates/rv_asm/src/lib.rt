@@ -20,7 +20,8 @@ use std::alloc::Global;
 /// The address at which the text begins.
 pub const TEXT_START: u64 = 0x1_0000;
 
-/// A fault, and where in the source it is: its line and the column of its first byte, both counted from 1.
+/// A fault, and where in the source it is: its line and the column of its first byte,
+/// both counted from 1.
 #[derive(Clone, Copy, Debug, PartialEq, Eq)]
 pub struct AsmFault {
     /// What is wrong.

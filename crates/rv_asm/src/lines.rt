@@ -91,7 +91,8 @@ fn take_statement<'s>(
     operands: &[Placed<'s>],
     state: &mut State<'s>,
 ) -> Result<(), LineError>
-    ensures { Steps result (state_of state.new) (with_statement line end (placed_of first.now) (all_placed operands.now) (state_of state.old)) }
+    ensures { Steps result (state_of state.new) (with_statement line end (placed_of first.now)
+        (all_placed operands.now) (state_of state.old)) }
 {
     let column = first.column;
     let Some(form) = form_in(&first.token) else {

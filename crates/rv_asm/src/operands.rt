@@ -90,7 +90,8 @@ impl<'t, 's> Operands<'t, 's> {
 
     /// This mark.
     pub fn mark(&mut self, wanted: u8) -> Result<(), LineError>
-        ensures { Passes result self.old self.new (mark self.old.end wanted (tokens_left self.old)) }
+        ensures { Passes result self.old self.new
+            (mark self.old.end wanted (tokens_left self.old)) }
     {
         let first = self.token()?;
         match &first.token {
@@ -101,7 +102,8 @@ impl<'t, 's> Operands<'t, 's> {
 
     /// A number from `low` to `high`.
     pub fn number(&mut self, low: i128, high: i128) -> Result<i128, LineError>
-        ensures value { Takes (λ n. n) result self.old self.new (number self.old.end low high (tokens_left self.old)) }
+        ensures value { Takes (λ n. n) result self.old self.new
+            (number self.old.end low high (tokens_left self.old)) }
         ensures low { IfOk result (λ n. low ≤ℤ n) }
         ensures high { IfOk result (λ n. n ≤ℤ high) }
     {
@@ -124,7 +126,8 @@ impl<'t, 's> Operands<'t, 's> {
 
     /// The bytes of a text.
     pub fn text(&mut self) -> Result<&'t [u8], LineError>
-        ensures { Takes (λ bytes. bytes.now) result self.old self.new (text_operand self.old.end (tokens_left self.old)) }
+        ensures { Takes (λ bytes. bytes.now) result self.old self.new
+            (text_operand self.old.end (tokens_left self.old)) }
     {
         let first = self.token()?;
         match &first.token {
@@ -135,7 +138,8 @@ impl<'t, 's> Operands<'t, 's> {
 
     /// A register.
     pub fn register(&mut self) -> Result<Register, LineError>
-        ensures { Takes number_of result self.old self.new (register self.old.end (tokens_left self.old)) }
+        ensures { Takes number_of result self.old self.new
+            (register self.old.end (tokens_left self.old)) }
     {
         let found = self.name()?;
         match register_of(found.name) {
@@ -146,7 +150,8 @@ impl<'t, 's> Operands<'t, 's> {
 
     /// A number from 0 to `high`.
     pub fn number_up_to(&mut self, high: u32) -> Result<u32, LineError>
-        ensures value { Takes (λ n. n) result self.old self.new (number_up_to self.old.end high (tokens_left self.old)) }
+        ensures value { Takes (λ n. n) result self.old self.new
+            (number_up_to self.old.end high (tokens_left self.old)) }
         ensures small { IfOk result (λ n. n ≤ high) }
     {
         let found = self.number(0, i128::from(high))?;
@@ -155,7 +160,8 @@ impl<'t, 's> Operands<'t, 's> {
 
     /// A number of 12 bits with a sign.
     pub fn immediate(&mut self) -> Result<i32, LineError>
-        ensures value { Takes (λ n. n) result self.old self.new (immediate self.old.end (tokens_left self.old)) }
+        ensures value { Takes (λ n. n) result self.old self.new
+            (immediate self.old.end (tokens_left self.old)) }
         ensures small { IfOk result (λ n. IsTrue (is_signed 12 n)) }
     {
         let found = self.number(-2048, 2047)?;
@@ -164,7 +170,8 @@ impl<'t, 's> Operands<'t, 's> {
 
     /// A name behind a comma.
     pub fn then_name(&mut self) -> Result<NameUse<'s>, LineError>
-        ensures { Takes use_of result self.old self.new (then_name self.old.end (tokens_left self.old)) }
+        ensures { Takes use_of result self.old self.new
+            (then_name self.old.end (tokens_left self.old)) }
     {
         self.mark(b',')?;
         self.name()
@@ -172,7 +179,8 @@ impl<'t, 's> Operands<'t, 's> {
 
     /// A register behind a comma.
     pub fn then_register(&mut self) -> Result<Register, LineError>
-        ensures { Takes number_of result self.old self.new (then_register self.old.end (tokens_left self.old)) }
+        ensures { Takes number_of result self.old self.new
+            (then_register self.old.end (tokens_left self.old)) }
     {
         self.mark(b',')?;
         self.register()
@@ -180,7 +188,8 @@ impl<'t, 's> Operands<'t, 's> {
 
     /// A number of 12 bits with a sign behind a comma.
     pub fn then_immediate(&mut self) -> Result<i32, LineError>
-        ensures value { Takes (λ n. n) result self.old self.new (then_immediate self.old.end (tokens_left self.old)) }
+        ensures value { Takes (λ n. n) result self.old self.new
+            (then_immediate self.old.end (tokens_left self.old)) }
         ensures small { IfOk result (λ n. IsTrue (is_signed 12 n)) }
     {
         self.mark(b',')?;
@@ -189,7 +198,8 @@ impl<'t, 's> Operands<'t, 's> {
 
     /// A number from 0 to `high` behind a comma.
     pub fn then_up_to(&mut self, high: u32) -> Result<u32, LineError>
-        ensures value { Takes (λ n. n) result self.old self.new (then_up_to self.old.end high (tokens_left self.old)) }
+        ensures value { Takes (λ n. n) result self.old self.new
+            (then_up_to self.old.end high (tokens_left self.old)) }
         ensures small { IfOk result (λ n. n ≤ high) }
     {
         self.mark(b',')?;
@@ -198,7 +208,8 @@ impl<'t, 's> Operands<'t, 's> {
 
     /// A register in parentheses.
     pub fn base(&mut self) -> Result<Register, LineError>
-        ensures { Takes number_of result self.old self.new (base self.old.end (tokens_left self.old)) }
+        ensures { Takes number_of result self.old self.new
+            (base self.old.end (tokens_left self.old)) }
     {
         self.mark(b'(')?;
         let found = self.register()?;
@@ -208,7 +219,8 @@ impl<'t, 's> Operands<'t, 's> {
 
     /// A register in parentheses behind a comma.
     pub fn then_base(&mut self) -> Result<Register, LineError>
-        ensures { Takes number_of result self.old self.new (then_base self.old.end (tokens_left self.old)) }
+        ensures { Takes number_of result self.old self.new
+            (then_base self.old.end (tokens_left self.old)) }
     {
         self.mark(b',')?;
         self.base()
@@ -216,7 +228,8 @@ impl<'t, 's> Operands<'t, 's> {
 
     /// The register that an atomic stores or combines, behind a comma; `lr` has none.
     pub fn then_second(&mut self, op: AtomicOp) -> Result<Register, LineError>
-        ensures value { Takes number_of result self.old self.new (then_second self.old.end op (tokens_left self.old)) }
+        ensures value { Takes number_of result self.old self.new
+            (then_second self.old.end op (tokens_left self.old)) }
         ensures second { IfOk result (λ r. IsTrue (is_second op (number_of r))) }
     {
         match op {

@@ -158,7 +158,8 @@ impl<'s> State<'s> {
     /// Err where its section may not have it or would be too long, or for want of memory.
     pub fn perform(&mut self, line: u32, column: u32, what: Statement<'s>) -> Result<(), LineError>
         requires { AlignsWithin what }
-        ensures { Steps result (state_of self.new) (with_effect line column (statement_of what.entry) (state_of self.old)) }
+        ensures { Steps result (state_of self.new)
+            (with_effect line column (statement_of what.entry) (state_of self.old)) }
     {
         match what {
             Statement::Puts(pieces) => self.put_all(line, column, pieces),

@@ -12,8 +12,10 @@ use Rattle.virtual_run.specs.Seen.{experiment_with}
 abbrev pub AreUndelayed : List Visit → Type 0
 AreUndelayed visits = All (λ visit. visit.delay ≡ 0) visits
 
--- the choice is within the limits, and the fields stand for the state after as many moves as instructions were retired and harts woken
-pub record IsShort (image : ImageParts) (input : List ℕ) (setting : Setting) (engine : Engine) : Type 0 where
+-- the choice is within the limits, and the fields stand for the state after as many moves
+-- as instructions were retired and harts woken
+pub record IsShort (image : ImageParts) (input : List ℕ) (setting : Setting)
+    (engine : Engine) : Type 0 where
   pub valid : IsChoice setting.choice
   pub reached : IsReached (experiment_with image input setting) engine
   pub undelayed : AreUndelayed engine.visits.kept

@@ -33,9 +33,11 @@ impl<'a> Model for Short<'a> {
 
     ghost Value = { Seen (Shortened Guest) };
 
-    ghost view = { λ short. seen_in short.image.now short.input.now short.setting (λ x. shortened x (events_of short.engine)) };
+    ghost view = { λ short. seen_in short.image.now short.input.now short.setting
+        (λ x. shortened x (events_of short.engine)) };
 
-    ghost invariant = { λ short. IsShort short.image.now short.input.now short.setting short.engine };
+    ghost invariant = { λ short.
+        IsShort short.image.now short.input.now short.setting short.engine };
 }
 
 impl<'a> Short<'a> {
@@ -54,7 +56,8 @@ impl<'a> Short<'a> {
         choice: Choice,
     ) -> Result<Short<'a>, AllocError>
         requires { IsChoice choice }
-        ensures { IfOk result (λ short. short ≡ seen image.now index.now points.now input.now choice (λ x. shortened x 0)) }
+        ensures { IfOk result (λ short.
+            short ≡ seen image.now index.now points.now input.now choice (λ x. shortened x 0)) }
     {
         let setting = Setting {
             index,

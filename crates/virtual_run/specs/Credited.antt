@@ -122,12 +122,14 @@ pub record CanWake (c : Delays) (engine : Engine) (hart now : ℕ) : Type 0 wher
   pub few : c.raised + 3800 * length engine.selected ≤ 10 ^ 17
 
 -- and for one to have retired
-pub record CanSettle (c : Delays) (engine : Engine) (hart : ℕ) (fate : Fate) (now : ℕ) : Type 0 where
+pub record CanSettle (c : Delays) (engine : Engine) (hart : ℕ) (fate : Fate)
+    (now : ℕ) : Type 0 where
   pub below : hart < length c.harts
   pub later : c.latest ≤ now
   pub running : is_running (hart_at c hart) ≡ true
   pub unpaused : pause_of (hart_at (at now c) hart) ≡ 0
-  pub can : engine.ending ≡ None → CanBegin (with_rest hart fate now c) engine.guest hart fate engine.started engine.selected
+  pub can : engine.ending ≡ None
+      → CanBegin (with_rest hart fate now c) engine.guest hart fate engine.started engine.selected
 
 abbrev pub CanFollow : Event → Delays → Engine → ℕ → Type 0
 CanFollow (Woke turn) c engine now = CanWake c engine turn.hart.0 now
@@ -141,4 +143,6 @@ moment_of (Retired retired) engine = engine.time
 -- the credits after it
 abbrev pub credited_by : Event → Engine → (ℕ → ℕ) → ℕ → Delays → Delays
 credited_by (Woke turn) engine ticks now c = with_wake ticks turn.hart.0 engine.selected (at now c)
-credited_by (Retired retired) engine ticks now c = credits_after engine.ending ticks retired.hart.0 retired.fate engine.started engine.selected (with_rest retired.hart.0 retired.fate now c)
+credited_by (Retired retired) engine ticks now c =
+    credits_after engine.ending ticks retired.hart.0 retired.fate engine.started engine.selected
+    (with_rest retired.hart.0 retired.fate now c)

@@ -92,16 +92,21 @@ AgreesThroughout x = (moves : ℕ) → Agrees (delayed x moves) (shortened x (ev
 abbrev pub EndsOnce : Experiment Guest → Type 0
 EndsOnce x = (r : Record) × IsDelayed x r × ((other : Record) → IsDelayed x other → other ≡ r)
 
--- the choice is within the limits, and the fields stand for the state after as many retirements and wakes as the engine counts
-pub record IsPaced (image : ImageParts) (input : List ℕ) (setting : Setting) (engine : Engine) (credits : Delays) (now : ℕ) : Type 0 where
+-- the choice is within the limits, and the fields stand for the state after as many retirements
+-- and wakes as the engine counts
+pub record IsPaced (image : ImageParts) (input : List ℕ) (setting : Setting) (engine : Engine)
+    (credits : Delays) (now : ℕ) : Type 0 where
   pub valid : IsChoice setting.choice
   pub reached : IsReached (experiment_with image input setting) engine
   pub holds : Holds credits (standing (experiment_with image input setting) (events_of engine))
   pub room : length credits.harts ≡ HARTS
-  pub visits : map visit_as engine.visits.kept ≡ (standing (experiment_with image input setting) (events_of engine)).visits
+  pub visits : map visit_as engine.visits.kept
+      ≡ (standing (experiment_with image input setting) (events_of engine)).visits
   pub moment : now ≡ (standing (experiment_with image input setting) (events_of engine)).now
   pub soon : now ≤ 10 ^ 17
   pub trap : (ending : Ending) → engine.ending ≡ Some ending → IsOfAHart ending
   -- what a fork copies, and what it raises the delay by
   pub made : making engine.guest ≡ making (experiment_with image input setting).first
-  pub selected : engine.selected ≡ filter ((experiment_with image input setting).guest.is_selected engine.guest) (before (experiment_with image input setting) (events_of engine)).harts
+  pub selected : engine.selected
+      ≡ filter ((experiment_with image input setting).guest.is_selected engine.guest)
+      (before (experiment_with image input setting) (events_of engine)).harts

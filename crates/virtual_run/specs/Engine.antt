@@ -1,4 +1,5 @@
--- The state of the engine of both machines: a state of the shortened machine, and what holds between its moves.
+-- The state of the engine of both machines: a state of the shortened machine,
+-- and what holds between its moves.
 use Rattle.std.specs.Prelude.{◌≡◌, ℕ, ◌+◌, ◌*◌, ◌^◌, ◌≤◌, ◌<◌, List, [], ◌∷◌, map, length, get_or, Option, Some, None, is_some}
 use Rattle.coz_types.specs.declared.TheConstants.{HARTS}
 use Rattle.coz_types.specs.Image.{ImageParts}
@@ -17,7 +18,8 @@ use Rattle.virtual_run.specs.Visits.{net_of}
 abbrev pub events_of : Engine → ℕ
 events_of engine = engine.retired + engine.wakes
 
--- the state of the shortened machine that the engine's fields stand for, with these moments at which harts are due
+-- the state of the shortened machine that the engine's fields stand for, with these moments
+-- at which harts are due
 abbrev pub state_of : Engine → List (Option ℕ) → Shortened Guest
 state_of engine dues = record {
   time = engine.time;
@@ -68,8 +70,10 @@ pub record IsReached (x : Experiment Guest) (engine : Engine) : Type 0 where
   pub within : AreWithin (10 ^ 16 + 4000 * (events_of engine + 1)) engine.schedule
 
 -- as it begins the run of an image on an input
-pub record IsFirst (setting : Setting) (image : ImageParts) (input : List ℕ) (engine : Engine) : Type 0 where
-  pub reached : IsReached (experiment_in setting (first_guest image input setting.choice.output_limit setting.choice.layout)) engine
+pub record IsFirst (setting : Setting) (image : ImageParts) (input : List ℕ)
+    (engine : Engine) : Type 0 where
+  pub reached : IsReached (experiment_in setting
+      (first_guest image input setting.choice.output_limit setting.choice.layout)) engine
   pub retired : engine.retired ≡ 0
   pub wakes : engine.wakes ≡ 0
   pub ending : engine.ending ≡ None

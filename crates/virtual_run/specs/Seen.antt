@@ -18,8 +18,10 @@ pub record Seen (State : Type 0) : Type 0 where
   pub choice : Choice
   pub state : State
 
--- the run of a program, with these lines and points, on an input by a choice, in a state of its experiment
-abbrev pub seen : {State : Type 0} → ImageParts → Index → Points → List ℕ → Choice → (Experiment Guest → State) → Seen State
+-- the run of a program, with these lines and points, on an input by a choice,
+-- in a state of its experiment
+abbrev pub seen : {State : Type 0} → ImageParts → Index → Points → List ℕ → Choice
+    → (Experiment Guest → State) → Seen State
 seen image index points input choice state = record {
   image = image;
   index = index;
@@ -30,8 +32,10 @@ seen image index points input choice state = record {
 }
 
 -- the same in a setting
-abbrev pub seen_in : {State : Type 0} → ImageParts → List ℕ → Setting → (Experiment Guest → State) → Seen State
-seen_in image input setting state = seen image setting.index.now setting.points.now input setting.choice state
+abbrev pub seen_in : {State : Type 0} → ImageParts → List ℕ → Setting
+    → (Experiment Guest → State) → Seen State
+seen_in image input setting state =
+    seen image setting.index.now setting.points.now input setting.choice state
 
 -- the run of an image on an input in a setting
 abbrev pub experiment_with : ImageParts → List ℕ → Setting → Experiment Guest

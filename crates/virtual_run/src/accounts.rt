@@ -85,7 +85,8 @@ pub fn raise_selected(credits: &mut Credits, engine: &Engine, speedup: u8, now: 
     requires speedup { speedup ≤ GREATEST_SPEEDUP }
     requires now { credits.old.latest ≡ now }
     requires few { credits.old.raised + 3800 * length engine.now.selected ≤ 10 ^ 17 }
-    ensures { credits.new ≡ with_raises (raise_ticks engine.now.guest speedup) engine.now.selected credits.old }
+    ensures { credits.new
+        ≡ with_raises (raise_ticks engine.now.guest speedup) engine.now.selected credits.old }
 {
     let harts = engine.selected.harts();
     raise_harts(credits, &engine.guest, harts, speedup, now);
@@ -96,10 +97,12 @@ pub fn raise_selected(credits: &mut Credits, engine: &Engine, speedup: u8, now: 
 /// raise the delay in turn.
 #[inline(never)]
 fn credit_started(credits: &mut Credits, engine: &Engine, retired: Retired, speedup: u8, now: Tick)
-    requires can { CanBegin credits.old engine.now.guest retired.hart.0 retired.fate engine.now.started engine.now.selected }
+    requires can { CanBegin credits.old engine.now.guest retired.hart.0 retired.fate
+        engine.now.started engine.now.selected }
     requires speedup { speedup ≤ GREATEST_SPEEDUP }
     requires now { credits.old.latest ≡ now }
-    ensures { credits.new ≡ with_begun (raise_ticks engine.now.guest speedup) retired.hart.0 retired.fate engine.now.started engine.now.selected credits.old }
+    ensures { credits.new ≡ with_begun (raise_ticks engine.now.guest speedup)
+        retired.hart.0 retired.fate engine.now.started engine.now.selected credits.old }
 {
     credit_each(credits, engine.started.harts(), retired.hart);
     start_again(credits, retired.hart, retired.fate, now);
@@ -128,9 +131,11 @@ fn go_on(credits: &mut Credits, engine: &Engine, hart: HartId, speedup: u8, now:
     requires alone { IsAlone engine.now.ending Fate.Goes engine.now.started }
     requires below { hart.0 < length credits.old.harts }
     requires later { credits.old.latest ≤ now }
-    requires can { CanBegin (with_rest hart.0 Fate.Goes now credits.old) engine.now.guest hart.0 Fate.Goes engine.now.started engine.now.selected }
+    requires can { CanBegin (with_rest hart.0 Fate.Goes now credits.old)
+        engine.now.guest hart.0 Fate.Goes engine.now.started engine.now.selected }
     requires speedup { speedup ≤ GREATEST_SPEEDUP }
-    ensures { credits.new ≡ with_begun (raise_ticks engine.now.guest speedup) hart.0 Fate.Goes engine.now.started engine.now.selected
+    ensures { credits.new ≡ with_begun (raise_ticks engine.now.guest speedup)
+        hart.0 Fate.Goes engine.now.started engine.now.selected
         (with_rest hart.0 Fate.Goes now credits.old) }
 {
     credits.start(hart, now);
@@ -166,7 +171,8 @@ fn wake_up(credits: &mut Credits, engine: &Engine, hart: HartId, speedup: u8, no
     requires made { AllMade engine.now.guest engine.now.selected }
     requires speedup { speedup ≤ GREATEST_SPEEDUP }
     requires few { credits.old.raised + 3800 * length engine.now.selected ≤ 10 ^ 17 }
-    ensures { credits.new ≡ with_wake (raise_ticks engine.now.guest speedup) hart.0 engine.now.selected (at now credits.old) }
+    ensures { credits.new ≡ with_wake (raise_ticks engine.now.guest speedup)
+        hart.0 engine.now.selected (at now credits.old) }
 {
     credits.start(hart, now);
     raise_selected(credits, engine, speedup, now);
@@ -187,9 +193,11 @@ fn account_retirement(
     requires running { IsTrue (is_running (hart_at credits.old retired.hart.0)) }
     requires unpaused { pause_of (hart_at (at now credits.old) retired.hart.0) ≡ 0 }
     requires can { engine.now.ending ≡ None →
-        CanBegin (with_rest retired.hart.0 retired.fate now credits.old) engine.now.guest retired.hart.0 retired.fate engine.now.started engine.now.selected }
+        CanBegin (with_rest retired.hart.0 retired.fate now credits.old)
+        engine.now.guest retired.hart.0 retired.fate engine.now.started engine.now.selected }
     requires speedup { speedup ≤ GREATEST_SPEEDUP }
-    ensures { credits.new ≡ credits_after engine.now.ending (raise_ticks engine.now.guest speedup) retired.hart.0 retired.fate engine.now.started engine.now.selected
+    ensures { credits.new ≡ credits_after engine.now.ending (raise_ticks engine.now.guest speedup)
+        retired.hart.0 retired.fate engine.now.started engine.now.selected
         (with_rest retired.hart.0 retired.fate now credits.old) }
 {
     rest(credits, retired.hart, retired.fate, now);
@@ -206,9 +214,11 @@ fn account_going(credits: &mut Credits, engine: &Engine, hart: HartId, speedup: 
     requires running { IsTrue (is_running (hart_at credits.old hart.0)) }
     requires unpaused { pause_of (hart_at (at now credits.old) hart.0) ≡ 0 }
     requires can { engine.now.ending ≡ None →
-        CanBegin (with_rest hart.0 Fate.Goes now credits.old) engine.now.guest hart.0 Fate.Goes engine.now.started engine.now.selected }
+        CanBegin (with_rest hart.0 Fate.Goes now credits.old)
+        engine.now.guest hart.0 Fate.Goes engine.now.started engine.now.selected }
     requires speedup { speedup ≤ GREATEST_SPEEDUP }
-    ensures { credits.new ≡ credits_after engine.now.ending (raise_ticks engine.now.guest speedup) hart.0 Fate.Goes engine.now.started engine.now.selected
+    ensures { credits.new ≡ credits_after engine.now.ending (raise_ticks engine.now.guest speedup)
+        hart.0 Fate.Goes engine.now.started engine.now.selected
         (with_rest hart.0 Fate.Goes now credits.old) }
 {
     let retired = Retired {
@@ -226,9 +236,11 @@ fn account_plain(credits: &mut Credits, engine: &Engine, hart: HartId, speedup: 
     requires running { IsTrue (is_running (hart_at credits.old hart.0)) }
     requires unpaused { pause_of (hart_at (at now credits.old) hart.0) ≡ 0 }
     requires can { engine.now.ending ≡ None →
-        CanBegin (with_rest hart.0 Fate.Goes now credits.old) engine.now.guest hart.0 Fate.Goes engine.now.started engine.now.selected }
+        CanBegin (with_rest hart.0 Fate.Goes now credits.old)
+        engine.now.guest hart.0 Fate.Goes engine.now.started engine.now.selected }
     requires speedup { speedup ≤ GREATEST_SPEEDUP }
-    ensures { credits.new ≡ credits_after engine.now.ending (raise_ticks engine.now.guest speedup) hart.0 Fate.Goes engine.now.started engine.now.selected
+    ensures { credits.new ≡ credits_after engine.now.ending (raise_ticks engine.now.guest speedup)
+        hart.0 Fate.Goes engine.now.started engine.now.selected
         (with_rest hart.0 Fate.Goes now credits.old) }
 {
     if is_alone(engine) {
@@ -252,7 +264,8 @@ pub fn follow(
     requires few { moment_of event engine.now + raised ≤ 10 ^ 17 }
     requires speedup { speedup ≤ GREATEST_SPEEDUP }
     ensures moment { result ≡ moment_of event engine.now + raised }
-    ensures credits { credits.new ≡ credited_by event engine.now (raise_ticks engine.now.guest speedup) (moment_of event engine.now + raised) credits.old }
+    ensures credits { credits.new ≡ credited_by event engine.now
+        (raise_ticks engine.now.guest speedup) (moment_of event engine.now + raised) credits.old }
 {
     match event {
         Event::Retired(

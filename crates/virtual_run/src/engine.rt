@@ -27,9 +27,10 @@ use std::alloc::{AllocError, Global};
 /// The hart that a program begins with.
 pub(crate) const FIRST: HartId = HartId(0);
 
-/// A run of a program in net time, which the delayed and the shortened machine share: its guest, the harts that are due, the
-/// visits and the counts. It knows nothing of delays: an instruction of the selected line takes what the speedup of its setting
-/// leaves of its cost, and whoever delays hands in by how much each visit is later. Its moves alone change it.
+/// A run of a program in net time, which the delayed and the shortened machine share:
+/// its guest, the harts that are due, the visits and the counts. It knows nothing of delays:
+/// an instruction of the selected line takes what the speedup of its setting leaves of its cost,
+/// and whoever delays hands in by how much each visit is later. Its moves alone change it.
 ///
 /// Moments are in ticks, 100 to a cycle.
 #[derive(Drop)]
@@ -361,7 +362,8 @@ impl<'a> Engine<'a> {
         }
     }
 
-    /// Makes this engine equal to another one whose guest was made with the same arguments, and takes no memory.
+    /// Makes this engine equal to another one whose guest was made with the same arguments,
+    /// and takes no memory.
     pub fn copy_from(&mut self, other: &Engine<'a>)
         requires guest { making self.old.guest ≡ making other.now.guest }
         requires visits { self.old.visits.limit ≡ other.now.visits.limit }

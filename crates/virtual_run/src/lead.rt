@@ -63,7 +63,8 @@ impl<'a> Lead<'a> {
         requires choice { IsChoice choice }
         requires selected { IsSome choice.selected }
         ensures { IfOk result (λ lead. lead ≡
-            seen image.now index.now points.now input.now choice (λ x. record { state = unbegun x; harts = 0 ∷ [] })) }
+            seen image.now index.now points.now input.now choice (λ x.
+            record { state = unbegun x; harts = 0 ∷ [] })) }
     {
         let whole = Choice {
             speedup: 0,

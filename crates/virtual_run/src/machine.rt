@@ -40,9 +40,11 @@ impl<'a> Model for Machine<'a> {
 
     ghost Value = { Seen (Delayed Guest) };
 
-    ghost view = { λ m. seen_in m.image.now m.input.now m.setting (λ x. standing x (events_of m.engine)) };
+    ghost view = { λ m.
+        seen_in m.image.now m.input.now m.setting (λ x. standing x (events_of m.engine)) };
 
-    ghost invariant = { λ m. IsPaced m.image.now m.input.now m.setting m.engine m.credits m.moment };
+    ghost invariant = { λ m.
+        IsPaced m.image.now m.input.now m.setting m.engine m.credits m.moment };
 }
 
 impl<'a> Machine<'a> {
@@ -66,7 +68,8 @@ impl<'a> Machine<'a> {
         choice: Choice,
     ) -> Result<Machine<'a>, AllocError>
         requires { IsChoice choice }
-        ensures { IfOk result (λ machine. machine ≡ seen image.now index.now points.now input.now choice (λ x. standing x 0)) }
+        ensures { IfOk result (λ machine.
+            machine ≡ seen image.now index.now points.now input.now choice (λ x. standing x 0)) }
     {
         let setting = Setting {
             index,
