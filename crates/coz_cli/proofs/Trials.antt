@@ -33,7 +33,7 @@ use Rattle.machines.specs.Standing.{delayed_record}
 use Rattle.progress_points.specs.Points.{Points, IsPoints}
 use Rattle.profile_book.specs.declared.profile.Profile.{Profile}
 use Rattle.profile_pool.specs.Summaries.{summary_in}
-use Rattle.rv_asm.specs.Assembled.{Program, IsProgram, Fails, assembly}
+use Rattle.rv_asm.specs.Assembled.{Program, IsProgram, Fails, assembled}
 use Rattle.rv_asm.specs.declared.AsmFault.{AsmFault}
 use Rattle.rv_asm.specs.declared.AsmError.{AsmError}
 use Rattle.rv_asm.specs.declared.AsmError.TheVariants as assembling
@@ -238,11 +238,11 @@ length_ids (line ∷ lines) = ap suc (length_ids lines)
 -- ---- the source
 
 -- the assembler gives no fault on a source that is accepted
-pub assembled_memory : (text : List ℕ) (p : Program) (error : AsmError) → assembly text ≡ Ok p → Fails error (assembly text) → IsMemoryFault (assembling_fault error)
+pub assembled_memory : (text : List ℕ) (p : Program) (error : AsmError) → assembled text ≡ Ok p → Fails error (assembled text) → IsMemoryFault (assembling_fault error)
 assembled_memory text p (assembling.Fault fault) is fails = absurd (let both : Ok p ≡ Err fault = sym is ∙ fails in cc)
 assembled_memory text p assembling.Memory is fails = tt
 
-pub file_of : (source : Source) (given : Program) (file : List ℕ) → IsAccepted source → assembly source.text ≡ Ok given → IsProgram given → file ≡ written_file given trial_name 4 → IsTrialFile source file
+pub file_of : (source : Source) (given : Program) (file : List ℕ) → IsAccepted source → assembled source.text ≡ Ok given → IsProgram given → file ≡ written_file given trial_name 4 → IsTrialFile source file
 unfolding trial_program trial_file
 file_of source given file (p, is, has) stands right written = record {
   program = given;

@@ -5,7 +5,7 @@ use Rattle.std.specs.List.{range_with_len}
 use Rattle.std.specs.Fmt.{signed_decimal}
 use Rattle.sha2.specs.Sha256.{sha256}
 use Rattle.rv_asm.specs.declared.AsmFault.{AsmFault}
-use Rattle.rv_asm.specs.Assembled.{Program, IsProgram, assembly}
+use Rattle.rv_asm.specs.Assembled.{Program, IsProgram, assembled}
 use Rattle.work_gen.specs.Text.{Source}
 use Rattle.image_write.specs.File.{written_file}
 use Rattle.line_index.specs.Lines.{Line, position_named}
@@ -25,7 +25,7 @@ trial_name = codes "trial.s"
 
 -- what the source stands for
 unfoldable pub trial_program : Source → Result Program AsmFault
-trial_program source = assembly source.text
+trial_program source = assembled source.text
 
 -- its file
 unfoldable pub trial_file : Program → List ℕ

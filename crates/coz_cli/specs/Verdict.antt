@@ -14,7 +14,7 @@ use Rattle.coz_words.specs.declared.request.Request.{Request}
 use Rattle.coz_words.specs.declared.command.Command.{Command}
 use Rattle.coz_words.specs.declared.command.Command.TheVariants.{Run, Really, Profile, Lines, Plot, Asm, Trial}
 use Rattle.rv_asm.specs.declared.AsmFault.{AsmFault}
-use Rattle.rv_asm.specs.Assembled.{Program, assembly}
+use Rattle.rv_asm.specs.Assembled.{Program, assembled}
 use Rattle.image_write.specs.File.{written_file}
 use Rattle.work_gen.specs.Text.{Source, generated}
 use Rattle.machines.specs.Guest.{Experiment}
@@ -211,7 +211,7 @@ command_verdict Plot asked held =
     read_verdict MAX_PROFILE asked.target (file_at held asked.target) plot_verdict
 command_verdict Asm asked held =
     read_verdict 4194304 asked.target (file_at held asked.target) (λ source.
-    source_verdict asked.target asked.dwarf (assembly source))
+    source_verdict asked.target asked.dwarf (assembled source))
 command_verdict Trial asked held = trial_verdict asked.seed asked.size
 
 abbrev pub request_verdict : Option Request → Held → Verdict

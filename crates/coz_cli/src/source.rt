@@ -3,7 +3,7 @@ ghost use Rattle.std.specs.Prelude.{◌≡◌, ◌≤◌, length, IfSome, IfNone
 ghost use Rattle.coz_files.specs.Faults.{Rose};
 ghost use Rattle.image_write.specs.File.{IsName, IsVersion};
 ghost use Rattle.coz_words.specs.declared.command.Command.TheVariants.{Asm};
-ghost use Rattle.rv_asm.specs.Assembled.{assembly};
+ghost use Rattle.rv_asm.specs.Assembled.{assembled};
 ghost use Rattle.coz_cli.specs.Verdict.{command_verdict, source_verdict};
 ghost use Rattle.coz_cli.specs.Answer.{answered, IsMemory, IsRead, Suits, Settles};
 
@@ -44,7 +44,7 @@ fn source_answer<'r>(alloc: Global, source: &[u8], name: &str, version: u8) -> A
     requires version { IsVersion version }
     ensures no_read { IsRead result → ⊥ }
     ensures settled { (IsMemory result → ⊥)
-        → answered result ≡ source_verdict name.now version (assembly source.now) }
+        → answered result ≡ source_verdict name.now version (assembled source.now) }
 {
     let assembled = assemble(alloc, source)?;
     let text = write_elf(alloc, &assembled, name.as_bytes(), version)?;

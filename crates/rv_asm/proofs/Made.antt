@@ -12,7 +12,7 @@ use Rattle.asm_tokens.specs.declared.form.Section.TheVariants as sections
 use Rattle.rv_asm.specs.declared.state.Place.{Place}
 use Rattle.asm_tokens.specs.Tokens.{lines}
 use Rattle.rv_asm.specs.Statements.{Piece, Encoded, BranchTo, JumpTo, AddressTo, AddressOf, Bytes, Zeros, size}
-use Rattle.rv_asm.specs.Assembled.{Put, State, start, take_lines, target, reach, load_address, bytes_at, Filled, at_line, address, filled_piece, filled_pieces, Program, IsProgram, text_of, content_of, all_bytes, lines_of, begin_of, entry, program, assembly}
+use Rattle.rv_asm.specs.Assembled.{Put, State, start, take_lines, target, reach, load_address, bytes_at, Filled, at_line, address, filled_piece, filled_pieces, Program, IsProgram, text_of, content_of, all_bytes, lines_of, begin_of, entry, program, assembled}
 use Rattle.rv_asm.proofs.WholeWords.{then_ok, and_ok}
 use Rattle.rv_asm.proofs.States.{text_size, content_size, total, IsLine, IsPut, IsRight, start_right, at_line_ok, lines_right}
 
@@ -118,13 +118,13 @@ not_empty false s fs e right parts =
     let other = eqb-false s.text 0 e in
     made s fs right parts (omega (arith, other))
 
-is_program : (source : List ℕ) → IfOk (assembly source) IsProgram
-unfolding assembly
+is_program : (source : List ℕ) → IfOk (assembled source) IsProgram
+unfolding assembled
 is_program source =
     then_ok IsRight IsProgram (take_lines 1 (lines source) start) _ (lines_right 1 (lines source) start (omega arith) start_right) (λ s right.
     then_ok (AreFilled s.puts) IsProgram (filled_pieces s s.puts) _ (all_fill s s.puts right.puts_right) (λ fs parts.
     not_empty (s.text == 0) s fs refl right parts))
 
 -- what a call gave, if it is what the source stands for
-pub given : (source : List ℕ) (p : Program) → assembly source ≡ Ok p → IsProgram p
+pub given : (source : List ℕ) (p : Program) → assembled source ≡ Ok p → IsProgram p
 given source p e = subst (λ r. IfOk r IsProgram) e (is_program source)

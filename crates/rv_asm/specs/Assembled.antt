@@ -276,8 +276,8 @@ pub record IsProgram (p : Program) : Type 0 where
   pub entry_starts : TEXT_START ≤ p.entry
   pub entry_within : p.entry < TEXT_START + length p.text
 
-unfoldable pub assembly : List ℕ → Result Program AsmFault
-assembly source = do
+unfoldable pub assembled : List ℕ → Result Program AsmFault
+assembled source = do
   s ← take_lines 1 (lines source) start
   fs ← filled_pieces s s.puts
   if s.text == 0 then Err (record { kind = kinds.Empty; line = 1; column = 1 })

@@ -9,7 +9,7 @@ mod pieces;
 mod state;
 
 ghost use Rattle.std.specs.Prelude.{◌≡◌, ◌≤◌, length, IfOk};
-ghost use Rattle.rv_asm.specs.Assembled.{Gives, IsProgram, assembly, view};
+ghost use Rattle.rv_asm.specs.Assembled.{Gives, IsProgram, assembled, view};
 
 use crate::fill::{entry, fill};
 use crate::lines::take_lines;
@@ -55,10 +55,10 @@ pub struct Assembled {
 }
 
 /// What a source of at most 4,194,304 bytes stands for, or its first fault.
-#[tactic(auto, unfolding(crate::specs::Assembled::assembly))]
+#[tactic(auto, unfolding(crate::specs::Assembled::assembled))]
 pub fn assemble(alloc: Global, source: &[u8]) -> Result<Assembled, AsmError>
     requires { length source.now ≤ 4194304 }
-    ensures value { Gives view result (assembly source.now) }
+    ensures value { Gives view result (assembled source.now) }
     ensures program { IfOk result (λ a. IsProgram (view a)) }
 {
     let state = take_lines(alloc, source)?;
