@@ -7,7 +7,7 @@ ghost use Rattle.rv_decode.specs.Instructions.{amount_bits, InRange, is_second, 
 ghost use Rattle.rv_decode.specs.declared.Instr.TheVariants as instr;
 ghost use Rattle.rv_decode.specs.declared.UpperOp.TheVariants.{Lui};
 ghost use Rattle.asm_tokens.specs.Registers.{number_of};
-ghost use Rattle.rv_asm.specs.Statements.{lower, upper, load_number, encoded_piece, whole, puts, one, number_item, label_item, item, items, statement, bytes_of, is_wide, is_acquire, is_release, instruction_alone, is_within, BranchTo, JumpTo, AddressTo, Bytes, Zeros, Puts, Aligns, Enters};
+ghost use Rattle.rv_asm.specs.Statements.{lower, upper, load_number, whole, puts, one, number_item, label_item, item, items, statement, bytes_of, is_wide, is_acquire, is_release, instruction_alone, is_within, BranchTo, JumpTo, AddressTo, Bytes, Zeros, Puts, Aligns, Enters};
 ghost use Rattle.asm_tokens.specs.Views.{GivesLine, all_placed, placed_of};
 ghost use Rattle.rv_asm.specs.Views.{tokens_left, piece_of, statement_of, AlignsWithin};
 ghost use Rattle.asm_tokens.specs.declared.form.Form.TheVariants as forms;
