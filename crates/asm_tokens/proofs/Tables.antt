@@ -8,8 +8,8 @@ use Rattle.asm_tokens.specs.declared.form.Form.{Form}
 use Rattle.asm_tokens.specs.declared.form.Form.TheVariants as forms
 use Rattle.asm_tokens.specs.declared.form.Order.{Order}
 use Rattle.asm_tokens.specs.declared.form.Width.{Width}
-use Rattle.asm_tokens.specs.Table.{Named, look_up, plain_rows, suffixes, ordered, atomic_rows, rows, form_of}
-use Rattle.asm_tokens.specs.Views.{seen}
+use Rattle.asm_tokens.specs.Table.{Named, look_up, plain_rows, suffixes, order_rows, atomic_rows, rows, form_of}
+use Rattle.asm_tokens.specs.Views.{entry_view}
 
 look_up-join : {A : Type 0} (name : List ℕ) (front behind : List (Named A)) → look_up name (front ++ behind) ≡ option_or (look_up name front) (look_up name behind)
 look_up-join name [] behind = refl
@@ -61,25 +61,25 @@ abbrev pub Atomic : Type 0
 Atomic = Bor (List ℕ) × (AtomicOp × Width)
 
 -- a name that doesn't begin with the atomic's word
-pub ordered-apart : (atomic : Atomic) (name : List ℕ) → bytes_eq (take (length atomic.0.now) name) atomic.0.now ≡ false → look_up name (ordered (seen atomic)) ≡ None
+pub ordered-apart : (atomic : Atomic) (name : List ℕ) → bytes_eq (take (length atomic.0.now) name) atomic.0.now ≡ false → look_up name (order_rows (entry_view atomic)) ≡ None
 ordered-apart atomic name apart = look_up-apart atomic.0.now (forms.Atomic atomic.1.0 atomic.1.1) name suffixes apart
 
 -- and one that does, with this order behind it or none
 pub ordered-suffix : (atomic : Atomic) (name suffix : List ℕ) (order : Option Order) → bytes_eq (take (length atomic.0.now) name) atomic.0.now ≡ true → suffix ≡ drop (length atomic.0.now) name
     → order ≡ look_up suffix suffixes
-    → look_up name (ordered (seen atomic)) ≡ option_map (forms.Atomic atomic.1.0 atomic.1.1) order
+    → look_up name (order_rows (entry_view atomic)) ≡ option_map (forms.Atomic atomic.1.0 atomic.1.1) order
 ordered-suffix atomic name suffix order same rest e =
     let word = atomic.0.now in
     let whole : name ≡ word ++ suffix = sym (take-append-drop (length word) name) ∙ ap₂ (λ front back. front ++ back) ((bytes_eq-Decides _ word).0 same) (sym rest) in
-    ap (λ n. look_up n (ordered (seen atomic))) whole
+    ap (λ n. look_up n (order_rows (entry_view atomic))) whole
     ∙ look_up-behind word (forms.Atomic atomic.1.0 atomic.1.1) suffix suffixes
     ∙ ap (option_map (forms.Atomic atomic.1.0 atomic.1.1)) (sym e)
 
 -- the atomics from row i on: that row's words come before the others'
 pub words_from : (name : List ℕ) (atomics : List Atomic) (i : ℕ) (d : Atomic) (found : Option Form) → i < length atomics
-    → found ≡ look_up name (ordered (seen (get_or atomics i d)))
-    → look_up name (flat_map ordered (map seen (drop i atomics))) ≡ option_or found (look_up name (flat_map ordered (map seen (drop (i + 1) atomics))))
+    → found ≡ look_up name (order_rows (entry_view (get_or atomics i d)))
+    → look_up name (flat_map order_rows (map entry_view (drop i atomics))) ≡ option_or found (look_up name (flat_map order_rows (map entry_view (drop (i + 1) atomics))))
 words_from name atomics i d found below e =
-    ap (λ rows. look_up name (flat_map ordered (map seen rows))) (drop-cons atomics i d below)
-    ∙ look_up-join name (ordered (seen (get_or atomics i d))) (flat_map ordered (map seen (drop (suc i) atomics)))
-    ∙ ap₂ (λ first j. option_or first (look_up name (flat_map ordered (map seen (drop j atomics))))) (sym e) (sym (add-one i))
+    ap (λ rows. look_up name (flat_map order_rows (map entry_view rows))) (drop-cons atomics i d below)
+    ∙ look_up-join name (order_rows (entry_view (get_or atomics i d))) (flat_map order_rows (map entry_view (drop (suc i) atomics)))
+    ∙ ap₂ (λ first j. option_or first (look_up name (flat_map order_rows (map entry_view (drop j atomics))))) (sym e) (sym (add-one i))

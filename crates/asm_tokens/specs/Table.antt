@@ -28,8 +28,8 @@ use Rattle.asm_tokens.specs.declared.form.Form.TheVariants as forms
 abbrev pub Named : Type 0 → Type 0
 Named A = List ℕ × A
 
-abbrev pub named : {A : Type 0} → String → A → Named A
-named name x = (codes name, x)
+abbrev pub with_name : {A : Type 0} → String → A → Named A
+with_name name x = (codes name, x)
 
 -- the first entry of that name
 abbrev pub look_up : {A : Type 0} → List ℕ → List (Named A) → Option A
@@ -38,130 +38,130 @@ look_up name (entry ∷ more) = if bytes_eq name entry.0 then Some entry.1 else 
 
 abbrev pub plain_rows : List (Named Form)
 plain_rows =
-    named "add" (forms.Register Add)
-    ∷ named "sll" (forms.Register Sll)
-    ∷ named "slt" (forms.Register Slt)
-    ∷ named "sltu" (forms.Register Sltu)
-    ∷ named "xor" (forms.Register Xor)
-    ∷ named "srl" (forms.Register Srl)
-    ∷ named "or" (forms.Register Or)
-    ∷ named "and" (forms.Register And)
-    ∷ named "sub" (forms.Register Sub)
-    ∷ named "sra" (forms.Register Sra)
-    ∷ named "mul" (forms.Register Mul)
-    ∷ named "mulh" (forms.Register Mulh)
-    ∷ named "mulhsu" (forms.Register Mulhsu)
-    ∷ named "mulhu" (forms.Register Mulhu)
-    ∷ named "div" (forms.Register Div)
-    ∷ named "divu" (forms.Register Divu)
-    ∷ named "rem" (forms.Register Rem)
-    ∷ named "remu" (forms.Register Remu)
-    ∷ named "addw" (forms.Register Addw)
-    ∷ named "sllw" (forms.Register Sllw)
-    ∷ named "srlw" (forms.Register Srlw)
-    ∷ named "subw" (forms.Register Subw)
-    ∷ named "sraw" (forms.Register Sraw)
-    ∷ named "mulw" (forms.Register Mulw)
-    ∷ named "divw" (forms.Register Divw)
-    ∷ named "divuw" (forms.Register Divuw)
-    ∷ named "remw" (forms.Register Remw)
-    ∷ named "remuw" (forms.Register Remuw)
-    ∷ named "addi" (forms.Immediate Addi)
-    ∷ named "slti" (forms.Immediate Slti)
-    ∷ named "sltiu" (forms.Immediate Sltiu)
-    ∷ named "xori" (forms.Immediate Xori)
-    ∷ named "ori" (forms.Immediate Ori)
-    ∷ named "andi" (forms.Immediate Andi)
-    ∷ named "addiw" (forms.Immediate Addiw)
-    ∷ named "slli" (forms.Shift Slli)
-    ∷ named "srli" (forms.Shift Srli)
-    ∷ named "srai" (forms.Shift Srai)
-    ∷ named "slliw" (forms.Shift Slliw)
-    ∷ named "srliw" (forms.Shift Srliw)
-    ∷ named "sraiw" (forms.Shift Sraiw)
-    ∷ named "lb" (forms.Load Lb)
-    ∷ named "lh" (forms.Load Lh)
-    ∷ named "lw" (forms.Load Lw)
-    ∷ named "ld" (forms.Load Ld)
-    ∷ named "lbu" (forms.Load Lbu)
-    ∷ named "lhu" (forms.Load Lhu)
-    ∷ named "lwu" (forms.Load Lwu)
-    ∷ named "jalr" forms.Jalr
-    ∷ named "sb" (forms.Store Sb)
-    ∷ named "sh" (forms.Store Sh)
-    ∷ named "sw" (forms.Store Sw)
-    ∷ named "sd" (forms.Store Sd)
-    ∷ named "beq" (forms.Branch Beq)
-    ∷ named "bne" (forms.Branch Bne)
-    ∷ named "blt" (forms.Branch Blt)
-    ∷ named "bge" (forms.Branch Bge)
-    ∷ named "bltu" (forms.Branch Bltu)
-    ∷ named "bgeu" (forms.Branch Bgeu)
-    ∷ named "jal" forms.Jal
-    ∷ named "lui" (forms.Upper Lui)
-    ∷ named "auipc" (forms.Upper Auipc)
-    ∷ named "ecall" (forms.Plain Ecall)
-    ∷ named "ebreak" (forms.Plain Ebreak)
-    ∷ named "fence" (forms.Plain Fence)
-    ∷ named "nop" (forms.Plain Nop)
-    ∷ named "mv" forms.Move
-    ∷ named "j" forms.Jump
-    ∷ named "ret" (forms.Plain Ret)
-    ∷ named "li" forms.LoadNumber
-    ∷ named "la" forms.LoadAddress
-    ∷ named ".text" (forms.Enter sections.Text)
-    ∷ named ".data" (forms.Enter sections.Data)
-    ∷ named ".globl" forms.Global
-    ∷ named ".byte" (forms.Numbers sizes.One)
-    ∷ named ".word" (forms.Numbers sizes.Four)
-    ∷ named ".dword" (forms.Numbers sizes.Eight)
-    ∷ named ".ascii" forms.Ascii
-    ∷ named ".zero" forms.Zeros
-    ∷ named ".align" forms.Align
+    with_name "add" (forms.Register Add)
+    ∷ with_name "sll" (forms.Register Sll)
+    ∷ with_name "slt" (forms.Register Slt)
+    ∷ with_name "sltu" (forms.Register Sltu)
+    ∷ with_name "xor" (forms.Register Xor)
+    ∷ with_name "srl" (forms.Register Srl)
+    ∷ with_name "or" (forms.Register Or)
+    ∷ with_name "and" (forms.Register And)
+    ∷ with_name "sub" (forms.Register Sub)
+    ∷ with_name "sra" (forms.Register Sra)
+    ∷ with_name "mul" (forms.Register Mul)
+    ∷ with_name "mulh" (forms.Register Mulh)
+    ∷ with_name "mulhsu" (forms.Register Mulhsu)
+    ∷ with_name "mulhu" (forms.Register Mulhu)
+    ∷ with_name "div" (forms.Register Div)
+    ∷ with_name "divu" (forms.Register Divu)
+    ∷ with_name "rem" (forms.Register Rem)
+    ∷ with_name "remu" (forms.Register Remu)
+    ∷ with_name "addw" (forms.Register Addw)
+    ∷ with_name "sllw" (forms.Register Sllw)
+    ∷ with_name "srlw" (forms.Register Srlw)
+    ∷ with_name "subw" (forms.Register Subw)
+    ∷ with_name "sraw" (forms.Register Sraw)
+    ∷ with_name "mulw" (forms.Register Mulw)
+    ∷ with_name "divw" (forms.Register Divw)
+    ∷ with_name "divuw" (forms.Register Divuw)
+    ∷ with_name "remw" (forms.Register Remw)
+    ∷ with_name "remuw" (forms.Register Remuw)
+    ∷ with_name "addi" (forms.Immediate Addi)
+    ∷ with_name "slti" (forms.Immediate Slti)
+    ∷ with_name "sltiu" (forms.Immediate Sltiu)
+    ∷ with_name "xori" (forms.Immediate Xori)
+    ∷ with_name "ori" (forms.Immediate Ori)
+    ∷ with_name "andi" (forms.Immediate Andi)
+    ∷ with_name "addiw" (forms.Immediate Addiw)
+    ∷ with_name "slli" (forms.Shift Slli)
+    ∷ with_name "srli" (forms.Shift Srli)
+    ∷ with_name "srai" (forms.Shift Srai)
+    ∷ with_name "slliw" (forms.Shift Slliw)
+    ∷ with_name "srliw" (forms.Shift Srliw)
+    ∷ with_name "sraiw" (forms.Shift Sraiw)
+    ∷ with_name "lb" (forms.Load Lb)
+    ∷ with_name "lh" (forms.Load Lh)
+    ∷ with_name "lw" (forms.Load Lw)
+    ∷ with_name "ld" (forms.Load Ld)
+    ∷ with_name "lbu" (forms.Load Lbu)
+    ∷ with_name "lhu" (forms.Load Lhu)
+    ∷ with_name "lwu" (forms.Load Lwu)
+    ∷ with_name "jalr" forms.Jalr
+    ∷ with_name "sb" (forms.Store Sb)
+    ∷ with_name "sh" (forms.Store Sh)
+    ∷ with_name "sw" (forms.Store Sw)
+    ∷ with_name "sd" (forms.Store Sd)
+    ∷ with_name "beq" (forms.Branch Beq)
+    ∷ with_name "bne" (forms.Branch Bne)
+    ∷ with_name "blt" (forms.Branch Blt)
+    ∷ with_name "bge" (forms.Branch Bge)
+    ∷ with_name "bltu" (forms.Branch Bltu)
+    ∷ with_name "bgeu" (forms.Branch Bgeu)
+    ∷ with_name "jal" forms.Jal
+    ∷ with_name "lui" (forms.Upper Lui)
+    ∷ with_name "auipc" (forms.Upper Auipc)
+    ∷ with_name "ecall" (forms.Plain Ecall)
+    ∷ with_name "ebreak" (forms.Plain Ebreak)
+    ∷ with_name "fence" (forms.Plain Fence)
+    ∷ with_name "nop" (forms.Plain Nop)
+    ∷ with_name "mv" forms.Move
+    ∷ with_name "j" forms.Jump
+    ∷ with_name "ret" (forms.Plain Ret)
+    ∷ with_name "li" forms.LoadNumber
+    ∷ with_name "la" forms.LoadAddress
+    ∷ with_name ".text" (forms.Enter sections.Text)
+    ∷ with_name ".data" (forms.Enter sections.Data)
+    ∷ with_name ".globl" forms.Global
+    ∷ with_name ".byte" (forms.Numbers sizes.One)
+    ∷ with_name ".word" (forms.Numbers sizes.Four)
+    ∷ with_name ".dword" (forms.Numbers sizes.Eight)
+    ∷ with_name ".ascii" forms.Ascii
+    ∷ with_name ".zero" forms.Zeros
+    ∷ with_name ".align" forms.Align
     ∷ []
 
 -- the atomics at their two widths, by their words without an order
 abbrev pub atomics : List (Named (AtomicOp × Width))
 atomics =
-    named "lr.w" (Lr, Word)
-    ∷ named "lr.d" (Lr, Double)
-    ∷ named "sc.w" (Sc, Word)
-    ∷ named "sc.d" (Sc, Double)
-    ∷ named "amoadd.w" (Amoadd, Word)
-    ∷ named "amoadd.d" (Amoadd, Double)
-    ∷ named "amoswap.w" (Amoswap, Word)
-    ∷ named "amoswap.d" (Amoswap, Double)
-    ∷ named "amoxor.w" (Amoxor, Word)
-    ∷ named "amoxor.d" (Amoxor, Double)
-    ∷ named "amoor.w" (Amoor, Word)
-    ∷ named "amoor.d" (Amoor, Double)
-    ∷ named "amoand.w" (Amoand, Word)
-    ∷ named "amoand.d" (Amoand, Double)
-    ∷ named "amomin.w" (Amomin, Word)
-    ∷ named "amomin.d" (Amomin, Double)
-    ∷ named "amomax.w" (Amomax, Word)
-    ∷ named "amomax.d" (Amomax, Double)
-    ∷ named "amominu.w" (Amominu, Word)
-    ∷ named "amominu.d" (Amominu, Double)
-    ∷ named "amomaxu.w" (Amomaxu, Word)
-    ∷ named "amomaxu.d" (Amomaxu, Double)
+    with_name "lr.w" (Lr, Word)
+    ∷ with_name "lr.d" (Lr, Double)
+    ∷ with_name "sc.w" (Sc, Word)
+    ∷ with_name "sc.d" (Sc, Double)
+    ∷ with_name "amoadd.w" (Amoadd, Word)
+    ∷ with_name "amoadd.d" (Amoadd, Double)
+    ∷ with_name "amoswap.w" (Amoswap, Word)
+    ∷ with_name "amoswap.d" (Amoswap, Double)
+    ∷ with_name "amoxor.w" (Amoxor, Word)
+    ∷ with_name "amoxor.d" (Amoxor, Double)
+    ∷ with_name "amoor.w" (Amoor, Word)
+    ∷ with_name "amoor.d" (Amoor, Double)
+    ∷ with_name "amoand.w" (Amoand, Word)
+    ∷ with_name "amoand.d" (Amoand, Double)
+    ∷ with_name "amomin.w" (Amomin, Word)
+    ∷ with_name "amomin.d" (Amomin, Double)
+    ∷ with_name "amomax.w" (Amomax, Word)
+    ∷ with_name "amomax.d" (Amomax, Double)
+    ∷ with_name "amominu.w" (Amominu, Word)
+    ∷ with_name "amominu.d" (Amominu, Double)
+    ∷ with_name "amomaxu.w" (Amomaxu, Word)
+    ∷ with_name "amomaxu.d" (Amomaxu, Double)
     ∷ []
 
 -- the orders, by what stands for them behind an atomic's word
 abbrev pub suffixes : List (Named Order)
 suffixes =
-    named "" orders.Relaxed
-    ∷ named ".aq" orders.Acquire
-    ∷ named ".rl" orders.Release
-    ∷ named ".aqrl" orders.Both
+    with_name "" orders.Relaxed
+    ∷ with_name ".aq" orders.Acquire
+    ∷ with_name ".rl" orders.Release
+    ∷ with_name ".aqrl" orders.Both
     ∷ []
 
 -- an atomic in each order
-abbrev pub ordered : Named (AtomicOp × Width) → List (Named Form)
-ordered atomic = map (λ s. (atomic.0 ++ s.0, forms.Atomic atomic.1.0 atomic.1.1 s.1)) suffixes
+abbrev pub order_rows : Named (AtomicOp × Width) → List (Named Form)
+order_rows atomic = map (λ s. (atomic.0 ++ s.0, forms.Atomic atomic.1.0 atomic.1.1 s.1)) suffixes
 
 abbrev pub atomic_rows : List (Named Form)
-atomic_rows = flat_map ordered atomics
+atomic_rows = flat_map order_rows atomics
 
 unfoldable pub rows : List (Named Form)
 rows = plain_rows ++ atomic_rows
@@ -174,38 +174,38 @@ form_of name = look_up name rows
 -- the registers' names
 abbrev pub register_rows : List (Named Register)
 register_rows =
-    named "x0" X0 ∷ named "zero" X0
-    ∷ named "x1" X1 ∷ named "ra" X1
-    ∷ named "x2" X2 ∷ named "sp" X2
-    ∷ named "x3" X3 ∷ named "gp" X3
-    ∷ named "x4" X4 ∷ named "tp" X4
-    ∷ named "x5" X5 ∷ named "t0" X5
-    ∷ named "x6" X6 ∷ named "t1" X6
-    ∷ named "x7" X7 ∷ named "t2" X7
-    ∷ named "x8" X8 ∷ named "s0" X8 ∷ named "fp" X8
-    ∷ named "x9" X9 ∷ named "s1" X9
-    ∷ named "x10" X10 ∷ named "a0" X10
-    ∷ named "x11" X11 ∷ named "a1" X11
-    ∷ named "x12" X12 ∷ named "a2" X12
-    ∷ named "x13" X13 ∷ named "a3" X13
-    ∷ named "x14" X14 ∷ named "a4" X14
-    ∷ named "x15" X15 ∷ named "a5" X15
-    ∷ named "x16" X16 ∷ named "a6" X16
-    ∷ named "x17" X17 ∷ named "a7" X17
-    ∷ named "x18" X18 ∷ named "s2" X18
-    ∷ named "x19" X19 ∷ named "s3" X19
-    ∷ named "x20" X20 ∷ named "s4" X20
-    ∷ named "x21" X21 ∷ named "s5" X21
-    ∷ named "x22" X22 ∷ named "s6" X22
-    ∷ named "x23" X23 ∷ named "s7" X23
-    ∷ named "x24" X24 ∷ named "s8" X24
-    ∷ named "x25" X25 ∷ named "s9" X25
-    ∷ named "x26" X26 ∷ named "s10" X26
-    ∷ named "x27" X27 ∷ named "s11" X27
-    ∷ named "x28" X28 ∷ named "t3" X28
-    ∷ named "x29" X29 ∷ named "t4" X29
-    ∷ named "x30" X30 ∷ named "t5" X30
-    ∷ named "x31" X31 ∷ named "t6" X31
+    with_name "x0" X0 ∷ with_name "zero" X0
+    ∷ with_name "x1" X1 ∷ with_name "ra" X1
+    ∷ with_name "x2" X2 ∷ with_name "sp" X2
+    ∷ with_name "x3" X3 ∷ with_name "gp" X3
+    ∷ with_name "x4" X4 ∷ with_name "tp" X4
+    ∷ with_name "x5" X5 ∷ with_name "t0" X5
+    ∷ with_name "x6" X6 ∷ with_name "t1" X6
+    ∷ with_name "x7" X7 ∷ with_name "t2" X7
+    ∷ with_name "x8" X8 ∷ with_name "s0" X8 ∷ with_name "fp" X8
+    ∷ with_name "x9" X9 ∷ with_name "s1" X9
+    ∷ with_name "x10" X10 ∷ with_name "a0" X10
+    ∷ with_name "x11" X11 ∷ with_name "a1" X11
+    ∷ with_name "x12" X12 ∷ with_name "a2" X12
+    ∷ with_name "x13" X13 ∷ with_name "a3" X13
+    ∷ with_name "x14" X14 ∷ with_name "a4" X14
+    ∷ with_name "x15" X15 ∷ with_name "a5" X15
+    ∷ with_name "x16" X16 ∷ with_name "a6" X16
+    ∷ with_name "x17" X17 ∷ with_name "a7" X17
+    ∷ with_name "x18" X18 ∷ with_name "s2" X18
+    ∷ with_name "x19" X19 ∷ with_name "s3" X19
+    ∷ with_name "x20" X20 ∷ with_name "s4" X20
+    ∷ with_name "x21" X21 ∷ with_name "s5" X21
+    ∷ with_name "x22" X22 ∷ with_name "s6" X22
+    ∷ with_name "x23" X23 ∷ with_name "s7" X23
+    ∷ with_name "x24" X24 ∷ with_name "s8" X24
+    ∷ with_name "x25" X25 ∷ with_name "s9" X25
+    ∷ with_name "x26" X26 ∷ with_name "s10" X26
+    ∷ with_name "x27" X27 ∷ with_name "s11" X27
+    ∷ with_name "x28" X28 ∷ with_name "t3" X28
+    ∷ with_name "x29" X29 ∷ with_name "t4" X29
+    ∷ with_name "x30" X30 ∷ with_name "t5" X30
+    ∷ with_name "x31" X31 ∷ with_name "t6" X31
     ∷ []
 
 unfoldable pub register_of : List ℕ → Option ℕ

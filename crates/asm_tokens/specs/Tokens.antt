@@ -52,14 +52,14 @@ is_allowed b = is_blank b || is_from 0x20 0x7E b
 
 -- ---- lines
 
-abbrev pub before : ℕ → List (List ℕ) → List (List ℕ)
-before b [] = (b ∷ []) ∷ []
-before b (line ∷ more) = (b ∷ line) ∷ more
+abbrev pub with_byte_before : ℕ → List (List ℕ) → List (List ℕ)
+with_byte_before b [] = (b ∷ []) ∷ []
+with_byte_before b (line ∷ more) = (b ∷ line) ∷ more
 
 -- each newline ends a line; what stands after the last one is a line if it isn't empty
 abbrev pub lines : List ℕ → List (List ℕ)
 lines [] = []
-lines (b ∷ bs) = if b == byte "\n" then [] ∷ lines bs else before b (lines bs)
+lines (b ∷ bs) = if b == byte "\n" then [] ∷ lines bs else with_byte_before b (lines bs)
 
 -- ---- numbers
 
@@ -77,8 +77,8 @@ abbrev pub are_some : (ℕ → Bool) → List ℕ → Bool
 are_some test bs = list_all test bs && nat_lt 0 (length bs)
 
 -- the number that a word spells, decimal or with 0x before it
-abbrev pub spelled : List ℕ → Option ℕ
-spelled word =
+abbrev pub spelled_number : List ℕ → Option ℕ
+spelled_number word =
     if are_some is_digit word then Some (number_in 10 word)
     else if starts_with nat_eq word (codes "0x") && are_some is_hex_digit (drop 2 word)
     then Some (number_in 16 (drop 2 word))
@@ -110,8 +110,8 @@ escapes =
     (byte "n", 10) ∷ (byte "t", 9) ∷ (byte "\\", byte "\\")
     ∷ (byte "\"", byte "\"") ∷ (byte "0", 0) ∷ []
 
-abbrev pub escaped : ℕ → Option ℕ
-escaped b = option_map (λ e. e.1) (find (λ e. e.0 == b) escapes)
+abbrev pub escape_value : ℕ → Option ℕ
+escape_value b = option_map (λ e. e.1) (find (λ e. e.0 == b) escapes)
 
 -- the bytes of a text and how many spell them
 abbrev pub Spelling : Type 0
@@ -126,7 +126,8 @@ with_byte b t = (b ∷ t.0, t.1 + 1)
 -- the text up to its closing quote; the flag is true behind a backslash
 abbrev pub text : Bool → List ℕ → Option Spelling
 text behind [] = None
-text true (b ∷ bs) = option_and_then (λ c. option_map (with_byte c) (text false bs)) (escaped b)
+text true (b ∷ bs) =
+    option_and_then (λ c. option_map (with_byte c) (text false bs)) (escape_value b)
 text false (b ∷ bs) =
     elim (b == byte "\"") [
       | true ↦ Some ([], 1)
@@ -156,9 +157,9 @@ front (b ∷ bs) =
     else if is_mark b then Begins (Mark b) 1
     else if b == byte "\"" then text_front (text false bs)
     else if b == byte "-"
-    then number_front (spelled (word bs)) (λ n. neg_ℤ (pos n)) (1 + length (word bs))
+    then number_front (spelled_number (word bs)) (λ n. neg_ℤ (pos n)) (1 + length (word bs))
     else if is_digit b
-    then number_front (spelled (word (b ∷ bs))) (λ n. pos n) (length (word (b ∷ bs)))
+    then number_front (spelled_number (word (b ∷ bs))) (λ n. pos n) (length (word (b ∷ bs)))
     else if is_of_name b then Begins (Name (word (b ∷ bs))) (length (word (b ∷ bs)))
     else Wrong
 

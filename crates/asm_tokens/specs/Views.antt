@@ -13,8 +13,8 @@ use Rattle.asm_tokens.specs.Tokens.{Spelling, Token, Name, Number, Text, Mark, P
 use Rattle.asm_tokens.specs.Table.{Named}
 
 -- an entry of a table in code
-abbrev pub seen : {A : Type 0} → Bor (List ℕ) × A → Named A
-seen r = (r.0.now, r.1)
+abbrev pub entry_view : {A : Type 0} → Bor (List ℕ) × A → Named A
+entry_view r = (r.0.now, r.1)
 
 -- What was answered is this text, or this want of one, unless memory ran out.
 abbrev pub GivesText : {V : Type 0} → (V → List ℕ) → Result (Option (V × ℕ)) AllocError

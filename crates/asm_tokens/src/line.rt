@@ -1,7 +1,7 @@
 //! The tokens of a line.
 
 ghost use Rattle.std.specs.Prelude.{◌≡◌, ◌≤◌, ◌<◌, ◌+◌, ◌-◌, length, drop, map, false, IfSome, IfOk, neg_ℤ, pos, if◌then◌else◌};
-ghost use Rattle.asm_tokens.specs.Tokens.{text, front, tokens, spelled, number_front, is_blank, is_mark};
+ghost use Rattle.asm_tokens.specs.Tokens.{text, front, tokens, spelled_number, number_front, is_blank, is_mark};
 ghost use Rattle.asm_tokens.specs.Views.{GivesText, front_of, token_of, placed_of, IsWithin, GivesLine};
 ghost use Rattle.asm_tokens.specs.declared.line.LineError.TheVariants.{Memory};
 
@@ -100,7 +100,7 @@ pub enum Found<'a> {
 
 /// The number that a word spells, of so many bytes with its sign.
 fn number<'a>(word: &[u8], is_negative: bool, bytes: usize) -> Found<'a>
-    ensures { front_of token_of result ≡ number_front (spelled word.now)
+    ensures { front_of token_of result ≡ number_front (spelled_number word.now)
         (if is_negative then (λ n. neg_ℤ (pos n)) else (λ n. pos n)) bytes }
 {
     match spelled(word) {

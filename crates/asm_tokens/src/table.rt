@@ -2,9 +2,9 @@
 
 ghost use Rattle.std.specs.Prelude.{◌≡◌, map, option_map};
 ghost use Rattle.std.specs.List.{flat_map};
-ghost use Rattle.asm_tokens.specs.Table.{register_of, form_of, look_up, plain_rows, ordered, atomic_rows};
+ghost use Rattle.asm_tokens.specs.Table.{register_of, form_of, look_up, plain_rows, order_rows, atomic_rows};
 ghost use Rattle.asm_tokens.specs.Registers.{number_of};
-ghost use Rattle.asm_tokens.specs.Views.{seen};
+ghost use Rattle.asm_tokens.specs.Views.{entry_view};
 
 use crate::form::{Alone, Form, Order, Section, Size, Width};
 use crate::register::Register;
@@ -199,7 +199,7 @@ const SUFFIXES: [(&[u8], Order); 4] = [
 
 /// The first entry of that name.
 fn look_up<T: Copy>(rows: &[(&[u8], T)], name: &[u8]) -> Option<T>
-    ensures { result ≡ look_up name.now (map seen rows.now) }
+    ensures { result ≡ look_up name.now (map entry_view rows.now) }
 {
     for row in rows.iter() {
         if name == row.0 {
@@ -225,7 +225,7 @@ fn plain_form(name: &[u8]) -> Option<Form>
 
 /// The form of this atomic, if the name is its word with an order's suffix.
 fn ordered_form(atomic: &(&[u8], (AtomicOp, Width)), name: &[u8]) -> Option<Form>
-    ensures { result ≡ look_up name.now (ordered (seen atomic.now)) }
+    ensures { result ≡ look_up name.now (order_rows (entry_view atomic.now)) }
 {
     let suffix = name.strip_prefix(atomic.0)?;
     let order = look_up(&SUFFIXES, suffix)?;
@@ -235,7 +235,7 @@ fn ordered_form(atomic: &(&[u8], (AtomicOp, Width)), name: &[u8]) -> Option<Form
 
 /// The form of the first of these atomics that has that name in some order.
 fn look_up_ordered(atomics: &[(&[u8], (AtomicOp, Width))], name: &[u8]) -> Option<Form>
-    ensures { result ≡ look_up name.now (flat_map ordered (map seen atomics.now)) }
+    ensures { result ≡ look_up name.now (flat_map order_rows (map entry_view atomics.now)) }
 {
     for atomic in atomics.iter() {
         if let Some(form) = ordered_form(atomic, name) {

@@ -1,7 +1,7 @@
 //! Words and the numbers that they spell.
 
 ghost use Rattle.std.specs.Prelude.{◌≡◌, ◌≤◌, ◌<◌, IsTrue, ◌^◌, length, map, IfSome, true};
-ghost use Rattle.asm_tokens.specs.Tokens.{digit, is_digit, is_hex_digit, is_of_name, are_some, number_in, spelled, escaped};
+ghost use Rattle.asm_tokens.specs.Tokens.{digit, is_digit, is_hex_digit, is_of_name, are_some, number_in, spelled_number, escape_value};
 ghost use Rattle.std.specs.List.{AllPass, list_all, prefix_len};
 
 /// Whether it is a decimal digit.
@@ -105,7 +105,7 @@ fn are_hex_digits(bytes: &[u8]) -> bool
 
 /// The number that a word spells. None where it spells none.
 pub fn spelled(word: &[u8]) -> Option<u128>
-    ensures value { result ≡ spelled word.now }
+    ensures value { result ≡ spelled_number word.now }
     ensures small { IfSome result (λ n. n ≤ 2 ^ 64) }
 {
     if are_digits(word) {
@@ -119,7 +119,7 @@ pub fn spelled(word: &[u8]) -> Option<u128>
 
 /// What an escape stands for. None where it is none.
 pub fn escaped(byte: u8) -> Option<u8>
-    ensures { result ≡ escaped byte }
+    ensures { result ≡ escape_value byte }
 {
     match byte {
         b'n' => Some(10),

@@ -7,7 +7,7 @@ use Rattle.std.specs.List.Sorted.{IsSortedBy, IsStableBy, ties}
 use Rattle.std.proofs.lemmas.Bool.{and_parts}
 use Rattle.std.proofs.lemmas.Cmp.{nat_cmp_total, int_cmp_total, on_total, then_total, back_total}
 use Rattle.std.proofs.lemmas.List.Sorted.{sorted_far, ranks_by}
-use Rattle.causal_curves.specs.Curves.{put_by, sorted_by, ranked, ranks_before, IsRanking}
+use Rattle.causal_curves.specs.Curves.{put_by, sorted_by, ranked_curves, ranks_before, IsRanking}
 use Rattle.causal_curves.specs.declared.curve.Curve.{Curve}
 
 not_true : (b : Bool) → not b ≡ true → b ≡ false
@@ -178,5 +178,5 @@ ranks =
     (then_total (on_total (λ (c : Curve). c.point) nat_cmp_total) (back_total (on_total (λ (c : Curve). c.gain) (options_total int_cmp_total))))
     (λ (c : Curve). c)
 
-pub ranked_is : (curves found : List Curve) → IsRanking curves found → found ≡ ranked curves
+pub ranked_is : (curves found : List Curve) → IsRanking curves found → found ≡ ranked_curves curves
 ranked_is curves found is = stable_is_one ranks_before ranks curves found is.sorted is.stable

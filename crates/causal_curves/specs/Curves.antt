@@ -93,10 +93,10 @@ ranks_before a b =
     is_lt (ordering_then (nat_cmp a.point b.point) (option_cmp int_cmp b.gain a.gain))
 
 -- the curves by rank, those of one rank in the order that they had
-pub record IsRanking (curves ranked : List Curve) : Type 0 where
-  pub all : IsPermutation curves ranked
-  pub sorted : IsSortedBy ranks_before ranked
-  pub stable : IsStableBy ranks_before curves ranked
+pub record IsRanking (curves ranked_curves : List Curve) : Type 0 where
+  pub all : IsPermutation curves ranked_curves
+  pub sorted : IsSortedBy ranks_before ranked_curves
+  pub stable : IsStableBy ranks_before curves ranked_curves
 
 -- an element among others, before the first that it isn't behind
 abbrev pub put_by : {X : Type 0} → (X → X → Bool) → X → List X → List X
@@ -109,5 +109,5 @@ sorted_by lt [] = []
 sorted_by lt (x ∷ xs) = put_by lt x (sorted_by lt xs)
 
 -- the curves by rank: the one list that is their ranking
-abbrev pub ranked : List Curve → List Curve
-ranked curves = sorted_by ranks_before curves
+abbrev pub ranked_curves : List Curve → List Curve
+ranked_curves curves = sorted_by ranks_before curves

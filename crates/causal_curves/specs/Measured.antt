@@ -1,11 +1,11 @@
 -- A summary with a count of a point, within its ranges.
 use Rattle.std.specs.Prelude.{◌≡◌, ℕ, ◌<◌, ◌≤◌, nat_le, true, length}
 use Rattle.std.specs.List.{list_all}
-use Rattle.coz_types.specs.Ranges.{most, most_visits}
+use Rattle.coz_types.specs.Ranges.{greatest_number, most_visits}
 use Rattle.coz_types.specs.declared.record.Summary.{Summary}
 
 pub record IsMeasured (point : ℕ) (s : Summary) : Type 0 where
-  pub time : s.outcome.time ≤ most
+  pub time : s.outcome.time ≤ greatest_number
   pub delay : s.outcome.delay ≤ s.outcome.time
   pub counts : point < length s.counts
   pub deltas : list_all (λ n. nat_le n most_visits) s.counts ≡ true

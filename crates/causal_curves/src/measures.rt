@@ -1,7 +1,7 @@
 //! What a visit takes, against the run without a speedup.
 ghost use Rattle.std.specs.Prelude.{◌≡◌, ◌*◌, ◌≤◌, pos, ◌-ℤ◌, ◌*ℤ◌, ◌<ℤ◌, ◌≤ℤ◌};
 ghost use Rattle.std.specs.Int.{int_div_euclid};
-ghost use Rattle.coz_types.specs.Ranges.{most, most_visits};
+ghost use Rattle.coz_types.specs.Ranges.{greatest_number, most_visits};
 ghost use Rattle.causal_curves.specs.Curves.{net, visits, value_over};
 ghost use Rattle.causal_curves.specs.Measured.{IsMeasured, most_product};
 
@@ -23,7 +23,7 @@ fn visits(summary: &Summary, point: usize) -> u64
 }
 
 fn product(net: u64, visits: u64) -> i128
-    requires net { net ≤ most }
+    requires net { net ≤ greatest_number }
     requires visits { visits ≤ most_visits }
     ensures { result ≡ pos (net * visits) }
 {

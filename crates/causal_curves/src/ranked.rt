@@ -2,7 +2,7 @@
 ghost use Rattle.std.specs.Prelude.{◌≡◌, ◌≤◌, ◌++◌, map, length, IfOk, OnOk};
 ghost use Rattle.std.specs.List.{All, AllByRecursion};
 ghost use Rattle.coz_types.specs.Ranges.{IsSummary};
-ghost use Rattle.causal_curves.specs.Curves.{groups, curve_of, curves_at, curves_of, ranked, IsRanking};
+ghost use Rattle.causal_curves.specs.Curves.{groups, curve_of, curves_at, curves_of, ranked_curves, IsRanking};
 ghost use Rattle.causal_curves.specs.Measured.{IsMeasured};
 
 use crate::curve::Curve;
@@ -53,7 +53,7 @@ pub fn curves(alloc: Global, profile: &Profile) -> Result<Items<Curve>, AllocErr
     requires summaries { AllByRecursion (IsSummary (length profile.now.points))
         profile.now.summaries }
     ensures ranking { IfOk result (IsRanking (curves_of profile.now)) }
-    ensures ranked { IfOk result (λ curves. curves ≡ ranked (curves_of profile.now)) }
+    ensures ranked { IfOk result (λ curves. curves ≡ ranked_curves (curves_of profile.now)) }
 {
     let mut curves = all_curves(alloc, profile)?;
     curves.sort_by_key(|curve| (curve.point, Reverse(curve.gain)))?;

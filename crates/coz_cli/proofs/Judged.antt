@@ -26,8 +26,8 @@ use Rattle.coz_cli.specs.LineTable.{table_in}
 use Rattle.coz_cli.specs.Experiment.{Runs, choice_of}
 use Rattle.coz_cli.specs.Profiled.{all_lines, pairs_of, profile_of}
 use Rattle.coz_cli.specs.Selection.{line_named, lines_named}
-use Rattle.coz_cli.specs.Kind.{judging, really_printed, run_printed}
-use Rattle.coz_cli.specs.Answer.{Answer, IsMemory, IsMemoryFault, IsRead, IsReadFault, Suits, answered, fault_verdict}
+use Rattle.coz_cli.specs.Kind.{judgement_by, really_printed, run_printed}
+use Rattle.coz_cli.specs.Answer.{Answer, IsMemory, IsMemoryFault, IsRead, IsReadFault, Suits, verdict_of, fault_verdict}
 use Rattle.coz_cli.specs.Verdict.{Verdict, Judging, asked_verdict, profiled_verdict, file_verdict, files_verdict, input_verdict, read_verdict, has_exited, loaded_verdict, named_verdict, plan_verdict, points_verdict, profile_verdict, table_verdict}
 
 -- the status is a run's, or one of the refusals behind the reading, with a line
@@ -83,7 +83,7 @@ judged_profiled asked lines runs =
     judged_plan (pairs_of selected asked.speedups) (λ pairs. profile_verdict (profile_of runs lines asked.budget points pairs))
     (λ pairs. inl (low (list_all (λ (s : Summary). has_exited s.outcome.ending) (profile_of runs lines asked.budget points pairs).summaries))))))
 
-judged_kind : (kind : Kind) (asked : Request) (lines : List Line) (runs : Runs) → Judged (judging kind asked lines runs)
+judged_kind : (kind : Kind) (asked : Request) (lines : List Line) (runs : Runs) → Judged (judgement_by kind asked lines runs)
 judged_kind Delayed asked = judged_asked asked run_printed (λ x. inl (low (has_exited (delayed_record x).ending)))
 judged_kind Shortened asked = judged_asked asked really_printed (λ x. inl (low (has_exited (shortened_record x).ending)))
 judged_kind Profiled asked = judged_profiled asked
@@ -96,7 +96,7 @@ judged_loaded : (l : Result ImageParts ElfFault) (next : ImageParts → Verdict)
 judged_loaded (Err fault) next each = inr (record { high = omega arith; no_read = λ is. omega (arith, is); no_write = λ is. omega (arith, is); no_length = λ is. omega (arith, is); told = λ is. absurd cc })
 judged_loaded (Ok image) next each = each image
 
-judged_file : (kind : Kind) (asked : Request) (file input : List ℕ) → Judged (file_verdict (judging kind asked) file input)
+judged_file : (kind : Kind) (asked : Request) (file input : List ℕ) → Judged (file_verdict (judgement_by kind asked) file input)
 judged_file kind asked file input =
     judged_loaded (load_answer file) _ (λ image.
     judged_table (table_in file) _ (λ table.
@@ -108,7 +108,7 @@ module _ (asked : Request) (v : Verdict) (judged : Judged v) where
   status_is : (w : Verdict) → w ≡ v → w.status ≡ v.status
   status_is w same = ap (λ (u : Verdict). u.status) same
 
-  low_status : (printed : Printed) → answered (Ok printed) ≡ v → Judged v → printed.status ≤ 1
+  low_status : (printed : Printed) → verdict_of (Ok printed) ≡ v → Judged v → printed.status ≤ 1
   low_status printed is (inl few) = subst (λ (n : ℕ). n ≤ 1) (sym (status_is _ is)) few
   low_status printed is (inr refused) = absurd (refused.told (sym (ap (λ (u : Verdict). u.line) is)))
 
@@ -117,7 +117,7 @@ module _ (asked : Request) (v : Verdict) (judged : Judged v) where
   apart n is which (inr refused) = elim which [ inl two ↦ omega (arith, is, two, refused.high) | inr more ↦ elim more [ inl six ↦ refused.no_write (sym is ∙ six) | inr eight ↦ refused.no_length (sym is ∙ eight) ] ]
 
   -- an answer of such a verdict is one that a request may have
-  pub suits_of : (answer : Answer) → (IsRead answer → ⊥) → ((IsMemory answer → ⊥) → answered answer ≡ v) → Suits asked answer
+  pub suits_of : (answer : Answer) → (IsRead answer → ⊥) → ((IsMemory answer → ⊥) → verdict_of answer ≡ v) → Suits asked answer
   suits_of (Ok printed) no_read settled = low_status printed (settled (λ no. no)) judged
   suits_of (Err Usage) no_read settled = apart 2 (status_is _ (settled (λ no. no))) (inl refl) judged
   suits_of (Err (Program fault)) no_read settled = tt
@@ -133,8 +133,8 @@ module _ (asked : Request) (v : Verdict) (judged : Judged v) where
   suits_of (Err (Profile fault)) no_read settled = tt
 
 pub suits_file : (kind : Kind) (asked : Request) (file input : List ℕ) (answer : Answer) → (IsRead answer → ⊥)
-    → ((IsMemory answer → ⊥) → answered answer ≡ file_verdict (judging kind asked) file input) → Suits asked answer
-suits_file kind asked file input answer = suits_of asked (file_verdict (judging kind asked) file input) (judged_file kind asked file input) answer
+    → ((IsMemory answer → ⊥) → verdict_of answer ≡ file_verdict (judgement_by kind asked) file input) → Suits asked answer
+suits_file kind asked file input answer = suits_of asked (file_verdict (judgement_by kind asked) file input) (judged_file kind asked file input) answer
 
 -- ---- reading
 

@@ -9,13 +9,13 @@ use Rattle.profile_reader.specs.declared.fault.BookFault.{BookFault}
 use Rattle.profile_reader.specs.declared.fault.BookError.{BookError}
 use Rattle.profile_reader.specs.declared.fault.BookError.TheVariants as book
 use Rattle.profile_reader.proofs.Only.{told_is}
-use Rattle.causal_curves.specs.Curves.{curves_of, ranked}
+use Rattle.causal_curves.specs.Curves.{curves_of, ranked_curves}
 use Rattle.causal_curves.specs.Texts.{curve_text}
 use Rattle.causal_curves.specs.declared.curve.Curve.{Curve}
 use Rattle.coz_cli.specs.Answer.{fault_verdict, IsMemoryFault}
 use Rattle.coz_cli.specs.Causes.{profile_fault}
 use Rattle.coz_cli.specs.Text.{plot_text}
-use Rattle.coz_cli.specs.Verdict.{book_verdict, plot_verdict, printed}
+use Rattle.coz_cli.specs.Verdict.{book_verdict, plot_verdict, text_verdict}
 
 at_fault : (bytes : List ℕ) (fault : Option BookFault) → book_fault bytes ≡ fault → book_verdict fault (told bytes) ≡ plot_verdict bytes
 at_fault bytes fault is = ap (λ (o : Option BookFault). book_verdict o (told bytes)) (sym is)
@@ -25,10 +25,10 @@ pub no_profile : (bytes : List ℕ) (error : BookError) → IsError error (book_
 no_profile bytes (book.Fault fault) is other = at_fault bytes (Some fault) is
 no_profile bytes book.Memory is other = absurd (other tt)
 
-pub plotted : (bytes : List ℕ) (p : Profile) (curves : List Curve) → book_fault bytes ≡ None → IsTextOf p bytes → curves ≡ ranked (curves_of p)
-    → printed (flat_map curve_text curves) ≡ plot_verdict bytes
+pub plotted : (bytes : List ℕ) (p : Profile) (curves : List Curve) → book_fault bytes ≡ None → IsTextOf p bytes → curves ≡ ranked_curves (curves_of p)
+    → text_verdict (flat_map curve_text curves) ≡ plot_verdict bytes
 unfolding plot_text
 plotted bytes p curves none is ranks =
-    ap (λ (cs : List Curve). printed (flat_map curve_text cs)) ranks
-    ∙ ap (λ (q : Profile). printed (plot_text q)) (sym (told_is bytes p is))
+    ap (λ (cs : List Curve). text_verdict (flat_map curve_text cs)) ranks
+    ∙ ap (λ (q : Profile). text_verdict (plot_text q)) (sym (told_is bytes p is))
     ∙ at_fault bytes None none

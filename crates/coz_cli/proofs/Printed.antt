@@ -22,7 +22,7 @@ use Rattle.guest_calls.specs.Guest.{Guest}
 use Rattle.guest_calls.specs.Orderly.{IsOrderly}
 use Rattle.guest_calls.proofs.Law.{lawful}
 use Rattle.virtual_run.specs.Run.{selected_line, has_selected}
-use Rattle.coz_words.specs.Request.{IsFit, runs}
+use Rattle.coz_words.specs.Request.{IsFit, is_runner}
 use Rattle.coz_words.specs.Said.{Text}
 use Rattle.coz_words.specs.declared.request.Request.{Request}
 use Rattle.coz_words.specs.declared.command.Command.{Command}
@@ -37,7 +37,7 @@ use Rattle.coz_cli.specs.Experiment.{Runs, choice_of, entries_of, experiment_by_
 use Rattle.coz_cli.specs.Profiled.{all_lines, experiment_on, pairs_of, profile_of}
 use Rattle.coz_cli.specs.FaultLines.{plan_line, points_line}
 use Rattle.coz_cli.proofs.Profiling.{speedups_small}
-use Rattle.coz_cli.specs.Verdict.{Verdict, Judging, refused, verdict, request_verdict, command_verdict, read_verdict, input_verdict, file_verdict, files_verdict, asked_verdict, named_verdict, points_verdict, plan_verdict, profile_verdict, profiled_verdict, loaded_verdict, table_verdict, run_verdict, really_verdict}
+use Rattle.coz_cli.specs.Verdict.{Verdict, Judging, refusal, verdict, request_verdict, command_verdict, read_verdict, input_verdict, file_verdict, files_verdict, asked_verdict, named_verdict, points_verdict, plan_verdict, profile_verdict, profiled_verdict, loaded_verdict, table_verdict, run_verdict, really_verdict}
 use Rattle.coz_cli.specs.Headline.{IsAsked, PrintsRun, PrintsProfile, PrintsReally, PrintsShortened, IsInput}
 
 -- ---- the experiments of a request
@@ -120,7 +120,7 @@ module _ (held : Held) (asked : Request) (next : Judging) (v : Verdict) (low : v
   loaded_comes file input found given (Ok image) program is = table_comes file input image found given program (table_in file) refl is
 
 -- of a file that is there and short enough, the verdict is what follows
-short_enough : (most : ℕ) (path file : List ℕ) (next : List ℕ → Verdict) (long : Bool) → (cond long (refused 8 (codes "coz: long: " ++ path)) (next file)).status ≤ 1 → cond long (refused 8 (codes "coz: long: " ++ path)) (next file) ≡ next file
+short_enough : (most : ℕ) (path file : List ℕ) (next : List ℕ → Verdict) (long : Bool) → (cond long (refusal 8 (codes "coz: long: " ++ path)) (next file)).status ≤ 1 → cond long (refusal 8 (codes "coz: long: " ++ path)) (next file) ≡ next file
 short_enough most path file next true low = absurd (omega arith)
 short_enough most path file next false low = refl
 
@@ -170,10 +170,10 @@ few_enough most count refusal next v high low true large is = let no = low_of _ 
 few_enough most count refusal next v high low false large is = (ltb-false most count large, is)
 
 few_points : (points : List ℕ) (next : List ℕ → Verdict) (v : Verdict) → v.status ≤ 1 → v ≡ points_verdict points next → (length points ≤ 64) × (v ≡ next points)
-few_points points next v low is = few_enough 64 (length points) (refused 7 (points_line (length points))) (next points) v (omega arith) low (nat_lt 64 (length points)) refl is
+few_points points next v low is = few_enough 64 (length points) (refusal 7 (points_line (length points))) (next points) v (omega arith) low (nat_lt 64 (length points)) refl is
 
 few_pairs : (pairs : List Pair) (next : List Pair → Verdict) (v : Verdict) → v.status ≤ 1 → v ≡ plan_verdict pairs next → (length pairs ≤ 100000) × (v ≡ next pairs)
-few_pairs pairs next v low is = few_enough 100000 (length pairs) (refused 9 (plan_line (length pairs))) (next pairs) v (omega arith) low (nat_lt 100000 (length pairs)) refl is
+few_pairs pairs next v low is = few_enough 100000 (length pairs) (refusal 9 (plan_line (length pairs))) (next pairs) v (omega arith) low (nat_lt 100000 (length pairs)) refl is
 
 -- ---- the experiment that a request asks for
 
@@ -295,7 +295,7 @@ module _ (words : List (List ℕ)) (held : Held) (before now : Option (List ℕ)
       let same = command_is asked Run named is in
       let fit = fit_of asked named in
       let comes = experiment_comes held asked (λ x. run_verdict (delayed_record x)) (low_of _ _ same low) in
-      let like = like_asked held asked comes.experiment fit (fit.some_budget (ap runs is)) comes.is_asked in
+      let like = like_asked held asked comes.experiment fit (fit.some_budget (ap is_runner is)) comes.is_asked in
       record {
         experiment = comes.experiment;
         run = delayed_record comes.experiment;
@@ -309,14 +309,14 @@ module _ (words : List (List ℕ)) (held : Held) (before now : Option (List ℕ)
   prints_profile asked named is =
       let same = command_is asked Profile named is in
       let fit = fit_of asked named in
-      profile_printed held asked before now fit (fit.some_budget (ap runs is)) (low_of _ _ same low) (gained_as _ same)
+      profile_printed held asked before now fit (fit.some_budget (ap is_runner is)) (low_of _ _ same low) (gained_as _ same)
 
   prints_really : (asked : Request) → request_of words ≡ Some asked → asked.command ≡ Really → PrintsReally held asked before now
   prints_really asked named is =
       let same = command_is asked Really named is in
       let fit = fit_of asked named in
       let comes = experiment_comes held asked (λ x. really_verdict (shortened_record x)) (low_of _ _ same low) in
-      let like = like_asked held asked comes.experiment fit (fit.some_budget (ap runs is)) comes.is_asked in
+      let like = like_asked held asked comes.experiment fit (fit.some_budget (ap is_runner is)) comes.is_asked in
       record {
         experiment = comes.experiment;
         run = shortened_record comes.experiment;

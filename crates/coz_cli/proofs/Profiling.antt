@@ -14,7 +14,7 @@ use Rattle.progress_points.specs.Points.{Points, IsPoints, IsFault}
 use Rattle.progress_points.specs.declared.PointsError.{PointsError}
 use Rattle.progress_points.specs.declared.PointsError.TheVariants as pointing
 use Rattle.experiment_plan.specs.Selected.{ids}
-use Rattle.experiment_plan.specs.Pairs.{planned, IsPlan}
+use Rattle.experiment_plan.specs.Pairs.{planned_pairs, IsPlan}
 use Rattle.experiment_plan.specs.declared.experiment.Experiment.{Experiment as Pair}
 use Rattle.experiment_plan.specs.declared.experiment.PlanError.{PlanError}
 use Rattle.experiment_plan.specs.declared.experiment.PlanError.TheVariants as planning
@@ -34,20 +34,20 @@ use Rattle.coz_cli.specs.Selection.{lines_named}
 use Rattle.coz_cli.specs.Profiled.{all_lines, experiment_on, label_at, pairs_of, profile_of, summary_on}
 use Rattle.profile_book.specs.declared.profile.Profile.{Profile}
 use Rattle.coz_cli.proofs.Indexed.{experiment_is}
-use Rattle.coz_cli.specs.Verdict.{Verdict, named_verdict, plan_verdict, points_verdict, profile_verdict, profiled_verdict, refused}
+use Rattle.coz_cli.specs.Verdict.{Verdict, named_verdict, plan_verdict, points_verdict, profile_verdict, profiled_verdict, refusal}
 
 -- ---- points
 
 -- at most 64 points
 pub points_few : (named : List ℕ) (next : List ℕ → Verdict) → length named ≤ 64 → next named ≡ points_verdict named next
-points_few named next few = ap (λ (many : Bool). cond many (refused 7 (points_line (length named))) (next named)) (sym (le-ltb 64 (length named) few))
+points_few named next few = ap (λ (many : Bool). cond many (refusal 7 (points_line (length named))) (next named)) (sym (le-ltb 64 (length named) few))
 
 -- more are too many
 pub points_many : (named : List ℕ) (error : PointsError) (next : List ℕ → Verdict) → IsFault (length named) error → (IsMemoryFault (points_fault error) → ⊥)
     → fault_verdict (points_fault error) ≡ points_verdict named next
 points_many named (pointing.TooMany count) next is other =
-    ap (λ (n : ℕ). refused 7 (points_line n)) is.1
-    ∙ ap (λ (many : Bool). cond many (refused 7 (points_line (length named))) (next named)) (sym (lt-ltb 64 (length named) is.0))
+    ap (λ (n : ℕ). refusal 7 (points_line n)) is.1
+    ∙ ap (λ (many : Bool). cond many (refusal 7 (points_line (length named))) (next named)) (sym (lt-ltb 64 (length named) is.0))
 points_many named pointing.Memory next is other = absurd (other tt)
 
 -- ---- the plan
@@ -56,24 +56,24 @@ same_lines : (lines : List LineId) → lines ≡ map (λ (l : ℕ). record { 0 =
 same_lines [] = refl
 same_lines (line ∷ lines) = ap (λ (ls : List LineId). line ∷ ls) (same_lines lines)
 
-pub pairs_are : (lines : List LineId) (speedups : List ℕ) → planned lines speedups ≡ pairs_of (ids lines) speedups
-pairs_are lines speedups = ap (λ (ls : List LineId). planned ls speedups) (same_lines lines)
+pub pairs_are : (lines : List LineId) (speedups : List ℕ) → planned_pairs lines speedups ≡ pairs_of (ids lines) speedups
+pairs_are lines speedups = ap (λ (ls : List LineId). planned_pairs ls speedups) (same_lines lines)
 
 -- a plan of at most 100,000 pairs
 pub plan_few : (lines : List LineId) (speedups : List ℕ) (plan : List Pair) (next : List Pair → Verdict) → IsPlan lines speedups (Ok plan)
     → next plan ≡ plan_verdict (pairs_of (ids lines) speedups) next
 plan_few lines speedups plan next is =
     let same = is.0 ∙ pairs_are lines speedups in
-    ap (λ (many : Bool). cond many (refused 9 (plan_line (length plan))) (next plan)) (sym (le-ltb 100000 (length plan) is.1))
+    ap (λ (many : Bool). cond many (refusal 9 (plan_line (length plan))) (next plan)) (sym (le-ltb 100000 (length plan) is.1))
     ∙ ap (λ (pairs : List Pair). plan_verdict pairs next) same
 
 -- more pairs are too many
 pub plan_many : (lines : List LineId) (speedups : List ℕ) (error : PlanError) (next : List Pair → Verdict) → IsPlan lines speedups (Err error)
     → (IsMemoryFault (planning_fault error) → ⊥) → fault_verdict (planning_fault error) ≡ plan_verdict (pairs_of (ids lines) speedups) next
 plan_many lines speedups (planning.TooMany count) next is other =
-    let pairs : List Pair = planned lines speedups in
-    ap (λ (n : ℕ). refused 9 (plan_line n)) is.0
-    ∙ ap (λ (many : Bool). cond many (refused 9 (plan_line (length pairs))) (next pairs)) (sym (lt-ltb 100000 (length pairs) (subst (λ (n : ℕ). 100000 < n) is.0 is.1)))
+    let pairs : List Pair = planned_pairs lines speedups in
+    ap (λ (n : ℕ). refusal 9 (plan_line n)) is.0
+    ∙ ap (λ (many : Bool). cond many (refusal 9 (plan_line (length pairs))) (next pairs)) (sym (lt-ltb 100000 (length pairs) (subst (λ (n : ℕ). 100000 < n) is.0 is.1)))
     ∙ ap (λ (pairs : List Pair). plan_verdict pairs next) (pairs_are lines speedups)
 plan_many lines speedups planning.Memory next is other = absurd (other tt)
 

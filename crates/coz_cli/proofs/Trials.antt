@@ -22,7 +22,7 @@ use Rattle.line_index.specs.Index.{Index, IsIndex}
 use Rattle.line_index.specs.Lines.{Line, position_named, label}
 use Rattle.line_index.specs.Listed.{lines_in}
 use Rattle.experiment_plan.specs.Selected.{id_of, ids}
-use Rattle.experiment_plan.specs.Pairs.{IsPlan, planned}
+use Rattle.experiment_plan.specs.Pairs.{IsPlan, planned_pairs}
 use Rattle.experiment_plan.specs.declared.experiment.Experiment.{Experiment as Pair}
 use Rattle.experiment_plan.specs.declared.experiment.PlanError.{PlanError}
 use Rattle.experiment_plan.specs.declared.experiment.PlanError.TheVariants as planning
@@ -60,7 +60,7 @@ use Rattle.profile_pool.specs.Summaries.{summaries_of}
 use Rattle.coz_cli.specs.Profiled.{experiment_on, label_at, pairs_of, summary_on}
 use Rattle.coz_cli.specs.LineTable.{table_in}
 use Rattle.coz_cli.specs.Trial.{IsTrialFile, tenths, trial_file, trial_name, trial_plan, trial_point, trial_profile, trial_program, trial_text}
-use Rattle.coz_cli.specs.Verdict.{Verdict, assembled_verdict, command_verdict, file_verdict, named_verdict, printed, profile_verdict, program_verdict, trial_judging, trial_printed, trial_verdict}
+use Rattle.coz_cli.specs.Verdict.{Verdict, assembled_verdict, command_verdict, file_verdict, named_verdict, text_verdict, profile_verdict, program_verdict, trial_judging, trial_printed, trial_verdict}
 use Rattle.coz_cli.proofs.Files.{whole_program}
 use Rattle.coz_cli.proofs.Indexed.{indexed}
 use Rattle.coz_cli.proofs.PointLine.{word_found}
@@ -69,11 +69,11 @@ use Rattle.coz_cli.proofs.Told.{told_high}
 
 -- ---- faults
 
-never : (fault : Fault) (text : List ℕ) → fault_verdict fault ≡ printed text → ⊥
+never : (fault : Fault) (text : List ℕ) → fault_verdict fault ≡ text_verdict text → ⊥
 never fault text is = let e : fault_status fault ≡ 0 = ap (λ (v : Verdict). v.status) is in omega (arith, e, told_high fault)
 
 -- where the verdict is a text, a fault is want of memory
-pub is_memory : (fault : Fault) (text : List ℕ) → ((IsMemoryFault fault → ⊥) → fault_verdict fault ≡ printed text) → IsMemoryFault fault
+pub is_memory : (fault : Fault) (text : List ℕ) → ((IsMemoryFault fault → ⊥) → fault_verdict fault ≡ text_verdict text) → IsMemoryFault fault
 is_memory Memory text settled = tt
 is_memory Usage text settled = absurd (never Usage text (settled (λ no. no)))
 is_memory (NoProgram fault) text settled = absurd (never (NoProgram fault) text (settled (λ no. no)))
@@ -136,7 +136,7 @@ module _ (source : Source) (file : List ℕ) (is : IsTrialFile source file) wher
 
   -- a fault of reading it is want of memory
   pub read_memory : (fault : Fault) → ((IsMemoryFault fault → ⊥) → (next : ImageParts → Table → Verdict) → fault_verdict fault ≡ program_verdict file next) → IsMemoryFault fault
-  read_memory fault settled = is_memory fault [] (λ other. settled other (λ image table. printed []) ∙ program_is (λ image table. printed []))
+  read_memory fault settled = is_memory fault [] (λ other. settled other (λ image table. text_verdict []) ∙ program_is (λ image table. text_verdict []))
 
   -- the point's line is found
   pub point_there : (index : Index) (image : ImageParts) (read : Table) → load_answer file ≡ Ok image → table_in file ≡ Ok read → IsIndex read image.areas index → IsOk (trial_point source.point index.lines)
@@ -264,7 +264,7 @@ plan_is lines pairs all count is are same = is.0 ∙ pairs_are lines speedups �
 -- ten lines make few pairs
 pub plan_memory : (lines : List LineId) (error : PlanError) → length lines ≤ 10 → IsPlan lines speedups (Err error) → IsMemoryFault (planning_fault error)
 plan_memory lines (planning.TooMany count) few is =
-    let all : length (planned lines speedups) ≡ length lines * 4 = many lines speedups in
+    let all : length (planned_pairs lines speedups) ≡ length lines * 4 = many lines speedups in
     absurd (omega (arith, is.0, is.1, all, few))
 plan_memory lines planning.Memory few is = tt
 

@@ -14,7 +14,7 @@ run_printed x = run_verdict (delayed_record x)
 abbrev pub really_printed : Experiment Guest → Verdict
 really_printed x = really_verdict (shortened_record x)
 
-abbrev pub judging : Kind → Request → Judging
-judging Delayed asked = asked_verdict asked run_printed
-judging Shortened asked = asked_verdict asked really_printed
-judging Profiled asked = profiled_verdict asked
+abbrev pub judgement_by : Kind → Request → Judging
+judgement_by Delayed asked = asked_verdict asked run_printed
+judgement_by Shortened asked = asked_verdict asked really_printed
+judgement_by Profiled asked = profiled_verdict asked

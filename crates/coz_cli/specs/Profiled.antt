@@ -8,7 +8,7 @@ use Rattle.machines.specs.Guest.{Experiment}
 use Rattle.machines.specs.Records.{Record}
 use Rattle.machines.specs.Standing.{delayed_record}
 use Rattle.guest_calls.specs.Guest.{Guest}
-use Rattle.experiment_plan.specs.Pairs.{planned}
+use Rattle.experiment_plan.specs.Pairs.{planned_pairs}
 use Rattle.experiment_plan.specs.declared.experiment.Experiment.{Experiment as Pair}
 use Rattle.profile_pool.specs.Summaries.{summary_of}
 use Rattle.profile_book.specs.declared.profile.Profile.{Profile}
@@ -21,7 +21,7 @@ all_lines lines = range_with_len 0 (length lines)
 
 -- the pairs of the lines at these positions: each at 0 and at each speedup
 abbrev pub pairs_of : List ℕ → List ℕ → List Pair
-pairs_of positions speedups = planned (map (λ (l : ℕ). record { 0 = l }) positions) speedups
+pairs_of positions speedups = planned_pairs (map (λ (l : ℕ). record { 0 = l }) positions) speedups
 
 -- the label of the line at a position
 abbrev pub label_at : List Line → ℕ → List ℕ

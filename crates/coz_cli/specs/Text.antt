@@ -10,7 +10,7 @@ use Rattle.dwarf_lines.specs.Registers.{Table}
 use Rattle.line_index.specs.Lines.{Line, label}
 use Rattle.line_index.specs.Listed.{lines_in, entries_in}
 use Rattle.profile_book.specs.declared.profile.Profile.{Profile}
-use Rattle.causal_curves.specs.Curves.{curves_of, ranked}
+use Rattle.causal_curves.specs.Curves.{curves_of, ranked_curves}
 use Rattle.causal_curves.specs.Texts.{curve_text}
 
 -- a name and a number on a line
@@ -106,4 +106,4 @@ lines_text table areas =
 
 -- what `plot` prints: the curves by rank
 unfoldable pub plot_text : Profile → List ℕ
-plot_text p = flat_map curve_text (ranked (curves_of p))
+plot_text p = flat_map curve_text (ranked_curves (curves_of p))

@@ -12,7 +12,7 @@ use Rattle.line_index.specs.Lines.{Line, position_named}
 use Rattle.experiment_plan.specs.declared.experiment.Experiment.{Experiment as Pair}
 use Rattle.profile_book.specs.declared.profile.Profile.{Profile}
 use Rattle.profile_book.specs.Profile.{hex_text, profile_text}
-use Rattle.causal_curves.specs.Curves.{curves_of, ranked}
+use Rattle.causal_curves.specs.Curves.{curves_of, ranked_curves}
 use Rattle.causal_curves.specs.declared.curve.Curve.{Curve}
 use Rattle.coz_words.specs.Said.{Text}
 use Rattle.coz_cli.specs.Experiment.{Runs}
@@ -83,4 +83,4 @@ trial_text source lines profile =
     ++ number_line (codes "lines ") (length lines)
     ++ number_line (codes "experiments ") (length (trial_plan lines))
     ++ digest_line (codes "profile ") (profile_text profile)
-    ++ best_line (ranked (curves_of profile))
+    ++ best_line (ranked_curves (curves_of profile))

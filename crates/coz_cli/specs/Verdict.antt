@@ -46,12 +46,12 @@ pub record Verdict : Type 0 where
   pub text : List ℕ
   pub line : List ℕ
 
-abbrev pub refused : ℕ → List ℕ → Verdict
-refused status line = record { status = status; text = []; line = line }
+abbrev pub refusal : ℕ → List ℕ → Verdict
+refusal status line = record { status = status; text = []; line = line }
 
 -- all is printed, and nothing was run
-abbrev pub printed : List ℕ → Verdict
-printed text = record { status = 0; text = text; line = [] }
+abbrev pub text_verdict : List ℕ → Verdict
+text_verdict text = record { status = 0; text = text; line = [] }
 
 abbrev pub has_exited : Ending → Bool
 has_exited (Exited code) = true
@@ -82,12 +82,12 @@ profile_verdict p = record {
 
 -- of the program that a file is, if it is one, and of what follows
 abbrev pub loaded_verdict : Result ImageParts ElfFault → (ImageParts → Verdict) → Verdict
-loaded_verdict (Err fault) next = refused 3 (program_line fault)
+loaded_verdict (Err fault) next = refusal 3 (program_line fault)
 loaded_verdict (Ok image) next = next image
 
 -- of a line table, if there is one, and of what follows
 abbrev pub table_verdict : Result Table LineFault → (Table → Verdict) → Verdict
-table_verdict (Err fault) next = refused 4 (table_line fault)
+table_verdict (Err fault) next = refusal 4 (table_line fault)
 table_verdict (Ok table) next = next table
 
 -- of a file that is to be a program with a line table, and of what follows
@@ -97,13 +97,13 @@ program_verdict file next =
 
 -- of lines that are named, if the program has them, and of what follows
 abbrev pub named_verdict : {A : Type 0} → Result A Text → (A → Verdict) → Verdict
-named_verdict (Err piece) next = refused 7 (no_line_line piece)
+named_verdict (Err piece) next = refusal 7 (no_line_line piece)
 named_verdict (Ok named) next = next named
 
 -- of progress points, if there are at most 64, and of what follows
 abbrev pub points_verdict : List ℕ → (List ℕ → Verdict) → Verdict
 points_verdict points next =
-    if nat_lt 64 (length points) then refused 7 (points_line (length points)) else next points
+    if nat_lt 64 (length points) then refusal 7 (points_line (length points)) else next points
 
 -- of a program's lines and its runs
 abbrev pub Judging : Type 0
@@ -120,7 +120,7 @@ asked_verdict asked print lines runs =
 -- of a plan, if there are at most 100,000 pairs, and of what follows
 abbrev pub plan_verdict : List Pair → (List Pair → Verdict) → Verdict
 plan_verdict pairs next =
-    if nat_lt 100000 (length pairs) then refused 9 (plan_line (length pairs)) else next pairs
+    if nat_lt 100000 (length pairs) then refusal 9 (plan_line (length pairs)) else next pairs
 
 -- of the profile that a request asks for
 unfoldable pub profiled_verdict : Request → Judging
@@ -140,9 +140,9 @@ file_verdict next file input =
 -- of a path's file that may have so many bytes, and of what follows where it is
 -- there and has no more
 abbrev pub read_verdict : ℕ → List ℕ → Option (List ℕ) → (List ℕ → Verdict) → Verdict
-read_verdict most path None next = refused 5 (codes "coz: read: " ++ path)
+read_verdict most path None next = refusal 5 (codes "coz: read: " ++ path)
 read_verdict most path (Some file) next =
-    if nat_lt most (length file) then refused 8 (codes "coz: long: " ++ path) else next file
+    if nat_lt most (length file) then refusal 8 (codes "coz: long: " ++ path) else next file
 
 -- of the input, which is empty where none is named
 abbrev pub input_verdict : Option (List ℕ) → Held → (List ℕ → Verdict) → Verdict
@@ -157,12 +157,13 @@ files_verdict asked held next =
 
 -- of a program's lines
 abbrev pub lines_verdict : List ℕ → Verdict
-lines_verdict file = program_verdict file (λ image table. printed (lines_text table image.areas))
+lines_verdict file =
+    program_verdict file (λ image table. text_verdict (lines_text table image.areas))
 
 -- of a profile, if its text has no fault
 abbrev pub book_verdict : Option BookFault → Book → Verdict
-book_verdict (Some fault) p = refused 12 (book_line fault)
-book_verdict None p = printed (plot_text p)
+book_verdict (Some fault) p = refusal 12 (book_line fault)
+book_verdict None p = text_verdict (plot_text p)
 
 -- of a profile's text
 abbrev pub plot_verdict : List ℕ → Verdict
@@ -170,12 +171,12 @@ plot_verdict bytes = book_verdict (book_fault bytes) (told bytes)
 
 -- of what a source stands for, under this name and with lines of this version
 abbrev pub source_verdict : List ℕ → ℕ → Result Program AsmFault → Verdict
-source_verdict name version (Err fault) = refused 11 (source_line fault)
-source_verdict name version (Ok program) = printed (written_file program name version)
+source_verdict name version (Err fault) = refusal 11 (source_line fault)
+source_verdict name version (Ok program) = text_verdict (written_file program name version)
 
 -- of what a source stands for, if it stands for a program, and of what follows
 abbrev pub assembled_verdict : Result Program AsmFault → (Program → Verdict) → Verdict
-assembled_verdict (Err fault) next = refused 11 (source_line fault)
+assembled_verdict (Err fault) next = refusal 11 (source_line fault)
 assembled_verdict (Ok program) next = next program
 
 -- of the profile of a trial
@@ -215,7 +216,7 @@ command_verdict Asm asked held =
 command_verdict Trial asked held = trial_verdict asked.seed asked.size
 
 abbrev pub request_verdict : Option Request → Held → Verdict
-request_verdict None held = refused 2 (codes "coz: usage")
+request_verdict None held = refusal 2 (codes "coz: usage")
 request_verdict (Some asked) held = command_verdict asked.command asked held
 
 abbrev pub verdict : List (List ℕ) → Held → Verdict

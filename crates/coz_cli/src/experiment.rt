@@ -10,9 +10,9 @@ ghost use Rattle.virtual_run.specs.Run.{IsChoice, experiment};
 ghost use Rattle.coz_words.specs.Request.{IsFit};
 ghost use Rattle.coz_cli.specs.Experiment.{runs_in};
 ghost use Rattle.coz_cli.specs.declared.experiment.Kind.TheVariants.{Profiled};
-ghost use Rattle.coz_cli.specs.Kind.{judging, really_printed, run_printed};
+ghost use Rattle.coz_cli.specs.Kind.{judgement_by, really_printed, run_printed};
 ghost use Rattle.coz_cli.specs.Verdict.{Verdict, asked_verdict, file_verdict, files_verdict};
-ghost use Rattle.coz_cli.specs.Answer.{answered, follows, IsMemory, IsRead, Suits, Settles};
+ghost use Rattle.coz_cli.specs.Answer.{verdict_of, verdict_after, IsMemory, IsRead, Suits, Settles};
 
 use crate::answer::Answer;
 use crate::fault::Fault;
@@ -60,7 +60,7 @@ pub fn judge_experiment<'r, R: Threads + Sync, F: Files, G: Gate>(
     ensures same { F.held files.new ≡ F.held files.old }
     ensures suits { Suits request.now result }
     ensures settled { IfSome (F.held files.old) (λ held. (IsMemory result → ⊥) →
-        Settles (files_verdict request.now held (judging kind request.now))
+        Settles (files_verdict request.now held (judgement_by kind request.now))
         (F.faults files.old) (F.faults files.new) result) }
     ensures untold { IsRead result
         → IfNone (F.held files.old) (Rose (F.faults files.old) (F.faults files.new)) }
@@ -90,7 +90,7 @@ fn file_answer<'r, R: Threads + Sync, G: Gate>(
     requires some_workers { kind ≡ Profiled → 1 ≤ request.now.workers }
     ensures no_read { IsRead result → ⊥ }
     ensures settled { (IsMemory result → ⊥)
-        → answered result ≡ file_verdict (judging kind request.now) file.now input.now }
+        → verdict_of result ≡ file_verdict (judgement_by kind request.now) file.now input.now }
 {
     let program = read_program(alloc, file)?;
     index_answer(
@@ -120,8 +120,8 @@ fn index_answer<'r, R: Threads + Sync, G: Gate>(
     requires some_budget { 1 ≤ request.now.budget }
     requires some_workers { kind ≡ Profiled → 1 ≤ request.now.workers }
     ensures no_read { IsRead result → ⊥ }
-    ensures settled { (IsMemory result → ⊥) → answered result
-        ≡ judging kind request.now index.now.lines (runs_in image.now index.now input.now) }
+    ensures settled { (IsMemory result → ⊥) → verdict_of result
+        ≡ judgement_by kind request.now index.now.lines (runs_in image.now index.now input.now) }
 {
     match kind {
         Kind::Delayed => delayed_answer(alloc, image, index, input, request),
@@ -145,7 +145,7 @@ fn asked_of<'r>(alloc: Global, index: &LineIndex, request: &'r Request) -> Resul
     ensures valid { IfOk result (λ asked. IsChoice asked.choice) }
     ensures settled { (IsMemory result → ⊥)
         → (image : ImageParts) (input : List ℕ) (print : Experiment Guest → Verdict) →
-        follows result (λ asked.
+        verdict_after result (λ asked.
         print (experiment image (position_at index.now) (point_of asked.points) input asked.choice))
         ≡ asked_verdict request.now print index.now.lines (runs_in image index.now input) }
 {
@@ -167,7 +167,7 @@ fn delayed_answer<'r>(
     requires fit { IsFit request.now }
     requires some_budget { 1 ≤ request.now.budget }
     ensures no_read { IsRead result → ⊥ }
-    ensures settled { (IsMemory result → ⊥) → answered result ≡
+    ensures settled { (IsMemory result → ⊥) → verdict_of result ≡
         asked_verdict request.now run_printed index.now.lines
         (runs_in image.now index.now input.now) }
 {
@@ -186,7 +186,7 @@ fn shortened_answer<'r>(
     requires fit { IsFit request.now }
     requires some_budget { 1 ≤ request.now.budget }
     ensures no_read { IsRead result → ⊥ }
-    ensures settled { (IsMemory result → ⊥) → answered result ≡
+    ensures settled { (IsMemory result → ⊥) → verdict_of result ≡
         asked_verdict request.now really_printed index.now.lines
         (runs_in image.now index.now input.now) }
 {

@@ -3,7 +3,7 @@ ghost use Rattle.std.specs.Prelude.{◌≡◌, ◌≤◌, length, IfSome, IfNone
 ghost use Rattle.coz_files.specs.Faults.{Rose};
 ghost use Rattle.coz_words.specs.declared.command.Command.TheVariants.{Lines};
 ghost use Rattle.coz_cli.specs.Verdict.{command_verdict, lines_verdict};
-ghost use Rattle.coz_cli.specs.Answer.{answered, IsMemory, IsRead, Suits, Settles};
+ghost use Rattle.coz_cli.specs.Answer.{verdict_of, IsMemory, IsRead, Suits, Settles};
 
 use crate::answer::{Answer, Printed, Text};
 use crate::lines_text::lines_text;
@@ -32,7 +32,7 @@ pub fn judge_lines<'r, F: Files>(alloc: Global, request: &'r Request, files: &mu
 fn lines_answer<'r>(alloc: Global, file: &[u8]) -> Answer<'r>
     requires short { length file.now ≤ 33554432 }
     ensures no_read { IsRead result → ⊥ }
-    ensures settled { (IsMemory result → ⊥) → answered result ≡ lines_verdict file.now }
+    ensures settled { (IsMemory result → ⊥) → verdict_of result ≡ lines_verdict file.now }
 {
     let program = read_program(alloc, file)?;
     let text = lines_text(alloc, program.table.skipped, &program.index)?;

@@ -3,7 +3,7 @@ ghost use Rattle.std.specs.Prelude.{◌≡◌, IfSome, IfNone};
 ghost use Rattle.coz_files.specs.Faults.{Rose};
 ghost use Rattle.coz_words.specs.declared.command.Command.TheVariants.{Plot};
 ghost use Rattle.coz_cli.specs.Verdict.{command_verdict, plot_verdict};
-ghost use Rattle.coz_cli.specs.Answer.{answered, IsMemory, IsRead, Suits, Settles};
+ghost use Rattle.coz_cli.specs.Answer.{verdict_of, IsMemory, IsRead, Suits, Settles};
 
 use crate::answer::{Answer, Printed, Text};
 use crate::program::read_file;
@@ -32,7 +32,7 @@ pub fn judge_plot<'r, F: Files>(alloc: Global, request: &'r Request, files: &mut
 /// The curves of the profile of which the bytes are the text, if they are one's.
 fn plot_answer<'r>(alloc: Global, bytes: &[u8]) -> Answer<'r>
     ensures no_read { IsRead result → ⊥ }
-    ensures settled { (IsMemory result → ⊥) → answered result ≡ plot_verdict bytes.now }
+    ensures settled { (IsMemory result → ⊥) → verdict_of result ≡ plot_verdict bytes.now }
 {
     let profile = read_profile(alloc, bytes)?;
     let curves = curves(alloc, &profile)?;

@@ -13,7 +13,7 @@ ghost use Rattle.coz_words.specs.Request.{IsFit};
 ghost use Rattle.coz_cli.specs.Experiment.{runs_in};
 ghost use Rattle.coz_cli.specs.Profiled.{label_at, pairs_of, profile_of};
 ghost use Rattle.coz_cli.specs.Verdict.{Verdict, has_exited, plan_verdict, profile_verdict, profiled_verdict};
-ghost use Rattle.coz_cli.specs.Answer.{answered, follows, printed_verdict, IsMemory, IsRead};
+ghost use Rattle.coz_cli.specs.Answer.{verdict_of, verdict_after, printed_verdict, IsMemory, IsRead};
 
 use crate::answer::{Answer, Printed, Text};
 use crate::fault::Fault;
@@ -94,7 +94,7 @@ fn planned<'r>(alloc: Global, lines: &[LineId], speedups: &[u8]) -> Result<Plan,
     requires small { All (λ speedup. speedup ≤ GREATEST_SPEEDUP) speedups.now }
     ensures no_read { IsRead result → ⊥ }
     ensures settled { (IsMemory result → ⊥) → (next : List Experiment → Verdict) →
-        follows result next ≡ plan_verdict (pairs_of (ids lines.now) speedups.now) next }
+        verdict_after result next ≡ plan_verdict (pairs_of (ids lines.now) speedups.now) next }
     ensures below { (count : ℕ) → All (λ (line : LineId). line.0 < count) lines.now →
         IfOk result (All (λ (pair : Experiment). pair.line.0 < count)) }
 {
@@ -122,7 +122,7 @@ fn plan_answer<'r, R: Threads + Sync, G: Gate>(
     requires below { All (λ line. line < length index.now.lines) points.now.lines }
     requires lines { All (λ (pair : Experiment). pair.line.0 < length index.now.lines) plan.now }
     ensures no_read { IsRead result → ⊥ }
-    ensures settled { (IsMemory result → ⊥) → answered result ≡ profile_verdict
+    ensures settled { (IsMemory result → ⊥) → verdict_of result ≡ profile_verdict
         (profile_of (runs_in image.now index.now input.now)
         index.now.lines request.now.budget points.now.lines plan.now) }
 {
@@ -161,7 +161,7 @@ pub fn profile_answer<'r, R: Threads + Sync, G: Gate>(
     requires some_budget { 1 ≤ request.now.budget }
     requires some_workers { 1 ≤ request.now.workers }
     ensures no_read { IsRead result → ⊥ }
-    ensures settled { (IsMemory result → ⊥) → answered result ≡
+    ensures settled { (IsMemory result → ⊥) → verdict_of result ≡
         profiled_verdict request.now index.now.lines (runs_in image.now index.now input.now) }
 {
     let lines = selected_lines(alloc, index, bytes_of(&request.lines))?;

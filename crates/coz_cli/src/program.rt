@@ -8,7 +8,7 @@ ghost use Rattle.dwarf_lines.specs.Registers.{Table, view};
 ghost use Rattle.line_index.specs.Index.{IsIndex};
 ghost use Rattle.coz_cli.specs.LineTable.{table_in};
 ghost use Rattle.coz_cli.specs.Verdict.{Verdict, program_verdict, read_verdict};
-ghost use Rattle.coz_cli.specs.Answer.{follows, IsMemory, IsOfPath, IsRead, SettlesThen};
+ghost use Rattle.coz_cli.specs.Answer.{verdict_after, IsMemory, IsOfPath, IsRead, SettlesThen};
 
 use crate::fault::Fault;
 use crate::line_table::read_table;
@@ -67,7 +67,7 @@ pub fn read_program<'a, 'f>(alloc: Global, file: &'f [u8]) -> Result<Program<'f>
     requires { length file.now ≤ 33554432 }
     ensures no_read { IsRead result → ⊥ }
     ensures settled { (IsMemory result → ⊥) → (next : ImageParts → Table → Verdict) →
-        follows result (λ program. next program.image (view program.table))
+        verdict_after result (λ program. next program.image (view program.table))
         ≡ program_verdict file.now next }
     ensures loads { IfOk result (λ program. load_answer file.now ≡ Ok program.image) }
     ensures reads { IfOk result (λ program. table_in file.now ≡ Ok (view program.table)) }

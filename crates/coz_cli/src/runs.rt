@@ -12,7 +12,7 @@ ghost use Rattle.machines.specs.Records.{net_record_of, record_of, shortened_rec
 ghost use Rattle.machines.specs.Standing.{delayed_record};
 ghost use Rattle.coz_cli.specs.Text.{really_text, run_text};
 ghost use Rattle.coz_cli.specs.Verdict.{ended_verdict, ending_status, really_verdict, run_verdict};
-ghost use Rattle.coz_cli.specs.Answer.{answered, printed_verdict, IsMemory, IsRead};
+ghost use Rattle.coz_cli.specs.Answer.{verdict_of, printed_verdict, IsMemory, IsRead};
 
 use crate::answer::{Answer, Printed, Text};
 use crate::record::{RunRecord, ShortRecord};
@@ -82,7 +82,7 @@ fn printed_run(ending: Ending, text: Vec<u8>) -> Printed
 /// What is written of a machine's run.
 fn machine_answer<'r>(alloc: Global, machine: &mut Machine) -> Answer<'r>
     ensures no_read { IsRead result → ⊥ }
-    ensures settled { (IsMemory result → ⊥) → answered result ≡
+    ensures settled { (IsMemory result → ⊥) → verdict_of result ≡
         run_verdict (delayed_record (experiment_of machine.old)) }
 {
     let ending = machine.run();
@@ -101,7 +101,7 @@ pub fn run_answer<'r>(
 ) -> Answer<'r>
     requires { IsChoice choice }
     ensures no_read { IsRead result → ⊥ }
-    ensures settled { (IsMemory result → ⊥) → answered result ≡
+    ensures settled { (IsMemory result → ⊥) → verdict_of result ≡
         run_verdict (delayed_record
         (experiment image.now (position_at index.now) (point_of points.now) input.now choice)) }
 {
@@ -131,7 +131,7 @@ fn short_text(alloc: Global, short: &Short, ending: Ending) -> Result<Vec<u8>, A
 /// What is written of a shortened run.
 fn short_answer<'r>(alloc: Global, short: &mut Short) -> Answer<'r>
     ensures no_read { IsRead result → ⊥ }
-    ensures settled { (IsMemory result → ⊥) → answered result ≡
+    ensures settled { (IsMemory result → ⊥) → verdict_of result ≡
         really_verdict (shortened_record (experiment_of short.old)) }
 {
     let ending = short.run();
@@ -150,7 +150,7 @@ pub fn really_answer<'r>(
 ) -> Answer<'r>
     requires { IsChoice choice }
     ensures no_read { IsRead result → ⊥ }
-    ensures settled { (IsMemory result → ⊥) → answered result ≡
+    ensures settled { (IsMemory result → ⊥) → verdict_of result ≡
         really_verdict (shortened_record
         (experiment image.now (position_at index.now) (point_of points.now) input.now choice)) }
 {

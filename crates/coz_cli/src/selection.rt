@@ -10,7 +10,7 @@ ghost use Rattle.experiment_plan.specs.Selected.{id_of, ids, selected};
 ghost use Rattle.coz_cli.specs.Selection.{line_named, lines_named};
 ghost use Rattle.coz_cli.specs.Profiled.{all_lines};
 ghost use Rattle.coz_cli.specs.Verdict.{Verdict, named_verdict, points_verdict};
-ghost use Rattle.coz_cli.specs.Answer.{follows, IsMemory, IsRead};
+ghost use Rattle.coz_cli.specs.Answer.{verdict_after, IsMemory, IsRead};
 
 use crate::fault::Fault;
 use coz_types::LineId;
@@ -38,7 +38,7 @@ pub fn line_named<'r>(
     requires { IfSome line (λ text. is_line text.now ≡ true) }
     ensures no_read { IsRead result → ⊥ }
     ensures settled { (next : Option ℕ → Verdict) →
-        follows result (λ line. next (option_map id_of line))
+        verdict_after result (λ line. next (option_map id_of line))
         ≡ named_verdict (line_named index.now.lines (option_copied line.entry)) next }
 {
     let Some(text) = line else {
@@ -56,7 +56,7 @@ fn lines_of<'r>(alloc: Global, index: &LineIndex, list: &'r [u8]) -> Result<Vec<
     requires { is_list list.now ≡ true }
     ensures no_read { IsRead result → ⊥ }
     ensures settled { (IsMemory result → ⊥) → (next : List ℕ → Verdict) →
-        follows result (λ lines. next (ids lines.items))
+        verdict_after result (λ lines. next (ids lines.items))
         ≡ named_verdict (selected index.now.lines list.now) next }
     ensures rising { IfOk result (λ lines. IsStrictlySortedBy nat_cmp (ids lines.items)) }
     ensures below { IfOk result (λ lines.
@@ -95,7 +95,7 @@ pub fn selected_lines<'r>(
     requires { IfSome list (λ text. is_list text.now ≡ true) }
     ensures no_read { IsRead result → ⊥ }
     ensures settled { (IsMemory result → ⊥) → (next : List ℕ → Verdict) →
-        follows result (λ lines. next (ids lines.items))
+        verdict_after result (λ lines. next (ids lines.items))
         ≡ named_verdict
         (lines_named index.now.lines (all_lines index.now.lines) (option_copied list.entry)) next }
     ensures rising { IfOk result (λ lines. IsStrictlySortedBy nat_cmp (ids lines.items)) }
@@ -117,7 +117,7 @@ fn progress_lines<'r>(
     requires { IfSome list (λ text. is_list text.now ≡ true) }
     ensures no_read { IsRead result → ⊥ }
     ensures settled { (IsMemory result → ⊥) → (next : List ℕ → Verdict) →
-        follows result (λ lines. next (ids lines.items))
+        verdict_after result (λ lines. next (ids lines.items))
         ≡ named_verdict (lines_named index.now.lines [] (option_copied list.entry)) next }
     ensures below { IfOk result (λ lines.
         All (λ (line : LineId). line.0 < length index.now.lines) lines.items) }
@@ -137,7 +137,7 @@ pub fn points_of<'r>(
     requires { All (λ (line : LineId). line.0 < length index.now.lines) lines.now }
     ensures no_read { IsRead result → ⊥ }
     ensures settled { (IsMemory result → ⊥) → (next : List ℕ → Verdict) →
-        follows result (λ points. next points.lines) ≡ points_verdict (ids lines.now) next }
+        verdict_after result (λ points. next points.lines) ≡ points_verdict (ids lines.now) next }
     ensures points { IfOk result (IsPoints index.now (ids lines.now)) }
 {
     Ok(Points::new(alloc, index, lines)?)
@@ -152,7 +152,7 @@ pub fn progress_points<'r>(
     requires { IfSome list (λ text. is_list text.now ≡ true) }
     ensures no_read { IsRead result → ⊥ }
     ensures settled { (IsMemory result → ⊥) → (next : List ℕ → Verdict) →
-        follows result (λ points. next points.lines)
+        verdict_after result (λ points. next points.lines)
         ≡ named_verdict (lines_named index.now.lines [] (option_copied list.entry))
         (λ named. points_verdict named next) }
     ensures points { IfOk result (λ points. IsPoints index.now points.lines points) }

@@ -5,7 +5,7 @@ ghost use Rattle.image_write.specs.File.{IsName, IsVersion};
 ghost use Rattle.coz_words.specs.declared.command.Command.TheVariants.{Asm};
 ghost use Rattle.rv_asm.specs.Assembled.{assembled};
 ghost use Rattle.coz_cli.specs.Verdict.{command_verdict, source_verdict};
-ghost use Rattle.coz_cli.specs.Answer.{answered, IsMemory, IsRead, Suits, Settles};
+ghost use Rattle.coz_cli.specs.Answer.{verdict_of, IsMemory, IsRead, Suits, Settles};
 
 use crate::answer::{Answer, Printed, Text};
 use crate::program::read_file;
@@ -44,7 +44,7 @@ fn source_answer<'r>(alloc: Global, source: &[u8], name: &str, version: u8) -> A
     requires version { IsVersion version }
     ensures no_read { IsRead result → ⊥ }
     ensures settled { (IsMemory result → ⊥)
-        → answered result ≡ source_verdict name.now version (assembled source.now) }
+        → verdict_of result ≡ source_verdict name.now version (assembled source.now) }
 {
     let assembled = assemble(alloc, source)?;
     let text = write_elf(alloc, &assembled, name.as_bytes(), version)?;

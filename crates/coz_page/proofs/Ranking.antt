@@ -6,15 +6,15 @@ use Rattle.profile_reader.specs.Told.{told}
 use Rattle.profile_book.specs.declared.profile.Profile.{Profile}
 use Rattle.profile_reader.specs.declared.fault.BookFault.{BookFault}
 use Rattle.profile_reader.proofs.Only.{told_is}
-use Rattle.causal_curves.specs.Curves.{curves_of, ranked}
+use Rattle.causal_curves.specs.Curves.{curves_of, ranked_curves}
 use Rattle.causal_curves.specs.declared.curve.Curve.{Curve}
 use Rattle.coz_page.specs.Page.{curves_page, page_text}
-use Rattle.coz_page.specs.Verdict.{book_verdict, printed, profile_verdict}
+use Rattle.coz_page.specs.Verdict.{book_verdict, text_verdict, profile_verdict}
 
-pub ranked_page : (bytes : List ℕ) (p : Profile) (curves : List Curve) → book_fault bytes ≡ None → IsTextOf p bytes → curves ≡ ranked (curves_of p)
-    → printed (curves_page p.points curves) ≡ profile_verdict bytes
+pub ranked_page : (bytes : List ℕ) (p : Profile) (curves : List Curve) → book_fault bytes ≡ None → IsTextOf p bytes → curves ≡ ranked_curves (curves_of p)
+    → text_verdict (curves_page p.points curves) ≡ profile_verdict bytes
 unfolding page_text
 ranked_page bytes p curves none is ranks =
-    ap (λ (cs : List Curve). printed (curves_page p.points cs)) ranks
-    ∙ ap (λ (q : Profile). printed (page_text q)) (sym (told_is bytes p is))
+    ap (λ (cs : List Curve). text_verdict (curves_page p.points cs)) ranks
+    ∙ ap (λ (q : Profile). text_verdict (page_text q)) (sym (told_is bytes p is))
     ∙ ap (λ (o : Option BookFault). book_verdict o (told bytes)) (sym none)

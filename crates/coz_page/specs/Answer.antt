@@ -8,7 +8,7 @@ use Rattle.coz_page.specs.declared.judge.Ranked.{Ranked}
 use Rattle.coz_page.specs.declared.fault.Fault.{Fault}
 use Rattle.coz_page.specs.declared.fault.Fault.TheVariants.{Usage, Read, Write, Long, Memory, Profile}
 use Rattle.coz_page.specs.Page.{curves_page}
-use Rattle.coz_page.specs.Verdict.{Verdict, printed, refused, profile_line}
+use Rattle.coz_page.specs.Verdict.{Verdict, text_verdict, refusal, profile_line}
 
 abbrev pub profile_fault : BookError → Fault
 profile_fault (book.Fault fault) = Profile fault
@@ -31,12 +31,12 @@ fault_line Memory = codes "coz-page: memory"
 fault_line (Profile fault) = profile_line fault
 
 abbrev pub fault_verdict : Fault → Verdict
-fault_verdict fault = refused (fault_status fault) (fault_line fault)
+fault_verdict fault = refusal (fault_status fault) (fault_line fault)
 
 -- the verdict of a step that came to a value or a fault, and of what follows the value
-abbrev pub follows : {A : Type 0} → Result A Fault → (A → Verdict) → Verdict
-follows (Ok value) next = next value
-follows (Err fault) next = fault_verdict fault
+abbrev pub verdict_after : {A : Type 0} → Result A Fault → (A → Verdict) → Verdict
+verdict_after (Ok value) next = next value
+verdict_after (Err fault) next = fault_verdict fault
 
 -- a profile with its curves, or why there is no page
 abbrev pub Answer : Type 0
@@ -46,11 +46,11 @@ abbrev pub ranked_page : Ranked → Text
 ranked_page r = curves_page r.profile.points r.curves
 
 abbrev pub ranked_verdict : Ranked → Verdict
-ranked_verdict r = printed (ranked_page r)
+ranked_verdict r = text_verdict (ranked_page r)
 
 -- the verdict that an answer stands for
-abbrev pub answered : Answer → Verdict
-answered answer = follows answer ranked_verdict
+abbrev pub verdict_of : Answer → Verdict
+verdict_of answer = verdict_after answer ranked_verdict
 
 abbrev pub IsReadFault : Fault → Type 0
 IsReadFault (Read path) = Unit {0}
@@ -79,7 +79,7 @@ Suits (Some path) _ = Unit {0}
 -- a step, and what follows it, is this verdict's, or it is a read that failed with a counted fault
 abbrev pub SettlesThen : {A : Type 0} → (A → Verdict) → Verdict → ℕ → ℕ → Result A Fault → Type 0
 SettlesThen next verdict before now step =
-    (follows step next ≡ verdict) ⊎ (IsRead step × Rose before now)
+    (verdict_after step next ≡ verdict) ⊎ (IsRead step × Rose before now)
 
 -- an answer is this verdict's, or that of a read that failed with a counted fault
 abbrev pub Settles : Verdict → ℕ → ℕ → Answer → Type 0

@@ -4,12 +4,12 @@ use Rattle.std.specs.List.{enumerate_from}
 use Rattle.coz_types.specs.Labels.{Text}
 use Rattle.profile_book.specs.declared.profile.Profile.{Profile}
 use Rattle.causal_curves.specs.Groups.{groups_by}
-use Rattle.causal_curves.specs.Curves.{curves_of, ranked}
+use Rattle.causal_curves.specs.Curves.{curves_of, ranked_curves}
 use Rattle.causal_curves.specs.declared.curve.Curve.{Curve}
 use Rattle.causal_curves.specs.declared.curve.CurveStep.{CurveStep}
 use Rattle.coz_page.specs.declared.frame.TheConstants.{HEAD, NOTHING, AXES, FOOT}
 use Rattle.coz_page.specs.Labels.{html}
-use Rattle.coz_page.specs.Values.{size_text, percent, value_text, top_for, height, across}
+use Rattle.coz_page.specs.Values.{size_text, percent, value_text, top_for, height, place_across}
 
 -- ---- the picture of a curve
 
@@ -20,12 +20,12 @@ pub record IsTop (top : ℕ) : Type 0 where
 
 abbrev pub place_text : ℕ → ℕ → ℤ → Text
 place_text top speedup v =
-    codes " " ++ decimal (across speedup) ++ codes "," ++ decimal (height top v)
+    codes " " ++ decimal (place_across speedup) ++ codes "," ++ decimal (height top v)
 
 -- a dot, with its value when it is pointed at
 abbrev pub dot_text : ℕ → ℕ → ℤ → Text
 dot_text top speedup v =
-    codes "<circle r=\"14\" cx=\"" ++ decimal (across speedup)
+    codes "<circle r=\"14\" cx=\"" ++ decimal (place_across speedup)
     ++ codes "\" cy=\"" ++ decimal (height top v)
     ++ codes "\"><title>line " ++ decimal speedup ++ codes "% faster: " ++ percent v
     ++ codes "</title></circle>"
@@ -127,4 +127,4 @@ curves_page points curves =
 
 -- the page of a profile: its curves by rank
 unfoldable pub page_text : Profile → Text
-page_text p = curves_page p.points (ranked (curves_of p))
+page_text p = curves_page p.points (ranked_curves (curves_of p))

@@ -46,5 +46,5 @@ height top (pos n) = 440 - min (distance top n) 400
 height top (negsuc n) = 440 + min (distance top (n + 1)) 100
 
 -- the place of a speedup from the left
-abbrev pub across : ℕ → ℕ
-across speedup = 200 + speedup * 57 / 5
+abbrev pub place_across : ℕ → ℕ
+place_across speedup = 200 + speedup * 57 / 5

@@ -18,11 +18,11 @@ pub record Verdict : Type 0 where
   pub text : Text
   pub line : Text
 
-abbrev pub refused : ℕ → Text → Verdict
-refused status line = record { status = status; text = []; line = line }
+abbrev pub refusal : ℕ → Text → Verdict
+refusal status line = record { status = status; text = []; line = line }
 
-abbrev pub printed : Text → Verdict
-printed text = record { status = 0; text = text; line = [] }
+abbrev pub text_verdict : Text → Verdict
+text_verdict text = record { status = 0; text = text; line = [] }
 
 -- ---- the words
 
@@ -43,21 +43,21 @@ profile_line fault =
 
 -- of the profile that is told, if the text has no fault
 abbrev pub book_verdict : Option BookFault → Book → Verdict
-book_verdict None p = printed (page_text p)
-book_verdict (Some fault) p = refused 12 (profile_line fault)
+book_verdict None p = text_verdict (page_text p)
+book_verdict (Some fault) p = refusal 12 (profile_line fault)
 
 abbrev pub profile_verdict : Text → Verdict
 profile_verdict bytes = book_verdict (book_fault bytes) (told bytes)
 
 -- of the file of a path, which has at most 268,435,456 bytes
 abbrev pub file_verdict : Text → Option Text → Verdict
-file_verdict path None = refused 5 (codes "coz-page: read: " ++ path)
+file_verdict path None = refusal 5 (codes "coz-page: read: " ++ path)
 file_verdict path (Some bytes) =
     if nat_le (length bytes) MAX_PROFILE then profile_verdict bytes
-    else refused 8 (codes "coz-page: long: " ++ path)
+    else refusal 8 (codes "coz-page: long: " ++ path)
 
 abbrev pub path_verdict : Option Text → Held → Verdict
-path_verdict None held = refused 2 (codes "coz-page: usage")
+path_verdict None held = refusal 2 (codes "coz-page: usage")
 path_verdict (Some path) held = file_verdict path (file_at held path)
 
 abbrev pub verdict : List Text → Held → Verdict

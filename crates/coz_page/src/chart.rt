@@ -1,7 +1,7 @@
 //! The picture of a curve.
 ghost use Rattle.std.specs.Prelude.{◌≡◌, ◌<◌, ◌≤◌, ◌++◌, flat_map};
 ghost use Rattle.coz_files.specs.Gathered.{Gathers};
-ghost use Rattle.coz_page.specs.Values.{top_above, top_for, distance, height, across};
+ghost use Rattle.coz_page.specs.Values.{top_above, top_for, distance, height, place_across};
 ghost use Rattle.coz_page.specs.Page.{IsTop, place_text, dot_text, chart_text, place_at, dot_at};
 
 use crate::frame::AXES;
@@ -63,7 +63,7 @@ fn height(top: u64, value: i128) -> u64
 }
 
 fn across(speedup: u8) -> u64
-    ensures { result ≡ across speedup }
+    ensures { result ≡ place_across speedup }
 {
     200 + speedup as u64 * 57 / 5
 }

@@ -3,7 +3,7 @@ ghost use Rattle.std.specs.Prelude.{◌≡◌, ℕ, List, None, Some, MatchOptio
 ghost use Rattle.coz_files.specs.Faults.{Rose};
 ghost use Rattle.coz_files.specs.Held.{file_at};
 ghost use Rattle.coz_page.specs.Verdict.{Verdict, bytes_of, path_in, verdict, file_verdict, profile_verdict};
-ghost use Rattle.coz_page.specs.Answer.{answered, IsMemory, IsRead, IsOfPath, Suits, Settles, SettlesThen};
+ghost use Rattle.coz_page.specs.Answer.{verdict_of, IsMemory, IsRead, IsOfPath, Suits, Settles, SettlesThen};
 
 use crate::fault::Fault;
 use causal_curves::{Curve, curves};
@@ -63,7 +63,7 @@ fn read_file<'a, F: Files>(
 /// The curves of the profile of which the bytes are the text, if they are one's.
 fn rank<'w>(alloc: Global, bytes: &[u8]) -> Answer<'w>
     ensures no_read { IsRead result → ⊥ }
-    ensures settled { (IsMemory result → ⊥) → answered result ≡ profile_verdict bytes.now }
+    ensures settled { (IsMemory result → ⊥) → verdict_of result ≡ profile_verdict bytes.now }
 {
     let profile = read_profile(alloc, bytes)?;
     let curves = curves(alloc, &profile)?;

@@ -1,7 +1,7 @@
 -- The written form of any path is in its one form.
 use Rattle.std.proofs.Common.{rules, ◌≡◌, ℕ, zero, suc, ◌+◌, ◌*◌, ◌/◌, ◌%◌, ◌<◌, Bool, true, false, ◌&&◌, ◌==◌, [], ◌∷◌, ◌++◌, Option, Some, None, refl, sym, ap, ◌∙◌, arith, if◌then◌else◌}
 use Rattle.std.specs.List.{AllByRecursion}
-use Rattle.coz_types.specs.Labels.{Text, Scan, scans, is_escaped, escaped, written, hex_digit, hex_value, is_hex_digit, is_written}
+use Rattle.coz_types.specs.Labels.{Text, Scan, is_scanned, is_escaped, escape_of, written, hex_digit, hex_value, is_hex_digit, is_written}
 
 pub both : (x y : Bool) → (x && y) ≡ true → (x ≡ true) × (y ≡ true)
 both true y e = (refl, e)
@@ -41,7 +41,7 @@ not_mark b e = by (b == 37) refl
     by false d = refl
 
 -- a scan is between two bytes again behind each byte that is written
-pub byte_scans : (b : ℕ) (rest : Text) → b < 256 → scans (Some None) (escaped b ++ rest) ≡ scans (Some None) rest
+pub byte_scans : (b : ℕ) (rest : Text) → b < 256 → is_scanned (Some None) (escape_of b ++ rest) ≡ is_scanned (Some None) rest
 byte_scans b rest lt = by (is_escaped b) refl
   where
     high : IsDigit (b / 16)
@@ -53,14 +53,14 @@ byte_scans b rest lt = by (is_escaped b) refl
     whole : 16 * hex_value (hex_digit (b / 16)) + hex_value (hex_digit (b % 16)) ≡ b
     whole = ap (λ (n : ℕ). 16 * n + hex_value (hex_digit (b % 16))) high.value ∙ ap (λ (n : ℕ). 16 * (b / 16) + n) low.value ∙ omega arith
 
-    by : (c : Bool) → is_escaped b ≡ c → scans (Some None) ((if c then 37 ∷ hex_digit (b / 16) ∷ hex_digit (b % 16) ∷ [] else b ∷ []) ++ rest) ≡ scans (Some None) rest
+    by : (c : Bool) → is_escaped b ≡ c → is_scanned (Some None) ((if c then 37 ∷ hex_digit (b / 16) ∷ hex_digit (b % 16) ∷ [] else b ∷ []) ++ rest) ≡ is_scanned (Some None) rest
     by true e =
-        ap (λ (c : Bool). let next : Option Scan = if c then Some (Some (Some (hex_value (hex_digit (b / 16))))) else None in scans next (hex_digit (b % 16) ∷ rest)) high.is
-        ∙ ap (λ (c : Bool). let next : Option Scan = if c && is_escaped (16 * hex_value (hex_digit (b / 16)) + hex_value (hex_digit (b % 16))) then Some None else None in scans next rest) low.is
-        ∙ ap (λ (c : Bool). let next : Option Scan = if c then Some None else None in scans next rest) (ap is_escaped whole ∙ e)
+        ap (λ (c : Bool). let next : Option Scan = if c then Some (Some (Some (hex_value (hex_digit (b / 16))))) else None in is_scanned next (hex_digit (b % 16) ∷ rest)) high.is
+        ∙ ap (λ (c : Bool). let next : Option Scan = if c && is_escaped (16 * hex_value (hex_digit (b / 16)) + hex_value (hex_digit (b % 16))) then Some None else None in is_scanned next rest) low.is
+        ∙ ap (λ (c : Bool). let next : Option Scan = if c then Some None else None in is_scanned next rest) (ap is_escaped whole ∙ e)
     by false e =
-        ap (λ (c : Bool). let next : Option Scan = if c then Some (Some None) else (if is_escaped b then None else Some None) in scans next rest) (not_mark b e)
-        ∙ ap (λ (c : Bool). let next : Option Scan = if c then None else Some None in scans next rest) e
+        ap (λ (c : Bool). let next : Option Scan = if c then Some (Some None) else (if is_escaped b then None else Some None) in is_scanned next rest) (not_mark b e)
+        ∙ ap (λ (c : Bool). let next : Option Scan = if c then None else Some None in is_scanned next rest) e
 
 pub written_is : (path : Text) → AllByRecursion (λ b. b < 256) path → is_written (written path) ≡ true
 written_is [] all = refl

@@ -27,12 +27,12 @@ hex_digit n = if nat_lt n 10 then 48 + n else 55 + n
 abbrev pub is_escaped : ℕ → Bool
 is_escaped b = nat_lt b 0x21 || (nat_lt 0x7E b || (b == 37 || b == 44))
 
-abbrev pub escaped : ℕ → Text
-escaped b = if is_escaped b then 37 ∷ hex_digit (b / 16) ∷ hex_digit (b % 16) ∷ [] else b ∷ []
+abbrev pub escape_of : ℕ → Text
+escape_of b = if is_escaped b then 37 ∷ hex_digit (b / 16) ∷ hex_digit (b % 16) ∷ [] else b ∷ []
 
 -- a path with its special bytes escaped
 abbrev pub written : Text → Text
-written path = flat_map escaped path
+written path = flat_map escape_of path
 
 -- an upper-case hexadecimal digit, and what it stands for
 abbrev pub is_hex_digit : ℕ → Bool
@@ -48,20 +48,20 @@ Scan = Option (Option ℕ)
 
 -- where it stands behind this byte; an escape is a `%` and the two digits of a byte
 -- that has to be escaped
-abbrev pub step : Scan → ℕ → Option Scan
-step None b = if b == 37 then Some (Some None) else (if is_escaped b then None else Some None)
-step (Some None) b = if is_hex_digit b then Some (Some (Some (hex_value b))) else None
-step (Some (Some high)) b =
+abbrev pub scan_step : Scan → ℕ → Option Scan
+scan_step None b = if b == 37 then Some (Some None) else (if is_escaped b then None else Some None)
+scan_step (Some None) b = if is_hex_digit b then Some (Some (Some (hex_value b))) else None
+scan_step (Some (Some high)) b =
     if is_hex_digit b && is_escaped (16 * high + hex_value b) then Some None else None
 
-abbrev pub scans : Option Scan → Text → Bool
-scans None text = false
-scans (Some at) [] = is_none at
-scans (Some at) (b ∷ rest) = scans (step at b) rest
+abbrev pub is_scanned : Option Scan → Text → Bool
+is_scanned None text = false
+is_scanned (Some at) [] = is_none at
+is_scanned (Some at) (b ∷ rest) = is_scanned (scan_step at b) rest
 
 -- the text is the written form of a path
 abbrev pub is_written : Text → Bool
-is_written path = scans (Some None) path
+is_written path = is_scanned (Some None) path
 
 -- ---- labels
 

@@ -8,8 +8,8 @@ use Rattle.coz_types.specs.declared.ending.Ending.TheVariants.{Exited, Trapped, 
 use Rattle.coz_types.specs.declared.record.Summary.{Summary}
 
 -- 10^17: times, and numbers of instructions, of starts and of bytes, are at most that
-abbrev pub most : ℕ
-most = 100000000000000000
+abbrev pub greatest_number : ℕ
+greatest_number = 100000000000000000
 
 -- 10^9: counts of visits are at most that
 abbrev pub most_visits : ℕ
@@ -40,11 +40,11 @@ pub record IsSummary (points : ℕ) (s : Summary) : Type 0 where
   pub selected : is_label s.selected ≡ true
   pub speedup : s.speedup ≤ GREATEST_SPEEDUP
   pub ending : is_ending s.outcome.ending ≡ true
-  pub time : s.outcome.time ≤ most
+  pub time : s.outcome.time ≤ greatest_number
   pub delay : s.outcome.delay ≤ s.outcome.time
-  pub retired : s.outcome.retired ≤ most
-  pub starts : s.outcome.starts ≤ most
-  pub size : s.length ≤ most
+  pub retired : s.outcome.retired ≤ greatest_number
+  pub starts : s.outcome.starts ≤ greatest_number
+  pub size : s.length ≤ greatest_number
   pub output : IsDigest s.output.bytes
   pub visits : IsDigest s.visits.bytes
   pub counts : length s.counts ≡ points

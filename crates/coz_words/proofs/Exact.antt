@@ -5,7 +5,7 @@ use Rattle.std.specs.List.{list_all}
 use Rattle.std.specs.Str.{bytes_eq}
 use Rattle.std.proofs.lemmas.Slice.Eq.{bytes_eq-Decides}
 use Rattle.coz_words.specs.Said.{Text, Item}
-use Rattle.coz_words.specs.Request.{Requests, asked, are_items_of, belongs, command_name, option_names, is_word}
+use Rattle.coz_words.specs.Request.{Requests, request_of_items, are_items_of, is_of_options, command_name, option_names, is_word}
 use Rattle.coz_words.specs.declared.command.Command.{Command}
 use Rattle.coz_words.specs.declared.request.Request.{Request}
 use Rattle.coz_words.specs.Parse.{AreNames}
@@ -48,8 +48,8 @@ pub if_some : {A : Type 0} (b : Bool) (o : Option A) (y : A) → (if b then o el
 if_some true o y e = (refl, e)
 if_some false o y e = absurd cc
 
-asked_items : (c : Command) (items : List Item) (r : Request) → asked c items ≡ Some r → list_all (belongs (option_names c)) items ≡ true
-unfolding asked
+asked_items : (c : Command) (items : List Item) (r : Request) → request_of_items c items ≡ Some r → list_all (is_of_options (option_names c)) items ≡ true
+unfolding request_of_items
 asked_items c items r e =
     let first = (if_some (are_items_of c items) _ r e).0 in
     (both_true _ _ (both_true _ _ first).0).0
@@ -57,9 +57,9 @@ asked_items c items r e =
 pub exact_back : (words : List Text) (r : Request) → request_in words ≡ Some r → Requests words r
 exact_back [] r e = absurd cc
 exact_back (word ∷ rest) r e =
-    let a = if_some (list_all is_word (word ∷ rest)) (option_and_then (λ c. option_and_then (asked c) (items_in (option_names c) None rest)) (command_of word)) r e in
-    let n = then_some (command_of word) (λ c. option_and_then (asked c) (items_in (option_names c) None rest)) r a.1 in
-    let i = then_some (items_in (option_names n.0) None rest) (asked n.0) r n.2 in
+    let a = if_some (list_all is_word (word ∷ rest)) (option_and_then (λ c. option_and_then (request_of_items c) (items_in (option_names c) None rest)) (command_of word)) r e in
+    let n = then_some (command_of word) (λ c. option_and_then (request_of_items c) (items_in (option_names c) None rest)) r a.1 in
+    let i = then_some (items_in (option_names n.0) None rest) (request_of_items n.0) r n.2 in
     let is : command_name n.0 ≡ word = (bytes_eq-Decides (command_name n.0) word).0 (find_passes (λ c. bytes_eq (command_name c) word) commands n.0 n.1) in
     record {
       command = n.0;
@@ -77,7 +77,7 @@ exact_forth words r q =
     let items = said_forth names (are_names_of names (are_names q.command).right) q.items q.rest q.said (asked_items q.command q.items r q.right) in
     let fit : list_all is_word (command_name q.command ∷ q.rest) ≡ true = subst (λ (ws : List Text). list_all is_word ws ≡ true) q.whole q.fit in
     ap request_in q.whole
-    ∙ ap (λ (b : Bool). if b then option_and_then (λ c. option_and_then (asked c) (items_in (option_names c) None q.rest)) (command_of (command_name q.command)) else None) fit
-    ∙ ap (λ (o : Option Command). option_and_then (λ c. option_and_then (asked c) (items_in (option_names c) None q.rest)) o) (named_is q.command)
-    ∙ ap (λ (o : Option (List Item)). option_and_then (asked q.command) o) items
+    ∙ ap (λ (b : Bool). if b then option_and_then (λ c. option_and_then (request_of_items c) (items_in (option_names c) None q.rest)) (command_of (command_name q.command)) else None) fit
+    ∙ ap (λ (o : Option Command). option_and_then (λ c. option_and_then (request_of_items c) (items_in (option_names c) None q.rest)) o) (named_is q.command)
+    ∙ ap (λ (o : Option (List Item)). option_and_then (request_of_items q.command) o) items
     ∙ q.right

@@ -11,7 +11,7 @@ use Rattle.coz_words.specs.Said.{Text, Item, option, target, dashes, SaysAll}
 use Rattle.coz_words.specs.declared.command.Command.{Command}
 use Rattle.coz_words.specs.declared.command.Command.TheVariants.{Run, Really, Profile, Lines, Plot, Asm, Trial}
 use Rattle.coz_words.specs.declared.request.Request.{Request}
-use Rattle.coz_words.specs.Request.{IsFit, Requests, asked, are_items_of, belongs, has_option, has_text, is_once, is_word, none_or, number_or, numbers_in, seed_in, speedup_in, speedups_in, all_speedups, command_name, option_names, request_with, runs, target_of, value_of, input_name, line_name, speedup_name, lines_name, progress_name, speedups_name, budget_name, workers_name, size_name, dwarf_name}
+use Rattle.coz_words.specs.Request.{IsFit, Requests, request_of_items, are_items_of, is_of_options, has_option, has_text, is_once, is_word, none_or, number_or, numbers_in, seed_in, speedup_in, speedups_in, all_speedups, command_name, option_names, request_with, is_runner, target_of, value_of, input_name, line_name, speedup_name, lines_name, progress_name, speedups_name, budget_name, workers_name, size_name, dwarf_name}
 use Rattle.coz_words.proofs.Agree.{both_true}
 use Rattle.coz_words.proofs.Exact.{then_some, if_some}
 
@@ -94,7 +94,7 @@ speedups_fit c None ns is = by (has_option c speedups_name) same
     by true e = subst (λ (ms : List ℕ). list_all (λ p. nat_le p 95) ms ≡ true) e refl
     by false e = subst (λ (ms : List ℕ). list_all (λ p. nat_le p 95) ms ≡ true) e refl
 
-has_budget : (c : Command) → runs c ≡ true → has_option c budget_name ≡ true
+has_budget : (c : Command) → is_runner c ≡ true → has_option c budget_name ≡ true
 has_budget Run is = refl
 has_budget Really is = refl
 has_budget Profile is = refl
@@ -153,9 +153,9 @@ request_fits c path value r own is =
     })
 
 pub fit_in : (words : List Text) (r : Request) → Requests words r → IsFit r
-unfolding asked
+unfolding request_of_items
 fit_in words r q =
     let a = if_some (are_items_of q.command q.items) (request_with q.command (target_of q.items) (λ name. value_of name q.items)) r q.right in
-    let texts = both_true (list_all (belongs (option_names q.command)) q.items && is_once q.items) (list_all has_text q.items) a.0 in
+    let texts = both_true (list_all (is_of_options (option_names q.command)) q.items && is_once q.items) (list_all has_text q.items) a.0 in
     let fit = (both_true (is_word (command_name q.command)) (list_all is_word q.rest) (subst (λ (ws : List Text). list_all is_word ws ≡ true) q.whole q.fit)).1 in
     request_fits q.command (target_of q.items) (λ name. value_of name q.items) r (λ t named. (target_some q.items t named texts.1, target_word q.items q.rest q.said fit t named)) a.1

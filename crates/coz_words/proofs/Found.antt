@@ -10,7 +10,7 @@ use Rattle.clap.specs.declared.parser.matches.ArgMatches.{ArgMatches}
 use Rattle.coz_words.specs.Said.{Text, Item, option, target}
 use Rattle.coz_words.specs.Answers.{option_value}
 use Rattle.coz_words.specs.Parse.{target_id, Finds}
-use Rattle.coz_words.specs.Request.{asked, are_items_of, belongs, has_text, is_among, is_once, is_some_text, is_word, none_or, option_names, request_with, same_kind, target_of, value_of}
+use Rattle.coz_words.specs.Request.{request_of_items, are_items_of, is_of_options, has_text, is_among, is_once, is_some_text, is_word, none_or, option_names, request_with, same_kind, target_of, value_of}
 use Rattle.coz_words.specs.Slow.{command_in, command_of, items_in, request_in}
 use Rattle.coz_words.specs.declared.command.Command.{Command}
 use Rattle.coz_words.specs.declared.request.Request.{Request}
@@ -20,18 +20,18 @@ use Rattle.coz_words.proofs.Meaning.{said_back, said_forth, are_names_of}
 use Rattle.coz_words.proofs.Turns.{not_false}
 
 -- an option that the command lacks has no value
-unknown_none : (names : List Text) (items : List Item) (name : Text) → list_all (belongs names) items ≡ true → is_among names name ≡ false → value_of name items ≡ None
+unknown_none : (names : List Text) (items : List Item) (name : Text) → list_all (is_of_options names) items ≡ true → is_among names name ≡ false → value_of name items ≡ None
 unknown_none names [] name known out = refl
 unknown_none names (target t ∷ items) name known out = unknown_none names items name known out
 unknown_none names (option n v ∷ items) name known out =
-    let both = both_true (is_among names n) (list_all (belongs names) items) known in
+    let both = both_true (is_among names n) (list_all (is_of_options names) items) known in
     by (bytes_eq n name) refl both.0 (unknown_none names items name both.1 out)
   where
     by : (b : Bool) → bytes_eq n name ≡ b → is_among names n ≡ true → value_of name items ≡ None → value_of name (option n v ∷ items) ≡ None
     by true e own more = absurd (let bad : true ≡ false = sym (subst (λ (t : Text). is_among names t ≡ true) ((bytes_eq-Decides n name).0 e) own) ∙ out in cc)
     by false e own more = rw e more
 
-held_is : (c : Command) (items : List Item) (found : Text → Option Text) → list_all (belongs (option_names c)) items ≡ true
+held_is : (c : Command) (items : List Item) (found : Text → Option Text) → list_all (is_of_options (option_names c)) items ≡ true
     → ((name : Text) → is_among (option_names c) name ≡ true → found name ≡ value_of name items) → option_value c found ≡ (λ name. value_of name items)
 held_is c items found known finds = fun_ext (λ name. by name (is_among (option_names c) name) refl)
   where
@@ -86,7 +86,7 @@ no_value n v (option m w ∷ items) e =
     by true d other more = absurd (let bad : true ≡ false = sym ((bytes_eq-Decides n m).1 (sym ((bytes_eq-Decides m n).0 d))) ∙ other in cc)
     by false d other more = rw d more
 
-all_have : (names : List Text) (items : List Item) → list_all (belongs names) items ≡ true → is_once items ≡ true → none_or is_some_text (target_of items) ≡ true
+all_have : (names : List Text) (items : List Item) → list_all (is_of_options names) items ≡ true → is_once items ≡ true → none_or is_some_text (target_of items) ≡ true
     → ((name : Text) → is_among names name ≡ true → none_or is_some_text (value_of name items) ≡ true) → list_all has_text items ≡ true
 all_have names [] known once path values = refl
 all_have names (target t ∷ items) known once path values =
@@ -95,7 +95,7 @@ all_have names (target t ∷ items) known once path values =
     ap₂ ◌&&◌ path (all_have names items known both.1 (ap (none_or is_some_text) none) values)
 all_have names (option n v ∷ items) known once path values =
     let both = both_true (not (list_any (same_kind (option n v)) items)) (is_once items) once in
-    let own = both_true (is_among names n) (list_all (belongs names) items) known in
+    let own = both_true (is_among names n) (list_all (is_of_options names) items) known in
     let none = no_value n v items (not_false (list_any (same_kind (option n v)) items) both.0) in
     ap₂ ◌&&◌ (first (values n own.0)) (all_have names items own.1 both.1 path (λ name among. rest name (bytes_eq n name) refl none (values name among)))
   where
@@ -122,7 +122,7 @@ among p (n ∷ names) name all own =
     by true e first more = subst (λ (t : Text). p t ≡ true) ((bytes_eq-Decides n name).0 e) first
     by false e first more = more (subst (λ (b : Bool). (b || is_among names name) ≡ true) e own)
 
-texts_are : (names : List Text) (items : List Item) → list_all (belongs names) items ≡ true → is_once items ≡ true
+texts_are : (names : List Text) (items : List Item) → list_all (is_of_options names) items ≡ true → is_once items ≡ true
     → (none_or is_some_text (target_of items) && list_all (λ name. none_or is_some_text (value_of name items)) names) ≡ list_all has_text items
 texts_are names items known once = same_truth _ _ (λ all.
     let both = both_true (none_or is_some_text (target_of items)) (list_all (λ name. none_or is_some_text (value_of name items)) names) all in
@@ -134,16 +134,16 @@ texts_are names items known once = same_truth _ _ (λ all.
 abbrev pub are_texts_of : Command → Option Text → (Text → Option Text) → Bool
 are_texts_of c path value = none_or is_some_text path && list_all (λ name. none_or is_some_text (value name)) (option_names c)
 
-asked_is : (c : Command) (items : List Item) → list_all (belongs (option_names c)) items ≡ true → is_once items ≡ true
-    → asked c items ≡ (if are_texts_of c (target_of items) (λ name. value_of name items) then request_with c (target_of items) (λ name. value_of name items) else None)
-unfolding asked
+asked_is : (c : Command) (items : List Item) → list_all (is_of_options (option_names c)) items ≡ true → is_once items ≡ true
+    → request_of_items c items ≡ (if are_texts_of c (target_of items) (λ name. value_of name items) then request_with c (target_of items) (λ name. value_of name items) else None)
+unfolding request_of_items
 asked_is c items known once =
     let request : Option Request = request_with c (target_of items) (λ name. value_of name items) in
     ap₂ (λ (a b : Bool). if a && b && list_all has_text items then request else None) known once
     ∙ ap (λ (b : Bool). if b then request else None) (sym (texts_are (option_names c) items known once))
 
 abbrev next : List Text → Command → Option Request
-next rest c = option_and_then (asked c) (items_in (option_names c) None rest)
+next rest c = option_and_then (request_of_items c) (items_in (option_names c) None rest)
 
 request_by : (words : List Text) (c : Command) → command_in words ≡ Some c → request_in words ≡ next (drop 1 words) c
 request_by [] c e = absurd cc
@@ -169,19 +169,19 @@ found_is words c found named f =
     let given = f.1 in
     let names = option_names c in
     let said = said_forth names (are_names_of names (are_names c).right) items (drop 1 words) given.0 given.1 in
-    request_by words c named ∙ ap (option_and_then (asked c)) said ∙ asked_is c items given.1 given.2
+    request_by words c named ∙ ap (option_and_then (request_of_items c)) said ∙ asked_is c items given.1 given.2
     ∙ ap₂ (λ (path : Option Text) (value : Text → Option Text). if are_texts_of c path value then request_with c path value else None) (sym f.3) (sym (held_is c items found given.1 f.2))
 
 -- where nothing is found there is none
 pub nothing_found : (words : List Text) (c : Command) → command_in words ≡ Some c → Finds (option_names c) words None → request_in words ≡ None
-unfolding asked
+unfolding request_of_items
 nothing_found words c named none = by (request_in words) refl
   where
     by : (o : Option Request) → request_in words ≡ o → o ≡ None
     by None e = refl
     by (Some r) e =
         let names = option_names c in
-        let i = then_some (items_in names None (drop 1 words)) (asked c) r (sym (request_by words c named) ∙ e) in
+        let i = then_some (items_in names None (drop 1 words)) (request_of_items c) r (sym (request_by words c named) ∙ e) in
         let right = (if_some (are_items_of c i.0) _ r i.2).0 in
         let own = both_true _ _ (both_true _ _ right).0 in
         let said = (said_back names (are_names_of names (are_names c).right) (drop 1 words)).0 i.0 i.1 in

@@ -21,14 +21,14 @@ command_name Asm = codes "asm"
 command_name Trial = codes "trial"
 
 -- the command runs the program
-abbrev pub runs : Command → Bool
-runs Run = true
-runs Really = true
-runs Profile = true
-runs Lines = false
-runs Plot = false
-runs Asm = false
-runs Trial = false
+abbrev pub is_runner : Command → Bool
+is_runner Run = true
+is_runner Really = true
+is_runner Profile = true
+is_runner Lines = false
+is_runner Plot = false
+is_runner Asm = false
+is_runner Trial = false
 
 abbrev pub input_name : Text
 input_name = codes "input"
@@ -113,9 +113,9 @@ abbrev pub is_once : List Item → Bool
 is_once [] = true
 is_once (item ∷ items) = not (list_any (same_kind item) items) && is_once items
 
-abbrev pub belongs : List Text → Item → Bool
-belongs names (option name value) = is_among names name
-belongs names (target text) = true
+abbrev pub is_of_options : List Text → Item → Bool
+is_of_options names (option name value) = is_among names name
+is_of_options names (target text) = true
 
 abbrev pub is_some_text : Text → Bool
 is_some_text text = nat_lt 0 (length text)
@@ -126,7 +126,7 @@ has_text item = is_some_text (text_of item)
 -- options of the command, each at most once, and no text is empty
 abbrev pub are_items_of : Command → List Item → Bool
 are_items_of c items =
-    list_all (belongs (option_names c)) items && is_once items && list_all has_text items
+    list_all (is_of_options (option_names c)) items && is_once items && list_all has_text items
 
 -- ---- values
 
@@ -211,8 +211,8 @@ request_with c path value =
     ) else None
 
 -- the request that the items make, where they are right
-unfoldable pub asked : Command → List Item → Option Request
-asked c items =
+unfoldable pub request_of_items : Command → List Item → Option Request
+request_of_items c items =
     if are_items_of c items then request_with c (target_of items) (λ name. value_of name items)
     else None
 
@@ -235,7 +235,7 @@ pub record IsFit (request : Request) : Type 0 where
   pub lines : IfSome request.lines (λ text. is_list text ≡ true)
   pub progress : IfSome request.progress (λ text. is_list text ≡ true)
   pub speedups : list_all (λ p. nat_le p GREATEST_SPEEDUP) request.speedups ≡ true
-  pub some_budget : runs request.command ≡ true → 1 ≤ request.budget
+  pub some_budget : is_runner request.command ≡ true → 1 ≤ request.budget
   pub budget : request.budget ≤ 10 ^ 12
   pub some_workers : has_option request.command workers_name ≡ true → 1 ≤ request.workers
   pub workers : request.workers ≤ 16
@@ -255,4 +255,4 @@ pub record Requests (words : List Text) (request : Request) : Type 0 where
   pub whole : words ≡ command_name command ∷ rest
   pub fit : list_all is_word words ≡ true
   pub said : SaysAll items rest
-  pub right : asked command items ≡ Some request
+  pub right : request_of_items command items ≡ Some request

@@ -4,14 +4,14 @@ use Rattle.std.specs.Prelude.{All}
 use Rattle.std.proofs.lemmas.List.{length-map}
 use Rattle.std.proofs.Math.Seq.{take-append_seam}
 use Rattle.machines.specs.Places.{change, change_from}
-use Rattle.machines.specs.Delayed.{Hart, fresh, run, stop, credit, raise_hart, total, is_running}
-use Rattle.delay_credits.specs.Ticks.{ticked}
+use Rattle.machines.specs.Delayed.{Hart, idle_hart, run, stop, credit, raise_hart, total, is_running}
+use Rattle.delay_credits.specs.Ticks.{hart_after_ticks}
 use Rattle.machines.proofs.Maps.{change_from_is}
 use Rattle.coz_types.specs.declared.record.Account.{Account as GivenAccount}
 use Rattle.delay_credits.specs.declared.seat.Seat.{Seat}
 use Rattle.delay_credits.specs.declared.seat.Pending.{Pending}
 use Rattle.delay_credits.specs.Delays.{Delays, hart_at, at, with_start, with_stop, with_raise, with_credit}
-use Rattle.delay_credits.specs.Seats.{hart_of_seat, settled, IsSound, IsRaised, IsUnpaused}
+use Rattle.delay_credits.specs.Seats.{hart_of_seat, settled_seat, IsSound, IsRaised, IsUnpaused}
 use Rattle.delay_credits.proofs.Standing.{standing-all, standing-set, standing-read, standing-start, standing-stop, standing-again, standing-kept}
 
 -- a seat to name a place past the end
@@ -27,22 +27,22 @@ below-seats latest raised h seats below = rw length-map at below
 
 -- one hart is changed by f at a moment
 changed : (latest now raised h : ℕ) (f : Hart → Hart) (seats : List Seat) (seat d : Seat) → All (IsSound latest raised) seats → h < length seats → latest ≤ now
-    → hart_of_seat now seat ≡ f (hart_of_seat now (get_or seats h d)) → map (hart_of_seat now) (set seats h seat) ≡ change fresh h f (map (ticked (now - latest)) (map (hart_of_seat latest) seats))
+    → hart_of_seat now seat ≡ f (hart_of_seat now (get_or seats h d)) → map (hart_of_seat now) (set seats h seat) ≡ change idle_hart h f (map (hart_after_ticks (now - latest)) (map (hart_of_seat latest) seats))
 changed latest now raised h f seats seat d sound below later is =
-    standing-set now h f seats seat d below is ∙ ap (change fresh h f) (sym (standing-all latest now raised seats sound later))
+    standing-set now h f seats seat d below is ∙ ap (change idle_hart h f) (sym (standing-all latest now raised seats sound later))
 
 pub started : (v : Delays) (latest now raised h : ℕ) (seats : List Seat) (d : Seat) → seen latest raised seats ≡ v → All (IsSound latest raised) seats → h < length v.harts → v.latest ≤ now
-    → seen now raised (set seats h (record { account = (settled now (get_or seats h d)).account; pending = Some (record { since = now; pause = 0 }) })) ≡ with_start h now v
+    → seen now raised (set seats h (record { account = (settled_seat now (get_or seats h d)).account; pending = Some (record { since = now; pause = 0 }) })) ≡ with_start h now v
 started v latest now raised h seats d view sound =
-    subst (λ (w : Delays). h < length w.harts → w.latest ≤ now → seen now raised (set seats h (record { account = (settled now (get_or seats h d)).account; pending = Some (record { since = now; pause = 0 }) })) ≡ with_start h now w)
+    subst (λ (w : Delays). h < length w.harts → w.latest ≤ now → seen now raised (set seats h (record { account = (settled_seat now (get_or seats h d)).account; pending = Some (record { since = now; pause = 0 }) })) ≡ with_start h now w)
     view
     (λ below later. ap (λ (hs : List Hart). record { latest = now; raised = raised; harts = hs })
     (changed latest now raised h (run 0) seats _ d sound (below-seats latest raised h seats below) later (standing-start now (get_or seats h d))))
 
 pub stopped : (v : Delays) (latest now raised h : ℕ) (seats : List Seat) (d : Seat) → seen latest raised seats ≡ v → All (IsSound latest raised) seats → h < length v.harts → v.latest ≤ now
-    → seen now raised (set seats h (record { account = (settled now (get_or seats h d)).account; pending = None })) ≡ with_stop h now v
+    → seen now raised (set seats h (record { account = (settled_seat now (get_or seats h d)).account; pending = None })) ≡ with_stop h now v
 stopped v latest now raised h seats d view sound =
-    subst (λ (w : Delays). h < length w.harts → w.latest ≤ now → seen now raised (set seats h (record { account = (settled now (get_or seats h d)).account; pending = None })) ≡ with_stop h now w)
+    subst (λ (w : Delays). h < length w.harts → w.latest ≤ now → seen now raised (set seats h (record { account = (settled_seat now (get_or seats h d)).account; pending = None })) ≡ with_stop h now w)
     view
     (λ below later. ap (λ (hs : List Hart). record { latest = now; raised = raised; harts = hs })
     (changed latest now raised h stop seats _ d sound (below-seats latest raised h seats below) later (standing-stop now (get_or seats h d))))
@@ -53,7 +53,7 @@ pub hart-later : (v : Delays) (latest now raised h : ℕ) (seats : List Seat) (d
 hart-later v latest now raised h seats d view sound =
     subst (λ (w : Delays). h < length w.harts → w.latest ≤ now → hart_of_seat now (get_or seats h d) ≡ hart_at (at now w) h)
     view
-    (λ below later. sym (ap (λ (hs : List Hart). get_or hs h fresh) (standing-all latest now raised seats sound later) ∙ standing-read now h seats d (below-seats latest raised h seats below)))
+    (λ below later. sym (ap (λ (hs : List Hart). get_or hs h idle_hart) (standing-all latest now raised seats sound later) ∙ standing-read now h seats d (below-seats latest raised h seats below)))
 
 -- every hart is changed by a raise
 pub raised-all : (v : Delays) (latest now raised h ticks : ℕ) (seats seats' : List Seat) (d : Seat) → seen latest raised seats ≡ v → All (IsSound latest raised) seats → v.latest ≤ now
@@ -65,7 +65,7 @@ raised-all v latest now raised h ticks seats seats' d view sound later same each
     (all ∙ ap (change_from 0 (raise_hart ticks h)) (sym (standing-all latest now raised seats sound later'))))
     later
   where
-    at_each : (k : ℕ) → k < length (map (hart_of_seat now) seats') → get_or (map (hart_of_seat now) seats') k fresh ≡ raise_hart ticks h k (get_or (map (hart_of_seat now) seats) k fresh)
+    at_each : (k : ℕ) → k < length (map (hart_of_seat now) seats') → get_or (map (hart_of_seat now) seats') k idle_hart ≡ raise_hart ticks h k (get_or (map (hart_of_seat now) seats) k idle_hart)
     at_each k below =
         let new : k < length seats' = rw length-map at below in
         let old : k < length seats = omega arith in
@@ -75,16 +75,16 @@ raised-all v latest now raised h ticks seats seats' d view sound later same each
     lengths = length-map seats' (hart_of_seat now) ∙ same ∙ sym (length-map seats (hart_of_seat now))
 
     all : map (hart_of_seat now) seats' ≡ change_from 0 (raise_hart ticks h) (map (hart_of_seat now) seats)
-    all = change_from_is fresh (raise_hart ticks h) (λ k. refl) (map (hart_of_seat now) seats) (map (hart_of_seat now) seats') lengths at_each
+    all = change_from_is idle_hart (raise_hart ticks h) (λ k. refl) (map (hart_of_seat now) seats) (map (hart_of_seat now) seats') lengths at_each
 
 -- what was read is the seat of the hart
-read-at : (now h p : ℕ) (seats : List Seat) (s r : Seat) → p ≡ h → s ≡ get_or seats p s → r ≡ settled now s → r.account ≡ (settled now (get_or seats h s)).account
+read-at : (now h p : ℕ) (seats : List Seat) (s r : Seat) → p ≡ h → s ≡ get_or seats p s → r ≡ settled_seat now s → r.account ≡ (settled_seat now (get_or seats h s)).account
 read-at now h p seats s r place item settles =
     let read : s ≡ get_or seats h s = item ∙ ap (λ i. get_or seats i s) place in
-    ap (λ (x : Seat). x.account) settles ∙ ap (λ (x : Seat). (settled now x).account) read
+    ap (λ (x : Seat). x.account) settles ∙ ap (λ (x : Seat). (settled_seat now x).account) read
 
 pub started-at : (v : Delays) (latest now raised h p : ℕ) (seats : List Seat) (s r : Seat) → seen latest raised seats ≡ v → All (IsSound latest raised) seats → h < length v.harts → v.latest ≤ now
-    → p ≡ h → s ≡ get_or seats p s → r ≡ settled now s
+    → p ≡ h → s ≡ get_or seats p s → r ≡ settled_seat now s
     → seen now raised (set seats p (record { account = r.account; pending = Some (record { since = now; pause = 0 }) })) ≡ with_start h now v
 started-at v latest now raised h p seats s r view sound below later place item settles =
     ap (λ i. seen now raised (set seats i (record { account = r.account; pending = Some (record { since = now; pause = 0 }) }))) place
@@ -92,7 +92,7 @@ started-at v latest now raised h p seats s r view sound below later place item s
     ∙ started v latest now raised h seats s view sound below later
 
 pub stopped-at : (v : Delays) (latest now raised h p : ℕ) (seats : List Seat) (s r : Seat) → seen latest raised seats ≡ v → All (IsSound latest raised) seats → h < length v.harts → v.latest ≤ now
-    → p ≡ h → s ≡ get_or seats p s → r ≡ settled now s
+    → p ≡ h → s ≡ get_or seats p s → r ≡ settled_seat now s
     → seen now raised (set seats p (record { account = r.account; pending = None })) ≡ with_stop h now v
 stopped-at v latest now raised h p seats s r view sound below later place item settles =
     ap (λ i. seen now raised (set seats i (record { account = r.account; pending = None }))) place
@@ -132,13 +132,13 @@ credited-at v latest raised woken waker p seats s view below waits whole place i
         → seen latest raised (set seats p (credited_seat raised s)) ≡ with_credit woken waker (seen latest raised seats)
     go below waits whole =
         let at_seat : woken < length seats = below-seats latest raised woken seats below in
-        let hart : get_or (map (hart_of_seat latest) seats) woken fresh ≡ hart_of_seat latest s = standing-read latest woken seats s at_seat ∙ ap (hart_of_seat latest) (sym read) in
+        let hart : get_or (map (hart_of_seat latest) seats) woken idle_hart ≡ hart_of_seat latest s = standing-read latest woken seats s at_seat ∙ ap (hart_of_seat latest) (sym read) in
         let still : is_running (hart_of_seat latest s) ≡ false = ap is_running (sym hart) ∙ waits in
         let one : hart_of_seat latest (credited_seat raised s) ≡ credit raised (hart_of_seat latest (get_or seats woken s)) = credited latest raised s still ∙ ap (λ (x : Seat). credit raised (hart_of_seat latest x)) read in
-        let all : map (hart_of_seat latest) (set seats woken (credited_seat raised s)) ≡ change fresh woken (credit raised) (map (hart_of_seat latest) seats) = standing-set latest woken (credit raised) seats (credited_seat raised s) s at_seat one in
+        let all : map (hart_of_seat latest) (set seats woken (credited_seat raised s)) ≡ change idle_hart woken (credit raised) (map (hart_of_seat latest) seats) = standing-set latest woken (credit raised) seats (credited_seat raised s) s at_seat one in
         ap (λ i. seen latest raised (set seats i (credited_seat raised s))) place
         ∙ ap (λ (hs : List Hart). record { latest = latest; raised = raised; harts = hs }) all
-        ∙ ap (λ goal. record { latest = latest; raised = raised; harts = change fresh woken (credit goal) (map (hart_of_seat latest) seats) }) (sym whole)
+        ∙ ap (λ goal. record { latest = latest; raised = raised; harts = change idle_hart woken (credit goal) (map (hart_of_seat latest) seats) }) (sym whole)
 
 -- what is written through a slice of a whole vector is the vector's
 take-seam : {X : Type 0} (n : ℕ) (xs ys : List X) → length xs ≡ n → take n (xs ++ ys) ≡ xs
@@ -162,7 +162,7 @@ unpaused-at v latest now raised h p seats s view sound below later place item un
     view
     (λ below' later'. ap (λ (hs : List Hart). record { latest = now; raised = raised; harts = hs })
     (standing-kept now h (run 0) seats s (below-seats latest raised h seats below') (subst (λ (x : Seat). hart_of_seat now x ≡ run 0 (hart_of_seat now x)) read (standing-again now s unpaused))
-    ∙ ap (change fresh h (run 0)) (sym (standing-all latest now raised seats sound later'))))
+    ∙ ap (change idle_hart h (run 0)) (sym (standing-all latest now raised seats sound later'))))
     below later
   where
     read : s ≡ get_or seats h s

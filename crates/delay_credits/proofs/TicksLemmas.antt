@@ -3,7 +3,7 @@ use Rattle.std.proofs.Common.{ℕ, zero, suc, ◌≡◌, ◌≢◌, ◌+◌, ◌
 use Rattle.std.proofs.lemmas.Bool.{eqb-true, eqb-false}
 use Rattle.machines.specs.Delayed.{Account, Load, Hart, tick_hart, run, stop, credit, raise_hart}
 use Rattle.machines.specs.Steps.{sit_load, sit_hart}
-use Rattle.delay_credits.specs.Ticks.{without_work, ticked}
+use Rattle.delay_credits.specs.Ticks.{without_work, hart_after_ticks}
 
 abbrev the_hart : Account → ℕ → ℕ → Hart
 the_hart a work pause = record { account = a; load = Some (record { work = work; pause = pause }) }
@@ -92,11 +92,11 @@ no_tick hart = go hart.account hart.load
         same_parts a a.paused (a.paused + min 0 l.pause) l.work (l.work - (0 - l.pause)) l.pause (l.pause - 0) paused work pause
 
 -- so many single ticks are as many at once
-pub ticked_is : (k : ℕ) (hart : Hart) → ticked k hart ≡ sit_hart k hart
+pub ticked_is : (k : ℕ) (hart : Hart) → hart_after_ticks k hart ≡ sit_hart k hart
 ticked_is zero hart = no_tick hart
 ticked_is (suc k) hart = ap tick_hart (ticked_is k hart) ∙ one_more k hart
 
-pub all_ticked : (k : ℕ) (harts : List Hart) → map (ticked k) harts ≡ map (sit_hart k) harts
+pub all_ticked : (k : ℕ) (harts : List Hart) → map (hart_after_ticks k) harts ≡ map (sit_hart k) harts
 all_ticked k [] = refl
 all_ticked k (hart ∷ harts) = ap₂ (λ (x : Hart) (xs : List Hart). x ∷ xs) (ticked_is k hart) (all_ticked k harts)
 
@@ -112,9 +112,9 @@ sit_none hart = go hart.account hart.load
         same_parts a (a.paused + min 0 l.pause) a.paused (0 - (0 - l.pause)) 0 (l.pause - 0) l.pause paused work pause
 
 -- account and pause after so many single ticks are those of so many at once
-pub without_work-ticked : (k : ℕ) (hart : Hart) → without_work (ticked k hart) ≡ sit_hart k (without_work hart)
+pub without_work-ticked : (k : ℕ) (hart : Hart) → without_work (hart_after_ticks k hart) ≡ sit_hart k (without_work hart)
 without_work-ticked zero hart = sym (sit_none hart)
-without_work-ticked (suc k) hart = without_work-tick (ticked k hart) ∙ ap (sit_hart 1) (without_work-ticked k hart) ∙ sit_one_more k hart
+without_work-ticked (suc k) hart = without_work-tick (hart_after_ticks k hart) ∙ ap (sit_hart 1) (without_work-ticked k hart) ∙ sit_one_more k hart
 
 pub without_work-run : (work : ℕ) (hart : Hart) → without_work (run work hart) ≡ run 0 (without_work hart)
 without_work-run work hart = go hart.account hart.load

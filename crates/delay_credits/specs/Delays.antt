@@ -3,8 +3,8 @@
 use Rattle.std.specs.Prelude.{ℕ, ◌+◌, ◌-◌, List, map, replicate, slice_index_or, Some, None}
 use Rattle.coz_types.specs.declared.record.Account.{Account as GivenAccount}
 use Rattle.machines.specs.Places.{change, change_from}
-use Rattle.machines.specs.Delayed.{Account, Hart, fresh, run, stop, credit, raise_hart, total}
-use Rattle.delay_credits.specs.Ticks.{ticked}
+use Rattle.machines.specs.Delayed.{Account, Hart, idle_hart, run, stop, credit, raise_hart, total}
+use Rattle.delay_credits.specs.Ticks.{hart_after_ticks}
 
 pub record Delays : Type 0 where
   -- the latest moment that was given
@@ -15,7 +15,7 @@ pub record Delays : Type 0 where
   pub harts : List Hart
 
 abbrev pub hart_at : Delays → ℕ → Hart
-hart_at d h = slice_index_or d.harts h fresh
+hart_at d h = slice_index_or d.harts h idle_hart
 
 -- the ticks of pause that a hart has still before it
 abbrev pub pause_of : Hart → ℕ
@@ -27,15 +27,20 @@ account_as a = record { own = a.own; paused = a.paused; credited = a.credited }
 
 -- as it is at a later moment, after a tick of every hart for each tick that passed
 abbrev pub at : ℕ → Delays → Delays
-at now d = record { latest = now; raised = d.raised; harts = map (ticked (now - d.latest)) d.harts }
+at now d =
+    record {
+      latest = now;
+      raised = d.raised;
+      harts = map (hart_after_ticks (now - d.latest)) d.harts;
+    }
 
 -- a hart runs from now on, with no pause
 abbrev pub with_start : ℕ → ℕ → Delays → Delays
-with_start h now d = record (at now d) { harts = change fresh h (run 0) (at now d).harts }
+with_start h now d = record (at now d) { harts = change idle_hart h (run 0) (at now d).harts }
 
 -- a hart waits or is gone from now on
 abbrev pub with_stop : ℕ → ℕ → Delays → Delays
-with_stop h now d = record (at now d) { harts = change fresh h stop (at now d).harts }
+with_stop h now d = record (at now d) { harts = change idle_hart h stop (at now d).harts }
 
 -- a hart raises the global delay
 abbrev pub with_raise : ℕ → ℕ → ℕ → Delays → Delays
@@ -47,9 +52,9 @@ with_raise h ticks now d = record (at now d) {
 -- a hart's total becomes that of another
 abbrev pub with_credit : ℕ → ℕ → Delays → Delays
 with_credit woken waker d = record d {
-  harts = change fresh woken (credit (total (hart_at d waker).account)) d.harts;
+  harts = change idle_hart woken (credit (total (hart_at d waker).account)) d.harts;
 }
 
 -- so many harts before any moment was given
 abbrev pub none_raised : ℕ → Delays
-none_raised harts = record { latest = 0; raised = 0; harts = replicate harts fresh }
+none_raised harts = record { latest = 0; raised = 0; harts = replicate harts idle_hart }

@@ -14,8 +14,8 @@ hart_of_seat moment seat =
           (record { work = 0; pause = p.pause })
     ]
 
-abbrev pub owed : Seat → ℕ
-owed seat = elim (seat.pending) [ None ↦ 0 | Some p ↦ p.pause ]
+abbrev pub pause_owed : Seat → ℕ
+pause_owed seat = elim (seat.pending) [ None ↦ 0 | Some p ↦ p.pause ]
 
 abbrev pub since_of : Seat → ℕ
 since_of seat = elim (seat.pending) [ None ↦ 0 | Some p ↦ p.since ]
@@ -23,7 +23,7 @@ since_of seat = elim (seat.pending) [ None ↦ 0 | Some p ↦ p.since ]
 -- it was looked at by this moment, and no hart's total and pause are more than what was raised
 pub record IsSound (latest raised : ℕ) (seat : Seat) : Type 0 where
   pub past : since_of seat ≤ latest
-  pub within : total (account_as seat.account) + owed seat ≤ raised
+  pub within : total (account_as seat.account) + pause_owed seat ≤ raised
 
 -- no hart from a place on runs
 abbrev pub AreIdleFrom : ℕ → List Seat → Type 0
@@ -32,8 +32,8 @@ AreIdleFrom first seats =
     → (d : Seat) → (slice_index_or seats place d).pending ≡ None
 
 -- the seat of the same hart, looked at at a moment
-abbrev pub settled : ℕ → Seat → Seat
-settled now seat =
+abbrev pub settled_seat : ℕ → Seat → Seat
+settled_seat now seat =
     elim (seat.pending) [
       | None ↦ seat
       | Some p ↦ record {
@@ -46,15 +46,15 @@ settled now seat =
 
 -- the hart runs, and had no pause before it when it was looked at
 abbrev pub IsUnpaused : Seat → Type 0
-IsUnpaused seat = (seat.pending ≡ None → ⊥) × (owed seat ≡ 0)
+IsUnpaused seat = (seat.pending ≡ None → ⊥) × (pause_owed seat ≡ 0)
 
 -- the account of a seat and its pause are less than 2 ^ 64 together with so many ticks
 abbrev pub Fits : ℕ → Seat → Type 0
-Fits ticks seat = total (account_as seat.account) + owed seat + ticks < 2 ^ 64
+Fits ticks seat = total (account_as seat.account) + pause_owed seat + ticks < 2 ^ 64
 
 -- a seat before and after a raise of so many ticks at a moment
 pub record IsRaised (ticks now raiser place : ℕ) (old new : Seat) : Type 0 where
   pub stands : hart_of_seat now new ≡ raise_hart ticks raiser place (hart_of_seat now old)
   pub past : since_of new ≤ now
-  pub within : total (account_as new.account) + owed new
-      ≤ total (account_as old.account) + owed old + ticks
+  pub within : total (account_as new.account) + pause_owed new
+      ≤ total (account_as old.account) + pause_owed old + ticks

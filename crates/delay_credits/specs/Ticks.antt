@@ -10,6 +10,6 @@ without_work hart = elim (hart.load) [
 ]
 
 -- a hart after so many single ticks
-abbrev pub ticked : ℕ → Hart → Hart
-ticked zero hart = hart
-ticked (suc k) hart = tick_hart (ticked k hart)
+abbrev pub hart_after_ticks : ℕ → Hart → Hart
+hart_after_ticks zero hart = hart
+hart_after_ticks (suc k) hart = tick_hart (hart_after_ticks k hart)

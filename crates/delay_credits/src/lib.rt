@@ -8,7 +8,7 @@
 mod seat;
 
 ghost use Rattle.std.specs.Prelude.{◌≡◌, ◌+◌, ◌≤◌, ◌<◌, ◌^◌, false, length, replicate, IfOk, IsTrue};
-ghost use Rattle.machines.specs.Delayed.{fresh, is_running, total};
+ghost use Rattle.machines.specs.Delayed.{idle_hart, is_running, total};
 ghost use Rattle.delay_credits.specs.Delays.{none_raised, hart_at, pause_of, account_as, at, with_start, with_stop, with_raise, with_credit};
 
 use crate::seat::{Pending, Seat, is_unpaused, raise_each, settle};

@@ -1,6 +1,6 @@
 //! A hart's account and pause, as they were at one moment.
 ghost use Rattle.std.specs.Prelude.{◌≡◌, ◌≤◌, ◌<◌, ℕ, length, slice_index_or, All, IsTrue};
-ghost use Rattle.delay_credits.specs.Seats.{settled, since_of, AreIdleFrom, Fits, IsRaised, IsUnpaused};
+ghost use Rattle.delay_credits.specs.Seats.{settled_seat, since_of, AreIdleFrom, Fits, IsRaised, IsUnpaused};
 
 use coz_types::{Account, Tick};
 
@@ -34,7 +34,7 @@ pub(crate) fn is_unpaused(seat: Seat) -> bool
 pub(crate) fn settle(seat: Seat, now: Tick) -> Seat
     requires past { since_of seat ≤ now }
     requires fits { Fits 0 seat }
-    ensures { result ≡ settled now seat }
+    ensures { result ≡ settled_seat now seat }
 {
     let Some(pending) = seat.pending else {
         return seat;

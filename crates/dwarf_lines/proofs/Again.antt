@@ -11,7 +11,7 @@ use Rattle.leb_cursor.proofs.Again.{byte_again, half_again, part_again, text_aga
 use Rattle.dwarf_lines.specs.declared.LineFault.{LineFault}
 use Rattle.dwarf_lines.specs.Registers.{File, Header, State, is_open, directory, Operation, Copy, AdvancePc, AdvanceLine, SetFile, SetColumn, NegateStmt, ConstAddPc, FixedAdvancePc, Special, EndSequence, SetAddress, DefineFile, Pass}
 use Rattle.dwarf_lines.specs.Spelling.{IsUleb, IsSleb, AreUlebs, SpellsAll, SpellsFile, SpellsStandard, SpellsExtended, IsNothing, IsPassed, Spells, Goes}
-use Rattle.dwarf_lines.specs.Reading.{field, leb_field, byte, half, unsigned, pass, passing, file, body, below_base, operation, program, with_half}
+use Rattle.dwarf_lines.specs.Reading.{field, leb_field, byte, half_field, unsigned_field, ahead_of_numbers, operation_passed, file, body, below_base, operation, program, with_half}
 use Rattle.dwarf_lines.proofs.Programs.{program_again}
 use Rattle.dwarf_lines.proofs.Units.{begins}
 
@@ -22,11 +22,11 @@ Reads r x place rest = r ≡ Ok (x, ahead place rest)
 moved : {A : Type 0} (r : Result (A × Ahead) LineFault) (x : A) (p q : ℕ) (rest : List ℕ) → p ≡ q → Reads r x p rest → Reads r x q rest
 moved r x p q rest e is = subst (λ (n : ℕ). Reads r x n rest) e is
 
-pub unsigned_back : (n place : ℕ) (code rest : List ℕ) → IsUleb n code → unsigned (ahead place (code ++ rest)) ≡ Ok (n, ahead (place + length code) rest)
+pub unsigned_back : (n place : ℕ) (code rest : List ℕ) → IsUleb n code → unsigned_field (ahead place (code ++ rest)) ≡ Ok (n, ahead (place + length code) rest)
 unsigned_back n place code rest is = ap leb_field (uleb_again n place code rest is)
 
-pass_back : (ns : List ℕ) (place : ℕ) (code rest : List ℕ) → SpellsAll IsUleb ns code → pass (length ns) (ahead place (code ++ rest)) ≡ Ok (ahead (place + length code) rest)
-unfolding pass
+pass_back : (ns : List ℕ) (place : ℕ) (code rest : List ℕ) → SpellsAll IsUleb ns code → ahead_of_numbers (length ns) (ahead place (code ++ rest)) ≡ Ok (ahead (place + length code) rest)
+unfolding ahead_of_numbers
 pass_back [] place code rest is = let same : place + 0 ≡ place = omega arith in rw (is, same) refl
 pass_back (n ∷ ns) place code rest is =
     let front = is.0 in
@@ -35,9 +35,9 @@ pass_back (n ∷ ns) place code rest is =
     let sum : place + length front + length others ≡ place + length code = omega (arith, ap (λ (z : List ℕ). length z) is.2, length-append front others) in
     rw (parts, unsigned_back n place front (others ++ rest) is.3) (pass_back ns (place + length front) others rest is.4 ∙ ap (λ (p : ℕ). Ok (ahead p rest)) sum)
 
-passing_back : (count place : ℕ) (code rest : List ℕ) → AreUlebs count code → passing count (ahead place (code ++ rest)) ≡ Ok (Pass, ahead (place + length code) rest)
+passing_back : (count place : ℕ) (code rest : List ℕ) → AreUlebs count code → operation_passed count (ahead place (code ++ rest)) ≡ Ok (Pass, ahead (place + length code) rest)
 passing_back count place code rest is =
-    let run : pass count (ahead place (code ++ rest)) ≡ Ok (ahead (place + length code) rest) = subst (λ (n : ℕ). pass n (ahead place (code ++ rest)) ≡ Ok (ahead (place + length code) rest)) is.1 (pass_back is.0 place code rest is.2) in
+    let run : ahead_of_numbers count (ahead place (code ++ rest)) ≡ Ok (ahead (place + length code) rest) = subst (λ (n : ℕ). ahead_of_numbers n (ahead place (code ++ rest)) ≡ Ok (ahead (place + length code) rest)) is.1 (pass_back is.0 place code rest is.2) in
     rw run refl
 
 file_back : (directories : List (List ℕ)) (f : File) (place : ℕ) (code rest : List ℕ) → SpellsFile directories f code → file directories (ahead place (code ++ rest)) ≡ Ok (f, ahead (place + length code) rest)
@@ -125,7 +125,7 @@ std : (h : Header) (op : Operation) (o place : ℕ) (Operands : List ℕ → Typ
     → ((operands : List ℕ) → Operands operands → Reads (below_base h place o (ahead (place + 1) (operands ++ rest))) op (place + 1 + length operands) rest) → Reads (operation h (ahead place (code ++ rest))) op (place + length code) rest
 std h op o place Operands code rest is reads = standard_back h op o place code rest is.0 is.1 is.3 (reads is.0 is.4)
 
-large_at : (h : Header) (j place : ℕ) (a : Ahead) → 12 ≤ j → below_base h place (suc j) a ≡ passing (get_or h.lengths j 0) a
+large_at : (h : Header) (j place : ℕ) (a : Ahead) → 12 ≤ j → below_base h place (suc j) a ≡ operation_passed (get_or h.lengths j 0) a
 large_at h zero place a large = absurd (omega arith)
 large_at h (suc zero) place a large = absurd (omega arith)
 large_at h (suc (suc zero)) place a large = absurd (omega arith)
@@ -149,9 +149,9 @@ large_back h (suc j) place operands rest large u =
 
 half_back : (n place : ℕ) (operands rest : List ℕ) → n < 2 ^ 16 → operands ≡ to_le_bytes w16 n → Reads (with_half FixedAdvancePc (ahead (place + 1) (operands ++ rest))) (FixedAdvancePc n) (place + 1 + length operands) rest
 half_back n place operands rest lt e =
-    let read : Reads (half (ahead (place + 1) (operands ++ rest))) n (place + 1 + length operands) rest =
-    ap (λ (x : List ℕ). half (ahead (place + 1) (x ++ rest))) e ∙ ap field (half_again n (place + 1) rest lt) ∙ ap (λ (p : ℕ). Ok (n, ahead p rest)) (ap (λ (k : ℕ). place + 1 + k) (ap (λ (x : List ℕ). length x) (sym e))) in
-    bind_to (half (ahead (place + 1) (operands ++ rest))) (λ x. Ok (FixedAdvancePc x.0, x.1)) (n, ahead (place + 1 + length operands) rest) read
+    let read : Reads (half_field (ahead (place + 1) (operands ++ rest))) n (place + 1 + length operands) rest =
+    ap (λ (x : List ℕ). half_field (ahead (place + 1) (x ++ rest))) e ∙ ap field (half_again n (place + 1) rest lt) ∙ ap (λ (p : ℕ). Ok (n, ahead p rest)) (ap (λ (k : ℕ). place + 1 + k) (ap (λ (x : List ℕ). length x) (sym e))) in
+    bind_to (half_field (ahead (place + 1) (operands ++ rest))) (λ x. Ok (FixedAdvancePc x.0, x.1)) (n, ahead (place + 1 + length operands) rest) read
 
 special_back : (h : Header) (o place : ℕ) (code rest : List ℕ) → code ≡ o ∷ [] → h.opcode_base ≤ o → Reads (operation h (ahead place (code ++ rest))) (Special o) (place + length code) rest
 special_back h o place code rest one high =

@@ -6,7 +6,7 @@ use Rattle.dwarf_lines.specs.Registers.{Header, AdvancePc, empty_table}
 use Rattle.dwarf_lines.specs.Spelling.{IsTable, Spells}
 use Rattle.dwarf_lines.specs.Law.{line_fault}
 use Rattle.dwarf_lines.specs.Names.{Strings, strings, form_for}
-use Rattle.dwarf_lines.specs.Reading.{fault, texts, files, pass, header, operation, program, unit_body, unit, units, reading, formats, entries, listed, values}
+use Rattle.dwarf_lines.specs.Reading.{fault, texts, files, ahead_of_numbers, header, operation, program, unit_body, unit, units, reading, formats, entries, entry_list, values}
 
 abbrev none : Strings
 none = strings [] []
@@ -33,7 +33,7 @@ four_rows : reading none section ≡ Ok (record {
       ∷ [];
   skipped = 0;
 })
-unfolding reading units unit unit_body header texts files operation pass program formats entries listed values form_for
+unfolding reading units unit unit_body header texts files operation ahead_of_numbers program formats entries entry_list values form_for
 four_rows = refl
 
 nothing : reading none [] ≡ Ok empty_table
@@ -42,11 +42,11 @@ nothing = refl
 
 -- cut with its unit as long as before
 raw_cuts : map (λ n. line_fault none (take n section)) (1 ∷ 3 ∷ 4 ∷ 10 ∷ 40 ∷ 70 ∷ []) ≡ replicate 6 (Some (fault kinds.Short 0))
-unfolding reading units unit unit_body header texts files operation pass program formats entries listed values form_for
+unfolding reading units unit unit_body header texts files operation ahead_of_numbers program formats entries entry_list values form_for
 raw_cuts = refl
 
 short_header : reading none (set (take 13 section) 0 9) ≡ Err (fault kinds.Short 6)
-unfolding reading units unit unit_body header texts files operation pass program formats entries listed values form_for
+unfolding reading units unit unit_body header texts files operation ahead_of_numbers program formats entries entry_list values form_for
 short_header = refl
 
 -- the faults of its cuts
@@ -65,48 +65,48 @@ cut_faults : map (λ n. line_fault none (cut n)) (4 ∷ 5 ∷ 6 ∷ 13 ∷ 36 �
     Some (fault kinds.Short 63) ∷ Some (fault kinds.Short 63) ∷ Some (fault kinds.Unended 66) ∷
     Some (fault kinds.Short 67) ∷ Some (fault kinds.Unended 68) ∷ Some (fault kinds.Short 69) ∷
     Some (fault kinds.Short 70) ∷ []
-unfolding reading units unit unit_body header texts files operation pass program formats entries listed values form_for
+unfolding reading units unit unit_body header texts files operation ahead_of_numbers program formats entries entry_list values form_for
 cut_faults = refl
 
 long_form : reading none (set (set (set (set section 0 0xF0) 1 0xFF) 2 0xFF) 3 0xFF) ≡ Err (fault kinds.LongForm 0)
-unfolding reading units unit unit_body header texts files operation pass program formats entries listed values form_for
+unfolding reading units unit unit_body header texts files operation ahead_of_numbers program formats entries entry_list values form_for
 long_form = refl
 
 many_ops : reading none (set section 11 2) ≡ Err (fault kinds.ManyOps 11)
-unfolding reading units unit unit_body header texts files operation pass program formats entries listed values form_for
+unfolding reading units unit unit_body header texts files operation ahead_of_numbers program formats entries entry_list values form_for
 many_ops = refl
 
 zero_range : reading none (set section 14 0) ≡ Err (fault kinds.ZeroRange 14)
-unfolding reading units unit unit_body header texts files operation pass program formats entries listed values form_for
+unfolding reading units unit unit_body header texts files operation ahead_of_numbers program formats entries entry_list values form_for
 zero_range = refl
 
 base_zero : reading none (set section 15 0) ≡ Err (fault kinds.OpcodeBaseZero 15)
-unfolding reading units unit unit_body header texts files operation pass program formats entries listed values form_for
+unfolding reading units unit unit_body header texts files operation ahead_of_numbers program formats entries entry_list values form_for
 base_zero = refl
 
 address_length : reading none (set section 38 8) ≡ Err (fault kinds.AddressLength 37)
-unfolding reading units unit unit_body header texts files operation pass program formats entries listed values form_for
+unfolding reading units unit unit_body header texts files operation ahead_of_numbers program formats entries entry_list values form_for
 address_length = refl
 
 line_out : reading none (set section 59 0x7D) ≡ Err (fault kinds.LineOut 60)
-unfolding reading units unit unit_body header texts files operation pass program formats entries listed values form_for
+unfolding reading units unit unit_body header texts files operation ahead_of_numbers program formats entries entry_list values form_for
 line_out = refl
 
 header_short : reading none (set section 6 18) ≡ Err (fault kinds.Short 28)
-unfolding reading units unit unit_body header texts files operation pass program formats entries listed values form_for
+unfolding reading units unit unit_body header texts files operation ahead_of_numbers program formats entries entry_list values form_for
 header_short = refl
 
 header_past : reading none (set section 6 62) ≡ Err (fault kinds.Short 6)
-unfolding reading units unit unit_body header texts files operation pass program formats entries listed values form_for
+unfolding reading units unit unit_body header texts files operation ahead_of_numbers program formats entries entry_list values form_for
 header_past = refl
 
 text_short : reading none (set section 6 22) ≡ Err (fault kinds.Short 29)
-unfolding reading units unit unit_body header texts files operation pass program formats entries listed values form_for
+unfolding reading units unit unit_body header texts files operation ahead_of_numbers program formats entries entry_list values form_for
 text_short = refl
 
 -- an advance whose number doesn't fit 64 bits, in place of the program
 wide : reading none (44 ∷ drop 1 (take 37 section) ++ 2 ∷ 255 ∷ 255 ∷ 255 ∷ 255 ∷ 255 ∷ 255 ∷ 255 ∷ 255 ∷ 255 ∷ 2 ∷ []) ≡ Err (fault kinds.Wide 38)
-unfolding reading units unit unit_body header texts files operation pass program formats entries listed values form_for
+unfolding reading units unit unit_body header texts files operation ahead_of_numbers program formats entries entry_list values form_for
 wide = refl
 
 -- the relation holds of small cases
@@ -150,26 +150,26 @@ five_rows : reading none five ≡ Ok (record {
       ∷ [];
   skipped = 0;
 })
-unfolding reading units unit unit_body header texts files operation pass program formats entries listed values form_for
+unfolding reading units unit unit_body header texts files operation ahead_of_numbers program formats entries entry_list values form_for
 five_rows = refl
 
 address_size : reading none (set five 6 4) ≡ Err (fault kinds.AddressSize 6)
-unfolding reading units unit unit_body header texts files operation pass program formats entries listed values form_for
+unfolding reading units unit unit_body header texts files operation ahead_of_numbers program formats entries entry_list values form_for
 address_size = refl
 
 form_out : reading none (set five 32 0x1A) ≡ Err (fault kinds.FormOut 32)
-unfolding reading units unit unit_body header texts files operation pass program formats entries listed values form_for
+unfolding reading units unit unit_body header texts files operation ahead_of_numbers program formats entries entry_list values form_for
 form_out = refl
 
 text_out : reading none (set five 32 0x0e) ≡ Err (fault kinds.TextOut 34)
-unfolding reading units unit unit_body header texts files operation pass program formats entries listed values form_for
+unfolding reading units unit unit_body header texts files operation ahead_of_numbers program formats entries entry_list values form_for
 text_out = refl
 
 segment_size : reading none (set five 7 4) ≡ Err (fault kinds.SegmentSize 7)
-unfolding reading units unit unit_body header texts files operation pass program formats entries listed values form_for
+unfolding reading units unit unit_body header texts files operation ahead_of_numbers program formats entries entry_list values form_for
 segment_size = refl
 
 -- units of other versions are passed over
 other_versions : reading none (set five 4 6 ++ section) ≡ (reading none section >>= λ t. Ok (record t { skipped = 1 }))
-unfolding reading units unit unit_body header texts files operation pass program formats entries listed values form_for
+unfolding reading units unit unit_body header texts files operation ahead_of_numbers program formats entries entry_list values form_for
 other_versions = refl

@@ -9,7 +9,7 @@ use Rattle.dwarf_lines.specs.declared.LineFault.{LineFault}
 use Rattle.dwarf_lines.specs.declared.LineKind.TheVariants as kinds
 use Rattle.dwarf_lines.specs.Registers.{File, Header, directory, Operation, AdvanceLine, FixedAdvancePc, Special, EndSequence, SetAddress, DefineFile, Pass}
 use Rattle.dwarf_lines.specs.Spelling.{IsUleb, SpellsText, SpellsFile, SpellsExtended, Spells}
-use Rattle.dwarf_lines.specs.Reading.{fault, field, leb_field, byte, half, unsigned, file, extended, body, extended_at, below_base, operation, with_signed, with_half}
+use Rattle.dwarf_lines.specs.Reading.{fault, field, leb_field, byte, half_field, unsigned_field, file, extended_operations, body, extended_at, below_base, operation, with_signed, with_half}
 use Rattle.dwarf_lines.proofs.Programs.{bind_ok}
 use Rattle.dwarf_lines.proofs.Opcodes.{Consumes-then, unsigned_takes, standard_takes, leb_ok, After}
 use Rattle.dwarf_lines.proofs.Headers.{field_ok, ok_is, one_takes, Follows, named_takes}
@@ -64,7 +64,7 @@ third_takes h false a op fits is e =
     subst (λ (o : Operation). IsBodyOf h o (3 ∷ a.bytes)) (op_is (DefineFile x.0.0) op x.2)
     (λ code s. (c.code, x.0.1.bytes, subst (λ (z : List ℕ). SpellsExtended (3 ∷ z) code) c.parts s, c.is, not_five h.version is))
 
-number_takes : (h : Header) (place e : ℕ) (a : Ahead) (op : Operation) → IsBytes a.bytes → get_or (extended h place (length a.bytes + 1)) e (λ rest. Ok Pass) a ≡ Ok op → IsBodyOf h op (e ∷ a.bytes)
+number_takes : (h : Header) (place e : ℕ) (a : Ahead) (op : Operation) → IsBytes a.bytes → get_or (extended_operations h place (length a.bytes + 1)) e (λ rest. Ok Pass) a ≡ Ok op → IsBodyOf h op (e ∷ a.bytes)
 number_takes h place zero a op fits e = passed_body h 0 a.bytes op (λ f. cc) (λ f. cc) (λ f. cc) (op_is Pass op e)
 number_takes h place (suc zero) a op fits e = subst (λ (o : Operation). IsBodyOf h o (1 ∷ a.bytes)) (op_is EndSequence op e) (λ code is. (a.bytes, is))
 number_takes h place (suc (suc zero)) a op fits e = address_takes h place (length a.bytes + 1 == 9) a op fits refl e
@@ -82,7 +82,7 @@ body_on h place first (b ∷ bs) op fits e =
     let c = one_takes a x.0.1 x.0.0 fits x.1 in
     let whole : b ∷ bs ≡ x.0.0 ∷ x.0.1.bytes = c.parts ∙ ap (λ (z : List ℕ). z ++ x.0.1.bytes) c.is in
     let size : length (b ∷ bs) ≡ length x.0.1.bytes + 1 = ap (λ (z : List ℕ). length z) whole ∙ more (length x.0.1.bytes) in
-    let same = subst (λ (n : ℕ). get_or (extended h place n) x.0.0 (λ rest. Ok Pass) x.0.1 ≡ Ok op) size x.2 in
+    let same = subst (λ (n : ℕ). get_or (extended_operations h place n) x.0.0 (λ rest. Ok Pass) x.0.1 ≡ Ok op) size x.2 in
     subst (IsBodyOf h op) (sym whole) (number_takes h place x.0.0 x.0.1 op c.rest same)
 
 body_takes : (h : Header) (place : ℕ) (a : Ahead) (op : Operation) → IsBytes a.bytes → body h place a ≡ Ok op → IsBodyOf h op a.bytes
@@ -93,7 +93,7 @@ together h op n a p x y is size part = is (0 ∷ (x ++ y)) (x, ap (λ (z : List 
 
 pub extended_takes : (h : Header) (place : ℕ) (a : Ahead) (y : Operation × Ahead) → IsBytes a.bytes → extended_at h place a ≡ Ok y → Consumes (After h 0 y.0) a y.1
 extended_takes h place a y fits e =
-    let size = bind_ok (unsigned a) _ y e in
+    let size = bind_ok (unsigned_field a) _ y e in
     let c = unsigned_takes a size.0.1 size.0.0 fits size.1 in
     let inside = bind_ok (field (part_at size.0.0 size.0.1)) _ y size.2 in
     let d = part_takes size.0.0 size.0.1 inside.0.0 inside.0.1 c.rest (field_ok _ _ inside.1) in
@@ -113,7 +113,7 @@ signed_operand h op a b fits below e =
 
 half_operand : (h : Header) (op : Operation) (a b : Ahead) → IsBytes a.bytes → 9 < h.opcode_base → with_half FixedAdvancePc a ≡ Ok (op, b) → Consumes (After h 9 op) a b
 half_operand h op a b fits below e =
-    let x = bind_ok (half a) _ (op, b) e in
+    let x = bind_ok (half_field a) _ (op, b) e in
     let c = half_takes a x.0.1 x.0.0 fits (field_ok _ _ x.1) in
     subst (λ (y : Operation × Ahead). Consumes (After h 9 y.0) a y.1) (ok_is (FixedAdvancePc x.0.0, x.0.1) (op, b) x.2)
     (mapped_to (IsNumber w16 (2 ^ 16) x.0.0) (After h 9 (FixedAdvancePc x.0.0)) a x.0.1 (λ code is. ((code, refl, omega arith, below, is.0), is.1)) c)

@@ -12,7 +12,7 @@ use Rattle.dwarf_lines.specs.declared.forms.Form.TheVariants.{Own, General, Line
 use Rattle.dwarf_lines.specs.declared.forms.Format.{Format}
 use Rattle.dwarf_lines.specs.Registers.{Header, File}
 use Rattle.dwarf_lines.specs.Names.{Strings, Value, Text, Number, Other, Entry, form_for, paths, files_of, directory_of}
-use Rattle.dwarf_lines.specs.Reading.{fault, field, wanted, byte, half, word, unsigned, byte_that, texts, files, text_in, own_text, number, other, block, value, allowed, format, formats, values, entry, entries, listed, Names, names, sizes, operations, header}
+use Rattle.dwarf_lines.specs.Reading.{fault, field, check, byte, half_field, word, unsigned_field, byte_that, texts, files, text_in, own_text, number, other_value, block, value, allowed_form, format, formats, values, entry, entries, entry_list, Names, names, sizes, operations, header}
 use Rattle.dwarf_lines.proofs.Programs.{bind_ok, wanted_ok}
 use Rattle.dwarf_lines.proofs.Headers.{field_ok}
 use Rattle.dwarf_lines.proofs.Shorter.{IsLess, IsMost, second, ok_is, made_is, bytes_left, number_left, byte_left, text_less, unsigned_less, texts_most, files_few}
@@ -34,7 +34,7 @@ number_less r a b v less e =
     let n = bind_ok r _ (v, b) e in
     subst (IsLess a) (second (Number n.0.0) v n.0.1 b n.2) (less n.0.0 n.0.1 n.1)
 
-other_less : (r : Reading (List ℕ) LineFault) (a b : Ahead) (v : Value) → ((x : List ℕ) (c : Ahead) → r ≡ Ok (x, c) → IsLess a c) → other r ≡ Ok (v, b) → IsLess a b
+other_less : (r : Reading (List ℕ) LineFault) (a b : Ahead) (v : Value) → ((x : List ℕ) (c : Ahead) → r ≡ Ok (x, c) → IsLess a c) → other_value r ≡ Ok (v, b) → IsLess a b
 other_less r a b v less e =
     let x = bind_ok r _ (v, b) e in
     subst (IsLess a) (second Other v x.0.1 b x.2) (less x.0.0 x.0.1 x.1)
@@ -49,7 +49,7 @@ fixed_less k a c x some e = omega (arith, some, bytes_left k a c x (field_ok (by
 
 block_less : (a c : Ahead) (x : List ℕ) → block a ≡ Ok (x, c) → IsLess a c
 block_less a c x e =
-    let size = bind_ok (unsigned a) _ (x, c) e in
+    let size = bind_ok (unsigned_field a) _ (x, c) e in
     omega (arith, unsigned_less a size.0.1 size.0.0 size.1, bytes_left size.0.0 size.0.1 c x (field_ok (bytes_at size.0.0 size.0.1) (x, c) size.2))
 
 value_less : (strings : Strings) (form : Form) (a b : Ahead) (v : Value) → value strings form a ≡ Ok (v, b) → IsLess a b
@@ -57,8 +57,8 @@ value_less strings Own a b v e = own_less a b v e
 value_less strings General a b v e = place_less strings.general a b v e
 value_less strings Line a b v e = place_less strings.line a b v e
 value_less strings Byte a b v e = number_less (byte a) a b v (λ n c f. omega (arith, byte_left a c n f)) e
-value_less strings Half a b v e = number_less (half a) a b v (λ n c f. omega (arith, number_left w16 a c n f)) e
-value_less strings Leb a b v e = number_less (unsigned a) a b v (λ n c f. unsigned_less a c n f) e
+value_less strings Half a b v e = number_less (half_field a) a b v (λ n c f. omega (arith, number_left w16 a c n f)) e
+value_less strings Leb a b v e = number_less (unsigned_field a) a b v (λ n c f. unsigned_less a c n f) e
 value_less strings Four a b v e = other_less (field (bytes_at 4 a)) a b v (λ x c f. fixed_less 4 a c x (omega arith) f) e
 value_less strings Eight a b v e = other_less (field (bytes_at 8 a)) a b v (λ x c f. fixed_less 8 a c x (omega arith) f) e
 value_less strings Sixteen a b v e = other_less (field (bytes_at 16 a)) a b v (λ x c f. fixed_less 16 a c x (omega arith) f) e
@@ -111,9 +111,9 @@ no_entries strings fs a b xs e = fit_is [] xs a a b e (omega arith)
 
 format_most : (a b : Ahead) (f : Format) → format a ≡ Ok (f, b) → IsMost a b
 format_most a b f e =
-    let content = bind_ok (unsigned a) _ (f, b) e in
-    let code = bind_ok (unsigned content.0.1) _ (f, b) content.2 in
-    let form = bind_ok (allowed (form_for content.0.0 code.0.0) content.0.1.place) _ (f, b) code.2 in
+    let content = bind_ok (unsigned_field a) _ (f, b) e in
+    let code = bind_ok (unsigned_field content.0.1) _ (f, b) content.2 in
+    let form = bind_ok (allowed_form (form_for content.0.0 code.0.0) content.0.1.place) _ (f, b) code.2 in
     let first = unsigned_less a content.0.1 content.0.0 content.1 in
     let next = unsigned_less content.0.1 code.0.1 code.0.0 code.1 in
     subst (IsMost a) (second _ f code.0.1 b form.2) (omega (arith, first, next))
@@ -140,13 +140,13 @@ counted_few zero n strings fs a b xs len fine e =
     no_entries strings fs a b xs (subst (λ (m : ℕ). entries m strings fs a ≡ Ok (xs, b)) none e)
 counted_few (suc count) n strings fs a b xs len fine e = entries_few n strings fs a b xs (omega (arith, len)) e
 
-listed_few : (strings : Strings) (a b : Ahead) (xs : List Entry) → listed strings a ≡ Ok (xs, b) → Fit xs a b
-unfolding listed
+listed_few : (strings : Strings) (a b : Ahead) (xs : List Entry) → entry_list strings a ≡ Ok (xs, b) → Fit xs a b
+unfolding entry_list
 listed_few strings a b xs e =
     let count = bind_ok (byte a) _ (xs, b) e in
     let fs = bind_ok (formats count.0.0 count.0.1) _ (xs, b) count.2 in
-    let n = bind_ok (unsigned fs.0.1) _ (xs, b) fs.2 in
-    let fine = bind_ok (wanted (nat_lt 0 count.0.0 || n.0.0 == 0) kinds.EmptyEntries fs.0.1.place n.0) _ (xs, b) n.2 in
+    let n = bind_ok (unsigned_field fs.0.1) _ (xs, b) fs.2 in
+    let fine = bind_ok (check (nat_lt 0 count.0.0 || n.0.0 == 0) kinds.EmptyEntries fs.0.1.place n.0) _ (xs, b) n.2 in
     let w = wanted_ok (nat_lt 0 count.0.0 || n.0.0 == 0) kinds.EmptyEntries fs.0.1.place n.0 fine.0 fine.1 in
     let so = formats_so count.0.0 count.0.1 fs.0.1 fs.0.0 fs.1 in
     let few = counted_few count.0.0 n.0.0 strings fs.0.0 n.0.1 b xs so.0 w.0 (subst (λ (z : ℕ × Ahead). entries z.0 strings fs.0.0 z.1 ≡ Ok (xs, b)) (sym w.1) fine.2) in
@@ -156,8 +156,8 @@ listed_few strings a b xs e =
 
 names_few : (five : Bool) (strings : Strings) (a : Ahead) (y : Names × Ahead) → names five strings a ≡ Ok y → length y.0.files ≤ length a.bytes
 names_few true strings a y e =
-    let ds = bind_ok (listed strings a) _ y e in
-    let fs = bind_ok (listed strings ds.0.1) _ y ds.2 in
+    let ds = bind_ok (entry_list strings a) _ y e in
+    let fs = bind_ok (entry_list strings ds.0.1) _ y ds.2 in
     let first = listed_few strings a ds.0.1 ds.0.0 ds.1 in
     let next = listed_few strings ds.0.1 fs.0.1 fs.0.0 fs.1 in
     let made : Names = record { directories = paths ds.0.0; files = files_of (paths ds.0.0) fs.0.0 } in

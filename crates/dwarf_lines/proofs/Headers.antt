@@ -13,7 +13,7 @@ use Rattle.dwarf_lines.specs.declared.LineKind.TheVariants as kinds
 use Rattle.dwarf_lines.specs.Registers.{File, directory}
 use Rattle.dwarf_lines.specs.Spelling.{IsUleb, SpellsText, SpellsFile, SpellsAll}
 use Rattle.dwarf_lines.specs.Spelling as spelled
-use Rattle.dwarf_lines.specs.Reading.{field, byte, byte_that, unsigned, operations, texts, named, files}
+use Rattle.dwarf_lines.specs.Reading.{field, byte, byte_that, unsigned_field, operations, texts, file_named, files}
 use Rattle.dwarf_lines.proofs.Programs.{bind_ok, wanted_ok}
 use Rattle.dwarf_lines.proofs.Opcodes.{Consumes-then, unsigned_takes}
 
@@ -97,11 +97,11 @@ Follows directories name file code =
     × (code ≡ number ++ (time ++ size)) × IsUleb n number × IsUleb t time × IsUleb z size
     × (record { directory = directory directories n; name = name } ≡ file)
 
-pub named_takes : (directories : List (List ℕ)) (name : List ℕ) (a : Ahead) (y : File × Ahead) → IsBytes a.bytes → named directories name a ≡ Ok y → Consumes (Follows directories name y.0) a y.1
+pub named_takes : (directories : List (List ℕ)) (name : List ℕ) (a : Ahead) (y : File × Ahead) → IsBytes a.bytes → file_named directories name a ≡ Ok y → Consumes (Follows directories name y.0) a y.1
 named_takes directories name a y fits e =
-    let n = bind_ok (unsigned a) _ y e in
-    let t = bind_ok (unsigned n.0.1) _ y n.2 in
-    let z = bind_ok (unsigned t.0.1) _ y t.2 in
+    let n = bind_ok (unsigned_field a) _ y e in
+    let t = bind_ok (unsigned_field n.0.1) _ y n.2 in
+    let z = bind_ok (unsigned_field t.0.1) _ y t.2 in
     let cn = unsigned_takes a n.0.1 n.0.0 fits n.1 in
     let ct = unsigned_takes n.0.1 t.0.1 t.0.0 cn.rest t.1 in
     let cz = unsigned_takes t.0.1 z.0.1 z.0.0 ct.rest z.1 in
@@ -135,12 +135,12 @@ not_longer P a b c = rw c.parts (omega (arith, length-append c.code b.bytes))
 
 files_go : (n : ℕ) (directories : List (List ℕ)) (name : List ℕ) (a after b : Ahead) (fs : List File) → IsBytes a.bytes → Consumes (IsEnded name) a after
     → ((c d : Ahead) (gs : List File) → IsBytes c.bytes → length c.bytes ≤ length after.bytes → files n directories c ≡ Ok (gs, d) → Consumes (AreFiles directories gs) c d)
-    → (elim name as (λ x. Reading (List File) LineFault) [ [] ↦ Ok ([], after) | ◌∷◌ b bs ↦ named directories name after >>= λ first. files n directories first.1 >>= λ more. Ok (first.0 ∷ more.0, more.1) ]) ≡ Ok (fs, b)
+    → (elim name as (λ x. Reading (List File) LineFault) [ [] ↦ Ok ([], after) | ◌∷◌ b bs ↦ file_named directories name after >>= λ first. files n directories first.1 >>= λ more. Ok (first.0 ∷ more.0, more.1) ]) ≡ Ok (fs, b)
     → Consumes (AreFiles directories fs) a b
 files_go n directories [] a after b fs fits c again e =
     subst (λ (y : List File × Ahead). Consumes (AreFiles directories y.0) a y.1) (ok_is ([], after) (fs, b) e) (mapped_to (IsEnded []) (AreFiles directories []) a after (files_end directories) c)
 files_go n directories (t ∷ name) a after b fs fits c again e =
-    let f = bind_ok (named directories (t ∷ name) after) _ (fs, b) e in
+    let f = bind_ok (file_named directories (t ∷ name) after) _ (fs, b) e in
     let x = bind_ok (files n directories f.0.1) _ (fs, b) f.2 in
     let cf = named_takes directories (t ∷ name) after f.0 c.rest f.1 in
     let one : Consumes (λ code. SpellsFile directories f.0.0 code × (0 < length f.0.0.name)) a f.0.1 =

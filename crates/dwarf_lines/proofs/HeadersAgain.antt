@@ -11,7 +11,7 @@ use Rattle.dwarf_lines.specs.declared.LineKind.TheVariants as kinds
 use Rattle.dwarf_lines.specs.Registers.{File, directory}
 use Rattle.dwarf_lines.specs.Spelling.{IsUleb, SpellsAll, SpellsText, SpellsFile}
 use Rattle.dwarf_lines.specs.Spelling as spelled
-use Rattle.dwarf_lines.specs.Reading.{field, wanted, byte, byte_that, unsigned, operations, texts, named, files}
+use Rattle.dwarf_lines.specs.Reading.{field, check, byte, byte_that, unsigned_field, operations, texts, file_named, files}
 use Rattle.dwarf_lines.proofs.Again.{unsigned_back, bind_to}
 
 pub bind_through : {A B : Type 0} (r : Result A LineFault) (f : A → Result B LineFault) (x : A) (y : Result B LineFault) → r ≡ Ok x → f x ≡ y → (r >>= f) ≡ y
@@ -24,7 +24,7 @@ ReadsTo r x rest = (q : ℕ) × (r ≡ Ok (x, ahead q rest))
 pub byte_back : (n place : ℕ) (rest : List ℕ) → byte (ahead place (n ∷ rest)) ≡ Ok (n, ahead (place + 1) rest)
 byte_back n place rest = ap field (byte_again n place rest)
 
-pub wanted_back : {X : Type 0} (holds : Bool) (kind : LineKind) (place : ℕ) (x : X) → holds ≡ true → wanted holds kind place x ≡ Ok x
+pub wanted_back : {X : Type 0} (holds : Bool) (kind : LineKind) (place : ℕ) (x : X) → holds ≡ true → check holds kind place x ≡ Ok x
 wanted_back true kind place x e = refl
 wanted_back false kind place x e = absurd cc
 
@@ -72,22 +72,22 @@ texts_back (suc n) ((c ∷ cs) ∷ ts) x rest place is all lt =
     )
 
 named_back : (directories : List (List ℕ)) (name number time size rest : List ℕ) (n t z place : ℕ) → IsUleb n number → IsUleb t time → IsUleb z size
-    → ReadsTo (named directories name (ahead place (number ++ (time ++ (size ++ rest))))) (record { directory = directory directories n; name = name }) rest
+    → ReadsTo (file_named directories name (ahead place (number ++ (time ++ (size ++ rest))))) (record { directory = directory directories n; name = name }) rest
 named_back directories name number time size rest n t z place is-n is-t is-z = (
   place + length number + length time + length size,
-  bind_through (unsigned (ahead place (number ++ (time ++ (size ++ rest))))) _ (n, ahead (place + length number) (time ++ (size ++ rest))) _ (unsigned_back n place number (time ++ (size ++ rest)) is-n)
-      (bind_through (unsigned (ahead (place + length number) (time ++ (size ++ rest)))) _ (t, ahead (place + length number + length time) (size ++ rest)) _ (unsigned_back t (place + length number) time (size ++ rest) is-t)
-      (bind_through (unsigned (ahead (place + length number + length time) (size ++ rest))) _ (z, ahead (place + length number + length time + length size) rest) _ (unsigned_back z (place + length number + length time) size rest is-z) refl)),
+  bind_through (unsigned_field (ahead place (number ++ (time ++ (size ++ rest))))) _ (n, ahead (place + length number) (time ++ (size ++ rest))) _ (unsigned_back n place number (time ++ (size ++ rest)) is-n)
+      (bind_through (unsigned_field (ahead (place + length number) (time ++ (size ++ rest)))) _ (t, ahead (place + length number + length time) (size ++ rest)) _ (unsigned_back t (place + length number) time (size ++ rest) is-t)
+      (bind_through (unsigned_field (ahead (place + length number + length time) (size ++ rest))) _ (z, ahead (place + length number + length time + length size) rest) _ (unsigned_back z (place + length number + length time) size rest is-z) refl)),
 )
 
 abbrev files_next : ℕ → List (List ℕ) → List ℕ × Ahead → Reading (List File) LineFault
-files_next n directories name = elim (name.0) [ [] ↦ Ok ([], name.1) | b ∷ bs ↦ named directories name.0 name.1 >>= λ first. files n directories first.1 >>= λ more. Ok (first.0 ∷ more.0, more.1) ]
+files_next n directories name = elim (name.0) [ [] ↦ Ok ([], name.1) | b ∷ bs ↦ file_named directories name.0 name.1 >>= λ first. files n directories first.1 >>= λ more. Ok (first.0 ∷ more.0, more.1) ]
 
 files_read : (n : ℕ) (directories : List (List ℕ)) (place : ℕ) (t rest : List ℕ) → AllByRecursion (λ b. 0 < b) t → files (suc n) directories (ahead place ((t ++ 0 ∷ []) ++ rest)) ≡ files_next n directories (t, ahead (place + suc (length t)) rest)
 unfolding files
 files_read n directories place t rest all = bind_to (field (text_at (ahead place ((t ++ 0 ∷ []) ++ rest)))) (files_next n directories) (t, ahead (place + suc (length t)) rest) (ap field (text_again place t rest all))
 
-next_is : (n : ℕ) (directories : List (List ℕ)) (name : List ℕ) (a : Ahead) → 0 < length name → files_next n directories (name, a) ≡ (named directories name a >>= λ first. files n directories first.1 >>= λ more. let y : List File × Ahead = (first.0 ∷ more.0, more.1) in Ok y)
+next_is : (n : ℕ) (directories : List (List ℕ)) (name : List ℕ) (a : Ahead) → 0 < length name → files_next n directories (name, a) ≡ (file_named directories name a >>= λ first. files n directories first.1 >>= λ more. let y : List File × Ahead = (first.0 ∷ more.0, more.1) in Ok y)
 next_is n directories [] a some = absurd (omega arith)
 next_is n directories (c ∷ cs) a some = refl
 
@@ -109,6 +109,6 @@ files_back (suc n) directories (f ∷ fs) x rest place (front, others, parts, (n
       ap (λ (v : List ℕ). files (suc n) directories (ahead place v)) (split x front others rest parts ∙ line)
           ∙ files_read n directories place f.name (number ++ (time ++ (size ++ after))) text.0
           ∙ next_is n directories f.name (ahead (place + suc (length f.name)) (number ++ (time ++ (size ++ after)))) all.0
-          ∙ bind_through (named directories f.name (ahead (place + suc (length f.name)) (number ++ (time ++ (size ++ after))))) _ (made, ahead first.0 after) _ first.1
+          ∙ bind_through (file_named directories f.name (ahead (place + suc (length f.name)) (number ++ (time ++ (size ++ after))))) _ (made, ahead first.0 after) _ first.1
           (bind_through (files n directories (ahead first.0 after)) _ (fs, ahead more.0 rest) _ more.1 (ap (λ (g : File). Ok (g ∷ fs, ahead more.0 rest)) same)),
     )

@@ -14,7 +14,7 @@ use Rattle.dwarf_lines.specs.declared.forms.Form.TheVariants.{Own, General, Line
 use Rattle.dwarf_lines.specs.declared.forms.Format.{Format}
 use Rattle.dwarf_lines.specs.Names.{Strings, form_for, Value, Text, Number, Other, Entry, paths, files_of}
 use Rattle.dwarf_lines.specs.Spelling.{IsUleb, SpellsAll, SpellsPlace, SpellsValue, SpellsFormat, SpellsValues, SpellsEntry, SpellsListed}
-use Rattle.dwarf_lines.specs.Reading.{fault, field, wanted, byte, half, word, unsigned, text_in, own_text, number, other, block, value, allowed, format, formats, values, entry, entries, listed, Names, names_5}
+use Rattle.dwarf_lines.specs.Reading.{fault, field, check, byte, half_field, word, unsigned_field, text_in, own_text, number, other_value, block, value, allowed_form, format, formats, values, entry, entries, entry_list, Names, names_5}
 use Rattle.dwarf_lines.proofs.Again.{unsigned_back}
 use Rattle.dwarf_lines.proofs.HeadersAgain.{bind_through, ReadsTo, byte_back, wanted_back}
 
@@ -46,7 +46,7 @@ place_back texts v place code rest (n, text, whole, small, (spare, there, all), 
 number_back : (reads : Reading ℕ LineFault) (n : ℕ) (v : Value) (rest : List ℕ) → ReadsTo reads n rest → v ≡ Number n → ReadsTo (number reads) v rest
 number_back reads n v rest read is = (read.0, bind_through reads _ (n, ahead read.0 rest) _ read.1 (ap (λ (w : Value). Ok (w, ahead read.0 rest)) (sym is)))
 
-other_back : (reads : Reading (List ℕ) LineFault) (x : List ℕ) (v : Value) (rest : List ℕ) → ReadsTo reads x rest → v ≡ Other → ReadsTo (other reads) v rest
+other_back : (reads : Reading (List ℕ) LineFault) (x : List ℕ) (v : Value) (rest : List ℕ) → ReadsTo reads x rest → v ≡ Other → ReadsTo (other_value reads) v rest
 other_back reads x v rest read is = (read.0, bind_through reads _ (x, ahead read.0 rest) _ read.1 (ap (λ (w : Value). Ok (w, ahead read.0 rest)) (sym is)))
 
 sized_back : (n place : ℕ) (code rest : List ℕ) → length code ≡ n → ReadsTo (field (bytes_at n (ahead place (code ++ rest)))) code rest
@@ -56,23 +56,23 @@ block_back : (place : ℕ) (size x code rest : List ℕ) → code ≡ size ++ x 
 block_back place size x code rest whole u = (
   place + length size + length x,
   ap (λ (z : List ℕ). block (ahead place z)) (ap (λ (z : List ℕ). z ++ rest) whole ∙ append_assoc size x rest)
-      ∙ bind_through (unsigned (ahead place (size ++ (x ++ rest)))) _ (length x, ahead (place + length size) (x ++ rest)) _ (unsigned_back (length x) place size (x ++ rest) u)
+      ∙ bind_through (unsigned_field (ahead place (size ++ (x ++ rest)))) _ (length x, ahead (place + length size) (x ++ rest)) _ (unsigned_back (length x) place size (x ++ rest) u)
       (ap field (bytes_again (length x) (place + length size) x rest refl)),
 )
 
 byte_read : (n place : ℕ) (code rest : List ℕ) → code ≡ n ∷ [] → ReadsTo (byte (ahead place (code ++ rest))) n rest
 byte_read n place code rest whole = (place + 1, ap (λ (z : List ℕ). byte (ahead place (z ++ rest))) whole ∙ byte_back n place rest)
 
-half_read : (n place : ℕ) (code rest : List ℕ) → code ≡ to_le_bytes w16 n → n < 2 ^ 16 → ReadsTo (half (ahead place (code ++ rest))) n rest
-half_read n place code rest whole small = (place + 2, ap (λ (z : List ℕ). half (ahead place (z ++ rest))) whole ∙ ap field (half_again n place rest small))
+half_read : (n place : ℕ) (code rest : List ℕ) → code ≡ to_le_bytes w16 n → n < 2 ^ 16 → ReadsTo (half_field (ahead place (code ++ rest))) n rest
+half_read n place code rest whole small = (place + 2, ap (λ (z : List ℕ). half_field (ahead place (z ++ rest))) whole ∙ ap field (half_again n place rest small))
 
 pub value_back : (strings : Strings) (form : Form) (v : Value) (place : ℕ) (code rest : List ℕ) → SpellsValue strings form v code → ReadsTo (value strings form (ahead place (code ++ rest))) v rest
 value_back strings Own v place code rest is = own_back v strings place code rest is
 value_back strings General v place code rest is = place_back strings.general v place code rest is
 value_back strings Line v place code rest is = place_back strings.line v place code rest is
 value_back strings Byte v place code rest (n, whole, is) = number_back (byte (ahead place (code ++ rest))) n v rest (byte_read n place code rest whole) is
-value_back strings Half v place code rest (n, whole, small, is) = number_back (half (ahead place (code ++ rest))) n v rest (half_read n place code rest whole small) is
-value_back strings Leb v place code rest (n, u, is) = number_back (unsigned (ahead place (code ++ rest))) n v rest (place + length code, unsigned_back n place code rest u) is
+value_back strings Half v place code rest (n, whole, small, is) = number_back (half_field (ahead place (code ++ rest))) n v rest (half_read n place code rest whole small) is
+value_back strings Leb v place code rest (n, u, is) = number_back (unsigned_field (ahead place (code ++ rest))) n v rest (place + length code, unsigned_back n place code rest u) is
 value_back strings Four v place code rest (len, is) = other_back (field (bytes_at 4 (ahead place (code ++ rest)))) code v rest (sized_back 4 place code rest len) is
 value_back strings Eight v place code rest (len, is) = other_back (field (bytes_at 8 (ahead place (code ++ rest)))) code v rest (sized_back 8 place code rest len) is
 value_back strings Sixteen v place code rest (len, is) = other_back (field (bytes_at 16 (ahead place (code ++ rest)))) code v rest (sized_back 16 place code rest len) is
@@ -85,9 +85,9 @@ format_back f place code rest (content, form, n, whole, u, w, fine) =
     let p : ℕ = place + length content in (
       p + length form,
       ap (λ (z : List ℕ). format (ahead place z)) (ap (λ (z : List ℕ). z ++ rest) whole ∙ append_assoc content form rest)
-          ∙ bind_through (unsigned (ahead place (content ++ (form ++ rest)))) _ (f.content, ahead p (form ++ rest)) _ (unsigned_back f.content place content (form ++ rest) u)
-          (bind_through (unsigned (ahead p (form ++ rest))) _ (n, ahead (p + length form) rest) _ (unsigned_back n p form rest w)
-          (bind_through (allowed (form_for f.content n) p) _ f.form _ (ap (λ (o : Option Form). allowed o p) fine) refl)),
+          ∙ bind_through (unsigned_field (ahead place (content ++ (form ++ rest)))) _ (f.content, ahead p (form ++ rest)) _ (unsigned_back f.content place content (form ++ rest) u)
+          (bind_through (unsigned_field (ahead p (form ++ rest))) _ (n, ahead (p + length form) rest) _ (unsigned_back n p form rest w)
+          (bind_through (allowed_form (form_for f.content n) p) _ f.form _ (ap (λ (o : Option Form). allowed_form o p) fine) refl)),
     )
 
 formats_back : (fs : List Format) (place : ℕ) (code rest : List ℕ) → SpellsAll SpellsFormat fs code → ReadsTo (formats (length fs) (ahead place (code ++ rest))) fs rest
@@ -145,8 +145,8 @@ some_or_none : (k n : ℕ) → (0 < k) ⊎ (n ≡ 0) → (nat_lt 0 k || (n == 0)
 some_or_none k n (inl lt) = ap (λ (b : Bool). b || (n == 0)) (lt-ltb 0 k lt)
 some_or_none k n (inr none) = or_right (nat_lt 0 k) (n == 0) (ap (λ (m : ℕ). m == 0) none)
 
-listed_back : (strings : Strings) (es : List Entry) (place : ℕ) (code rest : List ℕ) → SpellsListed strings es code → ReadsTo (listed strings (ahead place (code ++ rest))) es rest
-unfolding listed
+listed_back : (strings : Strings) (es : List Entry) (place : ℕ) (code rest : List ℕ) → SpellsListed strings es code → ReadsTo (entry_list strings (ahead place (code ++ rest))) es rest
+unfolding entry_list
 listed_back strings es place code rest (fs, formatted, count, spelled, whole, are_formats, u, are_entries, some) =
     let k : ℕ = length fs in
     let n : ℕ = length es in
@@ -159,11 +159,11 @@ listed_back strings es place code rest (fs, formatted, count, spelled, whole, ar
     let q : ℕ = p + length count in
     let e = entries_back strings fs es q spelled rest are_entries in (
       e.0,
-      ap (λ (z : List ℕ). listed strings (ahead place z)) line
+      ap (λ (z : List ℕ). entry_list strings (ahead place z)) line
           ∙ bind_through (byte (ahead place (k ∷ (formatted ++ after_formats)))) _ (k, ahead (place + 1) (formatted ++ after_formats)) _ (byte_back k place (formatted ++ after_formats))
           (bind_through (formats k (ahead (place + 1) (formatted ++ after_formats))) _ (fs, ahead p after_formats) _ f.1
-          (bind_through (unsigned (ahead p after_formats)) _ (n, ahead q after_count) _ (unsigned_back n p count after_count u)
-          (bind_through (wanted (nat_lt 0 k || (n == 0)) kinds.EmptyEntries p (n, ahead q after_count)) _ (n, ahead q after_count) _ (wanted_back (nat_lt 0 k || (n == 0)) kinds.EmptyEntries p (n, ahead q after_count) (some_or_none k n some)) e.1))),
+          (bind_through (unsigned_field (ahead p after_formats)) _ (n, ahead q after_count) _ (unsigned_back n p count after_count u)
+          (bind_through (check (nat_lt 0 k || (n == 0)) kinds.EmptyEntries p (n, ahead q after_count)) _ (n, ahead q after_count) _ (wanted_back (nat_lt 0 k || (n == 0)) kinds.EmptyEntries p (n, ahead q after_count) (some_or_none k n some)) e.1))),
     )
 
 pub names_back : (strings : Strings) (directories : List (List ℕ)) (ds fs : List Entry) (place : ℕ) (code front others rest : List ℕ) → code ≡ front ++ others → SpellsListed strings ds front → SpellsListed strings fs others
@@ -174,6 +174,6 @@ names_back strings directories ds fs place code front others rest whole is-d is-
     let made : List (List ℕ) → Names = λ paths. record { directories = paths; files = files_of paths fs } in (
       f.0,
       ap (λ (z : List ℕ). names_5 strings (ahead place z)) (ap (λ (z : List ℕ). z ++ rest) whole ∙ append_assoc front others rest)
-          ∙ bind_through (listed strings (ahead place (front ++ (others ++ rest)))) _ (ds, ahead d.0 (others ++ rest)) _ d.1
-          (bind_through (listed strings (ahead d.0 (others ++ rest))) _ (fs, ahead f.0 rest) _ f.1 (ap (λ (paths : List (List ℕ)). Ok (made paths, ahead f.0 rest)) (sym same))),
+          ∙ bind_through (entry_list strings (ahead place (front ++ (others ++ rest)))) _ (ds, ahead d.0 (others ++ rest)) _ d.1
+          (bind_through (entry_list strings (ahead d.0 (others ++ rest))) _ (fs, ahead f.0 rest) _ f.1 (ap (λ (paths : List (List ℕ)). Ok (made paths, ahead f.0 rest)) (sym same))),
     )

@@ -11,7 +11,7 @@ use Rattle.dwarf_lines.specs.declared.forms.Form.TheVariants.{Own, General, Line
 use Rattle.dwarf_lines.specs.declared.forms.Format.{Format}
 use Rattle.dwarf_lines.specs.Names.{Strings, form_for, Value, Text, Number, Other, Entry, empty_entry, entry_of, paths, files_of}
 use Rattle.dwarf_lines.specs.Spelling.{IsUleb, SpellsAll, SpellsPlace, SpellsValue, SpellsFormat, SpellsValues, SpellsEntry, SpellsListed, SpellsNames}
-use Rattle.dwarf_lines.specs.Reading.{fault, field, wanted, byte, half, word, unsigned, text_in, own_text, number, other, block, value, allowed, format, formats, values, entry, entries, listed, Names, names_5}
+use Rattle.dwarf_lines.specs.Reading.{fault, field, check, byte, half_field, word, unsigned_field, text_in, own_text, number, other_value, block, value, allowed_form, format, formats, values, entry, entries, entry_list, Names, names_5}
 use Rattle.dwarf_lines.proofs.Programs.{bind_ok, wanted_ok}
 use Rattle.dwarf_lines.proofs.Opcodes.{Consumes-then, unsigned_takes}
 use Rattle.dwarf_lines.proofs.Headers.{field_ok, ok_is, one_takes, stays}
@@ -48,7 +48,7 @@ numbered Is P reads a y takes into e =
     subst (λ (z : Value × Ahead). Consumes (P z.0) a z.1) (ok_is (Number x.0.0, x.0.1) y x.2) (mapped_to (Is x.0.0) (P (Number x.0.0)) a x.0.1 (into x.0.0) (takes x.0.0 x.0.1 x.1))
 
 othered : (Is : List ℕ → List ℕ → Type 0) (P : Value → List ℕ → Type 0) (reads : Reading (List ℕ) LineFault) (a : Ahead) (y : Value × Ahead)
-    → ((x : List ℕ) (b : Ahead) → reads ≡ Ok (x, b) → Consumes (Is x) a b) → ((x code : List ℕ) → Is x code → P Other code) → other reads ≡ Ok y → Consumes (P y.0) a y.1
+    → ((x : List ℕ) (b : Ahead) → reads ≡ Ok (x, b) → Consumes (Is x) a b) → ((x code : List ℕ) → Is x code → P Other code) → other_value reads ≡ Ok y → Consumes (P y.0) a y.1
 othered Is P reads a y takes into e =
     let x = bind_ok reads _ y e in
     subst (λ (z : Value × Ahead). Consumes (P z.0) a z.1) (ok_is (Other, x.0.1) y x.2) (mapped_to (Is x.0.0) (P Other) a x.0.1 (into x.0.0) (takes x.0.0 x.0.1 x.1))
@@ -67,7 +67,7 @@ IsBlock x code = (size : List ℕ) × (block : List ℕ) × (code ≡ size ++ bl
 
 block_takes : (a : Ahead) (x : List ℕ) (b : Ahead) → IsBytes a.bytes → block a ≡ Ok (x, b) → Consumes (IsBlock x) a b
 block_takes a x b fits e =
-    let size = bind_ok (unsigned a) _ (x, b) e in
+    let size = bind_ok (unsigned_field a) _ (x, b) e in
     let c = unsigned_takes a size.0.1 size.0.0 fits size.1 in
     Consumes-then (IsUleb size.0.0) (AreBytes size.0.0 x) (IsBlock x) a size.0.1 b
     (λ front rest u is. (front, rest, refl, subst (λ (k : ℕ). IsUleb k front) (sym (long size.0.0 x rest is)) u)) c (sized size.0.0 size.0.1 x b c.rest size.2)
@@ -77,8 +77,8 @@ value_takes strings Own a y fits e = own_takes strings a y fits e
 value_takes strings General a y fits e = place_takes strings.general a y fits e
 value_takes strings Line a y fits e = place_takes strings.line a y fits e
 value_takes strings Byte a y fits e = numbered (λ n code. code ≡ n ∷ []) (SpellsValue strings Byte) (byte a) a y (λ n b r. one_takes a b n fits r) (λ n code is. (n, is, refl)) e
-value_takes strings Half a y fits e = numbered (IsNumber w16 (2 ^ 16)) (SpellsValue strings Half) (half a) a y (λ n b r. half_takes a b n fits (field_ok _ _ r)) (λ n code is. (n, is.0, is.1, refl)) e
-value_takes strings Leb a y fits e = numbered IsUleb (SpellsValue strings Leb) (unsigned a) a y (λ n b r. unsigned_takes a b n fits r) (λ n code is. (n, is, refl)) e
+value_takes strings Half a y fits e = numbered (IsNumber w16 (2 ^ 16)) (SpellsValue strings Half) (half_field a) a y (λ n b r. half_takes a b n fits (field_ok _ _ r)) (λ n code is. (n, is.0, is.1, refl)) e
+value_takes strings Leb a y fits e = numbered IsUleb (SpellsValue strings Leb) (unsigned_field a) a y (λ n b r. unsigned_takes a b n fits r) (λ n code is. (n, is, refl)) e
 value_takes strings Four a y fits e = othered (AreBytes 4) (SpellsValue strings Four) (field (bytes_at 4 a)) a y (λ x b r. sized 4 a x b fits r) (λ x code is. (long 4 x code is, refl)) e
 value_takes strings Eight a y fits e = othered (AreBytes 8) (SpellsValue strings Eight) (field (bytes_at 8 a)) a y (λ x b r. sized 8 a x b fits r) (λ x code is. (long 8 x code is, refl)) e
 value_takes strings Sixteen a y fits e = othered (AreBytes 16) (SpellsValue strings Sixteen) (field (bytes_at 16 a)) a y (λ x b r. sized 16 a x b fits r) (λ x code is. (long 16 x code is, refl)) e
@@ -86,15 +86,15 @@ value_takes strings Block a y fits e = othered IsBlock (SpellsValue strings Bloc
 
 -- ---- formats
 
-allowed_ok : (o : Option Form) (place : ℕ) (form : Form) → allowed o place ≡ Ok form → o ≡ Some form
+allowed_ok : (o : Option Form) (place : ℕ) (form : Form) → allowed_form o place ≡ Ok form → o ≡ Some form
 allowed_ok None place form e = absurd cc
 allowed_ok (Some f) place form e = cc
 
 format_takes : (a : Ahead) (y : Format × Ahead) → IsBytes a.bytes → format a ≡ Ok y → Consumes (SpellsFormat y.0) a y.1
 format_takes a y fits e =
-    let content = bind_ok (unsigned a) _ y e in
-    let code = bind_ok (unsigned content.0.1) _ y content.2 in
-    let form = bind_ok (allowed (form_for content.0.0 code.0.0) content.0.1.place) _ y code.2 in
+    let content = bind_ok (unsigned_field a) _ y e in
+    let code = bind_ok (unsigned_field content.0.1) _ y content.2 in
+    let form = bind_ok (allowed_form (form_for content.0.0 code.0.0) content.0.1.place) _ y code.2 in
     let c = unsigned_takes a content.0.1 content.0.0 fits content.1 in
     let d = unsigned_takes content.0.1 code.0.1 code.0.0 c.rest code.1 in
     let fine = allowed_ok (form_for content.0.0 code.0.0) content.0.1.place form.0 form.1 in
@@ -166,16 +166,16 @@ joined strings k n fs es x y z some one formatted (count, spelled, whole, u, (al
     let fine : (0 < length fs) ⊎ (length es ≡ 0) = subst (λ (j : ℕ). (0 < length fs) ⊎ (j ≡ 0)) (sym len) (subst (λ (j : ℕ). (0 < j) ⊎ (n ≡ 0)) (sym formatted.1) some) in
     (fs, y, count, spelled, top, formatted.0, subst (λ (j : ℕ). IsUleb j count) (sym len) u, all, fine)
 
-pub listed_takes : (strings : Strings) (a : Ahead) (y : List Entry × Ahead) → IsBytes a.bytes → listed strings a ≡ Ok y → Consumes (SpellsListed strings y.0) a y.1
-unfolding listed
+pub listed_takes : (strings : Strings) (a : Ahead) (y : List Entry × Ahead) → IsBytes a.bytes → entry_list strings a ≡ Ok y → Consumes (SpellsListed strings y.0) a y.1
+unfolding entry_list
 listed_takes strings a y fits e =
     let count = bind_ok (byte a) _ y e in
     let c = one_takes a count.0.1 count.0.0 fits count.1 in
     let fs = bind_ok (formats count.0.0 count.0.1) _ y count.2 in
     let d = formats_takes count.0.0 count.0.1 fs.0 c.rest fs.1 in
-    let n = bind_ok (unsigned fs.0.1) _ y fs.2 in
+    let n = bind_ok (unsigned_field fs.0.1) _ y fs.2 in
     let u = unsigned_takes fs.0.1 n.0.1 n.0.0 d.rest n.1 in
-    let fine = bind_ok (wanted (nat_lt 0 count.0.0 || (n.0.0 == 0)) kinds.EmptyEntries fs.0.1.place n.0) _ y n.2 in
+    let fine = bind_ok (check (nat_lt 0 count.0.0 || (n.0.0 == 0)) kinds.EmptyEntries fs.0.1.place n.0) _ y n.2 in
     let w = wanted_ok (nat_lt 0 count.0.0 || (n.0.0 == 0)) kinds.EmptyEntries fs.0.1.place n.0 fine.0 fine.1 in
     let read : entries n.0.0 strings fs.0.0 n.0.1 ≡ Ok y = subst (λ (z : ℕ × Ahead). entries z.0 strings fs.0.0 z.1 ≡ Ok y) (sym w.1) fine.2 in
     let es = entries_takes n.0.0 strings fs.0.0 n.0.1 y u.rest read in
@@ -187,8 +187,8 @@ listed_takes strings a y fits e =
 
 pub names_takes : (strings : Strings) (a : Ahead) (y : Names × Ahead) → IsBytes a.bytes → names_5 strings a ≡ Ok y → Consumes (SpellsNames true strings y.0.directories y.0.files) a y.1
 names_takes strings a y fits e =
-    let ds = bind_ok (listed strings a) _ y e in
-    let fs = bind_ok (listed strings ds.0.1) _ y ds.2 in
+    let ds = bind_ok (entry_list strings a) _ y e in
+    let fs = bind_ok (entry_list strings ds.0.1) _ y ds.2 in
     let c = listed_takes strings a ds.0 fits ds.1 in
     let d = listed_takes strings ds.0.1 fs.0 c.rest fs.1 in
     let made : Names = record { directories = paths ds.0.0; files = files_of (paths ds.0.0) fs.0.0 } in

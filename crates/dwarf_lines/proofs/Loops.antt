@@ -7,17 +7,17 @@ use Rattle.dwarf_lines.specs.declared.LineFault.{LineFault}
 use Rattle.dwarf_lines.specs.declared.LineError.{LineError}
 use Rattle.dwarf_lines.specs.declared.LineError.TheVariants as errors
 use Rattle.dwarf_lines.specs.declared.LineKind.TheVariants as kinds
-use Rattle.dwarf_lines.specs.Registers.{File, Table, Header, Operation, State, after, has_line, is_open}
+use Rattle.dwarf_lines.specs.Registers.{File, Table, Header, Operation, State, state_after, has_line, is_open}
 use Rattle.dwarf_lines.specs.Names.{Strings}
-use Rattle.dwarf_lines.specs.Reading.{fault, field, wanted, unsigned, pass, texts, named, files, operation, program, finished, unit, units, Fails}
+use Rattle.dwarf_lines.specs.Reading.{fault, field, check, unsigned_field, ahead_of_numbers, texts, file_named, files, operation, program, finished_table, unit, units, Fails}
 use Rattle.dwarf_lines.proofs.Shorter.{IsLess, text_less, named_less, operation_less, unit_less}
 
 -- one more is passed
-pub pass_step : (count i n : ℕ) (a b : Ahead) (total : Result Ahead LineFault) → i < count → unsigned a ≡ Ok (n, b) → pass (count - i) a ≡ total → pass (count - (i + 1)) b ≡ total
-unfolding pass
+pub pass_step : (count i n : ℕ) (a b : Ahead) (total : Result Ahead LineFault) → i < count → unsigned_field a ≡ Ok (n, b) → ahead_of_numbers (count - i) a ≡ total → ahead_of_numbers (count - (i + 1)) b ≡ total
+unfolding ahead_of_numbers
 pass_step count i n a b total lt read so_far =
     let k : count - i ≡ suc (count - (i + 1)) = omega arith in
-    let one : pass (count - i) a ≡ pass (count - (i + 1)) b = rw (k, read) refl in
+    let one : ahead_of_numbers (count - i) a ≡ ahead_of_numbers (count - (i + 1)) b = rw (k, read) refl in
     sym one ∙ so_far
 
 same_step : {A B E : Type 0} (r : Result A E) (f g : A → Result B E) → ((x : A) → r ≡ Ok x → f x ≡ g x) → (r >>= f) ≡ (r >>= g)
@@ -94,13 +94,13 @@ abbrev files_after : ℕ → List (List ℕ) → File × Ahead → Reading (List
 files_after n directories first = files n directories first.1 >>= λ more. Ok (first.0 ∷ more.0, more.1)
 
 files_go : (n : ℕ) (directories : List (List ℕ)) (name : List ℕ) (b : Ahead) → Reading (List File) LineFault
-files_go n directories name b = elim name as (λ x. Reading (List File) LineFault) [ [] ↦ Ok ([], b) | ◌∷◌ c cs ↦ named directories name b >>= files_after n directories ]
+files_go n directories name b = elim name as (λ x. Reading (List File) LineFault) [ [] ↦ Ok ([], b) | ◌∷◌ c cs ↦ file_named directories name b >>= files_after n directories ]
 
 files_same : (n m : ℕ) (directories : List (List ℕ)) (name : List ℕ) (b : Ahead) → ((c : Ahead) → IsLess b c → files n directories c ≡ files m directories c) → files_go n directories name b ≡ files_go m directories name b
 unfolding files_go
 files_same n m directories [] b same = refl
 files_same n m directories (c ∷ cs) b same =
-    same_step (named directories (c ∷ cs) b) _ _
+    same_step (file_named directories (c ∷ cs) b) _ _
     (λ first e. ap (λ (r : Reading (List File) LineFault). r >>= λ more. Ok (first.0 ∷ more.0, more.1)) (same first.1 (named_less directories (c ∷ cs) b first.1 first.0 e)))
 
 pub files_enough : (n m : ℕ) (directories : List (List ℕ)) (a : Ahead) → length a.bytes < n → length a.bytes < m → files n directories a ≡ files m directories a
@@ -114,7 +114,7 @@ files_enough (suc n) (suc m) directories a lt more =
     files_same n m directories name.0 name.1 (λ c then. files_enough n m directories c (omega arith) (omega arith)))
 
 -- one more file
-pub files_next : (directories : List (List ℕ)) (fs : List File) (name : List ℕ) (f : File) (a b c : Ahead) (total : Reading (List File) LineFault) → name ≢ [] → field (text_at a) ≡ Ok (name, b) → named directories name b ≡ Ok (f, c)
+pub files_next : (directories : List (List ℕ)) (fs : List File) (name : List ℕ) (f : File) (a b c : Ahead) (total : Reading (List File) LineFault) → name ≢ [] → field (text_at a) ≡ Ok (name, b) → file_named directories name b ≡ Ok (f, c)
     → joined fs (files (suc (length a.bytes)) directories a) ≡ total → joined (fs ++ f ∷ []) (files (suc (length c.bytes)) directories c) ≡ total
 unfolding files
 files_next directories fs [] f a b c total some e g so_far = absurd (some refl)
@@ -140,7 +140,7 @@ files_fault directories fs a f total e so_far =
     let one : files (suc (length a.bytes)) directories a ≡ Err f = rw e refl in
     sym so_far ∙ ap (λ (r : Reading (List File) LineFault). joined fs r) one
 
-pub named_fault : (directories : List (List ℕ)) (fs : List File) (name : List ℕ) (a b : Ahead) (f : LineFault) (total : Reading (List File) LineFault) → name ≢ [] → field (text_at a) ≡ Ok (name, b) → named directories name b ≡ Err f
+pub named_fault : (directories : List (List ℕ)) (fs : List File) (name : List ℕ) (a b : Ahead) (f : LineFault) (total : Reading (List File) LineFault) → name ≢ [] → field (text_at a) ≡ Ok (name, b) → file_named directories name b ≡ Err f
     → joined fs (files (suc (length a.bytes)) directories a) ≡ total → total ≡ Err f
 unfolding files
 named_fault directories fs [] a b f total some e g so_far = absurd (some refl)
@@ -161,10 +161,10 @@ program_enough (suc n) (suc m) h s place (b ∷ bs) lt more =
     same_step (operation h a) _ _
     (λ op e.
     let less = operation_less h a op.1 op.0 e in
-    same_step (wanted (has_line h op.0 s) kinds.LineOut place (after h op.0 s)) _ _
+    same_step (check (has_line h op.0 s) kinds.LineOut place (state_after h op.0 s)) _ _
     (λ next _. program_enough n m h next op.1.place op.1.bytes (omega arith) (omega arith)))
 
-step_by : (h : Header) (s t : State) (place : ℕ) (bytes : List ℕ) (b : Ahead) (op : Operation) → 0 < length bytes → operation h (record { place = place; bytes = bytes }) ≡ Ok (op, b) → wanted (has_line h op s) kinds.LineOut place (after h op s) ≡ Ok t
+step_by : (h : Header) (s t : State) (place : ℕ) (bytes : List ℕ) (b : Ahead) (op : Operation) → 0 < length bytes → operation h (record { place = place; bytes = bytes }) ≡ Ok (op, b) → check (has_line h op s) kinds.LineOut place (state_after h op s) ≡ Ok t
     → program (suc (length bytes)) h s (record { place = place; bytes = bytes }) ≡ program (suc (length b.bytes)) h t b
 unfolding program
 step_by h s t place [] b op some read fine = absurd (omega arith)
@@ -173,7 +173,7 @@ step_by h s t place (x ∷ xs) b op some read fine =
     rw (read, fine) (program_enough (length (x ∷ xs)) (suc (length b.bytes)) h t b.place b.bytes less (omega arith))
 
 -- one operation is done
-pub program_next : (h : Header) (s t : State) (a b : Ahead) (op : Operation) (total : Result State LineFault) → 0 < length a.bytes → operation h a ≡ Ok (op, b) → wanted (has_line h op s) kinds.LineOut a.place (after h op s) ≡ Ok t
+pub program_next : (h : Header) (s t : State) (a b : Ahead) (op : Operation) (total : Result State LineFault) → 0 < length a.bytes → operation h a ≡ Ok (op, b) → check (has_line h op s) kinds.LineOut a.place (state_after h op s) ≡ Ok t
     → program (suc (length a.bytes)) h s a ≡ total → program (suc (length b.bytes)) h t b ≡ total
 program_next h s t a b op total some read fine so_far = sym (step_by h s t a.place a.bytes b op some read fine) ∙ so_far
 
@@ -185,39 +185,39 @@ operation_fault_by h s place (x ∷ xs) f some e = rw e refl
 pub operation_fault : (h : Header) (s : State) (a : Ahead) (f : LineFault) → 0 < length a.bytes → operation h a ≡ Err f → program (suc (length a.bytes)) h s a ≡ Err f
 operation_fault h s a f some e = operation_fault_by h s a.place a.bytes f some e
 
-line_fault_by : (h : Header) (s : State) (place : ℕ) (bytes : List ℕ) (b : Ahead) (op : Operation) (f : LineFault) → 0 < length bytes → operation h (record { place = place; bytes = bytes }) ≡ Ok (op, b) → wanted (has_line h op s) kinds.LineOut place (after h op s) ≡ Err f
+line_fault_by : (h : Header) (s : State) (place : ℕ) (bytes : List ℕ) (b : Ahead) (op : Operation) (f : LineFault) → 0 < length bytes → operation h (record { place = place; bytes = bytes }) ≡ Ok (op, b) → check (has_line h op s) kinds.LineOut place (state_after h op s) ≡ Err f
     → program (suc (length bytes)) h s (record { place = place; bytes = bytes }) ≡ Err f
 unfolding program
 line_fault_by h s place [] b op f some read e = absurd (omega arith)
 line_fault_by h s place (x ∷ xs) b op f some read e = rw (read, e) refl
 
-pub line_fault : (h : Header) (s : State) (a b : Ahead) (op : Operation) (f : LineFault) → 0 < length a.bytes → operation h a ≡ Ok (op, b) → wanted (has_line h op s) kinds.LineOut a.place (after h op s) ≡ Err f → program (suc (length a.bytes)) h s a ≡ Err f
+pub line_fault : (h : Header) (s : State) (a b : Ahead) (op : Operation) (f : LineFault) → 0 < length a.bytes → operation h a ≡ Ok (op, b) → check (has_line h op s) kinds.LineOut a.place (state_after h op s) ≡ Err f → program (suc (length a.bytes)) h s a ≡ Err f
 line_fault h s a b op f some read e = line_fault_by h s a.place a.bytes b op f some read e
 
-program_end_by : (h : Header) (s : State) (place : ℕ) (bytes : List ℕ) → length bytes ≡ 0 → program (suc (length bytes)) h s (record { place = place; bytes = bytes }) ≡ wanted (not (is_open s.table.rows)) kinds.Unended place s
+program_end_by : (h : Header) (s : State) (place : ℕ) (bytes : List ℕ) → length bytes ≡ 0 → program (suc (length bytes)) h s (record { place = place; bytes = bytes }) ≡ check (not (is_open s.table.rows)) kinds.Unended place s
 unfolding program
 program_end_by h s place [] e = refl
 program_end_by h s place (x ∷ xs) e = absurd (omega arith)
 
 -- at the end no sequence may be open
-pub program_end : (h : Header) (s : State) (a : Ahead) → length a.bytes ≡ 0 → program (suc (length a.bytes)) h s a ≡ wanted (not (is_open s.table.rows)) kinds.Unended a.place s
+pub program_end : (h : Header) (s : State) (a : Ahead) → length a.bytes ≡ 0 → program (suc (length a.bytes)) h s a ≡ check (not (is_open s.table.rows)) kinds.Unended a.place s
 program_end h s a e = program_end_by h s a.place a.bytes e
 
-pub program_open : (h : Header) (s : State) (a : Ahead) (total : Result State LineFault) → length a.bytes ≡ 0 → is_open s.table.rows ≡ true → program (suc (length a.bytes)) h s a ≡ total → finished total ≡ Err (fault kinds.Unended a.place)
+pub program_open : (h : Header) (s : State) (a : Ahead) (total : Result State LineFault) → length a.bytes ≡ 0 → is_open s.table.rows ≡ true → program (suc (length a.bytes)) h s a ≡ total → finished_table total ≡ Err (fault kinds.Unended a.place)
 program_open h s a total none open_ so_far =
     let end = sym so_far ∙ program_end h s a none in
-    ap finished end ∙ ap (λ (b : Bool). finished (wanted (not b) kinds.Unended a.place s)) open_
+    ap finished_table end ∙ ap (λ (b : Bool). finished_table (check (not b) kinds.Unended a.place s)) open_
 
-pub program_closed : (h : Header) (s : State) (a : Ahead) (total : Result State LineFault) → length a.bytes ≡ 0 → is_open s.table.rows ≡ false → program (suc (length a.bytes)) h s a ≡ total → finished total ≡ Ok s.table
+pub program_closed : (h : Header) (s : State) (a : Ahead) (total : Result State LineFault) → length a.bytes ≡ 0 → is_open s.table.rows ≡ false → program (suc (length a.bytes)) h s a ≡ total → finished_table total ≡ Ok s.table
 program_closed h s a total none closed so_far =
     let end = sym so_far ∙ program_end h s a none in
-    ap finished end ∙ ap (λ (b : Bool). finished (wanted (not b) kinds.Unended a.place s)) closed
+    ap finished_table end ∙ ap (λ (b : Bool). finished_table (check (not b) kinds.Unended a.place s)) closed
 
 -- an operation that can't be done ends the program with its fault, or with want of memory
-pub apply_fault : (h : Header) (s : State) (a b : Ahead) (op : Operation) (e : LineError) (total : Result State LineFault) → 0 < length a.bytes → operation h a ≡ Ok (op, b) → Fails e (wanted (has_line h op s) kinds.LineOut a.place (after h op s))
-    → program (suc (length a.bytes)) h s a ≡ total → Fails e (finished total)
+pub apply_fault : (h : Header) (s : State) (a b : Ahead) (op : Operation) (e : LineError) (total : Result State LineFault) → 0 < length a.bytes → operation h a ≡ Ok (op, b) → Fails e (check (has_line h op s) kinds.LineOut a.place (state_after h op s))
+    → program (suc (length a.bytes)) h s a ≡ total → Fails e (finished_table total)
 apply_fault h s a b op errors.Memory total some read fails so_far = tt
-apply_fault h s a b op (errors.Fault f) total some read fails so_far = ap finished (sym so_far ∙ line_fault h s a b op f some read fails)
+apply_fault h s a b op (errors.Fault f) total some read fails so_far = ap finished_table (sym so_far ∙ line_fault h s a b op f some read fails)
 
 -- ---- units
 

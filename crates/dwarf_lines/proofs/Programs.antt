@@ -6,16 +6,16 @@ use Rattle.leb_cursor.specs.Ahead.{Ahead, ◌>>=◌}
 use Rattle.leb_cursor.proofs.Exact.{IsBytes, Consumes, ahead}
 use Rattle.dwarf_lines.specs.declared.LineKind.{LineKind}
 use Rattle.dwarf_lines.specs.declared.LineKind.TheVariants as kinds
-use Rattle.dwarf_lines.specs.Registers.{Header, Operation, State, after, has_line, is_open}
+use Rattle.dwarf_lines.specs.Registers.{Header, Operation, State, state_after, has_line, is_open}
 use Rattle.dwarf_lines.specs.Spelling.{Spells, Goes}
-use Rattle.dwarf_lines.specs.Reading.{wanted, operation, program}
+use Rattle.dwarf_lines.specs.Reading.{check, operation, program}
 
 -- the value of a step that did not fail
 pub bind_ok : {A B E : Type 0} (r : Result A E) (f : A → Result B E) (y : B) → (r >>= f) ≡ Ok y → (x : A) × (r ≡ Ok x) × (f x ≡ Ok y)
 bind_ok (Ok x) f y e = (x, refl, e)
 bind_ok (Err d) f y e = absurd cc
 
-pub wanted_ok : {X : Type 0} (holds : Bool) (kind : LineKind) (place : ℕ) (x y : X) → wanted holds kind place x ≡ Ok y → (holds ≡ true) × (x ≡ y)
+pub wanted_ok : {X : Type 0} (holds : Bool) (kind : LineKind) (place : ℕ) (x y : X) → check holds kind place x ≡ Ok y → (holds ≡ true) × (x ≡ y)
 wanted_ok true kind place x y e = (refl, cc)
 wanted_ok false kind place x y e = absurd cc
 
@@ -42,10 +42,10 @@ module _ (h : Header)
         ([], refl, sym w.1, subst (λ (x : State). is_open x.table.rows ≡ false) w.1 (not_true _ w.0))
     program_takes (suc n) s t place (b ∷ bs) fits lt e =
         let a : Ahead = ahead place (b ∷ bs) in
-        let x = bind_ok (operation h a) (λ op. wanted (has_line h op.0 s) kinds.LineOut place (after h op.0 s) >>= λ next. program n h next op.1) t e in
+        let x = bind_ok (operation h a) (λ op. check (has_line h op.0 s) kinds.LineOut place (state_after h op.0 s) >>= λ next. program n h next op.1) t e in
         let op = x.0 in
-        let y = bind_ok (wanted (has_line h op.0 s) kinds.LineOut place (after h op.0 s)) (λ next. program n h next op.1) t x.2 in
-        let w = wanted_ok (has_line h op.0 s) kinds.LineOut place (after h op.0 s) y.0 y.1 in
+        let y = bind_ok (check (has_line h op.0 s) kinds.LineOut place (state_after h op.0 s)) (λ next. program n h next op.1) t x.2 in
+        let w = wanted_ok (has_line h op.0 s) kinds.LineOut place (state_after h op.0 s) y.0 y.1 in
         let c = takes a op.0 op.1 fits x.1 in
         let less = shorter a op.1 op.0 c in
         let more = program_takes n y.0 t op.1.place op.1.bytes c.rest (omega arith) y.2 in
@@ -66,4 +66,4 @@ module _ (h : Header)
         let c = begins op code goes.1 in
         let spelled : Spells h op (c.0 ∷ c.1) = subst (Spells h op) c.2 goes.1 in
         let long : length (concat codes) < n = omega (arith, length-append code (concat codes), ap (λ (x : List ℕ). length x) c.2) in
-        rw (c.2, again op c.0 c.1 (concat codes) place spelled, goes.2) (program_again n codes (after h op s) t (place + suc (length c.1)) long goes.3 closed)
+        rw (c.2, again op c.0 c.1 (concat codes) place spelled, goes.2) (program_again n codes (state_after h op s) t (place + suc (length c.1)) long goes.3 closed)

@@ -11,7 +11,7 @@ use Rattle.dwarf_lines.specs.Bounds.{IsLineWithin}
 use Rattle.dwarf_lines.specs.declared.Row.{Row}
 use Rattle.dwarf_lines.specs.declared.LineKind.TheVariants as kinds
 use Rattle.dwarf_lines.specs.Registers.{Header, Pass, SetAddress, directory, is_open, texts_view}
-use Rattle.dwarf_lines.specs.Reading.{fault, field, byte, extended, body}
+use Rattle.dwarf_lines.specs.Reading.{fault, field, byte, extended_operations, body}
 
 -- the directory of a number that has one
 pub directory_at : (ds : List (Bor (List ℕ))) (n : ℕ) (d : Bor (List ℕ)) → 0 < n → n ≤ length ds → (get_or ds (n - 1) d).now ≡ directory (texts_view ds) n
@@ -33,7 +33,7 @@ open_last (row ∷ rows) last e =
 
 -- the body of an extended opcode, after its number
 body_by : (h : Header) (place first : ℕ) (bytes : List ℕ) (e : ℕ) (b : Ahead) → length bytes ≢ 0 → byte (record { place = first; bytes = bytes }) ≡ Ok (e, b)
-    → body h place (record { place = first; bytes = bytes }) ≡ get_or (extended h place (length bytes)) e (λ rest. Ok Pass) b
+    → body h place (record { place = first; bytes = bytes }) ≡ get_or (extended_operations h place (length bytes)) e (λ rest. Ok Pass) b
 body_by h place first [] e b some read = absurd (some refl)
 body_by h place first (x ∷ xs) e b some read = rw read refl
 

@@ -8,11 +8,11 @@ use Rattle.leb_cursor.specs.Ahead.{Ahead, Reading, part_at}
 use Rattle.leb_cursor.proofs.Exact.{IsBytes, Consumes, ahead, IsNumber, IsPart, word_takes, half_takes, part_takes}
 use Rattle.dwarf_lines.specs.declared.LineFault.{LineFault}
 use Rattle.dwarf_lines.specs.declared.LineKind.TheVariants as kinds
-use Rattle.dwarf_lines.specs.Registers.{Table, Header, Operation, Copy, AdvancePc, AdvanceLine, SetFile, SetColumn, NegateStmt, ConstAddPc, FixedAdvancePc, Special, EndSequence, SetAddress, DefineFile, Pass, State, begun, empty_table}
+use Rattle.dwarf_lines.specs.Registers.{Table, Header, Operation, Copy, AdvancePc, AdvanceLine, SetFile, SetColumn, NegateStmt, ConstAddPc, FixedAdvancePc, Special, EndSequence, SetAddress, DefineFile, Pass, State, first_state, empty_table}
 use Rattle.dwarf_lines.specs.Names.{Strings}
 use Rattle.dwarf_lines.specs.Spelling as spelled
 use Rattle.dwarf_lines.specs.Spelling.{SpellsStandard, SpellsExtended, IsPassed, Spells, SpellsHeader, IsRead, ReadsUnit, TakesUnit, Takes, IsTable}
-use Rattle.dwarf_lines.specs.Reading.{fault, field, wanted, word, half, announced, header, program, is_read, sizes, unit_body, unit, units, reading}
+use Rattle.dwarf_lines.specs.Reading.{fault, field, check, word, half_field, announced_bytes, header, program, is_read, sizes, unit_body, unit, units, reading}
 use Rattle.dwarf_lines.proofs.Programs.{bind_ok, wanted_ok, program_takes}
 use Rattle.dwarf_lines.proofs.Headers.{field_ok, ok_is}
 use Rattle.dwarf_lines.proofs.Heads.{header_takes, sizes_takes, enough}
@@ -56,7 +56,7 @@ part_ok : (fine : Bool) (place n : ℕ) (a : Ahead) (x : Ahead × Ahead) → con
 part_ok true place n a x e = field_ok (part_at n a) x e
 part_ok false place n a x e = absurd cc
 
-announced_takes : (place n : ℕ) (a : Ahead) (x : Ahead × Ahead) → IsBytes a.bytes → announced place n a ≡ Ok x → Consumes (IsPart n a x.0) a x.1
+announced_takes : (place n : ℕ) (a : Ahead) (x : Ahead × Ahead) → IsBytes a.bytes → announced_bytes place n a ≡ Ok x → Consumes (IsPart n a x.0) a x.1
 announced_takes place n a x fits e = part_takes n a x.0 x.1 fits (part_ok (nat_le n (length a.bytes)) place n a x e)
 
 -- a number, so many bytes, and the rest
@@ -64,9 +64,9 @@ three : (w : List ℕ) (n : ℕ) (number body rest whole mid x : List ℕ) → w
 three w n number body rest whole mid x e is f same = e ∙ ap (λ (z : List ℕ). number ++ z) f ∙ sym (append_assoc number body rest) ∙ ap (λ (z : List ℕ). z ++ body ++ rest) is ∙ ap (λ (z : List ℕ). w ++ z ++ rest) same
 
 reads_by : (version : ℕ) (strings : Strings) (t : Table) (start a b p c : Ahead) (n : ℕ) (h : Header) (s : State) → Consumes (λ code. code ≡ spelled.sizes version) start a → Consumes (IsNumber w32 (2 ^ 32) n) a b → Consumes (IsPart n b p) b c → SpellsHeader version strings h p.bytes
-    → program (suc (length c.bytes)) h (begun h t) c ≡ Ok s → ReadsUnit version strings start.bytes t s.table
+    → program (suc (length c.bytes)) h (first_state h t) c ≡ Ok s → ReadsUnit version strings start.bytes t s.table
 reads_by version strings t start a b p c n h s two number part head e =
-    let run = program_takes h (λ a op b. operation_takes h a (op, b)) (begins h) (suc (length c.bytes)) (begun h t) s c.place c.bytes part.rest (enough (length c.bytes)) e in
+    let run = program_takes h (λ a op b. operation_takes h a (op, b)) (begins h) (suc (length c.bytes)) (first_state h t) s c.place c.bytes part.rest (enough (length c.bytes)) e in
     let len : n ≡ length p.bytes = sym part.is.len in
     let whole : a.bytes ≡ to_le_bytes w32 n ++ p.bytes ++ c.bytes = three (to_le_bytes w32 n) n number.code part.code c.bytes a.bytes b.bytes p.bytes number.parts number.is.0 part.parts part.is.bytes in
     let after : a.bytes ≡ to_le_bytes w32 (length p.bytes) ++ p.bytes ++ concat run.0 = whole ∙ ap (λ (k : ℕ). to_le_bytes w32 k ++ p.bytes ++ c.bytes) len ∙ ap (λ (z : List ℕ). to_le_bytes w32 (length p.bytes) ++ p.bytes ++ z) run.1 in
@@ -81,11 +81,11 @@ body_takes version strings t u start begin e =
     let fits = two.rest in
     let size = bind_ok (word a) _ u after.2 in
     let c = word_takes a size.0.1 size.0.0 fits (field_ok _ _ size.1) in
-    let inside = bind_ok (announced a.place size.0.0 size.0.1) _ u size.2 in
+    let inside = bind_ok (announced_bytes a.place size.0.0 size.0.1) _ u size.2 in
     let d = announced_takes a.place size.0.0 size.0.1 inside.0 c.rest inside.1 in
     let h = bind_ok (header version strings inside.0.0) _ u inside.2 in
     let head = header_takes version strings inside.0.0 h.0 d.is.fits h.1 in
-    let s = bind_ok (program (suc (length inside.0.1.bytes)) h.0 (begun h.0 t) inside.0.1) _ u h.2 in
+    let s = bind_ok (program (suc (length inside.0.1.bytes)) h.0 (first_state h.0 t) inside.0.1) _ u h.2 in
     subst (ReadsUnit version strings start.bytes t) (ok_is s.0.table u s.2) (reads_by version strings t start a size.0.1 inside.0.0 inside.0.1 size.0.0 h.0 s.0 two c d head s.1)
 
 pub both_true : (a b : Bool) → (a && b) ≡ true → (a ≡ true) × (b ≡ true)
@@ -130,12 +130,12 @@ unfolding unit
 unit_takes strings t a y fits e =
     let size = bind_ok (word a) _ y e in
     let c = word_takes a size.0.1 size.0.0 fits (field_ok _ _ size.1) in
-    let long = bind_ok (wanted (nat_lt size.0.0 0xFFFFFFF0) kinds.LongForm a.place size.0) _ y size.2 in
+    let long = bind_ok (check (nat_lt size.0.0 0xFFFFFFF0) kinds.LongForm a.place size.0) _ y size.2 in
     let w = wanted_ok (nat_lt size.0.0 0xFFFFFFF0) kinds.LongForm a.place size.0 long.0 long.1 in
-    let inside = bind_ok (announced a.place long.0.0 long.0.1) _ y long.2 in
-    let moved : announced a.place size.0.0 size.0.1 ≡ Ok inside.0 = subst (λ (z : ℕ × Ahead). announced a.place z.0 z.1 ≡ Ok inside.0) (sym w.1) inside.1 in
+    let inside = bind_ok (announced_bytes a.place long.0.0 long.0.1) _ y long.2 in
+    let moved : announced_bytes a.place size.0.0 size.0.1 ≡ Ok inside.0 = subst (λ (z : ℕ × Ahead). announced_bytes a.place z.0 z.1 ≡ Ok inside.0) (sym w.1) inside.1 in
     let d = announced_takes a.place size.0.0 size.0.1 inside.0 c.rest moved in
-    let version = bind_ok (half inside.0.0) _ y inside.2 in
+    let version = bind_ok (half_field inside.0.0) _ y inside.2 in
     let v = half_takes inside.0.0 version.0.1 version.0.0 d.is.fits (field_ok _ _ version.1) in
     let u = bind_ok (elim (is_read version.0.0) as (λ x. Result Table LineFault) [ true ↦ unit_body version.0.0 strings t version.0.1 | false ↦ Ok (record t { skipped = t.skipped + 1 }) ]) _ y version.2 in
     let which = decided version.0.0 strings (is_read version.0.0) t u.0 version.0.1 refl v.rest u.1 in

@@ -9,11 +9,11 @@ use Rattle.leb_cursor.proofs.Exact.{IsBytes, ahead}
 use Rattle.leb_cursor.proofs.Again.{word_again, half_again, part_again}
 use Rattle.dwarf_lines.specs.declared.LineFault.{LineFault}
 use Rattle.dwarf_lines.specs.declared.LineKind.TheVariants as kinds
-use Rattle.dwarf_lines.specs.Registers.{Table, Header, State, begun, empty_table}
+use Rattle.dwarf_lines.specs.Registers.{Table, Header, State, first_state, empty_table}
 use Rattle.dwarf_lines.specs.Names.{Strings}
 use Rattle.dwarf_lines.specs.Spelling as spelled
 use Rattle.dwarf_lines.specs.Spelling.{SpellsHeader, IsRead, ReadsUnit, TakesUnit, Takes, IsTable}
-use Rattle.dwarf_lines.specs.Reading.{fault, field, wanted, word, half, announced, header, program, is_read, sizes, unit_body, unit, units, reading}
+use Rattle.dwarf_lines.specs.Reading.{fault, field, check, word, half_field, announced_bytes, header, program, is_read, sizes, unit_body, unit, units, reading}
 use Rattle.dwarf_lines.specs.Law.{HasOne}
 use Rattle.dwarf_lines.proofs.Again.{programs_again}
 use Rattle.dwarf_lines.proofs.HeadersAgain.{bind_through, wanted_back}
@@ -21,7 +21,7 @@ use Rattle.dwarf_lines.proofs.HeadsAgain.{header_again, sizes_back}
 use Rattle.dwarf_lines.proofs.Law.{one_or_other}
 use Rattle.dwarf_lines.proofs.Units.{both_true}
 
-announced_back : (place n first : ℕ) (x rest : List ℕ) → length x ≡ n → announced place n (ahead first (x ++ rest)) ≡ Ok (ahead first x, ahead (first + n) rest)
+announced_back : (place n first : ℕ) (x rest : List ℕ) → length x ≡ n → announced_bytes place n (ahead first (x ++ rest)) ≡ Ok (ahead first x, ahead (first + n) rest)
 announced_back place n first x rest len =
     let room : nat_le n (length (x ++ rest)) ≡ true = le-leb _ _ (omega (arith, length-append x rest)) in
     ap (λ (b : Bool). cond {A = Reading Ahead LineFault} b (field (part_at n (ahead first (x ++ rest)))) (Err (fault kinds.Short place))) room ∙ ap field (part_again n first x rest len)
@@ -31,15 +31,15 @@ header_small x y w v bytes e lt = omega (arith, ap (λ (z : List ℕ). length z)
 
 body_by : (version : ℕ) (strings : Strings) (t : Table) (start place : ℕ) (h : Header) (x : List ℕ) (codes : List (List ℕ)) (s : State) → length x < 2 ^ 32 → SpellsHeader version strings h x → 0 < h.opcode_base
     → sizes version (ahead start (spelled.sizes version ++ (to_le_bytes w32 (length x) ++ (x ++ concat codes)))) ≡ Ok (ahead place (to_le_bytes w32 (length x) ++ (x ++ concat codes)))
-    → program (suc (length (concat codes))) h (begun h t) (ahead (place + 4 + length x) (concat codes)) ≡ Ok s
+    → program (suc (length (concat codes))) h (first_state h t) (ahead (place + 4 + length x) (concat codes)) ≡ Ok s
     → unit_body version strings t (ahead start (spelled.sizes version ++ (to_le_bytes w32 (length x) ++ (x ++ concat codes)))) ≡ Ok s.table
 unfolding unit_body
 body_by version strings t start place h x codes s small spells some two run =
     bind_through (sizes version (ahead start (spelled.sizes version ++ (to_le_bytes w32 (length x) ++ (x ++ concat codes))))) _ (ahead place (to_le_bytes w32 (length x) ++ (x ++ concat codes))) _ two
     (bind_through (word (ahead place (to_le_bytes w32 (length x) ++ (x ++ concat codes)))) _ (length x, ahead (place + 4) (x ++ concat codes)) _ (ap field (word_again (length x) place (x ++ concat codes) small))
-    (bind_through (announced place (length x) (ahead (place + 4) (x ++ concat codes))) _ (ahead (place + 4) x, ahead (place + 4 + length x) (concat codes)) _ (announced_back place (length x) (place + 4) x (concat codes) refl)
+    (bind_through (announced_bytes place (length x) (ahead (place + 4) (x ++ concat codes))) _ (ahead (place + 4) x, ahead (place + 4 + length x) (concat codes)) _ (announced_back place (length x) (place + 4) x (concat codes) refl)
     (bind_through (header version strings (ahead (place + 4) x)) _ h _ (header_again version strings h x (place + 4) spells)
-    (bind_through (program (suc (length (concat codes))) h (begun h t) (ahead (place + 4 + length x) (concat codes))) _ s _ run refl))))
+    (bind_through (program (suc (length (concat codes))) h (first_state h t) (ahead (place + 4 + length x) (concat codes))) _ s _ run refl))))
 
 count_some : (o n : ℕ) → o ≡ 1 + n → 0 < o
 count_some o n e = omega arith
@@ -52,7 +52,7 @@ body_back version strings t u place bytes small (h, x, codes, s, whole, spells, 
     let p : ℕ = two.0 in
     let some : 0 < h.opcode_base = count_some h.opcode_base (length h.lengths) spells.9 in
     let steps : length (concat codes) < suc (length (concat codes)) = omega arith in
-    let run = programs_again h some (suc (length (concat codes))) codes (begun h t) s (p + 4 + length x) steps goes closed in
+    let run = programs_again h some (suc (length (concat codes))) codes (first_state h t) s (p + 4 + length x) steps goes closed in
     ap (λ (z : List ℕ). unit_body version strings t (ahead place z)) grouped ∙ body_by version strings t place p h x codes s (header_small x (concat codes) w (spelled.sizes version) bytes whole small) spells some two.1 run ∙ ap (λ (v : Table). Ok v) (sym is)
 
 -- what a unit's reading goes on with, after its version
@@ -82,9 +82,9 @@ unit_by version strings t u place n bytes rest len small fits reads =
     let size : length inside ≡ n = length-append (to_le_bytes w16 version) bytes ∙ sym len in
     let wide : n < 2 ^ 32 = omega arith in
     bind_through (word (ahead place (to_le_bytes w32 n ++ (inside ++ rest)))) _ (n, ahead (place + 4) (inside ++ rest)) _ (ap field (word_again n place (inside ++ rest) wide))
-    (bind_through (wanted (nat_lt n 0xFFFFFFF0) kinds.LongForm place (n, ahead (place + 4) (inside ++ rest))) _ (n, ahead (place + 4) (inside ++ rest)) _ (wanted_back (nat_lt n 0xFFFFFFF0) kinds.LongForm place (n, ahead (place + 4) (inside ++ rest)) (lt-ltb _ _ small))
-    (bind_through (announced place n (ahead (place + 4) (inside ++ rest))) _ (ahead (place + 4) inside, ahead (place + 4 + n) rest) _ (announced_back place n (place + 4) inside rest size)
-    (bind_through (half (ahead (place + 4) inside)) _ (version, ahead (place + 4 + 2) bytes) _ (ap field (half_again version (place + 4) bytes fits))
+    (bind_through (check (nat_lt n 0xFFFFFFF0) kinds.LongForm place (n, ahead (place + 4) (inside ++ rest))) _ (n, ahead (place + 4) (inside ++ rest)) _ (wanted_back (nat_lt n 0xFFFFFFF0) kinds.LongForm place (n, ahead (place + 4) (inside ++ rest)) (lt-ltb _ _ small))
+    (bind_through (announced_bytes place n (ahead (place + 4) (inside ++ rest))) _ (ahead (place + 4) inside, ahead (place + 4 + n) rest) _ (announced_back place n (place + 4) inside rest size)
+    (bind_through (half_field (ahead (place + 4) inside)) _ (version, ahead (place + 4 + 2) bytes) _ (ap field (half_again version (place + 4) bytes fits))
     (bind_through (after_version (is_read version) version strings t (ahead (place + 4 + 2) bytes)) _ u _ reads refl))))
 
 unit_again : (strings : Strings) (t u : Table) (bytes rest : List ℕ) (place : ℕ) → TakesUnit strings bytes t u → (q : ℕ) × (unit strings t (ahead place (bytes ++ rest)) ≡ Ok (u, ahead q rest))

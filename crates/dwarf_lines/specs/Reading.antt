@@ -10,7 +10,7 @@ use Rattle.dwarf_lines.specs.declared.LineKind.TheVariants as kinds
 use Rattle.dwarf_lines.specs.declared.LineFault.{LineFault}
 use Rattle.dwarf_lines.specs.declared.LineError.{LineError}
 use Rattle.dwarf_lines.specs.declared.LineError.TheVariants as errors
-use Rattle.dwarf_lines.specs.Registers.{File, Table, Header, Operation, Copy, AdvancePc, AdvanceLine, SetFile, SetColumn, NegateStmt, ConstAddPc, FixedAdvancePc, Special, EndSequence, SetAddress, DefineFile, Pass, State, empty_table, after, has_line, begun, is_open, directory}
+use Rattle.dwarf_lines.specs.Registers.{File, Table, Header, Operation, Copy, AdvancePc, AdvanceLine, SetFile, SetColumn, NegateStmt, ConstAddPc, FixedAdvancePc, Special, EndSequence, SetAddress, DefineFile, Pass, State, empty_table, state_after, has_line, first_state, is_open, directory}
 use Rattle.dwarf_lines.specs.declared.forms.Form.{Form}
 use Rattle.dwarf_lines.specs.declared.forms.Form.TheVariants.{Own, General, Line, Byte, Half, Leb, Four, Eight, Sixteen, Block}
 use Rattle.dwarf_lines.specs.declared.forms.Format.{Format}
@@ -22,8 +22,8 @@ abbrev pub fault : LineKind → ℕ → LineFault
 fault kind place = record { kind = kind; place = place }
 
 -- what is read, unless the place has this fault
-abbrev pub wanted : {X : Type 0} → Bool → LineKind → ℕ → X → Result X LineFault
-wanted holds kind place x = if holds then Ok x else Err (fault kind place)
+abbrev pub check : {X : Type 0} → Bool → LineKind → ℕ → X → Result X LineFault
+check holds kind place x = if holds then Ok x else Err (fault kind place)
 
 abbrev pub field : {X : Type 0} → Result X Short → Result X LineFault
 field (Ok x) = Ok x
@@ -40,32 +40,32 @@ leb_field (Err e) = Err (leb_fault e)
 abbrev pub byte : Ahead → Reading ℕ LineFault
 byte a = field (number_at w8 a)
 
-abbrev pub half : Ahead → Reading ℕ LineFault
-half a = field (number_at w16 a)
+abbrev pub half_field : Ahead → Reading ℕ LineFault
+half_field a = field (number_at w16 a)
 
 abbrev pub word : Ahead → Reading ℕ LineFault
 word a = field (number_at w32 a)
 
-abbrev pub unsigned : Ahead → Reading ℕ LineFault
-unsigned a = leb_field (uleb_at a)
+abbrev pub unsigned_field : Ahead → Reading ℕ LineFault
+unsigned_field a = leb_field (uleb_at a)
 
 -- a byte that passes the test, else this fault at it
 abbrev pub byte_that : (ℕ → Bool) → LineKind → Ahead → Reading ℕ LineFault
 byte_that test kind a = do
   b ← byte a
-  wanted (test b.0) kind a.place b
+  check (test b.0) kind a.place b
 
 -- the next so many bytes on their own; if there are fewer, Short at this place
-abbrev pub announced : ℕ → ℕ → Ahead → Reading Ahead LineFault
-announced place n a =
+abbrev pub announced_bytes : ℕ → ℕ → Ahead → Reading Ahead LineFault
+announced_bytes place n a =
     if nat_le n (length a.bytes) then field (part_at n a) else Err (fault kinds.Short place)
 
 -- so many unsigned numbers, of whatever value
-unfoldable pub pass : ℕ → Ahead → Result Ahead LineFault
-pass zero a = Ok a
-pass (suc n) a = do
-  x ← unsigned a
-  pass n x.1
+unfoldable pub ahead_of_numbers : ℕ → Ahead → Result Ahead LineFault
+ahead_of_numbers zero a = Ok a
+ahead_of_numbers (suc n) a = do
+  x ← unsigned_field a
+  ahead_of_numbers n x.1
 
 -- texts up to an empty one; the count bounds them
 unfoldable pub texts : ℕ → Ahead → Reading (List (List ℕ)) LineFault
@@ -78,17 +78,17 @@ texts (suc n) a = do
   ]
 
 -- what follows the name of a file
-abbrev pub named : List (List ℕ) → List ℕ → Ahead → Reading File LineFault
-named directories name a = do
-  number ← unsigned a
-  time ← unsigned number.1
-  size ← unsigned time.1
+abbrev pub file_named : List (List ℕ) → List ℕ → Ahead → Reading File LineFault
+file_named directories name a = do
+  number ← unsigned_field a
+  time ← unsigned_field number.1
+  size ← unsigned_field time.1
   Ok (record { directory = directory directories number.0; name = name }, size.1)
 
 abbrev pub file : List (List ℕ) → Ahead → Reading File LineFault
 file directories a = do
   name ← field (text_at a)
-  named directories name.0 name.1
+  file_named directories name.0 name.1
 
 -- files up to an empty name
 unfoldable pub files : ℕ → List (List ℕ) → Ahead → Reading (List File) LineFault
@@ -97,7 +97,7 @@ files (suc n) directories a = do
   name ← field (text_at a)
   elim (name.0) [
     | [] ↦ Ok ([], name.1)
-    | b ∷ bs ↦ named directories name.0 name.1 >>= λ first.
+    | b ∷ bs ↦ file_named directories name.0 name.1 >>= λ first.
         files n directories first.1 >>= λ more.
         Ok (first.0 ∷ more.0, more.1)
   ]
@@ -122,14 +122,14 @@ number reads = do
   n ← reads
   Ok (Number n.0, n.1)
 
-abbrev pub other : Reading (List ℕ) LineFault → Reading Value LineFault
-other reads = do
+abbrev pub other_value : Reading (List ℕ) LineFault → Reading Value LineFault
+other_value reads = do
   x ← reads
   Ok (Other, x.1)
 
 abbrev pub block : Ahead → Reading (List ℕ) LineFault
 block a = do
-  size ← unsigned a
+  size ← unsigned_field a
   field (bytes_at size.0 size.1)
 
 abbrev pub value : Strings → Form → Ahead → Reading Value LineFault
@@ -137,23 +137,23 @@ value strings Own a = own_text a
 value strings General a = text_in strings.general a
 value strings Line a = text_in strings.line a
 value strings Byte a = number (byte a)
-value strings Half a = number (half a)
-value strings Leb a = number (unsigned a)
-value strings Four a = other (field (bytes_at 4 a))
-value strings Eight a = other (field (bytes_at 8 a))
-value strings Sixteen a = other (field (bytes_at 16 a))
-value strings Block a = other (block a)
+value strings Half a = number (half_field a)
+value strings Leb a = number (unsigned_field a)
+value strings Four a = other_value (field (bytes_at 4 a))
+value strings Eight a = other_value (field (bytes_at 8 a))
+value strings Sixteen a = other_value (field (bytes_at 16 a))
+value strings Block a = other_value (block a)
 
 -- the form that is there, else FormOut at this place
-abbrev pub allowed : Option Form → ℕ → Result Form LineFault
-allowed (Some form) place = Ok form
-allowed None place = Err (fault kinds.FormOut place)
+abbrev pub allowed_form : Option Form → ℕ → Result Form LineFault
+allowed_form (Some form) place = Ok form
+allowed_form None place = Err (fault kinds.FormOut place)
 
 abbrev pub format : Ahead → Reading Format LineFault
 format a = do
-  content ← unsigned a
-  code ← unsigned content.1
-  form ← allowed (form_for content.0 code.0) content.1.place
+  content ← unsigned_field a
+  code ← unsigned_field content.1
+  form ← allowed_form (form_for content.0 code.0) content.1.place
   Ok (record { content = content.0; form = form }, code.1)
 
 unfoldable pub formats : ℕ → Ahead → Reading (List Format) LineFault
@@ -184,12 +184,12 @@ entries (suc n) strings fs a = do
   Ok (first.0 ∷ more.0, more.1)
 
 -- a count of formats, the formats, a count of entries, and these
-unfoldable pub listed : Strings → Ahead → Reading (List Entry) LineFault
-listed strings a = do
+unfoldable pub entry_list : Strings → Ahead → Reading (List Entry) LineFault
+entry_list strings a = do
   count ← byte a
   fs ← formats count.0 count.1
-  n ← unsigned fs.1
-  fine ← wanted (nat_lt 0 count.0 || n.0 == 0) kinds.EmptyEntries fs.1.place n
+  n ← unsigned_field fs.1
+  fine ← check (nat_lt 0 count.0 || n.0 == 0) kinds.EmptyEntries fs.1.place n
   entries fine.0 strings fs.0 fine.1
 
 -- ---- header (DWARF 4, 6.2.4; DWARF 5, 6.2.4)
@@ -207,8 +207,8 @@ names_before_5 a = do
 
 abbrev pub names_5 : Strings → Ahead → Reading Names LineFault
 names_5 strings a = do
-  directories ← listed strings a
-  files ← listed strings directories.1
+  directories ← entry_list strings a
+  files ← entry_list strings directories.1
   Ok (
     record { directories = paths directories.0; files = files_of (paths directories.0) files.0 },
     files.1,
@@ -265,7 +265,7 @@ with_none op a = Ok (op, a)
 
 abbrev pub with_unsigned : (ℕ → Operation) → Ahead → Reading Operation LineFault
 with_unsigned op a = do
-  n ← unsigned a
+  n ← unsigned_field a
   Ok (op n.0, n.1)
 
 abbrev pub with_signed : (ℤ → Operation) → Ahead → Reading Operation LineFault
@@ -275,12 +275,12 @@ with_signed op a = do
 
 abbrev pub with_half : (ℕ → Operation) → Ahead → Reading Operation LineFault
 with_half op a = do
-  n ← half a
+  n ← half_field a
   Ok (op n.0, n.1)
 
-abbrev pub passing : ℕ → Ahead → Reading Operation LineFault
-passing n a = do
-  rest ← pass n a
+abbrev pub operation_passed : ℕ → Ahead → Reading Operation LineFault
+operation_passed n a = do
+  rest ← ahead_of_numbers n a
   Ok (Pass, rest)
 
 -- opcodes 1 to 12
@@ -297,7 +297,7 @@ standard =
     ∷ with_half FixedAdvancePc
     ∷ with_none Pass
     ∷ with_none Pass
-    ∷ passing 1
+    ∷ operation_passed 1
     ∷ []
 
 -- a body of this length, in an extended opcode at this place; what is left of the body is passed
@@ -308,8 +308,8 @@ address place size a =
     else Err (fault kinds.AddressLength place)
 
 -- extended opcodes 0 to 3, after their number
-abbrev pub extended : Header → ℕ → ℕ → List (Ahead → Result Operation LineFault)
-extended h place size =
+abbrev pub extended_operations : Header → ℕ → ℕ → List (Ahead → Result Operation LineFault)
+extended_operations h place size =
     (λ a. Ok Pass)
     ∷ (λ a. Ok EndSequence)
     ∷ address place size
@@ -324,13 +324,13 @@ body h place a =
     elim (a.bytes) [
       | [] ↦ Ok Pass
       | b ∷ bs ↦ byte a >>= λ e.
-          get_or (extended h place (length a.bytes)) e.0 (λ rest. Ok Pass) e.1
+          get_or (extended_operations h place (length a.bytes)) e.0 (λ rest. Ok Pass) e.1
     ]
 
 -- after the zero byte at this place
 abbrev pub extended_at : Header → ℕ → Ahead → Reading Operation LineFault
 extended_at h place a = do
-  size ← unsigned a
+  size ← unsigned_field a
   inside ← field (part_at size.0 size.1)
   op ← body h place inside.0
   Ok (op, inside.1)
@@ -338,7 +338,7 @@ extended_at h place a = do
 -- after the opcode at this place
 abbrev pub below_base : Header → ℕ → ℕ → Ahead → Reading Operation LineFault
 below_base h place zero a = extended_at h place a
-below_base h place (suc k) a = get_or standard k (passing (get_or h.lengths k 0)) a
+below_base h place (suc k) a = get_or standard k (operation_passed (get_or h.lengths k 0)) a
 
 unfoldable pub operation : Header → Ahead → Reading Operation LineFault
 operation h a = do
@@ -353,15 +353,15 @@ unfoldable pub program : ℕ → Header → State → Ahead → Result State Lin
 program zero h s a = Ok s
 program (suc n) h s a =
     elim (a.bytes) [
-      | [] ↦ wanted (not (is_open s.table.rows)) kinds.Unended a.place s
+      | [] ↦ check (not (is_open s.table.rows)) kinds.Unended a.place s
       | b ∷ bs ↦ operation h a >>= λ op.
-          wanted (has_line h op.0 s) kinds.LineOut a.place (after h op.0 s) >>= λ next.
+          check (has_line h op.0 s) kinds.LineOut a.place (state_after h op.0 s) >>= λ next.
           program n h next op.1
     ]
 
 -- the table when a program is done
-abbrev pub finished : Result State LineFault → Result Table LineFault
-finished reads = reads >>= λ s. Ok s.table
+abbrev pub finished_table : Result State LineFault → Result Table LineFault
+finished_table reads = reads >>= λ s. Ok s.table
 
 -- ---- units
 
@@ -371,18 +371,18 @@ is_read version = nat_le 2 version && nat_le version 5
 -- after the version, up to the unit's end
 unfoldable pub unit_body : ℕ → Strings → Table → Ahead → Result Table LineFault
 unit_body version strings t a = do
-  after ← sizes version a
-  size ← word after
-  inside ← announced after.place size.0 size.1
+  state_after ← sizes version a
+  size ← word state_after
+  inside ← announced_bytes state_after.place size.0 size.1
   h ← header version strings inside.0
-  finished (program (suc (length inside.1.bytes)) h (begun h t) inside.1)
+  finished_table (program (suc (length inside.1.bytes)) h (first_state h t) inside.1)
 
 unfoldable pub unit : Strings → Table → Ahead → Reading Table LineFault
 unit strings t a = do
   size ← word a
-  long ← wanted (nat_lt size.0 0xFFFFFFF0) kinds.LongForm a.place size
-  inside ← announced a.place long.0 long.1
-  version ← half inside.0
+  long ← check (nat_lt size.0 0xFFFFFFF0) kinds.LongForm a.place size
+  inside ← announced_bytes a.place long.0 long.1
+  version ← half_field inside.0
   u ← elim (is_read version.0) [
     | true ↦ unit_body version.0 strings t version.1
     | false ↦ Ok (record t { skipped = t.skipped + 1 })

@@ -33,8 +33,8 @@ pub record Header : Type 0 where
   pub files : List File
 
 -- the registers at the beginning of each sequence (DWARF 4, 6.2.2)
-abbrev pub fresh : Header → Registers
-fresh h = record { address = 0; file = 1; line = pos 1; column = 0; is_stmt = h.is_stmt }
+abbrev pub first_registers : Header → Registers
+first_registers h = record { address = 0; file = 1; line = pos 1; column = 0; is_stmt = h.is_stmt }
 
 -- what an opcode says, with its operands (DWARF 4, 6.2.5)
 pub data Operation : Type 0 where
@@ -60,41 +60,42 @@ address_step h o = (o - h.opcode_base) / h.line_range * h.minimum_length
 abbrev pub line_step : Header → ℕ → ℤ
 line_step h o = h.line_base +ℤ pos ((o - h.opcode_base) % h.line_range)
 
-abbrev pub moved : ℕ → Registers → Registers
-moved step r = record r { address = (r.address + step) % 2 ^ 64 }
+abbrev pub with_address_moved : ℕ → Registers → Registers
+with_address_moved step r = record r { address = (r.address + step) % 2 ^ 64 }
 
 -- the registers after an operation, and at its row if it appends one
-abbrev pub changed : Header → Operation → Registers → Registers
-changed h Copy r = r
-changed h (AdvancePc n) r = moved (n * h.minimum_length) r
-changed h (AdvanceLine z) r = record r { line = r.line +ℤ z }
-changed h (SetFile n) r = record r { file = n }
-changed h (SetColumn n) r = record r { column = n }
-changed h NegateStmt r = record r { is_stmt = not r.is_stmt }
-changed h ConstAddPc r = moved (address_step h 255) r
-changed h (FixedAdvancePc n) r = moved n r
-changed h (Special o) r = record (moved (address_step h o) r) { line = r.line +ℤ line_step h o }
-changed h EndSequence r = r
-changed h (SetAddress a) r = record r { address = a }
-changed h (DefineFile f) r = r
-changed h Pass r = r
+abbrev pub registers_after : Header → Operation → Registers → Registers
+registers_after h Copy r = r
+registers_after h (AdvancePc n) r = with_address_moved (n * h.minimum_length) r
+registers_after h (AdvanceLine z) r = record r { line = r.line +ℤ z }
+registers_after h (SetFile n) r = record r { file = n }
+registers_after h (SetColumn n) r = record r { column = n }
+registers_after h NegateStmt r = record r { is_stmt = not r.is_stmt }
+registers_after h ConstAddPc r = with_address_moved (address_step h 255) r
+registers_after h (FixedAdvancePc n) r = with_address_moved n r
+registers_after h (Special o) r =
+    record (with_address_moved (address_step h o) r) { line = r.line +ℤ line_step h o }
+registers_after h EndSequence r = r
+registers_after h (SetAddress a) r = record r { address = a }
+registers_after h (DefineFile f) r = r
+registers_after h Pass r = r
 
 -- it appends a row
-abbrev pub appends : Operation → Bool
-appends Copy = true
-appends (Special o) = true
-appends EndSequence = true
-appends _ = false
+abbrev pub is_appending : Operation → Bool
+is_appending Copy = true
+is_appending (Special o) = true
+is_appending EndSequence = true
+is_appending _ = false
 
 -- its row ends the sequence
-abbrev pub ends : Operation → Bool
-ends EndSequence = true
-ends _ = false
+abbrev pub is_ending : Operation → Bool
+is_ending EndSequence = true
+is_ending _ = false
 
 -- the files that it defines
-abbrev pub defines : Operation → List File
-defines (DefineFile f) = f ∷ []
-defines _ = []
+abbrev pub defined_files : Operation → List File
+defined_files (DefineFile f) = f ∷ []
+defined_files _ = []
 
 -- within a unit: the table so far, where in it the unit's files begin, and the registers
 pub record State : Type 0 where
@@ -139,27 +140,28 @@ row h s is_last r = record {
 }
 
 -- the state after an operation
-abbrev pub after : Header → Operation → State → State
-after h op s =
-    let r = changed h op s.registers in
+abbrev pub state_after : Header → Operation → State → State
+state_after h op s =
+    let r = registers_after h op s.registers in
     record s {
       table = record s.table {
-        files = s.table.files ++ defines op;
-        rows = s.table.rows ++ (if appends op then row h s (ends op) r ∷ [] else []);
+        files = s.table.files ++ defined_files op;
+        rows = s.table.rows ++ (if is_appending op then row h s (is_ending op) r ∷ [] else []);
       };
-      registers = if ends op then fresh h else r;
+      registers = if is_ending op then first_registers h else r;
     }
 
 -- if it appends a row, the row's line is a number of 32 bits
 abbrev pub has_line : Header → Operation → State → Bool
-has_line h op s = if appends op then fits_line (changed h op s.registers).line else true
+has_line h op s =
+    if is_appending op then fits_line (registers_after h op s.registers).line else true
 
 -- the state before the first operation of a unit
-abbrev pub begun : Header → Table → State
-begun h t = record {
+abbrev pub first_state : Header → Table → State
+first_state h t = record {
   table = record t { files = t.files ++ h.files };
   first_file = length t.files;
-  registers = fresh h;
+  registers = first_registers h;
 }
 
 -- the last row doesn't end its sequence

@@ -5,7 +5,7 @@ use Rattle.std.specs.List.{concat, AllByRecursion}
 use Rattle.std.specs.Int.{w16, w32, w64, to_le_bytes, cast_signed, w8}
 use Rattle.leb_cursor.specs.Numbers.{SpellsUnsigned, SpellsSigned}
 use Rattle.leb_cursor.specs.Ahead.{fits_64_signed}
-use Rattle.dwarf_lines.specs.Registers.{File, Table, Header, Operation, Copy, AdvancePc, AdvanceLine, SetFile, SetColumn, NegateStmt, ConstAddPc, FixedAdvancePc, Special, EndSequence, SetAddress, DefineFile, Pass, State, empty_table, after, has_line, begun, is_open, directory}
+use Rattle.dwarf_lines.specs.Registers.{File, Table, Header, Operation, Copy, AdvancePc, AdvanceLine, SetFile, SetColumn, NegateStmt, ConstAddPc, FixedAdvancePc, Special, EndSequence, SetAddress, DefineFile, Pass, State, empty_table, state_after, has_line, first_state, is_open, directory}
 use Rattle.dwarf_lines.specs.declared.forms.Form.{Form}
 use Rattle.dwarf_lines.specs.declared.forms.Form.TheVariants.{Own, General, Line, Byte, Half, Leb, Four, Eight, Sixteen, Block}
 use Rattle.dwarf_lines.specs.declared.forms.Format.{Format}
@@ -97,7 +97,8 @@ Spells h Pass code = IsPassed h code
 abbrev pub Goes : Header → List (List ℕ) → State → State → Type 0
 Goes h [] s t = t ≡ s
 Goes h (code ∷ codes) s t =
-    (op : Operation) × Spells h op code × (has_line h op s ≡ true) × Goes h codes (after h op s) t
+    (op : Operation) × Spells h op code × (has_line h op s ≡ true)
+    × Goes h codes (state_after h op s) t
 
 -- ---- directories and files of version 5 (DWARF 5, 6.2.4.1)
 
@@ -200,7 +201,7 @@ ReadsUnit version strings bytes t u =
     (h : Header) × (header : List ℕ) × (codes : List (List ℕ)) × (s : State)
     × (bytes ≡ sizes version ++ (to_le_bytes w32 (length header) ++ header ++ concat codes))
     × SpellsHeader version strings h header
-    × Goes h codes (begun h t) s
+    × Goes h codes (first_state h t) s
     × (is_open s.table.rows ≡ false)
     × (u ≡ s.table)
 

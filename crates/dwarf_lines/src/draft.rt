@@ -30,8 +30,8 @@ pub struct Draft<'a> {
 impl<'a> Draft<'a> {
     ghost use Rattle.std.specs.Prelude.{◌+◌, ◌<◌, ◌≤◌, ◌^◌, ◌∷◌, ◌++◌, [], ℕ, suc, length, IfOk, OnOk, Ok, Some, None};
     ghost use Rattle.dwarf_lines.specs.declared.LineKind.TheVariants.{LineOut};
-    ghost use Rattle.dwarf_lines.specs.Registers.{empty_table, fits_line, row, after, has_line, fresh, file_of, is_open, view};
-    ghost use Rattle.dwarf_lines.specs.Reading.{Gives, WalksOver, wanted, program, finished, unit, unit_body};
+    ghost use Rattle.dwarf_lines.specs.Registers.{empty_table, fits_line, row, state_after, has_line, first_registers, file_of, is_open, view};
+    ghost use Rattle.dwarf_lines.specs.Reading.{Gives, WalksOver, check, program, finished_table, unit, unit_body};
     ghost use Rattle.dwarf_lines.specs.Bounds.{IsLineWithin, weight};
     ghost use Rattle.dwarf_lines.specs.Views.{header_view, operation_view, sections_view, so_far, state_of};
 
@@ -127,8 +127,10 @@ impl<'a> Draft<'a> {
     ) -> Result<(), LineError>
         requires { weight (so_far self.old) + length opcodes.bytes ≤ 2 ^ 25 }
         ensures exact { Gives (λ _. so_far self.new) result
-            (finished (program (suc (length opcodes.entry.bytes)) (header_view header.now)
-            (state_of self.old first_file (fresh (header_view header.now))) opcodes.entry)) }
+            (finished_table
+            (program (suc (length opcodes.entry.bytes)) (header_view header.now)
+            (state_of self.old first_file (first_registers (header_view header.now)))
+            opcodes.entry)) }
         ensures room { OnOk result
             (weight (so_far self.new) ≤ weight (so_far self.old) + length opcodes.entry.bytes) }
     {
@@ -160,8 +162,9 @@ impl<'a> Draft<'a> {
         requires room { weight (so_far self.old) < 2 ^ 25 }
         ensures exact { let s = state_of self.old first_file before in
             Gives (λ r. state_of self.new first_file r) result
-            (wanted (has_line (header_view header.now) (operation_view operation.entry) s)
-            LineOut place (after (header_view header.now) (operation_view operation.entry) s)) }
+            (check (has_line (header_view header.now) (operation_view operation.entry) s)
+            LineOut place
+            (state_after (header_view header.now) (operation_view operation.entry) s)) }
         ensures line { (n : ℕ) → IsLineWithin n before.line
             → IfOk result (λ r. IsLineWithin (n + 2 ^ 63) r.line) }
         ensures room { OnOk result (weight (so_far self.new) ≤ weight (so_far self.old) + 1) }
@@ -203,7 +206,7 @@ impl<'a> Draft<'a> {
     ) -> Result<(), LineError>
         requires { weight (so_far self.old) < 2 ^ 25 }
         ensures exact { Gives (λ _. so_far self.new) result
-            (wanted (fits_line registers.line) LineOut place (record (so_far self.old) {
+            (check (fits_line registers.line) LineOut place (record (so_far self.old) {
               rows = self.old.rows.items
                   ++ row (header_view header.now) (state_of self.old first_file registers)
                   ends registers ∷ [];

@@ -1,7 +1,7 @@
 //! The directories and files of a header (DWARF 4, 6.2.4).
 
 ghost use Rattle.std.specs.Prelude.{◌≡◌, suc, length};
-ghost use Rattle.dwarf_lines.specs.Reading.{Walks, WalksOver, texts, files, named, file};
+ghost use Rattle.dwarf_lines.specs.Reading.{Walks, WalksOver, texts, files, file_named, file};
 ghost use Rattle.dwarf_lines.specs.Registers.{directory, file_view, files_view, texts_view};
 
 use crate::fields::{text, unsigned};
@@ -66,7 +66,7 @@ fn named<'a>(
     cursor: &mut Cursor<'a>,
 ) -> Result<FileName<'a>, LineFault>
     ensures { Walks file_view result cursor.new
-        (named (texts_view directories.now) name.now cursor.old) }
+        (file_named (texts_view directories.now) name.now cursor.old) }
 {
     let number = unsigned(cursor)?;
     let _time = unsigned(cursor)?;

@@ -2,7 +2,7 @@
 
 ghost use Rattle.std.specs.Prelude.{◌≡◌, ◌<◌, ◌==◌, IfOk, nat_lt, List, ℕ, length, ◌++◌, take};
 ghost use Rattle.leb_cursor.specs.Ahead.{bytes_at, sleb_at, text_at};
-ghost use Rattle.dwarf_lines.specs.Reading.{Walks, WalksOn, WalksOver, field, leb_field, unsigned, byte, half, word, byte_that, sizes, operations, announced, pass};
+ghost use Rattle.dwarf_lines.specs.Reading.{Walks, WalksOn, WalksOver, field, leb_field, unsigned_field, byte, half_field, word, byte_that, sizes, operations, announced_bytes, ahead_of_numbers};
 
 use crate::{LineError, LineFault, LineKind};
 use leb_cursor::Cursor;
@@ -17,7 +17,7 @@ pub fn byte(cursor: &mut Cursor) -> Result<u8, LineFault>
 
 /// The number in the next 2 bytes; Err where it runs past the end.
 pub fn half(cursor: &mut Cursor) -> Result<u16, LineFault>
-    ensures { Walks (λ x. x) result cursor.new (half cursor.old) }
+    ensures { Walks (λ x. x) result cursor.new (half_field cursor.old) }
 {
     Ok(cursor.half()?)
 }
@@ -38,7 +38,7 @@ pub fn text<'a>(cursor: &mut Cursor<'a>) -> Result<&'a [u8], LineFault>
 
 /// A LEB128 number without a sign; Err where it doesn't end or doesn't fit 64 bits.
 pub fn unsigned(cursor: &mut Cursor) -> Result<u64, LineFault>
-    ensures { Walks (λ x. x) result cursor.new (unsigned cursor.old) }
+    ensures { Walks (λ x. x) result cursor.new (unsigned_field cursor.old) }
 {
     Ok(cursor.uleb()?)
 }
@@ -107,7 +107,7 @@ pub fn announced<'a>(
     count: u32,
     cursor: &mut Cursor<'a>,
 ) -> Result<Cursor<'a>, LineFault>
-    ensures { Walks (λ x. x) result cursor.new (announced place count cursor.old) }
+    ensures { Walks (λ x. x) result cursor.new (announced_bytes place count cursor.old) }
 {
     match cursor.part(count as u64) {
         Ok(part) => Ok(part),
@@ -131,9 +131,9 @@ pub fn bytes(alloc: Global, count: u8, cursor: &mut Cursor) -> Result<Vec<u8>, L
 }
 
 /// Passes so many unsigned numbers. Err tells the first that isn't one.
-#[tactic(auto, unfolding(crate::specs::Reading::pass))]
+#[tactic(auto, unfolding(crate::specs::Reading::ahead_of_numbers))]
 pub fn pass(count: u8, cursor: &mut Cursor) -> Result<(), LineFault>
-    ensures { WalksOn result cursor.new (pass count cursor.old) }
+    ensures { WalksOn result cursor.new (ahead_of_numbers count cursor.old) }
 {
     for _ in 0..count {
         unsigned(cursor)?;

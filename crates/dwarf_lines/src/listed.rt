@@ -3,7 +3,7 @@
 ghost use Rattle.std.specs.Prelude.{◌≡◌, IfOk};
 ghost use Rattle.leb_cursor.specs.Ahead.{bytes_at};
 ghost use Rattle.dwarf_lines.specs.Names.{with_value, paths, files_of, directory_of};
-ghost use Rattle.dwarf_lines.specs.Reading.{Walks, WalksOver, field, text_in, value, entry, entries, listed};
+ghost use Rattle.dwarf_lines.specs.Reading.{Walks, WalksOver, field, text_in, value, entry, entries, entry_list};
 ghost use Rattle.dwarf_lines.specs.Registers.{files_view, texts_view};
 ghost use Rattle.dwarf_lines.specs.Views.{value_view, entry_view, entries_view, strings_view};
 
@@ -149,14 +149,14 @@ fn read_entries<'a>(
 
 /// Formats with their count, and entries with theirs.
 /// Err tells the first wrong field, or want of memory.
-#[tactic(auto, unfolding(crate::specs::Reading::listed))]
+#[tactic(auto, unfolding(crate::specs::Reading::entry_list))]
 pub fn read_listed<'a>(
     alloc: Global,
     strings: &Strings<'a>,
     cursor: &mut Cursor<'a>,
 ) -> Result<Vec<Entry<'a>>, LineError>
     ensures { WalksOver (λ v. entries_view v.items) result cursor.new
-        (listed (strings_view strings.now) cursor.old) }
+        (entry_list (strings_view strings.now) cursor.old) }
 {
     let format_count = byte(cursor)?;
     let formats = read_formats(alloc, format_count, cursor)?;

@@ -20,13 +20,13 @@ pub struct Registers {
 
 impl Registers {
     ghost use Rattle.std.specs.Prelude.{◌≡◌, ◌<◌, ◌^◌};
-    ghost use Rattle.dwarf_lines.specs.Registers.{fresh, changed, moved, address_step};
+    ghost use Rattle.dwarf_lines.specs.Registers.{first_registers, registers_after, with_address_moved, address_step};
     ghost use Rattle.dwarf_lines.specs.Bounds.{IsLineWithin};
     ghost use Rattle.dwarf_lines.specs.Views.{header_view, operation_view};
 
     /// At the beginning of each sequence.
     pub fn fresh(header: &Header) -> Registers
-        ensures { result ≡ fresh (header_view header.now) }
+        ensures { result ≡ first_registers (header_view header.now) }
     {
         Registers {
             address: 0,
@@ -40,7 +40,8 @@ impl Registers {
     /// After an operation, and at its row if it appends one.
     pub fn changed(self, header: &Header, operation: &Operation) -> Registers
         requires { IsLineWithin (2 ^ 100) self.line }
-        ensures { result ≡ changed (header_view header.now) (operation_view operation.now) self }
+        ensures { result
+            ≡ registers_after (header_view header.now) (operation_view operation.now) self }
     {
         match *operation {
             Operation::AdvancePc(count) => {
@@ -69,7 +70,7 @@ impl Registers {
     }
 
     fn moved(self, step: u64) -> Registers
-        ensures { result ≡ moved step self }
+        ensures { result ≡ with_address_moved step self }
     {
         Registers {
             address: self.address.wrapping_add(step),

@@ -12,21 +12,21 @@ use Rattle.coz_types.specs.declared.LineId.{LineId}
 use Rattle.experiment_plan.specs.declared.experiment.Experiment.{Experiment}
 use Rattle.experiment_plan.specs.Selected.{ids}
 use Rattle.experiment_plan.specs.Pairs.{at_speedup, pairs_of, ArePlanned}
-use Rattle.experiment_plan.specs.ByLine.{goes_on, by_line, joined, IsOfOneLine}
+use Rattle.experiment_plan.specs.ByLine.{goes_on, by_line, all_pairs, IsOfOneLine}
 use Rattle.experiment_plan.proofs.Pairing.{many}
 use Rattle.experiment_plan.proofs.Rising.{less}
 
 -- ---- the runs joined are the pairs
 
-onto_joined : (pair : Experiment) (runs : List (List Experiment)) → joined (onto_first pair runs) ≡ pair ∷ joined runs
+onto_joined : (pair : Experiment) (runs : List (List Experiment)) → all_pairs (onto_first pair runs) ≡ pair ∷ all_pairs runs
 onto_joined pair [] = refl
 onto_joined pair (run ∷ runs) = refl
 
-pub joined_again : (pairs : List Experiment) → joined (by_line pairs) ≡ pairs
+pub joined_again : (pairs : List Experiment) → all_pairs (by_line pairs) ≡ pairs
 joined_again [] = refl
 joined_again (pair ∷ pairs) = by (joined_again pairs) (goes_on pair pairs)
   where
-    by : joined (by_line pairs) ≡ pairs → (t : Bool) → joined (cond t (onto_first pair (by_line pairs)) ((pair ∷ []) ∷ by_line pairs)) ≡ pair ∷ pairs
+    by : all_pairs (by_line pairs) ≡ pairs → (t : Bool) → all_pairs (cond t (onto_first pair (by_line pairs)) ((pair ∷ []) ∷ by_line pairs)) ≡ pair ∷ pairs
     by rest true = onto_joined pair (by_line pairs) ∙ ap (λ (ps : List Experiment). pair ∷ ps) rest
     by rest false = ap (λ (ps : List Experiment). pair ∷ ps) rest
 

@@ -11,7 +11,7 @@ use Rattle.line_index.specs.Changes.{or_else}
 use Rattle.line_index.specs.Lines.{Line, is_line_named as is_whole, is_line_below, position_named}
 use Rattle.line_index.proofs.Pieces.{Among, among_map}
 use Rattle.experiment_plan.specs.Lists.{Text, is_line, line_parts, pieces, pieces_left, IsCut}
-use Rattle.experiment_plan.specs.Selected.{id_of, ids, line_found, is_missing, rising, selected, bytes_before, IsMissingAt}
+use Rattle.experiment_plan.specs.Selected.{id_of, ids, line_found, is_missing, rising_numbers, selected, bytes_before, IsMissingAt}
 use Rattle.experiment_plan.proofs.Among.{all_among}
 use Rattle.experiment_plan.proofs.Rising.{of_rising}
 
@@ -82,7 +82,7 @@ tail_of list piece (Some rest) is = (44 ∷ rest, is)
 
 first_missing : (lines : List Line) (text : Text) (piece : Text) → find (is_missing lines) (pieces text) ≡ Some piece → selected lines text ≡ Err piece
 first_missing lines text piece e =
-    let of : Option Text → Result (List ℕ) Text = λ o. elim o [ Some p ↦ Err p | None ↦ Ok (rising (filter_map (line_found lines) (pieces text))) ] in
+    let of : Option Text → Result (List ℕ) Text = λ o. elim o [ Some p ↦ Err p | None ↦ Ok (rising_numbers (filter_map (line_found lines) (pieces text))) ] in
     ap of e
 
 pub missing_at : (lines : List Line) (text list piece : Text) (rest : Option Text) (put : List ℕ) → line_found lines piece ≡ None → pieces list ≡ piece ∷ pieces_left rest → IsCut list piece rest
@@ -110,10 +110,10 @@ missing_at lines text list piece rest put missing cut part before =
 pub all_named : (lines : List Line) (text : Text) (put : List ℕ) → Continues lines text put None → (find (is_missing lines) (pieces text) ≡ None) × (put ≡ filter_map (line_found lines) (pieces text))
 all_named lines text put all = (sym all.1, sym (append-nil put) ∙ all.2)
 
-pub all_selected : (lines : List Line) (text : Text) (named new : List ℕ) → find (is_missing lines) (pieces text) ≡ None → named ≡ filter_map (line_found lines) (pieces text) → new ≡ rising named → selected lines text ≡ Ok new
+pub all_selected : (lines : List Line) (text : Text) (named new : List ℕ) → find (is_missing lines) (pieces text) ≡ None → named ≡ filter_map (line_found lines) (pieces text) → new ≡ rising_numbers named → selected lines text ≡ Ok new
 all_selected lines text named new none is sorted =
-    let of : Option Text → Result (List ℕ) Text = λ o. elim o [ Some p ↦ Err p | None ↦ Ok (rising (filter_map (line_found lines) (pieces text))) ] in
-    ap of none ∙ ap (λ ns. Ok (rising ns)) (sym is) ∙ ap (λ (ns : List ℕ). Ok ns) (sym sorted)
+    let of : Option Text → Result (List ℕ) Text = λ o. elim o [ Some p ↦ Err p | None ↦ Ok (rising_numbers (filter_map (line_found lines) (pieces text))) ] in
+    ap of none ∙ ap (λ ns. Ok (rising_numbers ns)) (sym is) ∙ ap (λ (ns : List ℕ). Ok ns) (sym sorted)
 
 -- ---- a line that is found is one of the lines
 
@@ -137,9 +137,9 @@ named_below lines (text ∷ texts) n m = by (line_found lines text) refl (named_
     by (Some k) is rest (inl e) = subst (λ j. j < length lines) e (found_below (line_parts text).0 (line_parts text).1 lines k is)
     by (Some k) is rest (inr h) = rest h
 
-pub all_below : (lines : List Line) (text : Text) (named new : List LineId) → ids named ≡ filter_map (line_found lines) (pieces text) → ids new ≡ rising (ids named) → All (λ (line : LineId). line.0 < length lines) new
+pub all_below : (lines : List Line) (text : Text) (named new : List LineId) → ids named ≡ filter_map (line_found lines) (pieces text) → ids new ≡ rising_numbers (ids named) → All (λ (line : LineId). line.0 < length lines) new
 all_below lines text named new is sorted =
     all_among (λ (line : LineId). line.0 < length lines) new
     (λ line m.
-    let risen : Among line.0 (rising (ids named)) = subst (Among line.0) sorted (among_map id_of line new m) in
+    let risen : Among line.0 (rising_numbers (ids named)) = subst (Among line.0) sorted (among_map id_of line new m) in
     named_below lines (pieces text) line.0 (subst (Among line.0) is (of_rising line.0 (ids named) risen)))

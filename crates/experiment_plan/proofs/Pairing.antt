@@ -13,8 +13,8 @@ use Rattle.coz_types.specs.declared.LineId.{LineId}
 use Rattle.line_index.proofs.Order.{self_equal}
 use Rattle.line_index.proofs.Pieces.{Among, among_mapped}
 use Rattle.experiment_plan.specs.declared.experiment.Experiment.{Experiment}
-use Rattle.experiment_plan.specs.Selected.{id_of, ids, rising}
-use Rattle.experiment_plan.specs.Pairs.{at_speedup, pairs_of, pair_cmp, planned}
+use Rattle.experiment_plan.specs.Selected.{id_of, ids, rising_numbers}
+use Rattle.experiment_plan.specs.Pairs.{at_speedup, pairs_of, pair_cmp, planned_pairs}
 use Rattle.experiment_plan.proofs.Among.{all_among, one_among, each_append, among_either}
 use Rattle.experiment_plan.proofs.Rising.{rises, of_rising, few, at_least}
 
@@ -95,23 +95,23 @@ lines_below count lines ps all = all_among (λ (pair : Experiment). pair.line.0 
 
 -- ---- 0 and the speedups that are given
 
-pub speedup_few : (speedups : List ℕ) (n : ℕ) → All (λ p. p ≤ 95) speedups → Among n (rising (0 ∷ speedups)) → n ≤ 95
+pub speedup_few : (speedups : List ℕ) (n : ℕ) → All (λ p. p ≤ 95) speedups → Among n (rising_numbers (0 ∷ speedups)) → n ≤ 95
 speedup_few speedups n all m = by (of_rising n (0 ∷ speedups) m)
   where
     by : Among n (0 ∷ speedups) → n ≤ 95
     by (inl e) = omega (arith, e)
     by (inr h) = one_among (λ p. p ≤ 95) n speedups all h
 
-pub speedups_few : (lines : List LineId) (speedups : List ℕ) → All (λ p. p ≤ 95) speedups → All (λ (pair : Experiment). pair.speedup ≤ 95) (planned lines speedups)
+pub speedups_few : (lines : List LineId) (speedups : List ℕ) → All (λ p. p ≤ 95) speedups → All (λ (pair : Experiment). pair.speedup ≤ 95) (planned_pairs lines speedups)
 speedups_few lines speedups all =
-    all_among (λ (pair : Experiment). pair.speedup ≤ 95) (planned lines speedups)
-    (λ pair m. speedup_few speedups pair.speedup all (made_of pair lines (rising (0 ∷ speedups)) m).1)
+    all_among (λ (pair : Experiment). pair.speedup ≤ 95) (planned_pairs lines speedups)
+    (λ pair m. speedup_few speedups pair.speedup all (made_of pair lines (rising_numbers (0 ∷ speedups)) m).1)
 
 -- there are at most 96 of them
-pub few_speedups : (speedups : List ℕ) → All (λ p. p ≤ 95) speedups → length (rising (0 ∷ speedups)) ≤ 96
+pub few_speedups : (speedups : List ℕ) → All (λ p. p ≤ 95) speedups → length (rising_numbers (0 ∷ speedups)) ≤ 96
 few_speedups speedups all =
-    let most : 0 + length (rising (0 ∷ speedups)) ≤ 96 =
-    few 0 96 (rising (0 ∷ speedups)) (rises (0 ∷ speedups)) (λ n m. let le = speedup_few speedups n all m in (omega arith, omega (arith, le))) (omega arith) in
+    let most : 0 + length (rising_numbers (0 ∷ speedups)) ≤ 96 =
+    few 0 96 (rising_numbers (0 ∷ speedups)) (rises (0 ∷ speedups)) (λ n m. let le = speedup_few speedups n all m in (omega arith, omega (arith, le))) (omega arith) in
     omega (arith, most)
 
 -- and at most 2^32 lines
@@ -132,8 +132,8 @@ few_pairs n m lines speedups = let le : n * m ≤ 2 ^ 32 * m = mul-le-mul_right 
 
 -- ---- a plan
 
-pub plan_of : (lines : List LineId) (speedups ps qs : List ℕ) (pairs : List Experiment) → pairs ≡ pairs_of lines qs → qs ≡ ps → ps ≡ rising (0 ∷ speedups) → pairs ≡ planned lines speedups
+pub plan_of : (lines : List LineId) (speedups ps qs : List ℕ) (pairs : List Experiment) → pairs ≡ pairs_of lines qs → qs ≡ ps → ps ≡ rising_numbers (0 ∷ speedups) → pairs ≡ planned_pairs lines speedups
 plan_of lines speedups ps qs pairs is same risen = is ∙ ap (pairs_of lines) (same ∙ risen)
 
-pub plan_length : (lines : List LineId) (speedups ps qs : List ℕ) (count : ℕ) → count ≡ length lines * length qs → qs ≡ ps → ps ≡ rising (0 ∷ speedups) → count ≡ length (planned lines speedups)
-plan_length lines speedups ps qs count is same risen = is ∙ ap (λ (rs : List ℕ). length lines * length rs) (same ∙ risen) ∙ sym (many lines (rising (0 ∷ speedups)))
+pub plan_length : (lines : List LineId) (speedups ps qs : List ℕ) (count : ℕ) → count ≡ length lines * length qs → qs ≡ ps → ps ≡ rising_numbers (0 ∷ speedups) → count ≡ length (planned_pairs lines speedups)
+plan_length lines speedups ps qs count is same risen = is ∙ ap (λ (rs : List ℕ). length lines * length rs) (same ∙ risen) ∙ sym (many lines (rising_numbers (0 ∷ speedups)))

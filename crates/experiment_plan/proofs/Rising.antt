@@ -13,7 +13,7 @@ use Rattle.line_index.proofs.Distinct.{IsDistinctOf, distinct}
 use Rattle.line_index.proofs.Order.{sorted_map}
 use Rattle.line_index.proofs.Ordered.{in_order_sorted, of_in_order, to_in_order, same_sorted}
 use Rattle.line_index.proofs.Pieces.{Among, to_among, from_among, among_map, among_mapped}
-use Rattle.experiment_plan.specs.Selected.{rising}
+use Rattle.experiment_plan.specs.Selected.{rising_numbers}
 use Rattle.experiment_plan.proofs.Among.{each_among}
 
 contained : {X : Type 0} (x : X) (xs : List X) → Contains xs x → Among x xs
@@ -27,39 +27,39 @@ module _ {X : Type 0} (f : X → ℕ) where
   tied : (x y : X) → eq_by_cmp by_number x y ≡ true → f x ≡ f y
   tied x y e = eqb-true (f x) (f y) (unsigned_ties (f x) (f y) ∙ e)
 
-  into : (xs ys : List X) → IsDistinctOf by_number xs ys → (n : ℕ) → Among n (map f ys) → Among n (rising (map f xs))
+  into : (xs ys : List X) → IsDistinctOf by_number xs ys → (n : ℕ) → Among n (map f ys) → Among n (rising_numbers (map f xs))
   into xs ys h n m =
       let one = among_mapped f n ys m in
       let there : Among one.0 xs = contained one.0 xs (h.from one.0 (from_among one.0 ys one.1)) in
       to_in_order nat_cmp_total nat_cmp-IsAntisymmetric n (map f xs) (subst (λ k. Among k (map f xs)) one.2 (among_map f one.0 xs there))
 
-  out_of : (xs ys : List X) → IsDistinctOf by_number xs ys → (n : ℕ) → Among n (rising (map f xs)) → Among n (map f ys)
+  out_of : (xs ys : List X) → IsDistinctOf by_number xs ys → (n : ℕ) → Among n (rising_numbers (map f xs)) → Among n (map f ys)
   out_of xs ys h n m =
       let one = among_mapped f n xs (of_in_order nat_cmp_total n (map f xs) m) in
       let there = h.kept one.0 (from_among one.0 xs one.1) in
       let found : Among there.1 ys = to_among there.1 ys there.0 there.2 there.3 in
       subst (λ k. Among k (map f ys)) (sym (tied one.0 there.1 there.4) ∙ one.2) (among_map f there.1 ys found)
 
-  pub rising_of : (E : X → X → Bool) (ties : (x y : X) → E x y ≡ eq_by_cmp by_number x y) (xs zs ys : List X) → IsPermutation xs zs → IsSorted by_number zs → IsFiltered (DiffersFromLast E) [] zs ys → map f ys ≡ rising (map f xs)
+  pub rising_of : (E : X → X → Bool) (ties : (x y : X) → E x y ≡ eq_by_cmp by_number x y) (xs zs ys : List X) → IsPermutation xs zs → IsSorted by_number zs → IsFiltered (DiffersFromLast E) [] zs ys → map f ys ≡ rising_numbers (map f xs)
   rising_of E ties xs zs ys moved sorted filtered =
       let h = distinct (on_total f nat_cmp_total) E ties xs zs ys moved sorted filtered in
-      same_sorted nat_cmp_total (map f ys) (rising (map f xs)) (sorted_map f nat_cmp ys h.in_order) (in_order_sorted nat_cmp_total (map f xs)) (into xs ys h) (out_of xs ys h)
+      same_sorted nat_cmp_total (map f ys) (rising_numbers (map f xs)) (sorted_map f nat_cmp ys h.in_order) (in_order_sorted nat_cmp_total (map f xs)) (into xs ys h) (out_of xs ys h)
 
-pub rises : (ns : List ℕ) → IsStrictlySortedBy nat_cmp (rising ns)
+pub rises : (ns : List ℕ) → IsStrictlySortedBy nat_cmp (rising_numbers ns)
 rises ns = in_order_sorted nat_cmp_total ns
 
 -- no number is lost
-pub to_rising : (n : ℕ) (ns : List ℕ) → Among n ns → Among n (rising ns)
+pub to_rising : (n : ℕ) (ns : List ℕ) → Among n ns → Among n (rising_numbers ns)
 to_rising n ns m = to_in_order nat_cmp_total nat_cmp-IsAntisymmetric n ns m
 
 not_empty : (n : ℕ) (ns : List ℕ) → Among n ns → 0 < length ns
 not_empty n [] m = absurd m
 not_empty n (k ∷ ns) m = omega arith
 
-pub some_rise : (n : ℕ) (ns : List ℕ) → 0 < length (rising (n ∷ ns))
-some_rise n ns = not_empty n (rising (n ∷ ns)) (to_rising n (n ∷ ns) (inl refl))
+pub some_rise : (n : ℕ) (ns : List ℕ) → 0 < length (rising_numbers (n ∷ ns))
+some_rise n ns = not_empty n (rising_numbers (n ∷ ns)) (to_rising n (n ∷ ns) (inl refl))
 
-pub of_rising : (n : ℕ) (ns : List ℕ) → Among n (rising ns) → Among n ns
+pub of_rising : (n : ℕ) (ns : List ℕ) → Among n (rising_numbers ns) → Among n ns
 of_rising n ns m = of_in_order nat_cmp_total n ns m
 
 pub less : (n m : ℕ) → nat_cmp n m ≡ Less → n < m

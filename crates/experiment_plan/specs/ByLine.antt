@@ -17,8 +17,8 @@ by_line (pair ∷ pairs) =
     if goes_on pair pairs then onto_first pair (by_line pairs) else (pair ∷ []) ∷ by_line pairs
 
 -- all pairs of some lines, one behind the other
-abbrev pub joined : List (List Experiment) → List Experiment
-joined runs = flat_map (λ (run : List Experiment). run) runs
+abbrev pub all_pairs : List (List Experiment) → List Experiment
+all_pairs runs = flat_map (λ (run : List Experiment). run) runs
 
 -- there are pairs, and all are of one line
 pub record IsOfOneLine (pairs : List Experiment) : Type 0 where

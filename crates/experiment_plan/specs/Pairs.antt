@@ -8,7 +8,7 @@ use Rattle.coz_types.specs.declared.TheConstants.{GREATEST_SPEEDUP}
 use Rattle.experiment_plan.specs.declared.experiment.Experiment.{Experiment}
 use Rattle.experiment_plan.specs.declared.experiment.PlanError.{PlanError}
 use Rattle.experiment_plan.specs.declared.experiment.PlanError.TheVariants.{TooMany, Memory}
-use Rattle.experiment_plan.specs.Selected.{ids, rising}
+use Rattle.experiment_plan.specs.Selected.{ids, rising_numbers}
 
 abbrev pub at_speedup : LineId → ℕ → Experiment
 at_speedup line speedup = record { line = line; speedup = speedup }
@@ -18,8 +18,8 @@ abbrev pub pairs_of : List LineId → List ℕ → List Experiment
 pairs_of lines speedups = flat_map (λ (line : LineId). map (at_speedup line) speedups) lines
 
 -- each line at 0 and at each of these speedups, which rise, each once
-abbrev pub planned : List LineId → List ℕ → List Experiment
-planned lines speedups = pairs_of lines (rising (0 ∷ speedups))
+abbrev pub planned_pairs : List LineId → List ℕ → List Experiment
+planned_pairs lines speedups = pairs_of lines (rising_numbers (0 ∷ speedups))
 
 -- by line, then by speedup
 abbrev pub pair_cmp : Experiment → Experiment → Ordering
@@ -39,7 +39,7 @@ pub record ArePlanned (count : ℕ) (pairs : List Experiment) : Type 0 where
 
 -- all pairs, or how many they are, which is above 100,000
 abbrev pub IsPlan : List LineId → List ℕ → Result (List Experiment) PlanError → Type 0
-IsPlan lines speedups (Ok plan) = (plan ≡ planned lines speedups) × (length plan ≤ 100000)
+IsPlan lines speedups (Ok plan) = (plan ≡ planned_pairs lines speedups) × (length plan ≤ 100000)
 IsPlan lines speedups (Err (TooMany count)) =
-    (count ≡ length (planned lines speedups)) × (100000 < count)
+    (count ≡ length (planned_pairs lines speedups)) × (100000 < count)
 IsPlan lines speedups (Err Memory) = Unit {0}

@@ -17,8 +17,8 @@ abbrev pub ids : List LineId → List ℕ
 ids lines = map id_of lines
 
 -- numbers as they rise, each once
-abbrev pub rising : List ℕ → List ℕ
-rising numbers = in_order nat_cmp numbers
+abbrev pub rising_numbers : List ℕ → List ℕ
+rising_numbers numbers = in_order nat_cmp numbers
 
 -- the position of the line that a text names, if there is one
 abbrev pub line_found : List Line → Text → Option ℕ
@@ -33,7 +33,7 @@ abbrev pub selected : List Line → Text → Result (List ℕ) Text
 selected lines text =
     elim (find (is_missing lines) (pieces text)) [
       | Some piece ↦ Err piece
-      | None ↦ Ok (rising (filter_map (line_found lines) (pieces text)))
+      | None ↦ Ok (rising_numbers (filter_map (line_found lines) (pieces text)))
     ]
 
 -- how many bytes stand in front of the first missing piece: the pieces before it,

@@ -2,7 +2,7 @@
 ghost use Rattle.std.specs.Prelude.{◌≡◌, ◌<◌, ◌≤◌, Some, length, slice_get, All};
 ghost use Rattle.coz_types.specs.declared.TheConstants.{GREATEST_SPEEDUP};
 ghost use Rattle.experiment_plan.specs.declared.experiment.Experiment.{Experiment};
-ghost use Rattle.experiment_plan.specs.ByLine.{by_line, joined, IsOfOneLine};
+ghost use Rattle.experiment_plan.specs.ByLine.{by_line, all_pairs, IsOfOneLine};
 
 use crate::experiment::{Experiment, Plan};
 
@@ -10,7 +10,7 @@ impl Plan {
     /// How many lines the plan has. The pairs of all of them, one behind the other, are the plan.
     pub fn line_count(&self) -> u32
         ensures count { result ≡ length (by_line self.now) }
-        ensures all { joined (by_line self.now) ≡ self.now }
+        ensures all { all_pairs (by_line self.now) ≡ self.now }
     {
         (self.pairs.len() / self.speedups) as u32
     }

@@ -5,7 +5,7 @@ ghost use Rattle.std.specs.List.Sorted.{IsStrictlySortedBy};
 ghost use Rattle.coz_types.specs.declared.LineId.{LineId};
 ghost use Rattle.coz_types.specs.declared.TheConstants.{GREATEST_SPEEDUP};
 ghost use Rattle.experiment_plan.specs.declared.experiment.Experiment.{Experiment};
-ghost use Rattle.experiment_plan.specs.Selected.{ids, rising};
+ghost use Rattle.experiment_plan.specs.Selected.{ids, rising_numbers};
 ghost use Rattle.experiment_plan.specs.Pairs.{at_speedup, pairs_of, pair_cmp, IsPlan};
 
 use crate::experiment::{Experiment, Plan, PlanError};
@@ -17,7 +17,7 @@ const MOST_PAIRS: u64 = 100000;
 
 /// Speedups with 0 among them, as they rise and each once.
 fn rising_speedups(alloc: Global, speedups: &[u8]) -> Result<Vec<u8>, AllocError>
-    ensures { IfOk result (λ rises. rises.items ≡ rising (0 ∷ speedups.now)) }
+    ensures { IfOk result (λ rises. rises.items ≡ rising_numbers (0 ∷ speedups.now)) }
 {
     let mut rises = Vec::with_capacity(alloc, 1)?;
     rises.push(0)?;

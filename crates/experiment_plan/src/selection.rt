@@ -4,7 +4,7 @@ ghost use Rattle.std.specs.Ordering.{nat_cmp};
 ghost use Rattle.std.specs.List.Sorted.{IsStrictlySortedBy};
 ghost use Rattle.coz_types.specs.declared.LineId.{LineId};
 ghost use Rattle.experiment_plan.specs.Lists.{is_line, is_list};
-ghost use Rattle.experiment_plan.specs.Selected.{id_of, ids, line_found, rising, AreNamed, IsSelection};
+ghost use Rattle.experiment_plan.specs.Selected.{id_of, ids, line_found, rising_numbers, AreNamed, IsSelection};
 ghost use Rattle.experiment_plan.specs.declared.selection.SelectError.TheVariants.{Memory};
 
 use crate::line::{first_piece, line_parts};
@@ -70,7 +70,7 @@ fn lines_named(alloc: Global, index: &LineIndex, text: &[u8]) -> Result<Vec<Line
 
 /// Lines as they rise, each once.
 fn rising_lines(lines: &mut Vec<LineId>) -> Result<(), AllocError>
-    ensures { OnOk result (ids lines.new.items ≡ rising (ids lines.old.items)) }
+    ensures { OnOk result (ids lines.new.items ≡ rising_numbers (ids lines.old.items)) }
 {
     lines.sort_by_key(|line| line.0)?;
     lines.dedup();

@@ -10,9 +10,9 @@ use Rattle.coz_types.specs.declared.image.Area.{Area}
 use Rattle.guest_memory.specs.declared.Layout.{Layout}
 use Rattle.guest_memory.specs.Regions.{page_of, pages_for, brk_base, brk_end, map_base, map_end, IsLayout}
 use Rattle.guest_memory.specs.Memory.{MemoryMap, no_rights, read_and_write, with_rights_from, with_zeros}
-use Rattle.guest_areas.specs.Answers.{invalid}
-use Rattle.guest_areas.specs.Marks.{marked}
-use Rattle.guest_areas.specs.Space.{Space, space, Answered, refused, has, rights_of, is_page_start, is_in_run, free_run, run, with_break, map, is_in_map, unmap}
+use Rattle.guest_areas.specs.Answers.{invalid_argument}
+use Rattle.guest_areas.specs.Marks.{marked_pages}
+use Rattle.guest_areas.specs.Space.{Space, space, Answered, refused_answer, has_power, rights_of, is_page_start, is_in_run, free_run, run, with_break, map, is_in_map, unmap}
 use Rattle.guest_areas.specs.Kept.{regions_of, IsKept}
 use Rattle.guest_areas.proofs.MarkLemmas.{marked-taken, marked-left}
 use Rattle.guest_areas.proofs.FreeRuns.{found_is, search_is}
@@ -51,7 +51,7 @@ not_false true h = let no : ⊥ = cc in absurd no
 not_false false h = refl
 
 -- a run that is found is mapped
-pub map_done : (areas : List Area) (layout : Layout) (break : ℕ) (flags filled : List Bool) (m now : MemoryMap) (len protection count place k : ℕ) → IsKept layout break flags → (len ≡ 0 → ⊥) → has protection 4 ≡ false → count ≡ pages_for len
+pub map_done : (areas : List Area) (layout : Layout) (break : ℕ) (flags filled : List Bool) (m now : MemoryMap) (len protection count place k : ℕ) → IsKept layout break flags → (len ≡ 0 → ⊥) → has_power protection 4 ≡ false → count ≡ pages_for len
     → free_run (regions_of areas layout break flags) count ≡ Some (34603008 + place) → k ≡ count → filled ≡ replicate k true
     → now ≡ with_zeros (page_of (141733920768 + place * 4096)) count (with_rights_from (page_of (141733920768 + place * 4096)) count (rights_of protection) m)
     → record { answer = pos (141733920768 + place * 4096); space = space (regions_of areas layout break (put_mid place k flags filled)) now } ≡ map len protection (space (regions_of areas layout break flags) m)
@@ -61,34 +61,34 @@ map_done areas layout break flags filled m now len protection count place k kept
     (search_is (regions_of areas layout break flags) count (page_of layout.map) 34603008 some_pages ∙ found) in
     let within : place + k ≤ length flags = omega (arith, at.within, kept.each_page) in
     let more : 0 < k = omega arith in
-    let free : list_any (is_in_run (34603008 + place) k) (marked 34603008 flags) ≡ false =
-    ap (λ (n : ℕ). list_any (is_in_run (34603008 + place) n) (marked 34603008 flags)) size ∙ not_false (list_any (is_in_run (34603008 + place) count) (marked 34603008 flags)) at.free in
-    let mapped : marked 34603008 (put_mid place k flags filled) ≡ filter (λ p. ltb p (34603008 + place)) (marked 34603008 flags) ++ run (34603008 + place) (pages_for len) ++ filter (λ p. ltb (34603008 + place) p) (marked 34603008 flags) =
-    ap (λ (fs : List Bool). marked 34603008 (put_mid place k flags fs)) full ∙ marked-taken 34603008 place k flags more within free
-    ∙ ap (λ (n : ℕ). filter (λ p. ltb p (34603008 + place)) (marked 34603008 flags) ++ run (34603008 + place) n ++ filter (λ p. ltb (34603008 + place) p) (marked 34603008 flags)) (size ∙ is) in
+    let free : list_any (is_in_run (34603008 + place) k) (marked_pages 34603008 flags) ≡ false =
+    ap (λ (n : ℕ). list_any (is_in_run (34603008 + place) n) (marked_pages 34603008 flags)) size ∙ not_false (list_any (is_in_run (34603008 + place) count) (marked_pages 34603008 flags)) at.free in
+    let mapped : marked_pages 34603008 (put_mid place k flags filled) ≡ filter (λ p. ltb p (34603008 + place)) (marked_pages 34603008 flags) ++ run (34603008 + place) (pages_for len) ++ filter (λ p. ltb (34603008 + place) p) (marked_pages 34603008 flags) =
+    ap (λ (fs : List Bool). marked_pages 34603008 (put_mid place k flags fs)) full ∙ marked-taken 34603008 place k flags more within free
+    ∙ ap (λ (n : ℕ). filter (λ p. ltb p (34603008 + place)) (marked_pages 34603008 flags) ++ run (34603008 + place) n ++ filter (λ p. ltb (34603008 + place) p) (marked_pages 34603008 flags)) (size ∙ is) in
     let memory : now ≡ with_zeros (34603008 + place) (pages_for len) (with_rights_from (34603008 + place) (pages_for len) (rights_of protection) m) =
     e ∙ ap (λ (p : ℕ). with_zeros p count (with_rights_from p count (rights_of protection) m)) (let f : page_of (141733920768 + place * 4096) ≡ 34603008 + place = omega arith in f)
     ∙ ap (λ (n : ℕ). with_zeros (34603008 + place) n (with_rights_from (34603008 + place) n (rights_of protection) m)) is in
-    ap (λ (a : ℕ). answered a areas layout break (marked 34603008 (put_mid place k flags filled)) now) (let f : 141733920768 + place * 4096 ≡ (34603008 + place) * 4096 = omega arith in f)
+    ap (λ (a : ℕ). answered a areas layout break (marked_pages 34603008 (put_mid place k flags filled)) now) (let f : 141733920768 + place * 4096 ≡ (34603008 + place) * 4096 = omega arith in f)
     ∙ ap (λ (ps : List ℕ). answered ((34603008 + place) * 4096) areas layout break ps now) mapped
     ∙ ap (λ (x : MemoryMap). answered ((34603008 + place) * 4096) areas layout break
-    (filter (λ p. ltb p (34603008 + place)) (marked 34603008 flags) ++ run (34603008 + place) (pages_for len) ++ filter (λ p. ltb (34603008 + place) p) (marked 34603008 flags)) x) memory
+    (filter (λ p. ltb p (34603008 + place)) (marked_pages 34603008 flags) ++ run (34603008 + place) (pages_for len) ++ filter (λ p. ltb (34603008 + place) p) (marked_pages 34603008 flags)) x) memory
     ∙ sym (map-at len protection (space (regions_of areas layout break flags) m) (Some (34603008 + place)) some safe
     (ap (λ (n : ℕ). free_run (regions_of areas layout break flags) n) (sym is) ∙ found))
 
-pub unmap_unaligned : (address len : ℕ) (s : Space) → (address % 4096 ≡ 0 → ⊥) → unmap address len s ≡ refused invalid s
+pub unmap_unaligned : (address len : ℕ) (s : Space) → (address % 4096 ≡ 0 → ⊥) → unmap address len s ≡ refused_answer invalid_argument s
 unmap_unaligned address len s h =
     unmap-refused address len s
     (or_left (not (is_page_start address) || eqb len 0) (not (is_in_map s.regions.layout address len))
     (or_left (not (is_page_start address)) (eqb len 0) (ap not (ne_eqb (address % 4096) 0 h))))
 
-pub unmap_empty : (address len : ℕ) (s : Space) → len ≡ 0 → unmap address len s ≡ refused invalid s
+pub unmap_empty : (address len : ℕ) (s : Space) → len ≡ 0 → unmap address len s ≡ refused_answer invalid_argument s
 unmap_empty address len s h =
     unmap-refused address len s
     (or_left (not (is_page_start address) || eqb len 0) (not (is_in_map s.regions.layout address len))
     (or_right (not (is_page_start address)) (eqb len 0) (eq-eqb len 0 h)))
 
-pub unmap_outside : (address len : ℕ) (s : Space) → is_in_map s.regions.layout address len ≡ false → unmap address len s ≡ refused invalid s
+pub unmap_outside : (address len : ℕ) (s : Space) → is_in_map s.regions.layout address len ≡ false → unmap address len s ≡ refused_answer invalid_argument s
 unmap_outside address len s h =
     unmap-refused address len s
     (or_right (not (is_page_start address) || eqb len 0) (not (is_in_map s.regions.layout address len)) (ap not h))
@@ -122,12 +122,12 @@ unmap_done areas layout break flags filled m now address len count place k kept 
     let passes : (not (is_page_start address) || eqb len 0 || not (is_in_map layout address len)) ≡ false =
     or_from (not (is_page_start address) || eqb len 0) (not (is_in_map layout address len))
     (or_from (not (is_page_start address)) (eqb len 0) (ap not (eq-eqb (address % 4096) 0 aligned)) (ne_eqb len 0 some)) (ap not inside) in
-    let mapped : marked 34603008 (put_mid place k flags filled) ≡ filter (λ p. not (is_in_run (page_of address) (pages_for len) p)) (marked 34603008 flags) =
-    ap (λ (fs : List Bool). marked 34603008 (put_mid place k flags fs)) empty ∙ marked-left 34603008 place k flags within
-    ∙ ap (λ (q : ℕ). filter (λ p. not (is_in_run q k p)) (marked 34603008 flags)) first
-    ∙ ap (λ (n : ℕ). filter (λ p. not (is_in_run (page_of address) n p)) (marked 34603008 flags)) (size ∙ is) in
+    let mapped : marked_pages 34603008 (put_mid place k flags filled) ≡ filter (λ p. not (is_in_run (page_of address) (pages_for len) p)) (marked_pages 34603008 flags) =
+    ap (λ (fs : List Bool). marked_pages 34603008 (put_mid place k flags fs)) empty ∙ marked-left 34603008 place k flags within
+    ∙ ap (λ (q : ℕ). filter (λ p. not (is_in_run q k p)) (marked_pages 34603008 flags)) first
+    ∙ ap (λ (n : ℕ). filter (λ p. not (is_in_run (page_of address) n p)) (marked_pages 34603008 flags)) (size ∙ is) in
     ap (λ (ps : List ℕ). answered 0 areas layout break ps now) mapped
-    ∙ ap (λ (x : MemoryMap). answered 0 areas layout break (filter (λ p. not (is_in_run (page_of address) (pages_for len) p)) (marked 34603008 flags)) x)
+    ∙ ap (λ (x : MemoryMap). answered 0 areas layout break (filter (λ p. not (is_in_run (page_of address) (pages_for len) p)) (marked_pages 34603008 flags)) x)
     (e ∙ ap (λ (n : ℕ). with_rights_from (page_of address) n no_rights m) is)
     ∙ sym (unmap-done address len (space (regions_of areas layout break flags) m) passes)
 

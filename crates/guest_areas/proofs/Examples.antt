@@ -5,7 +5,7 @@ use Rattle.coz_types.specs.declared.image.Area.{Area}
 use Rattle.coz_types.specs.Image.{ImageParts}
 use Rattle.guest_memory.specs.Regions.{usual, brk_base, map_base}
 use Rattle.guest_memory.specs.Memory.{empty_memory, load, is_writable}
-use Rattle.guest_areas.specs.Answers.{no_memory, no_access, invalid}
+use Rattle.guest_areas.specs.Answers.{no_memory, no_access, invalid_argument}
 use Rattle.guest_areas.specs.Space.{Space, space, Answered, with_break, map, unmap, protect}
 use Rattle.guest_areas.specs.Entry.{with_numbers, with_entry, stack_pointer, first_space}
 
@@ -53,7 +53,7 @@ short : (map 1 3 (unmap (map_base + 4096) 4096 (mapped 4096 (mapped 4096 (mapped
 unfolding map unmap
 short = refl
 
-no_bytes : (map 0 3 start).answer ≡ invalid
+no_bytes : (map 0 3 start).answer ≡ invalid_argument
 unfolding map
 no_bytes = refl
 
@@ -62,7 +62,7 @@ unfolding map
 to_execute = refl
 
 -- half of the range is outside of the region
-half : (unmap (map_base + 48 * 1048576 - 4096) 8192 start).answer ≡ invalid
+half : (unmap (map_base + 48 * 1048576 - 4096) 8192 start).answer ≡ invalid_argument
 unfolding unmap
 half = refl
 

@@ -2,7 +2,7 @@
 use Rattle.std.proofs.Common.{ℕ, zero, suc, ◌≡◌, ◌+◌, ◌-◌, ◌≤◌, ◌<◌, Bool, true, false, not, cond, nat_le, leb, ltb, List, length, get_or, find, arith, refl, sym, ap, ◌∙◌, ◌⊎◌, ⊎_elim, inl, inr, Option, Some, None}
 use Rattle.std.specs.List.{list_any}
 use Rattle.std.proofs.lemmas.Bool.{cases_Bool, and_parts, leb-true, ltb-true, le-leb, cases_lt, false_from_ne_true}
-use Rattle.guest_areas.specs.Marks.{marked}
+use Rattle.guest_areas.specs.Marks.{marked_pages}
 use Rattle.guest_areas.specs.Space.{RegionMap, is_in_run, is_free_run, run}
 use Rattle.guest_areas.proofs.MarkLemmas.{list_any-marked_at, list_any-marked_none, in_run}
 
@@ -112,13 +112,13 @@ found_is r count (suc left) page p e =
     (cases_le count (suc left))
 
 -- a marked page in a run
-pub not_free : (r : RegionMap) (b : ℕ) (fs : List Bool) (first count k : ℕ) → r.mapped ≡ marked b fs → k < length fs → get_or fs k false ≡ true → first ≤ b + k → b + k < first + count → is_free_run r first count ≡ false
+pub not_free : (r : RegionMap) (b : ℕ) (fs : List Bool) (first count k : ℕ) → r.mapped ≡ marked_pages b fs → k < length fs → get_or fs k false ≡ true → first ≤ b + k → b + k < first + count → is_free_run r first count ≡ false
 not_free r b fs first count k e h m from below =
     ap (λ (ps : List ℕ). not (list_any (is_in_run first count) ps)) e
     ∙ ap not (list_any-marked_at (is_in_run first count) b fs k h m (in_run first count (b + k) from below))
 
 -- no marked page in a run
-pub is_free : (r : RegionMap) (b : ℕ) (fs : List Bool) (first count : ℕ) → r.mapped ≡ marked b fs → ((k : ℕ) → k < length fs → first ≤ b + k → b + k < first + count → get_or fs k false ≡ false) → is_free_run r first count ≡ true
+pub is_free : (r : RegionMap) (b : ℕ) (fs : List Bool) (first count : ℕ) → r.mapped ≡ marked_pages b fs → ((k : ℕ) → k < length fs → first ≤ b + k → b + k < first + count → get_or fs k false ≡ false) → is_free_run r first count ≡ true
 is_free r b fs first count e h =
     ap (λ (ps : List ℕ). not (list_any (is_in_run first count) ps)) e
     ∙ ap not (list_any-marked_none (is_in_run first count) b fs (λ k l t.
@@ -126,7 +126,7 @@ is_free r b fs first count e h =
     h k l (leb-true first (b + k) p.0) (ltb-true (b + k) (first + count) p.1)))
 
 -- the search after a mapped page
-pub search_taken : (r : RegionMap) (base count place free : ℕ) (fs : List Bool) → r.mapped ≡ marked base fs → free < count → free ≤ place → place < length fs → get_or fs place false ≡ true
+pub search_taken : (r : RegionMap) (base count place free : ℕ) (fs : List Bool) → r.mapped ≡ marked_pages base fs → free < count → free ≤ place → place < length fs → get_or fs place false ≡ true
     → free_run_from r count (length fs - (place - free)) (base + (place - free)) ≡ free_run_from r count (length fs - (place + 1)) (base + (place + 1))
 search_taken r base count place free fs e short back h taken =
     passed r count (length fs - (place - free)) (base + (place - free)) (free + 1) (omega arith)
@@ -135,7 +135,7 @@ search_taken r base count place free fs e short back h taken =
     ∙ ap (λ (q : ℕ). free_run_from r count (length fs - (place + 1)) q) (let f : base + (place - free) + (free + 1) ≡ base + (place + 1) = omega arith in f)
 
 -- the search at a run that is long enough
-pub search_found : (r : RegionMap) (base count place free : ℕ) (fs : List Bool) → r.mapped ≡ marked base fs → free + 1 ≡ count → free ≤ place → place < length fs
+pub search_found : (r : RegionMap) (base count place free : ℕ) (fs : List Bool) → r.mapped ≡ marked_pages base fs → free + 1 ≡ count → free ≤ place → place < length fs
     → ((k : ℕ) → place - free ≤ k → k < place → get_or fs k false ≡ false) → get_or fs place false ≡ false
     → free_run_from r count (length fs - (place - free)) (base + (place - free)) ≡ Some (base + (place - free))
 search_found r base count place free fs e long back h open_ here =

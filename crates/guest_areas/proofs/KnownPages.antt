@@ -10,20 +10,20 @@ use Rattle.coz_types.specs.declared.image.Area.{Area}
 use Rattle.guest_memory.specs.declared.Layout.{Layout}
 use Rattle.guest_memory.specs.Memory.{MemoryMap}
 use Rattle.guest_memory.specs.Regions.{page_of, pages_for, brk_base, map_base, stack_base, IsInRun, IsKnown}
-use Rattle.guest_areas.specs.Marks.{marked}
+use Rattle.guest_areas.specs.Marks.{marked_pages}
 use Rattle.guest_areas.specs.Space.{RegionMap, SharesRegions, is_in_run, is_in_area, is_each, is_known}
 use Rattle.guest_areas.specs.Kept.{regions_of, IsKept, AreSorted}
 
 -- a marked page that passes has its place among the flags
-pub list_any-marked_from : (p : ℕ → Bool) (b : ℕ) (fs : List Bool) → list_any p (marked b fs) ≡ true → (k : ℕ) × (k < length fs) × (p (b + k) ≡ true)
+pub list_any-marked_from : (p : ℕ → Bool) (b : ℕ) (fs : List Bool) → list_any p (marked_pages b fs) ≡ true → (k : ℕ) × (k < length fs) × (p (b + k) ≡ true)
 list_any-marked_from p b [] h = let no : ⊥ = cc in absurd no
 list_any-marked_from p b (true ∷ fs) h =
     ⊎_elim
     (λ (t : p b ≡ true). (0, omega arith, ap p (let e : b + 0 ≡ b = omega arith in e) ∙ t))
-    (λ (t : list_any p (marked (b + 1) fs) ≡ true).
+    (λ (t : list_any p (marked_pages (b + 1) fs) ≡ true).
     let r = list_any-marked_from p (b + 1) fs t in
     (suc r.0, omega (arith, r.1), ap p (let e : b + suc r.0 ≡ b + 1 + r.0 = omega arith in e) ∙ r.2))
-    (or_cases (p b) (list_any p (marked (b + 1) fs)) h)
+    (or_cases (p b) (list_any p (marked_pages (b + 1) fs)) h)
 list_any-marked_from p b (false ∷ fs) h =
     let r = list_any-marked_from p (b + 1) fs h in
     (suc r.0, omega (arith, r.1), ap p (let e : b + suc r.0 ≡ b + 1 + r.0 = omega arith in e) ∙ r.2)
@@ -35,11 +35,11 @@ run_parts first n q h =
 pub known_page : (areas : List Area) (layout : Layout) (break : ℕ) (flags : List Bool) (page : ℕ) → IsKept layout break flags → is_known (regions_of areas layout break flags) page ≡ true → IsKnown areas layout page
 known_page areas layout break flags page kept h =
     ⊎_elim
-    (λ (o : (list_any (λ p. eqb p page) (marked (page_of map_base) flags) || is_in_run (page_of brk_base) (pages_for break - page_of brk_base) page || is_in_run (page_of (stack_base layout)) (page_of layout.stack) page) ≡ true).
+    (λ (o : (list_any (λ p. eqb p page) (marked_pages (page_of map_base) flags) || is_in_run (page_of brk_base) (pages_for break - page_of brk_base) page || is_in_run (page_of (stack_base layout)) (page_of layout.stack) page) ≡ true).
     ⊎_elim
-    (λ (q : (list_any (λ p. eqb p page) (marked (page_of map_base) flags) || is_in_run (page_of brk_base) (pages_for break - page_of brk_base) page) ≡ true).
+    (λ (q : (list_any (λ p. eqb p page) (marked_pages (page_of map_base) flags) || is_in_run (page_of brk_base) (pages_for break - page_of brk_base) page) ≡ true).
     ⊎_elim
-    (λ (t : list_any (λ p. eqb p page) (marked (page_of map_base) flags) ≡ true).
+    (λ (t : list_any (λ p. eqb p page) (marked_pages (page_of map_base) flags) ≡ true).
     let r = list_any-marked_from (λ p. eqb p page) (page_of map_base) flags t in
     let same : page_of map_base + r.0 ≡ page = eqb-true (page_of map_base + r.0) page r.2 in
     inr (inr (inl (omega arith, omega (arith, r.1, kept.each_page)))))
@@ -50,14 +50,14 @@ known_page areas layout break flags page kept h =
     let end = kept.high in
     let whole = kept.valid.whole_brk in
     inr (inl (r.0, omega arith)))
-    (or_cases (list_any (λ p. eqb p page) (marked (page_of map_base) flags)) (is_in_run (page_of brk_base) (pages_for break - page_of brk_base) page) q))
+    (or_cases (list_any (λ p. eqb p page) (marked_pages (page_of map_base) flags)) (is_in_run (page_of brk_base) (pages_for break - page_of brk_base) page) q))
     (λ (t : is_in_run (page_of (stack_base layout)) (page_of layout.stack) page ≡ true).
     inr (inr (inr (run_parts (page_of (stack_base layout)) (page_of layout.stack) page t))))
-    (or_cases (list_any (λ p. eqb p page) (marked (page_of map_base) flags) || is_in_run (page_of brk_base) (pages_for break - page_of brk_base) page) (is_in_run (page_of (stack_base layout)) (page_of layout.stack) page) o))
+    (or_cases (list_any (λ p. eqb p page) (marked_pages (page_of map_base) flags) || is_in_run (page_of brk_base) (pages_for break - page_of brk_base) page) (is_in_run (page_of (stack_base layout)) (page_of layout.stack) page) o))
     (λ (t : list_any (is_in_area page) areas ≡ true).
     let a = Any-from_list_any (is_in_area page) areas t in
     inl (a.0, a.1, a.2, a.3, run_parts (page_of a.1.start) (page_of a.1.size) page a.4))
-    (or_cases (list_any (λ p. eqb p page) (marked (page_of map_base) flags) || is_in_run (page_of brk_base) (pages_for break - page_of brk_base) page || is_in_run (page_of (stack_base layout)) (page_of layout.stack) page) (list_any (is_in_area page) areas) h)
+    (or_cases (list_any (λ p. eqb p page) (marked_pages (page_of map_base) flags) || is_in_run (page_of brk_base) (pages_for break - page_of brk_base) page || is_in_run (page_of (stack_base layout)) (page_of layout.stack) page) (list_any (is_in_area page) areas) h)
 
 abbrev each_from : (ℕ → Bool) → ℕ → ℕ → Bool → Bool
 each_from test first n here = elim here [ true ↦ is_each test (first + 1) n | false ↦ false ]

@@ -5,7 +5,7 @@ use Rattle.std.proofs.lemmas.Bool.{cases_Bool, cases_order, le-ltb, ne_eqb}
 use Rattle.std.specs.Int.{bytes_low_first}
 use Rattle.coz_types.specs.declared.image.Rights.{Rights}
 use Rattle.coz_types.specs.Image.{ImageParts}
-use Rattle.coz_types.specs.Maps.{Map, value_or, with_value, without}
+use Rattle.coz_types.specs.Maps.{Map, value_or, with_value, entries_without}
 use Rattle.guest_memory.specs.declared.Layout.{Layout}
 use Rattle.guest_memory.specs.Entries.{with_kept}
 use Rattle.guest_memory.specs.Memory.{MemoryMap, no_rights, read_and_write, is_any_right, rights_at, is_allowed, with_byte, with_bytes, with_number, with_rights, with_rights_from, with_area, empty_memory, first_memory}
@@ -70,17 +70,17 @@ value_or-with_value_other {X = X} d k x (e ∷ es) q h =
     o)
     (cases_order e.0 k)
 
-pub value_or-without_other : {X : Type 0} (d : X) (k : ℕ) (m : Map X) (q : ℕ) → (k ≡ q → ⊥) → value_or d (without (λ p. eqb p k) m) q ≡ value_or d m q
+pub value_or-without_other : {X : Type 0} (d : X) (k : ℕ) (m : Map X) (q : ℕ) → (k ≡ q → ⊥) → value_or d (entries_without (λ p. eqb p k) m) q ≡ value_or d m q
 value_or-without_other d k [] q h = refl
 value_or-without_other {X = X} d k (e ∷ es) q h =
     ⊎_elim
     (λ (s : e.0 ≡ k).
-    ap (λ (n : ℕ). value_or d (without (λ p. eqb p k) ((n, e.1) ∷ es)) q) s
+    ap (λ (n : ℕ). value_or d (entries_without (λ p. eqb p k) ((n, e.1) ∷ es)) q) s
     ∙ ap (λ (m : Map X). value_or d m q) (without-same k e.1 es) ∙ value_or-without_other d k es q h
     ∙ sym (value_or-there d k e.1 es q h) ∙ ap (λ (n : ℕ). value_or d ((n, e.1) ∷ es) q) (sym s))
     (λ (o : (e.0 < k) ⊎ (k < e.0)).
     ap (λ (m : Map X). value_or d m q) (without-other e.0 k e.1 es (λ s. omega arith))
-    ∙ beyond d e.0 e.1 es (without (λ p. eqb p k) es) q (value_or-without_other d k es q h))
+    ∙ beyond d e.0 e.1 es (entries_without (λ p. eqb p k) es) q (value_or-without_other d k es q h))
     (cases_order e.0 k)
 
 pub value_or-with_kept_other : {X : Type 0} (keeps : X → Bool) (d : X) (k : ℕ) (x : X) (m : Map X) (q : ℕ) → (k ≡ q → ⊥) → value_or d (with_kept keeps k x m) q ≡ value_or d m q

@@ -8,8 +8,8 @@ use Rattle.guest_memory.proofs.Runs.{same_regions-with_rights_from, same_regions
 use Rattle.coz_types.specs.Image.{ImageParts}
 use Rattle.guest_memory.specs.declared.Layout.{Layout}
 use Rattle.guest_areas.specs.Entry.{with_numbers, stack_pointer, name, entry_numbers, with_entry, first_space}
-use Rattle.guest_areas.specs.Answers.{no_memory, no_access, invalid}
-use Rattle.guest_areas.specs.Space.{Space, space, SharesRegions, Answered, refused, has, rights_of, is_page_start, is_each, is_known, free_run, memory_between, with_break, map, is_in_map, without_run, unmap, protect}
+use Rattle.guest_areas.specs.Answers.{no_memory, no_access, invalid_argument}
+use Rattle.guest_areas.specs.Space.{Space, space, SharesRegions, Answered, refused_answer, has_power, rights_of, is_page_start, is_each, is_known, free_run, memory_between, with_break, map, is_in_map, without_run, unmap, protect}
 use Rattle.guest_areas.proofs.Calls.{map_chosen}
 
 -- the space keeps the load areas, the layout and the memory's image
@@ -48,15 +48,15 @@ chosen_steady length protection s (Some first) =
 pub map-steady : (length protection : ℕ) (s : Space) → IsSteady s (map length protection s).space
 unfolding map
 map-steady length protection s =
-    either (λ (a : Answered). IsSteady s a.space) (eqb length 0) (refused invalid s) (cond (has protection 4) (refused no_access s) (map_chosen length protection s (free_run s.regions (pages_for length)))) (same s)
-    (either (λ (a : Answered). IsSteady s a.space) (has protection 4) (refused no_access s) (map_chosen length protection s (free_run s.regions (pages_for length))) (same s)
+    either (λ (a : Answered). IsSteady s a.space) (eqb length 0) (refused_answer invalid_argument s) (cond (has_power protection 4) (refused_answer no_access s) (map_chosen length protection s (free_run s.regions (pages_for length)))) (same s)
+    (either (λ (a : Answered). IsSteady s a.space) (has_power protection 4) (refused_answer no_access s) (map_chosen length protection s (free_run s.regions (pages_for length))) (same s)
     (chosen_steady length protection s (free_run s.regions (pages_for length))))
 
 pub unmap-steady : (address length : ℕ) (s : Space) → IsSteady s (unmap address length s).space
 unfolding unmap
 unmap-steady address length s =
     let new = same_regions-with_rights_from s.memory (page_of address) (pages_for length) no_rights in
-    either (λ (a : Answered). IsSteady s a.space) (not (is_page_start address) || eqb length 0 || not (is_in_map s.regions.layout address length)) (refused invalid s)
+    either (λ (a : Answered). IsSteady s a.space) (not (is_page_start address) || eqb length 0 || not (is_in_map s.regions.layout address length)) (refused_answer invalid_argument s)
     (record { answer = pos 0; space = without_run (page_of address) (pages_for length) s }) (same s) (record { areas = refl; regions = refl; image = new.0; layout = new.1 })
 
 pub protect-steady : (address length protection : ℕ) (s : Space) → IsSteady s (protect address length protection s).space
@@ -64,13 +64,13 @@ unfolding protect
 protect-steady address length protection s =
     let new = same_regions-with_rights_from s.memory (page_of address) (pages_for length) (rights_of protection) in
     let done : Answered = record { answer = pos 0; space = space s.regions (with_rights_from (page_of address) (pages_for length) (rights_of protection) s.memory) } in
-    let unless_known : Answered = cond (not (is_each (is_known s.regions) (page_of address) (pages_for length))) (refused no_memory s) done in
-    let unless_execute : Answered = cond (has protection 4) (refused no_access s) unless_known in
+    let unless_known : Answered = cond (not (is_each (is_known s.regions) (page_of address) (pages_for length))) (refused_answer no_memory s) done in
+    let unless_execute : Answered = cond (has_power protection 4) (refused_answer no_access s) unless_known in
     let Keeps : Answered → Type 0 = λ a. IsSteady s a.space in
-    either Keeps (not (is_page_start address)) (refused invalid s) (cond (eqb length 0) (refused (pos 0) s) unless_execute) (same s)
-    (either Keeps (eqb length 0) (refused (pos 0) s) unless_execute (same s)
-    (either Keeps (has protection 4) (refused no_access s) unless_known (same s)
-    (either Keeps (not (is_each (is_known s.regions) (page_of address) (pages_for length))) (refused no_memory s) done (same s)
+    either Keeps (not (is_page_start address)) (refused_answer invalid_argument s) (cond (eqb length 0) (refused_answer (pos 0) s) unless_execute) (same s)
+    (either Keeps (eqb length 0) (refused_answer (pos 0) s) unless_execute (same s)
+    (either Keeps (has_power protection 4) (refused_answer no_access s) unless_known (same s)
+    (either Keeps (not (is_each (is_known s.regions) (page_of address) (pages_for length))) (refused_answer no_memory s) done (same s)
     (record { areas = refl; regions = refl; image = new.0; layout = new.1 }))))
 
 still_shared : (s after : Space) → IsSteady s after → SharesRegions s.regions s.memory → SharesRegions after.regions after.memory

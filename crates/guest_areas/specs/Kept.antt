@@ -4,7 +4,7 @@ use Rattle.std.specs.List.Sorted.{IsPermutation, IsNonDecreasingBy}
 use Rattle.coz_types.specs.declared.image.Area.{Area}
 use Rattle.guest_memory.specs.declared.Layout.{Layout}
 use Rattle.guest_memory.specs.Regions.{IsLayout, page_of, brk_base, brk_end, map_base}
-use Rattle.guest_areas.specs.Marks.{marked}
+use Rattle.guest_areas.specs.Marks.{marked_pages}
 use Rattle.guest_areas.specs.Space.{RegionMap}
 
 -- the pages that the fields stand for
@@ -13,7 +13,7 @@ regions_of areas layout break flags = record {
   areas = areas;
   layout = layout;
   break = break;
-  mapped = marked (page_of map_base) flags;
+  mapped = marked_pages (page_of map_base) flags;
 }
 
 -- the load areas by their addresses, none reaching into the next

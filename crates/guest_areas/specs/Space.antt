@@ -7,7 +7,7 @@ use Rattle.coz_types.specs.declared.image.Rights.{Rights}
 use Rattle.guest_memory.specs.declared.Layout.{Layout}
 use Rattle.guest_memory.specs.Regions.{page_size, page_of, pages_for, brk_base, brk_end, map_base, map_end, stack_base}
 use Rattle.guest_memory.specs.Memory.{MemoryMap, no_rights, read_and_write, with_rights_from, with_zeros}
-use Rattle.guest_areas.specs.Answers.{no_memory, no_access, invalid}
+use Rattle.guest_areas.specs.Answers.{no_memory, no_access, invalid_argument}
 
 -- which pages a program has
 pub record RegionMap : Type 0 where
@@ -36,18 +36,18 @@ pub record Answered : Type 0 where
   pub space : Space
 
 -- it answers so, and nothing changes
-abbrev pub refused : ℤ → Space → Answered
-refused answer s = record { answer = answer; space = s }
+abbrev pub refused_answer : ℤ → Space → Answered
+refused_answer answer s = record { answer = answer; space = s }
 
 -- a power of two is among those that the number is made of
-abbrev pub has : ℕ → ℕ → Bool
-has number power = number / power % 2 == 1
+abbrev pub has_power : ℕ → ℕ → Bool
+has_power number power = number / power % 2 == 1
 
 -- 1 is read and 2 is write, which gives read too
 abbrev pub rights_of : ℕ → Rights
 rights_of protection = record {
-  read = has protection 1 || has protection 2;
-  write = has protection 2;
+  read = has_power protection 1 || has_power protection 2;
+  write = has_power protection 2;
   execute = false;
 }
 
@@ -119,10 +119,10 @@ with_run first count protection s =
 -- mmap of so many bytes
 unfoldable pub map : ℕ → ℕ → Space → Answered
 map length protection s =
-    if length == 0 then refused invalid s
-    else if has protection 4 then refused no_access s
+    if length == 0 then refused_answer invalid_argument s
+    else if has_power protection 4 then refused_answer no_access s
     else elim (free_run s.regions (pages_for length)) [
-      | None ↦ refused no_memory s
+      | None ↦ refused_answer no_memory s
       | Some first ↦ record {
         answer = pos (first * page_size);
         space = with_run first (pages_for length) protection s;
@@ -144,17 +144,17 @@ without_run first count s =
 unfoldable pub unmap : ℕ → ℕ → Space → Answered
 unmap address length s =
     if not (is_page_start address) || length == 0 || not (is_in_map s.regions.layout address length)
-    then refused invalid s
+    then refused_answer invalid_argument s
     else record { answer = pos 0; space = without_run (page_of address) (pages_for length) s }
 
 -- mprotect of so many bytes from an address on
 unfoldable pub protect : ℕ → ℕ → ℕ → Space → Answered
 protect address length protection s =
-    if not (is_page_start address) then refused invalid s
-    else if length == 0 then refused (pos 0) s
-    else if has protection 4 then refused no_access s
+    if not (is_page_start address) then refused_answer invalid_argument s
+    else if length == 0 then refused_answer (pos 0) s
+    else if has_power protection 4 then refused_answer no_access s
     else if not (is_each (is_known s.regions) (page_of address) (pages_for length))
-    then refused no_memory s
+    then refused_answer no_memory s
     else record {
       answer = pos 0;
       space = space s.regions

@@ -1,7 +1,7 @@
 //! Pages and protections of the mapping calls.
 ghost use Rattle.std.specs.Prelude.{ℕ, ◌≡◌, ◌≤◌, ◌^◌};
 ghost use Rattle.guest_memory.specs.Regions.{pages_for};
-ghost use Rattle.guest_areas.specs.Space.{has, rights_of, is_in_run};
+ghost use Rattle.guest_areas.specs.Space.{has_power, rights_of, is_in_run};
 
 use coz_types::{PAGE, Rights};
 
@@ -24,7 +24,7 @@ pub fn pages_for(length: u64) -> u64
 
 /// Whether a protection asks for the right to execute.
 pub fn asks_execute(protection: u64) -> bool
-    ensures { result ≡ has protection 4 }
+    ensures { result ≡ has_power protection 4 }
 {
     protection & EXECUTE != 0
 }

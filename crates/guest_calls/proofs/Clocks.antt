@@ -7,7 +7,7 @@ use Rattle.guest_calls.specs.declared.times.Span.{Span}
 use Rattle.guest_calls.specs.Times.{span_bytes, clock_at}
 use Rattle.guest_calls.specs.Guest.{Guest, with_stored, memory_of}
 use Rattle.guest_calls.specs.Calls
-use Rattle.guest_calls.specs.Calls.{answered, unsupported, a0, a1}
+use Rattle.guest_calls.specs.Calls.{with_answer, unsupported, a0, a1}
 
 is_clock : (n : ℕ) → n ≤ 1 → (n == 0 || n == 1) ≡ true
 is_clock zero low = refl
@@ -21,12 +21,12 @@ past_both false c x y z p q = absurd (let no : false ≡ true = p in cc)
 
 -- a clock's span is stored at an address that may be written
 pub clock_read : (g after : Guest) (h v n address : ℕ) (span : Span) → n ≡ a0 g h → n ≤ 1 → address ≡ a1 g h → span ≡ clock_at v → is_writable (memory_of g) address 16 ≡ true → after ≡ with_stored address (span_bytes span) g
-    → answered (pos 0) h after ≡ Calls.clock_gettime g h v
+    → with_answer (pos 0) h after ≡ Calls.clock_gettime g h v
 unfolding Calls.clock_gettime
 clock_read g after h v n address span clock low there shown may stored =
-    ap (answered (pos 0) h) stored
-    ∙ ap (λ (s : Span). answered (pos 0) h (with_stored address (span_bytes s) g)) shown
-    ∙ ap (λ (a : ℕ). answered (pos 0) h (with_stored a (span_bytes (clock_at v)) g)) there
-    ∙ past_both (a0 g h == 0 || a0 g h == 1) (is_writable (memory_of g) (a1 g h) 16) (unsupported g h) (answered bad_address h g) (answered (pos 0) h (with_stored (a1 g h) (span_bytes (clock_at v)) g))
+    ap (with_answer (pos 0) h) stored
+    ∙ ap (λ (s : Span). with_answer (pos 0) h (with_stored address (span_bytes s) g)) shown
+    ∙ ap (λ (a : ℕ). with_answer (pos 0) h (with_stored a (span_bytes (clock_at v)) g)) there
+    ∙ past_both (a0 g h == 0 || a0 g h == 1) (is_writable (memory_of g) (a1 g h) 16) (unsupported g h) (with_answer bad_address h g) (with_answer (pos 0) h (with_stored (a1 g h) (span_bytes (clock_at v)) g))
     (ap (λ (k : ℕ). k == 0 || k == 1) (sym clock) ∙ is_clock n low)
     (ap (λ (a : ℕ). is_writable (memory_of g) a 16) (sym there) ∙ may)

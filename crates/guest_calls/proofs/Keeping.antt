@@ -4,7 +4,7 @@ use Rattle.std.proofs.lemmas.List.{length-set}
 use Rattle.std.specs.Prelude.{All}
 use Rattle.guest_memory.specs.Memory.{MemoryMap}
 use Rattle.guest_areas.specs.Space.{RegionMap}
-use Rattle.guest_futex.specs.Waiters.{Waiter, with_waiter, woken, left}
+use Rattle.guest_futex.specs.Waiters.{Waiter, with_waiter, woken_harts, waiters_left}
 use Rattle.guest_futex.specs.Apart.{AreOthers}
 use Rattle.guest_futex.proofs.WaitersLemmas.{apart-with_waiter, apart-left, length-apart, length-woken}
 use Rattle.guest_calls.specs.declared.hart.Hart.{Hart}
@@ -83,9 +83,9 @@ module _ (hs : List Hart) (cap : ℕ) (ws : List Waiter) (r : RegionMap) (m : Me
         shared = kept.shared;
       }
 
-  pub kept-woken : (a n : ℕ) → IsKept hs cap ws r m → IsKept (with_running_each (woken a ws n) hs) cap (left a ws n) r m
+  pub kept-woken : (a n : ℕ) → IsKept hs cap ws r m → IsKept (with_running_each (woken_harts a ws n) hs) cap (waiters_left a ws n) r m
   kept-woken a n kept = record {
-    few = let same = length-run_each (woken a ws n) hs in let few : length hs ≤ 256 = kept.few in omega (arith, same);
+    few = let same = length-run_each (woken_harts a ws n) hs in let few : length hs ≤ 256 = kept.few in omega (arith, same);
     room = kept.room;
     waiting = waiting-woken hs a ws n kept.waiting;
     apart = apart-left a ws n kept.apart;
@@ -102,5 +102,5 @@ module _ (hs : List Hart) (cap : ℕ) (ws : List Waiter) (r : RegionMap) (m : Me
   }
 
   -- there is room for all that a wake takes
-  pub few-woken : (a n : ℕ) → IsKept hs cap ws r m → length (woken a ws n) ≤ 256
+  pub few-woken : (a n : ℕ) → IsKept hs cap ws r m → length (woken_harts a ws n) ≤ 256
   few-woken a n kept = omega (arith, length-woken a ws n, length-apart ws kept.apart)

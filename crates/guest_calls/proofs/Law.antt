@@ -9,7 +9,7 @@ use Rattle.coz_types.specs.Image.{ImageParts}
 use Rattle.machines.specs.declared.Fate.{Fate}
 use Rattle.machines.specs.declared.Fate.TheVariants.{Goes, Waits, Leaves, Sleeps, Ends}
 use Rattle.machines.specs.Places.{is_among}
-use Rattle.machines.specs.Guest.{IsLawful, IsLater, started, own_ending, sleeps}
+use Rattle.machines.specs.Guest.{IsLawful, IsLater, started_harts, own_ending, is_sleeper}
 use Rattle.guest_memory.specs.declared.Layout.{Layout}
 use Rattle.guest_calls.specs.Guest.{Guest, making, is_running, hart_at, is_sleeping, is_sleeping_status, is_timed, sleepers, with_wake, first_guest}
 use Rattle.guest_calls.specs.declared.hart.HartStatus.TheVariants.{Running}
@@ -24,11 +24,11 @@ use Rattle.guest_calls.proofs.Retired.{call_started, retire_started}
 
 -- a hart that a retirement starts has its next turn after it
 pub started_timed : (g : Guest) (h v : ℕ) → IsOrderly g → is_running g h ≡ true → IsNone (own_ending (retire g h v).fate)
-    → (k : ℕ) → is_among k (started h (retire g h v)) ≡ true → is_timed (retire g h v).guest k ≡ true
+    → (k : ℕ) → is_among k (started_harts h (retire g h v)) ≡ true → is_timed (retire g h v).guest k ≡ true
 started_timed g h v good runs none k among = (retire_started g h v good runs).timed none k ∙ rw among refl
 
 pub started_low : (g : Guest) (h v : ℕ) → IsOrderly g → is_running g h ≡ true → IsNone (own_ending (retire g h v).fate)
-    → (k : ℕ) → is_among k (started h (retire g h v)) ≡ true → k < 256
+    → (k : ℕ) → is_among k (started_harts h (retire g h v)) ≡ true → k < 256
 started_low g h v good runs none k among =
     (timed_low (retire g h v).guest k (retire_started g h v good runs).orderly (started_timed g h v good runs none k among)).1
 

@@ -6,7 +6,7 @@ use Rattle.coz_types.specs.declared.ending.Trap.{Trap}
 use Rattle.coz_types.specs.declared.ending.TrapCause.{TrapCause}
 use Rattle.machines.specs.Guest.{Retirement}
 use Rattle.guest_memory.specs.Memory.{is_readable, is_writable, bytes_at}
-use Rattle.guest_areas.specs.Answers.{bad_file, no_memory, bad_address, invalid, no_terminal, no_seek}
+use Rattle.guest_areas.specs.Answers.{bad_file, no_memory, bad_address, invalid_argument, no_terminal, no_seek}
 use Rattle.guest_areas.specs.Space.{Space, with_break, map, unmap, protect}
 use Rattle.guest_areas.proofs.Shares.{with_break-steady, map-steady, unmap-steady, protect-steady}
 use Rattle.rv_execute.specs.declared.hart.Step.{Step}
@@ -15,8 +15,8 @@ use Rattle.rv_execute.specs.Execution.{Setting, execute}
 use Rattle.guest_calls.specs.declared.pieces.Piece.{Piece}
 use Rattle.guest_calls.specs.Guest.{Guest, making, hart_at, pc_of, with_hart, with_state, with_setting, with_stored, with_written, is_running, memory_of, setting_of, thread_id}
 use Rattle.guest_calls.specs.Calls
-use Rattle.guest_calls.specs.Calls.{of_space, unsupported, a0, a1, a2, a3, with_filled, with_read, filled, total, is_each_writable, is_each_readable, bytes_of, pieces_at, are_few, is_named, read_length, is_stream, is_input, is_output, is_mapping, at_any_time, calls, call_of}
-use Rattle.guest_calls.specs.Retire.{stepped, step, follows, retire}
+use Rattle.guest_calls.specs.Calls.{of_space, unsupported, a0, a1, a2, a3, with_filled, with_read, filled_parts, total, is_each_writable, is_each_readable, bytes_of, pieces_at, are_few, is_named, read_length, is_stream, is_input, is_output, is_mapping, at_any_time, calls, call_of}
+use Rattle.guest_calls.specs.Retire.{step_result, step, retirement_after, retire}
 use Rattle.guest_calls.specs.Orderly.{IsOrderly}
 use Rattle.guest_calls.proofs.Steady.{regions-kept}
 use Rattle.guest_calls.proofs.Steps.{step-call, step-guest}
@@ -60,14 +60,14 @@ read_kept (p ∷ ps) g =
 read_pieces_started : (g : Guest) (h : ℕ) (ps : List Piece) → IsOrderly g → is_running g h ≡ true → IsStarted g h (Calls.read_pieces g h ps)
 unfolding Calls.read_pieces
 read_pieces_started g h ps good runs =
-    checked (not (is_each_writable (memory_of g) (filled ps (length g.input)))) bad_address h g _ good runs
-    (kept_started (pos (total (filled ps (length g.input)))) h g (with_read (filled ps (length g.input)) g) (read_kept (filled ps (length g.input)) g) good runs)
+    checked (not (is_each_writable (memory_of g) (filled_parts ps (length g.input)))) bad_address h g _ good runs
+    (kept_started (pos (total (filled_parts ps (length g.input)))) h g (with_read (filled_parts ps (length g.input)) g) (read_kept (filled_parts ps (length g.input)) g) good runs)
 
 readv_started : (g : Guest) (h : ℕ) → IsOrderly g → is_running g h ≡ true → IsStarted g h (Calls.readv g h)
 unfolding Calls.readv
 readv_started g h good runs =
     checked (not (is_input (a0 g h))) bad_file h g _ good runs
-    (checked (not (are_few g h)) invalid h g _ good runs
+    (checked (not (are_few g h)) invalid_argument h g _ good runs
     (checked (not (is_named g h)) bad_address h g _ good runs
     (read_pieces_started g h (pieces_at (memory_of g) (a1 g h) (a2 g h)) good runs)))
 
@@ -81,7 +81,7 @@ writev_started : (g : Guest) (h : ℕ) → IsOrderly g → is_running g h ≡ tr
 unfolding Calls.writev
 writev_started g h good runs =
     checked (not (is_output (a0 g h))) bad_file h g _ good runs
-    (checked (not (are_few g h)) invalid h g _ good runs
+    (checked (not (are_few g h)) invalid_argument h g _ good runs
     (checked (not (is_named g h)) bad_address h g _ good runs
     (write_pieces_started g h (pieces_at (memory_of g) (a1 g h) (a2 g h)) good runs)))
 
@@ -108,7 +108,7 @@ gettid_started g h good runs = answer_started (pos (thread_id h)) h g g refl ref
 rt_sigprocmask_started : (g : Guest) (h : ℕ) → IsOrderly g → is_running g h ≡ true → IsStarted g h (Calls.rt_sigprocmask g h)
 unfolding Calls.rt_sigprocmask
 rt_sigprocmask_started g h good runs =
-    checked (not (a3 g h == 8)) invalid h g _ good runs
+    checked (not (a3 g h == 8)) invalid_argument h g _ good runs
     (checked (a2 g h == 0) (pos 0) h g _ good runs
     (checked (not (is_writable (memory_of g) (a2 g h) 8)) bad_address h g _ good runs
     (answer_started (pos 0) h g (with_stored (a2 g h) (replicate 8 0) g) refl refl (stored_made (a2 g h) (replicate 8 0) g) good runs)))
@@ -138,7 +138,7 @@ mprotect_started g h good runs = of_space_started g h (protect (a0 g h) (a1 g h)
 
 madvise_started : (g : Guest) (h : ℕ) → IsOrderly g → is_running g h ≡ true → IsStarted g h (Calls.madvise g h)
 unfolding Calls.madvise
-madvise_started g h good runs = answer_started invalid h g g refl refl refl good runs
+madvise_started g h good runs = answer_started invalid_argument h g g refl refl refl good runs
 
 -- a call by its number
 abbrev IsStartedBy : Guest → ℕ → ℕ → Retirement Guest → Type 0
@@ -167,7 +167,7 @@ own_trap : (cause : TrapCause) (h pc : ℕ) (t : Trap) → ◌≡◌ {A = Ending
 own_trap cause h pc t is = let same : ◌≡◌ {A = Trap} (record { cause = cause; hart = record { 0 = h }; pc = pc }) t = cc in ap (λ (u : Trap). u.hart.0) (sym same)
 
 -- what follows a step, which leaves the guest as it is at a call
-follows_started : (g after : Guest) (h v : ℕ) (s : Step) → IsAsBefore g after → (s ≡ Call → after ≡ g) → IsOrderly g → is_running g h ≡ true → IsStartedAt v g h (follows h v (stepped after s))
+follows_started : (g after : Guest) (h v : ℕ) (s : Step) → IsAsBefore g after → (s ≡ Call → after ≡ g) → IsOrderly g → is_running g h ≡ true → IsStartedAt v g h (retirement_after h v (step_result after s))
 follows_started g after h v Next kept same good runs = at_any_net g h v _ (goes_started g h [] after (none_beside g h after kept good) runs)
 follows_started g after h v Call kept same good runs = subst (λ (x : Guest). IsStartedAt v g h (call_of x h v)) (sym (same refl)) (call_started g h v good runs)
 follows_started g after h v (Fault cause) kept same good runs = at_any_net g h v _ (ends_started g h after _ (λ t is. own_trap cause h (pc_of after h) t is) kept good)

@@ -4,8 +4,8 @@ use Rattle.std.specs.Prelude.{slice_index}
 use Rattle.std.specs.Int.{w32, to_le_bytes}
 use Rattle.coz_types.specs.declared.HartId.{HartId}
 use Rattle.guest_memory.specs.Memory.{MemoryMap, is_writable}
-use Rattle.guest_areas.specs.Space.{RegionMap, has}
-use Rattle.guest_futex.specs.Waiters.{Waiter, woken, left}
+use Rattle.guest_areas.specs.Space.{RegionMap, has_power}
+use Rattle.guest_futex.specs.Waiters.{Waiter, woken_harts, waiters_left}
 use Rattle.rv_execute.specs.Reservations.{Reservations}
 use Rattle.guest_calls.specs.declared.hart.Hart.{Hart}
 use Rattle.guest_calls.specs.declared.hart.HartStatus.TheVariants.{Running}
@@ -90,11 +90,11 @@ rewritten items new n same all =
     ∙ take-whole new n (omega arith)
 
 pub roused : (items after : List Hart) (regions : RegionMap) (m : MemoryMap) (rs : Reservations) (ws rest : List Waiter) (input whole : List ℕ) (output : Written) (g : Guest) (a n : ℕ)
-    → guest_of items regions m rs ws input whole output ≡ g → after ≡ with_running_each (woken a ws n) items → rest ≡ left a ws n
+    → guest_of items regions m rs ws input whole output ≡ g → after ≡ with_running_each (woken_harts a ws n) items → rest ≡ waiters_left a ws n
     → guest_of after regions m rs rest input whole output ≡ with_woken a n g
 roused items after regions m rs ws rest input whole output g a n view run stay =
     ap (λ (x : List Hart). guest_of x regions m rs rest input whole output) run
-    ∙ ap (λ (x : List Waiter). guest_of (with_running_each (woken a ws n) items) regions m rs x input whole output) stay
+    ∙ ap (λ (x : List Waiter). guest_of (with_running_each (woken_harts a ws n) items) regions m rs x input whole output) stay
     ∙ ap (with_woken a n) view
 
 still-set : (hs : List Hart) (x h : ℕ) (hart : Hart) → hart.status ≡ Running → is_running_status (get_or hs h no_hart).status ≡ true → is_running_status (get_or (set hs x hart) h no_hart).status ≡ true
@@ -112,7 +112,7 @@ still-each (x ∷ xs) hs h is =
 
 -- a hart that runs goes on as others are woken
 pub still-woken : (g : Guest) (h a n : ℕ) → is_running g h ≡ true → is_running (with_woken a n g) h ≡ true
-still-woken g h a n runs = still-each (woken a g.waiters n) g.harts h runs
+still-woken g h a n runs = still-each (woken_harts a g.waiters n) g.harts h runs
 
 either_runs : (h : ℕ) (b : Bool) (x y : Guest) → is_running x h ≡ true → is_running y h ≡ true → is_running (if b then x else y) h ≡ true
 either_runs h true x y p q = p
@@ -131,10 +131,10 @@ word-harts : (a n : ℕ) (g : Guest) → (with_word a n g).harts ≡ g.harts
 word-harts a n g = either_harts (is_writable (memory_of g) a 4) (with_stored a (to_le_bytes w32 n) g) g g.harts refl refl
 
 parent-harts : (g : Guest) (h : ℕ) (x : Guest) → (with_parent_tid g h x).harts ≡ x.harts
-parent-harts g h x = either_harts (has (a0 g h) parent_set_tid) (with_word (a2 g h) (thread_id (child g h)) x) x x.harts (word-harts (a2 g h) (thread_id (child g h)) x) refl
+parent-harts g h x = either_harts (has_power (a0 g h) parent_set_tid) (with_word (a2 g h) (thread_id (child g h)) x) x x.harts (word-harts (a2 g h) (thread_id (child g h)) x) refl
 
 child-harts : (g : Guest) (h : ℕ) (x : Guest) → (with_child_tid g h x).harts ≡ x.harts
-child-harts g h x = either_harts (has (a0 g h) child_set_tid) (with_word (a4 g h) (thread_id (child g h)) x) x x.harts (word-harts (a4 g h) (thread_id (child g h)) x) refl
+child-harts g h x = either_harts (has_power (a0 g h) child_set_tid) (with_word (a4 g h) (thread_id (child g h)) x) x x.harts (word-harts (a4 g h) (thread_id (child g h)) x) refl
 
 -- a hart that was made is still there as it has a child
 pub made-cloned : (g after : Guest) (h : ℕ) → after ≡ cloned g h → h < length g.harts → h < length after.harts

@@ -22,11 +22,11 @@ use Rattle.guest_calls.specs.declared.hart.Hart.{Hart}
 use Rattle.guest_calls.specs.Output.{Written, with_bytes_written}
 use Rattle.guest_calls.specs.Guest.{Guest, IsMade, no_hart, is_running, is_running_status, hart_from, first_hart, first_guest}
 use Rattle.guest_calls.specs.Kept.{guest_of}
-use Rattle.guest_calls.specs.Calls.{retirement, number, replied, answered, of_space, leave, exit, is_cleared, woken_at_exit, cleared, unsupported, calls, call_of}
+use Rattle.guest_calls.specs.Calls.{retirement, number, with_reply, with_answer, of_space, leave, exit, is_cleared, woken_at_exit, cleared, unsupported, calls, call_of}
 
 -- an answer that fits stands as it is
-pub answered_count : (n h : ℕ) (g : Guest) → n < 2 ^ 64 → replied n h g ≡ answered (pos n) h g
-answered_count n h g fits = ap (λ (x : ℕ). replied x h g) (sym (mod-eq_of_lt fits))
+pub answered_count : (n h : ℕ) (g : Guest) → n < 2 ^ 64 → with_reply n h g ≡ with_answer (pos n) h g
+answered_count n h g fits = ap (λ (x : ℕ). with_reply x h g) (sym (mod-eq_of_lt fits))
 
 pub shares-stored : (r : RegionMap) (m after : MemoryMap) (a : ℕ) (bs : List ℕ) → SharesRegions r m → after ≡ with_bytes a bs m → SharesRegions r after
 shares-stored r m after a bs shared e =
@@ -47,8 +47,8 @@ first-again m image layout e =
     e ∙ ap (first_memory image) (sym (ap (λ (x : MemoryMap). x.layout) e ∙ kept.1))
 
 -- a call of the areas, and its answer
-pub of_space-is : (g : Guest) (h : ℕ) (a : Answered) (z : ℤ) (after : Guest) → after ≡ record g { space = a.space } → z ≡ a.answer → answered z h after ≡ of_space g h a
-of_space-is g h a z after e f = ap (λ (x : Guest). answered z h x) e ∙ ap (λ (x : ℤ). answered x h (record g { space = a.space })) f
+pub of_space-is : (g : Guest) (h : ℕ) (a : Answered) (z : ℤ) (after : Guest) → after ≡ record g { space = a.space } → z ≡ a.answer → with_answer z h after ≡ of_space g h a
+of_space-is g h a z after e f = ap (λ (x : Guest). with_answer z h x) e ∙ ap (λ (x : ℤ). with_answer x h (record g { space = a.space })) f
 
 each_case : (h : ℕ) (b : Bool) (hs : List ℕ) (x y : Guest) → leave h (if b then hs else []) (if b then x else y) ≡ (if b then leave h hs x else leave h [] y)
 each_case h true hs x y = refl

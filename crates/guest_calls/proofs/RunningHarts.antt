@@ -4,7 +4,7 @@ use Rattle.std.proofs.lemmas.Bool.{eq-eqb, ne_eqb, cases_eq, cases_Bool}
 use Rattle.std.proofs.lemmas.List.{length-set, get_or-set_same, get_or-set_other}
 use Rattle.std.proofs.Math.Seq.{get_or-append_seam}
 use Rattle.machines.specs.Places.{is_among, AllApart}
-use Rattle.guest_futex.specs.Waiters.{Waiter, woken}
+use Rattle.guest_futex.specs.Waiters.{Waiter, woken_harts}
 use Rattle.guest_futex.specs.Apart.{AreOthers, AreApart}
 use Rattle.guest_calls.specs.declared.hart.Hart.{Hart}
 use Rattle.guest_calls.specs.declared.hart.HartStatus.{HartStatus}
@@ -106,7 +106,7 @@ pub next_idle : (harts : List Hart) (k : ℕ) → is_among k (length harts ∷ [
 next_idle harts k among = ap (timed_at harts) (eqb-true k (length harts) (only_one (k == length harts) among)) ∙ ap is_timed_status (status_past harts)
 
 -- those that are woken
-pub not_woken : (h address : ℕ) (ws : List Waiter) (count : ℕ) → AreOthers h ws → is_among h (woken address ws count) ≡ false
+pub not_woken : (h address : ℕ) (ws : List Waiter) (count : ℕ) → AreOthers h ws → is_among h (woken_harts address ws count) ≡ false
 not_woken h address [] zero others = refl
 not_woken h address [] (suc count) others = refl
 not_woken h address (w ∷ ws) zero others = refl
@@ -124,17 +124,17 @@ idle_step harts k h among waits rest e =
     (λ (other : k ≢ h). rest (rw (ne_eqb k h other) at e))
     (cases_eq k h)
 
-pub woken_idle : (harts : List Hart) (k address : ℕ) (ws : List Waiter) (count : ℕ) → AreWaiting harts ws → is_among k (woken address ws count) ≡ true → timed_at harts k ≡ false
+pub woken_idle : (harts : List Hart) (k address : ℕ) (ws : List Waiter) (count : ℕ) → AreWaiting harts ws → is_among k (woken_harts address ws count) ≡ true → timed_at harts k ≡ false
 woken_idle harts k address [] zero waiting among = absurd (let never : false ≡ true = among in cc)
 woken_idle harts k address [] (suc count) waiting among = absurd (let never : false ≡ true = among in cc)
 woken_idle harts k address (w ∷ ws) zero waiting among = absurd (let never : false ≡ true = among in cc)
 woken_idle harts k address (w ∷ ws) (suc count) waiting among =
     ⊎_elim
-    (λ (here : eqb w.address address ≡ true). idle_step harts k w.hart (is_among k (woken address ws count)) waiting.0 (λ e. woken_idle harts k address ws count waiting.1 e) (rw here at among))
+    (λ (here : eqb w.address address ≡ true). idle_step harts k w.hart (is_among k (woken_harts address ws count)) waiting.0 (λ e. woken_idle harts k address ws count waiting.1 e) (rw here at among))
     (λ (elsewhere : eqb w.address address ≡ false). woken_idle harts k address ws (suc count) waiting.1 (rw elsewhere at among))
     (cases_Bool (eqb w.address address))
 
-pub apart_woken : (address : ℕ) (ws : List Waiter) (count : ℕ) → AreApart ws → AllApart (woken address ws count)
+pub apart_woken : (address : ℕ) (ws : List Waiter) (count : ℕ) → AreApart ws → AllApart (woken_harts address ws count)
 apart_woken address [] zero apart = tt
 apart_woken address [] (suc count) apart = tt
 apart_woken address (w ∷ ws) zero apart = tt
@@ -159,8 +159,8 @@ status_each (h ∷ hs) harts k below =
 
 -- the harts once some waiters are woken
 pub status_woken : (harts : List Hart) (address : ℕ) (ws : List Waiter) (count k : ℕ) → AreWaiting harts ws
-    → status_at (with_running_each (woken address ws count) harts) k ≡ (if is_among k (woken address ws count) then Running else status_at harts k)
-status_woken harts address ws count k waiting = status_each (woken address ws count) harts k (woken-made harts address ws count waiting)
+    → status_at (with_running_each (woken_harts address ws count) harts) k ≡ (if is_among k (woken_harts address ws count) then Running else status_at harts k)
+status_woken harts address ws count k waiting = status_each (woken_harts address ws count) harts k (woken-made harts address ws count waiting)
 
 -- how many sleep: among as many harts of the same statuses as many
 pub asleep_same : (old new : List Hart) → length new ≡ length old → ((k : ℕ) → status_at new k ≡ status_at old k) → sleepers_of new ≡ sleepers_of old
@@ -211,6 +211,6 @@ asleep_each (h ∷ hs) harts awake =
     asleep_each hs (set harts h run) (λ k among. awake_put harts h k run refl (awake k (one_more (k == h) (is_among k hs) among)))
     ∙ asleep_put harts h run (awake h (rw (eq-eqb h h refl) refl)) refl
 
-pub asleep_woken : (harts : List Hart) (address : ℕ) (ws : List Waiter) (count : ℕ) → AreWaiting harts ws → sleepers_of (with_running_each (woken address ws count) harts) ≡ sleepers_of harts
+pub asleep_woken : (harts : List Hart) (address : ℕ) (ws : List Waiter) (count : ℕ) → AreWaiting harts ws → sleepers_of (with_running_each (woken_harts address ws count) harts) ≡ sleepers_of harts
 asleep_woken harts address ws count waiting =
-    asleep_each (woken address ws count) harts (λ k among. or_false (sleeps_at harts k) (runs_at harts k) (woken_idle harts k address ws count waiting among))
+    asleep_each (woken_harts address ws count) harts (λ k among. or_false (sleeps_at harts k) (runs_at harts k) (woken_idle harts k address ws count waiting among))

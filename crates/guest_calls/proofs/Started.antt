@@ -7,9 +7,9 @@ use Rattle.coz_types.specs.declared.ending.Ending.TheVariants.{Trapped, Unsuppor
 use Rattle.coz_types.specs.declared.ending.Trap.{Trap}
 use Rattle.machines.specs.declared.Fate.{Fate}
 use Rattle.machines.specs.declared.Fate.TheVariants.{Goes, Waits, Leaves, Sleeps, Ends}
-use Rattle.machines.specs.Guest.{Retirement, IsLater, goes_on, sleeps, started, own_ending}
+use Rattle.machines.specs.Guest.{Retirement, IsLater, goes_on, is_sleeper, started_harts, own_ending}
 use Rattle.machines.specs.Places.{is_among, AllApart}
-use Rattle.rv_decode.specs.Fields.{twos}
+use Rattle.rv_decode.specs.Fields.{twos_complement}
 use Rattle.guest_memory.specs.declared.Layout.{Layout}
 use Rattle.guest_memory.specs.Memory.{MemoryMap, with_bytes}
 use Rattle.guest_memory.proofs.Runs.{same_regions-with_bytes}
@@ -18,7 +18,7 @@ use Rattle.guest_areas.proofs.Shares.{IsSteady}
 use Rattle.guest_calls.specs.declared.hart.Hart.{Hart}
 use Rattle.guest_calls.specs.Answering.{with_result}
 use Rattle.guest_calls.specs.Guest.{Guest, Making, making, memory_of, hart_at, state_of, with_hart, with_state, with_memory, with_stored, is_running, is_running_status, is_timed, sleepers}
-use Rattle.guest_calls.specs.Calls.{retirement, answered, of_space, unsupported}
+use Rattle.guest_calls.specs.Calls.{retirement, with_answer, of_space, unsupported}
 use Rattle.guest_calls.specs.Orderly.{IsOrderly}
 use Rattle.guest_calls.proofs.Waiting.{status-set}
 use Rattle.guest_calls.specs.declared.hart.HartStatus.{HartStatus}
@@ -28,10 +28,10 @@ use Rattle.guest_calls.proofs.RunningHarts.{status_at, is_timed_status, made_tim
 -- what holds after a retirement of hart h whose fate is one of these: the harts that it starts run, and the others run or sleep as before, but h itself, which may sleep now
 pub record IsStartedWith (Fits : Fate → Type 0) (g : Guest) (h : ℕ) (r : Retirement Guest) : Type 0 where
   pub orderly : IsOrderly r.guest
-  pub apart : AllApart (started h r)
-  pub timed : IsNone (own_ending r.fate) → (k : ℕ) → is_timed r.guest k ≡ (if is_among k (started h r) then true else if k == h then sleeps r.fate else is_timed g k)
+  pub apart : AllApart (started_harts h r)
+  pub timed : IsNone (own_ending r.fate) → (k : ℕ) → is_timed r.guest k ≡ (if is_among k (started_harts h r) then true else if k == h then is_sleeper r.fate else is_timed g k)
   -- one more sleeps, if h does
-  pub asleep : sleepers r.guest ≡ sleepers g + (if sleeps r.fate then 1 else 0)
+  pub asleep : sleepers r.guest ≡ sleepers g + (if is_sleeper r.fate then 1 else 0)
   pub fate : Fits r.fate
   -- a trap is its own
   pub trap : (t : Trap) → r.fate ≡ Ends (Trapped t) → t.hart.0 ≡ h
@@ -41,7 +41,7 @@ pub record IsStartedWith (Fits : Fate → Type 0) (g : Guest) (h : ℕ) (r : Ret
 
 -- the hart is not put to sleep
 abbrev pub IsAwake : Fate → Type 0
-IsAwake fate = sleeps fate ≡ false
+IsAwake fate = is_sleeper fate ≡ false
 
 -- if it sleeps from net time v on, then until a moment that is not before v, and soon
 abbrev pub IsTimely : ℕ → Fate → Type 0
@@ -53,7 +53,7 @@ IsStarted g h r = IsStartedWith IsAwake g h r
 abbrev pub IsStartedAt : ℕ → Guest → ℕ → Retirement Guest → Type 0
 IsStartedAt v g h r = IsStartedWith (IsTimely v) g h r
 
-later_awake : (fate : Fate) (v : ℕ) → sleeps fate ≡ false → IsLater v fate
+later_awake : (fate : Fate) (v : ℕ) → is_sleeper fate ≡ false → IsLater v fate
 later_awake Goes v awake = tt
 later_awake Waits v awake = tt
 later_awake Leaves v awake = tt
@@ -67,7 +67,7 @@ at_any_net g h v r s = record {
   apart = s.apart;
   timed = s.timed;
   asleep = s.asleep;
-  fate = (later_awake r.fate v s.fate, λ moment is. absurd (let never : true ≡ false = ap sleeps (sym is) ∙ s.fate in cc));
+  fate = (later_awake r.fate v s.fate, λ moment is. absurd (let never : true ≡ false = ap is_sleeper (sym is) ∙ s.fate in cc));
   trap = s.trap;
   idle = s.idle;
   made = s.made;
@@ -217,7 +217,7 @@ stops_bit true true before out = sym (out refl)
 stops_bit true false before out = refl
 stops_bit false other before out = refl
 
-pub stops_started : (g : Guest) (h : ℕ) (others : List ℕ) (after last : Guest) (fate : Fate) → goes_on fate ≡ false → sleeps fate ≡ false → ((t : Trap) → fate ≡ Ends (Trapped t) → t.hart.0 ≡ h) → RunsBeside g h others after → IsOrderly last → making last ≡ making after
+pub stops_started : (g : Guest) (h : ℕ) (others : List ℕ) (after last : Guest) (fate : Fate) → goes_on fate ≡ false → is_sleeper fate ≡ false → ((t : Trap) → fate ≡ Ends (Trapped t) → t.hart.0 ≡ h) → RunsBeside g h others after → IsOrderly last → making last ≡ making after
     → ((k : ℕ) → is_timed last k ≡ (if k == h then false else is_timed after k)) → sleepers last ≡ sleepers after → IsStarted g h (retirement last fate others)
 stops_started g h others after last fate stays awake own beside orderly made stops asleep = record {
   orderly = orderly;
@@ -240,14 +240,14 @@ replied_started n h g others after beside runs =
     let last : Guest = with_state h (with_result n (state_of after h)) after in
     goes_started g h others last (beside_then g h others after last beside (hart_kept after h _ refl)) runs
 
-pub kept_started : (z : ℤ) (h : ℕ) (g after : Guest) → IsAsBefore g after → IsOrderly g → is_running g h ≡ true → IsStarted g h (answered z h after)
-kept_started z h g after kept good runs = replied_started (twos 64 z) h g [] after (none_beside g h after kept good) runs
+pub kept_started : (z : ℤ) (h : ℕ) (g after : Guest) → IsAsBefore g after → IsOrderly g → is_running g h ≡ true → IsStarted g h (with_answer z h after)
+kept_started z h g after kept good runs = replied_started (twos_complement 64 z) h g [] after (none_beside g h after kept good) runs
 
-pub answer_started : (z : ℤ) (h : ℕ) (g after : Guest) → after.harts ≡ g.harts → after.waiters ≡ g.waiters → making after ≡ making g → IsOrderly g → is_running g h ≡ true → IsStarted g h (answered z h after)
+pub answer_started : (z : ℤ) (h : ℕ) (g after : Guest) → after.harts ≡ g.harts → after.waiters ≡ g.waiters → making after ≡ making g → IsOrderly g → is_running g h ≡ true → IsStarted g h (with_answer z h after)
 answer_started z h g after harts waiters made good runs = kept_started z h g after (same_harts g after harts waiters made) good runs
 
 -- each branch of a choice
-pub checked : (b : Bool) (z : ℤ) (h : ℕ) (g : Guest) (r : Retirement Guest) → IsOrderly g → is_running g h ≡ true → IsStarted g h r → IsStarted g h (if b then answered z h g else r)
+pub checked : (b : Bool) (z : ℤ) (h : ℕ) (g : Guest) (r : Retirement Guest) → IsOrderly g → is_running g h ≡ true → IsStarted g h r → IsStarted g h (if b then with_answer z h g else r)
 checked true z h g r good runs rest = answer_started z h g g refl refl refl good runs
 checked false z h g r good runs rest = rest
 

@@ -12,7 +12,7 @@ use Rattle.guest_memory.specs.Memory.{MemoryMap, is_writable, load, store, with_
 use Rattle.guest_memory.proofs.Runs.{same_regions-with_bytes}
 use Rattle.rv_execute.specs.declared.hart.Step.TheVariants.{Next, Call, Fault}
 use Rattle.rv_execute.specs.Reservations.{is_reserved, with_reservation, without_own}
-use Rattle.rv_execute.specs.Execution.{Setting, register, address_at, Executed, execute, next, put, jump, branch, fault, with_pc, with_register, pc_after, load_value, with_store, reserve, store_reserved, exchange, aligned, atomic, atomic_size, atomic_load_value}
+use Rattle.rv_execute.specs.Execution.{Setting, register, address_at, Executed, execute, next, with_rd, jump, branch, fault, with_pc, with_register, pc_after, load_value, with_store, reserve, store_reserved, exchange, aligned_effect, atomic, atomic_size, atomic_load_value}
 
 pub record Steady (m : MemoryMap) (e : Executed) : Type 0 where
   pub no_call : e.step ≡ Call → ⊥
@@ -26,7 +26,7 @@ either P false x y p q = q
 next-steady : (s : Setting) → Steady s.memory (next s)
 next-steady s = record { no_call = λ (p : Next ≡ Call). cc; image = refl; layout = refl }
 
-put-steady : (rd n : ℕ) (s : Setting) → Steady s.memory (put rd n s)
+put-steady : (rd n : ℕ) (s : Setting) → Steady s.memory (with_rd rd n s)
 put-steady rd n s = record { no_call = λ (p : Next ≡ Call). cc; image = refl; layout = refl }
 
 fault-steady : (cause : TrapCause) (s : Setting) → Steady s.memory (fault s cause)
@@ -41,7 +41,7 @@ jump-steady rd target s =
 branch-steady : (taken : Bool) (target : ℕ) (s : Setting) → Steady s.memory (branch taken target s)
 branch-steady taken target s = either (Steady s.memory) taken (jump 0 target s) (next s) (jump-steady 0 target s) (next-steady s)
 
-loaded-steady : (rd : ℕ) (f : ℕ → ℕ) (o : Option ℕ) (s : Setting) → Steady s.memory (elim o [ None ↦ fault s Access | Some n ↦ put rd (f n) s ])
+loaded-steady : (rd : ℕ) (f : ℕ → ℕ) (o : Option ℕ) (s : Setting) → Steady s.memory (elim o [ None ↦ fault s Access | Some n ↦ with_rd rd (f n) s ])
 loaded-steady rd f None s = fault-steady Access s
 loaded-steady rd f (Some n) s = put-steady rd (f n) s
 
@@ -57,22 +57,22 @@ stored-steady : (a size : ℕ) (o : Option MemoryMap) (s : Setting) → Keeps s.
 stored-steady a size None s k = fault-steady Access s
 stored-steady a size (Some m) s k = record { no_call = λ (p : Next ≡ Call). cc; image = k.0; layout = k.1 }
 
-put_stored-steady : (rd n a size : ℕ) (m : MemoryMap) (s : Setting) → Keeps s.memory (Some m) → Steady s.memory (put rd n (with_store a size m s))
+put_stored-steady : (rd n a size : ℕ) (m : MemoryMap) (s : Setting) → Keeps s.memory (Some m) → Steady s.memory (with_rd rd n (with_store a size m s))
 put_stored-steady rd n a size m s k = record { no_call = λ (p : Next ≡ Call). cc; image = k.0; layout = k.1 }
 
 reserved-steady : (reserved : Bool) (rd a size : ℕ) (o : Option MemoryMap) (s : Setting) → Keeps s.memory o
-    → Steady s.memory (elim o [ None ↦ fault s Access | Some memory ↦ cond reserved (put rd 0 (with_store a size memory s)) (put rd 1 s) ])
+    → Steady s.memory (elim o [ None ↦ fault s Access | Some memory ↦ cond reserved (with_rd rd 0 (with_store a size memory s)) (with_rd rd 1 s) ])
 reserved-steady reserved rd a size None s k = fault-steady Access s
 reserved-steady reserved rd a size (Some m) s k =
-    either (Steady s.memory) reserved (put rd 0 (with_store a size m s)) (put rd 1 s) (put_stored-steady rd 0 a size m s k) (put-steady rd 1 s)
+    either (Steady s.memory) reserved (with_rd rd 0 (with_store a size m s)) (with_rd rd 1 s) (put_stored-steady rd 0 a size m s k) (put-steady rd 1 s)
 
 exchanged-steady : (rd n a size : ℕ) (o : Option MemoryMap) (s : Setting) → Keeps s.memory o
-    → Steady s.memory (elim o [ None ↦ fault s Access | Some memory ↦ put rd n (with_store a size memory s) ])
+    → Steady s.memory (elim o [ None ↦ fault s Access | Some memory ↦ with_rd rd n (with_store a size memory s) ])
 exchanged-steady rd n a size None s k = fault-steady Access s
 exchanged-steady rd n a size (Some m) s k = put_stored-steady rd n a size m s k
 
 reserve-steady : (h : ℕ) (wide : Bool) (rd a : ℕ) (o : Option ℕ) (s : Setting)
-    → Steady s.memory (elim o [ None ↦ fault s Access | Some n ↦ put rd (atomic_load_value wide n) (record s { reservations = with_reservation h a s.reservations }) ])
+    → Steady s.memory (elim o [ None ↦ fault s Access | Some n ↦ with_rd rd (atomic_load_value wide n) (record s { reservations = with_reservation h a s.reservations }) ])
 reserve-steady h wide rd a None s = fault-steady Access s
 reserve-steady h wide rd a (Some n) s = record { no_call = λ (p : Next ≡ Call). cc; image = refl; layout = refl }
 
@@ -81,14 +81,14 @@ exchange-steady : (op : AtomicOp) (wide : Bool) (rd a n : ℕ) (o : Option ℕ) 
       | None ↦ fault s Access
       | Some old ↦ elim (store a (atomic_size wide) (stored_result op wide old n) s.memory) [
         | None ↦ fault s Access
-        | Some memory ↦ put rd (atomic_load_value wide old) (with_store a (atomic_size wide) memory s)
+        | Some memory ↦ with_rd rd (atomic_load_value wide old) (with_store a (atomic_size wide) memory s)
       ]
     ])
 exchange-steady op wide rd a n None s = fault-steady Access s
 exchange-steady op wide rd a n (Some old) s =
     exchanged-steady rd (atomic_load_value wide old) a (atomic_size wide) (store a (atomic_size wide) (stored_result op wide old n) s.memory) s (store-keeps s.memory a (atomic_size wide) (stored_result op wide old n))
 
-swapped-steady : (op : AtomicOp) (wide : Bool) (rd a n : ℕ) (s : Setting) → Steady s.memory (aligned a wide (exchange op wide rd a n) s)
+swapped-steady : (op : AtomicOp) (wide : Bool) (rd a n : ℕ) (s : Setting) → Steady s.memory (aligned_effect a wide (exchange op wide rd a n) s)
 swapped-steady op wide rd a n s =
     either (Steady s.memory) (a % atomic_size wide == 0) (exchange op wide rd a n s) (fault s Misaligned)
     (exchange-steady op wide rd a n (load s.memory a (atomic_size wide)) s) (fault-steady Misaligned s)

@@ -14,14 +14,14 @@ use Rattle.rv_execute.specs.declared.hart.HartState.{HartState}
 use Rattle.rv_execute.specs.declared.hart.Step.{Step}
 use Rattle.rv_execute.specs.declared.hart.Step.TheVariants.{Next, Call, Fault}
 use Rattle.rv_execute.specs.Reservations.{Reservations}
-use Rattle.rv_execute.specs.Execution.{Setting, Executed, setting, executed, execute}
+use Rattle.rv_execute.specs.Execution.{Setting, Executed, setting, execution, execute}
 use Rattle.guest_futex.specs.Waiters.{Waiter}
 use Rattle.guest_calls.specs.declared.hart.Hart.{Hart}
 use Rattle.guest_calls.specs.Guest.{Guest, no_hart, setting_of, with_setting}
 use Rattle.guest_calls.specs.Output.{Written}
 use Rattle.guest_calls.specs.Kept.{guest_of}
 use Rattle.guest_calls.specs.Calls.{retirement, call_of}
-use Rattle.guest_calls.specs.Retire.{word_at, next_of, Stepped, stepped, stepped_by, step, trap_of, follows, retire}
+use Rattle.guest_calls.specs.Retire.{word_at, next_of, Stepped, step_result, stepped_by, step, trap_of, retirement_after, retire}
 use Rattle.guest_calls.proofs.Steady.{only_ecall, ecall-unchanged, regions-kept}
 
 -- the next instruction, and its absence
@@ -35,19 +35,19 @@ next-absent g h e = ap (option_and_then instruction_of) e
 
 -- what a step does, by the word at the pc and its instruction
 abbrev decoded : Guest → ℕ → Option Instr → Stepped
-decoded g h None = stepped g (Fault Illegal)
+decoded g h None = step_result g (Fault Illegal)
 decoded g h (Some i) = stepped_by g h (execute h i (setting_of g h))
 
 abbrev fetched : Guest → ℕ → Option ℕ → Stepped
-fetched g h None = stepped g (Fault Fetch)
+fetched g h None = step_result g (Fault Fetch)
 fetched g h (Some w) = decoded g h (instruction_of w)
 
-decoded-is : (g : Guest) (h : ℕ) (o : Option Instr) → (elim o [ None ↦ stepped g (Fault Illegal) | Some i ↦ stepped_by g h (execute h i (setting_of g h)) ]) ≡ decoded g h o
+decoded-is : (g : Guest) (h : ℕ) (o : Option Instr) → (elim o [ None ↦ step_result g (Fault Illegal) | Some i ↦ stepped_by g h (execute h i (setting_of g h)) ]) ≡ decoded g h o
 decoded-is g h None = refl
 decoded-is g h (Some i) = refl
 
 fetched-is : (g : Guest) (h : ℕ) (o : Option ℕ)
-    → (elim o [ None ↦ stepped g (Fault Fetch) | Some w ↦ elim (instruction_of w) [ None ↦ stepped g (Fault Illegal) | Some i ↦ stepped_by g h (execute h i (setting_of g h)) ] ]) ≡ fetched g h o
+    → (elim o [ None ↦ step_result g (Fault Fetch) | Some w ↦ elim (instruction_of w) [ None ↦ step_result g (Fault Illegal) | Some i ↦ stepped_by g h (execute h i (setting_of g h)) ] ]) ≡ fetched g h o
 fetched-is g h None = refl
 fetched-is g h (Some w) = decoded-is g h (instruction_of w)
 
@@ -55,14 +55,14 @@ step-is : (g : Guest) (h : ℕ) → step g h ≡ fetched g h (word_at g h)
 unfolding step
 step-is g h = fetched-is g h (word_at g h)
 
-pub step-unfetched : (g : Guest) (h : ℕ) → None ≡ word_at g h → stepped g (Fault Fetch) ≡ step g h
+pub step-unfetched : (g : Guest) (h : ℕ) → None ≡ word_at g h → step_result g (Fault Fetch) ≡ step g h
 step-unfetched g h e = ap (fetched g h) e ∙ sym (step-is g h)
 
-pub step-illegal : (g : Guest) (h w : ℕ) → Some w ≡ word_at g h → None ≡ instruction_of w → stepped g (Fault Illegal) ≡ step g h
+pub step-illegal : (g : Guest) (h w : ℕ) → Some w ≡ word_at g h → None ≡ instruction_of w → step_result g (Fault Illegal) ≡ step g h
 step-illegal g h w e i = ap (decoded g h) i ∙ ap (fetched g h) e ∙ sym (step-is g h)
 
 pub step-executed : (g : Guest) (h w : ℕ) (i : Instr) (s : HartState) (m : MemoryMap) (r : Reservations) (result : Step) → Some w ≡ word_at g h → Some i ≡ instruction_of w
-    → executed s m r result ≡ execute h i (setting_of g h) → stepped (with_setting h (setting s m r) g) result ≡ step g h
+    → execution s m r result ≡ execute h i (setting_of g h) → step_result (with_setting h (setting s m r) g) result ≡ step g h
 step-executed g h w i s m r result e f x = ap (stepped_by g h) x ∙ ap (decoded g h) f ∙ ap (fetched g h) e ∙ sym (step-is g h)
 
 same_setting : (g : Guest) (h : ℕ) → with_setting h (setting_of g h) g ≡ g
@@ -108,26 +108,26 @@ step-guest Has g h here after = subst (λ (s : Stepped). Has s.guest) (sym (step
 pub step-harts : (g : Guest) (h : ℕ) → length (step g h).guest.harts ≡ length g.harts
 step-harts g h = step-guest (λ x. length x.harts ≡ length g.harts) g h refl (λ i. length-set g.harts h _)
 
-pub retire-next : (g after : Guest) (h v : ℕ) (s : Step) → stepped after s ≡ step g h → s ≡ Next → retirement after Goes [] ≡ retire g h v
+pub retire-next : (g after : Guest) (h v : ℕ) (s : Step) → step_result after s ≡ step g h → s ≡ Next → retirement after Goes [] ≡ retire g h v
 unfolding retire
-retire-next g after h v s e is = ap (λ (x : Step). follows h v (stepped after x)) (sym is) ∙ ap (follows h v) e
+retire-next g after h v s e is = ap (λ (x : Step). retirement_after h v (step_result after x)) (sym is) ∙ ap (retirement_after h v) e
 
-pub retire-call : (g after : Guest) (h v : ℕ) (s : Step) → stepped after s ≡ step g h → s ≡ Call → call_of after h v ≡ retire g h v
+pub retire-call : (g after : Guest) (h v : ℕ) (s : Step) → step_result after s ≡ step g h → s ≡ Call → call_of after h v ≡ retire g h v
 unfolding retire
-retire-call g after h v s e is = ap (λ (x : Step). follows h v (stepped after x)) (sym is) ∙ ap (follows h v) e
+retire-call g after h v s e is = ap (λ (x : Step). retirement_after h v (step_result after x)) (sym is) ∙ ap (retirement_after h v) e
 
-pub retire-fault : (g after : Guest) (h v : ℕ) (s : Step) (cause : TrapCause) → stepped after s ≡ step g h → s ≡ Fault cause → retirement after (trap_of after h cause) [] ≡ retire g h v
+pub retire-fault : (g after : Guest) (h v : ℕ) (s : Step) (cause : TrapCause) → step_result after s ≡ step g h → s ≡ Fault cause → retirement after (trap_of after h cause) [] ≡ retire g h v
 unfolding retire
-retire-fault g after h v s cause e is = ap (λ (x : Step). follows h v (stepped after x)) (sym is) ∙ ap (follows h v) e
+retire-fault g after h v s cause e is = ap (λ (x : Step). retirement_after h v (step_result after x)) (sym is) ∙ ap (retirement_after h v) e
 
 -- what is asked of a call holds after the step that comes to it
-pub call-same : (g after : Guest) (h : ℕ) (s : Step) → stepped after s ≡ step g h → s ≡ Call → IsCall g h (stepped after s) (next_of g h)
+pub call-same : (g after : Guest) (h : ℕ) (s : Step) → step_result after s ≡ step g h → s ≡ Call → IsCall g h (step_result after s) (next_of g h)
 call-same g after h s e is =
     let p : (step g h).step ≡ Call = ap (λ (x : Stepped). x.step) (sym e) ∙ is in
     let there = step-call g h p in
     record { same = ap (λ (x : Stepped). x.guest) e ∙ there.same; ecall = there.ecall }
 
-pub shares-executed : (r : RegionMap) (h : ℕ) (i : Instr) (s : Setting) (hart : HartState) (m : MemoryMap) (rs : Reservations) (result : Step) → executed hart m rs result ≡ execute h i s
+pub shares-executed : (r : RegionMap) (h : ℕ) (i : Instr) (s : Setting) (hart : HartState) (m : MemoryMap) (rs : Reservations) (result : Step) → execution hart m rs result ≡ execute h i s
     → SharesRegions r s.memory → SharesRegions r m
 shares-executed r h i s hart m rs result e shared =
     let kept = regions-kept h i s in
@@ -140,10 +140,10 @@ shares-executed r h i s hart m rs result e shared =
 -- what is executed on the hart's own registers, in its place
 pub step-in_place : (items : List Hart) (regions : RegionMap) (m after_m : MemoryMap) (r after_r : Reservations) (waiters : List Waiter) (input whole : List ℕ) (output : Written) (g : Guest) (h w : ℕ) (i : Instr) (hart : Hart) (s : HartState) (result : Step)
     → guest_of items regions m r waiters input whole output ≡ g → hart ≡ get_or items h no_hart → Some w ≡ word_at g h → Some i ≡ instruction_of w
-    → executed s after_m after_r result ≡ execute h i (setting hart.state m r)
-    → stepped (guest_of (set items h (record hart { state = s })) regions after_m after_r waiters input whole output) result ≡ step g h
+    → execution s after_m after_r result ≡ execute h i (setting hart.state m r)
+    → step_result (guest_of (set items h (record hart { state = s })) regions after_m after_r waiters input whole output) result ≡ step g h
 step-in_place items regions m after_m r after_r waiters input whole output g h w i hart s result view at e f x =
     let old : Guest = guest_of items regions m r waiters input whole output in
-    ap (λ (y : Hart). stepped (guest_of (set items h (record y { state = s })) regions after_m after_r waiters input whole output) result) at
+    ap (λ (y : Hart). step_result (guest_of (set items h (record y { state = s })) regions after_m after_r waiters input whole output) result) at
     ∙ step-executed old h w i s after_m after_r result (e ∙ ap (λ (y : Guest). word_at y h) (sym view)) f (x ∙ ap (λ (y : Hart). execute h i (setting y.state m r)) at)
     ∙ ap (λ (y : Guest). step y h) view

@@ -8,29 +8,29 @@ use Rattle.coz_types.specs.declared.ending.Ending.TheVariants.{Exited, Trapped}
 use Rattle.coz_types.specs.declared.ending.Trap.{Trap}
 use Rattle.machines.specs.declared.Fate.{Fate}
 use Rattle.machines.specs.declared.Fate.TheVariants.{Waits, Leaves, Ends}
-use Rattle.machines.specs.Guest.{Retirement, goes_on, sleeps}
-use Rattle.rv_decode.specs.Fields.{twos}
+use Rattle.machines.specs.Guest.{Retirement, goes_on, is_sleeper}
+use Rattle.rv_decode.specs.Fields.{twos_complement}
 use Rattle.guest_memory.specs.Memory.{is_readable, is_writable, number_at}
-use Rattle.guest_areas.specs.Answers.{try_again, bad_address, invalid}
-use Rattle.guest_areas.specs.Space.{has}
-use Rattle.guest_futex.specs.Waiters.{woken}
+use Rattle.guest_areas.specs.Answers.{try_again, bad_address, invalid_argument}
+use Rattle.guest_areas.specs.Space.{has_power}
+use Rattle.guest_futex.specs.Waiters.{woken_harts}
 use Rattle.guest_futex.specs.Apart.{AreOthers}
 use Rattle.guest_futex.proofs.WaitersLemmas.{apart-with_waiter, apart-left}
 use Rattle.guest_calls.specs.declared.hart.Hart.{Hart}
 use Rattle.guest_calls.specs.declared.hart.HartStatus.{HartStatus}
 use Rattle.guest_calls.specs.Guest.{Guest, with_hart, with_stored, is_running, is_running_status, is_over, memory_of, thread_id}
 use Rattle.guest_calls.specs.Calls
-use Rattle.guest_calls.specs.Calls.{retirement, answered, left_by, leave, unsupported, with_word, with_woken, clear_address, woken_at_exit, cleared, is_cleared, waiting_for, most_woken, woken_here, parent_set_tid, child_set_tid, child, with_child, with_parent_tid, with_child_tid, cloned, is_accepted, a0, a1, a2, a3, a4}
+use Rattle.guest_calls.specs.Calls.{retirement, with_answer, left_by, leave, unsupported, with_word, with_woken, clear_address, woken_at_exit, cleared, is_cleared, waiting_for, most_woken, woken_here, parent_set_tid, child_set_tid, child, with_child, with_parent_tid, with_child_tid, cloned, is_accepted, a0, a1, a2, a3, a4}
 use Rattle.guest_calls.specs.Orderly.{IsOrderly}
 use Rattle.guest_calls.proofs.Waiting.{others-running, waiting-elsewhere, waiting-append, waiting-with_waiter, waiting-woken, length-run_each}
 use Rattle.guest_calls.proofs.RunningHarts.{made_running, runs_here, runs_awake, timed_put, status_append, next_idle, not_woken, apart_woken, woken_idle, status_woken, asleep_put, asleep_append, asleep_woken}
 use Rattle.guest_calls.proofs.Started.{IsStarted, IsAsBefore, RunsBeside, running_low, either, same_harts, later, unchanged, still_orderly, none_beside, beside_then, beside_still, stops_started, replied_started, answer_started, stored_made, checked, unsupported_started}
 
 -- waiters are woken
-woken_beside : (g : Guest) (h address count : ℕ) → IsOrderly g → is_running g h ≡ true → RunsBeside g h (woken address g.waiters count) (with_woken address count g)
+woken_beside : (g : Guest) (h address count : ℕ) → IsOrderly g → is_running g h ≡ true → RunsBeside g h (woken_harts address g.waiters count) (with_woken address count g)
 woken_beside g h address count good runs = record {
   orderly = record {
-    few = rw (length-run_each (woken address g.waiters count) g.harts) good.few;
+    few = rw (length-run_each (woken_harts address g.waiters count) g.harts) good.few;
     waiting = waiting-woken g.harts address g.waiters count good.waiting;
     apart = apart-left address g.waiters count good.apart;
   };
@@ -56,7 +56,7 @@ never_goes : (over : Bool) (e : Ending) → goes_on (if over then Ends e else Le
 never_goes true e = refl
 never_goes false e = refl
 
-never_sleeps : (over : Bool) (e : Ending) → sleeps (if over then Ends e else Leaves) ≡ false
+never_sleeps : (over : Bool) (e : Ending) → is_sleeper (if over then Ends e else Leaves) ≡ false
 never_sleeps true e = refl
 never_sleeps false e = refl
 
@@ -103,7 +103,7 @@ wait_started : (g : Guest) (h : ℕ) → IsOrderly g → is_running g h ≡ true
 unfolding Calls.wait
 wait_started g h good runs =
     either (IsStarted g h) (not (a3 g h == 0)) (unsupported g h) _ (unsupported_started g h good)
-    (checked (not (a0 g h % 4 == 0)) invalid h g _ good runs
+    (checked (not (a0 g h % 4 == 0)) invalid_argument h g _ good runs
     (checked (not (is_readable (memory_of g) (a0 g h) 4)) bad_address h g _ good runs
     (checked (not (number_at (memory_of g) (a0 g h) 4 == a2 g h % 2 ^ 32)) try_again h g _ good runs
     (waits_started g h (a0 g h) good runs))))
@@ -111,8 +111,8 @@ wait_started g h good runs =
 wake_started : (g : Guest) (h : ℕ) → IsOrderly g → is_running g h ≡ true → IsStarted g h (Calls.wake g h)
 unfolding Calls.wake
 wake_started g h good runs =
-    checked (not (a0 g h % 4 == 0)) invalid h g _ good runs
-    (replied_started (twos 64 (pos (length (woken_here g h)))) h g (woken_here g h) (with_woken (a0 g h) (most_woken g h) g) (woken_beside g h (a0 g h) (most_woken g h) good runs) runs)
+    checked (not (a0 g h % 4 == 0)) invalid_argument h g _ good runs
+    (replied_started (twos_complement 64 (pos (length (woken_here g h)))) h g (woken_here g h) (with_woken (a0 g h) (most_woken g h) g) (woken_beside g h (a0 g h) (most_woken g h) good runs) runs)
 
 pub futex_started : (g : Guest) (h : ℕ) → IsOrderly g → is_running g h ≡ true → IsStarted g h (Calls.futex g h)
 unfolding Calls.futex
@@ -128,11 +128,11 @@ word_kept address n g =
 
 parent_kept : (g : Guest) (h : ℕ) (changed : Guest) → IsAsBefore changed (with_parent_tid g h changed)
 parent_kept g h changed =
-    either (IsAsBefore changed) (has (a0 g h) parent_set_tid) (with_word (a2 g h) (thread_id (child g h)) changed) changed (word_kept (a2 g h) (thread_id (child g h)) changed) (unchanged changed)
+    either (IsAsBefore changed) (has_power (a0 g h) parent_set_tid) (with_word (a2 g h) (thread_id (child g h)) changed) changed (word_kept (a2 g h) (thread_id (child g h)) changed) (unchanged changed)
 
 child_kept : (g : Guest) (h : ℕ) (changed : Guest) → IsAsBefore changed (with_child_tid g h changed)
 child_kept g h changed =
-    either (IsAsBefore changed) (has (a0 g h) child_set_tid) (with_word (a4 g h) (thread_id (child g h)) changed) changed (word_kept (a4 g h) (thread_id (child g h)) changed) (unchanged changed)
+    either (IsAsBefore changed) (has_power (a0 g h) child_set_tid) (with_word (a4 g h) (thread_id (child g h)) changed) changed (word_kept (a4 g h) (thread_id (child g h)) changed) (unchanged changed)
 
 child_beside : (g : Guest) (h : ℕ) → IsOrderly g → is_running g h ≡ true → length g.harts < 256 → RunsBeside g h (child g h ∷ []) (with_child g h)
 child_beside g h good runs room =
@@ -153,7 +153,7 @@ cloned_beside g h good runs room =
     (later (with_child g h) told (cloned g h) (parent_kept g h (with_child g h)) (child_kept g h told))
 
 with_room : (full : Bool) (g : Guest) (h : ℕ) (r : Retirement Guest) → nat_le HARTS (length g.harts) ≡ full → IsOrderly g → is_running g h ≡ true → (length g.harts < 256 → IsStarted g h r)
-    → IsStarted g h (if full then answered try_again h g else r)
+    → IsStarted g h (if full then with_answer try_again h g else r)
 with_room true g h r e good runs rest = answer_started try_again h g g refl refl refl good runs
 with_room false g h r e good runs rest = rest (leb-false 256 (length g.harts) e)
 
@@ -162,4 +162,4 @@ unfolding Calls.clone
 clone_started g h good runs =
     either (IsStarted g h) (not (is_accepted (a0 g h))) (unsupported g h) _ (unsupported_started g h good)
     (with_room (nat_le HARTS (length g.harts)) g h _ refl good runs
-    (λ room. replied_started (twos 64 (pos (thread_id (child g h)))) h g (child g h ∷ []) (cloned g h) (cloned_beside g h good runs room) runs))
+    (λ room. replied_started (twos_complement 64 (pos (thread_id (child g h)))) h g (child g h ∷ []) (cloned g h) (cloned_beside g h good runs room) runs))

@@ -7,12 +7,12 @@ use Rattle.machines.specs.declared.Fate.{Fate}
 use Rattle.machines.specs.declared.Fate.TheVariants.{Sleeps, Ends}
 use Rattle.machines.specs.Guest.{Retirement}
 use Rattle.guest_memory.specs.Memory.{is_readable, is_writable}
-use Rattle.guest_areas.specs.Answers.{bad_address, invalid}
+use Rattle.guest_areas.specs.Answers.{bad_address, invalid_argument}
 use Rattle.guest_calls.specs.declared.times.Span.{Span}
 use Rattle.guest_calls.specs.Times.{span_at, span_bytes, wake_moment, last_moment, clock_at}
 use Rattle.guest_calls.specs.Guest.{Guest, with_stored, is_running, memory_of}
 use Rattle.guest_calls.specs.Calls
-use Rattle.guest_calls.specs.Calls.{retirement, answered, asleep, sleep_until, unsupported, a0, a1}
+use Rattle.guest_calls.specs.Calls.{retirement, with_answer, asleep, sleep_until, unsupported, a0, a1}
 use Rattle.guest_calls.specs.Orderly.{IsOrderly}
 use Rattle.guest_calls.proofs.RunningHarts.{made_running, runs_awake, timed_put, asleep_more}
 use Rattle.guest_calls.proofs.Started.{IsStarted, IsStartedAt, at_any_net, either, unchanged, ends_started, answer_started, stored_made, checked, unsupported_started}
@@ -41,14 +41,14 @@ until_started true g h v moment e later good runs =
 until_started false g h v moment e later good runs = sleeps_started g h v moment later (ltb-false last_moment moment e) good runs
 
 span_started : (o : Option Span) (g : Guest) (h v : ℕ) → IsOrderly g → is_running g h ≡ true
-    → IsStartedAt v g h (elim o as (λ _. Retirement Guest) [ None ↦ answered invalid h g | Some span ↦ sleep_until g h (wake_moment v span) ])
-span_started None g h v good runs = at_any_net g h v _ (answer_started invalid h g g refl refl refl good runs)
+    → IsStartedAt v g h (elim o as (λ _. Retirement Guest) [ None ↦ with_answer invalid_argument h g | Some span ↦ sleep_until g h (wake_moment v span) ])
+span_started None g h v good runs = at_any_net g h v _ (answer_started invalid_argument h g g refl refl refl good runs)
 span_started (Some span) g h v good runs = until_started (nat_lt last_moment (wake_moment v span)) g h v (wake_moment v span) refl (omega arith) good runs
 
 pub nanosleep_started : (g : Guest) (h v : ℕ) → IsOrderly g → is_running g h ≡ true → IsStartedAt v g h (Calls.nanosleep g h v)
 unfolding Calls.nanosleep
 nanosleep_started g h v good runs =
-    either (IsStartedAt v g h) (not (is_readable (memory_of g) (a0 g h) 16)) (answered bad_address h g) _
+    either (IsStartedAt v g h) (not (is_readable (memory_of g) (a0 g h) 16)) (with_answer bad_address h g) _
     (at_any_net g h v _ (answer_started bad_address h g g refl refl refl good runs))
     (span_started (span_at (memory_of g) (a0 g h)) g h v good runs)
 

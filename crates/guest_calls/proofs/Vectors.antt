@@ -13,7 +13,7 @@ use Rattle.guest_calls.specs.declared.pieces.Piece.{Piece}
 use Rattle.guest_calls.specs.Output.{Written, with_bytes_written}
 use Rattle.guest_calls.specs.Guest.{Guest, memory_of}
 use Rattle.guest_calls.proofs.Rows.{written}
-use Rattle.guest_calls.specs.Calls.{piece_at, pieces_at, filled, total, is_each_readable, is_each_writable, bytes_of, with_filled, with_read}
+use Rattle.guest_calls.specs.Calls.{piece_at, pieces_at, filled_parts, total, is_each_readable, is_each_writable, bytes_of, with_filled, with_read}
 
 pub readable-within : (m : MemoryMap) (a n k j : ℕ) → is_readable m a n ≡ true → k + j ≤ n → is_readable m (a + k) j ≡ true
 readable-within m a n k j may fits =
@@ -86,22 +86,22 @@ total-next ps i below = ap total (next-piece ps i below)
 
 -- what is left after so many bytes of a piece were filled
 pub writable-next : (m : MemoryMap) (ps : List Piece) (i left taken : ℕ) → i < length ps → taken ≡ min (get_or ps i no_piece).length left
-    → is_each_writable m (filled (drop i ps) left) ≡ (is_writable m (get_or ps i no_piece).address taken && is_each_writable m (filled (drop (i + 1) ps) (left - taken)))
+    → is_each_writable m (filled_parts (drop i ps) left) ≡ (is_writable m (get_or ps i no_piece).address taken && is_each_writable m (filled_parts (drop (i + 1) ps) (left - taken)))
 writable-next m ps i left taken below e =
     let p : Piece = get_or ps i no_piece in
-    ap (λ (qs : List Piece). is_each_writable m (filled qs left)) (next-piece ps i below)
-    ∙ ap (λ (n : ℕ). is_writable m p.address n && is_each_writable m (filled (drop (i + 1) ps) (left - p.length))) (sym e)
-    ∙ ap (λ (n : ℕ). is_writable m p.address taken && is_each_writable m (filled (drop (i + 1) ps) n)) (let f : left - p.length ≡ left - taken = omega arith in f)
+    ap (λ (qs : List Piece). is_each_writable m (filled_parts qs left)) (next-piece ps i below)
+    ∙ ap (λ (n : ℕ). is_writable m p.address n && is_each_writable m (filled_parts (drop (i + 1) ps) (left - p.length))) (sym e)
+    ∙ ap (λ (n : ℕ). is_writable m p.address taken && is_each_writable m (filled_parts (drop (i + 1) ps) n)) (let f : left - p.length ≡ left - taken = omega arith in f)
 
 pub writable-accepted : (m : MemoryMap) (ps : List Piece) (i left taken : ℕ) → i < length ps → taken ≡ min (get_or ps i no_piece).length left → is_writable m (get_or ps i no_piece).address taken ≡ true
-    → is_each_writable m (filled (drop (i + 1) ps) (left - taken)) ≡ is_each_writable m (filled (drop i ps) left)
+    → is_each_writable m (filled_parts (drop (i + 1) ps) (left - taken)) ≡ is_each_writable m (filled_parts (drop i ps) left)
 writable-accepted m ps i left taken below e may =
-    sym (writable-next m ps i left taken below e ∙ ap (λ (b : Bool). b && is_each_writable m (filled (drop (i + 1) ps) (left - taken))) may)
+    sym (writable-next m ps i left taken below e ∙ ap (λ (b : Bool). b && is_each_writable m (filled_parts (drop (i + 1) ps) (left - taken))) may)
 
 pub writable-refused : (m : MemoryMap) (ps : List Piece) (i left taken : ℕ) → i < length ps → taken ≡ min (get_or ps i no_piece).length left → is_writable m (get_or ps i no_piece).address taken ≡ false
-    → false ≡ is_each_writable m (filled (drop i ps) left)
+    → false ≡ is_each_writable m (filled_parts (drop i ps) left)
 writable-refused m ps i left taken below e refused =
-    sym (writable-next m ps i left taken below e ∙ ap (λ (b : Bool). b && is_each_writable m (filled (drop (i + 1) ps) (left - taken))) refused)
+    sym (writable-next m ps i left taken below e ∙ ap (λ (b : Bool). b && is_each_writable m (filled_parts (drop (i + 1) ps) (left - taken))) refused)
 
 allowed-same : (right : Rights → Bool) (m k : MemoryMap) → m.rights ≡ k.rights → (a n : ℕ) → is_allowed right m a n ≡ is_allowed right k a n
 allowed-same right m k e a zero = refl
@@ -115,42 +115,42 @@ each-same m k e (p ∷ ps) =
     ap (λ (b : Bool). b && is_each_writable m ps) (allowed-same (λ r. r.write) m k e p.address p.length)
     ∙ ap (λ (b : Bool). is_writable k p.address p.length && b) (each-same m k e ps)
 
-pub fill-writable : (g : Guest) (ps : List Piece) (i taken : ℕ) → i < length ps → taken ≡ min (get_or ps i no_piece).length (length g.input) → is_each_writable (memory_of g) (filled (drop i ps) (length g.input)) ≡ true
+pub fill-writable : (g : Guest) (ps : List Piece) (i taken : ℕ) → i < length ps → taken ≡ min (get_or ps i no_piece).length (length g.input) → is_each_writable (memory_of g) (filled_parts (drop i ps) (length g.input)) ≡ true
     → is_writable (memory_of g) (get_or ps i no_piece).address taken ≡ true
 fill-writable g ps i taken below e all =
-    and-first (is_writable (memory_of g) (get_or ps i no_piece).address taken) (is_each_writable (memory_of g) (filled (drop (i + 1) ps) (length g.input - taken)))
+    and-first (is_writable (memory_of g) (get_or ps i no_piece).address taken) (is_each_writable (memory_of g) (filled_parts (drop (i + 1) ps) (length g.input - taken)))
     (sym (writable-next (memory_of g) ps i (length g.input) taken below e) ∙ all)
 
 input-left : (g after : Guest) (address taken : ℕ) → after ≡ with_filled address taken g → length after.input ≡ length g.input - taken
 input-left g after address taken e = ap (λ (x : Guest). length x.input) e ∙ length-drop taken g.input
 
-pub fill-rest : (g after : Guest) (ps : List Piece) (i taken : ℕ) → i < length ps → taken ≡ min (get_or ps i no_piece).length (length g.input) → is_each_writable (memory_of g) (filled (drop i ps) (length g.input)) ≡ true
-    → after ≡ with_filled (get_or ps i no_piece).address taken g → is_each_writable (memory_of after) (filled (drop (i + 1) ps) (length after.input)) ≡ true
+pub fill-rest : (g after : Guest) (ps : List Piece) (i taken : ℕ) → i < length ps → taken ≡ min (get_or ps i no_piece).length (length g.input) → is_each_writable (memory_of g) (filled_parts (drop i ps) (length g.input)) ≡ true
+    → after ≡ with_filled (get_or ps i no_piece).address taken g → is_each_writable (memory_of after) (filled_parts (drop (i + 1) ps) (length after.input)) ≡ true
 fill-rest g after ps i taken below e all f =
     let p : Piece = get_or ps i no_piece in
     let rights : (memory_of after).rights ≡ (memory_of g).rights = ap (λ (x : Guest). (memory_of x).rights) f ∙ rights-with_bytes (memory_of g) p.address (take taken g.input) in
-    each-same (memory_of after) (memory_of g) rights (filled (drop (i + 1) ps) (length after.input))
-    ∙ ap (λ (n : ℕ). is_each_writable (memory_of g) (filled (drop (i + 1) ps) n)) (input-left g after p.address taken f)
-    ∙ and-second (is_writable (memory_of g) p.address taken) (is_each_writable (memory_of g) (filled (drop (i + 1) ps) (length g.input - taken)))
+    each-same (memory_of after) (memory_of g) rights (filled_parts (drop (i + 1) ps) (length after.input))
+    ∙ ap (λ (n : ℕ). is_each_writable (memory_of g) (filled_parts (drop (i + 1) ps) n)) (input-left g after p.address taken f)
+    ∙ and-second (is_writable (memory_of g) p.address taken) (is_each_writable (memory_of g) (filled_parts (drop (i + 1) ps) (length g.input - taken)))
     (sym (writable-next (memory_of g) ps i (length g.input) taken below e) ∙ all)
 
 pub fill-next : (g after : Guest) (ps : List Piece) (i taken : ℕ) → i < length ps → taken ≡ min (get_or ps i no_piece).length (length g.input) → after ≡ with_filled (get_or ps i no_piece).address taken g
-    → with_read (filled (drop (i + 1) ps) (length after.input)) after ≡ with_read (filled (drop i ps) (length g.input)) g
+    → with_read (filled_parts (drop (i + 1) ps) (length after.input)) after ≡ with_read (filled_parts (drop i ps) (length g.input)) g
 fill-next g after ps i taken below e f =
     let p : Piece = get_or ps i no_piece in
     let left : length (drop taken g.input) ≡ length g.input - p.length = length-drop taken g.input ∙ (let k : length g.input - taken ≡ length g.input - p.length = omega arith in k) in
-    ap (λ (x : Guest). with_read (filled (drop (i + 1) ps) (length x.input)) x) f
-    ∙ ap (λ (n : ℕ). with_read (filled (drop (i + 1) ps) n) (with_filled p.address taken g)) left
-    ∙ ap (λ (n : ℕ). with_read (filled (drop (i + 1) ps) (length g.input - p.length)) (with_filled p.address n g)) e
-    ∙ ap (λ (qs : List Piece). with_read (filled qs (length g.input)) g) (sym (next-piece ps i below))
+    ap (λ (x : Guest). with_read (filled_parts (drop (i + 1) ps) (length x.input)) x) f
+    ∙ ap (λ (n : ℕ). with_read (filled_parts (drop (i + 1) ps) n) (with_filled p.address taken g)) left
+    ∙ ap (λ (n : ℕ). with_read (filled_parts (drop (i + 1) ps) (length g.input - p.length)) (with_filled p.address n g)) e
+    ∙ ap (λ (qs : List Piece). with_read (filled_parts qs (length g.input)) g) (sym (next-piece ps i below))
 
 pub fill-count : (g after : Guest) (ps : List Piece) (i taken : ℕ) → i < length ps → taken ≡ min (get_or ps i no_piece).length (length g.input) → after ≡ with_filled (get_or ps i no_piece).address taken g
-    → total (filled (drop i ps) (length g.input)) ≡ taken + total (filled (drop (i + 1) ps) (length after.input))
+    → total (filled_parts (drop i ps) (length g.input)) ≡ taken + total (filled_parts (drop (i + 1) ps) (length after.input))
 fill-count g after ps i taken below e f =
     let p : Piece = get_or ps i no_piece in
-    ap (λ (qs : List Piece). total (filled qs (length g.input))) (next-piece ps i below)
-    ∙ ap (λ (n : ℕ). n + total (filled (drop (i + 1) ps) (length g.input - p.length))) (sym e)
-    ∙ ap (λ (n : ℕ). taken + total (filled (drop (i + 1) ps) n)) (sym (input-left g after p.address taken f ∙ (let k : length g.input - taken ≡ length g.input - p.length = omega arith in k)))
+    ap (λ (qs : List Piece). total (filled_parts qs (length g.input))) (next-piece ps i below)
+    ∙ ap (λ (n : ℕ). n + total (filled_parts (drop (i + 1) ps) (length g.input - p.length))) (sym e)
+    ∙ ap (λ (n : ℕ). taken + total (filled_parts (drop (i + 1) ps) n)) (sym (input-left g after p.address taken f ∙ (let k : length g.input - taken ≡ length g.input - p.length = omega arith in k)))
 
 pub fill-left : (g after : Guest) (address taken : ℕ) → after ≡ with_filled address taken g → length after.input ≡ length g.input - taken
 fill-left g after address taken f = input-left g after address taken f

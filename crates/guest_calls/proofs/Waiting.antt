@@ -3,7 +3,7 @@ use Rattle.std.proofs.Common.{ℕ, zero, suc, ◌≡◌, ◌≢◌, ◌<◌, Boo
 use Rattle.std.specs.List.{list_any}
 use Rattle.std.proofs.lemmas.Bool.{cases_Bool, eq-eqb}
 use Rattle.std.proofs.lemmas.List.{length-set}
-use Rattle.guest_futex.specs.Waiters.{Waiter, with_waiter, woken, left}
+use Rattle.guest_futex.specs.Waiters.{Waiter, with_waiter, woken_harts, waiters_left}
 use Rattle.guest_futex.specs.Apart.{AreOthers}
 use Rattle.guest_calls.specs.declared.hart.Hart.{Hart}
 use Rattle.guest_calls.specs.declared.hart.HartStatus.{HartStatus}
@@ -115,9 +115,9 @@ all_others-filter (h ∷ hs) keeps ws apart = (
 )
 
 -- none of the woken is left
-woken-not_left : (address : ℕ) (ws : List Waiter) (count : ℕ) → AllOthers (woken address ws count) (left address ws count)
+woken-not_left : (address : ℕ) (ws : List Waiter) (count : ℕ) → AllOthers (woken_harts address ws count) (waiters_left address ws count)
 woken-not_left address ws count =
-    all_others-filter (woken address ws count) _ ws (λ w kept. not_true (list_any (λ hart. hart == w.hart) (woken address ws count)) kept)
+    all_others-filter (woken_harts address ws count) _ ws (λ w kept. not_true (list_any (λ hart. hart == w.hart) (woken_harts address ws count)) kept)
 
 waiting-filter : (hs : List Hart) (keeps : Waiter → Bool) (ws : List Waiter) → AreWaiting hs ws → AreWaiting hs (filter keeps ws)
 waiting-filter hs keeps [] waiting = tt
@@ -128,9 +128,9 @@ waiting-filter hs keeps (w ∷ ws) waiting =
     (cases_Bool (keeps w))
 
 -- the woken run, and the others wait on
-pub waiting-woken : (hs : List Hart) (address : ℕ) (ws : List Waiter) (count : ℕ) → AreWaiting hs ws → AreWaiting (with_running_each (woken address ws count) hs) (left address ws count)
+pub waiting-woken : (hs : List Hart) (address : ℕ) (ws : List Waiter) (count : ℕ) → AreWaiting hs ws → AreWaiting (with_running_each (woken_harts address ws count) hs) (waiters_left address ws count)
 waiting-woken hs address ws count waiting =
-    waiting-run_each (woken address ws count) hs (left address ws count) (woken-not_left address ws count) (waiting-filter hs _ ws waiting)
+    waiting-run_each (woken_harts address ws count) hs (waiters_left address ws count) (woken-not_left address ws count) (waiting-filter hs _ ws waiting)
 
 -- a hart that waits was made
 made-waiting : (hs : List Hart) (h : ℕ) → status_at hs h ≡ Waiting → h < length hs
@@ -142,7 +142,7 @@ AllBelow : ℕ → List ℕ → Type 0
 AllBelow n [] = Unit {0}
 AllBelow n (h ∷ hs) = (h < n) × AllBelow n hs
 
-below-woken : (hs : List Hart) (address : ℕ) (ws : List Waiter) (count : ℕ) → AreWaiting hs ws → AllBelow (length hs) (woken address ws count)
+below-woken : (hs : List Hart) (address : ℕ) (ws : List Waiter) (count : ℕ) → AreWaiting hs ws → AllBelow (length hs) (woken_harts address ws count)
 unfolding AllBelow
 below-woken hs address [] zero waiting = tt
 below-woken hs address [] (suc count) waiting = tt
@@ -160,8 +160,8 @@ below-each n (h ∷ hs) all zero below = all.0
 below-each n (h ∷ hs) all (suc k) below = below-each n hs all.1 k (omega arith)
 
 -- each woken hart was made
-pub woken-made : (hs : List Hart) (address : ℕ) (ws : List Waiter) (count : ℕ) → AreWaiting hs ws → (k : ℕ) → k < length (woken address ws count) → get_or (woken address ws count) k 0 < length hs
-woken-made hs address ws count waiting = below-each (length hs) (woken address ws count) (below-woken hs address ws count waiting)
+pub woken-made : (hs : List Hart) (address : ℕ) (ws : List Waiter) (count : ℕ) → AreWaiting hs ws → (k : ℕ) → k < length (woken_harts address ws count) → get_or (woken_harts address ws count) k 0 < length hs
+woken-made hs address ws count waiting = below-each (length hs) (woken_harts address ws count) (below-woken hs address ws count waiting)
 
 pub length-run_each : (woken : List ℕ) (hs : List Hart) → length (with_running_each woken hs) ≡ length hs
 length-run_each [] hs = refl

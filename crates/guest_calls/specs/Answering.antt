@@ -1,6 +1,6 @@
 -- What a hart finds after its call.
 use Rattle.std.specs.Prelude.{ℕ, ℤ}
-use Rattle.rv_decode.specs.Fields.{twos}
+use Rattle.rv_decode.specs.Fields.{twos_complement}
 use Rattle.rv_execute.specs.declared.hart.HartState.{HartState}
 use Rattle.rv_execute.specs.Execution.{with_register, with_pc, pc_after}
 
@@ -14,4 +14,4 @@ with_result n state = with_register 10 n (after_call state)
 
 -- a negative answer in 64 bits
 abbrev pub with_answer : ℤ → HartState → HartState
-with_answer answer state = with_result (twos 64 answer) state
+with_answer answer state = with_result (twos_complement 64 answer) state

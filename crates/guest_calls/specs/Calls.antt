@@ -10,11 +10,11 @@ use Rattle.coz_types.specs.Maps.{Map, value_at}
 use Rattle.machines.specs.declared.Fate.{Fate}
 use Rattle.machines.specs.declared.Fate.TheVariants.{Goes, Waits, Leaves, Sleeps, Ends}
 use Rattle.machines.specs.Guest.{Retirement}
-use Rattle.rv_decode.specs.Fields.{twos, signed}
+use Rattle.rv_decode.specs.Fields.{twos_complement, signed_bits}
 use Rattle.guest_memory.specs.Memory.{MemoryMap, is_readable, is_writable, number_at, bytes_at}
-use Rattle.guest_areas.specs.Answers.{bad_file, try_again, no_memory, bad_address, invalid, no_terminal, no_seek}
-use Rattle.guest_areas.specs.Space.{Space, Answered, has, with_break, map, unmap, protect}
-use Rattle.guest_futex.specs.Waiters.{with_waiter, woken, left}
+use Rattle.guest_areas.specs.Answers.{bad_file, try_again, no_memory, bad_address, invalid_argument, no_terminal, no_seek}
+use Rattle.guest_areas.specs.Space.{Space, Answered, has_power, with_break, map, unmap, protect}
+use Rattle.guest_futex.specs.Waiters.{with_waiter, woken_harts, waiters_left}
 use Rattle.rv_execute.specs.declared.hart.HartState.{HartState}
 use Rattle.rv_execute.specs.Execution.{with_register}
 use Rattle.guest_calls.specs.declared.hart.Hart.{Hart}
@@ -39,10 +39,10 @@ pieces_at m address zero = []
 pieces_at m address (suc count) = piece_at m address ∷ pieces_at m (address + 16) count
 
 -- what so many bytes fill of each piece, in order
-abbrev pub filled : List Piece → ℕ → List Piece
-filled [] n = []
-filled (p ∷ ps) n =
-    record { address = p.address; length = min p.length n } ∷ filled ps (n - p.length)
+abbrev pub filled_parts : List Piece → ℕ → List Piece
+filled_parts [] n = []
+filled_parts (p ∷ ps) n =
+    record { address = p.address; length = min p.length n } ∷ filled_parts ps (n - p.length)
 
 abbrev pub total : List Piece → ℕ
 total [] = 0
@@ -80,7 +80,8 @@ is_output number = number == 1 || number == 2
 
 -- private and anonymous, or shared and anonymous, at no fixed address
 abbrev pub is_mapping : ℕ → Bool
-is_mapping flags = has flags 0x20 && not (has flags 0x10) && (flags % 4 == 1 || flags % 4 == 2)
+is_mapping flags =
+    has_power flags 0x20 && not (has_power flags 0x10) && (flags % 4 == 1 || flags % 4 == 2)
 
 -- the flags that a clone must have: memory, files and handlers are shared,
 -- and the child is a thread
@@ -118,8 +119,8 @@ with_word address n g =
 -- the eldest harts that wait for an address run, at most so many
 abbrev pub with_woken : ℕ → ℕ → Guest → Guest
 with_woken address count g =
-    with_running (woken address g.waiters count)
-    (record g { waiters = left address g.waiters count })
+    with_running (woken_harts address g.waiters count)
+    (record g { waiters = waiters_left address g.waiters count })
 
 -- how many a wake takes at most
 abbrev pub wake_count : ℤ → ℕ
@@ -135,11 +136,11 @@ abbrev pub argument : Guest → ℕ → ℕ → ℕ
 argument g h i = slice_index (state_of g h).registers (10 + i)
 
 -- the hart has these 64 bits as its answer, and goes on
-abbrev pub replied : ℕ → ℕ → Guest → Retirement Guest
-replied n h g = retirement (with_state h (with_result n (state_of g h)) g) Goes []
+abbrev pub with_reply : ℕ → ℕ → Guest → Retirement Guest
+with_reply n h g = retirement (with_state h (with_result n (state_of g h)) g) Goes []
 
-abbrev pub answered : ℤ → ℕ → Guest → Retirement Guest
-answered z h g = replied (twos 64 z) h g
+abbrev pub with_answer : ℤ → ℕ → Guest → Retirement Guest
+with_answer z h g = with_reply (twos_complement 64 z) h g
 
 -- the guest after a hart has left
 abbrev pub left_by : ℕ → Guest → Guest
@@ -170,14 +171,14 @@ module _ (g : Guest) (h : ℕ) where
   a4 = argument g h 4
 
   abbrev pub answer : ℤ → Retirement Guest
-  answer z = answered z h g
+  answer z = with_answer z h g
 
   -- the run ends
   abbrev pub unsupported : Retirement Guest
   unsupported = retirement g (Ends (Unsupported (number g h))) []
 
   abbrev pub of_space : Answered → Retirement Guest
-  of_space a = answered a.answer h (record g { space = a.space })
+  of_space a = with_answer a.answer h (record g { space = a.space })
 
   unfoldable pub ioctl : Retirement Guest
   ioctl = if is_stream a0 then answer no_terminal else answer bad_file
@@ -193,13 +194,13 @@ module _ (g : Guest) (h : ℕ) where
   read =
       if not (is_input a0) then answer bad_file
       else if not (is_writable (memory_of g) a1 read_length) then answer bad_address
-      else answered (pos read_length) h (with_filled a1 read_length g)
+      else with_answer (pos read_length) h (with_filled a1 read_length g)
 
   unfoldable pub write : Retirement Guest
   write =
       if not (is_output a0) then answer bad_file
       else if not (is_readable (memory_of g) a1 a2) then answer bad_address
-      else answered (pos a2) h (with_written (bytes_at (memory_of g) a1 a2) g)
+      else with_answer (pos a2) h (with_written (bytes_at (memory_of g) a1 a2) g)
 
   -- no more pieces than these are named
   abbrev pub are_few : Bool
@@ -211,26 +212,27 @@ module _ (g : Guest) (h : ℕ) where
 
   unfoldable pub read_pieces : List Piece → Retirement Guest
   read_pieces ps =
-      if not (is_each_writable (memory_of g) (filled ps (length g.input))) then answer bad_address
-      else answered (pos (total (filled ps (length g.input)))) h
-      (with_read (filled ps (length g.input)) g)
+      if not (is_each_writable (memory_of g) (filled_parts ps (length g.input)))
+      then answer bad_address
+      else with_answer (pos (total (filled_parts ps (length g.input)))) h
+      (with_read (filled_parts ps (length g.input)) g)
 
   unfoldable pub readv : Retirement Guest
   readv =
       if not (is_input a0) then answer bad_file
-      else if not are_few then answer invalid
+      else if not are_few then answer invalid_argument
       else if not is_named then answer bad_address
       else read_pieces (pieces_at (memory_of g) a1 a2)
 
   unfoldable pub write_pieces : List Piece → Retirement Guest
   write_pieces ps =
       if not (is_each_readable (memory_of g) ps) then answer bad_address
-      else answered (pos (total ps)) h (with_written (bytes_of (memory_of g) ps) g)
+      else with_answer (pos (total ps)) h (with_written (bytes_of (memory_of g) ps) g)
 
   unfoldable pub writev : Retirement Guest
   writev =
       if not (is_output a0) then answer bad_file
-      else if not are_few then answer invalid
+      else if not are_few then answer invalid_argument
       else if not is_named then answer bad_address
       else write_pieces (pieces_at (memory_of g) a1 a2)
 
@@ -245,7 +247,7 @@ module _ (g : Guest) (h : ℕ) where
 
   -- the eldest hart that waits for the clear address
   abbrev pub woken_at_exit : List ℕ
-  woken_at_exit = woken clear_address g.waiters 1
+  woken_at_exit = woken_harts clear_address g.waiters 1
 
   -- the clear address has 0, and its eldest waiter is woken
   abbrev pub cleared : Guest
@@ -256,7 +258,7 @@ module _ (g : Guest) (h : ℕ) where
 
   unfoldable pub set_tid_address : Retirement Guest
   set_tid_address =
-      answered (pos (thread_id h)) h (with_hart h (record (hart_at g h) { clear = a0 }) g)
+      with_answer (pos (thread_id h)) h (with_hart h (record (hart_at g h) { clear = a0 }) g)
 
   -- the hart waits for an address, and has 0 as its answer once it is woken
   abbrev pub waiting_for : ℕ → Guest
@@ -267,22 +269,22 @@ module _ (g : Guest) (h : ℕ) where
   unfoldable pub wait : Retirement Guest
   wait =
       if not (a3 == 0) then unsupported
-      else if not (a0 % 4 == 0) then answer invalid
+      else if not (a0 % 4 == 0) then answer invalid_argument
       else if not (is_readable (memory_of g) a0 4) then answer bad_address
       else if not (number_at (memory_of g) a0 4 == a2 % 2 ^ 32) then answer try_again
       else retirement (waiting_for a0) Waits []
 
   abbrev pub most_woken : ℕ
-  most_woken = wake_count (signed 32 (a2 % 2 ^ 32))
+  most_woken = wake_count (signed_bits 32 (a2 % 2 ^ 32))
 
   -- the harts that a wake on a0 wakes
   abbrev pub woken_here : List ℕ
-  woken_here = woken a0 g.waiters most_woken
+  woken_here = woken_harts a0 g.waiters most_woken
 
   unfoldable pub wake : Retirement Guest
   wake =
-      if not (a0 % 4 == 0) then answer invalid
-      else record (answered (pos (length woken_here)) h (with_woken a0 most_woken g)) {
+      if not (a0 % 4 == 0) then answer invalid_argument
+      else record (with_answer (pos (length woken_here)) h (with_woken a0 most_woken g)) {
         others = woken_here;
       }
 
@@ -306,7 +308,7 @@ module _ (g : Guest) (h : ℕ) where
   nanosleep v =
       if not (is_readable (memory_of g) a0 16) then answer bad_address
       else elim (span_at (memory_of g) a0) [
-        | None ↦ answer invalid
+        | None ↦ answer invalid_argument
         | Some span ↦ sleep_until (wake_moment v span)
       ]
 
@@ -315,7 +317,7 @@ module _ (g : Guest) (h : ℕ) where
   clock_gettime v =
       if not (a0 == 0 || a0 == 1) then unsupported
       else if not (is_writable (memory_of g) a1 16) then answer bad_address
-      else answered (pos 0) h (with_stored a1 (span_bytes (clock_at v)) g)
+      else with_answer (pos 0) h (with_stored a1 (span_bytes (clock_at v)) g)
 
   -- the number of the hart that is made next
   abbrev pub child : ℕ
@@ -325,24 +327,24 @@ module _ (g : Guest) (h : ℕ) where
   child_stack state = if a1 == 0 then state else with_register 2 a1 state
 
   abbrev pub child_tls : HartState → HartState
-  child_tls state = if has a0 set_tls then with_register 4 a3 state else state
+  child_tls state = if has_power a0 set_tls then with_register 4 a3 state else state
 
   -- it goes on behind the call, with 0 as its answer
   abbrev pub child_hart : Hart
   child_hart =
       hart_from (child_tls (child_stack (with_result 0 (state_of g h))))
-      (if has a0 child_clear_tid then a4 else 0)
+      (if has_power a0 child_clear_tid then a4 else 0)
 
   abbrev pub with_child : Guest
   with_child = record g { harts = g.harts ++ child_hart ∷ [] }
 
   abbrev pub with_parent_tid : Guest → Guest
   with_parent_tid changed =
-      if has a0 parent_set_tid then with_word a2 (thread_id child) changed else changed
+      if has_power a0 parent_set_tid then with_word a2 (thread_id child) changed else changed
 
   abbrev pub with_child_tid : Guest → Guest
   with_child_tid changed =
-      if has a0 child_set_tid then with_word a4 (thread_id child) changed else changed
+      if has_power a0 child_set_tid then with_word a4 (thread_id child) changed else changed
 
   -- the guest with the child, whose thread id is stored where the flags ask for it
   abbrev pub cloned : Guest
@@ -352,7 +354,7 @@ module _ (g : Guest) (h : ℕ) where
   clone =
       if not (is_accepted a0) then unsupported
       else if nat_le HARTS (length g.harts) then answer try_again
-      else record (answered (pos (thread_id child)) h cloned) { others = child ∷ [] }
+      else record (with_answer (pos (thread_id child)) h cloned) { others = child ∷ [] }
 
   unfoldable pub sched_yield : Retirement Guest
   sched_yield = answer (pos 0)
@@ -365,14 +367,14 @@ module _ (g : Guest) (h : ℕ) where
 
   unfoldable pub rt_sigprocmask : Retirement Guest
   rt_sigprocmask =
-      if not (a3 == 8) then answer invalid
+      if not (a3 == 8) then answer invalid_argument
       else if a2 == 0 then answer (pos 0)
       else if not (is_writable (memory_of g) a2 8) then answer bad_address
-      else answered (pos 0) h (with_stored a2 (replicate 8 0) g)
+      else with_answer (pos 0) h (with_stored a2 (replicate 8 0) g)
 
   unfoldable pub brk : Retirement Guest
   brk = let space : Space = with_break a0 g.space in
-      answered (pos space.regions.break) h (record g { space = space })
+      with_answer (pos space.regions.break) h (record g { space = space })
 
   unfoldable pub munmap : Retirement Guest
   munmap = of_space (unmap a0 a1 g.space)
@@ -387,7 +389,7 @@ module _ (g : Guest) (h : ℕ) where
   mprotect = of_space (protect a0 a1 a2 g.space)
 
   unfoldable pub madvise : Retirement Guest
-  madvise = answer invalid
+  madvise = answer invalid_argument
 
 -- a call that doesn't read the net time
 abbrev pub at_any_time : (Guest → ℕ → Retirement Guest) → Guest → ℕ → ℕ → Retirement Guest

@@ -28,19 +28,19 @@ pub record Stepped : Type 0 where
   pub guest : Guest
   pub step : Step
 
-abbrev pub stepped : Guest → Step → Stepped
-stepped guest step = record { guest = guest; step = step }
+abbrev pub step_result : Guest → Step → Stepped
+step_result guest step = record { guest = guest; step = step }
 
 abbrev pub stepped_by : Guest → ℕ → Executed → Stepped
-stepped_by g h e = stepped (with_setting h e.setting g) e.step
+stepped_by g h e = step_result (with_setting h e.setting g) e.step
 
 -- a hart executes the instruction at its pc, if there is one
 unfoldable pub step : Guest → ℕ → Stepped
 step g h =
     elim (word_at g h) [
-      | None ↦ stepped g (Fault Fetch)
+      | None ↦ step_result g (Fault Fetch)
       | Some w ↦ elim (instruction_of w) [
-        | None ↦ stepped g (Fault Illegal)
+        | None ↦ step_result g (Fault Illegal)
         | Some i ↦ stepped_by g h (execute h i (setting_of g h))
       ]
     ]
@@ -50,8 +50,8 @@ trap_of g h cause =
     Ends (Trapped (record { cause = cause; hart = record { 0 = h }; pc = pc_of g h }))
 
 -- what follows a step of a hart at a net time
-abbrev pub follows : ℕ → ℕ → Stepped → Retirement Guest
-follows h v s =
+abbrev pub retirement_after : ℕ → ℕ → Stepped → Retirement Guest
+retirement_after h v s =
     elim (s.step) [
       | Next ↦ retirement s.guest Goes []
       | Call ↦ call_of s.guest h v
@@ -60,4 +60,4 @@ follows h v s =
 
 -- the retirement of a running hart at a net time
 unfoldable pub retire : Guest → ℕ → ℕ → Retirement Guest
-retire g h v = follows h v (step g h)
+retire g h v = retirement_after h v (step g h)

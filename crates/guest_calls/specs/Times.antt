@@ -1,7 +1,7 @@
 -- Spans of time, as calls read and store them. 100 ticks are one nanosecond.
 use Rattle.std.specs.Prelude.{ℕ, ◌+◌, ◌*◌, ◌/◌, ◌%◌, ◌^◌, if◌then◌else◌, nat_lt, List, ◌++◌, Option, Some, None, ℤ, pos}
 use Rattle.std.specs.Int.{w64, to_le_bytes}
-use Rattle.rv_decode.specs.Fields.{signed}
+use Rattle.rv_decode.specs.Fields.{signed_bits}
 use Rattle.guest_memory.specs.Memory.{MemoryMap, number_at}
 use Rattle.guest_calls.specs.declared.times.Span.{Span}
 
@@ -16,7 +16,7 @@ span_of seconds nanoseconds = None
 -- the span that stands at an address: two numbers of 8 bytes with signs
 abbrev pub span_at : MemoryMap → ℕ → Option Span
 span_at m address =
-    span_of (signed 64 (number_at m address 8)) (signed 64 (number_at m (address + 8) 8))
+    span_of (signed_bits 64 (number_at m address 8)) (signed_bits 64 (number_at m (address + 8) 8))
 
 abbrev pub span_bytes : Span → List ℕ
 span_bytes span = to_le_bytes w64 span.seconds ++ to_le_bytes w64 span.nanoseconds

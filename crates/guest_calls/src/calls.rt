@@ -2,10 +2,10 @@
 ghost use Rattle.std.specs.Prelude.{◌≡◌, ◌≤◌, ◌<◌, ◌%◌, ◌&&◌, if◌then◌else◌, [], length, Some, false, IsTrue, MatchResult, pos};
 ghost use Rattle.rv_decode.specs.declared.Instr.TheVariants.{Ecall};
 ghost use Rattle.guest_memory.specs.Memory.{is_writable};
-ghost use Rattle.guest_areas.specs.Answers.{bad_address, invalid};
+ghost use Rattle.guest_areas.specs.Answers.{bad_address, invalid_argument};
 ghost use Rattle.guest_calls.specs.Guest.{IsMade, is_running, is_over, making, thread_id, memory_of, with_stored};
 ghost use Rattle.guest_calls.specs.Calls as calls;
-ghost use Rattle.guest_calls.specs.Calls.{retirement, number, argument, a1, a2, are_few, is_named, replied, answered, with_filled, call_of};
+ghost use Rattle.guest_calls.specs.Calls.{retirement, number, argument, a1, a2, are_few, is_named, with_reply, with_answer, with_filled, call_of};
 ghost use Rattle.guest_calls.specs.Retire.{next_of};
 
 use crate::linux::{
@@ -118,7 +118,7 @@ impl<'a> Guest<'a> {
     /// The hart has these 64 bits as the answer, and goes on.
     fn reply(&mut self, hart: HartId, value: u64) -> Fate
         requires { IsMade self.old hart.0 }
-        ensures { retirement self.new result [] ≡ replied value hart.0 self.old }
+        ensures { retirement self.new result [] ≡ with_reply value hart.0 self.old }
     {
         self.harts[hart.0 as usize].answer(value);
         Fate::Goes
@@ -126,14 +126,14 @@ impl<'a> Guest<'a> {
 
     pub(crate) fn answer(&mut self, hart: HartId, value: i64) -> Fate
         requires { IsMade self.old hart.0 }
-        ensures { retirement self.new result [] ≡ answered value hart.0 self.old }
+        ensures { retirement self.new result [] ≡ with_answer value hart.0 self.old }
     {
         self.reply(hart, value.cast_unsigned())
     }
 
     pub(crate) fn answer_count(&mut self, hart: HartId, count: u64) -> Fate
         requires { IsMade self.old hart.0 }
-        ensures { retirement self.new result [] ≡ answered (pos count) hart.0 self.old }
+        ensures { retirement self.new result [] ≡ with_answer (pos count) hart.0 self.old }
     {
         self.reply(hart, count)
     }
@@ -289,7 +289,7 @@ impl<'a> Guest<'a> {
             × (pieces.items
             ≡ calls.pieces_at (memory_of self.now) (a1 self.now hart.0) (a2 self.now hart.0)))
             (λ fault. ((are_few self.now hart.0 && is_named self.now hart.0) ≡ false)
-            × (fault ≡ (if are_few self.now hart.0 then bad_address else invalid))) }
+            × (fault ≡ (if are_few self.now hart.0 then bad_address else invalid_argument))) }
     {
         let address = self.argument(hart, 1);
         let count = self.argument(hart, 2);
@@ -334,10 +334,11 @@ impl<'a> Guest<'a> {
     /// and gives the count of the bytes.
     fn fill_each(&mut self, pieces: &[Piece]) -> u64
         requires { IsTrue (calls.is_each_writable (memory_of self.old)
-            (calls.filled pieces.now (length self.old.input))) }
+            (calls.filled_parts pieces.now (length self.old.input))) }
         ensures filled { self.new
-            ≡ calls.with_read (calls.filled pieces.now (length self.old.input)) self.old }
-        ensures count { result ≡ calls.total (calls.filled pieces.now (length self.old.input)) }
+            ≡ calls.with_read (calls.filled_parts pieces.now (length self.old.input)) self.old }
+        ensures count { result
+            ≡ calls.total (calls.filled_parts pieces.now (length self.old.input)) }
     {
         let before = self.input_left();
         for piece in pieces {

@@ -17,7 +17,7 @@ ghost use Rattle.cost_table.specs.Costs.{cycles_of};
 ghost use Rattle.guest_memory.specs.Regions.{IsLayout};
 ghost use Rattle.guest_calls.specs.Guest.{IsMade, is_running, is_sleeping, with_wake, making, pc_of, hart_at, first_guest};
 ghost use Rattle.guest_calls.specs.Calls.{retirement};
-ghost use Rattle.guest_calls.specs.Retire.{word_at, next_of, stepped, step, trap_of, retire};
+ghost use Rattle.guest_calls.specs.Retire.{word_at, next_of, step_result, step, trap_of, retire};
 
 use crate::hart::Hart;
 use crate::output::Output;
@@ -209,7 +209,7 @@ impl<'a> Guest<'a> {
     #[inline(never)]
     fn step(&mut self, hart: HartId) -> Step
         requires { IsMade self.old hart.0 }
-        ensures { stepped self.new result ≡ step self.old hart.0 }
+        ensures { step_result self.new result ≡ step self.old hart.0 }
     {
         let Ok(word) = self.word(hart) else {
             return Step::Fault(TrapCause::Fetch);

@@ -1,7 +1,7 @@
 //! The pieces of a vectored read or write.
 ghost use Rattle.std.specs.Prelude.{◌≡◌, ◌≤◌, ◌+◌, ◌*◌, ◌^◌, IsTrue};
 ghost use Rattle.guest_memory.specs.Memory.{is_readable, number_at};
-ghost use Rattle.guest_calls.specs.Calls.{piece_at, pieces_at, filled, is_each_readable, is_each_writable};
+ghost use Rattle.guest_calls.specs.Calls.{piece_at, pieces_at, filled_parts, is_each_readable, is_each_writable};
 
 use arrayvec::ArrayVec;
 use coz_types::Address;
@@ -67,7 +67,7 @@ pub fn are_readable(memory: &Memory, pieces: &[Piece]) -> bool
 
 /// Whether so many bytes may fill the pieces in order.
 pub fn are_writable(memory: &Memory, pieces: &[Piece], count: u64) -> bool
-    ensures { result ≡ is_each_writable memory.now (filled pieces.now count) }
+    ensures { result ≡ is_each_writable memory.now (filled_parts pieces.now count) }
 {
     let mut left = count;
     for piece in pieces {

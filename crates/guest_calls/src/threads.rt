@@ -1,8 +1,8 @@
 //! The calls of threads: they are made, wait and are woken, and leave (Linux on riscv64).
 ghost use Rattle.std.specs.Prelude.{◌≡◌, ◌≤◌, ◌<◌, ◌%◌, ◌^◌, ◌++◌, [], ◌∷◌, length, map, EachIndex, slice_index, if◌then◌else◌, IsTrue};
-ghost use Rattle.rv_decode.specs.Fields.{signed};
-ghost use Rattle.guest_areas.specs.Space.{has};
-ghost use Rattle.guest_futex.specs.Waiters.{woken};
+ghost use Rattle.rv_decode.specs.Fields.{signed_bits};
+ghost use Rattle.guest_areas.specs.Space.{has_power};
+ghost use Rattle.guest_futex.specs.Waiters.{woken_harts};
 ghost use Rattle.machines.specs.declared.Fate.TheVariants.{Waits};
 ghost use Rattle.guest_calls.specs.Guest.{IsMade, is_running, is_over, with_running_each};
 ghost use Rattle.guest_calls.specs.Calls as calls;
@@ -41,14 +41,14 @@ fn is_accepted(flags: u64) -> bool
 
 fn has(flags: u64, flag: u64) -> bool
     requires { 1 ≤ flag }
-    ensures { result ≡ has flags flag }
+    ensures { result ≡ has_power flags flag }
 {
     flags / flag % 2 == 1
 }
 
 /// How many a wake takes at most: a signed number of 32 bits, where it is above 1.
 fn wake_count(value: u64) -> u32
-    ensures { result ≡ calls.wake_count (signed 32 (value % 2 ^ 32)) }
+    ensures { result ≡ calls.wake_count (signed_bits 32 (value % 2 ^ 32)) }
 {
     let count = (value % 0x100000000) as u32;
     if count < 0x80000000 { count.max(1) } else { 1 }
@@ -56,9 +56,9 @@ fn wake_count(value: u64) -> u32
 
 /// These harts, of those that were made, run.
 fn run_each(harts: &mut [Hart], woken: &[HartId])
-    requires { EachIndex (map (λ hart. hart.0) woken.now) (λ k.
-        slice_index (map (λ hart. hart.0) woken.now) k < length harts.old) }
-    ensures { harts.new ≡ with_running_each (map (λ hart. hart.0) woken.now) harts.old }
+    requires { EachIndex (map (λ hart. hart.0) woken_harts.now) (λ k.
+        slice_index (map (λ hart. hart.0) woken_harts.now) k < length harts.old) }
+    ensures { harts.new ≡ with_running_each (map (λ hart. hart.0) woken_harts.now) harts.old }
 {
     for hart in woken {
         harts[hart.0 as usize].status = HartStatus::Running;
@@ -201,7 +201,7 @@ impl<'a> Guest<'a> {
     /// gets them in order.
     fn rouse(&mut self, address: Address, count: u32, started: &mut HartList)
         requires { started.old ≡ [] }
-        ensures woken { started.new ≡ woken address self.old.waiters count }
+        ensures woken { started.new ≡ woken_harts address self.old.waiters count }
         ensures running { self.new ≡ with_woken address count self.old }
     {
         self.queue.wake(address, count, started);

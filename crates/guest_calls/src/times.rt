@@ -1,7 +1,7 @@
 //! The calls of time: clocks are read, and harts sleep (Linux on riscv64). Both know the net time
 //! alone, of which 100 ticks are one nanosecond.
 ghost use Rattle.std.specs.Prelude.{◌≡◌, ◌≤◌, ◌+◌, ◌^◌, [], false, IsTrue, MatchResult};
-ghost use Rattle.rv_decode.specs.Fields.{signed};
+ghost use Rattle.rv_decode.specs.Fields.{signed_bits};
 ghost use Rattle.guest_memory.specs.Memory.{is_readable, is_writable};
 ghost use Rattle.machines.specs.declared.Fate.TheVariants.{Sleeps};
 ghost use Rattle.guest_calls.specs.Guest.{IsMade, is_running, memory_of, with_stored};
@@ -35,7 +35,7 @@ pub struct Span {
 
 /// The span that two numbers of 64 bits with signs give, if both are in their ranges.
 fn span_of(seconds: u64, nanoseconds: u64) -> Option<Span>
-    ensures { result ≡ span_of (signed 64 seconds) (signed 64 nanoseconds) }
+    ensures { result ≡ span_of (signed_bits 64 seconds) (signed_bits 64 nanoseconds) }
 {
     if seconds >= 0x8000_0000_0000_0000 || nanoseconds >= SECOND {
         return None;

@@ -2,7 +2,7 @@
 use Rattle.std.proofs.Common.{ℕ, zero, suc, ◌≡◌, ◌≢◌, ◌⊎◌, true, false, ◌==◌, if◌then◌else◌, eqb, List, [], ◌∷◌, inr, ⊎_elim, refl, sym, ◌∙◌, ap, arith}
 use Rattle.std.specs.List.{list_any}
 use Rattle.std.proofs.lemmas.Bool.{eq-eqb, eqb-true, eqb-false, ne_eqb, cases_Bool}
-use Rattle.guest_futex.specs.Waiters.{Waiter, woken, left, without_harts}
+use Rattle.guest_futex.specs.Waiters.{Waiter, woken_harts, waiters_left, without_harts}
 use Rattle.guest_futex.specs.Apart.{AreOthers, AreApart}
 
 -- what a pass leaves that counts down the waiters which it wakes
@@ -11,7 +11,7 @@ left_by address [] count = []
 left_by address (w ∷ ws) zero = w ∷ ws
 left_by address (w ∷ ws) (suc count) = if w.address == address then left_by address ws count else w ∷ left_by address ws (suc count)
 
-pub woken-here : (address : ℕ) (w : Waiter) (ws : List Waiter) (n m : ℕ) → n ≡ suc m → w.address ≡ address → woken address (w ∷ ws) n ≡ w.hart ∷ woken address ws m
+pub woken-here : (address : ℕ) (w : Waiter) (ws : List Waiter) (n m : ℕ) → n ≡ suc m → w.address ≡ address → woken_harts address (w ∷ ws) n ≡ w.hart ∷ woken_harts address ws m
 woken-here address w ws n m is here = rw (is, eq-eqb w.address address here) refl
 
 pub left-here : (address : ℕ) (w : Waiter) (ws : List Waiter) (n m : ℕ) → n ≡ suc m → w.address ≡ address → left_by address (w ∷ ws) n ≡ left_by address ws m
@@ -24,7 +24,7 @@ left-zero address (w ∷ ws) = refl
 away : (n : ℕ) (A : Type 0) → (suc n ≡ 0) ⊎ A → A
 away n A = ⊎_elim (λ (none : suc n ≡ 0). absurd (omega arith)) (λ (a : A). a)
 
-pub woken-elsewhere : (address : ℕ) (w : Waiter) (ws : List Waiter) (n : ℕ) → (n ≡ 0) ⊎ (w.address ≢ address) → woken address (w ∷ ws) n ≡ woken address ws n
+pub woken-elsewhere : (address : ℕ) (w : Waiter) (ws : List Waiter) (n : ℕ) → (n ≡ 0) ⊎ (w.address ≢ address) → woken_harts address (w ∷ ws) n ≡ woken_harts address ws n
 woken-elsewhere address w ws zero h = refl
 woken-elsewhere address w ws (suc n) h = rw (ne_eqb w.address address (away n (w.address ≢ address) h)) refl
 
@@ -33,7 +33,7 @@ left-elsewhere address w ws zero h = ap (λ xs. w ∷ xs) (sym (left-zero addres
 left-elsewhere address w ws (suc n) h = rw (ne_eqb w.address address (away n (w.address ≢ address) h)) refl
 
 -- a hart that none of them is isn't woken
-other-woken : (hart address : ℕ) (ws : List Waiter) (count : ℕ) → AreOthers hart ws → list_any (λ woken. woken == hart) (woken address ws count) ≡ false
+other-woken : (hart address : ℕ) (ws : List Waiter) (count : ℕ) → AreOthers hart ws → list_any (λ woken_harts. woken_harts == hart) (woken_harts address ws count) ≡ false
 other-woken hart address [] zero others = refl
 other-woken hart address [] (suc count) others = refl
 other-woken hart address (w ∷ ws) zero others = refl
@@ -64,7 +64,7 @@ without_other hart harts (w ∷ ws) others =
     (cases_Bool (list_any (λ k. k == w.hart) harts)))
 
 -- where no hart waits twice, what a pass leaves are the waiters that aren't woken
-pub left_by-left : (address : ℕ) (ws : List Waiter) (count : ℕ) → AreApart ws → left_by address ws count ≡ left address ws count
+pub left_by-left : (address : ℕ) (ws : List Waiter) (count : ℕ) → AreApart ws → left_by address ws count ≡ waiters_left address ws count
 left_by-left address [] count apart = refl
 left_by-left address (w ∷ ws) zero apart = sym (without_none (w ∷ ws))
 left_by-left address (w ∷ ws) (suc count) apart =
@@ -74,12 +74,12 @@ left_by-left address (w ∷ ws) (suc count) apart =
     left-here address w ws (suc count) count refl is
     ∙ left_by-left address ws count apart.2
     ∙ sym (ap (λ harts. without_harts harts (w ∷ ws)) (woken-here address w ws (suc count) count refl is)
-    ∙ without_own w (woken address ws count) ws
-    ∙ without_other w.hart (woken address ws count) ws apart.1))
+    ∙ without_own w (woken_harts address ws count) ws
+    ∙ without_other w.hart (woken_harts address ws count) ws apart.1))
     (λ (elsewhere : eqb w.address address ≡ false).
     let isnt : (suc count ≡ 0) ⊎ (w.address ≢ address) = inr (eqb-false w.address address elsewhere) in
     left-elsewhere address w ws (suc count) isnt
     ∙ ap (λ xs. w ∷ xs) (left_by-left address ws (suc count) apart.2)
     ∙ sym (ap (λ harts. without_harts harts (w ∷ ws)) (woken-elsewhere address w ws (suc count) isnt)
-    ∙ without_kept w (woken address ws (suc count)) ws (other-woken w.hart address ws (suc count) apart.1)))
+    ∙ without_kept w (woken_harts address ws (suc count)) ws (other-woken w.hart address ws (suc count) apart.1)))
     (cases_Bool (eqb w.address address))

@@ -5,7 +5,7 @@ use Rattle.std.specs.List.{list_any, AllByRecursion, IsDistinct}
 use Rattle.std.proofs.lemmas.Bool.{eqb-true, ne_eqb, cases_Bool}
 use Rattle.std.proofs.lemmas.List.{length-map}
 use Rattle.std.proofs.lemmas.Map.Steps.{length-le_from_distinct_below}
-use Rattle.guest_futex.specs.Waiters.{Waiter, with_waiter, woken, left}
+use Rattle.guest_futex.specs.Waiters.{Waiter, with_waiter, woken_harts, waiters_left}
 use Rattle.guest_futex.specs.Apart.{AreOthers, AreApart}
 
 -- a hart that no waiter is
@@ -44,7 +44,7 @@ apart-filter keeps (w ∷ ws) apart =
     (cases_Bool (keeps w))
 
 -- those that are left are apart
-pub apart-left : (address : ℕ) (ws : List Waiter) (count : ℕ) → AreApart ws → AreApart (left address ws count)
+pub apart-left : (address : ℕ) (ws : List Waiter) (count : ℕ) → AreApart ws → AreApart (waiters_left address ws count)
 apart-left address ws count apart = apart-filter _ ws apart
 
 distinct_from_others : (hart : ℕ) (ws : List Waiter) → AreOthers hart ws → AllByRecursion (λ q. eqb hart q ≡ false) (map (λ w. w.hart) ws)
@@ -78,7 +78,7 @@ length-others hart ws low others apart =
     omega arith
 
 -- at most all are woken
-pub length-woken : (address : ℕ) (ws : List Waiter) (count : ℕ) → length (woken address ws count) ≤ length ws
+pub length-woken : (address : ℕ) (ws : List Waiter) (count : ℕ) → length (woken_harts address ws count) ≤ length ws
 length-woken address [] zero = omega arith
 length-woken address [] (suc count) = omega arith
 length-woken address (w ∷ ws) zero = omega arith

@@ -11,13 +11,14 @@ abbrev pub with_waiter : ℕ → ℕ → List Waiter → List Waiter
 with_waiter address hart ws = ws ++ record { address = address; hart = hart } ∷ []
 
 -- the eldest harts that wait for an address, at most so many
-abbrev pub woken : ℕ → List Waiter → ℕ → List ℕ
-woken address ws count = take count (map (λ w. w.hart) (filter (λ w. w.address == address) ws))
+abbrev pub woken_harts : ℕ → List Waiter → ℕ → List ℕ
+woken_harts address ws count =
+    take count (map (λ w. w.hart) (filter (λ w. w.address == address) ws))
 
 -- the waiters but for these harts
 abbrev pub without_harts : List ℕ → List Waiter → List Waiter
 without_harts harts ws = filter (λ w. not (list_any (λ hart. hart == w.hart) harts)) ws
 
 -- the waiters that are left: all that aren't woken
-abbrev pub left : ℕ → List Waiter → ℕ → List Waiter
-left address ws count = without_harts (woken address ws count) ws
+abbrev pub waiters_left : ℕ → List Waiter → ℕ → List Waiter
+waiters_left address ws count = without_harts (woken_harts address ws count) ws

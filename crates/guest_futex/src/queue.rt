@@ -1,6 +1,6 @@
 //! The harts that wait at addresses, the eldest first.
 ghost use Rattle.std.specs.Prelude.{◌≡◌, ◌≢◌, ◌+◌, ◌<◌, ◌≤◌, [], ◌++◌, length, take, All, IfOk};
-ghost use Rattle.guest_futex.specs.Waiters.{with_waiter, woken, left};
+ghost use Rattle.guest_futex.specs.Waiters.{with_waiter, woken_harts, waiters_left};
 ghost use Rattle.guest_futex.specs.Apart.{AreApart};
 ghost use Rattle.guest_futex.specs.Held.{waiters_of};
 
@@ -45,10 +45,11 @@ impl Model for Queue {
 /// and moves those that are left to the front. Returns how many are left.
 fn take_eldest(places: &mut [Place], address: Address, count: u32, into: &mut HartList) -> usize
     requires apart { AreApart (waiters_of places.old) }
-    requires room { length into.old + length (woken address (waiters_of places.old) count) ≤ HARTS }
-    ensures woken { into.new ≡ into.old ++ woken address (waiters_of places.old) count }
+    requires room { length into.old
+        + length (woken_harts address (waiters_of places.old) count) ≤ HARTS }
+    ensures woken { into.new ≡ into.old ++ woken_harts address (waiters_of places.old) count }
     ensures left { waiters_of (take result places.new)
-        ≡ left address (waiters_of places.old) count }
+        ≡ waiters_left address (waiters_of places.old) count }
 {
     let mut wanted = count;
     let mut kept = 0;
@@ -89,9 +90,9 @@ impl Queue {
 
     /// Takes the eldest waiters for an address, at most `count`, and appends them to a list.
     pub fn wake(&mut self, address: Address, count: u32, into: &mut HartList)
-        requires { length into.old + length (woken address self.old count) ≤ HARTS }
-        ensures woken { into.new ≡ into.old ++ woken address self.old count }
-        ensures left { self.new ≡ left address self.old count }
+        requires { length into.old + length (woken_harts address self.old count) ≤ HARTS }
+        ensures woken { into.new ≡ into.old ++ woken_harts address self.old count }
+        ensures left { self.new ≡ waiters_left address self.old count }
     {
         let kept = take_eldest(&mut self.places, address, count, into);
         self.places.truncate(kept);

@@ -4,7 +4,7 @@ use Rattle.std.specs.Int.{bytes_low_first}
 use Rattle.coz_types.specs.declared.image.Rights.{Rights}
 use Rattle.coz_types.specs.declared.image.Area.{Area}
 use Rattle.guest_memory.specs.declared.Layout.{Layout}
-use Rattle.coz_types.specs.Maps.{Map, value_or, without}
+use Rattle.coz_types.specs.Maps.{Map, value_or, entries_without}
 use Rattle.coz_types.specs.Image.{ImageParts}
 use Rattle.guest_memory.specs.Entries.{with_kept}
 use Rattle.guest_memory.specs.Regions.{page_of, stack_base, IsKnown}
@@ -102,7 +102,7 @@ with_rights_from page (suc n) r m = with_rights_from (page + 1) n r (with_rights
 -- so many pages from one on are zeros
 abbrev pub with_zeros : ℕ → ℕ → MemoryMap → MemoryMap
 with_zeros page n m = record m {
-  bytes = without (λ a. nat_le page (page_of a) && nat_lt (page_of a) (page + n)) m.bytes;
+  bytes = entries_without (λ a. nat_le page (page_of a) && nat_lt (page_of a) (page + n)) m.bytes;
 }
 
 abbrev pub area_bytes : ImageParts → Area → List ℕ

@@ -1,6 +1,6 @@
 //! Tests of `guest_futex`.
 ghost use Rattle.std.specs.Prelude.{◌≡◌, ◌≢◌, ◌+◌, ◌<◌, ◌≤◌, length, All};
-ghost use Rattle.guest_futex.specs.Waiters.{with_waiter, woken, left};
+ghost use Rattle.guest_futex.specs.Waiters.{with_waiter, woken_harts, waiters_left};
 
 use coz_types::HartId;
 use guest_futex::{HartList, Queue};

@@ -3,12 +3,12 @@ use Rattle.std.proofs.Common.{◌≡◌, ◌≤◌, ◌<◌, ℕ, zero, suc, ◌
 use Rattle.std.specs.Prelude.{unwrap_or, ℤ, pos, negsuc, ◌-ℤ◌}
 use Rattle.std.proofs.Math.Nat.{mod-eq_of_lt}
 use Rattle.std.proofs.lemmas.Int.{ints}
-use Rattle.rv_decode.specs.Fields.{twos, is_signed}
+use Rattle.rv_decode.specs.Fields.{twos_complement, is_signed}
 use Rattle.image_write.proofs.Lengths.{length-groups}
 use Rattle.std.specs.List.{list_any, AllByRecursion}
 use Rattle.std.proofs.lemmas.Bool.{ltb-true, lt-ltb, le-ltb, cases_Bool}
 use Rattle.std.proofs.lemmas.Nat.{pow-add}
-use Rattle.leb_cursor.specs.Numbers.{IsOneNumber, low_bits, SpellsUnsigned, signed, SpellsSigned}
+use Rattle.leb_cursor.specs.Numbers.{IsOneNumber, low_bits, SpellsUnsigned, signed_number, SpellsSigned}
 use Rattle.image_write.specs.Unit.{groups, fewest, uleb, sleb}
 
 group_front : (k n : ℕ) → (c : ℕ) × (cs : List ℕ) × (groups (suc k) n ≡ c ∷ cs)
@@ -97,7 +97,7 @@ half_more k some =
 below_zero : (n m : ℕ) → n < m → pos (m - suc n) -ℤ pos m ≡ negsuc n
 below_zero n m less = omega (arith, ints)
 
-signed_back : (k : ℕ) (z : ℤ) → 1 ≤ k → is_signed (7 * k) z ≡ true → (twos (7 * k) z < 2 ^ (7 * k)) × (signed (7 * k) (twos (7 * k) z) ≡ z)
+signed_back : (k : ℕ) (z : ℤ) → 1 ≤ k → is_signed (7 * k) z ≡ true → (twos_complement (7 * k) z < 2 ^ (7 * k)) × (signed_number (7 * k) (twos_complement (7 * k) z) ≡ z)
 signed_back k (pos n) some fits =
     let low : n < 2 ^ (7 * k - 1) = ltb-true n (2 ^ (7 * k - 1)) fits in
     let half = half_more k some in
@@ -114,11 +114,11 @@ signed_back k (negsuc n) some fits =
     let back : pos (2 ^ (7 * k) - suc n) -ℤ pos (2 ^ (7 * k)) ≡ negsuc n = below_zero n (2 ^ (7 * k)) whole in
     (subst (λ (m : ℕ). 2 ^ (7 * k) - suc m < 2 ^ (7 * k)) (sym same) (omega arith), rw (same, le-ltb (2 * (2 ^ (7 * k) - suc n)) (2 ^ (7 * k)) twice) back)
 
-of_signed_count : (k : ℕ) (z : ℤ) → 1 ≤ k → is_signed (7 * k) z ≡ true → SpellsSigned z (groups k (twos (7 * k) z))
+of_signed_count : (k : ℕ) (z : ℤ) → 1 ≤ k → is_signed (7 * k) z ≡ true → SpellsSigned z (groups k (twos_complement (7 * k) z))
 of_signed_count k z some fits =
     let back = signed_back k z some fits in
-    let spelled = of_count k (twos (7 * k) z) some back.0 in
-    (spelled.0, ap₂ (λ (size n : ℕ). signed (7 * size) n) (length-groups k (twos (7 * k) z)) spelled.1 ∙ back.1)
+    let spelled = of_count k (twos_complement (7 * k) z) some back.0 in
+    (spelled.0, ap₂ (λ (size n : ℕ). signed_number (7 * size) n) (length-groups k (twos_complement (7 * k) z)) spelled.1 ∙ back.1)
 
 pub sleb_spells : (z : ℤ) → is_signed 35 z ≡ true → SpellsSigned z (sleb z)
 sleb_spells z fits =

@@ -1,8 +1,8 @@
 -- How long a line program is at most.
 use Rattle.std.proofs.Common.{◌≡◌, ◌≤◌, ◌<◌, ℕ, zero, suc, ◌+◌, ◌-◌, ◌*◌, ◌/◌, ◌%◌, Bool, true, false, List, [], ◌∷◌, ◌++◌, length, refl, ap, ◌∙◌, sym, arith, append_assoc, length-append, cond, if◌then◌else◌}
 use Rattle.std.specs.Prelude.{find, unwrap_or, ℤ, pos, ◌-ℤ◌, ◌==◌, nat_lt, ◌^◌, Some}
-use Rattle.rv_decode.specs.Fields.{twos, is_signed}
-use Rattle.image_write.specs.Unit.{half, word, double, groups, fewest, uleb, sleb, advance_pc, advance_line, row, rows, line_program, set_address, end_sequence, counted, numbers, files, unit_body, sizes, ended_files, counted_files}
+use Rattle.rv_decode.specs.Fields.{twos_complement, is_signed}
+use Rattle.image_write.specs.Unit.{half, word, double, groups, fewest, uleb, sleb, advance_pc, advance_line, row, rows, line_program, set_address, end_sequence, with_count, numbers, files, unit_body, sizes, ended_files, counted_files}
 
 pub length-half : (n : ℕ) → length (half n) ≡ 2
 unfolding half
@@ -60,7 +60,7 @@ length-sleb : (z : ℤ) → length (sleb z) ≤ 10
 length-sleb z =
     let count = fewest (λ k. is_signed (7 * k) z) in
     let few = fewest_small (λ k. is_signed (7 * k) z) in
-    omega (arith, few, length-groups count (twos (7 * count) z))
+    omega (arith, few, length-groups count (twos_complement (7 * count) z))
 
 length-advance_pc : (words : ℕ) → length (advance_pc words) ≤ 11
 length-advance_pc words = elim (words == 0) as (λ b. length (if b then [] else 2 ∷ uleb words) ≤ 11) [ true ↦ omega arith | false ↦ omega (arith, length-uleb words) ]
@@ -88,7 +88,7 @@ length-line_program [] = omega (arith, length-append (set_address 0x10000) end_s
 length-line_program (l ∷ more) =
     omega (arith, length-append (set_address 0x10000 ++ row 0 1 l) (rows 1 l more), length-append (set_address 0x10000) (row 0 1 l), length-set_address 0x10000, length-row 0 1 l, length-rows 1 l more)
 
-length-counted : (bytes : List ℕ) → length (counted bytes) ≡ length bytes + 4
+length-counted : (bytes : List ℕ) → length (with_count bytes) ≡ length bytes + 4
 length-counted bytes = omega (arith, length-append (word (length bytes)) bytes, length-word (length bytes))
 
 length-files : (version : ℕ) (name : List ℕ) → length (files version name) ≤ 2 * length name + 16
@@ -111,9 +111,9 @@ body_length : (ls name : List ℕ) (version : ℕ) → length (unit_body ls name
 body_length ls name version =
     let header = numbers ++ files version name in
     let front = half version ++ sizes version in
-    omega (arith, length-append (front ++ counted header) (line_program ls), length-append front (counted header), length-append (half version) (sizes version), length-half version, length-sizes version, length-counted header, length-header version name, length-line_program ls)
+    omega (arith, length-append (front ++ with_count header) (line_program ls), length-append front (with_count header), length-append (half version) (sizes version), length-half version, length-sizes version, length-counted header, length-header version name, length-line_program ls)
 
-pub unit_length : (ls name : List ℕ) (version : ℕ) → length (counted (unit_body ls name version)) ≤ 23 * length ls + 2 * length name + 71
+pub unit_length : (ls name : List ℕ) (version : ℕ) → length (with_count (unit_body ls name version)) ≤ 23 * length ls + 2 * length name + 71
 unit_length ls name version = omega (arith, length-counted (unit_body ls name version), body_length ls name version)
 
 -- the first number that isn't a length of the 32-bit form
@@ -123,5 +123,5 @@ body_short ls name version few short = omega (arith, body_length ls name version
 pub body_small : (ls name : List ℕ) (version : ℕ) → length ls < 2 ^ 20 → length name < 2 ^ 20 → length (unit_body ls name version) < 2 ^ 32
 body_small ls name version few short = omega (arith, body_short ls name version few short)
 
-pub unit_small : (ls name : List ℕ) (version : ℕ) → length ls < 2 ^ 20 → length name < 2 ^ 20 → length (counted (unit_body ls name version)) < 2 ^ 33
+pub unit_small : (ls name : List ℕ) (version : ℕ) → length ls < 2 ^ 20 → length name < 2 ^ 20 → length (with_count (unit_body ls name version)) < 2 ^ 33
 unit_small ls name version few short = omega (arith, length-counted (unit_body ls name version), body_small ls name version few short)

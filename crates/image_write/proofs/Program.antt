@@ -11,7 +11,7 @@ use Rattle.std.proofs.lemmas.List.Sums.{sum_by-append}
 use Rattle.rv_decode.specs.Fields.{is_signed}
 use Rattle.leb_cursor.specs.Ahead.{fits_64_signed}
 use Rattle.dwarf_lines.specs.declared.Row.{Row}
-use Rattle.dwarf_lines.specs.Registers.{File, Header, Operation, Copy, AdvancePc, AdvanceLine, EndSequence, SetAddress, State, empty_table, after, has_line, begun, file_of, is_open}
+use Rattle.dwarf_lines.specs.Registers.{File, Header, Operation, Copy, AdvancePc, AdvanceLine, EndSequence, SetAddress, State, empty_table, state_after, has_line, first_state, file_of, is_open}
 use Rattle.dwarf_lines.specs.Spelling.{Spells, Goes}
 use Rattle.image_write.specs.Unit.{double, uleb, sleb, set_address, end_sequence, advance_pc, advance_line, row, rows, line_program}
 use Rattle.image_write.specs.Lines.{files_of, file_at, row_at, rows_from, rows_of}
@@ -74,12 +74,12 @@ pub record Reaches (h : Header) (bytes : List ℕ) (s t : State) : Type 0 where
 none : (h : Header) (s : State) → Reaches h [] s s
 none h s = record { codes = []; spelled = refl; goes = refl }
 
-one : (h : Header) (op : Operation) (code : List ℕ) (s t : State) → Spells h op code → has_line h op s ≡ true → after h op s ≡ t → Reaches h code s t
+one : (h : Header) (op : Operation) (code : List ℕ) (s t : State) → Spells h op code → has_line h op s ≡ true → state_after h op s ≡ t → Reaches h code s t
 one h op code s t spells has e = record { codes = code ∷ []; spelled = sym (append-nil code); goes = (op, spells, has, sym e) }
 
 goes_on : (h : Header) (a b : List (List ℕ)) (s t u : State) → Goes h a s t → Goes h b t u → Goes h (a ++ b) s u
 goes_on h [] b s t u e more = subst (λ (x : State). Goes h b x u) e more
-goes_on h (code ∷ a) b s t u (op, spells, has, goes) more = (op, spells, has, goes_on h a b (after h op s) t u goes more)
+goes_on h (code ∷ a) b s t u (op, spells, has, goes) more = (op, spells, has, goes_on h a b (state_after h op s) t u goes more)
 
 both : (h : Header) (x y : List ℕ) (s t u : State) → Reaches h x s t → Reaches h y t u → Reaches h (x ++ y) s u
 both h x y s t u first more = record {
@@ -198,7 +198,7 @@ by_rows v name (l ∷ more) done a words line all low few far first =
     chosen (l == line) v name (rows (words + 1) line more) (row words line l ++ rows 1 l more) (at v name done a line) done (rows_from v (b + 4) line more) (row_at v b l false ∷ rows_from v (b + 4) l more) same other
 
 -- the program of a unit, from its beginning on
-pub by_program : (v : ℕ) (name : List ℕ) (lines : List ℕ) → AreLines lines → length lines < 2 ^ 20 → Reaches (header_of v name) (line_program lines) (begun (header_of v name) empty_table) (ended v name (rows_of v lines))
+pub by_program : (v : ℕ) (name : List ℕ) (lines : List ℕ) → AreLines lines → length lines < 2 ^ 20 → Reaches (header_of v name) (line_program lines) (first_state (header_of v name) empty_table) (ended v name (rows_of v lines))
 by_program v name [] all few =
     both (header_of v name) (set_address 0x10000) end_sequence (at v name [] 0 1) (at v name [] 0x10000 1) (ended v name (row_at v 0x10000 1 true ∷ [])) (by_address v name) (by_end v name [] 0x10000 1 (lit< tt) refl)
 by_program v name (l ∷ more) all few =

@@ -16,7 +16,7 @@ use Rattle.dwarf_lines.specs.declared.forms.Format.{Format}
 use Rattle.dwarf_lines.specs.Reading.{reading}
 use Rattle.dwarf_lines.proofs.UnitsAgain.{reading_again}
 use Rattle.rv_asm.specs.Assembled.{Program, IsProgram}
-use Rattle.image_write.specs.Unit.{half, word, numbers, sizes, files, ended_files, counted_files, counted, unit_body, line_program, unit}
+use Rattle.image_write.specs.Unit.{half, word, numbers, sizes, files, ended_files, counted_files, with_count, unit_body, line_program, unit}
 use Rattle.image_write.specs.Lines.{rows_of, table_of}
 use Rattle.image_write.specs.File.{IsName, IsVersion, written_file}
 use Rattle.image_write.proofs.Lengths.{body_short}
@@ -167,7 +167,7 @@ abbrev header_bytes : ℕ → List ℕ → List ℕ
 header_bytes version name = numbers ++ files version name
 
 abbrev after_version : ℕ → List ℕ → List ℕ → List ℕ
-after_version version lines name = sizes version ++ (counted (header_bytes version name) ++ line_program lines)
+after_version version lines name = sizes version ++ (with_count (header_bytes version name) ++ line_program lines)
 
 sizes_by : (five : Bool) → (if five then 8 ∷ 0 ∷ [] else []) ≡ (elim five as (λ x. List ℕ) [ true ↦ 8 ∷ 0 ∷ [] | false ↦ [] ])
 sizes_by true = refl
@@ -182,7 +182,7 @@ reads_unit version lines name is full some all few =
       h,
       r.codes,
       ended version name (rows_of version lines),
-      ap (λ (z : List ℕ). z ++ (counted h ++ line_program lines)) (sizes_by (version == 5)) ∙ ap (λ (p : List ℕ). spelled.sizes version ++ (counted h ++ p)) r.spelled,
+      ap (λ (z : List ℕ). z ++ (with_count h ++ line_program lines)) (sizes_by (version == 5)) ∙ ap (λ (p : List ℕ). spelled.sizes version ++ (with_count h ++ p)) r.spelled,
       spelled_header version name is full some,
       r.goes,
       (rows_closed version lines).0,
@@ -191,8 +191,8 @@ reads_unit version lines name is full some all few =
 
 whole_body : (version : ℕ) (lines name : List ℕ) → unit_body lines name version ≡ half version ++ after_version version lines name
 whole_body version lines name =
-    append_assoc (half version ++ sizes version) (counted (header_bytes version name)) (line_program lines)
-    ∙ append_assoc (half version) (sizes version) (counted (header_bytes version name) ++ line_program lines)
+    append_assoc (half version ++ sizes version) (with_count (header_bytes version name)) (line_program lines)
+    ∙ append_assoc (half version) (sizes version) (with_count (header_bytes version name) ++ line_program lines)
 
 body_length : (version : ℕ) (lines name : List ℕ) → length (unit_body lines name version) ≡ 2 + length (after_version version lines name)
 unfolding half

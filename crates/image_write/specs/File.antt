@@ -33,13 +33,13 @@ names_place unit p = unit_place p + length unit
 
 -- ---- the names of the sections
 
-abbrev pub ended : List ℕ → List ℕ
-ended name = name ++ 0 ∷ []
+abbrev pub with_end : List ℕ → List ℕ
+with_end name = name ++ 0 ∷ []
 
 abbrev pub names : List ℕ
 names =
-    0 ∷ [] ++ ended (codes ".text") ++ ended (codes ".data") ++ ended (codes ".debug_line")
-    ++ ended (codes ".shstrtab")
+    0 ∷ [] ++ with_end (codes ".text") ++ with_end (codes ".data") ++ with_end (codes ".debug_line")
+    ++ with_end (codes ".shstrtab")
 
 abbrev pub names_end : List ℕ → Program → ℕ
 names_end unit p = names_place unit p + length names

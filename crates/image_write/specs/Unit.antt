@@ -1,7 +1,7 @@
 -- The line unit of a written file, of version 4 or 5.
 use Rattle.std.specs.Prelude.{ℕ, zero, suc, ◌+◌, ◌*◌, ◌/◌, ◌%◌, ◌^◌, Bool, List, [], ◌∷◌, ◌++◌, length, find, ℤ, pos, ◌-ℤ◌, unwrap_or, nat_lt, ◌==◌, if◌then◌else◌}
 use Rattle.std.specs.Int.{w16, w32, w64, to_le_bytes}
-use Rattle.rv_decode.specs.Fields.{twos, is_signed}
+use Rattle.rv_decode.specs.Fields.{twos_complement, is_signed}
 use Rattle.rv_asm.specs.declared.TheConstants.{TEXT_START}
 
 -- ---- numbers, the lowest byte first
@@ -32,7 +32,9 @@ abbrev pub uleb : ℕ → List ℕ
 uleb n = groups (fewest (λ k. nat_lt n (2 ^ (7 * k)))) n
 
 abbrev pub sleb : ℤ → List ℕ
-sleb z = let count = fewest (λ k. is_signed (7 * k) z) in groups count (twos (7 * count) z)
+sleb z =
+    let count = fewest (λ k. is_signed (7 * k) z) in
+    groups count (twos_complement (7 * count) z)
 
 -- ---- the program
 
@@ -91,13 +93,14 @@ abbrev pub files : ℕ → List ℕ → List ℕ
 files version name = if version == 5 then counted_files name else ended_files name
 
 -- the bytes behind their own count in four bytes
-abbrev pub counted : List ℕ → List ℕ
-counted bytes = word (length bytes) ++ bytes
+abbrev pub with_count : List ℕ → List ℕ
+with_count bytes = word (length bytes) ++ bytes
 
 -- the version, the header behind its length, and the program
 abbrev pub unit_body : List ℕ → List ℕ → ℕ → List ℕ
 unit_body lines name version =
-    half version ++ sizes version ++ counted (numbers ++ files version name) ++ line_program lines
+    half version ++ sizes version ++ with_count (numbers ++ files version name)
+    ++ line_program lines
 
 unfoldable pub unit : List ℕ → List ℕ → ℕ → List ℕ
-unit lines name version = counted (unit_body lines name version)
+unit lines name version = with_count (unit_body lines name version)

@@ -1,7 +1,7 @@
 //! Numbers as bytes: of fixed width, the lowest byte first, and LEB128 in the shortest form.
 
 ghost use Rattle.std.specs.Prelude.{◌≡◌, ◌<◌, ◌≤◌, ◌+◌, ◌^◌, ◌*◌, ◌-◌, ◌++◌, length, replicate, IfOk, nat_lt, pos, neg_ℤ, ◌-ℤ◌, ◌≤ℤ◌};
-ghost use Rattle.rv_decode.specs.Fields.{twos, is_signed};
+ghost use Rattle.rv_decode.specs.Fields.{twos_complement, is_signed};
 ghost use Rattle.image_write.specs.Unit.{half, word, double, groups, fewest, uleb, sleb};
 
 use byteorder::{ByteOrder, LittleEndian};
@@ -86,7 +86,7 @@ pub fn push_uleb(out: &mut Vec<u8>, n: u64) -> Result<(), AllocError>
 /// The lowest bits of a number in two's complement.
 fn low_bits(value: i64, bits: u32) -> u64
     requires { bits ≤ 62 }
-    ensures { result ≡ twos bits value }
+    ensures { result ≡ twos_complement bits value }
 {
     value.rem_euclid(1 << bits) as u64
 }

@@ -1,7 +1,7 @@
 //! The line unit of a written file (DWARF 4 and 5, section 6.2).
 
 ghost use Rattle.std.specs.Prelude.{◌≡◌, ◌<◌, ◌≤◌, ◌+◌, ◌*◌, ◌^◌, ◌++◌, length, IfOk};
-ghost use Rattle.image_write.specs.Unit.{set_address, end_sequence, advance_pc, advance_line, row, rows, line_program, numbers, sizes, ended_files, counted_files, files, counted, unit_body, unit};
+ghost use Rattle.image_write.specs.Unit.{set_address, end_sequence, advance_pc, advance_line, row, rows, line_program, numbers, sizes, ended_files, counted_files, files, with_count, unit_body, unit};
 
 use crate::numbers::{push_double, push_half, push_sleb, push_uleb, push_word};
 use dwarf_lines::codes::{
@@ -140,7 +140,7 @@ fn push_ended_files(out: &mut Vec<u8>, name: &[u8]) -> Result<(), AllocError>
 /// The bytes behind their own count.
 fn counted(alloc: Global, bytes: &[u8]) -> Result<Vec<u8>, AllocError>
     requires { length bytes.now < 2 ^ 32 }
-    ensures { IfOk result (λ v. v.items ≡ counted bytes.now) }
+    ensures { IfOk result (λ v. v.items ≡ with_count bytes.now) }
 {
     let mut out = Vec::new(alloc);
     push_word(&mut out, bytes.len() as u32)?;

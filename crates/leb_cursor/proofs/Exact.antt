@@ -8,7 +8,7 @@ use Rattle.std.proofs.lemmas.Nat.{le_bytes_2, le_bytes_4, le_bytes_8}
 use Rattle.leb_cursor.specs.Numbers.{IsOneNumber, low_bits, SpellsUnsigned, signed_low_bits, SpellsSigned}
 use Rattle.leb_cursor.specs.declared.Short.{Short}
 use Rattle.leb_cursor.specs.declared.LebFault.TheVariants as leb
-use Rattle.leb_cursor.specs.Ahead.{Ahead, Reading, past, up_to, in_range, number_length, uleb_at, short, ◌>>=◌, bytes_at, text_at, number_at, sleb_at, part_at, fits_64_signed}
+use Rattle.leb_cursor.specs.Ahead.{Ahead, Reading, ahead_past, up_to, in_range, number_length, uleb_at, short_at, ◌>>=◌, bytes_at, text_at, number_at, sleb_at, part_at, fits_64_signed}
 
 abbrev pub IsBytes : List ℕ → Type 0
 IsBytes bytes = (i : ℕ) → get_or bytes i 0 < 256
@@ -86,14 +86,14 @@ IsUleb n bytes = SpellsUnsigned n bytes × (n < 2 ^ 64)
 ok_is : {A E : Type 0} (x y : A) → (let done : A → Result A E = λ z. Ok z in done x ≡ done y) → x ≡ y
 ok_is x y e = cc
 
-uleb_ranged : (fits : Bool) (value k n : ℕ) (a b : Ahead) → in_range fits value k a ≡ Ok (n, b) → (fits ≡ true) × (value ≡ n) × (past k a ≡ b)
+uleb_ranged : (fits : Bool) (value k n : ℕ) (a b : Ahead) → in_range fits value k a ≡ Ok (n, b) → (fits ≡ true) × (value ≡ n) × (ahead_past k a ≡ b)
 uleb_ranged true value k n a b e =
-    let both = ok_is (value, past k a) (n, b) e in
+    let both = ok_is (value, ahead_past k a) (n, b) e in
     (refl, ap (λ (p : ℕ × Ahead). p.0) both, ap (λ (p : ℕ × Ahead). p.1) both)
 uleb_ranged false value k n a b e = absurd cc
 
 uleb_by : (a b : Ahead) (n : ℕ) (o : Option ℕ) → IsBytes a.bytes → number_length a.bytes ≡ o
-    → up_to o a (λ k. in_range (nat_lt (low_bits (take k a.bytes)) (2 ^ 64)) (low_bits (take k a.bytes)) k a) (Err (leb.Short (short a))) ≡ Ok (n, b)
+    → up_to o a (λ k. in_range (nat_lt (low_bits (take k a.bytes)) (2 ^ 64)) (low_bits (take k a.bytes)) k a) (Err (leb.Short (short_at a))) ≡ Ok (n, b)
     → Consumes (IsUleb n) a b
 uleb_by a b n None fits found e = absurd cc
 uleb_by a b n (Some k) fits found e =
@@ -124,10 +124,10 @@ pub bind_is : {A B E : Type 0} (r : Result A E) (f : A → Result B E) (y : B) �
 bind_is (Ok x) f y e = (x, refl, e)
 bind_is (Err d) f y e = absurd cc
 
-bytes_by : (fits : Bool) (n : ℕ) (a b : Ahead) (x : List ℕ) → nat_le n (length a.bytes) ≡ fits → IsBytes a.bytes → cond {A = Reading (List ℕ) Short} fits (Ok (take n a.bytes, past n a)) (Err (short a)) ≡ Ok (x, b) → Consumes (λ code. (code ≡ x) × (length x ≡ n)) a b
+bytes_by : (fits : Bool) (n : ℕ) (a b : Ahead) (x : List ℕ) → nat_le n (length a.bytes) ≡ fits → IsBytes a.bytes → cond {A = Reading (List ℕ) Short} fits (Ok (take n a.bytes, ahead_past n a)) (Err (short_at a)) ≡ Ok (x, b) → Consumes (λ code. (code ≡ x) × (length x ≡ n)) a b
 bytes_by false n a b x is bytes e = absurd cc
 bytes_by true n a b x is bytes e =
-    let both = ok_is (take n a.bytes, past n a) (x, b) e in
+    let both = ok_is (take n a.bytes, ahead_past n a) (x, b) e in
     let len = length-take-le n a.bytes (leb-true _ _ is) in
     subst (λ (y : List ℕ × Ahead). Consumes (λ code. (code ≡ y.0) × (length y.0 ≡ n)) a y.1) both (record {
       code = take n a.bytes;
@@ -181,11 +181,11 @@ text_of (b ∷ bs) k e =
 abbrev pub IsEnded : List ℕ → List ℕ → Type 0
 IsEnded text bytes = AllByRecursion (λ b. 0 < b) text × (bytes ≡ text ++ 0 ∷ [])
 
-text_by : (a b : Ahead) (x : List ℕ) (o : Option ℕ) → IsBytes a.bytes → position (λ b. b == 0) a.bytes ≡ o → up_to {X = Reading (List ℕ) Short} o a (λ k. Ok (take k a.bytes, past (suc k) a)) (Err (short a)) ≡ Ok (x, b) → Consumes (IsEnded x) a b
+text_by : (a b : Ahead) (x : List ℕ) (o : Option ℕ) → IsBytes a.bytes → position (λ b. b == 0) a.bytes ≡ o → up_to {X = Reading (List ℕ) Short} o a (λ k. Ok (take k a.bytes, ahead_past (suc k) a)) (Err (short_at a)) ≡ Ok (x, b) → Consumes (IsEnded x) a b
 text_by a b x None fits found e = absurd cc
 text_by a b x (Some k) fits found e =
     let t = text_of a.bytes k found in
-    let both = ok_is (take k a.bytes, past (suc k) a) (x, b) e in
+    let both = ok_is (take k a.bytes, ahead_past (suc k) a) (x, b) e in
     subst (λ (y : List ℕ × Ahead). Consumes (IsEnded y.0) a y.1) both (record {
       code = take k a.bytes ++ 0 ∷ [];
       parts = t.1;
@@ -202,14 +202,14 @@ text_takes a b x fits e = text_by a b x (position (λ b. b == 0) a.bytes) fits r
 abbrev pub IsSleb : ℤ → List ℕ → Type 0
 IsSleb z bytes = SpellsSigned z bytes × (fits_64_signed z ≡ true)
 
-signed_ranged : (fits : Bool) (value : ℤ) (k : ℕ) (z : ℤ) (a b : Ahead) → in_range fits value k a ≡ Ok (z, b) → (fits ≡ true) × (value ≡ z) × (past k a ≡ b)
+signed_ranged : (fits : Bool) (value : ℤ) (k : ℕ) (z : ℤ) (a b : Ahead) → in_range fits value k a ≡ Ok (z, b) → (fits ≡ true) × (value ≡ z) × (ahead_past k a ≡ b)
 signed_ranged true value k z a b e =
-    let both = ok_is (value, past k a) (z, b) e in
+    let both = ok_is (value, ahead_past k a) (z, b) e in
     (refl, ap (λ (p : ℤ × Ahead). p.0) both, ap (λ (p : ℤ × Ahead). p.1) both)
 signed_ranged false value k z a b e = absurd cc
 
 sleb_by : (a b : Ahead) (z : ℤ) (o : Option ℕ) → IsBytes a.bytes → number_length a.bytes ≡ o
-    → up_to o a (λ k. in_range (fits_64_signed (signed_low_bits (take k a.bytes))) (signed_low_bits (take k a.bytes)) k a) (Err (leb.Short (short a))) ≡ Ok (z, b)
+    → up_to o a (λ k. in_range (fits_64_signed (signed_low_bits (take k a.bytes))) (signed_low_bits (take k a.bytes)) k a) (Err (leb.Short (short_at a))) ≡ Ok (z, b)
     → Consumes (IsSleb z) a b
 sleb_by a b z None fits found e = absurd cc
 sleb_by a b z (Some k) fits found e =
@@ -263,11 +263,11 @@ pub record IsPart (n : ℕ) (a p : Ahead) (code : List ℕ) : Type 0 where
   pub fits : IsBytes p.bytes
 
 part_by : (fine : Bool) (n : ℕ) (a p b : Ahead) → nat_le n (length a.bytes) ≡ fine → IsBytes a.bytes
-    → cond {A = Reading Ahead Short} fine (Ok (record { place = a.place; bytes = take n a.bytes }, past n a)) (Err (short a)) ≡ Ok (p, b) → Consumes (IsPart n a p) a b
+    → cond {A = Reading Ahead Short} fine (Ok (record { place = a.place; bytes = take n a.bytes }, ahead_past n a)) (Err (short_at a)) ≡ Ok (p, b) → Consumes (IsPart n a p) a b
 part_by false n a p b is fits e = absurd cc
 part_by true n a p b is fits e =
     let inside : Ahead = record { place = a.place; bytes = take n a.bytes } in
-    let both = ok_is (inside, past n a) (p, b) e in
+    let both = ok_is (inside, ahead_past n a) (p, b) e in
     let len = length-take-le n a.bytes (leb-true _ _ is) in
     subst (λ (y : Ahead × Ahead). Consumes (IsPart n a y.0) a y.1) both (record {
       code = take n a.bytes;

@@ -21,27 +21,28 @@ abbrev pub ◌>>=◌ : {A B E : Type 0} → Result A E → (A → Result B E) �
 (Err e) >>= f = Err e
 
 -- past so many bytes
-abbrev pub past : ℕ → Ahead → Ahead
-past n a = record { place = a.place + n; bytes = drop n a.bytes }
+abbrev pub ahead_past : ℕ → Ahead → Ahead
+ahead_past n a = record { place = a.place + n; bytes = drop n a.bytes }
 
 -- the front field runs past the end
-abbrev pub short : Ahead → Short
-short a = record { place = a.place }
+abbrev pub short_at : Ahead → Short
+short_at a = record { place = a.place }
 
 -- the next so many bytes
 abbrev pub bytes_at : ℕ → Ahead → Reading (List ℕ) Short
-bytes_at n a = if nat_le n (length a.bytes) then Ok (take n a.bytes, past n a) else Err (short a)
+bytes_at n a =
+    if nat_le n (length a.bytes) then Ok (take n a.bytes, ahead_past n a) else Err (short_at a)
 
 -- past the next so many bytes
 abbrev pub pass_at : ℕ → Ahead → Reading (Unit {0}) Short
-pass_at n a = if nat_le n (length a.bytes) then Ok (tt, past n a) else Err (short a)
+pass_at n a = if nat_le n (length a.bytes) then Ok (tt, ahead_past n a) else Err (short_at a)
 
 -- the next so many bytes, as what is ahead on its own
 abbrev pub part_at : ℕ → Ahead → Reading Ahead Short
 part_at n a =
     if nat_le n (length a.bytes)
-    then Ok (record { place = a.place; bytes = take n a.bytes }, past n a)
-    else Err (short a)
+    then Ok (record { place = a.place; bytes = take n a.bytes }, ahead_past n a)
+    else Err (short_at a)
 
 -- a number of fixed width, lowest byte first
 abbrev pub number_at : Width → Ahead → Reading ℕ Short
@@ -57,7 +58,7 @@ up_to (Some k) a found none = found k
 abbrev pub text_at : Ahead → Reading (List ℕ) Short
 text_at a =
     up_to (position (λ b. b == 0) a.bytes) a
-    (λ k. Ok (take k a.bytes, past (suc k) a)) (Err (short a))
+    (λ k. Ok (take k a.bytes, ahead_past (suc k) a)) (Err (short_at a))
 
 -- the number of bytes up to the first one below 128
 abbrev pub number_length : List ℕ → Option ℕ
@@ -65,13 +66,13 @@ number_length bytes = option_map suc (position (λ b. nat_lt b 128) bytes)
 
 -- of the n bytes at the front, this number if it is in its range
 abbrev pub in_range : {X : Type 0} → Bool → X → ℕ → Ahead → Reading X LebFault
-in_range fits x n a = if fits then Ok (x, past n a) else Err (leb.Wide a.place)
+in_range fits x n a = if fits then Ok (x, ahead_past n a) else Err (leb.Wide a.place)
 
 abbrev pub uleb_at : Ahead → Reading ℕ LebFault
 uleb_at a =
     up_to (number_length a.bytes) a
     (λ n. let value = low_bits (take n a.bytes) in in_range (nat_lt value (2 ^ 64)) value n a)
-    (Err (leb.Short (short a)))
+    (Err (leb.Short (short_at a)))
 
 -- it lies from -2^63 to 2^63 - 1
 abbrev pub fits_64_signed : ℤ → Bool
@@ -82,7 +83,7 @@ abbrev pub sleb_at : Ahead → Reading ℤ LebFault
 sleb_at a =
     up_to (number_length a.bytes) a
     (λ n. let value = signed_low_bits (take n a.bytes) in in_range (fits_64_signed value) value n a)
-    (Err (leb.Short (short a)))
+    (Err (leb.Short (short_at a)))
 
 -- What a call of a cursor answered is what this reading gives, and after a refusal
 -- the cursor is as before.

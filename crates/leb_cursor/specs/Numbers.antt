@@ -14,11 +14,11 @@ low_bits [] = 0
 low_bits (b ∷ bs) = b % 128 + 128 * low_bits bs
 
 -- the number of so many bits, as two's complement has it
-abbrev pub signed : ℕ → ℕ → ℤ
-signed bits n = if nat_lt (2 * n) (2 ^ bits) then pos n else pos n -ℤ pos (2 ^ bits)
+abbrev pub signed_number : ℕ → ℕ → ℤ
+signed_number bits n = if nat_lt (2 * n) (2 ^ bits) then pos n else pos n -ℤ pos (2 ^ bits)
 
 abbrev pub signed_low_bits : List ℕ → ℤ
-signed_low_bits bytes = signed (7 * length bytes) (low_bits bytes)
+signed_low_bits bytes = signed_number (7 * length bytes) (low_bits bytes)
 
 -- the bytes are a spelling of the number, padded or not
 abbrev pub SpellsUnsigned : ℕ → List ℕ → Type 0

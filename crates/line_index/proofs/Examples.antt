@@ -5,7 +5,7 @@ use Rattle.coz_types.specs.declared.image.Area.{Area}
 use Rattle.dwarf_lines.specs.declared.Row.{Row}
 use Rattle.leb_cursor.specs.Ahead.{◌>>=◌}
 use Rattle.dwarf_lines.specs.Names.{strings, form_for}
-use Rattle.dwarf_lines.specs.Reading.{texts, files, pass, header, operation, program, unit_body, unit, units, reading, formats, values, entries, listed}
+use Rattle.dwarf_lines.specs.Reading.{texts, files, ahead_of_numbers, header, operation, program, unit_body, unit, units, reading, formats, values, entries, entry_list}
 use Rattle.dwarf_lines.specs.Registers.{File, Table}
 use Rattle.line_index.specs.declared.changes.Change.{Change}
 use Rattle.line_index.specs.Lines.{Line, line_of, label, position_named, path}
@@ -135,5 +135,5 @@ from_texts = 62 ∷ 0 ∷ 0 ∷ 0 ∷ 5 ∷ 0 ∷ 8 ∷ 0 ∷ 32 ∷ 0 ∷ 0 ∷
 
 lines_from_texts : (reading (strings [] (120 ∷ 0 ∷ 97 ∷ 46 ∷ 115 ∷ 0 ∷ [])) from_texts >>= λ t. Ok (map (line_of t (code ∷ [])) (0x10000 ∷ 0x10004 ∷ 0x10008 ∷ [])))
     ≡ Ok (line 1 ∷ line 2 ∷ None ∷ [])
-unfolding line_of reading units unit unit_body header texts files operation pass program formats entries listed values form_for
+unfolding line_of reading units unit unit_body header texts files operation ahead_of_numbers program formats entries entry_list values form_for
 lines_from_texts = refl

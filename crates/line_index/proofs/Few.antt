@@ -8,9 +8,9 @@ use Rattle.dwarf_lines.specs.declared.LineKind.TheVariants as kinds
 use Rattle.dwarf_lines.specs.declared.Row.{Row}
 use Rattle.dwarf_lines.specs.declared.LineTable.{LineTable}
 use Rattle.dwarf_lines.specs.Bounds.{weight}
-use Rattle.dwarf_lines.specs.Registers.{Table, Header, Operation, Copy, AdvancePc, AdvanceLine, SetFile, SetColumn, NegateStmt, ConstAddPc, FixedAdvancePc, Special, EndSequence, SetAddress, DefineFile, Pass, State, row, appends, ends, defines, changed, after, has_line, begun, is_open, empty_table, file_view, view}
+use Rattle.dwarf_lines.specs.Registers.{Table, Header, Operation, Copy, AdvancePc, AdvanceLine, SetFile, SetColumn, NegateStmt, ConstAddPc, FixedAdvancePc, Special, EndSequence, SetAddress, DefineFile, Pass, State, row, is_appending, is_ending, defined_files, registers_after, state_after, has_line, first_state, is_open, empty_table, file_view, view}
 use Rattle.dwarf_lines.specs.Names.{Strings}
-use Rattle.dwarf_lines.specs.Reading.{wanted, word, half, announced, sizes, header, operation, program, is_read, unit_body, unit, units, reading}
+use Rattle.dwarf_lines.specs.Reading.{check, word, half_field, announced_bytes, sizes, header, operation, program, is_read, unit_body, unit, units, reading}
 use Rattle.dwarf_lines.proofs.Programs.{bind_ok, wanted_ok}
 use Rattle.dwarf_lines.proofs.Shorter.{number_left, announced_left, operation_less}
 use Rattle.dwarf_lines.proofs.Fewer.{sizes_most, header_few}
@@ -18,7 +18,7 @@ use Rattle.dwarf_lines.proofs.Fewer.{sizes_most, header_few}
 -- ---- programs
 
 -- an operation has a row or defines a file, and not both
-one_at_most : (op : Operation) (row : Row) → length (defines op) + length (cond (appends op) (row ∷ []) []) ≤ 1
+one_at_most : (op : Operation) (row : Row) → length (defined_files op) + length (cond (is_appending op) (row ∷ []) []) ≤ 1
 one_at_most Copy row = omega arith
 one_at_most (AdvancePc n) row = omega arith
 one_at_most (AdvanceLine z) row = omega arith
@@ -33,10 +33,10 @@ one_at_most (SetAddress a) row = omega arith
 one_at_most (DefineFile f) row = omega arith
 one_at_most Pass row = omega arith
 
-weight_after : (h : Header) (op : Operation) (s : State) → weight (after h op s).table ≤ weight s.table + 1
+weight_after : (h : Header) (op : Operation) (s : State) → weight (state_after h op s).table ≤ weight s.table + 1
 weight_after h op s =
-    let new : Row = row h s (ends op) (changed h op s.registers) in
-    omega (arith, one_at_most op new, length-append s.table.files (defines op), length-append s.table.rows (cond (appends op) (new ∷ []) []))
+    let new : Row = row h s (is_ending op) (registers_after h op s.registers) in
+    omega (arith, one_at_most op new, length-append s.table.files (defined_files op), length-append s.table.rows (cond (is_appending op) (new ∷ []) []))
 
 state_is : (s t : State) → (let done : State → Result State LineFault = λ z. Ok z in done s ≡ done t) → s ≡ t
 state_is s t e = cc
@@ -55,9 +55,9 @@ program_few (suc n) h s t place [] e =
 program_few (suc n) h s t place (b ∷ bs) e =
     let ahead : Ahead = record { place = place; bytes = b ∷ bs } in
     let op = bind_ok (operation h ahead) _ t e in
-    let next = bind_ok (wanted (has_line h op.0.0 s) kinds.LineOut place (after h op.0.0 s)) _ t op.2 in
+    let next = bind_ok (check (has_line h op.0.0 s) kinds.LineOut place (state_after h op.0.0 s)) _ t op.2 in
     let less = operation_less h ahead op.0.1 op.0.0 op.1 in
-    let done : weight (after h op.0.0 s).table ≡ weight next.0.table = ap (λ (u : State). weight u.table) (wanted_ok (has_line h op.0.0 s) kinds.LineOut place (after h op.0.0 s) next.0 next.1).1 in
+    let done : weight (state_after h op.0.0 s).table ≡ weight next.0.table = ap (λ (u : State). weight u.table) (wanted_ok (has_line h op.0.0 s) kinds.LineOut place (state_after h op.0.0 s) next.0 next.1).1 in
     let one = weight_after h op.0.0 s in
     let rest = program_few n h next.0 t op.0.1.place op.0.1.bytes next.2 in
     omega (arith, less, done, one, rest)
@@ -69,15 +69,15 @@ unfolding unit_body
 unit_body_few version strings t u a e =
     let after = bind_ok (sizes version a) _ u e in
     let size = bind_ok (word after.0) _ u after.2 in
-    let inside = bind_ok (announced after.0.place size.0.0 size.0.1) _ u size.2 in
+    let inside = bind_ok (announced_bytes after.0.place size.0.0 size.0.1) _ u size.2 in
     let read = bind_ok (header version strings inside.0.0) _ u inside.2 in
-    let done = bind_ok (program (suc (length inside.0.1.bytes)) read.0 (begun read.0 t) inside.0.1) _ u read.2 in
+    let done = bind_ok (program (suc (length inside.0.1.bytes)) read.0 (first_state read.0 t) inside.0.1) _ u read.2 in
     let behind = sizes_most version a after.0 after.1 in
     let first = number_left w32 after.0 size.0.1 size.0.0 size.1 in
     let next = announced_left after.0.place size.0.0 size.0.1 inside.0.0 inside.0.1 inside.1 in
     let few = header_few version strings inside.0.0 read.0 read.1 in
     let files = length-append t.files read.0.files in
-    let run = program_few (suc (length inside.0.1.bytes)) read.0 (begun read.0 t) done.0 inside.0.1.place inside.0.1.bytes done.1 in
+    let run = program_few (suc (length inside.0.1.bytes)) read.0 (first_state read.0 t) done.0 inside.0.1.place inside.0.1.bytes done.1 in
     let same : weight done.0.table ≡ weight u = ap weight (table_is done.0.table u done.2) in
     omega (arith, behind, first, next.0, next.1, few, files, run, same)
 
@@ -97,9 +97,9 @@ unit_few : (strings : Strings) (t u : Table) (a b : Ahead) → unit strings t a 
 unfolding unit
 unit_few strings t u a b e =
     let size = bind_ok (word a) _ (u, b) e in
-    let long = bind_ok (wanted (nat_lt size.0.0 0xFFFFFFF0) kinds.LongForm a.place size.0) _ (u, b) size.2 in
-    let inside = bind_ok (announced a.place long.0.0 long.0.1) _ (u, b) long.2 in
-    let version = bind_ok (half inside.0.0) _ (u, b) inside.2 in
+    let long = bind_ok (check (nat_lt size.0.0 0xFFFFFFF0) kinds.LongForm a.place size.0) _ (u, b) size.2 in
+    let inside = bind_ok (announced_bytes a.place long.0.0 long.0.1) _ (u, b) long.2 in
+    let version = bind_ok (half_field inside.0.0) _ (u, b) inside.2 in
     let made = bind_ok (elim (is_read version.0.0) as (λ x. Result Table LineFault) [ true ↦ unit_body version.0.0 strings t version.0.1 | false ↦ Ok (record t { skipped = t.skipped + 1 }) ]) _ (u, b) version.2 in
     let first = number_left w32 a size.0.1 size.0.0 size.1 in
     let fine = wanted_ok (nat_lt size.0.0 0xFFFFFFF0) kinds.LongForm a.place size.0 long.0 long.1 in

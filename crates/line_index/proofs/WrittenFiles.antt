@@ -3,7 +3,7 @@ use Rattle.std.proofs.Common.{◌≡◌, ℕ, ◌<◌, [], ◌∷◌, ◌++◌, 
 use Rattle.std.specs.List.{AllByRecursion}
 use Rattle.std.proofs.lemmas.List.{append_assoc}
 use Rattle.std.proofs.lemmas.List.Elements.{All-from_get_or, recursion_from_All}
-use Rattle.coz_types.specs.Labels.{Text, scans, escaped, written, is_written}
+use Rattle.coz_types.specs.Labels.{Text, is_scanned, escape_of, written, is_written}
 use Rattle.coz_types.proofs.WrittenPaths.{byte_scans, written_is}
 
 abbrev pub Bytes : Text → Type 0
@@ -15,17 +15,17 @@ byte_fits b fits = omega (arith, fits)
 pub bytes_fit : (text : Text) → ((i : ℕ) → Fits w8 (get_or text i 0)) → Bytes text
 bytes_fit text fits = All-from_get_or (λ (byte : ℕ). byte < 256) text 0 (λ i lt. byte_fits (get_or text i 0) (fits i))
 
-scans_over : (text rest : Text) → AllByRecursion (λ (byte : ℕ). byte < 256) text → scans (Some None) (written text ++ rest) ≡ scans (Some None) rest
+scans_over : (text rest : Text) → AllByRecursion (λ (byte : ℕ). byte < 256) text → is_scanned (Some None) (written text ++ rest) ≡ is_scanned (Some None) rest
 scans_over [] rest all = refl
-scans_over (b ∷ text) rest all = ap (scans (Some None)) (append_assoc (escaped b) (written text) rest) ∙ byte_scans b (written text ++ rest) all.0 ∙ scans_over text rest all.1
+scans_over (b ∷ text) rest all = ap (is_scanned (Some None)) (append_assoc (escape_of b) (written text) rest) ∙ byte_scans b (written text ++ rest) all.0 ∙ scans_over text rest all.1
 
 -- the scan of a text behind this one begins anew
 abbrev pub IsWhole : Text → Type 0
-IsWhole front = (rest : Text) → scans (Some None) (front ++ rest) ≡ scans (Some None) rest
+IsWhole front = (rest : Text) → is_scanned (Some None) (front ++ rest) ≡ is_scanned (Some None) rest
 
 -- a slash stands for itself
 pub directory_whole : (directory : Text) → Bytes directory → IsWhole (written directory ++ 47 ∷ [])
-directory_whole directory all rest = ap (scans (Some None)) (append_assoc (written directory) (47 ∷ []) rest) ∙ scans_over directory (47 ∷ rest) (recursion_from_All (λ (byte : ℕ). byte < 256) directory all)
+directory_whole directory all rest = ap (is_scanned (Some None)) (append_assoc (written directory) (47 ∷ []) rest) ∙ scans_over directory (47 ∷ rest) (recursion_from_All (λ (byte : ℕ). byte < 256) directory all)
 
 pub name_behind : (front name : Text) → IsWhole front → Bytes name → is_written (front ++ written name) ≡ true
 name_behind front name whole all = whole (written name) ∙ written_is name (recursion_from_All (λ (byte : ℕ). byte < 256) name all)

@@ -1,7 +1,7 @@
 //! Paths as they are written in labels.
 
 ghost use Rattle.std.specs.Prelude.{◌≡◌, ◌++◌, ◌<◌, ℕ, OnOk, All};
-ghost use Rattle.coz_types.specs.Labels.{hex_digit, is_escaped, escaped, written};
+ghost use Rattle.coz_types.specs.Labels.{hex_digit, is_escaped, escape_of, written};
 
 use std::alloc::AllocError;
 
@@ -25,7 +25,7 @@ fn is_escaped(byte: u8) -> bool
 }
 
 fn push_escaped(text: &mut Vec<u8>, byte: u8) -> Result<(), AllocError>
-    ensures { OnOk result (text.new.items ≡ text.old.items ++ escaped byte) }
+    ensures { OnOk result (text.new.items ≡ text.old.items ++ escape_of byte) }
 {
     if is_escaped(byte) {
         text.push(b'%')?;

@@ -3,7 +3,7 @@ use Rattle.std.proofs.Common.{◌≡◌, ℕ, zero, suc, ◌+◌, ◌-◌, Bool,
 use Rattle.std.proofs.lemmas.Bool.{cases_eq}
 use Rattle.coz_types.specs.declared.ending.Ending.{Ending}
 use Rattle.machines.specs.Places.{first_place, is_among, AllApart}
-use Rattle.machines.specs.Guest.{Experiment, IsLawful, cost, cut, started}
+use Rattle.machines.specs.Guest.{Experiment, IsLawful, cost, cut, started_harts}
 use Rattle.machines.specs.Delayed.{Delayed, is_ready, raise, retirement, leave, give_credit, ending, unbegun, after}
 use Rattle.machines.specs.Shortened.{Shortened, Turn, next_turn, shortened}
 use Rattle.machines.specs.Shortened as short
@@ -40,7 +40,7 @@ module _ {G : Type 0} (x : Experiment G) where
 
   left_none : (h : ℕ) (d : Delayed G) (e : Ending) → d.ending ≡ None → (left x h d).state.ending ≡ Some e → (left x h d).harts ≡ []
   unfolding left give_credit leave
-  left_none h d e none over = ended_none (ending x h d) (leave x h d) (record { state = give_credit x h d; harts = started h (retirement x h d) }) e none over
+  left_none h d e none over = ended_none (ending x h d) (leave x h d) (record { state = give_credit x h d; harts = started_harts h (retirement x h d) }) e none over
 
   turned_none : (h : ℕ) (d : Delayed G) (e : Ending) → d.ending ≡ None → (turned x h d).state.ending ≡ Some e → (turned x h d).harts ≡ []
   unfolding turned woken
@@ -81,9 +81,9 @@ module _ {G : Type 0} (x : Experiment G) where
   ended_goes None d b goes = refl
   ended_goes (Some e) d b goes = absurd (let no : ◌≡◌ {A = Option Ending} (Some e) None = goes in cc)
 
-  left_goes : (h : ℕ) (d : Delayed G) → (left x h d).state.ending ≡ None → (left x h d).harts ≡ started h (x.guest.retire d.guest h (d.now - d.delay))
+  left_goes : (h : ℕ) (d : Delayed G) → (left x h d).state.ending ≡ None → (left x h d).harts ≡ started_harts h (x.guest.retire d.guest h (d.now - d.delay))
   unfolding left retirement
-  left_goes h d goes = ended_goes (ending x h d) (leave x h d) (record { state = give_credit x h d; harts = started h (retirement x h d) }) goes
+  left_goes h d goes = ended_goes (ending x h d) (leave x h d) (record { state = give_credit x h d; harts = started_harts h (retirement x h d) }) goes
 
   turned_awake : (h : ℕ) (d : Delayed G) → x.guest.is_sleeping d.guest h ≡ false → turned x h d ≡ left x h d
   unfolding turned
@@ -131,7 +131,7 @@ module _ {G : Type 0} (x : Experiment G) (Good : G → Type 0) (law : IsLawful x
 
   -- after a retirement from which the run goes on, those that it started begin
   pub goes_begins : (n : ℕ) (t : Turn) → (standing x n).ending ≡ None → next_turn (shortened x n).dues ≡ Some t → x.guest.is_sleeping (shortened x n).guest t.hart ≡ false → (standing x (suc n)).ending ≡ None
-      → (before x (suc n)).harts ≡ started t.hart (x.guest.retire (shortened x n).guest t.hart t.due)
+      → (before x (suc n)).harts ≡ started_harts t.hart (x.guest.retire (shortened x n).guest t.hart t.due)
   goes_begins n t none turn_is awake goes =
       let d : Delayed G = standing x n in
       let k : ℕ = ticks_left d.harts in
@@ -144,7 +144,7 @@ module _ {G : Type 0} (x : Experiment G) (Good : G → Type 0) (law : IsLawful x
       before_suc x n ∙ ap (before_move x) (jump_is x k d none (λ i. all_have d.harts i)) ∙ move_turns x c.0 j (jump_goes x k d none) c.1.ready ∙ turned_awake x c.0 j sits in
       ap (λ b. b.harts) is
       ∙ left_goes x c.0 j (ap (λ b. b.state.ending) (sym is) ∙ sym (before_ending x (suc n)) ∙ goes)
-      ∙ ap₂ (λ g (u : Turn). started u.hart (x.guest.retire g u.hart u.due)) guest same
+      ∙ ap₂ (λ g (u : Turn). started_harts u.hart (x.guest.retire g u.hart u.due)) guest same
 
   -- after a wake the woken hart begins
   pub wakes_begins : (n : ℕ) (t : Turn) → (standing x n).ending ≡ None → next_turn (shortened x n).dues ≡ Some t → x.guest.is_sleeping (shortened x n).guest t.hart ≡ true → (before x (suc n)).harts ≡ t.hart ∷ []

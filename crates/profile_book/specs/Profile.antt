@@ -5,7 +5,7 @@ use Rattle.std.specs.Str.{bytes_eq}
 use Rattle.std.specs.Fmt.{digits}
 use Rattle.coz_types.specs.Labels.{Text, is_label, label_before}
 use Rattle.coz_types.specs.Endings.{ending_text}
-use Rattle.coz_types.specs.Ranges.{most, IsSummary}
+use Rattle.coz_types.specs.Ranges.{greatest_number, IsSummary}
 use Rattle.coz_types.specs.declared.record.Summary.{Summary}
 use Rattle.profile_book.specs.declared.profile.Profile.{Profile}
 
@@ -68,10 +68,10 @@ profile_text p =
 -- ---- ranges and orders
 
 -- each comes before the next
-abbrev pub rises : {A : Type 0} → (A → A → Bool) → List A → Bool
-rises before [] = true
-rises before (a ∷ []) = true
-rises before (a ∷ b ∷ rest) = before a b && rises before (b ∷ rest)
+abbrev pub is_rising : {A : Type 0} → (A → A → Bool) → List A → Bool
+is_rising before [] = true
+is_rising before (a ∷ []) = true
+is_rising before (a ∷ b ∷ rest) = before a b && is_rising before (b ∷ rest)
 
 -- by label, then by speedup
 abbrev pub summary_before : Summary → Summary → Bool
@@ -81,12 +81,12 @@ summary_before s t =
 
 -- the budget and the points, the summaries within their ranges, and all in their orders
 pub record IsProfile (p : Profile) : Type 0 where
-  pub budget : p.budget ≤ most
+  pub budget : p.budget ≤ greatest_number
   pub points : length p.points ≤ 64
   pub names : list_all is_label p.points ≡ true
-  pub names_rise : rises label_before p.points ≡ true
+  pub names_rise : is_rising label_before p.points ≡ true
   pub summaries : AllByRecursion (IsSummary (length p.points)) p.summaries
-  pub blocks_rise : rises summary_before p.summaries ≡ true
+  pub blocks_rise : is_rising summary_before p.summaries ≡ true
 
 -- the profile's text
 abbrev pub IsTextOf : Profile → Text → Type 0

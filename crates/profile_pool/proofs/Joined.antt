@@ -9,7 +9,7 @@ use Rattle.experiment_claims.specs.Seats.{Draws}
 use Rattle.profile_pool.specs.declared.claimed.Claimed.{Claimed}
 use native.Mathlib.Decide.{dec_le}
 use Rattle.coz_types.specs.declared.record.Summary.{Summary}
-use Rattle.profile_pool.specs.Worked.{Worked, claimed, claims_in, past}
+use Rattle.profile_pool.specs.Worked.{Worked, claimed_line, claims_in, count_past}
 
 -- what is drawn as a claim is a number below the bound
 drawn_below : {b : ℕ} {old new : Hand} (claim : ℕ) (d : Draws b old new (Some claim)) → Dec (b ≤ d.number) → (d.number < b) × (claim ≡ d.number)
@@ -23,7 +23,7 @@ pub worked_drawn : {f : ℕ → List Summary} {b t : ℕ} {h : Hand} {done : Lis
 worked_drawn {f} {b} {h} {done} before new claim summaries all d gave is =
     let own = drawn_below claim d (dec_le b d.number) in
     let within : d.number < b = own.0 in
-    let same : ◌≡◌ {A = Claimed} (record { claim = claim; summaries = summaries }) (claimed f d.number) =
+    let same : ◌≡◌ {A = Claimed} (record { claim = claim; summaries = summaries }) (claimed_line f d.number) =
     ap₂ (λ (c : ℕ) (ss : List Summary). record { claim = c; summaries = ss }) own.1 (gave ∙ ap f own.1) in
     let one : claims_in b (d.number ∷ []) ≡ d.number ∷ [] = ap (λ (t : Bool). cond t (d.number ∷ []) []) (lt-ltb d.number b within) in
     let none : cond (nat_le b d.number) 1 0 ≡ zero = grind arith in
@@ -36,12 +36,12 @@ worked_drawn {f} {b} {h} {done} before new claim summaries all d gave is =
         each =
             is
             ∙ ap (λ (c : Claimed). done ++ c ∷ []) same
-            ∙ ap (λ (l : List Claimed). l ++ claimed f d.number ∷ []) before.each
-            ∙ sym (map-append (claimed f) (claims_in b h.numbers) (d.number ∷ []))
-            ∙ ap (λ (l : List ℕ). map (claimed f) (claims_in b h.numbers ++ l)) (sym one)
-            ∙ ap (map (claimed f)) (sym (filter-append (λ n. nat_lt n b) h.numbers (d.number ∷ [])))
-            ∙ ap (λ (l : List ℕ). map (claimed f) (claims_in b l)) (sym d.numbers);
-        stopped = omega (arith, ap (past b) d.numbers, sum_by_push (λ n. cond (nat_le b n) 1 0) h.numbers d.number, before.stopped, none);
+            ∙ ap (λ (l : List Claimed). l ++ claimed_line f d.number ∷ []) before.each
+            ∙ sym (map-append (claimed_line f) (claims_in b h.numbers) (d.number ∷ []))
+            ∙ ap (λ (l : List ℕ). map (claimed_line f) (claims_in b h.numbers ++ l)) (sym one)
+            ∙ ap (map (claimed_line f)) (sym (filter-append (λ n. nat_lt n b) h.numbers (d.number ∷ [])))
+            ∙ ap (λ (l : List ℕ). map (claimed_line f) (claims_in b l)) (sym d.numbers);
+        stopped = omega (arith, ap (count_past b) d.numbers, sum_by_push (λ n. cond (nat_le b n) 1 0) h.numbers d.number, before.stopped, none);
       },
       omega (arith, more),
     )
@@ -66,10 +66,10 @@ worked_stopped {f} {b} {t} {h} {done} before new d =
       all = omega (arith, more);
       each =
           before.each
-          ∙ ap (map (claimed f)) (sym (append-nil (claims_in b h.numbers)) ∙ ap (λ (l : List ℕ). claims_in b h.numbers ++ l) (sym none))
-          ∙ ap (map (claimed f)) (sym (filter-append (λ n. nat_lt n b) h.numbers (d.number ∷ [])))
-          ∙ ap (λ (l : List ℕ). map (claimed f) (claims_in b l)) (sym d.numbers);
-      stopped = omega (arith, ap (past b) d.numbers, sum_by_push (λ n. cond (nat_le b n) 1 0) h.numbers d.number, before.stopped, one);
+          ∙ ap (map (claimed_line f)) (sym (append-nil (claims_in b h.numbers)) ∙ ap (λ (l : List ℕ). claims_in b h.numbers ++ l) (sym none))
+          ∙ ap (map (claimed_line f)) (sym (filter-append (λ n. nat_lt n b) h.numbers (d.number ∷ [])))
+          ∙ ap (λ (l : List ℕ). map (claimed_line f) (claims_in b l)) (sym d.numbers);
+      stopped = omega (arith, ap (count_past b) d.numbers, sum_by_push (λ n. cond (nat_le b n) 1 0) h.numbers d.number, before.stopped, one);
     }
 
 pub worked_joined : {f : ℕ → List Summary} {b t s t' s' : ℕ} {h k : Hand} {ps qs : List Claimed} → Worked f b t s h ps → Worked f b t' s' k qs
@@ -84,9 +84,9 @@ worked_joined {f} {b} {h} {k} {ps} {qs} x y both all turns stops is-turns is-num
       each =
           is-all
           ∙ ap (λ (l : List Claimed). l ++ qs) x.each
-          ∙ ap (λ (l : List Claimed). map (claimed f) (claims_in b h.numbers) ++ l) y.each
-          ∙ sym (map-append (claimed f) (claims_in b h.numbers) (claims_in b k.numbers))
-          ∙ ap (map (claimed f)) (sym (filter-append (λ n. nat_lt n b) h.numbers k.numbers))
-          ∙ ap (λ (l : List ℕ). map (claimed f) (claims_in b l)) (sym is-numbers);
-      stopped = omega (arith, ap (past b) is-numbers, sum_by-append (λ n. cond (nat_le b n) 1 0) h.numbers k.numbers, x.stopped, y.stopped);
+          ∙ ap (λ (l : List Claimed). map (claimed_line f) (claims_in b h.numbers) ++ l) y.each
+          ∙ sym (map-append (claimed_line f) (claims_in b h.numbers) (claims_in b k.numbers))
+          ∙ ap (map (claimed_line f)) (sym (filter-append (λ n. nat_lt n b) h.numbers k.numbers))
+          ∙ ap (λ (l : List ℕ). map (claimed_line f) (claims_in b l)) (sym is-numbers);
+      stopped = omega (arith, ap (count_past b) is-numbers, sum_by-append (λ n. cond (nat_le b n) 1 0) h.numbers k.numbers, x.stopped, y.stopped);
     }

@@ -9,7 +9,7 @@ use Rattle.std.proofs.lemmas.List.FromFn.{fill_by_all}
 use Rattle.coz_types.specs.declared.LineId.{LineId}
 use Rattle.coz_types.specs.declared.record.Summary.{Summary}
 use Rattle.experiment_plan.specs.declared.experiment.Experiment.{Experiment}
-use Rattle.experiment_plan.specs.ByLine.{joined, IsOfOneLine}
+use Rattle.experiment_plan.specs.ByLine.{all_pairs, IsOfOneLine}
 
 -- one pair more
 pub pair_next : (s : Experiment → Summary) (pairs : List Experiment) (i : ℕ) (none : Experiment) (before new : List Summary) (summary : Summary)
@@ -32,13 +32,13 @@ at_places : {A B : Type 0} (g : A → B) (none : A) (xs : List A) → map (λ i.
 at_places g none xs =
     sym (fill_by_all (λ i. g (get_or xs i none)) (map g xs) (length xs) (g none) (length-map xs g) (λ k short. get_or-map_there g none xs k short))
 
-map_joined : (s : Experiment → Summary) (runs : List (List Experiment)) → flat_map (map s) runs ≡ map s (joined runs)
+map_joined : (s : Experiment → Summary) (runs : List (List Experiment)) → flat_map (map s) runs ≡ map s (all_pairs runs)
 map_joined s [] = refl
-map_joined s (run ∷ runs) = ap (λ (rest : List Summary). map s run ++ rest) (map_joined s runs) ∙ sym (map-append s run (joined runs))
+map_joined s (run ∷ runs) = ap (λ (rest : List Summary). map s run ++ rest) (map_joined s runs) ∙ sym (map-append s run (all_pairs runs))
 
 -- the summaries of the pairs, line by line, are those of all pairs
 pub line_by_line : (s : Experiment → Summary) (runs : List (List Experiment))
-    → flat_map (λ i. map s (get_or runs i [])) (range_with_len 0 (length runs)) ≡ map s (joined runs)
+    → flat_map (λ i. map s (get_or runs i [])) (range_with_len 0 (length runs)) ≡ map s (all_pairs runs)
 line_by_line s runs =
     sym (flat_map-map (λ (line : List Summary). line) (λ i. map s (get_or runs i [])) (range_with_len 0 (length runs)))
     ∙ ap (flat_map (λ (line : List Summary). line)) (at_places (map s) [] runs)
@@ -47,13 +47,13 @@ line_by_line s runs =
 
 -- what is so of all pairs is so of those of a line
 pub of_all : (P : Experiment → Type 0) (runs : List (List Experiment)) (i : ℕ) (line : List Experiment)
-    → All P (joined runs) → slice_get runs i ≡ Some line → All P line
+    → All P (all_pairs runs) → slice_get runs i ≡ Some line → All P line
 of_all P [] i line all e = absurd cc
 of_all P (run ∷ runs) zero line all e =
     let same : run ≡ line = cc in
-    subst (All P) (take-append_seam run (joined runs) ∙ same) (All-take P (length run) (run ++ joined runs) all)
+    subst (All P) (take-append_seam run (all_pairs runs) ∙ same) (All-take P (length run) (run ++ all_pairs runs) all)
 of_all P (run ∷ runs) (suc i) line all e =
-    of_all P runs i line (subst (All P) (drop-append_seam run (joined runs)) (All-drop P (length run) (run ++ joined runs) all)) e
+    of_all P runs i line (subst (All P) (drop-append_seam run (all_pairs runs)) (All-drop P (length run) (run ++ all_pairs runs) all)) e
 
 -- what is so of the line of the first pair is so of each pair's line
 pub of_one_line : (P : LineId → Type 0) (pairs : List Experiment) → IsOfOneLine pairs → (none : Experiment)

@@ -13,11 +13,11 @@ use Rattle.virtual_run.specs.Lead.{arguments}
 use Rattle.experiment_plan.specs.declared.experiment.Experiment.{Experiment}
 use Rattle.profile_pool.specs.declared.work.Work.{Work}
 use Rattle.profile_pool.specs.Choices.{choice_of}
-use Rattle.profile_pool.specs.Made.{made, made_for, IsFor}
+use Rattle.profile_pool.specs.Made.{parts_made, made_for, IsFor}
 use Rattle.profile_pool.specs.Work.{IsWork}
 
 -- what is made for some line is made for any
-pub for_any : {S : Type 0} (work : Work) (line : Option ℕ) (speedup : ℕ) (seen : Seen S) → made seen ≡ made_for work line speedup → IsFor work seen
+pub for_any : {S : Type 0} (work : Work) (line : Option ℕ) (speedup : ℕ) (seen : Seen S) → parts_made seen ≡ made_for work line speedup → IsFor work seen
 for_any work line speedup seen is = ap arguments is
 
 abbrev with_line : LineId → Seen (Unit {0}) → Seen (Unit {0})
@@ -27,16 +27,16 @@ abbrev with_choice : Choice → Seen (Unit {0}) → Seen (Unit {0})
 with_choice choice seen = record seen { choice = choice }
 
 -- a line that is taken up
-pub taken : {S : Type 0} (work : Work) (line : LineId) (first new : Seen S) → made first ≡ made_for work (Some 0) 0
-    → new ≡ record first { choice = record first.choice { selected = Some line } } → made new ≡ made_for work (Some line.0) 0
-taken work line first new are is = ap made is ∙ ap (with_line line) are
+pub taken : {S : Type 0} (work : Work) (line : LineId) (first new : Seen S) → parts_made first ≡ made_for work (Some 0) 0
+    → new ≡ record first { choice = record first.choice { selected = Some line } } → parts_made new ≡ made_for work (Some line.0) 0
+taken work line first new are is = ap parts_made is ∙ ap (with_line line) are
 
 -- a run that is forked
 pub forked : {S T : Type 0} (work : Work) (line speedup : ℕ) (lead : Seen S) (machine new : Seen T) (state : T) → IsFor work machine
-    → made lead ≡ made_for work (Some line) 0 → new ≡ record machine { choice = record lead.choice { speedup = speedup }; state = state }
-    → made new ≡ made_for work (Some line) speedup
+    → parts_made lead ≡ made_for work (Some line) 0 → new ≡ record machine { choice = record lead.choice { speedup = speedup }; state = state }
+    → parts_made new ≡ made_for work (Some line) speedup
 forked work line speedup lead machine new state are led is =
-    ap made is
+    ap parts_made is
     ∙ ap (with_choice (record lead.choice { speedup = speedup })) are
     ∙ ap (λ (seen : Seen (Unit {0})). with_choice (record seen.choice { speedup = speedup }) (made_for work None 0)) led
 
@@ -62,6 +62,6 @@ work_of work choice lines some few led chosen =
       lines = lines;
       some_budget = some;
       few = few;
-      first = ap made led ∙ ap (λ (c : Choice). made (made_lead work c)) chosen;
+      first = ap parts_made led ∙ ap (λ (c : Choice). parts_made (made_lead work c)) chosen;
       unbegun = subst P (sym led) refl;
     }

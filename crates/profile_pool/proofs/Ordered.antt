@@ -11,7 +11,7 @@ use Rattle.experiment_claims.specs.Drawn.{times, once_below}
 use Rattle.experiment_claims.specs.declared.hand.Hand.{Hand}
 use Rattle.profile_pool.specs.declared.claimed.Claimed.{Claimed}
 use Rattle.coz_types.specs.declared.record.Summary.{Summary}
-use Rattle.profile_pool.specs.Worked.{Worked, EachClaim, claimed, claims_in, claim_of, kept_summaries, past}
+use Rattle.profile_pool.specs.Worked.{Worked, EachClaim, claimed_line, claims_in, claim_of, kept_summaries, count_past}
 
 -- once for each number from a on and below n
 abbrev within : ℕ → ℕ → ℕ → ℕ
@@ -78,18 +78,18 @@ rising (y ∷ ys) a (suc n) up each =
     omega (arith, e, here, w, same)) in
     λ i. is i ∷ rest i
 
-parts : (f : ℕ → List Summary) (qs : List Claimed) → All (λ p. p ≡ claimed f p.claim) qs → qs ≡ map (claimed f) (map claim_of qs)
+parts : (f : ℕ → List Summary) (qs : List Claimed) → All (λ p. p ≡ claimed_line f p.claim) qs → qs ≡ map (claimed_line f) (map claim_of qs)
 parts f [] h = refl
 parts f (q ∷ qs) h =
-    let here : q ≡ claimed f q.claim = All-head (λ p. p ≡ claimed f p.claim) q qs h in
-    let rest = parts f qs (All-tail (λ p. p ≡ claimed f p.claim) q qs h) in
+    let here : q ≡ claimed_line f q.claim = All-head (λ p. p ≡ claimed_line f p.claim) q qs h in
+    let rest = parts f qs (All-tail (λ p. p ≡ claimed_line f p.claim) q qs h) in
     λ i. here i ∷ rest i
 
-claims_back : (f : ℕ → List Summary) (cs : List ℕ) → map claim_of (map (claimed f) cs) ≡ cs
+claims_back : (f : ℕ → List Summary) (cs : List ℕ) → map claim_of (map (claimed_line f) cs) ≡ cs
 claims_back f [] = refl
 claims_back f (c ∷ cs) = λ i. c ∷ claims_back f cs i
 
-values_back : (f : ℕ → List Summary) (cs : List ℕ) → flat_map kept_summaries (map (claimed f) cs) ≡ flat_map f cs
+values_back : (f : ℕ → List Summary) (cs : List ℕ) → flat_map kept_summaries (map (claimed_line f) cs) ≡ flat_map f cs
 values_back f [] = refl
 values_back f (c ∷ cs) = ap (λ (rest : List Summary). f c ++ rest) (values_back f cs)
 
@@ -101,21 +101,21 @@ at_map (x ∷ xs) (suc i) d q short = at_map xs i d q (omega arith)
 within_zero : (x n : ℕ) → once_below x n ≡ within 0 (0 + n) x
 within_zero x n = grind arith
 
-pub ordered : (f : ℕ → List Summary) (n : ℕ) (ps qs : List Claimed) → EachClaim f n ps → IsPermutation ps qs → IsNonDecreasingBy claim_of qs → qs ≡ map (claimed f) (range_with_len 0 n)
+pub ordered : (f : ℕ → List Summary) (n : ℕ) (ps qs : List Claimed) → EachClaim f n ps → IsPermutation ps qs → IsNonDecreasingBy claim_of qs → qs ≡ map (claimed_line f) (range_with_len 0 n)
 ordered f n ps qs e moved up =
-    let P : Claimed → Type 0 = λ p. p ≡ claimed f p.claim in
-    let valued : All P qs = All-permutation P ps qs moved (All-same P ps (map (claimed f) e.claims) e.each (All-map P (claimed f) e.claims (λ k d short. refl))) in
+    let P : Claimed → Type 0 = λ p. p ≡ claimed_line f p.claim in
+    let valued : All P qs = All-permutation P ps qs moved (All-same P ps (map (claimed_line f) e.claims) e.each (All-map P (claimed_line f) e.claims (λ k d short. refl))) in
     let cs : List ℕ = map claim_of qs in
     let long : length cs ≡ length qs = length-map qs claim_of in
     let drawn : map claim_of ps ≡ e.claims = ap (map claim_of) e.each ∙ claims_back f e.claims in
     let each : (x : ℕ) → times x cs ≡ within 0 (0 + n) x =
     λ x. sum_by-IsPermutation (λ y. cond (y == x) 1 0) (map claim_of ps) cs (IsPermutation-map claim_of ps qs moved)
     ∙ ap (times x) drawn ∙ e.once x ∙ within_zero x n in
-    let q : Claimed = claimed f 0 in
+    let q : Claimed = claimed_line f 0 in
     let rises : IsNonDecreasingBy (λ x. x) cs =
     λ i j d le short. let short' : j < length qs = omega arith in
     let a = at_map qs i d q (omega arith) in let b = at_map qs j d q short' in let both = up i j q le short' in omega arith in
-    parts f qs valued ∙ ap (map (claimed f)) (rising cs 0 n rises each)
+    parts f qs valued ∙ ap (map (claimed_line f)) (rising cs 0 n rises each)
 
 pub ordered_summaries : (f : ℕ → List Summary) (n : ℕ) (ps qs : List Claimed) → EachClaim f n ps → IsPermutation ps qs → IsNonDecreasingBy claim_of qs → flat_map kept_summaries qs ≡ flat_map f (range_with_len 0 n)
 ordered_summaries f n ps qs e moved up = ap (flat_map kept_summaries) (ordered f n ps qs e moved up) ∙ values_back f (range_with_len 0 n)
@@ -124,7 +124,7 @@ is_below : (y w : ℕ) → 1 ≤ once_below y w → y < w
 is_below y w h = grind arith
 
 -- where each number is below the bound, none is past it
-none_past : (b : ℕ) (xs : List ℕ) → All (λ x. x < b) xs → past b xs ≡ 0
+none_past : (b : ℕ) (xs : List ℕ) → All (λ x. x < b) xs → count_past b xs ≡ 0
 none_past b [] h = refl
 none_past b (x ∷ xs) h =
     let rest = none_past b xs (All-tail (λ y. y < b) x xs h) in
@@ -148,7 +148,7 @@ below_word w xs each k d short =
     let counted : 1 ≤ once_below y w = let c = is_counted xs k d short in omega arith in
     is_below y w counted
 
-reached : (b w stops : ℕ) (xs : List ℕ) → past b xs ≡ stops → 0 < stops → ((x : ℕ) → times x xs ≡ once_below x w) → Dec (b ≤ w) → b ≤ w
+reached : (b w stops : ℕ) (xs : List ℕ) → count_past b xs ≡ stops → 0 < stops → ((x : ℕ) → times x xs ≡ once_below x w) → Dec (b ≤ w) → b ≤ w
 reached b w stops xs stopped some each (yes d) = d
 reached b w stops xs stopped some each (no n) =
     let less : w < b = lt_of_not-le n in
@@ -173,16 +173,16 @@ each_claim f b w turns stops h ps worked some each =
 once_counted : (x n : ℕ) → x < n → once_below x n ≡ suc 0
 once_counted x n below = grind arith
 
-claimed_at : (Q : List Summary → Type 0) (f : ℕ → List Summary) (claims : List ℕ) (k : ℕ) → All (λ (c : Claimed). Q c.summaries) (map (claimed f) claims) → k < length claims → Q (f (get_or claims k 0))
+claimed_at : (Q : List Summary → Type 0) (f : ℕ → List Summary) (claims : List ℕ) (k : ℕ) → All (λ (c : Claimed). Q c.summaries) (map (claimed_line f) claims) → k < length claims → Q (f (get_or claims k 0))
 claimed_at Q f [] k all short = absurd (omega arith)
-claimed_at Q f (x ∷ xs) zero all short = All-head (λ (c : Claimed). Q c.summaries) (claimed f x) (map (claimed f) xs) all
-claimed_at Q f (x ∷ xs) (suc k) all short = claimed_at Q f xs k (All-tail (λ (c : Claimed). Q c.summaries) (claimed f x) (map (claimed f) xs) all) (omega arith)
+claimed_at Q f (x ∷ xs) zero all short = All-head (λ (c : Claimed). Q c.summaries) (claimed_line f x) (map (claimed_line f) xs) all
+claimed_at Q f (x ∷ xs) (suc k) all short = claimed_at Q f xs k (All-tail (λ (c : Claimed). Q c.summaries) (claimed_line f x) (map (claimed_line f) xs) all) (omega arith)
 
 -- each claim below n has some
 of_claim : (Q : List Summary → Type 0) (f : ℕ → List Summary) (n : ℕ) (done : List Claimed) → EachClaim f n done → All (λ (c : Claimed). Q c.summaries) done → (x : ℕ) → x < n → Q (f x)
 of_claim Q f n done e all x below =
     let there = stands x e.claims (let own = once_counted x n below in let each = e.once x in omega arith) in
-    let claimed_all = All-same (λ (c : Claimed). Q c.summaries) (map (claimed f) e.claims) done (sym e.each) all in
+    let claimed_all = All-same (λ (c : Claimed). Q c.summaries) (map (claimed_line f) e.claims) done (sym e.each) all in
     subst (λ y. Q (f y)) there.2 (claimed_at Q f e.claims there.0 claimed_all there.1)
 
 over_range : (Q : Summary → Type 0) (f : ℕ → List Summary) (a n : ℕ) → ((x : ℕ) → x < a + n → All Q (f x)) → All Q (flat_map f (range_with_len a n))

@@ -7,8 +7,8 @@ use Rattle.profile_pool.specs.declared.work.Work.{Work}
 use Rattle.profile_pool.specs.Choices.{choice_of}
 
 -- all but the state
-abbrev pub made : {State : Type 0} → Seen State → Seen (Unit {0})
-made seen = record {
+abbrev pub parts_made : {State : Type 0} → Seen State → Seen (Unit {0})
+parts_made seen = record {
   image = seen.image;
   index = seen.index;
   points = seen.points;

@@ -8,7 +8,7 @@ use Rattle.profile_pool.specs.declared.work.Work.{Work}
 use Rattle.machines.specs.Delayed.{unbegun}
 use Rattle.virtual_run.specs.Seen.{experiment_of}
 use Rattle.profile_pool.specs.Summaries.{summary_in}
-use Rattle.profile_pool.specs.Made.{made, made_for}
+use Rattle.profile_pool.specs.Made.{parts_made, made_for}
 
 -- the summary of the run of a pair
 abbrev pub summary_of_pair : Work → Experiment → Summary
@@ -25,6 +25,6 @@ pub record IsWork (work : Work) : Type 0 where
   pub lines : All (λ (pair : Experiment). pair.line.0 < length work.index.now.lines) work.plan.now
   pub some_budget : 1 ≤ work.budget
   pub few : work.budget ≤ 10 ^ 12
-  pub first : made work.first.now ≡ made_for work (Some 0) 0
+  pub first : parts_made work.first.now ≡ made_for work (Some 0) 0
   pub unbegun : work.first.now.state
       ≡ record { state = unbegun (experiment_of work.first.now); harts = 0 ∷ [] }

@@ -9,29 +9,29 @@ use Rattle.experiment_claims.specs.Drawn.{times, once_below}
 use Rattle.profile_pool.specs.declared.claimed.Claimed.{Claimed}
 
 -- a claim with its summaries by f
-abbrev pub claimed : (ℕ → List Summary) → ℕ → Claimed
-claimed f claim = record { claim = claim; summaries = f claim }
+abbrev pub claimed_line : (ℕ → List Summary) → ℕ → Claimed
+claimed_line f claim = record { claim = claim; summaries = f claim }
 
 -- the numbers that are claims
 abbrev pub claims_in : ℕ → List ℕ → List ℕ
 claims_in bound numbers = filter (λ n. nat_lt n bound) numbers
 
 -- how many of the numbers are no claims
-abbrev pub past : ℕ → List ℕ → ℕ
-past bound numbers = count_by (λ n. nat_le bound n) numbers
+abbrev pub count_past : ℕ → List ℕ → ℕ
+count_past bound numbers = count_by (λ n. nat_le bound n) numbers
 
 -- Of some turns, spent or not: each claim that was drawn has its summaries, in the order
 -- of drawing, and so many draws met the bound. It holds of a seat, and of seats that were joined.
 pub record Worked (f : ℕ → List Summary) (bound turns stops : ℕ) (h : Hand)
     (done : List Claimed) : Type 0 where
   pub all : h.turns + length h.numbers ≡ turns
-  pub each : done ≡ map (claimed f) (claims_in bound h.numbers)
-  pub stopped : past bound h.numbers ≡ stops
+  pub each : done ≡ map (claimed_line f) (claims_in bound h.numbers)
+  pub stopped : count_past bound h.numbers ≡ stops
 
 -- each claim below n has its summaries, once
 pub record EachClaim (f : ℕ → List Summary) (n : ℕ) (done : List Claimed) : Type 0 where
   pub claims : List ℕ
-  pub each : done ≡ map (claimed f) claims
+  pub each : done ≡ map (claimed_line f) claims
   pub once : (x : ℕ) → times x claims ≡ once_below x n
 
 abbrev pub kept_summaries : Claimed → List Summary

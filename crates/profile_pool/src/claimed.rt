@@ -4,7 +4,7 @@ ghost use Rattle.coz_types.specs.declared.TheConstants.{GREATEST_SPEEDUP};
 ghost use Rattle.coz_types.specs.Ranges.{IsSummary};
 ghost use Rattle.experiment_plan.specs.ByLine.{by_line};
 ghost use Rattle.experiment_plan.specs.declared.experiment.Experiment.{Experiment};
-ghost use Rattle.profile_pool.specs.Made.{made, made_for, IsFor, AreFor};
+ghost use Rattle.profile_pool.specs.Made.{parts_made, made_for, IsFor, AreFor};
 ghost use Rattle.profile_pool.specs.Work.{summary_of_pair, work_at, IsWork};
 
 use crate::job::Runner;
@@ -29,7 +29,7 @@ pub struct Claimed {
 fn take_up<'a>(work: &Work<'a>, lead: &mut Lead<'a>, line: LineId)
     requires work { IsWork work.now }
     requires lead { IsFor work.now lead.old }
-    ensures { made lead.new ≡ made_for work.now (Some line.0) 0 }
+    ensures { parts_made lead.new ≡ made_for work.now (Some line.0) 0 }
 {
     lead.again(work.first, line);
     lead.run();
@@ -45,7 +45,7 @@ fn run_pair<'a>(
 ) -> Result<Summary, AllocError>
     requires line { pair.line.0 < length work.now.index.now.lines }
     requires speedup { pair.speedup ≤ GREATEST_SPEEDUP }
-    requires lead { made lead.now ≡ made_for work.now (Some pair.line.0) 0 }
+    requires lead { parts_made lead.now ≡ made_for work.now (Some pair.line.0) 0 }
     requires machine { IsFor work.now machine.old }
     ensures machine { IsFor work.now machine.new }
     ensures summary { IfOk result (λ summary. summary ≡ summary_of_pair work.now pair) }
@@ -74,7 +74,7 @@ fn run_pairs<'a>(
         pair.line.0 < length work.now.index.now.lines) pairs.now }
     requires speedups { All (λ (pair : Experiment). pair.speedup ≤ GREATEST_SPEEDUP) pairs.now }
     requires lead { All (λ (pair : Experiment).
-        made lead.now ≡ made_for work.now (Some pair.line.0) 0) pairs.now }
+        parts_made lead.now ≡ made_for work.now (Some pair.line.0) 0) pairs.now }
     requires machine { IsFor work.now machine.old }
     ensures machine { IsFor work.now machine.new }
     ensures summaries { IfOk result (λ summaries.

@@ -7,15 +7,15 @@ use Rattle.std.specs.Fmt.{digits}
 use Rattle.std.proofs.lemmas.Slice.Eq.{bytes_eq-Decides}
 use Rattle.std.proofs.lemmas.Bool.{leb-true, ltb-true}
 use Rattle.coz_types.specs.Labels.{Text, is_label, label_before, is_decimal}
-use Rattle.coz_types.specs.Ranges.{most}
+use Rattle.coz_types.specs.Ranges.{greatest_number}
 use Rattle.coz_types.specs.declared.record.Summary.{Summary}
 use Rattle.profile_reader.specs.declared.fault.BookField.{BookField}
 use Rattle.profile_reader.specs.declared.fault.BookField.TheVariants.{Head, Version, Budget, Points, Point, Index, Name, Experiment, Selected, Speedup, Output, Length, Digest, Throughput, Delta, Visits, Newline}
 use Rattle.profile_reader.specs.declared.fault.BookFault.{BookFault}
-use Rattle.profile_book.specs.Profile.{field, number_field, hex_text, rises}
+use Rattle.profile_book.specs.Profile.{field, number_field, hex_text, is_rising}
 use Rattle.coz_types.specs.Ranges.{IsDigest}
 use Rattle.profile_reader.specs.Grammar.{value_in, number_in, field_name, is_field, has_number, has_label, is_lower_hex, is_digest, comes_after, not_before, goes_on}
-use Rattle.profile_reader.specs.Reading.{Ahead, bind, item_at, judged, word_at, number_at, label_at, speedup_at, is_speedup, digest_at, bytes_in, lower_value, head_at, name_at, names_at, count_at, counts_at, selection_at, output_at, visits_at, selected_of, speedup_of}
+use Rattle.profile_reader.specs.Reading.{Ahead, bind, item_at, judged_item, word_at, number_at, label_at, speedup_at, is_speedup, digest_at, bytes_in, lower_value, head_at, name_at, names_at, count_at, counts_at, selection_at, output_at, visits_at, selected_of, speedup_of}
 use Rattle.profile_reader.proofs.FieldSteps.{both, same_bytes, all_below, below}
 use Rattle.profile_reader.proofs.Spellings.{is_written}
 use Rattle.profile_reader.proofs.LineSteps.{IsHead, IsOutput, IsSelection, rises_after}
@@ -62,7 +62,7 @@ item_again {X} kind passes value text x d e = record {
   so = λ rest place.
       let a : Ahead = record { items = text ∷ rest; place = place } in
       let b : Ahead = record { items = rest; place = place + length text } in
-      (place + length text, ap (λ (c : Bool). judged c kind (value text) a) d ∙ ap (λ (y : X). let r : Result (X × Ahead) BookFault = Ok (y, b) in r) e);
+      (place + length text, ap (λ (c : Bool). judged_item c kind (value text) a) d ∙ ap (λ (y : X). let r : Result (X × Ahead) BookFault = Ok (y, b) in r) e);
 }
 
 pub word_again : (kind : BookField) (text : Text) → ReadsOn (λ a. word_at kind text a) (text ∷ []) tt
@@ -163,7 +163,7 @@ head_items h = codes "coz-ticks" ∷ codes "\tversion=1" ∷ number_field (codes
 pub head_again : (h : ℕ × ℕ) → IsHead h → ReadsOn head_at (head_items h) h
 unfolding head_at
 head_again h is =
-    and_then _ (word_again Head (codes "coz-ticks")) (and_then _ (word_again Version (codes "\tversion=1")) (and_then _ (number_again Budget most h.0 (λ _. refl) (omega arith) is.budget)
+    and_then _ (word_again Head (codes "coz-ticks")) (and_then _ (word_again Version (codes "\tversion=1")) (and_then _ (number_again Budget greatest_number h.0 (λ _. refl) (omega arith) is.budget)
     (and_then _ (number_again Points 64 h.1 (λ _. refl) (omega arith) is.points) (and_then _ (word_again Newline (codes "\n")) reads_end))))
 
 abbrev pub name_items : ℕ → Text → List Text
@@ -178,9 +178,9 @@ abbrev pub names_items : ℕ → List Text → List Text
 names_items index [] = []
 names_items index (name ∷ names) = name_items index name ++ names_items (suc index) names
 
-first_rises : (last : Option Text) (name : Text) (names : List Text) → rises_after label_before last (name ∷ names) ≡ true → (comes_after last name ≡ true) × (rises label_before (name ∷ names) ≡ true)
+first_rises : (last : Option Text) (name : Text) (names : List Text) → rises_after label_before last (name ∷ names) ≡ true → (comes_after last name ≡ true) × (is_rising label_before (name ∷ names) ≡ true)
 first_rises None name names e = (refl, e)
-first_rises (Some last) name names e = both (label_before last name) (rises label_before (name ∷ names)) e
+first_rises (Some last) name names e = both (label_before last name) (is_rising label_before (name ∷ names)) e
 
 pub names_again : (names : List Text) (index : ℕ) (last : Option Text) → list_all is_label names ≡ true → rises_after label_before last names ≡ true → ReadsOn (names_at (length names) index last) (names_items index names) names
 unfolding names_at
@@ -223,7 +223,7 @@ output_items x = codes "output" ∷ number_field (codes "length") x.0 ∷ field 
 pub output_again : (x : ℕ × List ℕ) → IsOutput x → ReadsOn output_at (output_items x) x
 unfolding output_at
 output_again x is =
-    and_then _ (word_again Output (codes "output")) (and_then _ (number_again Length most x.0 (λ _. refl) (omega arith) is.size) (and_then _ (digest_again x.1 is.digest) (and_then _ (word_again Newline (codes "\n")) reads_end)))
+    and_then _ (word_again Output (codes "output")) (and_then _ (number_again Length greatest_number x.0 (λ _. refl) (omega arith) is.size) (and_then _ (digest_again x.1 is.digest) (and_then _ (word_again Newline (codes "\n")) reads_end)))
 
 abbrev pub visits_items : List ℕ → List Text
 visits_items bytes = codes "visits" ∷ field (codes "sha256") (hex_text bytes) ∷ codes "\n" ∷ []

@@ -4,7 +4,7 @@ use Rattle.std.specs.List.{AllByRecursion}
 use Rattle.std.specs.Str.{bytes_eq}
 use Rattle.coz_types.specs.Labels.{Text, label_before}
 use Rattle.coz_types.specs.Endings.{ending_text}
-use Rattle.coz_types.specs.Ranges.{most, is_ending}
+use Rattle.coz_types.specs.Ranges.{greatest_number, is_ending}
 use Rattle.profile_reader.specs.EndingSpellings.{is_ending_text}
 use Rattle.coz_types.specs.declared.ending.Ending.{Ending}
 use Rattle.coz_types.specs.declared.record.Outcome.{Outcome}
@@ -12,7 +12,7 @@ use Rattle.coz_types.specs.declared.record.Summary.{Summary}
 use Rattle.profile_book.specs.declared.profile.Profile.{Profile}
 use Rattle.profile_reader.specs.declared.fault.BookField.TheVariants.{End, Time, Delay, Retired, Starts, Newline}
 use Rattle.profile_reader.specs.declared.fault.BookFault.{BookFault}
-use Rattle.profile_book.specs.Profile.{field, number_field, IsProfile, rises, summary_before}
+use Rattle.profile_book.specs.Profile.{field, number_field, IsProfile, is_rising, summary_before}
 use Rattle.coz_types.specs.Ranges.{IsSummary}
 use Rattle.profile_reader.specs.Grammar.{is_field, value_in}
 use Rattle.profile_reader.specs.Reading.{Ahead, bind, ending_at, ending_in, outcome_at, block_at, blocks_at, profile_at, counts_at}
@@ -35,8 +35,8 @@ outcome_again : (o : Outcome) → IsOutcome o → ReadsOn outcome_at (outcome_it
 unfolding outcome_at
 outcome_again o is =
     let le = is.time in
-    and_then _ (ending_again o.ending is.ending) (and_then _ (number_again Time most o.time (λ _. refl) (omega arith) is.time) (and_then _ (number_again Delay o.time o.delay (λ _. refl) (omega arith) is.delay)
-    (and_then _ (number_again Retired most o.retired (λ _. refl) (omega arith) is.retired) (and_then _ (number_again Starts most o.starts (λ _. refl) (omega arith) is.starts) (and_then _ (word_again Newline (codes "\n")) reads_end)))))
+    and_then _ (ending_again o.ending is.ending) (and_then _ (number_again Time greatest_number o.time (λ _. refl) (omega arith) is.time) (and_then _ (number_again Delay o.time o.delay (λ _. refl) (omega arith) is.delay)
+    (and_then _ (number_again Retired greatest_number o.retired (λ _. refl) (omega arith) is.retired) (and_then _ (number_again Starts greatest_number o.starts (λ _. refl) (omega arith) is.starts) (and_then _ (word_again Newline (codes "\n")) reads_end)))))
 
 abbrev pub block_items : Summary → List Text
 block_items s = selection_items (s.selected, s.speedup) ++ (outcome_items s.outcome ++ (output_items (s.length, s.output.bytes) ++ (counts_items 0 s.counts ++ visits_items s.visits.bytes)))
@@ -67,9 +67,9 @@ abbrev pub blocks_items : List Summary → List Text
 blocks_items [] = []
 blocks_items (s ∷ summaries) = block_items s ++ blocks_items summaries
 
-next_after : (last : Option Summary) (s : Summary) (summaries : List Summary) → rises_after summary_before last (s ∷ summaries) ≡ true → ComesAfter last s × (rises summary_before (s ∷ summaries) ≡ true)
+next_after : (last : Option Summary) (s : Summary) (summaries : List Summary) → rises_after summary_before last (s ∷ summaries) ≡ true → ComesAfter last s × (is_rising summary_before (s ∷ summaries) ≡ true)
 next_after None s summaries e = (tt, e)
-next_after (Some last) s summaries e = both (summary_before last s) (rises summary_before (s ∷ summaries)) e
+next_after (Some last) s summaries e = both (summary_before last s) (is_rising summary_before (s ∷ summaries)) e
 
 blocks_again : (summaries : List Summary) (left all : ℕ) (last : Option Summary) (place : ℕ) → length summaries ≤ left → AllByRecursion (IsSummary all) summaries → rises_after summary_before last summaries ≡ true
     → blocks_at left all last (record { items = blocks_items summaries; place = place }) ≡ Ok summaries

@@ -7,9 +7,9 @@ use Rattle.std.specs.Fmt.{digits}
 use Rattle.std.proofs.lemmas.Fmt.{decimal_is_IsNumeral, digits_is_IsNumeral}
 use Rattle.std.proofs.lemmas.Bool.{leb-true}
 use Rattle.std.proofs.lemmas.List.{append-nil}
-use Rattle.coz_types.specs.Labels.{Text, Scan, scans, step, parts_of, line_number, is_decimal, is_label, is_empty, is_written}
+use Rattle.coz_types.specs.Labels.{Text, Scan, is_scanned, scan_step, parts_of, line_number, is_decimal, is_label, is_empty, is_written}
 use Rattle.coz_types.specs.Endings.{ending_text, address_text, cause_text}
-use Rattle.coz_types.specs.Ranges.{most, is_ending, last_word}
+use Rattle.coz_types.specs.Ranges.{greatest_number, is_ending, last_word}
 use Rattle.coz_types.specs.declared.ending.Ending.{Ending}
 use Rattle.coz_types.specs.declared.ending.Ending.TheVariants.{Exited, Trapped, Unsupported, Clock, OutputFull, VisitsFull, Stalled, Spent}
 use Rattle.coz_types.specs.declared.ending.TrapCause.{TrapCause}
@@ -131,17 +131,17 @@ lower_plain (b ∷ text) e =
 hex_plain : (bytes : List ℕ) → IsDigest bytes → plain (hex_text bytes) ≡ true
 hex_plain bytes is = lower_plain (hex_text bytes) (hex_is bytes is.bytes_fit).lower
 
-stops : (at : Scan) → (step at 9 ≡ None) × (step at 10 ≡ None)
+stops : (at : Scan) → (scan_step at 9 ≡ None) × (scan_step at 10 ≡ None)
 stops None = (refl, refl)
 stops (Some None) = (refl, refl)
 stops (Some (Some high)) = (refl, refl)
 
-scan_plain : (at : Option Scan) (text : Text) → scans at text ≡ true → plain text ≡ true
+scan_plain : (at : Option Scan) (text : Text) → is_scanned at text ≡ true → plain text ≡ true
 scan_plain None text e = absurd cc
 scan_plain (Some at) [] e = refl
 scan_plain (Some at) (b ∷ rest) e =
     let h = stops at in
-    and_both _ _ (no_cut b (λ n. scans (step at n) rest ≡ true) e (λ e. let never : false ≡ true = sym (ap (λ (s : Option Scan). scans s rest) h.0) ∙ e in absurd cc) (λ e. let never : false ≡ true = sym (ap (λ (s : Option Scan). scans s rest) h.1) ∙ e in absurd cc)) (scan_plain (step at b) rest e)
+    and_both _ _ (no_cut b (λ n. is_scanned (scan_step at n) rest ≡ true) e (λ e. let never : false ≡ true = sym (ap (λ (s : Option Scan). is_scanned s rest) h.0) ∙ e in absurd cc) (λ e. let never : false ≡ true = sym (ap (λ (s : Option Scan). is_scanned s rest) h.1) ∙ e in absurd cc)) (scan_plain (scan_step at b) rest e)
 
 line_number_plain : (text : Text) → nat_lt 0 (line_number text) ≡ true → plain text ≡ true
 line_number_plain text e = by (is_decimal 4294967295 text) refl e
@@ -215,7 +215,7 @@ ending_plain (Trapped trap) e =
 
 -- ---- the lines
 
-head_cut : (h : ℕ × ℕ) → h.0 ≤ most → h.1 ≤ 64 → AreCut (head_items h)
+head_cut : (h : ℕ × ℕ) → h.0 ≤ greatest_number → h.1 ≤ 64 → AreCut (head_items h)
 head_cut h budget points = line_cut (codes "coz-ticks") (codes "version=1" ∷ (codes "budget" ++ 61 ∷ decimal h.0) ∷ (codes "points" ++ 61 ∷ decimal h.1) ∷ []) refl (refl, (decimal_plain h.0 (omega arith), (decimal_plain h.1 (omega arith), tt)))
 
 names_cut : (names : List Text) (index : ℕ) → length names + index ≤ 64 → list_all is_label names ≡ true → AreCut (names_items index names)

@@ -14,7 +14,7 @@ use Rattle.coz_types.specs.declared.ending.TrapCause.{TrapCause}
 use Rattle.coz_types.specs.declared.ending.TrapCause.TheVariants.{Fetch, Illegal, Misaligned, Access, Break}
 use Rattle.profile_reader.specs.Reading.{Ahead, ending_at, ending_in, ending_in_parts, cause_in}
 use Rattle.profile_book.specs.Profile.{field}
-use Rattle.profile_reader.specs.Grammar.{Before, expected, size, is_field, value_in}
+use Rattle.profile_reader.specs.Grammar.{Before, expected_field, size, is_field, value_in}
 use Rattle.profile_reader.specs.declared.fault.BookField.TheVariants.{End}
 use Rattle.profile_reader.proofs.Steps.{Explains, item_step}
 use Rattle.profile_reader.proofs.FieldSteps.{both, same_bytes}
@@ -99,7 +99,7 @@ ending_is text e =
     let h = parts_are (slice_split (λ b. b == 58) text) e in
     record { spelled = sym (join_with_byte-slice_split 58 text) ∙ h.spelled; range = h.range }
 
-pub ending_step : {before : Before} {a : Ahead} → expected before ≡ End → a.place ≡ size before
+pub ending_step : {before : Before} {a : Ahead} → expected_field before ≡ End → a.place ≡ size before
     → Explains (λ (ending : Ending). (End, field (codes "end") (ending_text ending)) ∷ before) (λ (ending : Ending). is_ending ending ≡ true) before a (ending_at a)
 unfolding ending_at
 ending_step {before = before} {a = a} e place =

@@ -8,7 +8,7 @@ use Rattle.std.proofs.lemmas.Bool.{leb-true, ltb-true, le-leb}
 use Rattle.coz_types.specs.Labels.{Text, is_decimal, is_label}
 use Rattle.profile_reader.specs.declared.fault.BookField.{BookField}
 use Rattle.profile_reader.specs.declared.fault.BookField.TheVariants.{Digest, Speedup}
-use Rattle.profile_reader.specs.Grammar.{Before, expected, is_right, may_end, size, has_number, has_label, is_field, number_in, value_in, field_name, goes_on, is_digest, is_lower_hex}
+use Rattle.profile_reader.specs.Grammar.{Before, expected_field, is_right, may_end, size, has_number, has_label, is_field, number_in, value_in, field_name, goes_on, is_digest, is_lower_hex}
 use Rattle.profile_book.specs.Profile.{field, number_field, hex_text}
 use Rattle.coz_types.specs.Ranges.{IsDigest}
 use Rattle.profile_reader.specs.Reading.{Ahead, word_at, number_at, label_at, speedup_at, is_speedup, digest_at, bytes_in, lower_value}
@@ -21,7 +21,7 @@ both false y e = absurd cc
 pub same_bytes : (a b : Text) → bytes_eq a b ≡ true → a ≡ b
 same_bytes a b e = (bytes_eq-Decides a b).0 e
 
-pub word_step : (kind : BookField) (text : Text) {before : Before} {a : Ahead} → expected before ≡ kind → ((item : Text) → is_right kind before item ≡ bytes_eq item text) → bytes_eq [] text ≡ false
+pub word_step : (kind : BookField) (text : Text) {before : Before} {a : Ahead} → expected_field before ≡ kind → ((item : Text) → is_right kind before item ≡ bytes_eq item text) → bytes_eq [] text ≡ false
     → (a.items ≡ [] → may_end kind ≡ false) → a.place ≡ size before
     → Explains (λ (x : Unit {0}). (kind, text) ∷ before) (λ (x : Unit {0}). Unit {0}) before a (word_at kind text a)
 unfolding word_at
@@ -35,7 +35,7 @@ number_spelled kind top item d =
     let k = both (bytes_eq (value_in kind item) (decimal (number_in kind item))) (nat_le (number_in kind item) top) h.1 in
     (same_bytes _ _ h.0 ∙ ap (λ (t : Text). field (field_name kind) t) (same_bytes _ _ k.0), leb-true _ _ k.1)
 
-pub number_step : (kind : BookField) (top : ℕ) {before : Before} {a : Ahead} → expected before ≡ kind → ((item : Text) → is_right kind before item ≡ has_number kind top item)
+pub number_step : (kind : BookField) (top : ℕ) {before : Before} {a : Ahead} → expected_field before ≡ kind → ((item : Text) → is_right kind before item ≡ has_number kind top item)
     → may_end kind ≡ false → a.place ≡ size before
     → Explains (λ (n : ℕ). (kind, number_field (field_name kind) n) ∷ before) (λ (n : ℕ). n ≤ top) before a (number_at kind top a)
 unfolding number_at
@@ -48,7 +48,7 @@ pub record IsLabelThat (passes : Text → Bool) (label : Text) : Type 0 where
   pub form : is_label label ≡ true
   pub order : passes label ≡ true
 
-pub label_step : (kind : BookField) (passes : Text → Bool) {before : Before} {a : Ahead} → expected before ≡ kind → ((item : Text) → is_right kind before item ≡ has_label kind passes item)
+pub label_step : (kind : BookField) (passes : Text → Bool) {before : Before} {a : Ahead} → expected_field before ≡ kind → ((item : Text) → is_right kind before item ≡ has_label kind passes item)
     → may_end kind ≡ false → a.place ≡ size before
     → Explains (λ (label : Text). (kind, field (field_name kind) label) ∷ before) (IsLabelThat passes) before a (label_at kind passes a)
 unfolding label_at
@@ -69,7 +69,7 @@ pub record IsSpeedupThat (last : Option Text) (least : ℕ) (label : Text) (n : 
   pub range : n ≤ 95
   pub order : goes_on last least label n ≡ true
 
-pub speedup_step : (last : Option Text) (least : ℕ) (label : Text) {before : Before} {a : Ahead} → expected before ≡ Speedup → ((item : Text) → is_right Speedup before item ≡ is_speedup last least label item)
+pub speedup_step : (last : Option Text) (least : ℕ) (label : Text) {before : Before} {a : Ahead} → expected_field before ≡ Speedup → ((item : Text) → is_right Speedup before item ≡ is_speedup last least label item)
     → a.place ≡ size before
     → Explains (λ (n : ℕ). (Speedup, number_field (codes "speedup") n) ∷ before) (IsSpeedupThat last least label) before a (speedup_at last least label a)
 unfolding speedup_at
@@ -158,7 +158,7 @@ hex_again (suc k) (h ∷ l ∷ rest) e all =
     ∙ ap (λ (t : Text). (h ∷ []) ++ t) low.1 in
     (sym (ap (λ (t : Text). t ++ hex_text (bytes_in rest)) first ∙ ap (λ (t : Text). h ∷ l ∷ t) (sym more.0)), ap suc more.1, ap (λ (c : Bool). c && list_all (λ b. nat_lt b 256) (bytes_in rest)) fits ∙ more.2)
 
-pub digest_step : {before : Before} {a : Ahead} → expected before ≡ Digest → a.place ≡ size before
+pub digest_step : {before : Before} {a : Ahead} → expected_field before ≡ Digest → a.place ≡ size before
     → Explains (λ (bytes : List ℕ). (Digest, field (codes "sha256") (hex_text bytes)) ∷ before) IsDigest before a (digest_at a)
 unfolding digest_at
 digest_step {before = before} {a = a} e place =

@@ -7,13 +7,13 @@ use Rattle.std.proofs.lemmas.Fmt.{decimal_is_IsNumeral}
 use Rattle.std.proofs.lemmas.Bool.{le-leb}
 use Rattle.coz_types.specs.Labels.{Text, is_label, label_before}
 use Rattle.coz_types.specs.Endings.{ending_text}
-use Rattle.coz_types.specs.Ranges.{most, is_ending}
+use Rattle.coz_types.specs.Ranges.{greatest_number, is_ending}
 use Rattle.coz_types.specs.declared.record.Outcome.{Outcome}
 use Rattle.coz_types.specs.declared.record.Summary.{Summary}
 use Rattle.profile_reader.specs.declared.fault.BookField.TheVariants.{Head, Version, Budget, Points, Point, Index, Name, Experiment, Selected, Speedup, End, Time, Delay, Retired, Starts, Output, Length, Digest, Throughput, Delta, Visits, Newline}
-use Rattle.profile_book.specs.Profile.{field, number_field, hex_text, rises}
+use Rattle.profile_book.specs.Profile.{field, number_field, hex_text, is_rising}
 use Rattle.coz_types.specs.Ranges.{IsDigest}
-use Rattle.profile_reader.specs.Grammar.{Before, expected, size, latest, latest_number, point_count, names_in, counts_in, has_number, has_label, comes_after, not_before, goes_on}
+use Rattle.profile_reader.specs.Grammar.{Before, expected_field, size, latest, latest_number, point_count, names_in, counts_in, has_number, has_label, comes_after, not_before, goes_on}
 use Rattle.profile_reader.specs.Reading.{Ahead, head_at, name_at, names_at, count_at, counts_at, outcome_at, selection_at, output_at, visits_at, selected_of, speedup_of, is_speedup}
 use Rattle.profile_reader.proofs.Steps.{Explains, follow, stays}
 use Rattle.profile_reader.proofs.FieldSteps.{word_step, number_step, label_step, speedup_step, digest_step, IsLabelThat}
@@ -25,7 +25,7 @@ abbrev pub head_before : ℕ × ℕ → Before
 head_before h = (Newline, codes "\n") ∷ (Points, number_field (codes "points") h.1) ∷ (Budget, number_field (codes "budget") h.0) ∷ (Version, codes "\tversion=1") ∷ (Head, codes "coz-ticks") ∷ []
 
 pub record IsHead (h : ℕ × ℕ) : Type 0 where
-  pub budget : h.0 ≤ most
+  pub budget : h.0 ≤ greatest_number
   pub points : h.1 ≤ 64
 
 pub head_line : {a : Ahead} → a.place ≡ 0 → Explains head_before IsHead [] a (head_at a)
@@ -33,7 +33,7 @@ unfolding head_at
 head_line start =
     follow _ (word_step Head (codes "coz-ticks") refl (λ _. refl) refl (λ _. refl) start) (λ _ _ g1 _.
     follow _ (word_step Version (codes "\tversion=1") refl (λ _. refl) refl (λ _. refl) g1.place) (λ _ _ g2 _.
-    follow _ (number_step Budget most refl (λ _. refl) refl g2.place) (λ _ _ g3 budget.
+    follow _ (number_step Budget greatest_number refl (λ _. refl) refl g2.place) (λ _ _ g3 budget.
     follow _ (number_step Points 64 refl (λ _. refl) refl g3.place) (λ _ _ g4 points.
     follow _ (word_step Newline (codes "\n") refl (λ _. refl) refl (λ _. refl) g4.place) (λ _ _ g5 _.
     stays refl g5.place (record { budget = budget; points = points }))))))
@@ -45,7 +45,7 @@ name_before index name before = (Newline, codes "\n") ∷ (Name, field (codes "n
 
 -- where a name may come, after so many of them all
 pub record AtName (all index : ℕ) (last : Option Text) (before : Before) : Type 0 where
-  pub kind : expected before ≡ (if nat_lt index all then Point else Experiment)
+  pub kind : expected_field before ≡ (if nat_lt index all then Point else Experiment)
   pub names : names_in before ≡ index
   pub points : point_count before ≡ all
   pub name : latest Name before ≡ last
@@ -62,7 +62,7 @@ pub name_line : {all index : ℕ} {last : Option Text} {before : Before} {a : Ah
     → Explains (λ (name : Text). name_before index name before) (IsLabelThat (comes_after last)) before a (name_at index last a)
 unfolding name_at
 name_line {all = all} {index = index} {last = last} {before = before} at more place =
-    let here : expected before ≡ Point = at.kind ∙ ap (λ (b : Bool). if b then Point else Experiment) (is_below index all more) in
+    let here : expected_field before ≡ Point = at.kind ∙ ap (λ (b : Bool). if b then Point else Experiment) (is_below index all more) in
     follow _ (word_step Point (codes "point") here (λ _. refl) refl (λ _. refl) place) (λ _ _ g1 _.
     follow _ (word_step Index (number_field (codes "index") index) refl (λ item. ap (λ (n : ℕ). bytes_eq item (number_field (codes "index") n)) at.names) refl (λ _. refl) g1.place) (λ _ _ g2 _.
     follow _ (label_step Name (comes_after last) refl (λ item. ap (λ (l : Option Text). has_label Name (comes_after l) item) at.name) refl g2.place) (λ _ _ g3 name.
@@ -90,17 +90,17 @@ last_of last (x ∷ xs) = last_of (Some x) xs
 
 -- each comes before the next, and the first after the last one before
 abbrev pub rises_after : {A : Type 0} → (A → A → Bool) → Option A → List A → Bool
-rises_after before None xs = rises before xs
-rises_after before (Some x) xs = rises before (x ∷ xs)
+rises_after before None xs = is_rising before xs
+rises_after before (Some x) xs = is_rising before (x ∷ xs)
 
 pub record AreNames (left : ℕ) (last : Option Text) (names : List Text) : Type 0 where
   pub count : length names ≡ left
   pub forms : list_all is_label names ≡ true
   pub rise : rises_after label_before last names ≡ true
 
-name_rises : (last : Option Text) (name : Text) (names : List Text) → comes_after last name ≡ true → rises label_before (name ∷ names) ≡ true → rises_after label_before last (name ∷ names) ≡ true
+name_rises : (last : Option Text) (name : Text) (names : List Text) → comes_after last name ≡ true → is_rising label_before (name ∷ names) ≡ true → rises_after label_before last (name ∷ names) ≡ true
 name_rises None name names first more = more
-name_rises (Some last) name names first more = ap (λ (b : Bool). b && rises label_before (name ∷ names)) first ∙ more
+name_rises (Some last) name names first more = ap (λ (b : Bool). b && is_rising label_before (name ∷ names)) first ∙ more
 
 no_more : (last : Option Text) → rises_after label_before last [] ≡ true
 no_more None = refl
@@ -140,7 +140,7 @@ head_leads h is = let le = is.points in let e = value_again h.1 (omega arith) in
 
 -- a block may come, after the last one
 pub record AtBlock (all : ℕ) (last : Option Summary) (before : Before) : Type 0 where
-  pub kind : expected before ≡ Experiment
+  pub kind : expected_field before ≡ Experiment
   pub points : point_count before ≡ all
   pub selected : latest Selected before ≡ selected_of last
   pub speedup : latest_number Speedup before ≡ speedup_of last
@@ -180,20 +180,20 @@ outcome_before o before =
 
 pub record IsOutcome (o : Outcome) : Type 0 where
   pub ending : is_ending o.ending ≡ true
-  pub time : o.time ≤ most
+  pub time : o.time ≤ greatest_number
   pub delay : o.delay ≤ o.time
-  pub retired : o.retired ≤ most
-  pub starts : o.starts ≤ most
+  pub retired : o.retired ≤ greatest_number
+  pub starts : o.starts ≤ greatest_number
 
-pub outcome_part : {before : Before} {a : Ahead} → expected before ≡ End → a.place ≡ size before
+pub outcome_part : {before : Before} {a : Ahead} → expected_field before ≡ End → a.place ≡ size before
     → Explains (λ (o : Outcome). outcome_before o before) IsOutcome before a (outcome_at a)
 unfolding outcome_at
 outcome_part at place =
     follow _ (ending_step at place) (λ _ _ g1 ending.
-    follow _ (number_step Time most refl (λ _. refl) refl g1.place) (λ time _ g2 le.
+    follow _ (number_step Time greatest_number refl (λ _. refl) refl g1.place) (λ time _ g2 le.
     follow _ (number_step Delay time refl (λ item. ap (λ (n : ℕ). has_number Delay n item) (value_again time (omega arith))) refl g2.place) (λ _ _ g3 delay.
-    follow _ (number_step Retired most refl (λ _. refl) refl g3.place) (λ _ _ g4 retired.
-    follow _ (number_step Starts most refl (λ _. refl) refl g4.place) (λ _ _ g5 starts.
+    follow _ (number_step Retired greatest_number refl (λ _. refl) refl g3.place) (λ _ _ g4 retired.
+    follow _ (number_step Starts greatest_number refl (λ _. refl) refl g4.place) (λ _ _ g5 starts.
     follow _ (word_step Newline (codes "\n") refl (λ _. refl) refl (λ _. refl) g5.place) (λ _ _ g6 _.
     stays refl g6.place (record { ending = ending; time = le; delay = delay; retired = retired; starts = starts })))))))
 
@@ -203,15 +203,15 @@ abbrev pub output_before : ℕ × List ℕ → Before → Before
 output_before x before = (Newline, codes "\n") ∷ (Digest, field (codes "sha256") (hex_text x.1)) ∷ (Length, number_field (codes "length") x.0) ∷ (Output, codes "output") ∷ before
 
 pub record IsOutput (x : ℕ × List ℕ) : Type 0 where
-  pub size : x.0 ≤ most
+  pub size : x.0 ≤ greatest_number
   pub digest : IsDigest x.1
 
-pub output_part : {before : Before} {a : Ahead} → expected before ≡ Output → a.place ≡ size before
+pub output_part : {before : Before} {a : Ahead} → expected_field before ≡ Output → a.place ≡ size before
     → Explains (λ (x : ℕ × List ℕ). output_before x before) IsOutput before a (output_at a)
 unfolding output_at
 output_part at place =
     follow _ (word_step Output (codes "output") at (λ _. refl) refl (λ _. refl) place) (λ _ _ g1 _.
-    follow _ (number_step Length most refl (λ _. refl) refl g1.place) (λ _ _ g2 le.
+    follow _ (number_step Length greatest_number refl (λ _. refl) refl g1.place) (λ _ _ g2 le.
     follow _ (digest_step refl g2.place) (λ _ _ g3 digest.
     follow _ (word_step Newline (codes "\n") refl (λ _. refl) refl (λ _. refl) g3.place) (λ _ _ g4 _.
     stays refl g4.place (record { size = le; digest = digest })))))
@@ -223,7 +223,7 @@ count_before index n before = (Newline, codes "\n") ∷ (Delta, number_field (co
 
 -- where a count may come, after so many of them all, in a block with this label and speedup
 pub record AtCount (all index : ℕ) (label : Text) (speedup : ℕ) (before : Before) : Type 0 where
-  pub kind : expected before ≡ (if nat_lt index all then Throughput else Visits)
+  pub kind : expected_field before ≡ (if nat_lt index all then Throughput else Visits)
   pub counts : counts_in before ≡ index
   pub points : point_count before ≡ all
   pub selected : latest Selected before ≡ Some label
@@ -233,7 +233,7 @@ pub count_line : {all index : ℕ} {label : Text} {speedup : ℕ} {before : Befo
     → Explains (λ (n : ℕ). count_before index n before) (λ (n : ℕ). n ≤ 1000000000) before a (count_at index a)
 unfolding count_at
 count_line {all = all} {index = index} {before = before} at more place =
-    let here : expected before ≡ Throughput = at.kind ∙ ap (λ (b : Bool). if b then Throughput else Visits) (is_below index all more) in
+    let here : expected_field before ≡ Throughput = at.kind ∙ ap (λ (b : Bool). if b then Throughput else Visits) (is_below index all more) in
     follow _ (word_step Throughput (codes "throughput-point") here (λ _. refl) refl (λ _. refl) place) (λ _ _ g1 _.
     follow _ (word_step Index (number_field (codes "index") index) refl (λ item. ap (λ (n : ℕ). bytes_eq item (number_field (codes "index") n)) at.counts) refl (λ _. refl) g1.place) (λ _ _ g2 _.
     follow _ (number_step Delta 1000000000 refl (λ _. refl) refl g2.place) (λ _ _ g3 n.
@@ -278,7 +278,7 @@ counts_lead (n ∷ counts) e at = counts_lead counts (omega arith) (count_leads 
 abbrev pub visits_before : List ℕ → Before → Before
 visits_before bytes before = (Newline, codes "\n") ∷ (Digest, field (codes "sha256") (hex_text bytes)) ∷ (Visits, codes "visits") ∷ before
 
-pub visits_part : {before : Before} {a : Ahead} → expected before ≡ Visits → a.place ≡ size before
+pub visits_part : {before : Before} {a : Ahead} → expected_field before ≡ Visits → a.place ≡ size before
     → Explains (λ (bytes : List ℕ). visits_before bytes before) IsDigest before a (visits_at a)
 unfolding visits_at
 visits_part at place =

@@ -3,14 +3,14 @@ use Rattle.std.proofs.Common.{rules, ◌≡◌, ℕ, zero, suc, ◌+◌, ◌*◌
 use Rattle.std.specs.List.{list_all}
 use Rattle.std.proofs.lemmas.List.{take_more_set}
 use Rattle.std.proofs.Math.ListN.{set}
-use Rattle.coz_types.specs.Labels.{Text, Scan, scans, step, parts_of}
+use Rattle.coz_types.specs.Labels.{Text, Scan, is_scanned, scan_step, parts_of}
 use Rattle.profile_reader.specs.Grammar.{is_lower_hex, is_digest}
 use Rattle.profile_reader.specs.Reading.{bytes_in, lower_value}
 use Rattle.profile_reader.proofs.FieldSteps.{both}
 
 -- ---- the scan of a path
 
-pub scan_on : (at : Scan) (path : Text) (i : ℕ) → i < length path → scans (Some at) (drop i path) ≡ scans (step at (get_or path i 0)) (drop (i + 1) path)
+pub scan_on : (at : Scan) (path : Text) (i : ℕ) → i < length path → is_scanned (Some at) (drop i path) ≡ is_scanned (scan_step at (get_or path i 0)) (drop (i + 1) path)
 scan_on at path i lt = rw (add-one, drop-cons path i 0) refl
 
 pub nothing_left : (text : Text) (i : ℕ) → length text ≤ i → drop i text ≡ []

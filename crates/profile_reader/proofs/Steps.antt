@@ -4,8 +4,8 @@ use Rattle.std.specs.List.{concat}
 use Rattle.coz_types.specs.Labels.{Text}
 use Rattle.profile_reader.specs.declared.fault.BookField.{BookField}
 use Rattle.profile_reader.specs.declared.fault.BookFault.{BookFault}
-use Rattle.profile_reader.specs.Grammar.{Before, expected, is_right, may_end, size, fault, first_fault}
-use Rattle.profile_reader.specs.Reading.{Ahead, bind, item_at, judged}
+use Rattle.profile_reader.specs.Grammar.{Before, expected_field, is_right, may_end, size, fault, first_fault}
+use Rattle.profile_reader.specs.Reading.{Ahead, bind, item_at, judged_item}
 
 -- the bytes of the items so far
 abbrev pub text_of : Before → Text
@@ -71,19 +71,19 @@ stays {b = b} e place q = record {
 
 -- what a reader of one item needs: the definition expects this kind, asks this of the item, and an item that passes is the spelling of its value
 pub record Judges {X : Type 0} (kind : BookField) (before : Before) (passes : Text → Bool) (value : Text → X) (spelled : X → Text) (P : X → Type 0) : Type 0 where
-  pub kind_is : expected before ≡ kind
+  pub kind_is : expected_field before ≡ kind
   pub same : (item : Text) → is_right kind before item ≡ passes item
   pub some : passes [] ≡ false
   pub spells : (item : Text) → passes item ≡ true → (item ≡ spelled (value item)) × P (value item)
 
-right_goes_on : (before : Before) (item : Text) (items : List Text) → is_right (expected before) before item ≡ true → first_fault before (item ∷ items) ≡ first_fault ((expected before, item) ∷ before) items
-right_goes_on before item items e = ap (λ (b : Bool). elim b [ true ↦ first_fault ((expected before, item) ∷ before) items | false ↦ Some (fault (expected before) before) ]) e
+right_goes_on : (before : Before) (item : Text) (items : List Text) → is_right (expected_field before) before item ≡ true → first_fault before (item ∷ items) ≡ first_fault ((expected_field before, item) ∷ before) items
+right_goes_on before item items e = ap (λ (b : Bool). elim b [ true ↦ first_fault ((expected_field before, item) ∷ before) items | false ↦ Some (fault (expected_field before) before) ]) e
 
-wrong_stops : (before : Before) (item : Text) (items : List Text) → is_right (expected before) before item ≡ false → first_fault before (item ∷ items) ≡ Some (fault (expected before) before)
-wrong_stops before item items e = ap (λ (b : Bool). elim b [ true ↦ first_fault ((expected before, item) ∷ before) items | false ↦ Some (fault (expected before) before) ]) e
+wrong_stops : (before : Before) (item : Text) (items : List Text) → is_right (expected_field before) before item ≡ false → first_fault before (item ∷ items) ≡ Some (fault (expected_field before) before)
+wrong_stops before item items e = ap (λ (b : Bool). elim b [ true ↦ first_fault ((expected_field before, item) ∷ before) items | false ↦ Some (fault (expected_field before) before) ]) e
 
-ends_early : (before : Before) → may_end (expected before) ≡ false → first_fault before [] ≡ Some (fault (expected before) before)
-ends_early before e = ap (λ (b : Bool). if b then None else Some (fault (expected before) before)) e
+ends_early : (before : Before) → may_end (expected_field before) ≡ false → first_fault before [] ≡ Some (fault (expected_field before) before)
+ends_early before e = ap (λ (b : Bool). if b then None else Some (fault (expected_field before) before)) e
 
 pub item_step : {X : Type 0} (kind : BookField) (before : Before) (passes : Text → Bool) (value : Text → X) (spelled : X → Text) (P : X → Type 0) (a : Ahead)
     → Judges kind before passes value spelled P
@@ -92,22 +92,22 @@ pub item_step : {X : Type 0} (kind : BookField) (before : Before) (passes : Text
     → Explains (λ (x : X). (kind, spelled x) ∷ before) P before a (item_at kind passes value a)
 item_step {X} kind before passes value spelled P a judges goes place = record { so = from a.items a.place goes place }
   where
-    fault_is : (place : ℕ) → place ≡ size before → Some (fault (expected before) before) ≡ Some (record { field = kind; place = place })
+    fault_is : (place : ℕ) → place ≡ size before → Some (fault (expected_field before) before) ≡ Some (record { field = kind; place = place })
     fault_is place e = ap (λ (k : BookField). Some (fault k before)) judges.kind_is ∙ ap (λ (n : ℕ). let f : BookFault = record { field = kind; place = n } in Some f) (sym e)
 
     from : (items : List Text) (place : ℕ) → (items ≡ [] → may_end kind ≡ false) → place ≡ size before
         → IsAnswer (λ (x : X). (kind, spelled x) ∷ before) P before (record { items = items; place = place }) (item_at kind passes value (record { items = items; place = place }))
     from [] place goes e = by (passes []) refl
       where
-        by : (c : Bool) → passes [] ≡ c → IsAnswer (λ (x : X). (kind, spelled x) ∷ before) P before (record { items = []; place = place }) (judged c kind (value []) (record { items = []; place = place }))
+        by : (c : Bool) → passes [] ≡ c → IsAnswer (λ (x : X). (kind, spelled x) ∷ before) P before (record { items = []; place = place }) (judged_item c kind (value []) (record { items = []; place = place }))
         by true d = let never : true ≡ false = sym d ∙ judges.some in absurd cc
         by false d = ends_early before (ap may_end judges.kind_is ∙ goes refl) ∙ fault_is place e
     from (item ∷ items) place goes e = by (passes item) refl
       where
-        asks : is_right (expected before) before item ≡ passes item
+        asks : is_right (expected_field before) before item ≡ passes item
         asks = ap (λ (k : BookField). is_right k before item) judges.kind_is ∙ judges.same item
 
-        by : (c : Bool) → passes item ≡ c → IsAnswer (λ (x : X). (kind, spelled x) ∷ before) P before (record { items = item ∷ items; place = place }) (judged c kind (value item) (record { items = item ∷ items; place = place }))
+        by : (c : Bool) → passes item ≡ c → IsAnswer (λ (x : X). (kind, spelled x) ∷ before) P before (record { items = item ∷ items; place = place }) (judged_item c kind (value item) (record { items = item ∷ items; place = place }))
         by true d =
             let s = judges.spells item d in (
               record {

@@ -4,13 +4,13 @@ use Rattle.std.specs.List.{concat, AllByRecursion}
 use Rattle.std.specs.Str.{bytes_eq}
 use Rattle.std.proofs.lemmas.List.{append-nil}
 use Rattle.coz_types.specs.Labels.{Text, label_before}
-use Rattle.coz_types.specs.Ranges.{most}
+use Rattle.coz_types.specs.Ranges.{greatest_number}
 use Rattle.coz_types.specs.declared.record.Summary.{Summary}
 use Rattle.profile_book.specs.declared.profile.Profile.{Profile}
 use Rattle.profile_reader.specs.declared.fault.BookField.{BookField}
 use Rattle.profile_reader.specs.declared.fault.BookField.TheVariants.{Throughput, Visits}
 use Rattle.profile_reader.specs.declared.fault.BookFault.{BookFault}
-use Rattle.profile_book.specs.Profile.{IsProfile, rises, summary_before}
+use Rattle.profile_book.specs.Profile.{IsProfile, is_rising, summary_before}
 use Rattle.coz_types.specs.Ranges.{IsSummary}
 use Rattle.profile_reader.specs.Grammar.{Before, size, may_end, fault, first_fault, not_before, goes_on}
 use Rattle.profile_reader.specs.Reading.{Ahead, bind, block_at, blocks_at, profile_at, selected_of, speedup_of}
@@ -138,9 +138,9 @@ pub record AreBlocks (all : ℕ) (last : Option Summary) (summaries : List Summa
   pub each : AllByRecursion (IsSummary all) summaries
   pub rise : rises_after summary_before last summaries ≡ true
 
-block_rises : (last : Option Summary) (s : Summary) (summaries : List Summary) → ComesAfter last s → rises summary_before (s ∷ summaries) ≡ true → rises_after summary_before last (s ∷ summaries) ≡ true
+block_rises : (last : Option Summary) (s : Summary) (summaries : List Summary) → ComesAfter last s → is_rising summary_before (s ∷ summaries) ≡ true → rises_after summary_before last (s ∷ summaries) ≡ true
 block_rises None s summaries first more = more
-block_rises (Some last) s summaries first more = ap (λ (b : Bool). b && rises summary_before (s ∷ summaries)) first ∙ more
+block_rises (Some last) s summaries first more = ap (λ (b : Bool). b && is_rising summary_before (s ∷ summaries)) first ∙ more
 
 no_more : (last : Option Summary) → rises_after summary_before last [] ≡ true
 no_more None = refl

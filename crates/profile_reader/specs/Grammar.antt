@@ -4,7 +4,7 @@ use Rattle.std.specs.List.{list_all}
 use Rattle.std.specs.Str.{bytes_eq}
 use Rattle.std.specs.Str.Parse.{digits_value}
 use Rattle.coz_types.specs.Labels.{Text, is_decimal, is_label, label_before}
-use Rattle.coz_types.specs.Ranges.{most}
+use Rattle.coz_types.specs.Ranges.{greatest_number}
 use Rattle.coz_types.specs.declared.TheConstants.{GREATEST_SPEEDUP}
 use Rattle.profile_reader.specs.EndingSpellings.{is_ending_text}
 use Rattle.profile_book.specs.Profile.{field, number_field}
@@ -125,26 +125,26 @@ line_after kind before = point_or_block before
 
 -- the kind of the next item: by the latest kinds, and, where a line may come again,
 -- by how many points, names and counts there are
-abbrev pub expected : Before → BookField
-expected [] = Head
-expected ((Newline, text) ∷ item ∷ before) = line_after item.0 (item ∷ before)
-expected ((Index, text) ∷ item ∷ before) = if is_kind Point item.0 then Name else Delta
-expected ((Head, text) ∷ before) = Version
-expected ((Version, text) ∷ before) = Budget
-expected ((Budget, text) ∷ before) = Points
-expected ((Point, text) ∷ before) = Index
-expected ((Experiment, text) ∷ before) = Selected
-expected ((Selected, text) ∷ before) = Speedup
-expected ((Speedup, text) ∷ before) = End
-expected ((End, text) ∷ before) = Time
-expected ((Time, text) ∷ before) = Delay
-expected ((Delay, text) ∷ before) = Retired
-expected ((Retired, text) ∷ before) = Starts
-expected ((Output, text) ∷ before) = Length
-expected ((Length, text) ∷ before) = Digest
-expected ((Throughput, text) ∷ before) = Index
-expected ((Visits, text) ∷ before) = Digest
-expected (item ∷ before) = Newline
+abbrev pub expected_field : Before → BookField
+expected_field [] = Head
+expected_field ((Newline, text) ∷ item ∷ before) = line_after item.0 (item ∷ before)
+expected_field ((Index, text) ∷ item ∷ before) = if is_kind Point item.0 then Name else Delta
+expected_field ((Head, text) ∷ before) = Version
+expected_field ((Version, text) ∷ before) = Budget
+expected_field ((Budget, text) ∷ before) = Points
+expected_field ((Point, text) ∷ before) = Index
+expected_field ((Experiment, text) ∷ before) = Selected
+expected_field ((Selected, text) ∷ before) = Speedup
+expected_field ((Speedup, text) ∷ before) = End
+expected_field ((End, text) ∷ before) = Time
+expected_field ((Time, text) ∷ before) = Delay
+expected_field ((Delay, text) ∷ before) = Retired
+expected_field ((Retired, text) ∷ before) = Starts
+expected_field ((Output, text) ∷ before) = Length
+expected_field ((Length, text) ∷ before) = Digest
+expected_field ((Throughput, text) ∷ before) = Index
+expected_field ((Visits, text) ∷ before) = Digest
+expected_field (item ∷ before) = Newline
 
 -- ---- spellings
 
@@ -199,7 +199,7 @@ has_speedup (label ∷ before) item =
 abbrev pub is_right : BookField → Before → Text → Bool
 is_right Head before item = bytes_eq item (codes "coz-ticks")
 is_right Version before item = bytes_eq item (field (codes "version") (codes "1"))
-is_right Budget before item = has_number Budget most item
+is_right Budget before item = has_number Budget greatest_number item
 is_right Points before item = has_number Points 64 item
 is_right Point before item = bytes_eq item (codes "point")
 is_right Index before item = bytes_eq item (number_field (codes "index") (index_at before))
@@ -208,12 +208,12 @@ is_right Experiment before item = bytes_eq item (codes "experiment")
 is_right Selected before item = has_label Selected (not_before (latest Selected before)) item
 is_right Speedup before item = has_speedup before item
 is_right End before item = is_field End item && is_ending_text (value_in End item)
-is_right Time before item = has_number Time most item
+is_right Time before item = has_number Time greatest_number item
 is_right Delay before item = has_number Delay (latest_number Time before) item
-is_right Retired before item = has_number Retired most item
-is_right Starts before item = has_number Starts most item
+is_right Retired before item = has_number Retired greatest_number item
+is_right Starts before item = has_number Starts greatest_number item
 is_right Output before item = bytes_eq item (codes "output")
-is_right Length before item = has_number Length most item
+is_right Length before item = has_number Length greatest_number item
 is_right Digest before item = is_field Digest item && is_digest (value_in Digest item)
 is_right Throughput before item = bytes_eq item (codes "throughput-point")
 is_right Delta before item = has_number Delta 1000000000 item
@@ -238,10 +238,10 @@ fault kind before = record { field = kind; place = size before }
 -- the first item that isn't right after those before it, or the one that is missing
 abbrev pub first_fault : Before → List Text → Option BookFault
 first_fault before [] =
-    if may_end (expected before) then None else Some (fault (expected before) before)
-first_fault before (item ∷ items) = elim (is_right (expected before) before item) [
-  | true ↦ first_fault ((expected before, item) ∷ before) items
-  | false ↦ Some (fault (expected before) before)
+    if may_end (expected_field before) then None else Some (fault (expected_field before) before)
+first_fault before (item ∷ items) = elim (is_right (expected_field before) before item) [
+  | true ↦ first_fault ((expected_field before, item) ∷ before) items
+  | false ↦ Some (fault (expected_field before) before)
 ]
 
 unfoldable pub book_fault : Text → Option BookFault

@@ -5,7 +5,7 @@ use Rattle.std.specs.Str.{bytes_eq}
 use Rattle.std.specs.Str.Parse.{digits_value}
 use Rattle.std.specs.List.{slice_split}
 use Rattle.coz_types.specs.Labels.{Text}
-use Rattle.coz_types.specs.Ranges.{most}
+use Rattle.coz_types.specs.Ranges.{greatest_number}
 use Rattle.coz_types.specs.declared.TheConstants.{GREATEST_SPEEDUP}
 use Rattle.profile_reader.specs.EndingSpellings.{is_ending_text}
 use Rattle.coz_types.specs.declared.record.Summary.{Summary}
@@ -59,17 +59,17 @@ abbrev pub next : List Text → Text
 next [] = []
 next (item ∷ items) = item
 
-abbrev pub past : Ahead → Ahead
-past a = record { items = drop 1 a.items; place = a.place + length (next a.items) }
+abbrev pub items_past : Ahead → Ahead
+items_past a = record { items = drop 1 a.items; place = a.place + length (next a.items) }
 
-abbrev pub judged : {X : Type 0} → Bool → BookField → X → Ahead → Result (X × Ahead) BookFault
-judged true kind x a = Ok (x, past a)
-judged false kind x a = Err (record { field = kind; place = a.place })
+abbrev pub judged_item : {X : Type 0} → Bool → BookField → X → Ahead → Result (X × Ahead) BookFault
+judged_item true kind x a = Ok (x, items_past a)
+judged_item false kind x a = Err (record { field = kind; place = a.place })
 
 -- the value of the next item, if it passes
 abbrev pub item_at : {X : Type 0} → BookField → (Text → Bool) → (Text → X) → Ahead
     → Result (X × Ahead) BookFault
-item_at kind passes value a = judged (passes (next a.items)) kind (value (next a.items)) a
+item_at kind passes value a = judged_item (passes (next a.items)) kind (value (next a.items)) a
 
 unfoldable pub word_at : BookField → Text → Ahead → Result (Unit {0} × Ahead) BookFault
 word_at kind text a = item_at kind (λ item. bytes_eq item text) (λ item. tt) a
@@ -139,7 +139,7 @@ unfoldable pub head_at : Ahead → Result ((ℕ × ℕ) × Ahead) BookFault
 head_at a = do
   head ← word_at Head (codes "coz-ticks") a
   version ← word_at Version (codes "\tversion=1") head.1
-  budget ← number_at Budget most version.1
+  budget ← number_at Budget greatest_number version.1
   points ← number_at Points 64 budget.1
   end ← word_at Newline (codes "\n") points.1
   Ok ((budget.0, points.0), end.1)
@@ -185,10 +185,10 @@ speedup_of last = unwrap_or (option_map (λ (s : Summary). s.speedup) last) 0
 unfoldable pub outcome_at : Ahead → Result (Outcome × Ahead) BookFault
 outcome_at a = do
   ending ← ending_at a
-  time ← number_at Time most ending.1
+  time ← number_at Time greatest_number ending.1
   delay ← number_at Delay time.0 time.1
-  retired ← number_at Retired most delay.1
-  starts ← number_at Starts most retired.1
+  retired ← number_at Retired greatest_number delay.1
+  starts ← number_at Starts greatest_number retired.1
   end ← word_at Newline (codes "\n") starts.1
   Ok (
     record {
@@ -211,7 +211,7 @@ selection_at last a = do
 unfoldable pub output_at : Ahead → Result ((ℕ × List ℕ) × Ahead) BookFault
 output_at a = do
   output ← word_at Output (codes "output") a
-  size ← number_at Length most output.1
+  size ← number_at Length greatest_number output.1
   digest ← digest_at size.1
   end ← word_at Newline (codes "\n") digest.1
   Ok ((size.0, digest.0), end.1)

@@ -1,6 +1,6 @@
 //! Labels in a profile's text.
 ghost use Rattle.std.specs.Prelude.{◌≡◌, ◌<◌, ◌+◌, ◌*◌, true, Some, None, take, drop, length, MatchOption};
-ghost use Rattle.coz_types.specs.Labels.{is_hex_digit, hex_value, is_escaped, step, is_written, parts_of, line_number, path_of, number_of, is_label, label_before};
+ghost use Rattle.coz_types.specs.Labels.{is_hex_digit, hex_value, is_escaped, scan_step, is_written, parts_of, line_number, path_of, number_of, is_label, label_before};
 ghost use Rattle.profile_reader.specs.Scanning.{small_digit, small_next};
 
 use crate::numbers::decimal;
@@ -34,7 +34,7 @@ fn is_escaped(byte: u8) -> bool
 
 fn step(at: Option<Option<u8>>, byte: u8) -> Option<Option<Option<u8>>>
     requires { small_digit at }
-    ensures next { result ≡ step at byte }
+    ensures next { result ≡ scan_step at byte }
     ensures small { small_next result }
 {
     match at {

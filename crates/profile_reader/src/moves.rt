@@ -1,7 +1,7 @@
 //! How a reader goes on in a text.
 ghost use Rattle.std.specs.Prelude.{◌≡◌};
 ghost use Rattle.profile_reader.specs.Items.{items_of};
-ghost use Rattle.profile_reader.specs.Reading.{next, past, is_done};
+ghost use Rattle.profile_reader.specs.Reading.{next, items_past, is_done};
 ghost use Rattle.profile_reader.specs.Standing.{ahead};
 
 use crate::cursor::Cursor;
@@ -29,7 +29,7 @@ pub fn is_done(at: Cursor<'_>) -> bool
 /// The next item, which is empty at the end of the text, and where the reader stands behind it.
 pub fn item<'a>(at: Cursor<'a>) -> (&'a [u8], Cursor<'a>)
     ensures item { result.0.now ≡ next (items_of at.entry.rest.now) }
-    ensures behind { ahead result.1 ≡ past (ahead at.entry) }
+    ensures behind { ahead result.1 ≡ items_past (ahead at.entry) }
 {
     if at.rest.is_empty() {
         return (at.rest, at);

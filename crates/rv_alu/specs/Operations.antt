@@ -15,22 +15,22 @@ use Rattle.rv_decode.specs.declared.RegOp.{RegOp}
 use Rattle.rv_decode.specs.declared.RegOp.TheVariants.{Add, Sll, Slt, Sltu, Xor, Srl, Or, And, Sub, Sra, Mul, Mulh, Mulhsu, Mulhu, Div, Divu, Rem, Remu, Addw, Sllw, Srlw, Subw, Sraw, Mulw, Divw, Divuw, Remw, Remuw}
 use Rattle.rv_decode.specs.declared.AtomicOp.{AtomicOp}
 use Rattle.rv_decode.specs.declared.AtomicOp.TheVariants.{Amoadd, Amoswap, Lr, Sc, Amoxor, Amoor, Amoand, Amomin, Amomax, Amominu, Amomaxu}
-use Rattle.rv_decode.specs.Fields.{twos, signed}
+use Rattle.rv_decode.specs.Fields.{twos_complement, signed_bits}
 
 -- 1 or 0
 abbrev pub flag : Bool → ℕ
 flag b = if b then 1 else 0
 
 -- the register that holds the signed number which k bits write
-abbrev pub extended : ℕ → ℕ → ℕ
-extended k n = twos 64 (signed k n)
+abbrev pub extension : ℕ → ℕ → ℕ
+extension k n = twos_complement 64 (signed_bits k n)
 
 abbrev pub low_half : ℕ → ℕ
 low_half n = n % 2 ^ 32
 
 -- an operation of 32 bits: it takes the low halves, and the sign of its result is extended
 abbrev pub by_halves : (ℕ → ℕ → ℕ → ℕ) → ℕ → ℕ → ℕ
-by_halves operation a b = extended 32 (operation 32 (low_half a) (low_half b))
+by_halves operation a b = extension 32 (operation 32 (low_half a) (low_half b))
 
 abbrev pub sum : ℕ → ℕ → ℕ → ℕ
 sum k a b = (a + b) % 2 ^ k
@@ -43,7 +43,7 @@ product k a b = a * b % 2 ^ k
 
 -- the upper half of a signed product
 abbrev pub upper_half : ℤ → ℕ
-upper_half z = twos 128 z / 2 ^ 64
+upper_half z = twos_complement 128 z / 2 ^ 64
 
 -- a shift is by the lowest bits of the amount
 abbrev pub left_shift : ℕ → ℕ → ℕ → ℕ
@@ -53,24 +53,26 @@ abbrev pub right_shift : ℕ → ℕ → ℕ → ℕ
 right_shift k a b = a / 2 ^ (b % k)
 
 abbrev pub signed_right_shift : ℕ → ℕ → ℕ → ℕ
-signed_right_shift k a b = twos k (int_shr (signed k a) (b % k))
+signed_right_shift k a b = twos_complement k (int_shr (signed_bits k a) (b % k))
 
 -- rounded toward zero; all ones where the divisor is 0
 abbrev pub quotient : ℕ → ℕ → ℕ → ℕ
-quotient k a b = if b == 0 then 2 ^ k - 1 else twos k (int_div (signed k a) (signed k b))
+quotient k a b =
+    if b == 0 then 2 ^ k - 1 else twos_complement k (int_div (signed_bits k a) (signed_bits k b))
 
 abbrev pub unsigned_quotient : ℕ → ℕ → ℕ → ℕ
 unsigned_quotient k a b = if b == 0 then 2 ^ k - 1 else a / b
 
 -- with the sign of the dividend; the dividend where the divisor is 0
 abbrev pub remainder : ℕ → ℕ → ℕ → ℕ
-remainder k a b = if b == 0 then a else twos k (int_rem (signed k a) (signed k b))
+remainder k a b =
+    if b == 0 then a else twos_complement k (int_rem (signed_bits k a) (signed_bits k b))
 
 abbrev pub unsigned_remainder : ℕ → ℕ → ℕ → ℕ
 unsigned_remainder k a b = if b == 0 then a else a % b
 
 abbrev pub is_less : ℕ → ℕ → ℕ → Bool
-is_less k a b = int_lt (signed k a) (signed k b)
+is_less k a b = int_lt (signed_bits k a) (signed_bits k b)
 
 abbrev pub register_result : RegOp → ℕ → ℕ → ℕ
 register_result Add a b = sum 64 a b
@@ -84,8 +86,8 @@ register_result Xor a b = bit_xor a b
 register_result Or a b = bit_or a b
 register_result And a b = bit_and a b
 register_result Mul a b = product 64 a b
-register_result Mulh a b = upper_half (signed 64 a *ℤ signed 64 b)
-register_result Mulhsu a b = upper_half (signed 64 a *ℤ pos b)
+register_result Mulh a b = upper_half (signed_bits 64 a *ℤ signed_bits 64 b)
+register_result Mulhsu a b = upper_half (signed_bits 64 a *ℤ pos b)
 register_result Mulhu a b = upper_half (pos a *ℤ pos b)
 register_result Div a b = quotient 64 a b
 register_result Divu a b = unsigned_quotient 64 a b
@@ -104,13 +106,13 @@ register_result Remuw a b = by_halves unsigned_remainder a b
 
 -- with the immediate as a number of 64 bits
 abbrev pub immediate_result : ImmOp → ℕ → ℤ → ℕ
-immediate_result Addi a z = sum 64 a (twos 64 z)
-immediate_result Slti a z = flag (int_lt (signed 64 a) z)
-immediate_result Sltiu a z = flag (nat_lt a (twos 64 z))
-immediate_result Xori a z = bit_xor a (twos 64 z)
-immediate_result Ori a z = bit_or a (twos 64 z)
-immediate_result Andi a z = bit_and a (twos 64 z)
-immediate_result Addiw a z = by_halves sum a (twos 64 z)
+immediate_result Addi a z = sum 64 a (twos_complement 64 z)
+immediate_result Slti a z = flag (int_lt (signed_bits 64 a) z)
+immediate_result Sltiu a z = flag (nat_lt a (twos_complement 64 z))
+immediate_result Xori a z = bit_xor a (twos_complement 64 z)
+immediate_result Ori a z = bit_or a (twos_complement 64 z)
+immediate_result Andi a z = bit_and a (twos_complement 64 z)
+immediate_result Addiw a z = by_halves sum a (twos_complement 64 z)
 
 abbrev pub shift_result : ShiftOp → ℕ → ℕ → ℕ
 shift_result Slli a n = left_shift 64 a n
@@ -122,8 +124,8 @@ shift_result Sraiw a n = by_halves signed_right_shift a n
 
 -- at a pc
 abbrev pub upper_result : UpperOp → ℕ → ℕ → ℕ
-upper_result Lui value pc = extended 32 (value * 2 ^ 12)
-upper_result Auipc value pc = sum 64 pc (extended 32 (value * 2 ^ 12))
+upper_result Lui value pc = extension 32 (value * 2 ^ 12)
+upper_result Auipc value pc = sum 64 pc (extension 32 (value * 2 ^ 12))
 
 -- the branch is taken
 abbrev pub is_taken : BranchOp → ℕ → ℕ → Bool
@@ -147,8 +149,8 @@ atomic_result Amoadd k old b = sum k old b
 atomic_result Amoxor k old b = bit_xor old b
 atomic_result Amoand k old b = bit_and old b
 atomic_result Amoor k old b = bit_or old b
-atomic_result Amomin k old b = twos k (int_min (signed k old) (signed k b))
-atomic_result Amomax k old b = twos k (int_max (signed k old) (signed k b))
+atomic_result Amomin k old b = twos_complement k (int_min (signed_bits k old) (signed_bits k b))
+atomic_result Amomax k old b = twos_complement k (int_max (signed_bits k old) (signed_bits k b))
 atomic_result Amominu k old b = min old b
 atomic_result Amomaxu k old b = max old b
 atomic_result Lr k old b = old

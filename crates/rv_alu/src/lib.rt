@@ -7,7 +7,7 @@
 
 ghost use Rattle.std.specs.Prelude.{◌≡◌, ◌^◌, ◌<◌, IsTrue};
 ghost use Rattle.rv_decode.specs.Instructions.{amount_bits};
-ghost use Rattle.rv_alu.specs.Operations.{low_half, extended, quotient, unsigned_quotient, remainder, unsigned_remainder, register_result, immediate_result, shift_result, is_taken, is_amo, atomic_result, stored_result};
+ghost use Rattle.rv_alu.specs.Operations.{low_half, extension, quotient, unsigned_quotient, remainder, unsigned_remainder, register_result, immediate_result, shift_result, is_taken, is_amo, atomic_result, stored_result};
 
 use rv_decode::{AtomicOp, BranchOp, ImmOp, RegOp, ShiftOp};
 
@@ -22,7 +22,7 @@ fn low_word(n: u64) -> u32
 /// The register that holds a signed number of 32 bits.
 #[inline]
 fn sign_extended(n: u32) -> u64
-    ensures { result ≡ extended 32 n }
+    ensures { result ≡ extension 32 n }
 {
     i64::from(n.cast_signed()).cast_unsigned()
 }

@@ -4,19 +4,19 @@ use Rattle.std.specs.Prelude.{not, ◌==◌}
 use Rattle.std.specs.Str.{byte}
 use Rattle.std.specs.List.{prefix_len}
 use Rattle.std.proofs.lemmas.List.Folds.{length-prefix_len}
-use Rattle.asm_tokens.specs.Tokens.{lines, before}
+use Rattle.asm_tokens.specs.Tokens.{lines, with_byte_before}
 
 -- so many bytes are before the first newline
 abbrev pub line_bytes : List ℕ → ℕ
 line_bytes bs = prefix_len (λ b. not (b == byte "\n")) bs
 
 step : (is_end : Bool) (b : ℕ) (rest : List ℕ) (n : ℕ) → lines rest ≡ take n rest ∷ lines (drop (n + 1) rest)
-    → (if is_end then [] ∷ lines rest else before b (lines rest)) ≡ take (cond (not is_end) (1 + n) 0) (b ∷ rest) ∷ lines (drop (cond (not is_end) (1 + n) 0 + 1) (b ∷ rest))
+    → (if is_end then [] ∷ lines rest else with_byte_before b (lines rest)) ≡ take (cond (not is_end) (1 + n) 0) (b ∷ rest) ∷ lines (drop (cond (not is_end) (1 + n) 0 + 1) (b ∷ rest))
 step true b rest n e = refl
 step false b rest n e =
     let more : 1 + n ≡ suc n = omega arith in
     let behind : 1 + n + 1 ≡ suc (n + 1) = omega arith in
-    ap (before b) e ∙ ap₂ (λ k j. take k (b ∷ rest) ∷ lines (drop j (b ∷ rest))) (sym more) (sym behind)
+    ap (with_byte_before b) e ∙ ap₂ (λ k j. take k (b ∷ rest) ∷ lines (drop j (b ∷ rest))) (sym more) (sym behind)
 
 pub first : (bs : List ℕ) → 1 ≤ length bs → lines bs ≡ take (line_bytes bs) bs ∷ lines (drop (line_bytes bs + 1) bs)
 first [] some = absurd (omega arith)

@@ -9,7 +9,7 @@ use Rattle.rv_decode.specs.declared.BranchOp.{BranchOp}
 use Rattle.rv_decode.specs.declared.ImmOp.TheVariants.{Addi, Addiw}
 use Rattle.rv_decode.specs.declared.AtomicOp.{AtomicOp}
 use Rattle.rv_decode.specs.declared.AtomicOp.TheVariants.{Lr}
-use Rattle.rv_decode.specs.Fields.{part, twos, signed, is_signed}
+use Rattle.rv_decode.specs.Fields.{part, twos_complement, signed_bits, is_signed}
 use Rattle.rv_decode.specs.Instructions.{amount_bits, word_of}
 use Rattle.asm_tokens.specs.declared.AsmKind.TheVariants as kinds
 use Rattle.asm_tokens.specs.declared.form.Form.{Form}
@@ -103,10 +103,10 @@ instruction_alone alone.Ret = instr.Jalr 0 1 (pos 0)
 -- ---- the two parts of a number that one instruction can't hold
 
 abbrev pub lower : ℤ → ℤ
-lower n = signed 12 (twos 12 n)
+lower n = signed_bits 12 (twos_complement 12 n)
 
 abbrev pub upper : ℤ → ℕ
-upper n = part (twos 32 (n -ℤ lower n)) 12 20
+upper n = part (twos_complement 32 (n -ℤ lower n)) 12 20
 
 abbrev pub encoded_piece : Instr → Piece
 encoded_piece i = Encoded (word_of i)
@@ -231,7 +231,7 @@ module _ (end : ℕ) where
   number_item size n column =
       let bits = 8 * bytes_of size in
       if is_within (neg_ℤ (pos (2 ^ (bits - 1)))) (pos (2 ^ bits - 1)) n
-      then Ok (Bytes (bytes_low_first 0 (bytes_of size) (twos bits n)))
+      then Ok (Bytes (bytes_low_first 0 (bytes_of size) (twos_complement bits n)))
       else wrong kinds.Range column
 
   -- a label, whose address has eight bytes

@@ -2,7 +2,7 @@
 
 ghost use Rattle.std.specs.Prelude.{◌≡◌, ◌≤◌, ◌<◌, ◌-◌, ◌*◌, ◌^◌, ◌++◌, [], ◌∷◌, length, drop, map, IfOk, IsTrue, ℤ, pos, neg_ℤ, ◌≤ℤ◌, Some, None, if◌then◌else◌};
 ghost use Rattle.std.specs.Int.{bytes_low_first};
-ghost use Rattle.rv_decode.specs.Fields.{twos, is_signed};
+ghost use Rattle.rv_decode.specs.Fields.{twos_complement, is_signed};
 ghost use Rattle.rv_decode.specs.Instructions.{amount_bits, InRange, is_second, word_of};
 ghost use Rattle.rv_decode.specs.declared.Instr.TheVariants as instr;
 ghost use Rattle.rv_decode.specs.declared.UpperOp.TheVariants.{Lui};
@@ -501,7 +501,7 @@ fn align_form<'s>(mut operands: Operands<'_, 's>) -> Result<Statement<'s>, LineE
 /// The bytes of a number of this size.
 fn number_bytes(alloc: Global, size: Size, value: i128) -> Result<Vec<u8>, AllocError>
     ensures { IfOk result (λ v.
-        v.items ≡ bytes_low_first 0 (bytes_of size) (twos (8 * bytes_of size) value)) }
+        v.items ≡ bytes_low_first 0 (bytes_of size) (twos_complement (8 * bytes_of size) value)) }
 {
     match size {
         Size::One => Ok(vec![in alloc; low_bits(value, 8) as u8]?),

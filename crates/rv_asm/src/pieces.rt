@@ -1,7 +1,7 @@
 //! What statements stand for.
 
 ghost use Rattle.std.specs.Prelude.{◌≡◌, ◌≤◌, ◌<◌, ◌^◌, IsTrue, pos, neg_ℤ, ◌≤ℤ◌};
-ghost use Rattle.rv_decode.specs.Fields.{twos, is_signed};
+ghost use Rattle.rv_decode.specs.Fields.{twos_complement, is_signed};
 ghost use Rattle.rv_asm.specs.Statements.{lower, upper};
 
 use crate::operands::NameUse;
@@ -52,7 +52,7 @@ pub enum Statement<'s> {
 /// The lowest bits of a number in two's complement.
 pub fn low_bits(value: i128, bits: u32) -> u64
     requires { bits ≤ 64 }
-    ensures value { result ≡ twos bits value }
+    ensures value { result ≡ twos_complement bits value }
     ensures small { result < 2 ^ bits }
 {
     value.rem_euclid(1 << bits) as u64

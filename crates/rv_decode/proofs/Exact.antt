@@ -6,7 +6,7 @@ use Rattle.std.proofs.lemmas.Grind.{common_steps}
 use Rattle.rv_decode.specs.declared.Instr.{Instr}
 use Rattle.rv_decode.specs.Fields.{part}
 use Rattle.rv_decode.specs.Table.{Code, code, is_same_code, operation_with}
-use Rattle.rv_decode.specs.Instructions.{HasWord, has_word, fitting, candidates, instruction_of, IsInstructionOf}
+use Rattle.rv_decode.specs.Instructions.{HasWord, has_word, operations_at, candidates, instruction_of, IsInstructionOf}
 use Rattle.rv_decode.proofs.Codes.{HasCode, operation_has_code}
 use Rattle.rv_decode.proofs.Reading.{read, reads}
 use Rattle.rv_decode.proofs.Laws.{instruction_has_word}
@@ -78,7 +78,7 @@ exact_by w found r has i = (has i, λ h. sym r ∙ reads w i h)
 -- each answer of a table
 module _ {Op : Type 0} (code_of : Op → Code) (ops : List Op) where
   pub fitting_in : (w opcode funct3 funct7 : ℕ) → part w 0 7 ≡ opcode
-      → (op : Op) → operation_with code_of ops (code opcode funct3 funct7) ≡ Some op → In op (fitting code_of ops w)
+      → (op : Op) → operation_with code_of ops (code opcode funct3 funct7) ≡ Some op → In op (operations_at code_of ops w)
   fitting_in w opcode funct3 funct7 o op e =
       let c : HasCode (code_of op) opcode funct3 funct7 = operation_has_code code_of ops opcode funct3 funct7 op e in
       let fits : IsTrue ((code_of op).opcode == part w 0 7) = grind (arith, common_steps) in

@@ -12,7 +12,7 @@ use Rattle.rv_decode.specs.declared.ShiftOp.{ShiftOp}
 use Rattle.rv_decode.specs.declared.ShiftOp.TheVariants.{Slli, Srli, Srai, Slliw, Srliw, Sraiw}
 use Rattle.rv_decode.specs.declared.RegOp.{RegOp}
 use Rattle.rv_decode.specs.declared.AtomicOp.{AtomicOp}
-use Rattle.rv_decode.specs.Fields.{part, twos, is_signed, is_even}
+use Rattle.rv_decode.specs.Fields.{part, twos_complement, is_signed, is_even}
 use Rattle.rv_decode.specs.Table.{upper_code, branch_code, load_code, store_code, imm_code, shift_code, register_code, atomic_code}
 use Rattle.rv_decode.specs.Instructions.{HasWord, is_second, immediate_in, store_in, branch_in, jump_in, amount_bits, flag_field}
 use Rattle.rv_decode.proofs.Codes.{HasCode, FitsOpcode, upper_fits}
@@ -32,7 +32,7 @@ module _ (w : ℕ) (small : w < 2 ^ 32) where
   jal_word o =
       let n : ℕ = part w 21 10 * 2 + part w 20 1 * 2 ^ 11 + part w 12 8 * 2 ^ 12 + part w 31 1 * 2 ^ 20 in
       let below : n < 2 ^ 21 = omega arith in
-      let bits : twos 21 (jump_in w) ≡ n = twos_signed 21 refl n below in
+      let bits : twos_complement 21 (jump_in w) ≡ n = twos_signed 21 refl n below in
       let in_range : IsTrue (is_signed 21 (jump_in w)) = is_signed_signed 21 refl n below in
       let even : IsTrue (is_even (jump_in w)) = is_even_signed 21 refl n below (omega arith) in
       let whole = sum_of_parts w small in
@@ -41,7 +41,7 @@ module _ (w : ℕ) (small : w < 2 ^ 32) where
   pub jalr_word : part w 0 7 ≡ 0x67 → part w 12 3 ≡ 0 → HasWord w (Jalr (part w 7 5) (part w 15 5) (immediate_in w))
   jalr_word o f =
       let below : part w 20 12 < 2 ^ 12 = omega arith in
-      let bits : twos 12 (immediate_in w) ≡ part w 20 12 = twos_signed 12 refl (part w 20 12) below in
+      let bits : twos_complement 12 (immediate_in w) ≡ part w 20 12 = twos_signed 12 refl (part w 20 12) below in
       let in_range : IsTrue (is_signed 12 (immediate_in w)) = is_signed_signed 12 refl (part w 20 12) below in
       let whole = sum_of_parts w small in
       (grind (arith, common_steps), omega arith)
@@ -51,7 +51,7 @@ module _ (w : ℕ) (small : w < 2 ^ 32) where
   branch_word op o c =
       let n : ℕ = part w 8 4 * 2 + part w 25 6 * 2 ^ 5 + part w 7 1 * 2 ^ 11 + part w 31 1 * 2 ^ 12 in
       let below : n < 2 ^ 13 = omega arith in
-      let bits : twos 13 (branch_in w) ≡ n = twos_signed 13 refl n below in
+      let bits : twos_complement 13 (branch_in w) ≡ n = twos_signed 13 refl n below in
       let in_range : IsTrue (is_signed 13 (branch_in w)) = is_signed_signed 13 refl n below in
       let even : IsTrue (is_even (branch_in w)) = is_even_signed 13 refl n below (omega arith) in
       let whole = sum_of_parts w small in
@@ -61,7 +61,7 @@ module _ (w : ℕ) (small : w < 2 ^ 32) where
       → HasWord w (Load op (part w 7 5) (part w 15 5) (immediate_in w))
   load_word op o c =
       let below : part w 20 12 < 2 ^ 12 = omega arith in
-      let bits : twos 12 (immediate_in w) ≡ part w 20 12 = twos_signed 12 refl (part w 20 12) below in
+      let bits : twos_complement 12 (immediate_in w) ≡ part w 20 12 = twos_signed 12 refl (part w 20 12) below in
       let in_range : IsTrue (is_signed 12 (immediate_in w)) = is_signed_signed 12 refl (part w 20 12) below in
       let whole = sum_of_parts w small in
       (grind (arith, common_steps), omega arith)
@@ -71,7 +71,7 @@ module _ (w : ℕ) (small : w < 2 ^ 32) where
   store_word op o c =
       let n : ℕ = part w 7 5 + part w 25 7 * 2 ^ 5 in
       let below : n < 2 ^ 12 = omega arith in
-      let bits : twos 12 (store_in w) ≡ n = twos_signed 12 refl n below in
+      let bits : twos_complement 12 (store_in w) ≡ n = twos_signed 12 refl n below in
       let in_range : IsTrue (is_signed 12 (store_in w)) = is_signed_signed 12 refl n below in
       let whole = sum_of_parts w small in
       (grind (arith, common_steps), omega arith)
@@ -80,7 +80,7 @@ module _ (w : ℕ) (small : w < 2 ^ 32) where
       → HasWord w (Imm op (part w 7 5) (part w 15 5) (immediate_in w))
   imm_word op opcode o c =
       let below : part w 20 12 < 2 ^ 12 = omega arith in
-      let bits : twos 12 (immediate_in w) ≡ part w 20 12 = twos_signed 12 refl (part w 20 12) below in
+      let bits : twos_complement 12 (immediate_in w) ≡ part w 20 12 = twos_signed 12 refl (part w 20 12) below in
       let in_range : IsTrue (is_signed 12 (immediate_in w)) = is_signed_signed 12 refl (part w 20 12) below in
       let whole = sum_of_parts w small in
       (grind (arith, common_steps), omega arith)

@@ -13,9 +13,9 @@ use Rattle.rv_decode.specs.declared.ImmOp.{ImmOp}
 use Rattle.rv_decode.specs.declared.ImmOp.TheVariants.{Addiw}
 use Rattle.rv_decode.specs.declared.ShiftOp.{ShiftOp}
 use Rattle.rv_decode.specs.declared.AtomicOp.{AtomicOp}
-use Rattle.rv_decode.specs.Fields.{part, signed}
+use Rattle.rv_decode.specs.Fields.{part, signed_bits}
 use Rattle.rv_decode.specs.Table.{Code, code, operation_with, upper_code, upper_ops, branch_code, load_code, store_code, imm_code, shift_code, register_code, atomic_code, branch_ops, load_ops, store_ops, imm_ops, shift_ops, register_ops, atomic_ops}
-use Rattle.rv_decode.specs.Instructions.{HasWord, is_second, immediate_in, store_in, branch_in, jump_in, amount_bits, fitting, candidates, instruction_of, IsDecoded, IsInstructionOf}
+use Rattle.rv_decode.specs.Instructions.{HasWord, is_second, immediate_in, store_in, branch_in, jump_in, amount_bits, operations_at, candidates, instruction_of, IsDecoded, IsInstructionOf}
 use Rattle.rv_decode.specs.Forms.{jalr_of, branch_of, load_of, store_of, imm_of, shift_of, shift_or_imm_of, word_shift_of, word_shift_or_imm_of, register_of, atomic_with, atomic_of, fence_of, system_of}
 use Rattle.rv_decode.proofs.Codes.{HasCode, operation_has_code}
 use Rattle.rv_decode.proofs.Split.{sum_of_parts, upper_part, immediate_part, branch_part, jump_part, amount_part, funct6_part, funct5_part, aq_part, rl_part}
@@ -118,7 +118,7 @@ module _ (w : ℕ) (small : w < 2 ^ 32) where
   pub jal_answers : part w 0 7 ≡ 0x6F → Answers w (Some (Jal rd (jump_in w)))
   jal_answers o =
       one_answer w (Jal rd (jump_in w))
-      (read_at 0x6F o ∙ ap (λ n. Some (Jal rd (signed 21 n))) (sym (jump_part w)))
+      (read_at 0x6F o ∙ ap (λ n. Some (Jal rd (signed_bits 21 n))) (sym (jump_part w)))
       (jal_word w small o)
       (in_right _ here)
 
@@ -126,14 +126,14 @@ module _ (w : ℕ) (small : w < 2 ^ 32) where
   jalr_answers o =
       either (Some (Jalr rd rs1 (immediate_in w))) None (funct3 == 0)
       (λ t. one_answer w (Jalr rd rs1 (immediate_in w))
-      (read_at 0x67 o ∙ first _ _ _ t ∙ ap (λ n. Some (Jalr rd rs1 (signed 12 n))) (sym (immediate_part w)))
+      (read_at 0x67 o ∙ first _ _ _ t ∙ ap (λ n. Some (Jalr rd rs1 (signed_bits 12 n))) (sym (immediate_part w)))
       (jalr_word w small o (is_same funct3 0 t))
       (in_right _ (there here)))
       (λ t. no_answer w (read_at 0x67 o ∙ second _ _ _ t))
 
   pub branch_answers : part w 0 7 ≡ 0x63 → Answers w (branch_of w)
   branch_answers o =
-      let make = λ (n : ℕ) (op : BranchOp). Branch op rs1 rs2 (signed 13 n) in
+      let make = λ (n : ℕ) (op : BranchOp). Branch op rs1 rs2 (signed_bits 13 n) in
       table_answer branch_code branch_ops (λ op. Branch op rs1 rs2 (branch_in w)) w 0x63 funct3 0
       (read_at 0x63 o ∙ ap (λ n. option_map (make n) (operation_with branch_code branch_ops (code 0x63 funct3 0))) (sym (branch_part w)))
       (λ op c. branch_word w small op o c)
@@ -142,7 +142,7 @@ module _ (w : ℕ) (small : w < 2 ^ 32) where
 
   pub load_answers : part w 0 7 ≡ 0x03 → Answers w (load_of w)
   load_answers o =
-      let make = λ (n : ℕ) (op : LoadOp). Load op rd rs1 (signed 12 n) in
+      let make = λ (n : ℕ) (op : LoadOp). Load op rd rs1 (signed_bits 12 n) in
       table_answer load_code load_ops (λ op. Load op rd rs1 (immediate_in w)) w 0x03 funct3 0
       (read_at 0x03 o ∙ ap (λ n. option_map (make n) (operation_with load_code load_ops (code 0x03 funct3 0))) (sym (immediate_part w)))
       (λ op c. load_word w small op o c)
@@ -157,12 +157,12 @@ module _ (w : ℕ) (small : w < 2 ^ 32) where
       (λ op s. in_left _ (in_left _ (in_left _ (in_left _ (in_left _ (in_right _
       (in_map (λ x. Store x rs1 rs2 (store_in w)) (fitting_in store_code store_ops w 0x23 funct3 0 o op s))))))))
 
-  shift_listed : (op : ShiftOp) (bits : ℕ) → In op (fitting shift_code shift_ops w) → amount_bits op ≡ bits → In (Shift op rd rs1 (part w 20 bits)) (candidates w)
+  shift_listed : (op : ShiftOp) (bits : ℕ) → In op (operations_at shift_code shift_ops w) → amount_bits op ≡ bits → In (Shift op rd rs1 (part w 20 bits)) (candidates w)
   shift_listed op bits p e =
       subst (λ n. In (Shift op rd rs1 (part w 20 n)) (candidates w)) e
       (in_left _ (in_left _ (in_left _ (in_right _ (in_map (λ x. Shift x rd rs1 (part w 20 (amount_bits x))) p)))))
 
-  imm_listed : (op : ImmOp) → In op (fitting imm_code imm_ops w) → In (Imm op rd rs1 (immediate_in w)) (candidates w)
+  imm_listed : (op : ImmOp) → In op (operations_at imm_code imm_ops w) → In (Imm op rd rs1 (immediate_in w)) (candidates w)
   imm_listed op p = in_left _ (in_left _ (in_left _ (in_left _ (in_right _ (in_map (λ x. Imm x rd rs1 (immediate_in w)) p)))))
 
   shift_answers : part w 0 7 ≡ 0x13 → (funct3 == 1 || funct3 == 5) ≡ true → Answers w (shift_of w)
@@ -180,7 +180,7 @@ module _ (w : ℕ) (small : w < 2 ^ 32) where
 
   imm_answers : part w 0 7 ≡ 0x13 → (funct3 == 1 || funct3 == 5) ≡ false → Answers w (imm_of w)
   imm_answers o t =
-      let make = λ (n : ℕ) (op : ImmOp). Imm op rd rs1 (signed 12 n) in
+      let make = λ (n : ℕ) (op : ImmOp). Imm op rd rs1 (signed_bits 12 n) in
       table_answer imm_code imm_ops (λ op. Imm op rd rs1 (immediate_in w)) w 0x13 funct3 0
       (read_at 0x13 o ∙ second _ _ _ t
       ∙ ap (λ n. option_map (make n) (operation_with imm_code imm_ops (code 0x13 funct3 0))) (sym (immediate_part w)))
@@ -196,7 +196,7 @@ module _ (w : ℕ) (small : w < 2 ^ 32) where
       let no_funct3 : funct3 ≡ 0 = is_same funct3 0 t in
       let found : operation_with imm_code imm_ops (code 0x1B funct3 0) ≡ Some Addiw = rw no_funct3 in
       one_answer w (Imm Addiw rd rs1 (immediate_in w))
-      (read_at 0x1B o ∙ first _ _ _ t ∙ ap (λ n. Some (Imm Addiw rd rs1 (signed 12 n))) (sym (immediate_part w)))
+      (read_at 0x1B o ∙ first _ _ _ t ∙ ap (λ n. Some (Imm Addiw rd rs1 (signed_bits 12 n))) (sym (immediate_part w)))
       (imm_word w small Addiw 0x1B o (operation_has_code imm_code imm_ops 0x1B funct3 0 Addiw found))
       (imm_listed Addiw (fitting_in imm_code imm_ops w 0x1B funct3 0 o Addiw found))
 

@@ -21,7 +21,7 @@ use Rattle.rv_decode.specs.declared.RegOp.{RegOp}
 use Rattle.rv_decode.specs.declared.RegOp.TheVariants.{Add}
 use Rattle.rv_decode.specs.declared.AtomicOp.{AtomicOp}
 use Rattle.rv_decode.specs.declared.AtomicOp.TheVariants.{Amoadd}
-use Rattle.rv_decode.specs.Fields.{part, twos, signed, is_signed, is_even}
+use Rattle.rv_decode.specs.Fields.{part, twos_complement, signed_bits, is_signed, is_even}
 use Rattle.rv_decode.specs.Table.{code, operation_with, upper_code, branch_code, load_code, store_code, imm_code, shift_code, register_code, atomic_code, branch_ops, load_ops, store_ops, imm_ops, shift_ops, register_ops, atomic_ops}
 use Rattle.rv_decode.specs.Instructions.{HasWord, word_of, is_second, flag_field}
 use Rattle.rv_decode.proofs.Codes.{Fits, FitsAlone, FitsOpcode, FitsAtomic, upper_fits, branch_fits, load_fits, store_fits, imm_fits, shift_fits, register_fits, atomic_fits}
@@ -37,16 +37,16 @@ atomic_found wide rd rs1 rs2 funct7 found =
 module _ (rd funct3 rs1 rs2 funct7 : ℕ) where
   -- the immediates
   abbrev pub twelve : ℤ
-  twelve = signed 12 (rs2 + funct7 * 2 ^ 5)
+  twelve = signed_bits 12 (rs2 + funct7 * 2 ^ 5)
 
   abbrev pub twelve_apart : ℤ
-  twelve_apart = signed 12 (rd + funct7 * 2 ^ 5)
+  twelve_apart = signed_bits 12 (rd + funct7 * 2 ^ 5)
 
   abbrev pub thirteen : ℤ
-  thirteen = signed 13 (rd / 2 * 2 + funct7 % 2 ^ 6 * 2 ^ 5 + rd % 2 * 2 ^ 11 + funct7 / 2 ^ 6 * 2 ^ 12)
+  thirteen = signed_bits 13 (rd / 2 * 2 + funct7 % 2 ^ 6 * 2 ^ 5 + rd % 2 * 2 ^ 11 + funct7 / 2 ^ 6 * 2 ^ 12)
 
   abbrev pub twenty_one : ℤ
-  twenty_one = signed 21 (rs2 / 2 * 2 + funct7 % 2 ^ 6 * 2 ^ 5 + rs2 % 2 * 2 ^ 11 + funct3 * 2 ^ 12 + rs1 * 2 ^ 15 + funct7 / 2 ^ 6 * 2 ^ 20)
+  twenty_one = signed_bits 21 (rs2 / 2 * 2 + funct7 % 2 ^ 6 * 2 ^ 5 + rs2 % 2 * 2 ^ 11 + funct3 * 2 ^ 12 + rs1 * 2 ^ 15 + funct7 / 2 ^ 6 * 2 ^ 20)
 
   abbrev pub twenty : ℕ
   twenty = funct3 + rs1 * 2 ^ 3 + rs2 * 2 ^ 8 + funct7 * 2 ^ 13
@@ -155,18 +155,18 @@ reading_register Add d s t = refl
 reading_register _ d s t = refl
 
 -- an immediate of 12 bits stands in rs2 and funct7
-twelve_joined : (z : ℤ) → IsTrue (is_signed 12 z) → signed 12 (twos 12 z % 2 ^ 5 + twos 12 z / 2 ^ 5 * 2 ^ 5) ≡ z
+twelve_joined : (z : ℤ) → IsTrue (is_signed 12 z) → signed_bits 12 (twos_complement 12 z % 2 ^ 5 + twos_complement 12 z / 2 ^ 5 * 2 ^ 5) ≡ z
 twelve_joined z h =
-    let joined : twos 12 z % 2 ^ 5 + twos 12 z / 2 ^ 5 * 2 ^ 5 ≡ twos 12 z = omega arith in
-    ap (signed 12) joined ∙ signed_twos 12 refl z h
+    let joined : twos_complement 12 z % 2 ^ 5 + twos_complement 12 z / 2 ^ 5 * 2 ^ 5 ≡ twos_complement 12 z = omega arith in
+    ap (signed_bits 12) joined ∙ signed_twos 12 refl z h
 
 reads_immediate : (w opcode rd funct3 rs1 : ℕ) (z : ℤ) (made : ℤ → Instr) → opcode < 2 ^ 7 → rd < 2 ^ 5 → funct3 < 2 ^ 3 → rs1 < 2 ^ 5 → IsTrue (is_signed 12 z)
-    → opcode + funct3 * 2 ^ 12 + rd * 2 ^ 7 + rs1 * 2 ^ 15 + twos 12 z * 2 ^ 20 ≡ w
-    → reading rd funct3 rs1 (twos 12 z % 2 ^ 5) (twos 12 z / 2 ^ 5) opcode ≡ Some (made (twelve rd 0 rs1 (twos 12 z % 2 ^ 5) (twos 12 z / 2 ^ 5)))
+    → opcode + funct3 * 2 ^ 12 + rd * 2 ^ 7 + rs1 * 2 ^ 15 + twos_complement 12 z * 2 ^ 20 ≡ w
+    → reading rd funct3 rs1 (twos_complement 12 z % 2 ^ 5) (twos_complement 12 z / 2 ^ 5) opcode ≡ Some (made (twelve rd 0 rs1 (twos_complement 12 z % 2 ^ 5) (twos_complement 12 z / 2 ^ 5)))
     → read w ≡ Some (made z)
 reads_immediate w o d f s z made ho hd hf hs in_range e reads =
-    let below : twos 12 z < 2 ^ 12 = twos_below 12 refl z in
-    read_split w _ _ _ _ _ _ (splits_sum w o d f s (twos 12 z % 2 ^ 5) (twos 12 z / 2 ^ 5) ho hd hf hs (omega arith) (omega arith) (omega arith))
+    let below : twos_complement 12 z < 2 ^ 12 = twos_below 12 refl z in
+    read_split w _ _ _ _ _ _ (splits_sum w o d f s (twos_complement 12 z % 2 ^ 5) (twos_complement 12 z / 2 ^ 5) ho hd hf hs (omega arith) (omega arith) (omega arith))
     ∙ reads
     ∙ ap (λ m. Some (made m)) (twelve_joined z in_range)
 
@@ -193,9 +193,9 @@ reads_store w op s t z h =
     let rs1_fits : s < 2 ^ 5 = grind (arith, common_steps) in
     let rs2_fits : t < 2 ^ 5 = grind (arith, common_steps) in
     let in_range : IsTrue (is_signed 12 z) = grind (arith, common_steps) in
-    let below : twos 12 z < 2 ^ 12 = twos_below 12 refl z in
+    let below : twos_complement 12 z < 2 ^ 12 = twos_below 12 refl z in
     let e : word_of (Store op s t z) ≡ w = h.1 in
-    read_split w _ _ _ _ _ _ (splits_sum w (store_code op).opcode (twos 12 z % 2 ^ 5) (store_code op).funct3 s t (twos 12 z / 2 ^ 5) c.opcode_fits (omega arith) c.funct3_fits rs1_fits rs2_fits (omega arith) (omega arith))
+    read_split w _ _ _ _ _ _ (splits_sum w (store_code op).opcode (twos_complement 12 z % 2 ^ 5) (store_code op).funct3 s t (twos_complement 12 z / 2 ^ 5) c.opcode_fits (omega arith) c.funct3_fits rs1_fits rs2_fits (omega arith) (omega arith))
     ∙ reading_store op _ s t _
     ∙ ap (λ m. Some (Store op s t m)) (twelve_joined z in_range)
 
@@ -216,15 +216,15 @@ reads_branch w op s t z h =
     let rs2_fits : t < 2 ^ 5 = grind (arith, common_steps) in
     let in_range : IsTrue (is_signed 13 z) = grind (arith, common_steps) in
     let even : IsTrue (is_even z) = grind (arith, common_steps) in
-    let below : twos 13 z < 2 ^ 13 = twos_below 13 refl z in
-    let no_half : twos 13 z % 2 ≡ 0 = even_twos 13 refl z even in
+    let below : twos_complement 13 z < 2 ^ 13 = twos_below 13 refl z in
+    let no_half : twos_complement 13 z % 2 ≡ 0 = even_twos 13 refl z even in
     let e : word_of (Branch op s t z) ≡ w = h.1 in
-    let low : ℕ = part (twos 13 z) 11 1 + part (twos 13 z) 1 4 * 2 in
-    let high : ℕ = part (twos 13 z) 5 6 + part (twos 13 z) 12 1 * 2 ^ 6 in
-    let joined : low / 2 * 2 + high % 2 ^ 6 * 2 ^ 5 + low % 2 * 2 ^ 11 + high / 2 ^ 6 * 2 ^ 12 ≡ twos 13 z = omega arith in
+    let low : ℕ = part (twos_complement 13 z) 11 1 + part (twos_complement 13 z) 1 4 * 2 in
+    let high : ℕ = part (twos_complement 13 z) 5 6 + part (twos_complement 13 z) 12 1 * 2 ^ 6 in
+    let joined : low / 2 * 2 + high % 2 ^ 6 * 2 ^ 5 + low % 2 * 2 ^ 11 + high / 2 ^ 6 * 2 ^ 12 ≡ twos_complement 13 z = omega arith in
     read_split w _ _ _ _ _ _ (splits_sum w (branch_code op).opcode low (branch_code op).funct3 s t high c.opcode_fits (omega arith) c.funct3_fits rs1_fits rs2_fits (omega arith) (omega arith))
     ∙ reading_branch op low s t high
-    ∙ ap (λ m. Some (Branch op s t m)) (ap (signed 13) joined ∙ signed_twos 13 refl z in_range)
+    ∙ ap (λ m. Some (Branch op s t m)) (ap (signed_bits 13) joined ∙ signed_twos 13 refl z in_range)
 
 -- 20 bits stand in funct3, rs1, rs2 and funct7
 splits_twenty : (w opcode rd n : ℕ) → opcode < 2 ^ 7 → rd < 2 ^ 5 → n < 2 ^ 20 → opcode + rd * 2 ^ 7 + n * 2 ^ 12 ≡ w
@@ -249,13 +249,13 @@ reads_jal w d z h =
     let rd_fits : d < 2 ^ 5 = grind (arith, common_steps) in
     let in_range : IsTrue (is_signed 21 z) = grind (arith, common_steps) in
     let even : IsTrue (is_even z) = grind (arith, common_steps) in
-    let below : twos 21 z < 2 ^ 21 = twos_below 21 refl z in
-    let no_half : twos 21 z % 2 ≡ 0 = even_twos 21 refl z even in
+    let below : twos_complement 21 z < 2 ^ 21 = twos_below 21 refl z in
+    let no_half : twos_complement 21 z % 2 ≡ 0 = even_twos 21 refl z even in
     let e : word_of (Jal d z) ≡ w = h.1 in
-    let n : ℕ = part (twos 21 z) 12 8 + part (twos 21 z) 11 1 * 2 ^ 8 + part (twos 21 z) 1 10 * 2 ^ 9 + part (twos 21 z) 20 1 * 2 ^ 19 in
-    let joined : part n 8 5 / 2 * 2 + part n 13 7 % 2 ^ 6 * 2 ^ 5 + part n 8 5 % 2 * 2 ^ 11 + part n 0 3 * 2 ^ 12 + part n 3 5 * 2 ^ 15 + part n 13 7 / 2 ^ 6 * 2 ^ 20 ≡ twos 21 z = omega arith in
+    let n : ℕ = part (twos_complement 21 z) 12 8 + part (twos_complement 21 z) 11 1 * 2 ^ 8 + part (twos_complement 21 z) 1 10 * 2 ^ 9 + part (twos_complement 21 z) 20 1 * 2 ^ 19 in
+    let joined : part n 8 5 / 2 * 2 + part n 13 7 % 2 ^ 6 * 2 ^ 5 + part n 8 5 % 2 * 2 ^ 11 + part n 0 3 * 2 ^ 12 + part n 3 5 * 2 ^ 15 + part n 13 7 / 2 ^ 6 * 2 ^ 20 ≡ twos_complement 21 z = omega arith in
     read_split w _ _ _ _ _ _ (splits_twenty w 0x6F d n (omega arith) rd_fits (omega arith) (omega arith))
-    ∙ ap (λ m. Some (Jal d m)) (ap (signed 21) joined ∙ signed_twos 21 refl z in_range)
+    ∙ ap (λ m. Some (Jal d m)) (ap (signed_bits 21) joined ∙ signed_twos 21 refl z in_range)
 
 -- a shift by up to 63 has the highest bit of its amount in the lowest bit of funct7
 reading_long_shift : (op : ShiftOp) (rd rs1 rs2 funct7 : ℕ) → (shift_code op).opcode ≡ 0x13 → funct7 / 2 * 2 ≡ (shift_code op).funct7

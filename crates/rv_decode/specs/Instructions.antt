@@ -8,7 +8,7 @@ use Rattle.rv_decode.specs.declared.ShiftOp.{ShiftOp}
 use Rattle.rv_decode.specs.declared.ShiftOp.TheVariants.{Slli, Srli, Srai, Slliw, Srliw, Sraiw}
 use Rattle.rv_decode.specs.declared.AtomicOp.{AtomicOp}
 use Rattle.rv_decode.specs.declared.AtomicOp.TheVariants.{Lr}
-use Rattle.rv_decode.specs.Fields.{part, twos, signed, is_signed, is_even}
+use Rattle.rv_decode.specs.Fields.{part, twos_complement, signed_bits, is_signed, is_even}
 use Rattle.rv_decode.specs.Table.{Code, upper_code, branch_code, load_code, store_code, imm_code, shift_code, register_code, atomic_code, upper_ops, branch_ops, load_ops, store_ops, imm_ops, shift_ops, register_ops, atomic_ops}
 
 -- the fields of a word, each in its place
@@ -25,17 +25,17 @@ abbrev pub rs2_field : ℕ → ℕ
 rs2_field r = r * 2 ^ 20
 
 abbrev pub immediate_field : ℤ → ℕ
-immediate_field z = twos 12 z * 2 ^ 20
+immediate_field z = twos_complement 12 z * 2 ^ 20
 
 abbrev pub store_field : ℤ → ℕ
-store_field z = let n = twos 12 z in n % 2 ^ 5 * 2 ^ 7 + part n 5 7 * 2 ^ 25
+store_field z = let n = twos_complement 12 z in n % 2 ^ 5 * 2 ^ 7 + part n 5 7 * 2 ^ 25
 
 abbrev pub branch_field : ℤ → ℕ
-branch_field z = let n = twos 13 z in
+branch_field z = let n = twos_complement 13 z in
     part n 11 1 * 2 ^ 7 + part n 1 4 * 2 ^ 8 + part n 5 6 * 2 ^ 25 + part n 12 1 * 2 ^ 31
 
 abbrev pub jump_field : ℤ → ℕ
-jump_field z = let n = twos 21 z in
+jump_field z = let n = twos_complement 21 z in
     part n 12 8 * 2 ^ 12 + part n 11 1 * 2 ^ 20 + part n 1 10 * 2 ^ 21 + part n 20 1 * 2 ^ 31
 
 abbrev pub flag_field : Bool → ℕ → ℕ
@@ -114,23 +114,24 @@ has_word w i = is_in_range i && word_of i == w
 
 -- the signed numbers that stand in a word
 abbrev pub immediate_in : ℕ → ℤ
-immediate_in w = signed 12 (part w 20 12)
+immediate_in w = signed_bits 12 (part w 20 12)
 
 abbrev pub store_in : ℕ → ℤ
-store_in w = signed 12 (part w 7 5 + part w 25 7 * 2 ^ 5)
+store_in w = signed_bits 12 (part w 7 5 + part w 25 7 * 2 ^ 5)
 
 abbrev pub branch_in : ℕ → ℤ
 branch_in w =
-    signed 13 (part w 8 4 * 2 + part w 25 6 * 2 ^ 5 + part w 7 1 * 2 ^ 11 + part w 31 1 * 2 ^ 12)
+    signed_bits 13
+    (part w 8 4 * 2 + part w 25 6 * 2 ^ 5 + part w 7 1 * 2 ^ 11 + part w 31 1 * 2 ^ 12)
 
 abbrev pub jump_in : ℕ → ℤ
 jump_in w =
-    signed 21 (part w 21 10 * 2 + part w 20 1 * 2 ^ 11 + part w 12 8 * 2 ^ 12
+    signed_bits 21 (part w 21 10 * 2 + part w 20 1 * 2 ^ 11 + part w 12 8 * 2 ^ 12
     + part w 31 1 * 2 ^ 20)
 
 -- the operations of a table that have the opcode of a word
-abbrev pub fitting : {Op : Type 0} → (Op → Code) → List Op → ℕ → List Op
-fitting code_of ops w = filter (λ op. (code_of op).opcode == part w 0 7) ops
+abbrev pub operations_at : {Op : Type 0} → (Op → Code) → List Op → ℕ → List Op
+operations_at code_of ops w = filter (λ op. (code_of op).opcode == part w 0 7) ops
 
 -- each instruction of the table that has the opcode of a word, with the fields that stand
 -- in the word; and those that have no table
@@ -139,15 +140,16 @@ candidates w =
     let rd = part w 7 5 in
     let rs1 = part w 15 5 in
     let rs2 = part w 20 5 in
-    map (λ op. Upper op rd (part w 12 20)) (fitting upper_code upper_ops w)
-    ++ map (λ op. Branch op rs1 rs2 (branch_in w)) (fitting branch_code branch_ops w)
-    ++ map (λ op. Load op rd rs1 (immediate_in w)) (fitting load_code load_ops w)
-    ++ map (λ op. Store op rs1 rs2 (store_in w)) (fitting store_code store_ops w)
-    ++ map (λ op. Imm op rd rs1 (immediate_in w)) (fitting imm_code imm_ops w)
-    ++ map (λ op. Shift op rd rs1 (part w 20 (amount_bits op))) (fitting shift_code shift_ops w)
-    ++ map (λ op. Reg op rd rs1 rs2) (fitting register_code register_ops w)
+    map (λ op. Upper op rd (part w 12 20)) (operations_at upper_code upper_ops w)
+    ++ map (λ op. Branch op rs1 rs2 (branch_in w)) (operations_at branch_code branch_ops w)
+    ++ map (λ op. Load op rd rs1 (immediate_in w)) (operations_at load_code load_ops w)
+    ++ map (λ op. Store op rs1 rs2 (store_in w)) (operations_at store_code store_ops w)
+    ++ map (λ op. Imm op rd rs1 (immediate_in w)) (operations_at imm_code imm_ops w)
+    ++ map (λ op. Shift op rd rs1 (part w 20 (amount_bits op)))
+    (operations_at shift_code shift_ops w)
+    ++ map (λ op. Reg op rd rs1 rs2) (operations_at register_code register_ops w)
     ++ map (λ op. Atomic op (part w 12 1 == 1) (part w 26 1 == 1) (part w 25 1 == 1) rd rs1 rs2)
-    (fitting atomic_code atomic_ops w)
+    (operations_at atomic_code atomic_ops w)
     ++ Jal rd (jump_in w)
     ∷ Jalr rd rs1 (immediate_in w)
     ∷ Fence rd rs1 (part w 20 12)

@@ -1,7 +1,7 @@
 //! The fields that stand in a word.
 
 ghost use Rattle.std.specs.Prelude.{◌≡◌, ◌<◌, ◌^◌, ◌==◌};
-ghost use Rattle.rv_decode.specs.Fields.{part, signed};
+ghost use Rattle.rv_decode.specs.Fields.{part, signed_bits};
 ghost use Rattle.rv_decode.specs.Instructions.{immediate_in, store_in, branch_in, jump_in};
 
 /// The bits of a word from `low` on, `count` of them, as a number.
@@ -99,7 +99,7 @@ pub(crate) fn flag(word: u32, place: u32) -> bool
 /// The signed number that 12 bits write.
 fn signed_12(bits: u32) -> i32
     requires { bits < 2 ^ 12 }
-    ensures { result ≡ signed 12 bits }
+    ensures { result ≡ signed_bits 12 bits }
 {
     let number = bits.cast_signed();
     if bits < 0x800 {
@@ -112,7 +112,7 @@ fn signed_12(bits: u32) -> i32
 /// The signed number that 13 bits write.
 fn signed_13(bits: u32) -> i32
     requires { bits < 2 ^ 13 }
-    ensures { result ≡ signed 13 bits }
+    ensures { result ≡ signed_bits 13 bits }
 {
     let number = bits.cast_signed();
     if bits < 0x1000 {
@@ -125,7 +125,7 @@ fn signed_13(bits: u32) -> i32
 /// The signed number that 21 bits write.
 fn signed_21(bits: u32) -> i32
     requires { bits < 2 ^ 21 }
-    ensures { result ≡ signed 21 bits }
+    ensures { result ≡ signed_bits 21 bits }
 {
     let number = bits.cast_signed();
     if bits < 0x10_0000 {

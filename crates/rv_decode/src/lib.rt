@@ -9,7 +9,7 @@
 #![tactic(auto)]
 
 ghost use Rattle.std.specs.Prelude.{◌≡◌, ◌<◌, ◌≤◌, ◌^◌, IsTrue};
-ghost use Rattle.rv_decode.specs.Fields.{twos, is_signed};
+ghost use Rattle.rv_decode.specs.Fields.{twos_complement, is_signed};
 ghost use Rattle.rv_decode.specs.Table.{upper_code, branch_code, load_code, store_code, imm_code, shift_code, register_code, atomic_code};
 ghost use Rattle.rv_decode.specs.Instructions.{InRange, instruction_of, code_field, immediate_field, store_field, branch_field, jump_field, flag_field, rd_field, rs1_field, rs2_field, word_of};
 
@@ -432,7 +432,7 @@ fn atomic_fixed_bits(op: AtomicOp) -> u32
 /// The 12 bits of a signed number.
 fn twelve_bits(z: i32) -> u32
     requires { IsTrue (is_signed 12 z) }
-    ensures bits { result ≡ twos 12 z }
+    ensures bits { result ≡ twos_complement 12 z }
     ensures below { result < 2 ^ 12 }
 {
     if z < 0 {
@@ -445,7 +445,7 @@ fn twelve_bits(z: i32) -> u32
 /// The 13 bits of a signed number.
 fn thirteen_bits(z: i32) -> u32
     requires { IsTrue (is_signed 13 z) }
-    ensures bits { result ≡ twos 13 z }
+    ensures bits { result ≡ twos_complement 13 z }
     ensures below { result < 2 ^ 13 }
 {
     if z < 0 {
@@ -458,7 +458,7 @@ fn thirteen_bits(z: i32) -> u32
 /// The 21 bits of a signed number.
 fn twenty_one_bits(z: i32) -> u32
     requires { IsTrue (is_signed 21 z) }
-    ensures bits { result ≡ twos 21 z }
+    ensures bits { result ≡ twos_complement 21 z }
     ensures below { result < 2 ^ 21 }
 {
     if z < 0 {

@@ -10,8 +10,8 @@ use Rattle.rv_decode.specs.declared.StoreOp.{StoreOp}
 use Rattle.rv_decode.specs.declared.StoreOp.TheVariants.{Sb, Sh, Sw, Sd}
 use Rattle.rv_decode.specs.declared.AtomicOp.{AtomicOp}
 use Rattle.rv_decode.specs.declared.AtomicOp.TheVariants.{Lr, Sc}
-use Rattle.rv_decode.specs.Fields.{twos}
-use Rattle.rv_alu.specs.Operations.{extended, sum, register_result, immediate_result, shift_result, upper_result, is_taken, stored_result}
+use Rattle.rv_decode.specs.Fields.{twos_complement}
+use Rattle.rv_alu.specs.Operations.{extension, sum, register_result, immediate_result, shift_result, upper_result, is_taken, stored_result}
 use Rattle.guest_memory.specs.Memory.{MemoryMap, load, store}
 use Rattle.rv_execute.specs.declared.hart.HartState.{HartState}
 use Rattle.rv_execute.specs.declared.hart.Step.{Step}
@@ -36,8 +36,8 @@ pub record Executed : Type 0 where
   pub setting : Setting
   pub step : Step
 
-abbrev pub executed : HartState → MemoryMap → Reservations → Step → Executed
-executed hart memory reservations step = record {
+abbrev pub execution : HartState → MemoryMap → Reservations → Step → Executed
+execution hart memory reservations step = record {
   setting = setting hart memory reservations;
   step = step;
 }
@@ -60,7 +60,7 @@ pc_after hart = sum 64 hart.pc 4
 
 -- the address that lies so far from another
 abbrev pub address_at : ℕ → ℤ → ℕ
-address_at base offset = sum 64 base (twos 64 offset)
+address_at base offset = sum 64 base (twos_complement 64 offset)
 
 abbrev pub load_size : LoadOp → ℕ
 load_size Lb = 1
@@ -73,7 +73,7 @@ load_size Lwu = 4
 
 -- the register that holds the signed number which the lowest k bits write
 abbrev pub low_extended : ℕ → ℕ → ℕ
-low_extended k n = extended k (n % 2 ^ k)
+low_extended k n = extension k (n % 2 ^ k)
 
 -- what a load of a number puts into a register
 abbrev pub load_value : LoadOp → ℕ → ℕ
@@ -110,8 +110,8 @@ module _ (s : Setting) where
   next = record { setting = record s { hart = with_pc (pc_after s.hart) s.hart }; step = Next }
 
 -- rd gets a value, and the pc moves on
-abbrev pub put : ℕ → ℕ → Setting → Executed
-put rd n s = next (record s { hart = with_register rd n s.hart })
+abbrev pub with_rd : ℕ → ℕ → Setting → Executed
+with_rd rd n s = next (record s { hart = with_register rd n s.hart })
 
 -- rd gets the address of the next instruction, and the pc moves to the target
 abbrev pub jump : ℕ → ℕ → Setting → Executed
@@ -130,7 +130,7 @@ abbrev pub load_to : LoadOp → ℕ → ℕ → Setting → Executed
 load_to op rd address s =
     elim (load s.memory address (load_size op)) [
       | None ↦ fault s Access
-      | Some n ↦ put rd (load_value op n) s
+      | Some n ↦ with_rd rd (load_value op n) s
     ]
 
 -- with the memory after a store of so many bytes at an address
@@ -151,7 +151,7 @@ abbrev pub reserve : ℕ → Bool → ℕ → ℕ → Setting → Executed
 reserve h wide rd address s =
     elim (load s.memory address (atomic_size wide)) [
       | None ↦ fault s Access
-      | Some n ↦ put rd (atomic_load_value wide n)
+      | Some n ↦ with_rd rd (atomic_load_value wide n)
           (record s { reservations = with_reservation h address s.reservations })
     ]
 
@@ -160,8 +160,8 @@ abbrev pub store_reserved : Bool → Bool → ℕ → ℕ → ℕ → Setting �
 store_reserved reserved wide rd address n s =
     elim (store address (atomic_size wide) n s.memory) [
       | None ↦ fault s Access
-      | Some memory ↦ if reserved then put rd 0 (with_store address (atomic_size wide) memory s)
-          else put rd 1 s
+      | Some memory ↦ if reserved then with_rd rd 0 (with_store address (atomic_size wide) memory s)
+          else with_rd rd 1 s
     ]
 
 -- rd gets the old value, and the result is stored
@@ -172,32 +172,33 @@ exchange op wide rd address n s =
       | Some old ↦ elim (store address (atomic_size wide) (stored_result op wide old n) s.memory) [
         | None ↦ fault s Access
         | Some memory ↦
-            put rd (atomic_load_value wide old) (with_store address (atomic_size wide) memory s)
+            with_rd rd (atomic_load_value wide old) (with_store address (atomic_size wide) memory s)
       ]
     ]
 
 -- an atomic of so many bytes at an address that is a multiple of them
-abbrev pub aligned : ℕ → Bool → (Setting → Executed) → Setting → Executed
-aligned address wide effect s =
+abbrev pub aligned_effect : ℕ → Bool → (Setting → Executed) → Setting → Executed
+aligned_effect address wide effect s =
     if address % atomic_size wide == 0 then effect s else fault s Misaligned
 
 -- sc ends the hart's own reservation in every case
 abbrev pub atomic : ℕ → AtomicOp → Bool → ℕ → ℕ → ℕ → Setting → Executed
-atomic h Lr wide rd address n s = aligned address wide (reserve h wide rd address) s
+atomic h Lr wide rd address n s = aligned_effect address wide (reserve h wide rd address) s
 atomic h Sc wide rd address n s =
-    aligned address wide (store_reserved (is_reserved h address s.reservations) wide rd address n)
+    aligned_effect address wide
+    (store_reserved (is_reserved h address s.reservations) wide rd address n)
     (record s { reservations = without_own h s.reservations })
-atomic h op wide rd address n s = aligned address wide (exchange op wide rd address n) s
+atomic h op wide rd address n s = aligned_effect address wide (exchange op wide rd address n) s
 
 -- whatever the memory and the reservations are, the effect leaves them, makes of the old hart
 -- the new one, and this step follows
 abbrev pub ChangesHart : HartState → HartState → Step → (Setting → Executed) → Type 0
 ChangesHart old new step effect =
-    (m : MemoryMap) (r : Reservations) → executed new m r step ≡ effect (setting old m r)
+    (m : MemoryMap) (r : Reservations) → execution new m r step ≡ effect (setting old m r)
 
 -- the effect of an instruction of hart h
 unfoldable pub execute : ℕ → Instr → Setting → Executed
-execute h (Upper op rd n) s = put rd (upper_result op n s.hart.pc) s
+execute h (Upper op rd n) s = with_rd rd (upper_result op n s.hart.pc) s
 execute h (Jal rd offset) s = jump rd (address_at s.hart.pc offset) s
 execute h (Jalr rd rs1 offset) s = jump rd (address_at (value s rs1) offset / 2 * 2) s
 execute h (Branch op rs1 rs2 offset) s =
@@ -205,9 +206,9 @@ execute h (Branch op rs1 rs2 offset) s =
 execute h (Load op rd rs1 offset) s = load_to op rd (address_at (value s rs1) offset) s
 execute h (Store op rs1 rs2 offset) s =
     store_at (address_at (value s rs1) offset) (store_size op) (value s rs2) s
-execute h (Imm op rd rs1 n) s = put rd (immediate_result op (value s rs1) n) s
-execute h (Shift op rd rs1 amount) s = put rd (shift_result op (value s rs1) amount) s
-execute h (Reg op rd rs1 rs2) s = put rd (register_result op (value s rs1) (value s rs2)) s
+execute h (Imm op rd rs1 n) s = with_rd rd (immediate_result op (value s rs1) n) s
+execute h (Shift op rd rs1 amount) s = with_rd rd (shift_result op (value s rs1) amount) s
+execute h (Reg op rd rs1 rs2) s = with_rd rd (register_result op (value s rs1) (value s rs2)) s
 execute h (Atomic op wide aq rl rd rs1 rs2) s = atomic h op wide rd (value s rs1) (value s rs2) s
 execute h (Fence rd rs1 bits) s = next s
 execute h Ecall s = record { setting = s; step = Call }

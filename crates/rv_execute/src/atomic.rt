@@ -4,7 +4,7 @@ ghost use Rattle.coz_types.specs.declared.TheConstants.{HARTS};
 ghost use Rattle.rv_alu.specs.Operations.{is_amo};
 ghost use Rattle.guest_memory.specs.Memory.{IsSize};
 ghost use Rattle.rv_execute.specs.Reservations.{is_reserved};
-ghost use Rattle.rv_execute.specs.Execution.{setting, executed, atomic_size, atomic_load_value, aligned, reserve, store_reserved, exchange, atomic};
+ghost use Rattle.rv_execute.specs.Execution.{setting, execution, atomic_size, atomic_load_value, aligned_effect, reserve, store_reserved, exchange, atomic};
 
 use crate::hart::{HartState, Step};
 use crate::memory_access::low_word_extended;
@@ -64,8 +64,9 @@ fn load_reserved(
 ) -> Step
     requires number { number.0 < HARTS }
     requires rd { target.rd < 32 }
-    ensures { executed hart.new memory.now reservations.new result
-        ≡ aligned target.address target.wide (reserve number.0 target.wide target.rd target.address)
+    ensures { execution hart.new memory.now reservations.new result
+        ≡ aligned_effect target.address target.wide
+        (reserve number.0 target.wide target.rd target.address)
         (setting hart.old memory.now reservations.old) }
 {
     if !is_aligned(target) {
@@ -89,7 +90,7 @@ fn store_if(
     target: Target,
 ) -> Step
     requires { target.rd < 32 }
-    ensures { executed hart.new memory.new reservations.new result
+    ensures { execution hart.new memory.new reservations.new result
         ≡ store_reserved reserved target.wide target.rd target.address target.value
         (setting hart.old memory.old reservations.old) }
 {
@@ -119,7 +120,7 @@ fn store_conditional(
     target: Target,
 ) -> Step
     requires { target.rd < 32 }
-    ensures { executed hart.new memory.new reservations.new result
+    ensures { execution hart.new memory.new reservations.new result
         ≡ atomic number.0 (AtomicOp.Sc) target.wide target.rd target.address target.value
         (setting hart.old memory.old reservations.old) }
 {
@@ -141,8 +142,8 @@ fn exchange(
 ) -> Step
     requires amo { IsTrue (is_amo op) }
     requires rd { target.rd < 32 }
-    ensures { executed hart.new memory.new reservations.new result
-        ≡ aligned target.address target.wide
+    ensures { execution hart.new memory.new reservations.new result
+        ≡ aligned_effect target.address target.wide
         (exchange op target.wide target.rd target.address target.value)
         (setting hart.old memory.old reservations.old) }
 {
@@ -174,7 +175,7 @@ pub fn atomic(
 ) -> Step
     requires number { number.0 < HARTS }
     requires rd { target.rd < 32 }
-    ensures { executed hart.new memory.new reservations.new result
+    ensures { execution hart.new memory.new reservations.new result
         ≡ atomic number.0 op target.wide target.rd target.address target.value
         (setting hart.old memory.old reservations.old) }
 {

@@ -1,6 +1,6 @@
 //! The registers of a hart, and what follows an instruction.
 ghost use Rattle.std.specs.Prelude.{◌≡◌, ◌<◌};
-ghost use Rattle.rv_execute.specs.Execution.{ChangesHart, register, with_register, address_at, next, put, jump};
+ghost use Rattle.rv_execute.specs.Execution.{ChangesHart, register, with_register, address_at, next, with_rd, jump};
 
 use coz_types::{Address, TrapCause};
 
@@ -70,7 +70,7 @@ impl HartState {
     #[inline]
     pub(crate) fn put(&mut self, rd: u8, value: u64) -> Step
         requires { rd < 32 }
-        ensures { ChangesHart self.old self.new result (put rd value) }
+        ensures { ChangesHart self.old self.new result (with_rd rd value) }
     {
         self.set(rd, value);
         self.proceed()

@@ -2,7 +2,7 @@
 ghost use Rattle.std.specs.Prelude.{◌≡◌, ◌<◌, ◌^◌, ◌*◌, ◌/◌};
 ghost use Rattle.rv_decode.specs.Instructions.{amount_bits};
 ghost use Rattle.rv_alu.specs.Operations.{upper_result, register_result, immediate_result, shift_result, is_taken};
-ghost use Rattle.rv_execute.specs.Execution.{ChangesHart, register as value, address_at, put, jump, branch};
+ghost use Rattle.rv_execute.specs.Execution.{ChangesHart, register as value, address_at, with_rd, jump, branch};
 
 use crate::hart::{HartState, Step, address_at};
 use coz_types::Address;
@@ -26,7 +26,8 @@ fn upper_result(op: UpperOp, value: u32, pc: Address) -> u64
 pub fn upper(hart: &mut HartState, op: UpperOp, rd: u8, value: u32) -> Step
     requires rd { rd < 32 }
     requires field { value < 2 ^ 20 }
-    ensures { ChangesHart hart.old hart.new result (put rd (upper_result op value hart.old.pc)) }
+    ensures { ChangesHart hart.old hart.new result
+        (with_rd rd (upper_result op value hart.old.pc)) }
 {
     let result = upper_result(op, value, hart.pc);
     hart.put(rd, result)
@@ -76,7 +77,7 @@ pub fn immediate(hart: &mut HartState, op: ImmOp, rd: u8, rs1: u8, field: i32) -
     requires rd { rd < 32 }
     requires rs1 { rs1 < 32 }
     ensures { ChangesHart hart.old hart.new result
-        (put rd (immediate_result op (value hart.old rs1) field)) }
+        (with_rd rd (immediate_result op (value hart.old rs1) field)) }
 {
     let result = rv_alu::immediate(op, hart.value(rs1), field);
     hart.put(rd, result)
@@ -89,7 +90,7 @@ pub fn shift(hart: &mut HartState, op: ShiftOp, rd: u8, rs1: u8, amount: u8) -> 
     requires rs1 { rs1 < 32 }
     requires amount { amount < 2 ^ amount_bits op }
     ensures { ChangesHart hart.old hart.new result
-        (put rd (shift_result op (value hart.old rs1) amount)) }
+        (with_rd rd (shift_result op (value hart.old rs1) amount)) }
 {
     let result = rv_alu::shift(op, hart.value(rs1), amount);
     hart.put(rd, result)
@@ -102,7 +103,7 @@ pub fn register(hart: &mut HartState, op: RegOp, rd: u8, rs1: u8, rs2: u8) -> St
     requires rs1 { rs1 < 32 }
     requires rs2 { rs2 < 32 }
     ensures { ChangesHart hart.old hart.new result
-        (put rd (register_result op (value hart.old rs1) (value hart.old rs2))) }
+        (with_rd rd (register_result op (value hart.old rs1) (value hart.old rs2))) }
 {
     let result = rv_alu::register(op, hart.value(rs1), hart.value(rs2));
     hart.put(rd, result)

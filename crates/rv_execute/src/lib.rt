@@ -14,7 +14,7 @@ mod reservations;
 ghost use Rattle.std.specs.Prelude.{◌≡◌, ◌<◌, ◌↔◌, slice_index};
 ghost use Rattle.coz_types.specs.declared.TheConstants.{HARTS};
 ghost use Rattle.rv_decode.specs.Instructions.{InRange};
-ghost use Rattle.rv_execute.specs.Execution.{setting, executed, execute};
+ghost use Rattle.rv_execute.specs.Execution.{setting, execution, execute};
 ghost use Rattle.rv_execute.specs.Laws.{after_trap};
 
 use crate::atomic::{Target, atomic};
@@ -39,7 +39,7 @@ pub fn execute(
 ) -> Step
     requires number { number.0 < HARTS }
     requires fields { InRange instr }
-    ensures effect { executed hart.new memory.new reservations.new result
+    ensures effect { execution hart.new memory.new reservations.new result
         ≡ execute number.0 instr (setting hart.old memory.old reservations.old) }
     ensures call { (result ≡ Step.Call) ↔ (instr ≡ Instr.Ecall) }
     ensures called { result ≡ Step.Call →
@@ -64,7 +64,7 @@ fn effect(
 ) -> Step
     requires number { number.0 < HARTS }
     requires fields { InRange instr }
-    ensures { executed hart.new memory.new reservations.new result
+    ensures { execution hart.new memory.new reservations.new result
         ≡ execute number.0 instr (setting hart.old memory.old reservations.old) }
 {
     match instr {

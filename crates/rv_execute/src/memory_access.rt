@@ -2,7 +2,7 @@
 ghost use Rattle.std.specs.Prelude.{◌≡◌, ◌<◌};
 ghost use Rattle.guest_memory.specs.Memory.{IsSize};
 ghost use Rattle.rv_execute.specs.Reservations.{Reservations as Reserved};
-ghost use Rattle.rv_execute.specs.Execution.{setting, executed, register, address_at, load_size, load_value, load_to, store_size, store_at};
+ghost use Rattle.rv_execute.specs.Execution.{setting, execution, register, address_at, load_size, load_value, load_to, store_size, store_at};
 
 use crate::hart::{HartState, Step, address_at};
 use crate::reservations::Reservations;
@@ -62,7 +62,7 @@ fn load_value(op: LoadOp, number: u64) -> u64
 pub fn load(hart: &mut HartState, memory: &Memory, op: LoadOp, rd: u8, rs1: u8, offset: i32) -> Step
     requires rd { rd < 32 }
     requires rs1 { rs1 < 32 }
-    ensures { (r : Reserved) → executed hart.new memory.now r result
+    ensures { (r : Reserved) → execution hart.new memory.now r result
         ≡ load_to op rd (address_at (register hart.old rs1) offset)
         (setting hart.old memory.now r) }
 {
@@ -84,7 +84,7 @@ fn store_at(
     value: u64,
 ) -> Step
     requires { IsSize size }
-    ensures { executed hart.new memory.new reservations.new result
+    ensures { execution hart.new memory.new reservations.new result
         ≡ store_at address size value (setting hart.old memory.old reservations.old) }
 {
     match memory.store(address, size, value) {
@@ -109,7 +109,7 @@ pub fn store(
 ) -> Step
     requires rs1 { rs1 < 32 }
     requires rs2 { rs2 < 32 }
-    ensures { executed hart.new memory.new reservations.new result
+    ensures { execution hart.new memory.new reservations.new result
         ≡ store_at (address_at (register hart.old rs1) offset) (store_size op)
         (register hart.old rs2)
         (setting hart.old memory.old reservations.old) }

@@ -18,7 +18,7 @@ use Rattle.virtual_run.specs.declared.engine.Engine.{Engine}
 use Rattle.virtual_run.specs.Advance.{IsAdvance}
 use Rattle.virtual_run.specs.Engine.{events_of}
 use Rattle.virtual_run.specs.Visits.{Visits, visits_of}
-use Rattle.virtual_run.specs.Seen.{seen, experiment_with}
+use Rattle.virtual_run.specs.Seen.{machine_view, experiment_with}
 use Rattle.virtual_run.proofs.Law.{reached_next, reached_woken, events_below, recorded_now, last_now, shortened_is}
 use Rattle.shortened_run.specs.ShortenedRun.{AreUndelayed, IsShort}
 
@@ -85,5 +85,5 @@ module _ (image : ImageParts) (input : List ℕ) (setting : Setting) (engine : E
 -- what is seen of a run with the same parts is the same
 pub same_seen : (image old_image : ImageParts) (index old_index : Index) (points old_points : Points) (input old_input : List ℕ) (choice old_choice : Choice) (state : Shortened Guest)
     → image ≡ old_image → index ≡ old_index → points ≡ old_points → input ≡ old_input → choice ≡ old_choice
-    → seen image index points input choice (λ _. state) ≡ seen old_image old_index old_points old_input old_choice (λ _. state)
+    → machine_view image index points input choice (λ _. state) ≡ machine_view old_image old_index old_points old_input old_choice (λ _. state)
 same_seen image old_image index old_index points old_points input old_input choice old_choice state image_is index_is points_is input_is choice_is = cc

@@ -4,7 +4,7 @@
 ghost use Rattle.std.specs.Prelude.{◌≡◌, ◌≤◌, ◌<◌, Some, IfOk, All, length, map};
 ghost use Rattle.coz_types.specs.declared.TheConstants.{HARTS};
 ghost use Rattle.virtual_run.specs.Visits.{net_of};
-ghost use Rattle.virtual_run.specs.Seen.{seen, experiment_of};
+ghost use Rattle.virtual_run.specs.Seen.{machine_view, experiment_of};
 ghost use Rattle.shortened_run.specs.ShortenedRun.{AreUndelayed};
 
 use coz_types::{Ending, Image, Tick, Visit};
@@ -57,7 +57,8 @@ impl<'a> Short<'a> {
     ) -> Result<Short<'a>, AllocError>
         requires { IsChoice choice }
         ensures { IfOk result (λ short.
-            short ≡ seen image.now index.now points.now input.now choice (λ x. shortened x 0)) }
+            short ≡ machine_view image.now index.now points.now input.now choice
+            (λ x. shortened x 0)) }
     {
         let setting = Setting {
             index,

@@ -13,9 +13,9 @@ use Rattle.guest_calls.proofs.Law.{sleeps_few, running_awake}
 use Rattle.virtual_run.specs.declared.choice.Setting.{Setting}
 use Rattle.virtual_run.specs.declared.engine.Engine.{Engine}
 use Rattle.virtual_run.specs.Visits.{Visits, visits_of}
-use Rattle.virtual_run.specs.Begin.{started_by, rested, many, AreIdle, AreBegun}
+use Rattle.virtual_run.specs.Begin.{started_by, keys_at_rest, many, AreIdle, AreBegun}
 use Rattle.virtual_run.specs.Ending.{ending_of, runs_after}
-use Rattle.virtual_run.specs.Run.{selects, selected_of, ticks_in}
+use Rattle.virtual_run.specs.Run.{is_selecting, selected_of, ticks_in}
 use Rattle.virtual_run.specs.Engine.{events_of, AreWithin, IsSteady}
 use Rattle.virtual_run.specs.Advance.{told_in, IsRetired, IsSettled, IsWoken}
 use Rattle.virtual_run.proofs.Keys.{has_place, rested_length}
@@ -30,7 +30,7 @@ pub record IsLeft (setting : Setting) (engine : Engine) (left : Keys) (h due del
   pub running : is_running engine.guest h ≡ true
   pub turn : key_of engine.schedule h ≡ Some due
   pub first : IsLeast engine.schedule h
-  pub taken : left ≡ rested h fate engine.schedule
+  pub taken : left ≡ keys_at_rest h fate engine.schedule
   pub place : address ≡ pc_of engine.guest h
   pub retires : outcome after fate others ≡ retire engine.guest h due
   pub keeps : now ≡ record engine.visits { kept = engine.visits.kept ++ visits_of (point_of setting.points.now address) h (due + delay) delay }
@@ -45,7 +45,7 @@ not_some None is some = let no : false ≡ true = some in let never : ⊥ = cc i
 not_some (Some a) is some = let no : ⊥ = cc in no
 
 -- how the run ends, by the schedule that the hart has left, if it does
-pub told_left : (setting : Setting) (engine : Engine) (fate : Fate) (h : ℕ) (left : Keys) → left ≡ (if goes_on fate then engine.schedule else rested h fate engine.schedule) → told_in setting fate engine left ≡ told_in setting fate engine (rested h fate engine.schedule)
+pub told_left : (setting : Setting) (engine : Engine) (fate : Fate) (h : ℕ) (left : Keys) → left ≡ (if goes_on fate then engine.schedule else keys_at_rest h fate engine.schedule) → told_in setting fate engine left ≡ told_in setting fate engine (keys_at_rest h fate engine.schedule)
 told_left setting engine fate h left is =
     ap (λ runs. ending_of fate (nat_le setting.choice.output_limit (length engine.guest.output)) (nat_le setting.choice.visit_limit (length engine.visits.kept)) runs engine.retired setting.choice.budget) (left_runs fate engine.started h engine.schedule left is)
 
@@ -85,7 +85,7 @@ module _ (setting : Setting) (engine : Engine) (left : Keys) (h due delay : ℕ)
   keeps_at : now ≡ record engine.visits { kept = engine.visits.kept ++ visits_of (point_of setting.points.now (pc_of engine.guest h)) h (due + delay) delay }
   keeps_at = l.keeps ∙ ap (λ (a : ℕ). record engine.visits { kept = engine.visits.kept ++ visits_of (point_of setting.points.now a) h (due + delay) delay }) l.place
 
-  ends_at : e ≡ ending_of fate (nat_le setting.choice.output_limit (length after.output)) (nat_le setting.choice.visit_limit (length now.kept)) (runs_after fate others (rested h fate engine.schedule)) (engine.retired + 1) setting.choice.budget
+  ends_at : e ≡ ending_of fate (nat_le setting.choice.output_limit (length after.output)) (nat_le setting.choice.visit_limit (length now.kept)) (runs_after fate others (keys_at_rest h fate engine.schedule)) (engine.retired + 1) setting.choice.budget
   ends_at = l.ends ∙ ap (λ (keys : Keys). ending_of fate (nat_le setting.choice.output_limit (length after.output)) (nat_le setting.choice.visit_limit (length now.kept)) (runs_after fate others keys) (engine.retired + 1) setting.choice.budget) l.taken
 
   unfull_then : e ≡ None → length now.kept < setting.choice.visit_limit
@@ -119,7 +119,7 @@ module _ (setting : Setting) (engine : Engine) (left : Keys) (h due delay : ℕ)
         omega (arith, less, before, counted, few);
     within = λ moment more within.
         let soon = soon_left moment more within in
-        within_begun (ticks_in setting after) due (started_by h fate others) left new moment (ticks_few (selects setting) setting.choice.speedup after) begun (within h due l.turn) soon;
+        within_begun (ticks_in setting after) due (started_by h fate others) left new moment (ticks_few (is_selecting setting) setting.choice.speedup after) begun (within h due l.turn) soon;
   }
 
   -- the run ends with the move
@@ -147,20 +147,20 @@ module _ (setting : Setting) (engine : Engine) (left : Keys) (h due delay : ℕ)
 
 -- a retirement, from what its calls leave and what it then ends or begins
 pub settled : (setting : Setting) (engine : Engine) (h due delay : ℕ) (after : Guest) (fate : Fate) (others chosen : List ℕ) (now : Visits) (address : ℕ) (new : Engine) → setting.choice.speedup ≤ 95 → chosen ≡ []
-    → ((e : Option Ending) → e ≡ told_in setting fate (engine_of due after engine.schedule others chosen now (engine.retired + 1) engine.wakes engine.starts engine.ending) (rested h fate engine.schedule) → IsLeft setting engine (rested h fate engine.schedule) h due delay after fate others now address e)
+    → ((e : Option Ending) → e ≡ told_in setting fate (engine_of due after engine.schedule others chosen now (engine.retired + 1) engine.wakes engine.starts engine.ending) (keys_at_rest h fate engine.schedule) → IsLeft setting engine (keys_at_rest h fate engine.schedule) h due delay after fate others now address e)
     → IsSettled setting (engine_of due after engine.schedule others chosen now (engine.retired + 1) engine.wakes engine.starts engine.ending) h fate new → IsRetired setting engine h fate delay new
 settled setting engine h due delay after fate others chosen now address new small empty left s = go new.ending refl
   where
     go : (e : Option Ending) → new.ending ≡ e → IsRetired setting engine h fate delay new
     go None is =
-        let none : told_in setting fate (engine_of due after engine.schedule others chosen now (engine.retired + 1) engine.wakes engine.starts engine.ending) (rested h fate engine.schedule) ≡ None = sym s.ending ∙ is in
+        let none : told_in setting fate (engine_of due after engine.schedule others chosen now (engine.retired + 1) engine.wakes engine.starts engine.ending) (keys_at_rest h fate engine.schedule) ≡ None = sym s.ending ∙ is in
         let goes = (left _ refl).steady.goes in
         let b = s.begun is in
         subst (λ (engine' : Engine). IsRetired setting engine h fate delay engine') (sym b.rest)
-        (advance_goes setting engine (rested h fate engine.schedule) h due delay after fate others now address engine.ending (left engine.ending (goes ∙ sym none)) new.schedule new.selected new.starts goes small b.begun b.selected b.room b.starts b.few)
+        (advance_goes setting engine (keys_at_rest h fate engine.schedule) h due delay after fate others now address engine.ending (left engine.ending (goes ∙ sym none)) new.schedule new.selected new.starts goes small b.begun b.selected b.room b.starts b.few)
     go (Some a) is =
         subst (λ (engine' : Engine). IsRetired setting engine h fate delay engine') (sym (s.ended (ap is_some is)))
-        (advance_ended setting engine (rested h fate engine.schedule) h due delay after fate others now address new.ending (left new.ending s.ending) a chosen is empty)
+        (advance_ended setting engine (keys_at_rest h fate engine.schedule) h due delay after fate others now address new.ending (left new.ending s.ending) a chosen is empty)
 
 -- a sleeping hart wakes, and begins
 pub advance_woken : (setting : Setting) (engine : Engine) (h due : ℕ) (keys : Keys) (selected : List ℕ) (starts : ℕ) → IsSteady engine → setting.choice.speedup ≤ 95 → key_of engine.schedule h ≡ Some due → IsLeast engine.schedule h → is_sleeping engine.guest h ≡ true
@@ -170,7 +170,7 @@ advance_woken setting engine h due keys selected starts steady small turn first 
     let g : Guest = with_wake h engine.guest in
     let below : h < length engine.schedule = has_place engine.schedule h due turn in
     let begun : AreBegun (ticks_in setting g) due (h ∷ []) engine.schedule keys = woken_begun (ticks_in setting g) due h engine.schedule keys below is in
-    let one : length (selected_of setting g (h ∷ [])) ≤ 1 = one_at_most (λ hart. selects setting (pc_of g hart)) h in
+    let one : length (selected_of setting g (h ∷ [])) ≤ 1 = one_at_most (λ hart. is_selecting setting (pc_of g hart)) h in
     let same : length selected ≡ length (selected_of setting g (h ∷ [])) = ap length chosen in
     let left : many engine.schedule ≡ many (without_key h engine.schedule) + 1 = many_without engine.schedule h due turn in
     let idle = woken_idle engine.guest engine.schedule h due steady.orderly asleep steady.room turn in
@@ -186,6 +186,6 @@ advance_woken setting engine h due keys selected starts steady small turn first 
       wakes = refl;
       room = ap length is ∙ length-set (without_key h engine.schedule) h (Some (due + ticks_in setting g h)) ∙ length-set engine.schedule h None ∙ steady.room;
       few = let before : engine.starts ≤ events_of engine + many engine.schedule = steady.few in omega (arith, before, one, same, left, more, counted);
-      within = λ moment within. within_begun (ticks_in setting g) due (h ∷ []) engine.schedule keys moment (ticks_few (selects setting) setting.choice.speedup g) begun (within h due turn) within;
+      within = λ moment within. within_begun (ticks_in setting g) due (h ∷ []) engine.schedule keys moment (ticks_few (is_selecting setting) setting.choice.speedup g) begun (within h due turn) within;
       rest = refl;
     }

@@ -5,7 +5,7 @@ use Rattle.coz_types.specs.Image.{ImageParts}
 use Rattle.hart_schedule.specs.Keys.{Keys, key_of}
 use Rattle.machines.specs.Places.{change, change_each}
 use Rattle.machines.specs.Guest.{Experiment, cost, cut}
-use Rattle.machines.specs.Delayed.{Delayed, fresh, raise, begin, unbegun, delayed, after, run as run_from}
+use Rattle.machines.specs.Delayed.{Delayed, idle_hart, raise, begin, unbegun, delayed, after, run as run_from}
 use Rattle.machines.specs.Shortened.{Shortened, shortened}
 use Rattle.machines.specs.Shortened as short
 use Rattle.machines.specs.Standing.{standing}
@@ -16,7 +16,7 @@ use Rattle.guest_calls.specs.Guest.{Guest, IsMade, pc_of}
 use Rattle.virtual_run.specs.declared.choice.Setting.{Setting}
 use Rattle.virtual_run.specs.declared.engine.Engine.{Engine}
 use Rattle.virtual_run.specs.Begin.{many}
-use Rattle.virtual_run.specs.Run.{IsChoice, selects, selected_of}
+use Rattle.virtual_run.specs.Run.{IsChoice, is_selecting, selected_of}
 use Rattle.virtual_run.specs.Engine.{events_of, IsReached, state_of}
 use Rattle.virtual_run.specs.Credited.{Holds}
 use Rattle.virtual_run.specs.Seen.{experiment_with}
@@ -56,7 +56,7 @@ module _ (x : Experiment Guest) (whole : x.speedup ≡ 0) where
   only_counts hs d = ap (λ (y : Experiment Guest). fold (raise y) d hs) (sym same) ∙ all_count x 0 hs d
 
   abbrev ready : Delayed Guest
-  ready = record { now = 0; delay = 0; guest = x.first; harts = change_each fresh (0 ∷ []) (λ h. run_from (cost x x.first h)) []; visits = []; retired = 0; wakes = 0; starts = 0; ending = None }
+  ready = record { now = 0; delay = 0; guest = x.first; harts = change_each idle_hart (0 ∷ []) (λ h. run_from (cost x x.first h)) []; visits = []; retired = 0; wakes = 0; starts = 0; ending = None }
 
   -- its first state but for the starts
   first_is : (n : ℕ) × (standing x 0 ≡ record ready { starts = n })
@@ -142,7 +142,7 @@ module _ (image : ImageParts) (input : List ℕ) (setting : Setting) (engine : E
     unfull = p.reached.unfull;
     retired = p.reached.retired;
     few =
-        let one : length chosen ≤ 1 = one_at_most (λ hart. selects (lined_setting line setting) (pc_of engine.guest hart)) 0 in
+        let one : length chosen ≤ 1 = one_at_most (λ hart. is_selecting (lined_setting line setting) (pc_of engine.guest hart)) 0 in
         let some : 1 ≤ many engine.schedule = some_due in
         omega (arith, one, some);
     within = p.reached.within;

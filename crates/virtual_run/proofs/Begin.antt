@@ -11,7 +11,7 @@ use Rattle.hart_schedule.specs.Keys.{Keys, key_of, with_key, without_key}
 use Rattle.machines.specs.Places.{is_among}
 use Rattle.guest_calls.specs.Guest.{Guest, pc_of}
 use Rattle.guest_calls.specs.Retire.{next_of}
-use Rattle.virtual_run.specs.Begin.{ticks_of, rested, many, IsIdle, AreIdle, AreBegun}
+use Rattle.virtual_run.specs.Begin.{ticks_of, keys_at_rest, many, IsIdle, AreIdle, AreBegun}
 use Rattle.virtual_run.specs.Engine.{AreWithin}
 use Rattle.virtual_run.proofs.Many.{many_with, many_without, many_below}
 use Rattle.virtual_run.proofs.Keys.{has_place, with_key_at, without_key_at, over_key_at, rested_at}
@@ -241,7 +241,7 @@ sleeps_to (Sleeps moment) v e = let same : moment ≡ v = cc in ap Sleeps same
 sleeps_to (Ends ending) v e = absurd (let no : ◌≡◌ {A = Option ℕ} None (Some v) = e in cc)
 
 -- a wake that is soon enough is due so
-pub within_left : (keys left : Keys) (h moment : ℕ) (fate : Fate) → h < length keys → left ≡ rested h fate keys → ((v : ℕ) → fate ≡ Sleeps v → v ≤ moment) → AreWithin moment keys → AreWithin moment left
+pub within_left : (keys left : Keys) (h moment : ℕ) (fate : Fate) → h < length keys → left ≡ keys_at_rest h fate keys → ((v : ℕ) → fate ≡ Sleeps v → v ≤ moment) → AreWithin moment keys → AreWithin moment left
 within_left keys left h moment fate below is soon within k due has =
     left_by k h (k == h) (key_of left k) (key_of keys k) (rest fate) moment (ap (λ (ks : Keys). key_of ks k) is ∙ rested_at fate keys h k below) (λ v e. soon v (sleeps_to fate v e)) (within k) due has
 
@@ -249,7 +249,7 @@ pub within_later : (n m : ℕ) (keys : Keys) → n ≤ m → AreWithin n keys �
 within_later n m keys less within h due has = let soon : due ≤ n = within h due has in omega arith
 
 -- a hart that was left in the schedule, as it goes on, is taken out all the same
-pub left_again : (fate : Fate) (h : ℕ) (keys now : Keys) → now ≡ (if goes_on fate then keys else rested h fate keys) → (if goes_on fate then without_key h now else now) ≡ rested h fate keys
+pub left_again : (fate : Fate) (h : ℕ) (keys now : Keys) → now ≡ (if goes_on fate then keys else keys_at_rest h fate keys) → (if goes_on fate then without_key h now else now) ≡ keys_at_rest h fate keys
 left_again Goes h keys now is = ap (without_key h) is
 left_again Waits h keys now is = is
 left_again Leaves h keys now is = is
@@ -257,7 +257,7 @@ left_again (Sleeps moment) h keys now is = is
 left_again (Ends ending) h keys now is = is
 
 -- and so runs some hart after it
-pub left_runs : (fate : Fate) (others : List ℕ) (h : ℕ) (keys now : Keys) → now ≡ (if goes_on fate then keys else rested h fate keys) → runs_after fate others now ≡ runs_after fate others (rested h fate keys)
+pub left_runs : (fate : Fate) (others : List ℕ) (h : ℕ) (keys now : Keys) → now ≡ (if goes_on fate then keys else keys_at_rest h fate keys) → runs_after fate others now ≡ runs_after fate others (keys_at_rest h fate keys)
 left_runs Goes others h keys now is = refl
 left_runs Waits others h keys now is = ap (runs_after Waits others) is
 left_runs Leaves others h keys now is = ap (runs_after Leaves others) is
@@ -265,13 +265,13 @@ left_runs (Sleeps moment) others h keys now is = ap (runs_after (Sleeps moment) 
 left_runs (Ends ending) others h keys now is = ap (runs_after (Ends ending) others) is
 
 -- one hart less is due, or none
-pub many_rested : (fate : Fate) (keys : Keys) (h due : ℕ) → key_of keys h ≡ Some due → many keys ≤ many (rested h fate keys) + 1
+pub many_rested : (fate : Fate) (keys : Keys) (h due : ℕ) → key_of keys h ≡ Some due → many keys ≤ many (keys_at_rest h fate keys) + 1
 many_rested fate keys h due turn = go fate
   where
     one : many keys ≡ many (without_key h keys) + 1
     one = many_without keys h due turn
 
-    go : (f : Fate) → many keys ≤ many (rested h f keys) + 1
+    go : (f : Fate) → many keys ≤ many (keys_at_rest h f keys) + 1
     go Goes = omega (arith, one)
     go Waits = omega (arith, one)
     go Leaves = omega (arith, one)

@@ -5,8 +5,8 @@ use Rattle.std.proofs.Math.ListN.{get_or-map}
 use Rattle.machines.specs.Places.{change, change_each, change_from, with_places, is_among}
 use Rattle.machines.specs.declared.Fate.{Fate}
 use Rattle.machines.specs.declared.Fate.TheVariants.{Goes, Waits, Leaves, Sleeps, Ends}
-use Rattle.machines.specs.Guest.{Experiment, cost, cut, sleeps}
-use Rattle.machines.specs.Delayed.{Hart, Delayed, total, fresh, stop, rest, run, credit, raise_hart, account_of, raise, begin, retirement, leave, give_credit}
+use Rattle.machines.specs.Guest.{Experiment, cost, cut, is_sleeper}
+use Rattle.machines.specs.Delayed.{Hart, Delayed, total, idle_hart, stop, rest, run, credit, raise_hart, account_of, raise, begin, retirement, leave, give_credit}
 use Rattle.machines.specs.Steps.{sit_hart, jump}
 use Rattle.machines.proofs.Maps.{change_same, change_other, change_all_at, with_places_at}
 use Rattle.delay_credits.specs.Delays.{Delays, at}
@@ -16,33 +16,33 @@ use Rattle.virtual_run.specs.Credited.{AreHeld, Holds, with_credits, with_starts
 
 -- maps of harts, and the same harts without their work
 held_by : (h k : ℕ) (f f' : Hart → Hart) (held harts : List Hart) → ((hart : Hart) → without_work (f hart) ≡ f' (without_work hart)) → AreHeld held harts → (h ≡ k) ⊎ (h ≡ k → ⊥)
-    → get_or (change fresh h f' held) k fresh ≡ without_work (get_or (change fresh h f harts) k fresh)
+    → get_or (change idle_hart h f' held) k idle_hart ≡ without_work (get_or (change idle_hart h f harts) k idle_hart)
 held_by h k f f' held harts same are (inl is) =
-    subst (λ i. get_or (change fresh h f' held) i fresh ≡ without_work (get_or (change fresh h f harts) i fresh)) is
-    (change_same fresh h f' held ∙ ap f' (are h) ∙ sym (same (get_or harts h fresh)) ∙ ap without_work (sym (change_same fresh h f harts)))
-held_by h k f f' held harts same are (inr n) = change_other fresh h k f' held n ∙ are k ∙ ap without_work (sym (change_other fresh h k f harts n))
+    subst (λ i. get_or (change idle_hart h f' held) i idle_hart ≡ without_work (get_or (change idle_hart h f harts) i idle_hart)) is
+    (change_same idle_hart h f' held ∙ ap f' (are h) ∙ sym (same (get_or harts h idle_hart)) ∙ ap without_work (sym (change_same idle_hart h f harts)))
+held_by h k f f' held harts same are (inr n) = change_other idle_hart h k f' held n ∙ are k ∙ ap without_work (sym (change_other idle_hart h k f harts n))
 
-pub held_change : (h : ℕ) (f f' : Hart → Hart) (held harts : List Hart) → ((hart : Hart) → without_work (f hart) ≡ f' (without_work hart)) → AreHeld held harts → AreHeld (change fresh h f' held) (change fresh h f harts)
+pub held_change : (h : ℕ) (f f' : Hart → Hart) (held harts : List Hart) → ((hart : Hart) → without_work (f hart) ≡ f' (without_work hart)) → AreHeld held harts → AreHeld (change idle_hart h f' held) (change idle_hart h f harts)
 held_change h f f' held harts same are k = held_by h k f f' held harts same are (cases_eq h k)
 
 pub held_each : (hs : List ℕ) (f f' : ℕ → Hart → Hart) (held harts : List Hart) → ((h : ℕ) (hart : Hart) → without_work (f h hart) ≡ f' h (without_work hart)) → AreHeld held harts
-    → AreHeld (change_each fresh hs f' held) (change_each fresh hs f harts)
+    → AreHeld (change_each idle_hart hs f' held) (change_each idle_hart hs f harts)
 held_each [] f f' held harts same are = are
-held_each (h ∷ hs) f f' held harts same are = held_each hs f f' (change fresh h (f' h) held) (change fresh h (f h) harts) same (held_change h (f h) (f' h) held harts (same h) are)
+held_each (h ∷ hs) f f' held harts same are = held_each hs f f' (change idle_hart h (f' h) held) (change idle_hart h (f h) harts) same (held_change h (f h) (f' h) held harts (same h) are)
 
-pub held_places : (hs : List ℕ) (held harts : List Hart) → AreHeld held harts → AreHeld held (with_places fresh hs harts)
-held_places hs held harts are k = are k ∙ ap without_work (sym (with_places_at fresh hs k harts))
+pub held_places : (hs : List ℕ) (held harts : List Hart) → AreHeld held harts → AreHeld held (with_places idle_hart hs harts)
+held_places hs held harts are k = are k ∙ ap without_work (sym (with_places_at idle_hart hs k harts))
 
 pub held_sit : (n : ℕ) (held harts : List Hart) → AreHeld held harts → AreHeld (map (sit_hart n) held) (map (sit_hart n) harts)
 held_sit n held harts are k =
-    get_or-map (sit_hart n) held k fresh ∙ ap (sit_hart n) (are k) ∙ sym (without_work-sit n (get_or harts k fresh)) ∙ ap without_work (sym (get_or-map (sit_hart n) harts k fresh))
+    get_or-map (sit_hart n) held k idle_hart ∙ ap (sit_hart n) (are k) ∙ sym (without_work-sit n (get_or harts k idle_hart)) ∙ ap without_work (sym (get_or-map (sit_hart n) harts k idle_hart))
 
 pub held_raise : (ticks h : ℕ) (held harts : List Hart) → AreHeld held harts → AreHeld (change_from 0 (raise_hart ticks h) held) (change_from 0 (raise_hart ticks h) harts)
 held_raise ticks h held harts are k =
-    change_all_at fresh (raise_hart ticks h) (λ i. refl) k held
+    change_all_at idle_hart (raise_hart ticks h) (λ i. refl) k held
     ∙ ap (raise_hart ticks h k) (are k)
-    ∙ sym (without_work-raise ticks h k (get_or harts k fresh))
-    ∙ ap without_work (sym (change_all_at fresh (raise_hart ticks h) (λ i. refl) k harts))
+    ∙ sym (without_work-raise ticks h k (get_or harts k idle_hart))
+    ∙ ap without_work (sym (change_all_at idle_hart (raise_hart ticks h) (λ i. refl) k harts))
 
 -- the credits at a later moment
 pub holds_jump : {G : Type 0} (n now : ℕ) (c : Delays) (d : Delayed G) → now ≡ d.now + n → Holds c d → Holds (at now c) (jump n d)
@@ -79,7 +79,7 @@ among_filter test k (h ∷ hs) e = go (among_by (test h) k h (filter test hs) e)
 
 -- what retiring to this fate makes of a hart, without its work
 abbrev pub rest_of : Fate → Hart → Hart
-rest_of fate = if sleeps fate then run 0 else stop
+rest_of fate = if is_sleeper fate then run 0 else stop
 
 without_rest : (fate : Fate) (net : ℕ) (hart : Hart) → without_work (rest fate net hart) ≡ rest_of fate (without_work hart)
 without_rest Goes net hart = without_work-stop hart
@@ -88,7 +88,7 @@ without_rest Leaves net hart = without_work-stop hart
 without_rest (Sleeps moment) net hart = without_work-run (moment - net) hart
 without_rest (Ends ending) net hart = without_work-stop hart
 
-pub with_rest_is : (h : ℕ) (fate : Fate) (now : ℕ) (c : Delays) → with_rest h fate now c ≡ record (at now c) { harts = change fresh h (rest_of fate) (at now c).harts }
+pub with_rest_is : (h : ℕ) (fate : Fate) (now : ℕ) (c : Delays) → with_rest h fate now c ≡ record (at now c) { harts = change idle_hart h (rest_of fate) (at now c).harts }
 with_rest_is h Goes now c = refl
 with_rest_is h Waits now c = refl
 with_rest_is h Leaves now c = refl
@@ -101,12 +101,12 @@ module _ {G : Type 0} (x : Experiment G) where
   unfolding leave
   holds_leave h now c d holds =
       let fate : Fate = (retirement x h d).fate in
-      let stopped : List Hart = change fresh h (rest_of fate) (at now c).harts in
+      let stopped : List Hart = change idle_hart h (rest_of fate) (at now c).harts in
       rw (with_rest_is h fate now c)
       (record {
         latest = holds.latest;
         raised = holds.raised;
-        harts = held_places (retirement x h d).others stopped (change fresh h (rest fate (d.now - d.delay)) d.harts)
+        harts = held_places (retirement x h d).others stopped (change idle_hart h (rest fate (d.now - d.delay)) d.harts)
             (held_change h (rest fate (d.now - d.delay)) (rest_of fate) (at now c).harts d.harts (λ hart. without_rest fate (d.now - d.delay) hart) holds.harts);
       })
 
@@ -150,7 +150,7 @@ module _ {G : Type 0} (x : Experiment G) where
       → Holds (with_raises ticks (filter (x.guest.is_selected d.guest) hs) (with_starts hs c)) (begin x hs d)
   unfolding begin
   holds_begin hs ticks c d are holds =
-      let ready : Delayed G = record d { harts = change_each fresh hs (λ h. run (cost x d.guest h)) d.harts } in
+      let ready : Delayed G = record d { harts = change_each idle_hart hs (λ h. run (cost x d.guest h)) d.harts } in
       let starts : Holds (with_starts hs c) ready = record {
         latest = holds.latest;
         raised = holds.raised;

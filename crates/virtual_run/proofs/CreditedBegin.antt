@@ -2,10 +2,10 @@
 use Rattle.std.proofs.Common.{◌≡◌, ℕ, zero, suc, ◌+◌, ◌<◌, ◌==◌, eqb-true, Bool, true, false, if◌then◌else◌, List, [], ◌∷◌, length, refl, ap, subst, ◌∙◌, Option}
 use Rattle.machines.specs.declared.Fate.{Fate}
 use Rattle.machines.specs.declared.Fate.TheVariants.{Goes, Waits, Leaves, Sleeps, Ends}
-use Rattle.machines.specs.Guest.{goes_on, sleeps}
+use Rattle.machines.specs.Guest.{goes_on, is_sleeper}
 use Rattle.coz_types.specs.declared.ending.Ending.{Ending}
 use Rattle.machines.specs.Places.{change, is_among}
-use Rattle.machines.specs.Delayed.{Hart, fresh, is_any, run, stop, credit}
+use Rattle.machines.specs.Delayed.{Hart, idle_hart, is_any, run, stop, credit}
 use Rattle.delay_credits.specs.Delays.{Delays, at, with_start}
 use Rattle.guest_calls.specs.Guest.{Guest}
 use Rattle.virtual_run.specs.declared.engine.Event.{Event}
@@ -74,13 +74,13 @@ module _ (c : Delays) (g : Guest) (hart : ℕ) (fate : Fate) (others raisers : L
       ∙ same_places
 
 -- a hart that stops and starts at one moment has started
-stop-start : (h : ℕ) (harts : List Hart) → change fresh h (run 0) harts ≡ change fresh h (run 0) (change fresh h stop harts)
+stop-start : (h : ℕ) (harts : List Hart) → change idle_hart h (run 0) harts ≡ change idle_hart h (run 0) (change idle_hart h stop harts)
 stop-start zero [] = refl
 stop-start zero (hart ∷ harts) = refl
-stop-start (suc h) [] = ap (λ (hs : List Hart). fresh ∷ hs) (stop-start h [])
+stop-start (suc h) [] = ap (λ (hs : List Hart). idle_hart ∷ hs) (stop-start h [])
 stop-start (suc h) (hart ∷ harts) = ap (λ (hs : List Hart). hart ∷ hs) (stop-start h harts)
 
-goes_awake : (fate : Fate) → goes_on fate ≡ true → sleeps fate ≡ false
+goes_awake : (fate : Fate) → goes_on fate ≡ true → is_sleeper fate ≡ false
 goes_awake Goes goes = refl
 goes_awake Waits goes = refl
 goes_awake Leaves goes = refl

@@ -3,8 +3,8 @@ use Rattle.std.proofs.Common.{◌≡◌, ℕ, zero, suc, ◌+◌, ◌*◌, ◌�
 use Rattle.std.proofs.Math.Nat.{mul-le-mul}
 use Rattle.coz_types.specs.declared.ending.Ending.{Ending}
 use Rattle.machines.specs.Places.{change_each}
-use Rattle.machines.specs.Guest.{Experiment, IsLawful, cost, cut, started}
-use Rattle.machines.specs.Delayed.{Delayed, fresh, run, over_or, raise, begin, retirement, leave, give_credit, ending, retire, wake, unbegun, after, delayed}
+use Rattle.machines.specs.Guest.{Experiment, IsLawful, cost, cut, started_harts}
+use Rattle.machines.specs.Delayed.{Delayed, idle_hart, run, over_or, raise, begin, retirement, leave, give_credit, ending, retire, wake, unbegun, after, delayed}
 use Rattle.machines.specs.Shortened.{shortened}
 use Rattle.machines.specs.Steps.{jump}
 use Rattle.machines.specs.Standing.{ticks_left, next, standing}
@@ -28,7 +28,7 @@ module _ {G : Type 0} (x : Experiment G) where
   -- as many selected starts as selected harts begin
   pub begin_starts : (hs : List ℕ) (d : Delayed G) → (begin x hs d).starts ≡ d.starts + length (filter (x.guest.is_selected d.guest) hs)
   unfolding begin
-  begin_starts hs d = raises_starts (filter (x.guest.is_selected d.guest) hs) (record d { harts = change_each fresh hs (λ h. run (cost x d.guest h)) d.harts })
+  begin_starts hs d = raises_starts (filter (x.guest.is_selected d.guest) hs) (record d { harts = change_each idle_hart hs (λ h. run (cost x d.guest h)) d.harts })
 
   pub credit_starts : (h : ℕ) (d : Delayed G) → ((give_credit x h d).starts ≡ d.starts) × ((give_credit x h d).delay ≡ d.delay) × ((leave x h d).starts ≡ d.starts) × ((leave x h d).delay ≡ d.delay)
   unfolding give_credit leave
@@ -53,7 +53,7 @@ module _ {G : Type 0} (x : Experiment G) where
 
     begin_bounded : (hs : List ℕ) (d : Delayed G) → Bounded most d → Bounded most (begin x hs d)
     unfolding begin
-    begin_bounded hs d b = raises_bounded (filter (x.guest.is_selected d.guest) hs) (record d { harts = change_each fresh hs (λ h. run (cost x d.guest h)) d.harts }) b
+    begin_bounded hs d b = raises_bounded (filter (x.guest.is_selected d.guest) hs) (record d { harts = change_each idle_hart hs (λ h. run (cost x d.guest h)) d.harts }) b
 
     over_bounded : (o : Option Ending) (d next : Delayed G) → Bounded most d → Bounded most next → Bounded most (over_or o d next)
     over_bounded None d next b c = c
@@ -63,8 +63,8 @@ module _ {G : Type 0} (x : Experiment G) where
     unfolding retire
     retire_bounded h d b =
         let c = credit_starts h d in
-        over_bounded (ending x h d) (leave x h d) (begin x (started h (retirement x h d)) (give_credit x h d))
-        (rw (c.2, c.3) b) (begin_bounded (started h (retirement x h d)) (give_credit x h d) (rw (c.0, c.1) b))
+        over_bounded (ending x h d) (leave x h d) (begin x (started_harts h (retirement x h d)) (give_credit x h d))
+        (rw (c.2, c.3) b) (begin_bounded (started_harts h (retirement x h d)) (give_credit x h d) (rw (c.0, c.1) b))
 
     wake_bounded : (h : ℕ) (d : Delayed G) → Bounded most d → Bounded most (wake x h d)
     unfolding wake

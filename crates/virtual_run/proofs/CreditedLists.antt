@@ -5,8 +5,8 @@ use Rattle.std.proofs.lemmas.List.{drop_all}
 use Rattle.std.proofs.Math.Seq.{drop-cons}
 use Rattle.coz_types.specs.declared.HartId.{HartId}
 use Rattle.machines.specs.Places.{change, change_each, change_from, is_among}
-use Rattle.machines.specs.Delayed.{Account, Load, Hart, total, fresh, is_running, run, credit, raise_hart}
-use Rattle.delay_credits.specs.Ticks.{ticked}
+use Rattle.machines.specs.Delayed.{Account, Load, Hart, total, idle_hart, is_running, run, credit, raise_hart}
+use Rattle.delay_credits.specs.Ticks.{hart_after_ticks}
 use Rattle.machines.proofs.Maps.{change_same, change_other, change_all_at}
 use Rattle.delay_credits.specs.Delays.{Delays, hart_at, at, with_start, with_raise, with_credit}
 use Rattle.virtual_run.specs.Credited.{with_credits, with_starts, with_one_raise, with_raises, Runs, Rests, AllRun, AllRest, AllBelow}
@@ -35,21 +35,21 @@ among_at [] i below = absurd (omega arith)
 among_at (hart ∷ harts) zero below = among_first hart.0 (numbers harts)
 among_at (hart ∷ harts) (suc i) below = let less : i < length harts = omega arith in among_rest hart.0 (get_or harts i (record { 0 = 0 })).0 (numbers harts) (among_at harts i less)
 
-pub change_length : (h : ℕ) (f : Hart → Hart) (harts : List Hart) → h < length harts → length (change fresh h f harts) ≡ length harts
+pub change_length : (h : ℕ) (f : Hart → Hart) (harts : List Hart) → h < length harts → length (change idle_hart h f harts) ≡ length harts
 change_length h f [] below = absurd (omega arith)
 change_length zero f (hart ∷ harts) below = refl
 change_length (suc h) f (hart ∷ harts) below = let less : h < length harts = omega arith in ap suc (change_length h f harts less)
 
 -- a change after which each hart runs as before
-still_by : (h k : ℕ) (f : Hart → Hart) (harts : List Hart) → ((hart : Hart) → is_running (f hart) ≡ is_running hart) → (h ≡ k) ⊎ (h ≡ k → ⊥) → is_running (get_or (change fresh h f harts) k fresh) ≡ is_running (get_or harts k fresh)
-still_by h k f harts same (inl is) = subst (λ i. is_running (get_or (change fresh h f harts) i fresh) ≡ is_running (get_or harts i fresh)) is (ap is_running (change_same fresh h f harts) ∙ same (get_or harts h fresh))
-still_by h k f harts same (inr n) = ap is_running (change_other fresh h k f harts n)
+still_by : (h k : ℕ) (f : Hart → Hart) (harts : List Hart) → ((hart : Hart) → is_running (f hart) ≡ is_running hart) → (h ≡ k) ⊎ (h ≡ k → ⊥) → is_running (get_or (change idle_hart h f harts) k idle_hart) ≡ is_running (get_or harts k idle_hart)
+still_by h k f harts same (inl is) = subst (λ i. is_running (get_or (change idle_hart h f harts) i idle_hart) ≡ is_running (get_or harts i idle_hart)) is (ap is_running (change_same idle_hart h f harts) ∙ same (get_or harts h idle_hart))
+still_by h k f harts same (inr n) = ap is_running (change_other idle_hart h k f harts n)
 
-still : (h k : ℕ) (f : Hart → Hart) (harts : List Hart) → ((hart : Hart) → is_running (f hart) ≡ is_running hart) → is_running (get_or (change fresh h f harts) k fresh) ≡ is_running (get_or harts k fresh)
+still : (h k : ℕ) (f : Hart → Hart) (harts : List Hart) → ((hart : Hart) → is_running (f hart) ≡ is_running hart) → is_running (get_or (change idle_hart h f harts) k idle_hart) ≡ is_running (get_or harts k idle_hart)
 still h k f harts same = still_by h k f harts same (cases_eq h k)
 
 -- no ticks at once
-none_ticked : (harts : List Hart) → map (ticked 0) harts ≡ harts
+none_ticked : (harts : List Hart) → map (hart_after_ticks 0) harts ≡ harts
 none_ticked [] = refl
 none_ticked (hart ∷ harts) = ap (λ (rest : List Hart). hart ∷ rest) (none_ticked harts)
 
@@ -57,7 +57,7 @@ none_ticked (hart ∷ harts) = ap (λ (rest : List Hart). hart ∷ rest) (none_t
 pub at_latest : (c : Delays) (now : ℕ) → c.latest ≡ now → at now c ≡ c
 at_latest c now is =
     let none : now - c.latest ≡ 0 = omega arith in
-    ap₂ (λ m (hs : List Hart). record { latest = m; raised = c.raised; harts = hs }) (sym is) (ap (λ n. map (ticked n) c.harts) none ∙ none_ticked c.harts)
+    ap₂ (λ m (hs : List Hart). record { latest = m; raised = c.raised; harts = hs }) (sym is) (ap (λ n. map (hart_after_ticks n) c.harts) none ∙ none_ticked c.harts)
 
 -- crediting
 pub record IsCrediting (waker : ℕ) (goal : Delays) (hs : List ℕ) (c : Delays) : Type 0 where
@@ -69,25 +69,25 @@ pub record IsCrediting (waker : ℕ) (goal : Delays) (hs : List ℕ) (c : Delays
 whole_by : (h waker : ℕ) (c : Delays) → total (hart_at c waker).account ≡ c.raised → (h ≡ waker) ⊎ (h ≡ waker → ⊥) → total (hart_at (with_credit h waker c) waker).account ≡ c.raised
 whole_by h waker c whole (inl same) =
     let hart : Hart = hart_at c waker in
-    subst (λ i. total (get_or (change fresh i (credit (total hart.account)) c.harts) waker fresh).account ≡ c.raised) (sym same)
-    (ap (λ (o : Hart). total o.account) (change_same fresh waker (credit (total hart.account)) c.harts) ∙ all hart.account whole)
+    subst (λ i. total (get_or (change idle_hart i (credit (total hart.account)) c.harts) waker idle_hart).account ≡ c.raised) (sym same)
+    (ap (λ (o : Hart). total o.account) (change_same idle_hart waker (credit (total hart.account)) c.harts) ∙ all hart.account whole)
   where
     all : (a : Account) → total a ≡ c.raised → total (record a { credited = a.credited + (total a - total a) }) ≡ c.raised
     all a e = omega arith
 whole_by h waker c whole (inr n) =
     let hart : Hart = hart_at c waker in
-    ap (λ (o : Hart). total o.account) (change_other fresh h waker (credit (total hart.account)) c.harts n) ∙ whole
+    ap (λ (o : Hart). total o.account) (change_other idle_hart h waker (credit (total hart.account)) c.harts n) ∙ whole
 
 pub credited_one : (waker h : ℕ) (goal : Delays) (hs : List ℕ) (c : Delays) → IsCrediting waker goal (h ∷ hs) c → IsCrediting waker goal hs (with_credit h waker c)
 credited_one waker h goal hs c b =
     let most : ℕ = total (hart_at c waker).account in
     let below : h < length c.harts = (b.rest h (among_first h hs)).below in
-    let many : length (change fresh h (credit most) c.harts) ≡ length c.harts = change_length h (credit most) c.harts below in
+    let many : length (change idle_hart h (credit most) c.harts) ≡ length c.harts = change_length h (credit most) c.harts below in
     record {
       rest = λ k among. let r : Rests c k = b.rest k (among_rest h k hs among) in record { below = rw many r.below; rests = still h k (credit most) c.harts (λ o. refl) ∙ r.rests };
       waker_below = rw many b.waker_below;
       whole = whole_by h waker c b.whole (cases_eq h waker);
-      reaches = ap (λ n. record c { harts = change_each fresh hs (λ _. credit c.raised) (change fresh h (credit n) c.harts) }) b.whole ∙ b.reaches;
+      reaches = ap (λ n. record c { harts = change_each idle_hart hs (λ _. credit c.raised) (change idle_hart h (credit n) c.harts) }) b.whole ∙ b.reaches;
     }
 
 -- starting
@@ -96,8 +96,8 @@ pub record IsStarting (moment : ℕ) (goal : Delays) (hs : List ℕ) (c : Delays
   pub now : c.latest ≡ moment
   pub reaches : with_starts hs c ≡ goal
 
-pub start_is : (h now : ℕ) (c : Delays) → c.latest ≡ now → with_start h now c ≡ record c { harts = change fresh h (run 0) c.harts }
-start_is h now c is = ap (λ (o : Delays). record o { harts = change fresh h (run 0) o.harts }) (at_latest c now is)
+pub start_is : (h now : ℕ) (c : Delays) → c.latest ≡ now → with_start h now c ≡ record c { harts = change idle_hart h (run 0) c.harts }
+start_is h now c is = ap (λ (o : Delays). record o { harts = change idle_hart h (run 0) o.harts }) (at_latest c now is)
 
 pub started_one : (h now : ℕ) (goal : Delays) (hs : List ℕ) (c : Delays) → IsStarting now goal (h ∷ hs) c → IsStarting now goal hs (with_start h now c)
 started_one h now goal hs c b =
@@ -141,7 +141,7 @@ raised_one ticks h now goal hs c small b =
           let r : Runs c k = b.run k (among_rest h k hs among) in
           record {
             below = rw (from_length (raise_hart (ticks h) h) 0 c.harts) r.below;
-            runs = ap is_running (change_all_at fresh (raise_hart (ticks h) h) (λ i. refl) k c.harts) ∙ runs_raised (ticks h) h k (hart_at c k) ∙ r.runs;
+            runs = ap is_running (change_all_at idle_hart (raise_hart (ticks h) h) (λ i. refl) k c.harts) ∙ runs_raised (ticks h) h k (hart_at c k) ∙ r.runs;
           };
       now = b.now;
       few = let f : c.raised + 3800 * suc (length hs) ≤ 10 ^ 17 = b.few in omega arith;
@@ -149,11 +149,11 @@ raised_one ticks h now goal hs c small b =
     })
 
 -- what the lists leave as it is
-pub credits_length : (hs : List ℕ) (f : ℕ → Hart → Hart) (harts : List Hart) → ((k : ℕ) → is_among k hs ≡ true → k < length harts) → length (change_each fresh hs f harts) ≡ length harts
+pub credits_length : (hs : List ℕ) (f : ℕ → Hart → Hart) (harts : List Hart) → ((k : ℕ) → is_among k hs ≡ true → k < length harts) → length (change_each idle_hart hs f harts) ≡ length harts
 credits_length [] f harts below = refl
 credits_length (h ∷ hs) f harts below =
-    let same : length (change fresh h (f h) harts) ≡ length harts = change_length h (f h) harts (below h (among_first h hs)) in
-    credits_length hs f (change fresh h (f h) harts) (λ k among. rw same (below k (among_rest h k hs among))) ∙ same
+    let same : length (change idle_hart h (f h) harts) ≡ length harts = change_length h (f h) harts (below h (among_first h hs)) in
+    credits_length hs f (change idle_hart h (f h) harts) (λ k among. rw same (below k (among_rest h k hs among))) ∙ same
 
 pub raises_length : (ticks : ℕ → ℕ) (hs : List ℕ) (c : Delays) → length (with_raises ticks hs c).harts ≡ length c.harts
 raises_length ticks [] c = refl
@@ -164,15 +164,15 @@ raises_latest ticks [] c = refl
 raises_latest ticks (h ∷ hs) c = raises_latest ticks hs (with_one_raise (ticks h) h c)
 
 -- harts that were started run
-runs_each : (hs : List ℕ) (k : ℕ) (harts : List Hart) → (is_among k hs ≡ true) ⊎ (is_running (get_or harts k fresh) ≡ true) → is_running (get_or (change_each fresh hs (λ _. run 0) harts) k fresh) ≡ true
+runs_each : (hs : List ℕ) (k : ℕ) (harts : List Hart) → (is_among k hs ≡ true) ⊎ (is_running (get_or harts k idle_hart) ≡ true) → is_running (get_or (change_each idle_hart hs (λ _. run 0) harts) k idle_hart) ≡ true
 runs_each [] k harts (inl e) = absurd (let no : false ≡ true = e in cc)
 runs_each [] k harts (inr e) = e
-runs_each (h ∷ hs) k harts given = runs_each hs k (change fresh h (run 0) harts) (go (cases_eq h k) given)
+runs_each (h ∷ hs) k harts given = runs_each hs k (change idle_hart h (run 0) harts) (go (cases_eq h k) given)
   where
-    go : (h ≡ k) ⊎ (h ≡ k → ⊥) → (is_among k (h ∷ hs) ≡ true) ⊎ (is_running (get_or harts k fresh) ≡ true) → (is_among k hs ≡ true) ⊎ (is_running (get_or (change fresh h (run 0) harts) k fresh) ≡ true)
-    go (inl same) given = inr (subst (λ i. is_running (get_or (change fresh h (run 0) harts) i fresh) ≡ true) same (ap is_running (change_same fresh h (run 0) harts)))
+    go : (h ≡ k) ⊎ (h ≡ k → ⊥) → (is_among k (h ∷ hs) ≡ true) ⊎ (is_running (get_or harts k idle_hart) ≡ true) → (is_among k hs ≡ true) ⊎ (is_running (get_or (change idle_hart h (run 0) harts) k idle_hart) ≡ true)
+    go (inl same) given = inr (subst (λ i. is_running (get_or (change idle_hart h (run 0) harts) i idle_hart) ≡ true) same (ap is_running (change_same idle_hart h (run 0) harts)))
     go (inr n) (inl e) = inl (rw (ne_eqb k h (λ s. n (sym s))) at e)
-    go (inr n) (inr e) = inr (ap is_running (change_other fresh h k (run 0) harts n) ∙ e)
+    go (inr n) (inr e) = inr (ap is_running (change_other idle_hart h k (run 0) harts n) ∙ e)
 
 pub starts_run : (hs : List ℕ) (c : Delays) → AllBelow c hs → AllRun (with_starts hs c) hs
 starts_run hs c below k among = record { below = rw (credits_length hs (λ _. run 0) c.harts below) (below k among); runs = runs_each hs k c.harts (inl among) }

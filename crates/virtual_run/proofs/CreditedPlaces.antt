@@ -4,8 +4,8 @@ use Rattle.std.proofs.lemmas.Bool.{cases_eq}
 use Rattle.std.proofs.lemmas.List.{length-map}
 use Rattle.coz_types.specs.declared.ending.Ending.{Ending}
 use Rattle.machines.specs.Places.{change, change_each, change_from, is_among}
-use Rattle.machines.specs.Guest.{Experiment, IsLawful, goes_on, cost, cut, started}
-use Rattle.machines.specs.Delayed.{Hart, Delayed, total, fresh, rest, run, credit, raise_hart, account_of, over_or, raise, begin, retirement, leave, give_credit, ending, retire, wake, unbegun, after, delayed}
+use Rattle.machines.specs.Guest.{Experiment, IsLawful, goes_on, cost, cut, started_harts}
+use Rattle.machines.specs.Delayed.{Hart, Delayed, total, idle_hart, rest, run, credit, raise_hart, account_of, over_or, raise, begin, retirement, leave, give_credit, ending, retire, wake, unbegun, after, delayed}
 use Rattle.machines.specs.Shortened.{Shortened, shortened}
 use Rattle.machines.specs.Steps.{sit_hart, jump}
 use Rattle.machines.specs.Standing.{ticks_left, standing}
@@ -44,18 +44,18 @@ places_above (h ∷ hs) n k e = go (cases_eq k h) (λ more. places_above hs (max
     go (inl same) rest = let up : max n (suc h) ≤ places hs (max n (suc h)) = places_from hs (max n (suc h)) in omega arith
     go (inr other) rest = rest (rw (ne_eqb k h other) at e)
 
-change_places : (h : ℕ) (f : Hart → Hart) (harts : List Hart) → length (change fresh h f harts) ≡ max (length harts) (suc h)
+change_places : (h : ℕ) (f : Hart → Hart) (harts : List Hart) → length (change idle_hart h f harts) ≡ max (length harts) (suc h)
 change_places zero f [] = refl
 change_places zero f (hart ∷ harts) = let e : suc (length harts) ≡ max (suc (length harts)) 1 = omega arith in e
-change_places (suc h) f [] = let below : length (change fresh h f []) ≡ max 0 (suc h) = change_places h f [] in let e : suc (length (change fresh h f [])) ≡ max 0 (suc (suc h)) = omega arith in e
+change_places (suc h) f [] = let below : length (change idle_hart h f []) ≡ max 0 (suc h) = change_places h f [] in let e : suc (length (change idle_hart h f [])) ≡ max 0 (suc (suc h)) = omega arith in e
 change_places (suc h) f (hart ∷ harts) =
-    let below : length (change fresh h f harts) ≡ max (length harts) (suc h) = change_places h f harts in
-    let e : suc (length (change fresh h f harts)) ≡ max (suc (length harts)) (suc (suc h)) = omega arith in
+    let below : length (change idle_hart h f harts) ≡ max (length harts) (suc h) = change_places h f harts in
+    let e : suc (length (change idle_hart h f harts)) ≡ max (suc (length harts)) (suc (suc h)) = omega arith in
     e
 
-each_places : (hs : List ℕ) (f : ℕ → Hart → Hart) (harts : List Hart) → length (change_each fresh hs f harts) ≡ places hs (length harts)
+each_places : (hs : List ℕ) (f : ℕ → Hart → Hart) (harts : List Hart) → length (change_each idle_hart hs f harts) ≡ places hs (length harts)
 each_places [] f harts = refl
-each_places (h ∷ hs) f harts = each_places hs f (change fresh h (f h) harts) ∙ ap (places hs) (change_places h (f h) harts)
+each_places (h ∷ hs) f harts = each_places hs f (change idle_hart h (f h) harts) ∙ ap (places hs) (change_places h (f h) harts)
 
 from_length : (f : ℕ → Hart → Hart) (i : ℕ) (harts : List Hart) → length (change_from i f harts) ≡ length harts
 from_length f i [] = refl
@@ -78,14 +78,14 @@ module _ {G : Type 0} (x : Experiment G) where
   begin_places : (hs : List ℕ) (d : Delayed G) → length (begin x hs d).harts ≡ places hs (length d.harts)
   unfolding begin
   begin_places hs d =
-      raises_places (filter (x.guest.is_selected d.guest) hs) (record d { harts = change_each fresh hs (λ h. run (cost x d.guest h)) d.harts })
+      raises_places (filter (x.guest.is_selected d.guest) hs) (record d { harts = change_each idle_hart hs (λ h. run (cost x d.guest h)) d.harts })
       ∙ each_places hs (λ h. run (cost x d.guest h)) d.harts
 
   leave_places : (h : ℕ) (d : Delayed G) → h < length d.harts → length (leave x h d).harts ≡ places (retirement x h d).others (length d.harts)
   unfolding leave
   leave_places h d below =
       let same : max (length d.harts) (suc h) ≡ length d.harts = omega arith in
-      each_places (retirement x h d).others (λ _ o. o) (change fresh h (rest (retirement x h d).fate (d.now - d.delay)) d.harts) ∙ ap (places (retirement x h d).others) (change_places h (rest (retirement x h d).fate (d.now - d.delay)) d.harts ∙ same)
+      each_places (retirement x h d).others (λ _ o. o) (change idle_hart h (rest (retirement x h d).fate (d.now - d.delay)) d.harts) ∙ ap (places (retirement x h d).others) (change_places h (rest (retirement x h d).fate (d.now - d.delay)) d.harts ∙ same)
 
   credit_places : (h : ℕ) (d : Delayed G) → length (give_credit x h d).harts ≡ places (retirement x h d).others (length (leave x h d).harts)
   unfolding give_credit
@@ -129,7 +129,7 @@ module _ {G : Type 0} (x : Experiment G) (Good : G → Type 0) (law : IsLawful x
       let below : h < length d.harts = rw r.each r.made in
       leave_places x h d below ∙ ap (places (retirement x h d).others) r.each ∙ sym r.grows ∙ sym (ap count (guest_is x h d).0)
 
-  begin_has : (h : ℕ) (d : Delayed G) → Retiring h d → HasEach (begin x (started h (retirement x h d)) (give_credit x h d))
+  begin_has : (h : ℕ) (d : Delayed G) → Retiring h d → HasEach (begin x (started_harts h (retirement x h d)) (give_credit x h d))
   begin_has h d r =
       let others : List ℕ = (retirement x h d).others in
       let n : ℕ = length (leave x h d).harts in
@@ -138,11 +138,11 @@ module _ {G : Type 0} (x : Experiment G) (Good : G → Type 0) (law : IsLawful x
       let up : length d.harts ≤ places others (length d.harts) = places_from others (length d.harts) in
       let each : (k : ℕ) → is_among k others ≡ true → k < n = λ k among. subst (λ m. k < m) (sym left) (places_above others (length d.harts) k among) in
       let credited : length (give_credit x h d).harts ≡ n = credit_places x h d ∙ places_kept others n each in
-      let all : (k : ℕ) → is_among k (started h (retirement x h d)) ≡ true → k < length (give_credit x h d).harts =
+      let all : (k : ℕ) → is_among k (started_harts h (retirement x h d)) ≡ true → k < length (give_credit x h d).harts =
       λ k among. subst (λ m. k < m) (sym credited) (below_by k n (started_by k h (goes_on (retirement x h d).fate) others among) each (omega arith)) in
-      begin_places x (started h (retirement x h d)) (give_credit x h d)
-      ∙ places_kept (started h (retirement x h d)) (length (give_credit x h d).harts) all
-      ∙ credited ∙ leave_has h d r ∙ ap count ((guest_is x h d).0 ∙ sym (guest_is x h d).1 ∙ sym (begin_guest (started h (retirement x h d)) (give_credit x h d)))
+      begin_places x (started_harts h (retirement x h d)) (give_credit x h d)
+      ∙ places_kept (started_harts h (retirement x h d)) (length (give_credit x h d).harts) all
+      ∙ credited ∙ leave_has h d r ∙ ap count ((guest_is x h d).0 ∙ sym (guest_is x h d).1 ∙ sym (begin_guest (started_harts h (retirement x h d)) (give_credit x h d)))
     where
       below_by : (k n : ℕ) → (k ≡ h) ⊎ (is_among k (retirement x h d).others ≡ true) → ((i : ℕ) → is_among i (retirement x h d).others ≡ true → i < n) → h < n → k < n
       below_by k n (inl same) each own = rw same own
@@ -150,7 +150,7 @@ module _ {G : Type 0} (x : Experiment G) (Good : G → Type 0) (law : IsLawful x
 
   retire_has : (h : ℕ) (d : Delayed G) → Retiring h d → HasEach (retire x h d)
   unfolding retire
-  retire_has h d r = over_has (ending x h d) (leave x h d) (begin x (started h (retirement x h d)) (give_credit x h d)) (leave_has h d r) (begin_has h d r)
+  retire_has h d r = over_has (ending x h d) (leave x h d) (begin x (started_harts h (retirement x h d)) (give_credit x h d)) (leave_has h d r) (begin_has h d r)
 
   just : (k h n : ℕ) → is_among k (h ∷ []) ≡ true → h < n → k < n
   just k h n among below = go (cases_eq k h) among
@@ -217,7 +217,7 @@ module _ {G : Type 0} (x : Experiment G) (Good : G → Type 0) (law : IsLawful x
   retire_guest : (h : ℕ) (d : Delayed G) → (retire x h d).guest ≡ (retirement x h d).guest
   unfolding retire
   retire_guest h d =
-      let hs : List ℕ = started h (retirement x h d) in
+      let hs : List ℕ = started_harts h (retirement x h d) in
       over_guest (ending x h d) (leave x h d) (begin x hs (give_credit x h d)) (retirement x h d).guest (guest_is x h d).0 (ap (λ o. o.guest) (begin_frame x hs (give_credit x h d)) ∙ (guest_is x h d).1)
 
   made_by : (h : ℕ) (d : Delayed G) → (retirement x h d).guest ≡ (x.guest.retire d.guest h (d.now - d.delay)).guest

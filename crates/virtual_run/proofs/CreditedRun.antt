@@ -17,8 +17,8 @@ use Rattle.progress_points.specs.Points.{point_of}
 use Rattle.machines.specs.declared.Fate.{Fate}
 use Rattle.machines.specs.declared.Fate.TheVariants.{Goes, Waits, Leaves, Sleeps, Ends}
 use Rattle.machines.specs.Places.{is_among}
-use Rattle.machines.specs.Guest.{Experiment, Retirement, IsLawful, enough, goes_on, own_ending, when, first_ending, started, is_timed}
-use Rattle.machines.specs.Delayed.{Account, Load, Hart, Delayed, Visit, fresh, is_running, run as run_from, begin, unbegun, events, after, delayed}
+use Rattle.machines.specs.Guest.{Experiment, Retirement, IsLawful, enough, goes_on, own_ending, ending_if, first_ending, started_harts, is_timed}
+use Rattle.machines.specs.Delayed.{Account, Load, Hart, Delayed, Visit, idle_hart, is_running, run as run_from, begin, unbegun, events, after, delayed}
 use Rattle.machines.specs.Shortened.{Shortened, Turn, shortened, move}
 use Rattle.machines.specs.Shortened as short
 use Rattle.machines.specs.Agreement.{LoadAgrees, Agrees}
@@ -33,7 +33,7 @@ use Rattle.machines.proofs.Ends.{goes_on_at, few, record_is}
 use Rattle.machines.proofs.Stepping.{begin_frame}
 use Rattle.machines.proofs.Standing.{agrees, few_wakes, in_time, end_in_time, steps_is, last, recorded_delayed, delayed_is, net_is}
 use Rattle.delay_credits.specs.Delays.{Delays, account_as, hart_at, pause_of, at, with_start, none_raised}
-use Rattle.delay_credits.specs.Ticks.{without_work, ticked}
+use Rattle.delay_credits.specs.Ticks.{without_work, hart_after_ticks}
 use Rattle.guest_calls.specs.Calls.{retirement}
 use Rattle.guest_calls.specs.Guest.{Guest, making, IsMade, pc_of, with_wake, first_guest, is_running as runs_in}
 use Rattle.guest_calls.specs.Orderly.{IsOrderly}
@@ -43,7 +43,7 @@ use Rattle.virtual_run.specs.declared.choice.Setting.{Setting}
 use Rattle.virtual_run.specs.declared.engine.Event.{Event}
 use Rattle.virtual_run.specs.declared.engine.Event.TheVariants.{Woke, Retired}
 use Rattle.virtual_run.specs.declared.engine.Engine.{Engine}
-use Rattle.virtual_run.specs.Begin.{started_by, rested, many, AreIdle}
+use Rattle.virtual_run.specs.Begin.{started_by, keys_at_rest, many, AreIdle}
 use Rattle.virtual_run.specs.Ending.{ending_of}
 use Rattle.virtual_run.specs.Visits.{Visits, visits_of}
 use Rattle.virtual_run.specs.Run.{IsChoice}
@@ -100,7 +100,7 @@ of_a_hart Spent low = tt
 
 -- no other ending than the guest's own is a trap
 no_trap : (output_full visits_full idle spent : Bool) (trap : Trap)
-    → first_ending (when output_full OutputFull ∷ when visits_full VisitsFull ∷ when idle Stalled ∷ when spent Spent ∷ []) ≡ Some (Trapped trap) → ⊥
+    → first_ending (ending_if output_full OutputFull ∷ ending_if visits_full VisitsFull ∷ ending_if idle Stalled ∷ ending_if spent Spent ∷ []) ≡ Some (Trapped trap) → ⊥
 no_trap true visits_full idle spent trap is = cc
 no_trap false true idle spent trap is = cc
 no_trap false false true spent trap is = cc
@@ -224,7 +224,7 @@ module _ (image : ImageParts) (input : List ℕ) (setting : Setting) (engine : E
 
     stopped_places : length stopped.harts ≡ 256
     stopped_places =
-        let same : length (at later_now credits).harts ≡ length credits.harts = length-map credits.harts (ticked (later_now - credits.latest)) in
+        let same : length (at later_now credits).harts ≡ length credits.harts = length-map credits.harts (hart_after_ticks (later_now - credits.latest)) in
         ap (λ (c : Delays). length c.harts) (with_rest_is h fate later_now credits)
         ∙ change_length h (rest_of fate) (at later_now credits).harts (subst (λ (n : ℕ). h < n) (sym same) hart_below) ∙ same ∙ p.room
 
@@ -237,7 +237,7 @@ module _ (image : ImageParts) (input : List ℕ) (setting : Setting) (engine : E
     turned : IsTurn engine.guest engine.schedule h new.time
     turned = let st : IsSteady engine = is_steady goes in record { orderly = st.orderly; timed = st.timed; running = a.running; room = st.room; turn = a.turn }
 
-    begin_idle : new.ending ≡ None → AreIdle new.guest (rested h fate engine.schedule) (started_by h fate new.started)
+    begin_idle : new.ending ≡ None → AreIdle new.guest (keys_at_rest h fate engine.schedule) (started_by h fate new.started)
     begin_idle none =
         let own : own_ending fate ≡ None = none_own fate _ _ _ new.retired setting.choice.budget (sym a.ending ∙ none) in
         started_idle engine.guest engine.schedule h new.time new.guest fate new.started turned a.retires own
@@ -289,7 +289,7 @@ module _ (image : ImageParts) (input : List ℕ) (setting : Setting) (engine : E
     pub can_begin : new.ending ≡ None → CanBegin stopped new.guest h fate new.started new.selected
     can_begin none =
         let idle = begin_idle none in
-        let many_harts : length (rested h fate engine.schedule) ≡ 256 = rested_length fate engine.schedule h ∙ p.reached.room in
+        let many_harts : length (keys_at_rest h fate engine.schedule) ≡ 256 = rested_length fate engine.schedule h ∙ p.reached.room in
         let low : (k : ℕ) → is_among k (started_by h fate new.started) ≡ true → k < length stopped.harts = λ k among. subst (λ (n : ℕ). k < n) (many_harts ∙ sym stopped_places) (idle.idle k among).below in
         let chosen : (k : ℕ) → is_among k new.selected ≡ true → is_among k (started_by h fate new.started) ≡ true =
         λ k among. (among_filter (x.guest.is_selected new.guest) k (started_by h fate new.started) (ap (is_among k) (sym (a.selected none)) ∙ among)).1 in
@@ -358,7 +358,7 @@ module _ (image : ImageParts) (input : List ℕ) (setting : Setting) (engine : E
         a.none_selected (ap is_some is) ∙ sym (ap (filter (x.guest.is_selected new.guest)) (ended_begins x (suc (events_of engine)) e (after_is ∙ is)))
     selected_new None is =
         let begins = goes_begins x IsOrderly law (events_of engine) t (ending_now ∙ goes) next.turn was_awake (after_is ∙ is) in
-        a.selected is ∙ sym (ap (filter (x.guest.is_selected new.guest)) (begins ∙ sym (ap (started h) retires_as)))
+        a.selected is ∙ sym (ap (filter (x.guest.is_selected new.guest)) (begins ∙ sym (ap (started_harts h) retires_as)))
 
     pub paced_next : (after : Delays) → after ≡ credits_after new.ending (raise_ticks new.guest setting.choice.speedup) h fate new.started new.selected stopped → IsPaced image input setting new after later_now
     paced_next after is =
@@ -446,7 +446,7 @@ module _ (image : ImageParts) (input : List ℕ) (setting : Setting) (engine : E
 
     pub can_wake : CanWake credits new h wake_now
     can_wake =
-        let same : length (at wake_now credits).harts ≡ length credits.harts = length-map credits.harts (ticked (wake_now - credits.latest)) in
+        let same : length (at wake_now credits).harts ≡ length credits.harts = length-map credits.harts (hart_after_ticks (wake_now - credits.latest)) in
         let here : AllBelow (at wake_now credits) (h ∷ []) = λ k among. let is : k ≡ h = eqb-true k h (one_bit (k == h) among) in omega (arith, is, same, wake_below) in
         let st : IsSteady engine = is_steady goes in
         let low = timed_low engine.guest h st.orderly (st.timed h ∙ ap is_some a.turn) in
@@ -474,7 +474,7 @@ module _ (image : ImageParts) (input : List ℕ) (setting : Setting) (engine : E
 
     waked_places : length waked.harts ≡ 256
     waked_places =
-        let same : length (at wake_now credits).harts ≡ length credits.harts = length-map credits.harts (ticked (wake_now - credits.latest)) in
+        let same : length (at wake_now credits).harts ≡ length credits.harts = length-map credits.harts (hart_after_ticks (wake_now - credits.latest)) in
         raises_length (raise_ticks new.guest setting.choice.speedup) new.selected (with_starts (h ∷ []) (at wake_now credits))
         ∙ change_length h (run_from 0) (at wake_now credits).harts (subst (λ (n : ℕ). h < n) (sym same) wake_below) ∙ same ∙ p.room
 
@@ -545,7 +545,7 @@ account_held hart = go hart.account hart.load
     go a (Some l) = refl
 
 -- the hart at a place, if there is one
-place_some : (harts : List Hart) (h : ℕ) → h < length harts → slice_get harts h ≡ Some (get_or harts h fresh)
+place_some : (harts : List Hart) (h : ℕ) → h < length harts → slice_get harts h ≡ Some (get_or harts h idle_hart)
 place_some [] h below = absurd (omega arith)
 place_some (hart ∷ harts) zero below = refl
 place_some (hart ∷ harts) (suc h) below = let less : h < length harts = omega arith in place_some harts h less
@@ -575,7 +575,7 @@ module _ (image : ImageParts) (input : List ℕ) (setting : Setting) (engine : E
 
   pub due_goes : (h : ℕ) → engine.ending ≡ None → key_of engine.schedule h ≡ net_due_of seen h
   due_goes h none =
-      let hart : Hart = get_or seen.harts h fresh in
+      let hart : Hart = get_or seen.harts h idle_hart in
       rw (ending_now image input setting engine credits now p, none)
       (p.reached.reached.dues h
       ∙ due_of seen.now seen.delay hart.account hart.load (get_or (shortened (experiment_with image input setting) (events_of engine)).dues h None) ((agree image input setting engine credits now p).harts h))
@@ -585,7 +585,7 @@ module _ (image : ImageParts) (input : List ℕ) (setting : Setting) (engine : E
 
   pub account_some : (h : ℕ) (given : GivenAccount) → h < length engine.guest.harts → account_as given ≡ (hart_at (at now credits) h).account → Some (account_as given) ≡ account_in seen h
   account_some h given made is =
-      let hart : Hart = get_or seen.harts h fresh in
+      let hart : Hart = get_or seen.harts h idle_hart in
       let there : h < length seen.harts = rw (harts_now image input setting engine credits now p) made in
       ap Some (is ∙ ap (λ (c : Delays). (hart_at c h).account) (at_latest credits now latest_now) ∙ ap (λ (o : Hart). o.account) (p.holds.harts h) ∙ account_held hart)
       ∙ sym (ap (λ (o : Option Hart). option_map (λ (h : Hart). h.account) o) (place_some seen.harts h there))
@@ -731,7 +731,7 @@ module _ (image : ImageParts) (input : List ℕ) (setting : Setting) (engine : E
   first_runs_here made started hs is_made is_started is k among =
       let starts : started ≡ with_starts (0 ∷ []) (none_raised 256) = is_started ∙ ap (with_start 0 0) is_made ∙ start_is 0 0 (none_raised 256) refl in
       let chosen : is_among k (filter (begun_x.guest.is_selected engine.guest) (0 ∷ [])) ≡ true = ap (is_among k) (sym (is ∙ f.selected)) ∙ among in
-      let below : AllBelow (none_raised 256) (0 ∷ []) = λ j low. let first : j ≡ 0 = only_first j low in let size = length-replicate {A = Hart} 256 fresh in omega (arith, first, size) in
+      let below : AllBelow (none_raised 256) (0 ∷ []) = λ j low. let first : j ≡ 0 = only_first j low in let size = length-replicate {A = Hart} 256 idle_hart in omega (arith, first, size) in
       subst (λ (c : Delays). Runs c k) (sym starts) (starts_run (0 ∷ []) (none_raised 256) below k (among_filter (begun_x.guest.is_selected engine.guest) k (0 ∷ []) chosen).1)
 
   first_raised : Delays
@@ -741,7 +741,7 @@ module _ (image : ImageParts) (input : List ℕ) (setting : Setting) (engine : E
   unfolding first_raised
   first_raised_is = refl
 
-  none_held : (k n : ℕ) → get_or (replicate n fresh) k fresh ≡ fresh
+  none_held : (k n : ℕ) → get_or (replicate n idle_hart) k idle_hart ≡ idle_hart
   none_held k zero = refl
   none_held zero (suc n) = refl
   none_held (suc k) (suc n) = none_held k n
@@ -787,7 +787,7 @@ module _ (image : ImageParts) (input : List ℕ) (setting : Setting) (engine : E
         reached = f.reached;
         holds = holds;
         room = ap (λ (c : Delays). length c.harts) (is ∙ first_raised_is) ∙ raises_length ticks (filter (begun_x.guest.is_selected engine.guest) (0 ∷ [])) (with_starts (0 ∷ []) (none_raised 256))
-            ∙ change_length 0 (run_from 0) (replicate 256 fresh) (rw length-replicate (lit< tt)) ∙ length-replicate {A = Hart} 256 fresh;
+            ∙ change_length 0 (run_from 0) (replicate 256 idle_hart) (rw length-replicate (lit< tt)) ∙ length-replicate {A = Hart} 256 idle_hart;
         visits = ap (map visit_as) f.kept ∙ sym (ap (λ (n : ℕ). (standing begun_x n).visits) zeroth ∙ first_visits);
         moment = sym (raises_latest ticks (filter (begun_x.guest.is_selected engine.guest) (0 ∷ [])) (with_starts (0 ∷ []) (none_raised 256))) ∙ ap (λ (c : Delays). c.latest) (sym (is ∙ first_raised_is)) ∙ holds.latest;
         soon = omega arith;

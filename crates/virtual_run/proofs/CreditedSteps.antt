@@ -4,8 +4,8 @@ use Rattle.std.proofs.lemmas.Bool.{cases_eq}
 use Rattle.coz_types.specs.declared.ending.Ending.{Ending}
 use Rattle.machines.specs.declared.Fate.{Fate}
 use Rattle.machines.specs.declared.Fate.TheVariants.{Goes, Waits, Leaves, Sleeps, Ends}
-use Rattle.machines.specs.Guest.{Experiment, Retirement, IsLawful, started, is_timed}
-use Rattle.machines.specs.Delayed.{Account, Load, Hart, Visit, Delayed, total, fresh, is_ready, is_running, account_of, over_or, begin, retirement, leave, give_credit, ending, retire, wake}
+use Rattle.machines.specs.Guest.{Experiment, Retirement, IsLawful, started_harts, is_timed}
+use Rattle.machines.specs.Delayed.{Account, Load, Hart, Visit, Delayed, total, idle_hart, is_ready, is_running, account_of, over_or, begin, retirement, leave, give_credit, ending, retire, wake}
 use Rattle.machines.specs.Shortened.{Shortened, Turn, next_turn, shortened}
 use Rattle.machines.specs.Agreement.{Agrees}
 use Rattle.machines.specs.Steps.{Passes, sit_hart, jump}
@@ -72,12 +72,12 @@ module _ {G : Type 0} (x : Experiment G) where
   retire_ended : (h : ℕ) (d : Delayed G) (a : Ending) → d.ending ≡ None → (retire x h d).ending ≡ Some a → retire x h d ≡ record (leave x h d) { ending = Some a }
   unfolding retire
   retire_ended h d a none e =
-      let hs : List ℕ = started h (retirement x h d) in
+      let hs : List ℕ = started_harts h (retirement x h d) in
       over_ended (ending x h d) (leave x h d) (begin x hs (give_credit x h d)) a (ap (λ o. o.ending) (begin_frame x hs (give_credit x h d)) ∙ credit_ending h d ∙ none) e
 
-  retire_goes : (h : ℕ) (d : Delayed G) → (retire x h d).ending ≡ None → retire x h d ≡ begin x (started h (retirement x h d)) (give_credit x h d)
+  retire_goes : (h : ℕ) (d : Delayed G) → (retire x h d).ending ≡ None → retire x h d ≡ begin x (started_harts h (retirement x h d)) (give_credit x h d)
   unfolding retire
-  retire_goes h d e = over_goes (ending x h d) (leave x h d) (begin x (started h (retirement x h d)) (give_credit x h d)) e
+  retire_goes h d e = over_goes (ending x h d) (leave x h d) (begin x (started_harts h (retirement x h d)) (give_credit x h d)) e
 
   credit_guest : (h : ℕ) (d : Delayed G) → (give_credit x h d).guest ≡ (retirement x h d).guest
   unfolding give_credit leave
@@ -132,17 +132,17 @@ module _ {G : Type 0} (x : Experiment G) (Good : G → Type 0) (law : IsLawful x
     held : Holds (at now c) (jump k d)
     held = holds_jump k now c d now_is next.holds
 
-    this_ready : is_ready (get_or (jump k d).harts t.hart fresh) ≡ true
-    this_ready = (first_is fresh is_ready (jump k d).harts t.hart steps.ready).passes
+    this_ready : is_ready (get_or (jump k d).harts t.hart idle_hart) ≡ true
+    this_ready = (first_is idle_hart is_ready (jump k d).harts t.hart steps.ready).passes
 
-    ready : Ready (jump k d).now (jump k d).delay (get_or (jump k d).harts t.hart fresh).account (get_or s.dues t.hart None)
+    ready : Ready (jump k d).now (jump k d).delay (get_or (jump k d).harts t.hart idle_hart).account (get_or s.dues t.hart None)
     ready =
-        let this : Hart = get_or (jump k d).harts t.hart fresh in
+        let this : Hart = get_or (jump k d).harts t.hart idle_hart in
         ready_is (jump k d).now (jump k d).delay this.account this.load (get_or s.dues t.hart None) (both.harts t.hart) this_ready
 
     -- the hart has no pause before it then
     pub unpaused : pause_of (hart_at (at now c) t.hart) ≡ 0
-    unpaused = ap pause_of (held.harts t.hart) ∙ unpaused_ready (get_or (jump k d).harts t.hart fresh) this_ready
+    unpaused = ap pause_of (held.harts t.hart) ∙ unpaused_ready (get_or (jump k d).harts t.hart idle_hart) this_ready
 
     due_is : (jump k d).now - (jump k d).delay ≡ t.due
     due_is =
@@ -156,7 +156,7 @@ module _ {G : Type 0} (x : Experiment G) (Good : G → Type 0) (law : IsLawful x
     -- the hart counts as running, if it sleeps too
     pub running : is_running (hart_at c t.hart) ≡ true
     running =
-        let this : Hart = get_or d.harts t.hart fresh in
+        let this : Hart = get_or d.harts t.hart idle_hart in
         ap is_running (next.holds.harts t.hart)
         ∙ runs_held this
         ∙ alike d.now d.delay this.account this.load (get_or s.dues t.hart None) ((agrees x Good law n).harts t.hart)
@@ -168,7 +168,7 @@ module _ {G : Type 0} (x : Experiment G) (Good : G → Type 0) (law : IsLawful x
     -- its total is all that was raised, also once it has stopped
     pub whole : total (hart_at (at now c) t.hart).account ≡ c.raised
     whole =
-        let this : Hart = get_or (jump k d).harts t.hart fresh in
+        let this : Hart = get_or (jump k d).harts t.hart idle_hart in
         ap (λ (o : Hart). total o.account) (held.harts t.hart) ∙ ap total (account_held this) ∙ ready.has_all ∙ sym raised_is
 
     account_rested : (fate : Fate) (hart : Hart) → (rest_of fate hart).account ≡ hart.account
@@ -182,7 +182,7 @@ module _ {G : Type 0} (x : Experiment G) (Good : G → Type 0) (law : IsLawful x
     pub whole_stopped : (fate : Fate) → total (hart_at (with_rest t.hart fate now c) t.hart).account ≡ c.raised
     whole_stopped fate =
         ap (λ (o : Delays). total (hart_at o t.hart).account) (with_rest_is t.hart fate now c)
-        ∙ ap (λ (o : Hart). total o.account) (change_same fresh t.hart (rest_of fate) (at now c).harts)
+        ∙ ap (λ (o : Hart). total o.account) (change_same idle_hart t.hart (rest_of fate) (at now c).harts)
         ∙ ap total (account_rested fate (hart_at (at now c) t.hart))
         ∙ whole
 
@@ -192,9 +192,9 @@ module _ {G : Type 0} (x : Experiment G) (Good : G → Type 0) (law : IsLawful x
     idle_by : (fate : Fate) (i : ℕ) → is_timed x.guest s.guest i ≡ false → (t.hart ≡ i) ⊎ (t.hart ≡ i → ⊥) → is_running (hart_at (with_rest t.hart fate now c) i) ≡ false
     idle_by fate i none (inl same) = absurd (let no : true ≡ false = sym timed_here ∙ ap (is_timed x.guest s.guest) same ∙ none in cc)
     idle_by fate i none (inr other) =
-        let that : Hart = get_or (jump k d).harts i fresh in
+        let that : Hart = get_or (jump k d).harts i idle_hart in
         ap (λ (o : Delays). is_running (hart_at o i)) (with_rest_is t.hart fate now c)
-        ∙ ap is_running (change_other fresh t.hart i (rest_of fate) (at now c).harts other ∙ held.harts i)
+        ∙ ap is_running (change_other idle_hart t.hart i (rest_of fate) (at now c).harts other ∙ held.harts i)
         ∙ runs_held that
         ∙ alike (jump k d).now (jump k d).delay that.account that.load (get_or s.dues i None) (both.harts i)
         ∙ sym (lives.running i)
@@ -232,10 +232,10 @@ module _ {G : Type 0} (x : Experiment G) (Good : G → Type 0) (law : IsLawful x
 
       -- the credits after a retirement from which the run goes on
       abbrev pub begun : (ℕ → ℕ) → Retirement G → Delays
-      begun ticks r = with_raises ticks (filter (x.guest.is_selected r.guest) (started t.hart r)) (with_starts (started t.hart r) (with_credits r.others (with_rest t.hart r.fate now c)))
+      begun ticks r = with_raises ticks (filter (x.guest.is_selected r.guest) (started_harts t.hart r)) (with_starts (started_harts t.hart r) (with_credits r.others (with_rest t.hart r.fate now c)))
 
       begins : (ticks : ℕ → ℕ) → let r : Retirement G = retirement x t.hart (jump k d) in
-          ((h : ℕ) → ticks h ≡ x.speedup * x.guest.cycles r.guest h) → Holds (begun ticks r) (begin x (started t.hart r) (give_credit x t.hart (jump k d)))
+          ((h : ℕ) → ticks h ≡ x.speedup * x.guest.cycles r.guest h) → Holds (begun ticks r) (begin x (started_harts t.hart r) (give_credit x t.hart (jump k d)))
       begins ticks are =
           let j : Delayed G = jump k d in
           let r : Retirement G = retirement x t.hart j in
@@ -243,9 +243,9 @@ module _ {G : Type 0} (x : Experiment G) (Good : G → Type 0) (law : IsLawful x
           let credits : Holds (with_credits r.others (with_rest t.hart r.fate now c)) (give_credit x t.hart j) = holds_credit x t.hart (with_rest t.hart r.fate now c) j all stopped in
           subst
           (λ (g : G). ((h : ℕ) → ticks h ≡ x.speedup * x.guest.cycles g h)
-          → Holds (with_raises ticks (filter (x.guest.is_selected g) (started t.hart r)) (with_starts (started t.hart r) (with_credits r.others (with_rest t.hart r.fate now c)))) (begin x (started t.hart r) (give_credit x t.hart j)))
+          → Holds (with_raises ticks (filter (x.guest.is_selected g) (started_harts t.hart r)) (with_starts (started_harts t.hart r) (with_credits r.others (with_rest t.hart r.fate now c)))) (begin x (started_harts t.hart r) (give_credit x t.hart j)))
           (credit_guest x t.hart j)
-          (λ are. holds_begin x (started t.hart r) ticks (with_credits r.others (with_rest t.hart r.fate now c)) (give_credit x t.hart j) are credits)
+          (λ are. holds_begin x (started_harts t.hart r) ticks (with_credits r.others (with_rest t.hart r.fate now c)) (give_credit x t.hart j) are credits)
           are
 
       pub holds_goes : (ticks : ℕ → ℕ) (r : Retirement G) → r ≡ x.guest.retire s.guest t.hart t.due → ((h : ℕ) → ticks h ≡ x.speedup * x.guest.cycles r.guest h) → (standing x (suc n)).ending ≡ None
@@ -253,9 +253,9 @@ module _ {G : Type 0} (x : Experiment G) (Good : G → Type 0) (law : IsLawful x
       holds_goes ticks r given are none =
           let j : Delayed G = jump k d in
           let same : retirement x t.hart j ≡ r = retires ∙ sym given in
-          let begun_is : standing x (suc n) ≡ begin x (started t.hart (retirement x t.hart j)) (give_credit x t.hart j) = is ∙ retire_goes x t.hart j (ap (λ (o : Delayed G). o.ending) (sym is) ∙ none) in
+          let begun_is : standing x (suc n) ≡ begin x (started_harts t.hart (retirement x t.hart j)) (give_credit x t.hart j) = is ∙ retire_goes x t.hart j (ap (λ (o : Delayed G). o.ending) (sym is) ∙ none) in
           subst (Holds (begun ticks r)) (sym begun_is)
-          (subst (λ (q : Retirement G). Holds (begun ticks q) (begin x (started t.hart (retirement x t.hart j)) (give_credit x t.hart j))) same
+          (subst (λ (q : Retirement G). Holds (begun ticks q) (begin x (started_harts t.hart (retirement x t.hart j)) (give_credit x t.hart j))) same
           (begins ticks (λ h. are h ∙ ap (λ (q : Retirement G). x.speedup * x.guest.cycles q.guest h) (sym same))))
 
       -- the visit of the hart, if there is one
@@ -274,16 +274,16 @@ module _ {G : Type 0} (x : Experiment G) (Good : G → Type 0) (law : IsLawful x
 
       -- each selected hart that begins is a start
       pub starts_next : (r : Retirement G) → r ≡ x.guest.retire s.guest t.hart t.due → (standing x (suc n)).ending ≡ None
-          → (standing x (suc n)).starts ≡ d.starts + length (filter (x.guest.is_selected r.guest) (started t.hart r))
+          → (standing x (suc n)).starts ≡ d.starts + length (filter (x.guest.is_selected r.guest) (started_harts t.hart r))
       starts_next r given none =
           let j : Delayed G = jump k d in
           let q : Retirement G = retirement x t.hart j in
           let same : q ≡ r = retires ∙ sym given in
-          let begun_is : standing x (suc n) ≡ begin x (started t.hart q) (give_credit x t.hart j) = is ∙ retire_goes x t.hart j (ap (λ (o : Delayed G). o.ending) (sym is) ∙ none) in
+          let begun_is : standing x (suc n) ≡ begin x (started_harts t.hart q) (give_credit x t.hart j) = is ∙ retire_goes x t.hart j (ap (λ (o : Delayed G). o.ending) (sym is) ∙ none) in
           ap (λ (o : Delayed G). o.starts) begun_is
-          ∙ begin_starts x (started t.hart q) (give_credit x t.hart j)
-          ∙ ap₂ (λ (m : ℕ) (g : G). m + length (filter (x.guest.is_selected g) (started t.hart q))) ((credit_starts x t.hart j).0 ∙ (jump_parts x k d).5) (credit_guest x t.hart j)
-          ∙ ap (λ (o : Retirement G). d.starts + length (filter (x.guest.is_selected o.guest) (started t.hart o))) same
+          ∙ begin_starts x (started_harts t.hart q) (give_credit x t.hart j)
+          ∙ ap₂ (λ (m : ℕ) (g : G). m + length (filter (x.guest.is_selected g) (started_harts t.hart q))) ((credit_starts x t.hart j).0 ∙ (jump_parts x k d).5) (credit_guest x t.hart j)
+          ∙ ap (λ (o : Retirement G). d.starts + length (filter (x.guest.is_selected o.guest) (started_harts t.hart o))) same
 
     -- it sleeps, and wakes
     module _ (asleep : x.guest.is_sleeping s.guest t.hart ≡ true) where

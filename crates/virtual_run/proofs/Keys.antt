@@ -10,7 +10,7 @@ use Rattle.machines.specs.declared.Fate.TheVariants.{Goes, Waits, Leaves, Sleeps
 use Rattle.machines.specs.Shortened.{next_turn, runs_any, rest}
 use Rattle.machines.proofs.Maps.{change_same, change_other}
 use Rattle.machines.proofs.Turns.{IsNext, turn_is}
-use Rattle.virtual_run.specs.Begin.{rested}
+use Rattle.virtual_run.specs.Begin.{keys_at_rest}
 use Rattle.virtual_run.specs.Engine.{AreDues}
 
 -- a number with a key has a place
@@ -53,14 +53,14 @@ pub over_key_at : (keys : Keys) (h v k : ℕ) → h < length keys → key_of (wi
 over_key_at keys h v k below = over_by keys h v k below (cases_eq k h)
 
 -- the keys after a retirement
-pub rested_at : (fate : Fate) (keys : Keys) (h k : ℕ) → h < length keys → key_of (rested h fate keys) k ≡ (if k == h then rest fate else key_of keys k)
+pub rested_at : (fate : Fate) (keys : Keys) (h k : ℕ) → h < length keys → key_of (keys_at_rest h fate keys) k ≡ (if k == h then rest fate else key_of keys k)
 rested_at Goes keys h k below = without_key_at keys h k
 rested_at Waits keys h k below = without_key_at keys h k
 rested_at Leaves keys h k below = without_key_at keys h k
 rested_at (Sleeps moment) keys h k below = over_key_at keys h moment k below
 rested_at (Ends ending) keys h k below = without_key_at keys h k
 
-pub rested_length : (fate : Fate) (keys : Keys) (h : ℕ) → length (rested h fate keys) ≡ length keys
+pub rested_length : (fate : Fate) (keys : Keys) (h : ℕ) → length (keys_at_rest h fate keys) ≡ length keys
 rested_length Goes keys h = length-set keys h None
 rested_length Waits keys h = length-set keys h None
 rested_length Leaves keys h = length-set keys h None
@@ -72,7 +72,7 @@ change_by dues o h k (inl same) = rw (same, eq-eqb h h refl) (change_same None h
 change_by dues o h k (inr n) = rw (ne_eqb k h n) (change_other None h k (λ _. o) dues (λ e. n (sym e)))
 
 -- a hart is taken out of both, or put to the moment of its wake
-pub dues_rested : (fate : Fate) (keys : Keys) (dues : List (Option ℕ)) (h : ℕ) → h < length keys → AreDues keys dues → AreDues (rested h fate keys) (change None h (λ _. rest fate) dues)
+pub dues_rested : (fate : Fate) (keys : Keys) (dues : List (Option ℕ)) (h : ℕ) → h < length keys → AreDues keys dues → AreDues (keys_at_rest h fate keys) (change None h (λ _. rest fate) dues)
 dues_rested fate keys dues h below are k =
     rested_at fate keys h k below
     ∙ ap (λ (o : Option ℕ). if k == h then rest fate else o) (are k)

@@ -8,7 +8,7 @@ use Rattle.coz_types.specs.Image.{ImageParts}
 use Rattle.hart_schedule.specs.Keys.{Keys, key_of, with_key, without_key, IsEmpty}
 use Rattle.machines.specs.declared.Fate.{Fate}
 use Rattle.machines.specs.declared.Fate.TheVariants.{Goes, Waits, Leaves, Sleeps, Ends}
-use Rattle.machines.specs.Guest.{Experiment, Retirement, IsLawful, enough, goes_on, own_ending, when, first_of_two, started}
+use Rattle.machines.specs.Guest.{Experiment, Retirement, IsLawful, enough, goes_on, own_ending, ending_if, first_of_two, started_harts}
 use Rattle.machines.specs.Places.{is_among}
 use Rattle.machines.specs.Shortened.{Shortened, shortened, move, rest}
 use Rattle.machines.specs.Records.{IsShortened, shortened_record, net_record_of}
@@ -24,9 +24,9 @@ use Rattle.virtual_run.specs.declared.choice.Choice.{Choice}
 use Rattle.virtual_run.specs.declared.choice.Setting.{Setting}
 use Rattle.virtual_run.specs.declared.engine.Engine.{Engine}
 use Rattle.virtual_run.specs.Visits.{Visits}
-use Rattle.virtual_run.specs.Begin.{started_by, rested, many, IsIdle, AreIdle}
+use Rattle.virtual_run.specs.Begin.{started_by, keys_at_rest, many, IsIdle, AreIdle}
 use Rattle.virtual_run.specs.Ending.{ending_of}
-use Rattle.virtual_run.specs.Run.{experiment, has_selected, selected_line, selects, selected_of, ticks_in, IsChoice}
+use Rattle.virtual_run.specs.Run.{experiment, has_selected, selected_line, is_selecting, selected_of, ticks_in, IsChoice}
 use Rattle.virtual_run.specs.Engine.{events_of, AreWithin, IsStateOf, IsSteady, IsReached, IsFirst, state_of}
 use Rattle.virtual_run.proofs.Keys.{has_place, without_key_at, rested_at, rested_length, no_keys}
 use Rattle.virtual_run.proofs.Many.{many_with}
@@ -67,14 +67,14 @@ rest_of : (o p : Option Ending) → first_of_two o p ≡ None → p ≡ None
 rest_of None p none = none
 rest_of (Some a) p none = absurd (let no : ◌≡◌ {A = Option Ending} (Some a) None = none in cc)
 
-not_when : (b : Bool) (e : Ending) → when b e ≡ None → b ≡ false
+not_when : (b : Bool) (e : Ending) → ending_if b e ≡ None → b ≡ false
 not_when true e none = absurd (let no : ◌≡◌ {A = Option Ending} (Some e) None = none in cc)
 not_when false e none = refl
 
 -- nor are the visits full
 pub none_full : (fate : Fate) (output_full visits_full some_hart_runs : Bool) (retired budget : ℕ) → ending_of fate output_full visits_full some_hart_runs retired budget ≡ None → visits_full ≡ false
 none_full fate output_full visits_full some_hart_runs retired budget none =
-    not_when visits_full VisitsFull (first_of (when visits_full VisitsFull) _ (rest_of (when output_full OutputFull) _ (rest_of (own_ending fate) _ none)))
+    not_when visits_full VisitsFull (first_of (ending_if visits_full VisitsFull) _ (rest_of (ending_if output_full OutputFull) _ (rest_of (own_ending fate) _ none)))
 
 none_key : (o : Option ℕ) → is_some o ≡ false → o ≡ None
 none_key None e = refl
@@ -131,17 +131,17 @@ absent_self : (g : Guest) (keys : Keys) (h due : ℕ) → IsTurn g keys h due �
 absent_self g keys h due t (inl goes) = rest_goes (retire g h due).fate goes
 absent_self g keys h due t (inr other) = absurd (let no : true ≡ false = ap is_some (sym t.turn) ∙ idle_other g keys h due h t other in cc)
 
-absent_by : (g : Guest) (keys : Keys) (h due k : ℕ) → IsTurn g keys h due → is_among k (started h (retire g h due)) ≡ true → (k ≡ h) ⊎ (k ≡ h → ⊥)
+absent_by : (g : Guest) (keys : Keys) (h due k : ℕ) → IsTurn g keys h due → is_among k (started_harts h (retire g h due)) ≡ true → (k ≡ h) ⊎ (k ≡ h → ⊥)
     → (if k == h then rest (retire g h due).fate else key_of keys k) ≡ None
 absent_by g keys h due k t among (inl same) =
     rw (eq-eqb k h same)
     (absent_self g keys h due t
-    (among_self (goes_on (retire g h due).fate) h (retire g h due).others (ap (λ (n : ℕ). is_among n (started h (retire g h due))) (sym same) ∙ among)))
+    (among_self (goes_on (retire g h due).fate) h (retire g h due).others (ap (λ (n : ℕ). is_among n (started_harts h (retire g h due))) (sym same) ∙ among)))
 absent_by g keys h due k t among (inr n) =
     let other : is_among k (retire g h due).others ≡ true = among_others (goes_on (retire g h due).fate) k h (retire g h due).others n among in
     rw (ne_eqb k h n) (none_key (key_of keys k) (idle_other g keys h due k t other))
 
-idle_by : (g : Guest) (keys : Keys) (h due : ℕ) → IsTurn g keys h due → IsNone (own_ending (retire g h due).fate) → AreIdle (retire g h due).guest (rested h (retire g h due).fate keys) (started h (retire g h due))
+idle_by : (g : Guest) (keys : Keys) (h due : ℕ) → IsTurn g keys h due → IsNone (own_ending (retire g h due).fate) → AreIdle (retire g h due).guest (keys_at_rest h (retire g h due).fate keys) (started_harts h (retire g h due))
 idle_by g keys h due t none =
     let after : Guest = (retire g h due).guest in
     let fate : Fate = (retire g h due).fate in
@@ -160,10 +160,10 @@ idle_by g keys h due t none =
 
 -- the harts that a retirement started can begin
 pub started_idle : (g : Guest) (keys : Keys) (h due : ℕ) (after : Guest) (fate : Fate) (others : List ℕ) → IsTurn g keys h due → outcome after fate others ≡ retire g h due → own_ending fate ≡ None
-    → AreIdle after (rested h fate keys) (started_by h fate others)
+    → AreIdle after (keys_at_rest h fate keys) (started_by h fate others)
 started_idle g keys h due after fate others t retires own =
     let none : IsNone (own_ending (retire g h due).fate) = ap is_some (ap (λ (r : Retirement Guest). own_ending r.fate) (sym retires) ∙ own) in
-    subst (λ (r : Retirement Guest). AreIdle r.guest (rested h r.fate keys) (started h r)) (sym retires) (idle_by g keys h due t none)
+    subst (λ (r : Retirement Guest). AreIdle r.guest (keys_at_rest h r.fate keys) (started_harts h r)) (sym retires) (idle_by g keys h due t none)
 
 -- a hart that sleeps can begin
 pub woken_idle : (g : Guest) (keys : Keys) (h due : ℕ) → IsOrderly g → is_sleeping g h ≡ true → length keys ≡ 256 → key_of keys h ≡ Some due → IsIdle (with_wake h g) (without_key h keys) h
@@ -318,7 +318,7 @@ first_engine setting image input g keys others selected visits starts valid is m
     let limit : visits.limit ≡ setting.choice.visit_limit = ap (λ (vs : Visits). vs.limit) none in
     let none_kept : length visits.kept ≡ 0 = ap length kept in
     let some : 1 ≤ setting.choice.visit_limit = valid.some_visits in
-    let one : length (selected_of setting g (0 ∷ [])) ≤ 1 = one_at_most (λ hart. selects setting (pc_of g hart)) 0 in
+    let one : length (selected_of setting g (0 ∷ [])) ≤ 1 = one_at_most (λ hart. is_selecting setting (pc_of g hart)) 0 in
     let same : length selected ≡ length (selected_of setting g (0 ∷ [])) = ap length chosen in
     let below : 0 < length empty = rw length-replicate (lit< tt) in
     let more : many keys ≡ many empty + 1 = ap many made ∙ many_with empty 0 ticks below (no_keys 256 0) in
@@ -330,7 +330,7 @@ first_engine setting image input g keys others selected visits starts valid is m
         unfull = λ _. omega (arith, none_kept, some);
         retired = omega arith;
         few = omega (arith, counted, same, one, more);
-        within = first_within (ticks_in setting g) keys (ticks_few (selects setting) setting.choice.speedup g 0) made;
+        within = first_within (ticks_in setting g) keys (ticks_few (is_selecting setting) setting.choice.speedup g 0) made;
       };
       retired = refl;
       wakes = refl;

@@ -11,9 +11,9 @@ use Rattle.machines.specs.declared.Fate.TheVariants.{Sleeps, Ends}
 use Rattle.machines.specs.Guest.{Retirement}
 use Rattle.guest_memory.specs.declared.Layout.{Layout}
 use Rattle.guest_memory.specs.Memory.{is_readable, is_writable, bytes_at, number_at}
-use Rattle.guest_areas.specs.Answers.{bad_file, no_memory, bad_address, invalid, no_terminal, no_seek, try_again}
-use Rattle.guest_areas.specs.Space.{Space, Answered, with_break, map, unmap, protect, has}
-use Rattle.guest_futex.specs.Waiters.{Waiter, woken}
+use Rattle.guest_areas.specs.Answers.{bad_file, no_memory, bad_address, invalid_argument, no_terminal, no_seek, try_again}
+use Rattle.guest_areas.specs.Space.{Space, Answered, with_break, map, unmap, protect, has_power}
+use Rattle.guest_futex.specs.Waiters.{Waiter, woken_harts}
 use Rattle.rv_execute.specs.declared.hart.Step.{Step}
 use Rattle.rv_execute.specs.declared.hart.Step.TheVariants.{Next, Call, Fault}
 use Rattle.guest_calls.specs.declared.hart.Hart.{Hart}
@@ -23,8 +23,8 @@ use Rattle.guest_calls.specs.declared.times.Span.{Span}
 use Rattle.guest_calls.specs.Times.{span_at, span_bytes, wake_moment, last_moment, clock_at}
 use Rattle.guest_calls.specs.Guest.{Guest, hart_at, no_hart, with_hart, with_stored, with_written, with_running_each, memory_of, thread_id, first_guest}
 use Rattle.guest_calls.specs.Calls
-use Rattle.guest_calls.specs.Calls.{retirement, answered, of_space, unsupported, left_by, leave, with_word, with_woken, clear_address, woken_at_exit, cleared, is_cleared, waiting_for, asleep, sleep_until, most_woken, woken_here, parent_set_tid, child_set_tid, child, with_child, with_parent_tid, with_child_tid, cloned, is_accepted, a0, a1, a2, a3, a4, with_filled, with_read, filled, total, is_each_writable, is_each_readable, bytes_of, pieces_at, are_few, is_named, read_length, is_stream, is_input, is_output, is_mapping, calls, call_of}
-use Rattle.guest_calls.specs.Retire.{stepped, step, follows, retire}
+use Rattle.guest_calls.specs.Calls.{retirement, with_answer, of_space, unsupported, left_by, leave, with_word, with_woken, clear_address, woken_at_exit, cleared, is_cleared, waiting_for, asleep, sleep_until, most_woken, woken_here, parent_set_tid, child_set_tid, child, with_child, with_parent_tid, with_child_tid, cloned, is_accepted, a0, a1, a2, a3, a4, with_filled, with_read, filled_parts, total, is_each_writable, is_each_readable, bytes_of, pieces_at, are_few, is_named, read_length, is_stream, is_input, is_output, is_mapping, calls, call_of}
+use Rattle.guest_calls.specs.Retire.{step_result, step, retirement_after, retire}
 use Rattle.guest_calls.specs.Orderly.{AreWaiting, IsOrderly}
 use Rattle.guest_calls.proofs.Steps.{step-call, step-harts}
 use Rattle.guest_calls.proofs.ByNumber.{AreRows, call_has}
@@ -36,13 +36,13 @@ abbrev pub Grows : ℕ → Retirement Guest → Type 0
 Grows n r = length r.guest.harts ≡ places r.others n
 
 -- no hart is made
-answer_grows : (z : ℤ) (h n : ℕ) (g : Guest) → length g.harts ≡ n → Grows n (answered z h g)
+answer_grows : (z : ℤ) (h n : ℕ) (g : Guest) → length g.harts ≡ n → Grows n (with_answer z h g)
 answer_grows z h n g same = length-set g.harts h _ ∙ same
 
 ends_grows : (n : ℕ) (g : Guest) (fate : Fate) → length g.harts ≡ n → Grows n (retirement g fate [])
 ends_grows n g fate same = same
 
-checked : (b : Bool) (z : ℤ) (h : ℕ) (g : Guest) (r : Retirement Guest) → Grows (length g.harts) r → Grows (length g.harts) (if b then answered z h g else r)
+checked : (b : Bool) (z : ℤ) (h : ℕ) (g : Guest) (r : Retirement Guest) → Grows (length g.harts) r → Grows (length g.harts) (if b then with_answer z h g else r)
 checked true z h g r rest = answer_grows z h (length g.harts) g refl
 checked false z h g r rest = rest
 
@@ -55,7 +55,7 @@ made_waiting [] h waits = absurd (let never : Gone ≡ Waiting = waits in cc)
 made_waiting (x ∷ xs) zero waits = omega arith
 made_waiting (x ∷ xs) (suc h) waits = let below : h < length xs = made_waiting xs h waits in omega arith
 
-woken_places : (harts : List Hart) (address : ℕ) (ws : List Waiter) (count : ℕ) → AreWaiting harts ws → places (woken address ws count) (length harts) ≡ length harts
+woken_places : (harts : List Hart) (address : ℕ) (ws : List Waiter) (count : ℕ) → AreWaiting harts ws → places (woken_harts address ws count) (length harts) ≡ length harts
 woken_places harts address [] zero waiting = refl
 woken_places harts address [] (suc count) waiting = refl
 woken_places harts address (w ∷ ws) zero waiting = refl
@@ -64,7 +64,7 @@ woken_places harts address (w ∷ ws) (suc count) waiting =
     (λ (here : eqb w.address address ≡ true).
     let made : w.hart < length harts = made_waiting harts w.hart waiting.0 in
     let same : max (length harts) (suc w.hart) ≡ length harts = omega arith in
-    rw here (ap (places (woken address ws count)) same ∙ woken_places harts address ws count waiting.1))
+    rw here (ap (places (woken_harts address ws count)) same ∙ woken_places harts address ws count waiting.1))
     (λ (elsewhere : eqb w.address address ≡ false). rw elsewhere (woken_places harts address ws (suc count) waiting.1))
     (cases_Bool (eqb w.address address))
 
@@ -74,8 +74,8 @@ running_each (h ∷ hs) harts =
     let run : Hart = record (get_or harts h no_hart) { status = Running } in
     running_each hs (set harts h run) ∙ length-set harts h run
 
-woken_count : (g : Guest) (address count : ℕ) → IsOrderly g → length (with_woken address count g).harts ≡ places (woken address g.waiters count) (length g.harts)
-woken_count g address count good = running_each (woken address g.waiters count) g.harts ∙ sym (woken_places g.harts address g.waiters count good.waiting)
+woken_count : (g : Guest) (address count : ℕ) → IsOrderly g → length (with_woken address count g).harts ≡ places (woken_harts address g.waiters count) (length g.harts)
+woken_count g address count good = running_each (woken_harts address g.waiters count) g.harts ∙ sym (woken_places g.harts address g.waiters count good.waiting)
 
 leave_grows : (h n : ℕ) (others : List ℕ) (g : Guest) → length g.harts ≡ places others n → Grows n (leave h others g)
 leave_grows h n others g same = length-set g.harts h _ ∙ same
@@ -91,7 +91,7 @@ wait_grows : (g : Guest) (h : ℕ) → Grows (length g.harts) (Calls.wait g h)
 unfolding Calls.wait
 wait_grows g h =
     either (Grows (length g.harts)) (not (a3 g h == 0)) (unsupported g h) _ refl
-    (checked (not (a0 g h % 4 == 0)) invalid h g _
+    (checked (not (a0 g h % 4 == 0)) invalid_argument h g _
     (checked (not (is_readable (memory_of g) (a0 g h) 4)) bad_address h g _
     (checked (not (number_at (memory_of g) (a0 g h) 4 == a2 g h % 2 ^ 32)) try_again h g _
     (length-set g.harts h _))))
@@ -99,7 +99,7 @@ wait_grows g h =
 wake_grows : (g : Guest) (h : ℕ) → IsOrderly g → Grows (length g.harts) (Calls.wake g h)
 unfolding Calls.wake
 wake_grows g h good =
-    checked (not (a0 g h % 4 == 0)) invalid h g _
+    checked (not (a0 g h % 4 == 0)) invalid_argument h g _
     (length-set (with_woken (a0 g h) (most_woken g h) g).harts h _ ∙ woken_count g (a0 g h) (most_woken g h) good)
 
 futex_grows : (g : Guest) (h : ℕ) → IsOrderly g → Grows (length g.harts) (Calls.futex g h)
@@ -109,8 +109,8 @@ futex_grows g h good =
     (either (Grows (length g.harts)) (a1 g h == 1 || a1 g h == 129) (Calls.wake g h) (unsupported g h) (wake_grows g h good) refl)
 
 -- a hart sleeps, or reads a clock
-span_grows : (o : Option Span) (g : Guest) (h v : ℕ) → Grows (length g.harts) (elim o as (λ _. Retirement Guest) [ None ↦ answered invalid h g | Some span ↦ sleep_until g h (wake_moment v span) ])
-span_grows None g h v = answer_grows invalid h (length g.harts) g refl
+span_grows : (o : Option Span) (g : Guest) (h v : ℕ) → Grows (length g.harts) (elim o as (λ _. Retirement Guest) [ None ↦ with_answer invalid_argument h g | Some span ↦ sleep_until g h (wake_moment v span) ])
+span_grows None g h v = answer_grows invalid_argument h (length g.harts) g refl
 span_grows (Some span) g h v =
     either (Grows (length g.harts)) (nat_lt last_moment (wake_moment v span)) (retirement g (Ends Clock) []) (retirement (asleep g h) (Sleeps (wake_moment v span)) []) refl
     (length-set g.harts h _)
@@ -139,8 +139,8 @@ told_count false address n g = refl
 
 cloned_count : (g : Guest) (h : ℕ) → length (cloned g h).harts ≡ suc (length g.harts)
 cloned_count g h =
-    told_count (has (a0 g h) child_set_tid) (a4 g h) (thread_id (child g h)) (with_parent_tid g h (with_child g h))
-    ∙ told_count (has (a0 g h) parent_set_tid) (a2 g h) (thread_id (child g h)) (with_child g h)
+    told_count (has_power (a0 g h) child_set_tid) (a4 g h) (thread_id (child g h)) (with_parent_tid g h (with_child g h))
+    ∙ told_count (has_power (a0 g h) parent_set_tid) (a2 g h) (thread_id (child g h)) (with_child g h)
     ∙ length-append g.harts _
     ∙ (let one : length g.harts + 1 ≡ suc (length g.harts) = omega arith in one)
 
@@ -182,14 +182,14 @@ read_count (p ∷ ps) g = read_count ps (with_filled p.address p.length g)
 read_pieces_grows : (g : Guest) (h : ℕ) (ps : List Piece) → Grows (length g.harts) (Calls.read_pieces g h ps)
 unfolding Calls.read_pieces
 read_pieces_grows g h ps =
-    checked (not (is_each_writable (memory_of g) (filled ps (length g.input)))) bad_address h g _
-    (answer_grows (pos (total (filled ps (length g.input)))) h (length g.harts) (with_read (filled ps (length g.input)) g) (read_count (filled ps (length g.input)) g))
+    checked (not (is_each_writable (memory_of g) (filled_parts ps (length g.input)))) bad_address h g _
+    (answer_grows (pos (total (filled_parts ps (length g.input)))) h (length g.harts) (with_read (filled_parts ps (length g.input)) g) (read_count (filled_parts ps (length g.input)) g))
 
 readv_grows : (g : Guest) (h : ℕ) → Grows (length g.harts) (Calls.readv g h)
 unfolding Calls.readv
 readv_grows g h =
     checked (not (is_input (a0 g h))) bad_file h g _
-    (checked (not (are_few g h)) invalid h g _
+    (checked (not (are_few g h)) invalid_argument h g _
     (checked (not (is_named g h)) bad_address h g _
     (read_pieces_grows g h (pieces_at (memory_of g) (a1 g h) (a2 g h)))))
 
@@ -203,7 +203,7 @@ writev_grows : (g : Guest) (h : ℕ) → Grows (length g.harts) (Calls.writev g 
 unfolding Calls.writev
 writev_grows g h =
     checked (not (is_output (a0 g h))) bad_file h g _
-    (checked (not (are_few g h)) invalid h g _
+    (checked (not (are_few g h)) invalid_argument h g _
     (checked (not (is_named g h)) bad_address h g _
     (write_pieces_grows g h (pieces_at (memory_of g) (a1 g h) (a2 g h)))))
 
@@ -232,7 +232,7 @@ gettid_grows g h = answer_grows (pos (thread_id h)) h (length g.harts) g refl
 rt_sigprocmask_grows : (g : Guest) (h : ℕ) → Grows (length g.harts) (Calls.rt_sigprocmask g h)
 unfolding Calls.rt_sigprocmask
 rt_sigprocmask_grows g h =
-    checked (not (a3 g h == 8)) invalid h g _
+    checked (not (a3 g h == 8)) invalid_argument h g _
     (checked (a2 g h == 0) (pos 0) h g _
     (checked (not (is_writable (memory_of g) (a2 g h) 8)) bad_address h g _
     (answer_grows (pos 0) h (length g.harts) (with_stored (a2 g h) (replicate 8 0) g) refl)))
@@ -261,7 +261,7 @@ mprotect_grows g h = of_space_grows g h (protect (a0 g h) (a1 g h) (a2 g h) g.sp
 
 madvise_grows : (g : Guest) (h : ℕ) → Grows (length g.harts) (Calls.madvise g h)
 unfolding Calls.madvise
-madvise_grows g h = answer_grows invalid h (length g.harts) g refl
+madvise_grows g h = answer_grows invalid_argument h (length g.harts) g refl
 
 -- a call by its number
 abbrev IsGrown : Guest → ℕ → ℕ → Retirement Guest → Type 0
@@ -275,7 +275,7 @@ call_grows : (g : Guest) (h v : ℕ) → IsOrderly g → Grows (length g.harts) 
 call_grows g h v = call_has IsGrown all_rows g h v (λ good. refl)
 
 -- a step
-follows_grows : (g after : Guest) (h v : ℕ) (s : Step) → length after.harts ≡ length g.harts → (s ≡ Call → after ≡ g) → IsOrderly g → Grows (length g.harts) (follows h v (stepped after s))
+follows_grows : (g after : Guest) (h v : ℕ) (s : Step) → length after.harts ≡ length g.harts → (s ≡ Call → after ≡ g) → IsOrderly g → Grows (length g.harts) (retirement_after h v (step_result after s))
 follows_grows g after h v Next same is good = same
 follows_grows g after h v Call same is good = subst (λ (x : Guest). Grows (length g.harts) (call_of x h v)) (sym (is refl)) (call_grows g h v good)
 follows_grows g after h v (Fault cause) same is good = same

@@ -6,7 +6,7 @@ use Rattle.coz_types.specs.declared.ending.Ending.{Ending}
 use Rattle.coz_types.specs.declared.record.Visit.{Visit}
 use Rattle.hart_schedule.specs.Keys.{Keys, key_of, with_key, IsLeast}
 use Rattle.machines.specs.declared.Fate.{Fate}
-use Rattle.machines.specs.Guest.{Experiment, Retirement, cost, cut, goes_on, started, ending_after}
+use Rattle.machines.specs.Guest.{Experiment, Retirement, cost, cut, goes_on, started_harts, ending_after}
 use Rattle.machines.specs.Places.{change, change_each, is_among, AllApart}
 use Rattle.machines.specs.Delayed.{is_any}
 use Rattle.machines.specs.Shortened as short
@@ -19,9 +19,9 @@ use Rattle.guest_calls.specs.Retire.{next_of, retire}
 use Rattle.virtual_run.specs.declared.choice.Setting.{Setting}
 use Rattle.virtual_run.specs.declared.engine.Engine.{Engine}
 use Rattle.virtual_run.specs.Visits.{Visits, visits_of, net_of}
-use Rattle.virtual_run.specs.Begin.{started_by, rested, AreBegun}
+use Rattle.virtual_run.specs.Begin.{started_by, keys_at_rest, AreBegun}
 use Rattle.virtual_run.specs.Ending.{ending_of, runs_after}
-use Rattle.virtual_run.specs.Run.{experiment_in, selects, selected_of, ticks_in}
+use Rattle.virtual_run.specs.Run.{experiment_in, is_selecting, selected_of, ticks_in}
 use Rattle.virtual_run.specs.Engine.{AreDues, state_of, IsStateOf}
 use Rattle.virtual_run.proofs.Keys.{with_key_at, no_keys, has_place, dues_rested, next_is, same_runs}
 use Rattle.virtual_run.proofs.Begin.{ticks_less}
@@ -46,9 +46,9 @@ abbrev pub moved_by : Experiment Guest → ℕ → Retirement Guest → Option �
 moved_by x h r moment due wakes starts dues visits retired count =
     let left : Shortened Guest = state due r.guest (change None h (λ _. moment) dues) visits (retired + 1) wakes starts None in
     over_or
-    (ending_after x r count (is_any (started h r) || runs_any (change None h (λ _. moment) dues)) (retired + 1))
+    (ending_after x r count (is_any (started_harts h r) || runs_any (change None h (λ _. moment) dues)) (retired + 1))
     left
-    (begin x (started h r) due left)
+    (begin x (started_harts h r) due left)
 
 -- a hart's turn
 turned : (x : Experiment Guest) (time : ℕ) (g : Guest) (dues : List (Option ℕ)) (visits : List NetVisit) (h due retired wakes starts : ℕ) → next_turn dues ≡ Some (record { hart = h; due = due }) → x.guest.is_sleeping g h ≡ false
@@ -92,7 +92,7 @@ pub record IsMove (setting : Setting) (engine : Engine) (left : Keys) (h due : �
   pub goes : engine.ending ≡ None
   pub turn : key_of engine.schedule h ≡ Some due
   pub first : IsLeast engine.schedule h
-  pub taken : left ≡ rested h fate engine.schedule
+  pub taken : left ≡ keys_at_rest h fate engine.schedule
   pub retires : outcome after fate others ≡ retire engine.guest h due
   pub was_awake : is_sleeping engine.guest h ≡ false
   pub visits : map net_of kept ≡ map net_of engine.visits.kept ++ net_visits (point_of setting.points.now (pc_of engine.guest h)) h due
@@ -104,7 +104,7 @@ module _ (setting : Setting) (first : Guest) where
 
   -- the ending of the machine is that of the code
   ends_as : (g : Guest) (fate : Fate) (others : List ℕ) (h : ℕ) (keys dues : List (Option ℕ)) (count retired : ℕ) → runs_any keys ≡ runs_any dues
-      → ending_after x (outcome g fate others) count (is_any (started h (outcome g fate others)) || runs_any dues) retired
+      → ending_after x (outcome g fate others) count (is_any (started_harts h (outcome g fate others)) || runs_any dues) retired
       ≡ ending_of fate (nat_le setting.choice.output_limit (length g.output)) (nat_le setting.choice.visit_limit count) (runs_after fate others keys) retired setting.choice.budget
   unfolding ending_after
   ends_as g fate others h keys dues count retired same =
@@ -113,7 +113,7 @@ module _ (setting : Setting) (first : Guest) where
 
   -- the moments once these harts have begun
   abbrev due_at : Guest → ℕ → ℕ → ℕ
-  due_at g due h = due + 100 * cycles_of (next_of g h) - (if selects setting (pc_of g h) then setting.choice.speedup * cycles_of (next_of g h) else 0)
+  due_at g due h = due + 100 * cycles_of (next_of g h) - (if is_selecting setting (pc_of g h) then setting.choice.speedup * cycles_of (next_of g h) else 0)
 
   abbrev begun_dues : Guest → List ℕ → ℕ → List (Option ℕ) → List (Option ℕ)
   begun_dues g hs due dues = change_each None hs (λ h _. Some (due_at g due h)) dues
@@ -126,7 +126,7 @@ module _ (setting : Setting) (first : Guest) where
   pub dues_begun : (g : Guest) (hs : List ℕ) (due : ℕ) (old new : Keys) (dues : List (Option ℕ)) → setting.choice.speedup ≤ 95 → AllApart hs → AreDues old dues → AreBegun (ticks_in setting g) due hs old new → AreDues new (begun_dues g hs due dues)
   dues_begun g hs due old new dues small apart are begun k =
       begun k
-      ∙ begun_by (is_among k hs) (due + ticks_in setting g k) (due_at g due k) (key_of old k) (get_or dues k None) (ticks_less (selects setting) setting.choice.speedup due g k (omega arith)) (are k)
+      ∙ begun_by (is_among k hs) (due + ticks_in setting g k) (due_at g due k) (key_of old k) (get_or dues k None) (ticks_less (is_selecting setting) setting.choice.speedup due g k (omega arith)) (are k)
       ∙ sym (change_each_at None hs (λ h _. Some (due_at g due h)) k dues apart)
 
   module _ (engine : Engine) (left : Keys) (h due : ℕ) (after : Guest) (fate : Fate) (others : List ℕ) (visits : List Visit) (e : Option Ending) (m : IsMove setting engine left h due after fate others visits e) (dues : List (Option ℕ)) (are : AreDues engine.schedule dues) where
@@ -225,7 +225,7 @@ pub first_state : (setting : Setting) (first g : Guest) (keys : Keys) (others se
     → IsStateOf (engine_of 0 g keys others selected visits 0 0 starts None) (shortened (experiment_in setting first) 0)
 first_state setting first g keys others selected visits starts small is made none counted =
     let due_is : 0 + ticks_in setting g 0 ≡ due_at setting first first 0 0 =
-    ap (λ (g : Guest). 0 + ticks_in setting g 0) is ∙ ticks_less (selects setting) setting.choice.speedup 0 first 0 (omega arith) in
+    ap (λ (g : Guest). 0 + ticks_in setting g 0) is ∙ ticks_less (is_selecting setting) setting.choice.speedup 0 first 0 (omega arith) in
     let starts_is : length (selected_of setting first (0 ∷ [])) ≡ starts = ap (λ (g : Guest). length (selected_of setting g (0 ∷ []))) (sym is) ∙ sym counted in
     let dues : List (Option ℕ) = Some (due_at setting first first 0 0) ∷ [] in
     subst (IsStateOf (engine_of 0 g keys others selected visits 0 0 starts None)) (sym (at_first setting first))

@@ -13,7 +13,7 @@ use Rattle.virtual_run.specs.declared.choice.Setting.{Setting}
 use Rattle.virtual_run.specs.declared.engine.Event.{Event}
 use Rattle.virtual_run.specs.declared.engine.Event.TheVariants.{Woke, Retired}
 use Rattle.virtual_run.specs.declared.engine.Engine.{Engine}
-use Rattle.virtual_run.specs.Begin.{started_by, rested, many, AreIdle, AreBegun}
+use Rattle.virtual_run.specs.Begin.{started_by, keys_at_rest, many, AreIdle, AreBegun}
 use Rattle.virtual_run.specs.Ending.{ending_of, runs_after}
 use Rattle.virtual_run.specs.Run.{experiment_in, selected_of, ticks_in}
 use Rattle.virtual_run.specs.Engine.{events_of, state_of, AreDues, AreWithin, IsStateOf}
@@ -38,7 +38,7 @@ pub record IsRetired (setting : Setting) (engine : Engine) (hart : ℕ) (fate : 
   pub ending : new.ending ≡ ending_of fate
       (nat_le setting.choice.output_limit (length new.guest.output))
       (nat_le setting.choice.visit_limit (length new.visits.kept))
-      (runs_after fate new.started (rested hart fate engine.schedule))
+      (runs_after fate new.started (keys_at_rest hart fate engine.schedule))
       new.retired setting.choice.budget
   pub unfull : new.ending ≡ None → length new.visits.kept < setting.choice.visit_limit
   pub selected : new.ending ≡ None
@@ -67,8 +67,8 @@ told_in setting fate engine keys =
 pub record CanSettle (setting : Setting) (engine : Engine) (hart : ℕ) (fate : Fate) : Type 0 where
   pub goes : engine.ending ≡ None
   pub below : hart < length engine.schedule
-  pub idle : told_in setting fate engine (rested hart fate engine.schedule) ≡ None
-      → AreIdle engine.guest (rested hart fate engine.schedule)
+  pub idle : told_in setting fate engine (keys_at_rest hart fate engine.schedule) ≡ None
+      → AreIdle engine.guest (keys_at_rest hart fate engine.schedule)
       (started_by hart fate engine.started)
   pub moment : engine.time ≤ 2 ^ 60
   pub speedup : setting.choice.speedup ≤ GREATEST_SPEEDUP
@@ -80,12 +80,12 @@ pub record CanSettle (setting : Setting) (engine : Engine) (hart : ℕ) (fate : 
 pub record HasBegun (setting : Setting) (engine : Engine) (hart : ℕ) (fate : Fate)
     (new : Engine) : Type 0 where
   pub begun : AreBegun (ticks_in setting engine.guest) engine.time
-      (started_by hart fate engine.started) (rested hart fate engine.schedule) new.schedule
+      (started_by hart fate engine.started) (keys_at_rest hart fate engine.schedule) new.schedule
   pub selected : new.selected
       ≡ selected_of setting engine.guest (started_by hart fate engine.started)
   pub room : length new.schedule ≡ HARTS
   pub starts : new.starts ≡ engine.starts + length new.selected
-  pub few : length new.selected + many (rested hart fate engine.schedule) ≤ many new.schedule
+  pub few : length new.selected + many (keys_at_rest hart fate engine.schedule) ≤ many new.schedule
   pub rest : new ≡ record engine {
     schedule = new.schedule;
     selected = new.selected;
@@ -96,9 +96,10 @@ pub record HasBegun (setting : Setting) (engine : Engine) (hart : ℕ) (fate : F
 -- that one: it ends, or what was started begins
 pub record IsSettled (setting : Setting) (engine : Engine) (hart : ℕ) (fate : Fate)
     (new : Engine) : Type 0 where
-  pub ending : new.ending ≡ told_in setting fate engine (rested hart fate engine.schedule)
+  pub ending : new.ending ≡ told_in setting fate engine (keys_at_rest hart fate engine.schedule)
   pub ended : IsSome new.ending
-      → new ≡ record engine { schedule = rested hart fate engine.schedule; ending = new.ending }
+      → new ≡ record engine
+      { schedule = keys_at_rest hart fate engine.schedule; ending = new.ending }
   pub begun : new.ending ≡ None → HasBegun setting engine hart fate new
 
 -- it becomes that one as a sleeping hart wakes at this moment, and its next instruction begins

@@ -23,12 +23,12 @@ started_by hart fate others = if goes_on fate then hart ∷ others else others
 
 -- the schedule once a hart has retired to this fate: it is in it no more, but if it sleeps it
 -- is due at its wake
-abbrev pub rested : ℕ → Fate → Keys → Keys
-rested hart Goes keys = without_key hart keys
-rested hart Waits keys = without_key hart keys
-rested hart Leaves keys = without_key hart keys
-rested hart (Sleeps moment) keys = with_key hart moment (without_key hart keys)
-rested hart (Ends ending) keys = without_key hart keys
+abbrev pub keys_at_rest : ℕ → Fate → Keys → Keys
+keys_at_rest hart Goes keys = without_key hart keys
+keys_at_rest hart Waits keys = without_key hart keys
+keys_at_rest hart Leaves keys = without_key hart keys
+keys_at_rest hart (Sleeps moment) keys = with_key hart moment (without_key hart keys)
+keys_at_rest hart (Ends ending) keys = without_key hart keys
 
 -- a hart was made, and isn't in the schedule
 pub record IsIdle (g : Guest) (keys : Keys) (hart : ℕ) : Type 0 where

@@ -3,9 +3,9 @@ use Rattle.std.specs.Prelude.{◌≡◌, ℕ, ◌+◌, ◌*◌, ◌^◌, ◌≤�
 use Rattle.coz_types.specs.declared.ending.Ending.{Ending}
 use Rattle.cost_table.specs.Costs.{cycles_of, raise_of}
 use Rattle.machines.specs.declared.Fate.{Fate}
-use Rattle.machines.specs.Guest.{goes_on, sleeps}
+use Rattle.machines.specs.Guest.{goes_on, is_sleeper}
 use Rattle.machines.specs.Places.{change_each, change_from, is_among}
-use Rattle.machines.specs.Delayed.{Delayed, Hart, fresh, is_running, total, run, credit, raise_hart}
+use Rattle.machines.specs.Delayed.{Delayed, Hart, idle_hart, is_running, total, run, credit, raise_hart}
 use Rattle.delay_credits.specs.Delays.{Delays, hart_at, pause_of, at, with_start, with_stop}
 use Rattle.delay_credits.specs.Ticks.{without_work}
 use Rattle.guest_calls.specs.Guest.{Guest, IsMade}
@@ -18,7 +18,7 @@ use Rattle.virtual_run.specs.Begin.{started_by}
 -- each of these harts is held without its work
 abbrev pub AreHeld : List Hart → List Hart → Type 0
 AreHeld held harts =
-    (k : ℕ) → slice_index_or held k fresh ≡ without_work (slice_index_or harts k fresh)
+    (k : ℕ) → slice_index_or held k idle_hart ≡ without_work (slice_index_or harts k idle_hart)
 
 -- credits hold the accounts and pauses of a delayed state
 pub record Holds {G : Type 0} (c : Delays) (d : Delayed G) : Type 0 where
@@ -28,11 +28,11 @@ pub record Holds {G : Type 0} (c : Delays) (d : Delayed G) : Type 0 where
 
 -- each of these harts is credited with what its total lacks of all that was raised
 abbrev pub with_credits : List ℕ → Delays → Delays
-with_credits hs c = record c { harts = change_each fresh hs (λ _. credit c.raised) c.harts }
+with_credits hs c = record c { harts = change_each idle_hart hs (λ _. credit c.raised) c.harts }
 
 -- these harts run from the latest moment on, with no pause
 abbrev pub with_starts : List ℕ → Delays → Delays
-with_starts hs c = record c { harts = change_each fresh hs (λ _. run 0) c.harts }
+with_starts hs c = record c { harts = change_each idle_hart hs (λ _. run 0) c.harts }
 
 -- a hart raises the delay at the latest moment
 abbrev pub with_one_raise : ℕ → ℕ → Delays → Delays
@@ -82,7 +82,7 @@ with_begun ticks hart fate others selected c =
 -- after a hart has retired to this fate at a moment it doesn't run, but if it sleeps it
 -- has no pause before it
 abbrev pub with_rest : ℕ → Fate → ℕ → Delays → Delays
-with_rest hart fate now c = if sleeps fate then with_start hart now c else with_stop hart now c
+with_rest hart fate now c = if is_sleeper fate then with_start hart now c else with_stop hart now c
 
 -- after a wake: the hart runs, and raises the delay if it is selected
 abbrev pub with_wake : (ℕ → ℕ) → ℕ → List ℕ → Delays → Delays

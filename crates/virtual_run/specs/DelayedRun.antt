@@ -7,7 +7,7 @@ use Rattle.coz_types.specs.declared.record.Outcome.{Outcome}
 use Rattle.coz_types.specs.declared.record.Visit.{Visit as GivenVisit}
 use Rattle.coz_types.specs.Image.{ImageParts}
 use Rattle.machines.specs.Guest.{Experiment}
-use Rattle.machines.specs.Delayed.{Account, Visit, Delayed, fresh, events, delayed}
+use Rattle.machines.specs.Delayed.{Account, Visit, Delayed, idle_hart, events, delayed}
 use Rattle.machines.specs.Shortened.{shortened}
 use Rattle.machines.specs.Agreement.{Agrees}
 use Rattle.machines.specs.Records.{Record, IsDelayed}
@@ -40,7 +40,7 @@ abbrev pub net_due_of : Delayed Guest → ℕ → Option ℕ
 net_due_of d hart =
     elim (d.ending) [
       | None ↦ option_map (λ load. d.now + load.work + load.pause - d.delay)
-          (slice_index_or d.harts hart fresh).load
+          (slice_index_or d.harts hart idle_hart).load
       | Some ending ↦ None
     ]
 

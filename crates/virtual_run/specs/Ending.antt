@@ -3,7 +3,7 @@ use Rattle.std.specs.Prelude.{ℕ, Bool, not, ◌||◌, nat_le, List, [], ◌∷
 use Rattle.coz_types.specs.declared.ending.Ending.{Ending}
 use Rattle.coz_types.specs.declared.ending.Ending.TheVariants.{OutputFull, VisitsFull, Stalled, Spent}
 use Rattle.machines.specs.declared.Fate.{Fate}
-use Rattle.machines.specs.Guest.{goes_on, own_ending, when, first_ending}
+use Rattle.machines.specs.Guest.{goes_on, own_ending, ending_if, first_ending}
 use Rattle.machines.specs.Delayed.{is_any}
 use Rattle.machines.specs.Shortened.{runs_any}
 use Rattle.hart_schedule.specs.Keys.{Keys}
@@ -14,10 +14,10 @@ abbrev pub ending_of : Fate → Bool → Bool → Bool → ℕ → ℕ → Optio
 ending_of fate output_full visits_full some_hart_runs retired budget =
     first_ending
     (own_ending fate
-    ∷ when output_full OutputFull
-    ∷ when visits_full VisitsFull
-    ∷ when (not some_hart_runs) Stalled
-    ∷ when (nat_le budget retired) Spent
+    ∷ ending_if output_full OutputFull
+    ∷ ending_if visits_full VisitsFull
+    ∷ ending_if (not some_hart_runs) Stalled
+    ∷ ending_if (nat_le budget retired) Spent
     ∷ [])
 
 -- some hart runs after a retirement of this fate: the retiring one, one that it made or woke,

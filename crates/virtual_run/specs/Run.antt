@@ -58,13 +58,13 @@ experiment_in setting first =
     (point_of setting.points.now) setting.choice
 
 -- whether an address has the selected line
-abbrev pub selects : Setting → ℕ → Bool
-selects setting = has_selected (selected_line setting.choice) (position_at setting.index.now)
+abbrev pub is_selecting : Setting → ℕ → Bool
+is_selecting setting = has_selected (selected_line setting.choice) (position_at setting.index.now)
 
 -- the ticks of a hart's next instruction
 abbrev pub ticks_in : Setting → Guest → ℕ → ℕ
-ticks_in setting = ticks_of (selects setting) setting.choice.speedup
+ticks_in setting = ticks_of (is_selecting setting) setting.choice.speedup
 
 -- of these harts, those whose next instruction has the selected line
 abbrev pub selected_of : Setting → Guest → List ℕ → List ℕ
-selected_of setting g = filter (λ hart. selects setting (pc_of g hart))
+selected_of setting g = filter (λ hart. is_selecting setting (pc_of g hart))

@@ -20,9 +20,9 @@ pub record Seen (State : Type 0) : Type 0 where
 
 -- the run of a program, with these lines and points, on an input by a choice,
 -- in a state of its experiment
-abbrev pub seen : {State : Type 0} → ImageParts → Index → Points → List ℕ → Choice
+abbrev pub machine_view : {State : Type 0} → ImageParts → Index → Points → List ℕ → Choice
     → (Experiment Guest → State) → Seen State
-seen image index points input choice state = record {
+machine_view image index points input choice state = record {
   image = image;
   index = index;
   points = points;
@@ -35,7 +35,7 @@ seen image index points input choice state = record {
 abbrev pub seen_in : {State : Type 0} → ImageParts → List ℕ → Setting
     → (Experiment Guest → State) → Seen State
 seen_in image input setting state =
-    seen image setting.index.now setting.points.now input setting.choice state
+    machine_view image setting.index.now setting.points.now input setting.choice state
 
 -- the run of an image on an input in a setting
 abbrev pub experiment_with : ImageParts → List ℕ → Setting → Experiment Guest

@@ -1,7 +1,7 @@
 //! What is chosen for a run, and what it reads.
 
 ghost use Rattle.std.specs.Prelude.{◌≡◌};
-ghost use Rattle.virtual_run.specs.Run.{selects};
+ghost use Rattle.virtual_run.specs.Run.{is_selecting};
 
 use coz_types::{Address, LineId};
 use guest_memory::Layout;
@@ -40,7 +40,7 @@ impl<'a> Setting<'a> {
     /// The address has the selected line. Where none is selected the index is not asked.
     #[inline]
     pub fn has_selected(&self, address: Address) -> bool
-        ensures { result ≡ selects self.now address }
+        ensures { result ≡ is_selecting self.now address }
     {
         match self.choice.selected {
             Some(line) => self.index.has_line(line, address),

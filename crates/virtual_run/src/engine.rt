@@ -9,7 +9,7 @@ ghost use Rattle.progress_points.specs.Points.{point_of};
 ghost use Rattle.guest_calls.specs.Calls.{retirement};
 ghost use Rattle.guest_calls.specs.Guest.{making, is_running, is_sleeping, IsMade};
 ghost use Rattle.guest_calls.specs.Retire.{retire};
-ghost use Rattle.virtual_run.specs.Begin.{started_by, rested, many, AreIdle, AreBegun};
+ghost use Rattle.virtual_run.specs.Begin.{started_by, keys_at_rest, many, AreIdle, AreBegun};
 ghost use Rattle.virtual_run.specs.Ending.{ending_of, runs_after};
 ghost use Rattle.virtual_run.specs.Visits.{visits_of};
 ghost use Rattle.virtual_run.specs.Credited.{raise_ticks, AllMade};
@@ -126,7 +126,7 @@ fn retire_due(guest: &mut Guest, turn: Turn, started: &mut HartList) -> Fate
 fn leave(schedule: &mut Schedule, hart: HartId, fate: Fate)
     requires { hart.0 < length schedule.old }
     ensures { schedule.new
-        ≡ (if goes_on fate then schedule.old else rested hart.0 fate schedule.old) }
+        ≡ (if goes_on fate then schedule.old else keys_at_rest hart.0 fate schedule.old) }
 {
     match fate {
         Fate::Goes => {}

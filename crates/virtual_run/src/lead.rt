@@ -1,7 +1,7 @@
 //! Leads: what the runs of a line have in common, whatever the speedup.
 ghost use Rattle.std.specs.Prelude.{◌≡◌, ◌≤◌, [], ◌∷◌, Some, not, is_some, IfOk, IsSome, IsTrue};
 ghost use Rattle.coz_types.specs.declared.TheConstants.{GREATEST_SPEEDUP};
-ghost use Rattle.virtual_run.specs.Seen.{seen, experiment_of};
+ghost use Rattle.virtual_run.specs.Seen.{machine_view, experiment_of};
 ghost use Rattle.virtual_run.specs.Lead.{arguments, starts_next, Stands, IsShared};
 
 use crate::{Choice, Machine};
@@ -63,7 +63,7 @@ impl<'a> Lead<'a> {
         requires choice { IsChoice choice }
         requires selected { IsSome choice.selected }
         ensures { IfOk result (λ lead. lead ≡
-            seen image.now index.now points.now input.now choice (λ x.
+            machine_view image.now index.now points.now input.now choice (λ x.
             record { state = unbegun x; harts = 0 ∷ [] })) }
     {
         let whole = Choice {

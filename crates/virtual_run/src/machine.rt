@@ -3,7 +3,7 @@ ghost use Rattle.std.specs.Prelude.{◌≡◌, ◌+◌, ◌≤◌, ◌<◌, fals
 ghost use Rattle.coz_types.specs.declared.TheConstants.{GREATEST_SPEEDUP};
 ghost use Rattle.hart_schedule.specs.Keys.{key_of};
 ghost use Rattle.delay_credits.specs.Delays.{account_as};
-ghost use Rattle.virtual_run.specs.Seen.{seen, experiment_of};
+ghost use Rattle.virtual_run.specs.Seen.{machine_view, experiment_of};
 ghost use Rattle.virtual_run.specs.Lead.{arguments, is_unstarted};
 ghost use Rattle.virtual_run.specs.DelayedRun.{visit_as, net_due_of, account_in, outcome_of, IsSmall, Happens, AgreesThroughout, EndsOnce};
 
@@ -69,7 +69,8 @@ impl<'a> Machine<'a> {
     ) -> Result<Machine<'a>, AllocError>
         requires { IsChoice choice }
         ensures { IfOk result (λ machine.
-            machine ≡ seen image.now index.now points.now input.now choice (λ x. standing x 0)) }
+            machine ≡ machine_view image.now index.now points.now input.now choice
+            (λ x. standing x 0)) }
     {
         let setting = Setting {
             index,

@@ -8,7 +8,7 @@ ghost use Rattle.guest_calls.specs.Guest.{IsMade, pc_of};
 ghost use Rattle.virtual_run.specs.Begin.{many, IsIdle, AreIdle, AreBegun};
 ghost use Rattle.virtual_run.specs.Credited.{raise_ticks, AllMade};
 ghost use Rattle.virtual_run.specs.Lead.{sooner_by, with_sooner};
-ghost use Rattle.virtual_run.specs.Run.{selects, selected_of, ticks_in};
+ghost use Rattle.virtual_run.specs.Run.{is_selecting, selected_of, ticks_in};
 
 use crate::Setting;
 use crate::accounts::raised_by;
@@ -31,7 +31,7 @@ fn cost_of(setting: &Setting, guest: &Guest, hart: HartId) -> Cost
     requires made { IsMade guest.now hart.0 }
     requires speedup { setting.now.choice.speedup ≤ GREATEST_SPEEDUP }
     ensures ticks { result.ticks ≡ ticks_in setting.now guest.now hart.0 }
-    ensures selected { result.selected ≡ selects setting.now (pc_of guest.now hart.0) }
+    ensures selected { result.selected ≡ is_selecting setting.now (pc_of guest.now hart.0) }
     ensures few { result.ticks ≤ 4000 }
 {
     let cycles = guest.next_cycles(hart);

@@ -4,7 +4,7 @@ use Rattle.std.specs.Prelude.{codes, nat_le}
 use Rattle.std.specs.List.{AllByRecursion, list_all}
 use Rattle.std.proofs.lemmas.Bool.{and_parts, leb-true}
 use Rattle.std.proofs.lemmas.Fmt.{length-decimal-le}
-use Rattle.work_gen.specs.Text.{Line, b, c, next, drawn, statement, statements, label, says, turning, locking, locked, kinds, block, blocks, joined, opening, before_point, ending, generated}
+use Rattle.work_gen.specs.Text.{Line, b, c, next, draw_of, statement, statements, label, line_saying, turning_lines, locking_lines, locked_block, kinds, block, blocks, text_of_lines, opening, before_point, ending, generated}
 use Rattle.work_gen.proofs.Blocks.{all_blocks}
 use Rattle.work_gen.proofs.Steps.{adds, sleeps}
 
@@ -34,13 +34,13 @@ tested (l ∷ ls) all =
 
 -- ---- blocks
 
-turning_short : (work : Line) (n i : ℕ) → IsShort work → n < 10000 → i < 10000 → AreShort (turning work n i)
+turning_short : (work : Line) (n i : ℕ) → IsShort work → n < 10000 → i < 10000 → AreShort (turning_lines work n i)
 turning_short work n i short few small = (
   numbered (codes "    li t0, ") n (omega arith) few,
   (named (codes "b") i (omega arith) small, (short, (omega arith, (numbered (codes "    bne t0, x0, b") i (omega arith) small, tt)))),
 )
 
-locking_short : (work : List Line) (i : ℕ) → AreShort work → i < 10000 → AreShort (locking work i)
+locking_short : (work : List Line) (i : ℕ) → AreShort work → i < 10000 → AreShort (locking_lines work i)
 locking_short work i short small =
     let added = both_short work (statements adds) short (tested (statements adds) refl) in
     let behind : AreShort (statement (codes "j " ++ b i) ∷ label (c i) ∷ work ++ statements adds) = (numbered (codes "    j b") i (omega arith) small, (named (codes "c") i (omega arith) small, added)) in
@@ -49,24 +49,24 @@ locking_short work i short small =
       (omega arith, (omega arith, (numbered (codes "    beq t1, x0, c") i (omega arith) small, waiting))),
     )
 
-kind_short : (k i state : ℕ) → i < 10000 → AreShort (get_or kinds k (locked []) i state).0
-kind_short zero i state few = turning_short (says "mul t1, t1, t0") (1 + drawn (next state) % 20) i (omega arith) (omega arith) few
-kind_short (suc zero) i state few = turning_short (says "div t1, t1, t0") (1 + drawn (next state) % 20) i (omega arith) (omega arith) few
+kind_short : (k i state : ℕ) → i < 10000 → AreShort (get_or kinds k (locked_block []) i state).0
+kind_short zero i state few = turning_short (line_saying "mul t1, t1, t0") (1 + draw_of (next state) % 20) i (omega arith) (omega arith) few
+kind_short (suc zero) i state few = turning_short (line_saying "div t1, t1, t0") (1 + draw_of (next state) % 20) i (omega arith) (omega arith) few
 kind_short (suc (suc zero)) i state few = locking_short [] i tt few
-kind_short (suc (suc (suc zero))) i state few = locking_short (says "div t3, t3, t0" ∷ []) i (omega arith, tt) few
+kind_short (suc (suc (suc zero))) i state few = locking_short (line_saying "div t3, t3, t0" ∷ []) i (omega arith, tt) few
 kind_short (suc (suc (suc (suc k)))) i state few = locking_short [] i tt few
 
 blocks_short : (count i state : ℕ) → i + count ≤ 2000 → AreShort (blocks i count state)
 blocks_short zero i state few = tt
 blocks_short (suc count) i state few =
     let first = block i state in
-    both_short first.0 (blocks (i + 1) count first.1) (kind_short (drawn (next state) % 4) i (next state) (omega arith)) (blocks_short count (i + 1) first.1 (omega arith))
+    both_short first.0 (blocks (i + 1) count first.1) (kind_short (draw_of (next state) % 4) i (next state) (omega arith)) (blocks_short count (i + 1) first.1 (omega arith))
 
 -- ---- the whole
 
-all_bytes_short : (ls : List Line) → AreShort ls → length (joined ls) ≤ 41 * length ls
+all_bytes_short : (ls : List Line) → AreShort ls → length (text_of_lines ls) ≤ 41 * length ls
 all_bytes_short [] all = omega arith
-all_bytes_short (l ∷ ls) all = omega (arith, length-append (l ++ codes "\n") (joined ls), length-append l (codes "\n"), all.0, all_bytes_short ls all.1)
+all_bytes_short (l ∷ ls) all = omega (arith, length-append (l ++ codes "\n") (text_of_lines ls), length-append l (codes "\n"), all.0, all_bytes_short ls all.1)
 
 middle : List Line
 middle = statements ("la a0, ended" ∷ "li a1, 1" ∷ [])

@@ -2,13 +2,13 @@ use Rattle.std.proofs.Common.{◌∙◌}
 use Rattle.dwarf_lines.specs.Registers.{view}
 use Rattle.line_index.specs.Listed.{lines_in}
 use Rattle.coz_cli.specs.Experiment.{experiment_by_table}
-use Rattle.coz_cli.specs.Kind.{judging}
+use Rattle.coz_cli.specs.Kind.{judgement_by}
 use Rattle.coz_cli.proofs.Indexed.{indexed}
 use Rattle.coz_cli.proofs.experiment.file_answer.Goals as goal
 
 pub returns-clause-settled : goal.returns-clause-settled
 returns-clause-settled g c = λ other.
-    let next = judging c.args.kind c.args.request.now in
+    let next = judgement_by c.args.kind c.args.request.now in
     let input = c.args.input.now in
     let program = c.in_ok-program.program in
     c.index_answer.ensures.settled other

@@ -1,5 +1,5 @@
 use Rattle.std.proofs.lemmas.Result.{err_from_is_err_and}
-use Rattle.coz_cli.specs.Kind.{judging}
+use Rattle.coz_cli.specs.Kind.{judgement_by}
 use Rattle.coz_cli.proofs.Judged.{first_read, suits_file}
 use Rattle.coz_cli.proofs.experiment.judge_experiment.Goals as goal
 
@@ -13,5 +13,5 @@ pub returns-in_err-file-clause-settled : goal.returns-in_err-file-clause-settled
 returns-in_err-file-clause-settled g c =
     let gives = err_from_is_err_and c.from_residual.result c.from_residual.ensures.1 in
     rw (gives.1, gives.2)
-    (first_read (g.F.Files.held c.args.files.now) c.args.request.now (judging c.args.kind c.args.request.now) c.text.result.now (g.F.Files.faults c.args.files.now) (g.F.Files.faults c.read_file.new.files)
+    (first_read (g.F.Files.held c.args.files.now) c.args.request.now (judgement_by c.args.kind c.args.request.now) c.text.result.now (g.F.Files.faults c.args.files.now) (g.F.Files.faults c.read_file.new.files)
     c.in_err-file.field-0.0 c.text.ensures c.in_err-file.ensures.settled)

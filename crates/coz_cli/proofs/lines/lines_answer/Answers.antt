@@ -2,12 +2,12 @@ use Rattle.std.proofs.Common.{ap, ◌∙◌}
 use Rattle.coz_types.specs.Image.{ImageParts}
 use Rattle.dwarf_lines.specs.Registers.{Table, view}
 use Rattle.coz_cli.specs.Text.{lines_text}
-use Rattle.coz_cli.specs.Verdict.{printed}
+use Rattle.coz_cli.specs.Verdict.{text_verdict}
 use Rattle.coz_cli.proofs.Listing.{listed}
 use Rattle.coz_cli.proofs.lines.lines_answer.Goals as goal
 
 pub returns-clause-settled : goal.returns-clause-settled
 returns-clause-settled c = λ other.
     let program = c.in_ok-program.program in
-    ap printed (c.in_ok-text.ensures ∙ listed (view program.table) program.image.areas program.index c.in_ok-program.ensures.indexed)
-    ∙ c.in_ok-program.ensures.settled (λ never. never) (λ (image : ImageParts) (table : Table). printed (lines_text table image.areas))
+    ap text_verdict (c.in_ok-text.ensures ∙ listed (view program.table) program.image.areas program.index c.in_ok-program.ensures.indexed)
+    ∙ c.in_ok-program.ensures.settled (λ never. never) (λ (image : ImageParts) (table : Table). text_verdict (lines_text table image.areas))

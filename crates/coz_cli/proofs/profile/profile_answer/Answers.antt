@@ -6,7 +6,7 @@ use Rattle.experiment_plan.specs.declared.experiment.Experiment.{Experiment as P
 use Rattle.coz_cli.specs.Experiment.{runs_in}
 use Rattle.coz_cli.specs.Profiled.{pairs_of, profile_of}
 use Rattle.coz_cli.specs.Verdict.{Verdict, plan_verdict, profile_verdict}
-use Rattle.coz_cli.specs.Answer.{answered, fault_verdict}
+use Rattle.coz_cli.specs.Answer.{verdict_of, fault_verdict}
 use Rattle.coz_cli.proofs.Profiling.{after_lines, after_selected, after_points}
 use Rattle.coz_cli.proofs.profile.profile_answer.Goals as goal
 
@@ -53,7 +53,7 @@ returns-clause-settled g c = λ other.
     let next : List Pair → Verdict = λ pairs. profile_verdict (profile_of runs c.args.index.now.lines asked.budget points pairs) in
     after_points asked c.args.index.now.lines runs (ids lines) _ c.bytes_of.ensures
     (c.in_ok-lines.ensures.settled (λ never. never)) points _ c.bytes_of-2.ensures
-    (c.in_ok-points.ensures.settled (λ never. never)) (answered c.plan_answer.result)
+    (c.in_ok-points.ensures.settled (λ never. never)) (verdict_of c.plan_answer.result)
     (c.plan_answer.ensures.settled other
     ∙ c.in_ok-plan.ensures.settled (λ never. never) next
     ∙ ap (λ (speedups : List ℕ). plan_verdict (pairs_of (ids c.deref.result.now) speedups) next) c.as_slice.ensures

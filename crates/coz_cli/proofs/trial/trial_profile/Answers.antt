@@ -5,14 +5,14 @@ use Rattle.std.proofs.lemmas.Result.{err_from_is_err_and}
 use Rattle.coz_types.specs.Ranges.{IsSummary}
 use Rattle.coz_types.specs.declared.LineId.{LineId}
 use Rattle.experiment_plan.specs.Pairs.{IsPlan}
-use Rattle.coz_cli.specs.Verdict.{printed}
+use Rattle.coz_cli.specs.Verdict.{text_verdict}
 use Rattle.coz_cli.proofs.Trials.{as_many, is_memory, plan_is, plan_memory, profile_is}
 use Rattle.coz_cli.proofs.trial.trial_profile.Goals as goal
 
 pub returns-in_err-points-clause-memory : goal.returns-in_err-points-clause-memory
 returns-in_err-points-clause-memory g c =
     let gives = err_from_is_err_and c.from_residual-in_err-points.result c.from_residual-in_err-points.ensures.1 in
-    rw (gives.1, gives.2) (is_memory c.in_err-points.field-0.0 [] (λ other. c.in_err-points.ensures.settled other (λ points. printed [])))
+    rw (gives.1, gives.2) (is_memory c.in_err-points.field-0.0 [] (λ other. c.in_err-points.ensures.settled other (λ points. text_verdict [])))
 
 pub returns-in_err-plan-clause-memory : goal.returns-in_err-plan-clause-memory
 returns-in_err-plan-clause-memory g c =

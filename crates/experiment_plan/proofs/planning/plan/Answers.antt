@@ -1,7 +1,7 @@
 use Rattle.std.proofs.Common.{◌≤◌, ◌<◌, ℕ, List, ◌∷◌, All, length, sym, ap, ◌∙◌, subst, arith, rules}
 use Rattle.std.specs.List.Sorted.{IsStrictlySortedBy}
 use Rattle.experiment_plan.specs.declared.experiment.Experiment.{Experiment}
-use Rattle.experiment_plan.specs.Selected.{rising}
+use Rattle.experiment_plan.specs.Selected.{rising_numbers}
 use Rattle.experiment_plan.specs.Pairs.{pair_cmp, pairs_of}
 use Rattle.experiment_plan.proofs.Rising.{rises, some_rise}
 use Rattle.experiment_plan.proofs.Pairing.{few_speedups, plan_of, plan_length, sorted_pairs, lines_below, speedups_few}
@@ -42,12 +42,12 @@ invariant_of-result c =
 pub returns-clause-in_order : goal.returns-clause-in_order
 returns-clause-in_order c =
     let is = plan_of c.args.lines.now c.args.speedups.now _ _ _ c.in_ok-pairs.ensures c.deref-2.ensures.value c.in_ok-speedups.ensures in
-    subst (IsStrictlySortedBy pair_cmp) (sym is) (sorted_pairs c.args.lines.now (rising (0 ∷ c.args.speedups.now)) c.requires.rising (rises (0 ∷ c.args.speedups.now)))
+    subst (IsStrictlySortedBy pair_cmp) (sym is) (sorted_pairs c.args.lines.now (rising_numbers (0 ∷ c.args.speedups.now)) c.requires.rising (rises (0 ∷ c.args.speedups.now)))
 
 pub returns-clause-below : goal.returns-clause-below
 returns-clause-below c =
     let is = plan_of c.args.lines.now c.args.speedups.now _ _ _ c.in_ok-pairs.ensures c.deref-2.ensures.value c.in_ok-speedups.ensures in
-    λ count all. subst (All (λ (pair : Experiment). pair.line.0 < count)) (sym is) (lines_below count c.args.lines.now (rising (0 ∷ c.args.speedups.now)) all)
+    λ count all. subst (All (λ (pair : Experiment). pair.line.0 < count)) (sym is) (lines_below count c.args.lines.now (rising_numbers (0 ∷ c.args.speedups.now)) all)
 
 pub returns-clause-speedups : goal.returns-clause-speedups
 returns-clause-speedups c =

@@ -1,6 +1,6 @@
 use Rattle.std.proofs.Common.{ℕ, ◌≡◌, ◌+◌, ◌-◌, ◌/◌, ◌≤◌, ◌<◌, Bool, false, List, length, get_or, arith, sym, ap, ◌∙◌, Some, ⊎_elim}
 use Rattle.std.proofs.lemmas.Bool.{cases_lt}
-use Rattle.guest_areas.specs.Marks.{marked}
+use Rattle.guest_areas.specs.Marks.{marked_pages}
 use Rattle.guest_areas.specs.Space.{RegionMap, free_run}
 use Rattle.guest_areas.proofs.FreeRuns.{free_run_from, none_short, search_is, search_taken, search_found}
 use Rattle.guest_areas.proofs.Areas.free_run.Goals as goal
@@ -24,8 +24,8 @@ same_candidate r count n a b e = ap (λ (x : ℕ). free_run_from r count (n - x)
 
 pub loop-place-preserved : goal.loop-place-preserved
 loop-place-preserved c =
-    let mapped : c.args.self.now.mapped ≡ marked 34603008 c.deref-is_mapped-items.result.now =
-    ap (λ (x : RegionMap). x.mapped) (sym c.self.view_is) ∙ ap (λ (xs : List Bool). marked 34603008 xs) (sym c.deref-is_mapped-items.ensures.value) in
+    let mapped : c.args.self.now.mapped ≡ marked_pages 34603008 c.deref-is_mapped-items.result.now =
+    ap (λ (x : RegionMap). x.mapped) (sym c.self.view_is) ∙ ap (λ (xs : List Bool). marked_pages 34603008 xs) (sym c.deref-is_mapped-items.ensures.value) in
     let short : c.loop-place.free < c.args.count = c.loop-place.invariant.short in
     let back : c.loop-place.free ≤ c.loop-place.place = c.loop-place.invariant.back in
     let differ : c.if-is_mapped.free ≡ c.args.count → ⊥ = c.if-free-count.false in
@@ -55,8 +55,8 @@ whole r count n some e = ap (λ (x : ℕ). free_run_from r count x 34603008) e �
 
 pub returns-then-free-count-clause-page : goal.returns-then-free-count-clause-page
 returns-then-free-count-clause-page c =
-    let mapped : c.args.self.now.mapped ≡ marked 34603008 c.deref-is_mapped-items.result.now =
-    ap (λ (x : RegionMap). x.mapped) (sym c.self.view_is) ∙ ap (λ (xs : List Bool). marked 34603008 xs) (sym c.deref-is_mapped-items.ensures.value) in
+    let mapped : c.args.self.now.mapped ≡ marked_pages 34603008 c.deref-is_mapped-items.result.now =
+    ap (λ (x : RegionMap). x.mapped) (sym c.self.view_is) ∙ ap (λ (xs : List Bool). marked_pages 34603008 xs) (sym c.deref-is_mapped-items.ensures.value) in
     let size : length c.deref-is_mapped-items.result.now ≡ c.args.self.now.layout.map / 4096 =
     ap (λ (xs : List Bool). length xs) c.deref-is_mapped-items.ensures.value ∙ c.self.invariant.kept.each_page ∙ ap (λ (x : RegionMap). x.layout.map / 4096) c.self.view_is in
     let some : 0 < c.args.count = c.requires in

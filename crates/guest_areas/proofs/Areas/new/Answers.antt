@@ -8,7 +8,7 @@ use Rattle.coz_types.specs.declared.image.Rights.{Rights}
 use Rattle.guest_memory.specs.declared.Layout.{Layout}
 use Rattle.guest_memory.specs.Memory.{MemoryMap, rights_at}
 use Rattle.guest_memory.specs.Regions.{IsLayout, brk_base}
-use Rattle.guest_areas.specs.Marks.{marked}
+use Rattle.guest_areas.specs.Marks.{marked_pages}
 use Rattle.guest_areas.specs.Space.{RegionMap, Space, space, SharesRegions}
 use Rattle.guest_areas.specs.Kept.{regions_of}
 use Rattle.guest_areas.specs.Entry.{stack_pointer, with_entry}
@@ -29,7 +29,7 @@ returns-clause-ok c =
     ap (λ (xs : List Area). space (regions_of xs c.layout-layout.result brk_base c.in_ok-mapped.mapped.items) c.write_entry.new.memory) (c.in_ok-areas.ensures.items ∙ c.areas.ensures.areas)
     ∙ ap (λ (l : Layout). space (regions_of c.args.image.now.areas l brk_base c.in_ok-mapped.mapped.items) c.write_entry.new.memory) c.layout-layout.ensures.layout
     ∙ ap (λ (ps : List ℕ). let r : RegionMap = record { areas = c.args.image.now.areas; layout = c.args.memory.now.layout; break = brk_base; mapped = ps } in space r c.write_entry.new.memory)
-    (ap (λ (fs : List Bool). marked 34603008 fs) flags ∙ marked-false 34603008 (c.layout-layout.result.map / 4096))
+    (ap (λ (fs : List Bool). marked_pages 34603008 fs) flags ∙ marked-false 34603008 (c.layout-layout.result.map / 4096))
     ∙ ap (λ (m : MemoryMap). let r : RegionMap = record { areas = c.args.image.now.areas; layout = c.args.memory.now.layout; break = brk_base; mapped = [] } in space r m)
     (c.write_entry.ensures ∙ ap (λ (m : MemoryMap). with_entry c.args.image.now m) c.requires)
 

@@ -3,8 +3,8 @@ use borrow.Rule.Slice.PartMut.{put_mid}
 use Rattle.std.specs.Prelude.{pos}
 use Rattle.std.proofs.lemmas.List.{length-replicate, length-take, length-drop}
 use Rattle.guest_memory.specs.Regions.{map_base}
-use Rattle.guest_areas.specs.Answers.{invalid}
-use Rattle.guest_areas.specs.Space.{RegionMap, Space, space, Answered, refused, unmap, is_in_map}
+use Rattle.guest_areas.specs.Answers.{invalid_argument}
+use Rattle.guest_areas.specs.Space.{RegionMap, Space, space, Answered, refused_answer, unmap, is_in_map}
 use Rattle.guest_areas.specs.Kept.{regions_of}
 use Rattle.guest_areas.specs.Space.{SharesRegions}
 use Rattle.guest_areas.proofs.Shares.{unmap-shares}
@@ -13,7 +13,7 @@ use Rattle.guest_areas.proofs.Areas.unmap.Goals as goal
 use Rattle.guest_areas.proofs.Areas.unmap.Goals.{then-address-ne0-via-then-address-ne0, then-address-ne0-via-else-address-ne0+then-length-eq0, then-address-ne0-via-else-address-ne0+else-length-eq0+then-address-lt-MAP_BASE, then-address-ne0-via-else-address-ne0+else-length-eq0+else-address-lt-MAP_BASE+then-first-count}
 
 -- what the refused cases answer
-refusal : (c : goal.Joined-then-address-ne0) → refused invalid (space c.args.self.now c.args.memory.now) ≡ unmap c.args.address c.args.length (space c.args.self.now c.args.memory.now)
+refusal : (c : goal.Joined-then-address-ne0) → refused_answer invalid_argument (space c.args.self.now c.args.memory.now) ≡ unmap c.args.address c.args.length (space c.args.self.now c.args.memory.now)
 refusal c =
     let s : Space = space c.args.self.now c.args.memory.now in
     elim c.then-address-ne0.branch [

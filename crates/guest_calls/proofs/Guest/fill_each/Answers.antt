@@ -2,7 +2,7 @@ use Rattle.std.proofs.Common.{ℕ, ◌≡◌, min, length, drop, get_or, List, s
 use Rattle.std.proofs.lemmas.List.{drop_all}
 use Rattle.std.proofs.lemmas.Bool.{false≢true}
 use Rattle.guest_calls.specs.declared.pieces.Piece.{Piece}
-use Rattle.guest_calls.specs.Calls.{filled, total, with_read}
+use Rattle.guest_calls.specs.Calls.{filled_parts, total, with_read}
 use Rattle.guest_calls.proofs.Vectors.{no_piece, fill-writable, fill-rest, fill-next, fill-count, fill-left}
 use Rattle.guest_calls.proofs.Guest.fill_each.Goals as goal
 
@@ -31,9 +31,9 @@ unreachable-requires c =
 pub returns : goal.returns
 returns c =
     let none = drop_all c.loop-piece.piece-index c.args.pieces.now c.loop-piece-test.false in
-    let nothing : total (filled (drop c.loop-piece.piece-index c.args.pieces.now) (length c.loop-piece.self.input)) ≡ 0 = ap (λ (qs : List Piece). total (filled qs (length c.loop-piece.self.input))) none in
+    let nothing : total (filled_parts (drop c.loop-piece.piece-index c.args.pieces.now) (length c.loop-piece.self.input)) ≡ 0 = ap (λ (qs : List Piece). total (filled_parts qs (length c.loop-piece.self.input))) none in
     let counted = c.loop-piece.invariant.count in
     record {
-      filled = ap (λ (qs : List Piece). with_read (filled qs (length c.loop-piece.self.input)) c.loop-piece.self) (sym none) ∙ c.loop-piece.invariant.done;
+      filled = ap (λ (qs : List Piece). with_read (filled_parts qs (length c.loop-piece.self.input)) c.loop-piece.self) (sym none) ∙ c.loop-piece.invariant.done;
       count = omega arith;
     }

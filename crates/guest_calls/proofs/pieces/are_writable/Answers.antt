@@ -1,7 +1,7 @@
 use Rattle.std.proofs.Common.{List, sym, ap, ◌∙◌}
 use Rattle.std.proofs.lemmas.List.{drop_all}
 use Rattle.guest_calls.specs.declared.pieces.Piece.{Piece}
-use Rattle.guest_calls.specs.Calls.{filled, is_each_writable}
+use Rattle.guest_calls.specs.Calls.{filled_parts, is_each_writable}
 use Rattle.guest_calls.proofs.Vectors.{writable-accepted, writable-refused}
 use Rattle.guest_calls.proofs.pieces.are_writable.Goals as goal
 
@@ -17,5 +17,5 @@ returns-then-not-writable c =
 
 pub returns : goal.returns
 returns c =
-    ap (λ (qs : List Piece). is_each_writable c.args.memory.now (filled qs c.loop-piece.left)) (sym (drop_all c.loop-piece.piece-index c.args.pieces.now c.loop-piece-test.false))
+    ap (λ (qs : List Piece). is_each_writable c.args.memory.now (filled_parts qs c.loop-piece.left)) (sym (drop_all c.loop-piece.piece-index c.args.pieces.now c.loop-piece-test.false))
     ∙ c.loop-piece.invariant

@@ -5,7 +5,7 @@ use Rattle.machines.specs.Records.{record_of}
 use Rattle.machines.specs.Standing.{delayed_record}
 use Rattle.virtual_run.specs.Seen.{Seen, experiment_of}
 use Rattle.profile_pool.specs.Summaries.{summary_in}
-use Rattle.profile_pool.specs.Made.{made}
+use Rattle.profile_pool.specs.Made.{parts_made}
 use Rattle.profile_pool.proofs.Summing.{summary_at}
 use Rattle.profile_pool.proofs.Making.{for_any, forked}
 use Rattle.profile_pool.proofs.claimed.run_pair.Goals as goal
@@ -18,13 +18,13 @@ pub summarise-requires-clause-points : goal.summarise-requires-clause-points
 summarise-requires-clause-points c =
     let work = c.args.work.now in
     let is = forked work c.args.pair.line.0 _ c.args.lead.now c.args.machine.now c.fork.new.machine _ c.requires.machine c.requires.lead c.fork.ensures.forked in
-    ap (λ (seen : Seen (Unit {0})). seen.points) (ap made c.run.ensures.rest ∙ is)
+    ap (λ (seen : Seen (Unit {0})). seen.points) (ap parts_made c.run.ensures.rest ∙ is)
 
 pub returns-clause-machine : goal.returns-clause-machine
 returns-clause-machine c =
     let work = c.args.work.now in
     let is = forked work c.args.pair.line.0 _ c.args.lead.now c.args.machine.now c.fork.new.machine _ c.requires.machine c.requires.lead c.fork.ensures.forked in
-    for_any work (Some c.args.pair.line.0) _ c.run.new.self (ap made c.run.ensures.rest ∙ is)
+    for_any work (Some c.args.pair.line.0) _ c.run.new.self (ap parts_made c.run.ensures.rest ∙ is)
 
 pub returns-clause-summary : goal.returns-clause-summary
 unfolding summary_in
@@ -35,7 +35,7 @@ returns-clause-summary c =
     let points = work.points.now in
     let is = forked work pair.line.0 _ c.args.lead.now c.args.machine.now c.fork.new.machine _ c.requires.machine c.requires.lead c.fork.ensures.forked in
     let recorded =
-    ap (λ (seen : Seen (Unit {0})). record_of (experiment_of seen) run.new.self.state run.result) (ap made run.ensures.rest)
+    ap (λ (seen : Seen (Unit {0})). record_of (experiment_of seen) run.new.self.state run.result) (ap parts_made run.ensures.rest)
     ∙ run.ensures.record
     ∙ ap (λ (seen : Seen (Unit {0})). delayed_record (experiment_of seen)) is in
     summary_at _ c.label.result.now pair.speedup (length points.lines) _ _ c.summarise.result

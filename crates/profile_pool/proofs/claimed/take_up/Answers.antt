@@ -1,5 +1,5 @@
 use Rattle.std.proofs.Common.{◌∙◌, ap, sym, Some}
-use Rattle.profile_pool.specs.Made.{made}
+use Rattle.profile_pool.specs.Made.{parts_made}
 use Rattle.profile_pool.proofs.Making.{for_any, taken}
 use Rattle.profile_pool.proofs.claimed.take_up.Goals as goal
 
@@ -10,4 +10,4 @@ again-requires-clause-arguments c =
 pub returns : goal.returns
 returns c =
     let work = c.args.work.now in
-    ap made c.run.ensures.rest ∙ taken work c.args.line work.first.now c.again.new.self c.requires.work.first c.again.ensures
+    ap parts_made c.run.ensures.rest ∙ taken work c.args.line work.first.now c.again.new.self c.requires.work.first c.again.ensures

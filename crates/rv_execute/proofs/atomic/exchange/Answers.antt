@@ -2,7 +2,7 @@ use Rattle.std.proofs.Common.{◌≡◌, ap, ◌∙◌, rules, true, Some, sym, 
 use Rattle.guest_memory.specs.Memory.{load, store}
 use Rattle.rv_alu.specs.Operations.{stored_result}
 use Rattle.rv_execute.specs.Reservations.{without_touched}
-use Rattle.rv_execute.specs.Execution.{setting, put, atomic_size, atomic_load_value}
+use Rattle.rv_execute.specs.Execution.{setting, with_rd, atomic_size, atomic_load_value}
 use Rattle.rv_execute.proofs.atomic.exchange.Goals as goal
 
 pub returns-in-Ok-store : goal.returns-in-Ok-store
@@ -14,5 +14,5 @@ returns-in-Ok-store c =
     let ended : c.end_at.new.self ≡ without_touched c.args.target.address (atomic_size c.args.target.wide) c.args.reservations.now = search rules in
     rw (lies, sym there, sym stored)
     (c.put.ensures _ _
-    ∙ ap (λ n. put c.args.target.rd n (setting c.args.hart.now c.store.new.self c.end_at.new.self)) c.load_value.ensures
-    ∙ ap (λ r. put c.args.target.rd (atomic_load_value c.args.target.wide c.in-Ok.old) (setting c.args.hart.now c.store.new.self r)) ended)
+    ∙ ap (λ n. with_rd c.args.target.rd n (setting c.args.hart.now c.store.new.self c.end_at.new.self)) c.load_value.ensures
+    ∙ ap (λ r. with_rd c.args.target.rd (atomic_load_value c.args.target.wide c.in-Ok.old) (setting c.args.hart.now c.store.new.self r)) ended)

@@ -1,7 +1,7 @@
 use Rattle.std.proofs.Common.{◌≡◌, ap, ◌∙◌, rules, true, false, Some, sym}
 use Rattle.guest_memory.specs.Memory.{store, is_writable}
 use Rattle.rv_execute.specs.Reservations.{without_touched}
-use Rattle.rv_execute.specs.Execution.{setting, put, atomic_size}
+use Rattle.rv_execute.specs.Execution.{setting, with_rd, atomic_size}
 use Rattle.rv_execute.proofs.atomic.store_if.Goals as goal
 
 pub returns-then-writable : goal.returns-then-writable
@@ -16,4 +16,4 @@ returns-in-Ok c =
     let stored : Some c.store.new.self ≡ store c.args.target.address (atomic_size c.args.target.wide) c.args.target.value c.args.memory.now = search (rules, c.in-Ok.ensures) in
     let ended : c.end_at.new.self ≡ without_touched c.args.target.address (atomic_size c.args.target.wide) c.args.reservations.now = search rules in
     rw (sym stored, succeeds)
-    (c.put-in-Ok.ensures _ _ ∙ ap (λ r. put c.args.target.rd 0 (setting c.args.hart.now c.store.new.self r)) ended)
+    (c.put-in-Ok.ensures _ _ ∙ ap (λ r. with_rd c.args.target.rd 0 (setting c.args.hart.now c.store.new.self r)) ended)

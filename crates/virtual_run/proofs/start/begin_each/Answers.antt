@@ -4,7 +4,7 @@ use Rattle.std.proofs.lemmas.List.{drop_all, append-nil}
 use Rattle.coz_types.specs.declared.HartId.{HartId}
 use Rattle.hart_schedule.specs.Keys.{Keys, with_key}
 use Rattle.guest_calls.specs.Guest.{Guest, pc_of}
-use Rattle.virtual_run.specs.Run.{selects, ticks_in}
+use Rattle.virtual_run.specs.Run.{is_selecting, ticks_in}
 use Rattle.virtual_run.proofs.Begin.{IsBeginning, beginning, first_idle, room_left, one_more}
 use Rattle.virtual_run.proofs.start.begin_each.Goals as goal
 
@@ -18,7 +18,7 @@ next_of harts i below = ap (map (λ hart. hart.0)) (drop-cons harts i (record { 
 
 pub loop-hart-init : goal.loop-hart-init
 loop-hart-init c =
-    beginning c.args.guest.now (ticks_in c.args.setting.now c.args.guest.now) (λ hart. selects c.args.setting.now (pc_of c.args.guest.now hart)) c.args.moment
+    beginning c.args.guest.now (ticks_in c.args.setting.now c.args.guest.now) (λ hart. is_selecting c.args.setting.now (pc_of c.args.guest.now hart)) c.args.moment
     (map (λ hart. hart.0) c.args.harts.now) c.args.schedule.now c.args.selected.now c.requires.idle c.requires.room c.requires.few
 
 -- the next hart is to begin, and then the rest
@@ -48,7 +48,7 @@ loop-hart-preserved c =
     let l = c.loop-hart in
     let g : Guest = c.args.guest.now in
     let ticks : ℕ → ℕ = ticks_in c.args.setting.now g in
-    let p : ℕ → Bool = λ hart. selects c.args.setting.now (pc_of g hart) in
+    let p : ℕ → Bool = λ hart. is_selecting c.args.setting.now (pc_of g hart) in
     let m : ℕ = c.args.moment in
     let all : List ℕ = numbers c.args.harts.now in
     let hart : ℕ = (get_or c.args.harts.now l.hart-index (record { 0 = 0 })).0 in

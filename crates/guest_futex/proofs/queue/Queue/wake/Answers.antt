@@ -1,6 +1,6 @@
 use Rattle.std.proofs.Common.{ℕ, ◌≡◌, List, ◌++◌, length, take, drop, arith, subst, ◌∙◌, ap}
 use Rattle.std.proofs.Math.Seq.{take-append_seam}
-use Rattle.guest_futex.specs.Waiters.{left}
+use Rattle.guest_futex.specs.Waiters.{waiters_left}
 use Rattle.guest_futex.specs.Apart.{AreApart}
 use Rattle.guest_futex.specs.Held.{waiters_of}
 use Rattle.guest_futex.proofs.WaitersLemmas.{apart-left}
@@ -19,5 +19,5 @@ invariant_of-self c =
     let whole = take-seam c.self.inside.places.len places (drop (length places) c.self.inside.places.items) (c.take_eldest-kept.auto.places ∙ c.deref_mut.ensures.len) in
     let kept = c.truncate.ensures.items ∙ ap (take c.take_eldest-kept.result) whole in
     let old = ap waiters_of c.deref_mut.ensures.value ∙ c.self.view_is in
-    let now = ap waiters_of kept ∙ c.take_eldest-kept.ensures.left ∙ ap (λ ws. left c.args.address ws c.args.count) old in
+    let now = ap waiters_of kept ∙ c.take_eldest-kept.ensures.left ∙ ap (λ ws. waiters_left c.args.address ws c.args.count) old in
     (rw now (apart-left c.args.address c.args.self.now c.args.count apart), omega arith)

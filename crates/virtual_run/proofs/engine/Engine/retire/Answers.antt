@@ -1,7 +1,7 @@
 use Rattle.std.proofs.Common.{◌≡◌, ℕ, ◌≤◌, ◌<◌, length, refl, arith, rules, subst}
 use Rattle.hart_schedule.specs.Keys.{Keys}
 use Rattle.machines.specs.declared.Fate.{Fate}
-use Rattle.virtual_run.specs.Begin.{rested, many}
+use Rattle.virtual_run.specs.Begin.{keys_at_rest, many}
 use Rattle.virtual_run.proofs.Keys.{has_place}
 use Rattle.virtual_run.proofs.Many.{many_few}
 use Rattle.virtual_run.proofs.Advance.{idle_then, settled}
@@ -23,7 +23,7 @@ settle-requires c =
     record {
       goes = c.requires.steady.goes;
       below = has_place keys h c.args.turn.due c.requires.turn;
-      idle = λ none. idle_then c.args.setting.now c.args.self.now (rested h fate keys) h c.args.turn.due c.args.delay c.retire_due-fate.new.guest fate c.retire_due-fate.new.started c.keep_visit.new.visits c.pc-address.result _
+      idle = λ none. idle_then c.args.setting.now c.args.self.now (keys_at_rest h fate keys) h c.args.turn.due c.args.delay c.retire_due-fate.new.guest fate c.retire_due-fate.new.started c.keep_visit.new.visits c.pc-address.result _
           (record {
             steady = c.requires.steady;
             running = c.requires.running;

@@ -4,7 +4,7 @@ use Rattle.hart_schedule.specs.Keys.{with_key, without_key}
 use Rattle.guest_calls.specs.Guest.{Guest, pc_of}
 use Rattle.virtual_run.specs.Advance.{IsWoken}
 use Rattle.virtual_run.specs.Begin.{many, IsIdle}
-use Rattle.virtual_run.specs.Run.{selects, selected_of, ticks_in}
+use Rattle.virtual_run.specs.Run.{is_selecting, selected_of, ticks_in}
 use Rattle.virtual_run.proofs.Many.{many_few}
 use Rattle.virtual_run.proofs.Begin.{one_at_most}
 use Rattle.virtual_run.proofs.Law.{woken_idle}
@@ -24,7 +24,7 @@ overflow_add-self-2 c =
     let starts = st.few in
     let few : many s.schedule ≤ length s.schedule = many_few s.schedule in
     let room : length s.schedule ≡ 256 = st.room in
-    let one : length (selected_of c.args.setting.now c.wake.new.self (c.args.turn.hart.0 ∷ [])) ≤ 1 = one_at_most (λ hart. selects c.args.setting.now (pc_of c.wake.new.self hart)) c.args.turn.hart.0 in
+    let one : length (selected_of c.args.setting.now c.wake.new.self (c.args.turn.hart.0 ∷ [])) ≤ 1 = one_at_most (λ hart. is_selecting c.args.setting.now (pc_of c.wake.new.self hart)) c.args.turn.hart.0 in
     let chosen : length c.begin_next.new.selected ≡ length (selected_of c.args.setting.now c.wake.new.self (c.args.turn.hart.0 ∷ [])) =
     ap length (c.begin_next.ensures.selected ∙ ap (λ (xs : List ℕ). xs ++ selected_of c.args.setting.now c.wake.new.self (c.args.turn.hart.0 ∷ [])) c.clear.ensures) in
     let same : length c.harts.result.now ≡ length c.begin_next.new.selected = sym (length-map c.harts.result.now (λ hart. hart.0)) ∙ ap length c.harts.ensures in
