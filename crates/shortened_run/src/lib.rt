@@ -28,12 +28,12 @@ impl<'a> Model for Short<'a> {
     ghost use Rattle.machines.specs.Shortened.{Shortened, shortened};
     ghost use Rattle.guest_calls.specs.Guest.{Guest};
     ghost use Rattle.virtual_run.specs.Engine.{events_of};
-    ghost use Rattle.virtual_run.specs.Seen.{Seen, seen_in};
+    ghost use Rattle.virtual_run.specs.Seen.{Seen, view_in};
     ghost use Rattle.shortened_run.specs.ShortenedRun.{IsShort};
 
     ghost Value = { Seen (Shortened Guest) };
 
-    ghost view = { λ short. seen_in short.image.now short.input.now short.setting
+    ghost view = { λ short. view_in short.image.now short.input.now short.setting
         (λ x. shortened x (events_of short.engine)) };
 
     ghost invariant = { λ short.

@@ -51,7 +51,7 @@ use Rattle.virtual_run.specs.Engine.{events_of, IsReached, IsSteady, IsFirst}
 use Rattle.virtual_run.specs.Advance.{IsRetired, IsWoken, IsAdvance}
 use Rattle.virtual_run.specs.Credited.{raise_ticks, with_credits, with_starts, with_raises, with_rest, with_begun, credits_after, moment_of, credited_by, Runs, AllRun, AllBelow, Holds, CanBegin, CanWake, CanSettle, CanFollow}
 use Rattle.virtual_run.specs.Credited as credited
-use Rattle.virtual_run.specs.Seen.{Seen, seen_in, experiment_with, experiment_of}
+use Rattle.virtual_run.specs.Seen.{Seen, view_in, experiment_with, experiment_of}
 use Rattle.virtual_run.specs.DelayedRun.{visit_as, net_due_of, account_in, outcome_of, IsOfAHart, IsSmall, Happens, AgreesThroughout, EndsOnce, IsPaced}
 use Rattle.virtual_run.proofs.Keys.{has_place, rested_length, next_is}
 use Rattle.virtual_run.proofs.Many.{many_few}
@@ -632,7 +632,7 @@ module _ (image : ImageParts) (input : List ℕ) (setting : Setting) (engine : E
 
 -- what contracts see of the fields
 abbrev pub seen_of : ImageParts → List ℕ → Setting → Engine → Seen (Delayed Guest)
-seen_of image input setting engine = seen_in image input setting (λ x. standing x (events_of engine))
+seen_of image input setting engine = view_in image input setting (λ x. standing x (events_of engine))
 
 pub none_of : (o : Option Ending) → is_some o ≡ false → o ≡ None
 none_of None e = refl

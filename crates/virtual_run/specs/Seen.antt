@@ -32,9 +32,9 @@ machine_view image index points input choice state = record {
 }
 
 -- the same in a setting
-abbrev pub seen_in : {State : Type 0} → ImageParts → List ℕ → Setting
+abbrev pub view_in : {State : Type 0} → ImageParts → List ℕ → Setting
     → (Experiment Guest → State) → Seen State
-seen_in image input setting state =
+view_in image input setting state =
     machine_view image setting.index.now setting.points.now input setting.choice state
 
 -- the run of an image on an input in a setting

@@ -34,14 +34,14 @@ impl<'a> Model for Machine<'a> {
     ghost use Rattle.machines.specs.Delayed.{Delayed};
     ghost use Rattle.machines.specs.Standing.{standing};
     ghost use Rattle.guest_calls.specs.Guest.{Guest};
-    ghost use Rattle.virtual_run.specs.Seen.{Seen, seen_in};
+    ghost use Rattle.virtual_run.specs.Seen.{Seen, view_in};
     ghost use Rattle.virtual_run.specs.Engine.{events_of};
     ghost use Rattle.virtual_run.specs.DelayedRun.{IsPaced};
 
     ghost Value = { Seen (Delayed Guest) };
 
     ghost view = { λ m.
-        seen_in m.image.now m.input.now m.setting (λ x. standing x (events_of m.engine)) };
+        view_in m.image.now m.input.now m.setting (λ x. standing x (events_of m.engine)) };
 
     ghost invariant = { λ m.
         IsPaced m.image.now m.input.now m.setting m.engine m.credits m.moment };

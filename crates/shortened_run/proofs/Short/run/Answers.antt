@@ -4,7 +4,7 @@ use Rattle.progress_points.specs.Points.{point_of}
 use Rattle.machines.specs.Shortened.{Shortened}
 use Rattle.guest_calls.specs.Guest.{Guest}
 use Rattle.virtual_run.specs.declared.choice.Setting.{Setting}
-use Rattle.virtual_run.specs.Seen.{Seen, seen_in, experiment_of, experiment_with}
+use Rattle.virtual_run.specs.Seen.{Seen, view_in, experiment_of, experiment_with}
 use Rattle.virtual_run.specs.Engine.{events_of}
 use Rattle.virtual_run.proofs.Law.{steady, none_is, ended_now}
 use Rattle.shortened_run.proofs.Law.{short_next, short_count, short_below, recorded_of, last_of, shortened_of, same_seen}
@@ -64,7 +64,7 @@ choice_is : (c : In-Some) → c.loop-self.self-inside.setting.choice ≡ c.args.
 choice_is c = ap (λ (s : Setting). s.choice) c.loop-self.invariant.3 ∙ ap (λ (s : Seen (Shortened Guest)). s.choice) c.self.view_is
 
 seen_is : (c : In-Some) (state : Shortened Guest)
-    → seen_in c.loop-self.self-inside.image.now c.loop-self.self-inside.input.now c.loop-self.self-inside.setting (λ _. state) ≡ record c.args.self.now { state = state }
+    → view_in c.loop-self.self-inside.image.now c.loop-self.self-inside.input.now c.loop-self.self-inside.setting (λ _. state) ≡ record c.args.self.now { state = state }
 seen_is c state =
     same_seen c.loop-self.self-inside.image.now c.args.self.now.image c.loop-self.self-inside.setting.index.now c.args.self.now.index c.loop-self.self-inside.setting.points.now c.args.self.now.points
     c.loop-self.self-inside.input.now c.args.self.now.input c.loop-self.self-inside.setting.choice c.args.self.now.choice state (image_is c) (index_is c) (points_are c) (input_is c) (choice_is c)
