@@ -41,7 +41,7 @@ returns c =
     ∙ ap (λ (hs : List ℕ). with_running_each hs c.deref_mut.result.now) (c.harts.ensures ∙ c.wake.ensures.woken ∙ ap (λ (hs : List ℕ). hs ++ woken_harts c.args.address c.self.inside.queue c.args.count) c.requires)
     ∙ ap (with_running_each (woken_harts c.args.address c.self.inside.queue c.args.count)) c.deref_mut.ensures.value in
     record {
-      woken_harts =
+      woken =
           c.wake.ensures.woken
           ∙ ap (λ (hs : List ℕ). hs ++ woken_harts c.args.address c.self.inside.queue c.args.count) c.requires
           ∙ ap (λ (g : Guest). woken_harts c.args.address g.waiters c.args.count) c.self.view_is;
