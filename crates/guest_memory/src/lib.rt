@@ -21,7 +21,7 @@ ghost use Rattle.std.specs.List.{Contains};
 ghost use Rattle.coz_types.specs.Image.{IsAreaOf};
 
 use crate::find::{find, find_from, pick};
-use crate::lay::lay;
+use crate::lay::spans;
 use crate::numbers::{number_of, put_number, zero_from};
 use crate::pages::Pages;
 use coz_types::{Address, Area, Image, LOAD_END, PAGE, Rights};
@@ -296,33 +296,7 @@ impl<'a> Memory<'a> {
         requires { IsLayout layout }
         ensures { IfOk result (λ memory. memory ≡ empty_memory image.now layout) }
     {
-        let mut wanted = Vec::new(alloc);
-        for area in image.areas() {
-            let first = area.start / PAGE;
-            let count = area.size / PAGE;
-            wanted.push(Span {
-                first,
-                count,
-                at: 0,
-            })?;
-        }
-        wanted.sort_by_key(|span| span.first)?;
-        wanted.push(Span {
-            first: BRK_BASE / PAGE,
-            count: layout.brk / PAGE,
-            at: 0,
-        })?;
-        wanted.push(Span {
-            first: MAP_BASE / PAGE,
-            count: layout.map / PAGE,
-            at: 0,
-        })?;
-        wanted.push(Span {
-            first: (STACK_TOP - layout.stack) / PAGE,
-            count: layout.stack / PAGE,
-            at: 0,
-        })?;
-        let (spans, total) = lay(alloc, &wanted)?;
+        let (spans, total) = spans(alloc, image, layout)?;
         let code = pick(&spans, image.entry() / PAGE).unwrap_or(0);
         let pages = Pages::new(alloc, total)?;
         let bytes = vec![in alloc; 0u8; total * PAGE as usize]?;
