@@ -21,28 +21,27 @@ use Rattle.line_index.proofs.Order.{sorted_map}
 use Rattle.line_index.proofs.Whole.{Built}
 
 -- the parts, each as a call was given them
-pub is_built : (table : Table) (areas areas1 : List Area) (rows1 : List Row) (files1 : List File) (paths paths1 : List (Vec ℕ)) (positions positions2 positions4 : List (Option ℕ)) (keys keys5 : List Key) (covering covering3 covering6 changes : List Change)
-    → areas1 ≡ areas → rows1 ≡ table.rows → files1 ≡ table.files → paths1 ≡ paths → positions2 ≡ positions → positions4 ≡ positions → keys5 ≡ keys → covering3 ≡ covering → covering6 ≡ covering
+pub is_built : (table : Table) (areas areas1 : List Area) (rows1 : List Row) (files1 : List File) (paths : List (Vec ℕ)) (positions positions1 : List (Option ℕ)) (keys : List Key) (covering covering1 changes : List Change)
+    → areas1 ≡ areas → rows1 ≡ table.rows → files1 ≡ table.files → positions1 ≡ positions → covering1 ≡ covering
     → IsStrictlySortedBy path_cmp paths
-    → map (path_place paths1) positions ≡ map (λ (file : File). option_map Some (entry_path file)) files1
+    → map (path_place paths) positions ≡ map (λ (file : File). option_map Some (entry_path file)) files1
     → ((a : ℕ) → value_at a None covering ≡ cond (is_executable areas1 a) (position_from (is_in_span a) 0 (row_spans rows1)) None)
     → IsRising 0 covering
     → IsStrictlySortedBy key_cmp keys
-    → ((key : Key) → Contains keys key ↔ Contains (change_keys rows1 positions2 covering3) key)
-    → map (line_change keys5) changes ≡ map (key_change rows1 positions4) covering6
+    → ((key : Key) → Contains keys key ↔ Contains (change_keys rows1 positions1 covering1) key)
+    → map (line_change keys) changes ≡ map (key_change rows1 positions1) covering1
     → Built table.files table.rows areas (texts paths) positions keys covering changes
-is_built table areas areas1 rows1 files1 paths paths1 positions positions2 positions4 keys keys5 covering covering3 covering6 changes same_areas same_rows same_files same_paths same2 same4 same5 same3 same6 paths_rise placed values rise keys_rise each lined =
-    let keys_same : change_keys rows1 positions2 covering3 ≡ change_keys table.rows positions covering = λ i. change_keys (same_rows i) (same2 i) (same3 i) in
-    let left : map (line_change keys5) changes ≡ map (line_change keys) changes = λ i. map (line_change (same5 i)) changes in
-    let right : map (key_change rows1 positions4) covering6 ≡ map (key_change table.rows positions) covering = λ i. map (key_change (same_rows i) (same4 i)) (same6 i) in
+is_built table areas areas1 rows1 files1 paths positions positions1 keys covering covering1 changes same_areas same_rows same_files same_positions same_covering paths_rise placed values rise keys_rise each lined =
+    let keys_same : change_keys rows1 positions1 covering1 ≡ change_keys table.rows positions covering = λ i. change_keys (same_rows i) (same_positions i) (same_covering i) in
+    let right : map (key_change rows1 positions1) covering1 ≡ map (key_change table.rows positions) covering = λ i. map (key_change (same_rows i) (same_positions i)) (same_covering i) in
     record {
       paths_rise = sorted_map (λ (path : Vec ℕ). path.items) (slice_cmp nat_cmp) paths paths_rise;
-      placed = ap (λ ps. map (path_place ps) positions) (sym same_paths) ∙ placed ∙ ap (map (λ (file : File). option_map Some (entry_path file))) same_files;
+      placed = placed ∙ ap (map (λ (file : File). option_map Some (entry_path file))) same_files;
       values = λ a. values a ∙ ap (λ ranges. cond (is_executable ranges a) (position_from (is_in_span a) 0 (row_spans rows1)) None) same_areas ∙ ap (λ rows. cond (is_executable areas a) (position_from (is_in_span a) 0 (row_spans rows)) None) same_rows;
       rise = rise;
       keys_rise = keys_rise;
       each = λ key. subst (λ (ks : List Key). Contains keys key ↔ Contains ks key) keys_same (each key);
-      lined = sym left ∙ lined ∙ right;
+      lined = lined ∙ right;
     }
 
 pub are_starts_of : (n m : ℕ) (cs ds : List Change) (lists : List (List ℕ)) → n ≡ m → cs ≡ ds → AreStarts n cs lists → AreStarts m ds lists

@@ -10,7 +10,9 @@ mod find;
 mod labels;
 mod lines;
 mod named;
+mod parts;
 mod paths;
+mod places;
 mod room;
 mod spans;
 mod turns;
@@ -23,16 +25,14 @@ ghost use Rattle.line_index.specs.Lines.{label, position_named};
 ghost use Rattle.line_index.specs.Index.{Index, IsIndex, has_line, position_at};
 ghost use Rattle.line_index.specs.Listed.{IsListed};
 
-use crate::backwards::{Backward, backwards};
+use crate::backwards::Backward;
 use crate::changes::{LineChange, line_at};
-use crate::entries::entries;
-use crate::entry::{file_positions, sorted_entries};
-use crate::labels::labels;
-use crate::lines::{Key, line_changes, sorted_keys};
+use crate::lines::{Key, lines_of};
 use crate::named::named_files;
-use crate::paths::{path_positions, sorted_paths};
+use crate::parts::parts_of;
+use crate::places::places_of;
 use crate::spans::covering_rows;
-use crate::turns::{is_within, turns};
+use crate::turns::is_within;
 use coz_types::{Address, Image, Label, LineId};
 use dwarf_lines::LineTable;
 use std::alloc::{AllocError, Global};
@@ -129,24 +129,17 @@ pub fn build(alloc: Global, table: &LineTable, image: &Image) -> Result<LineInde
     let files = table.files.as_slice();
     let covering = covering_rows(alloc, rows, image.areas())?;
     let named = named_files(alloc, rows, files, &covering)?;
-    let distinct = sorted_entries(alloc, &named)?;
-    let paths = sorted_paths(alloc, &distinct)?;
-    let ranks = path_positions(alloc, &paths, &distinct)?;
-    let positions = file_positions(alloc, &distinct, &ranks, &named)?;
-    let lines = sorted_keys(alloc, rows, &positions, &covering)?;
-    let changes = line_changes(alloc, rows, &positions, &lines, &covering)?;
-    let entries = entries(alloc, &changes, lines.len())?;
-    let labels = labels(alloc, &paths, &lines)?;
-    let backwards = backwards(alloc, &paths)?;
-    let turns = turns(alloc, &changes, lines.len())?;
+    let places = places_of(alloc, &named)?;
+    let lines = lines_of(alloc, rows, &places.positions, &covering)?;
+    let parts = parts_of(alloc, &places.paths, &lines.keys, &lines.changes)?;
     Ok(LineIndex {
-        paths,
-        backwards,
-        lines,
-        labels,
-        entries,
-        changes,
-        turns,
+        paths: places.paths,
+        backwards: parts.backwards,
+        lines: lines.keys,
+        labels: parts.labels,
+        entries: parts.entries,
+        changes: lines.changes,
+        turns: parts.turns,
     })
 }
 

@@ -7,7 +7,7 @@ ghost use Rattle.std.specs.List.Sorted.{IsStrictlySortedBy};
 ghost use Rattle.line_index.specs.declared.changes.Change.{Change};
 ghost use Rattle.line_index.specs.declared.lines.Key.{Key};
 ghost use Rattle.line_index.specs.Changes.{IsRising, place_of, changes_of};
-ghost use Rattle.line_index.specs.Keys.{IsNumbered, key_cmp, row_key, key_at, change_keys, key_change, line_change};
+ghost use Rattle.line_index.specs.Keys.{IsBelow, IsNumbered, key_cmp, row_key, key_at, change_keys, key_change, line_change};
 
 use crate::changes::{Change, LineChange};
 use coz_types::LineId;
@@ -21,6 +21,15 @@ pub struct Key {
     pub path: u32,
     /// Its number in the file.
     pub number: u32,
+}
+
+/// The lines of a program in order, and where each of them stands.
+#[derive(Drop)]
+pub struct Lines {
+    /// The lines in order, each once.
+    pub keys: Vec<Key>,
+    /// Which line stands from which address on.
+    pub changes: Vec<LineChange>,
 }
 
 /// The line of a row, where these are the positions of the files' paths.
@@ -83,7 +92,7 @@ fn change_keys(
 }
 
 /// Those lines in order, each once. Only want of memory stands against it.
-pub fn sorted_keys(
+fn sorted_keys(
     alloc: Global,
     rows: &[Row],
     positions: &[Option<u32>],
@@ -118,7 +127,7 @@ fn key_line(keys: &[Key], key: Option<Key>) -> Option<LineId>
 }
 
 /// The changes with lines in place of rows. Only want of memory stands against it.
-pub fn line_changes(
+fn line_changes(
     alloc: Global,
     rows: &[Row],
     positions: &[Option<u32>],
@@ -141,4 +150,29 @@ pub fn line_changes(
         })?;
     }
     Ok(lines)
+}
+
+/// The lines of the rows that changes name, and the changes with them in place of the rows.
+/// Only want of memory stands against it.
+pub fn lines_of(
+    alloc: Global,
+    rows: &[Row],
+    positions: &[Option<u32>],
+    covering: &[Change],
+) -> Result<Lines, AllocError>
+    requires { length covering.now < 2 ^ 32 }
+    ensures in_order { IfOk result (λ lines. IsStrictlySortedBy key_cmp lines.keys.items) }
+    ensures each { IfOk result (λ lines. (key : Key) → Contains lines.keys.items key
+        ↔ Contains (change_keys rows.now positions.now covering.now) key) }
+    ensures numbered { IfOk result (λ lines. All IsNumbered lines.keys.items) }
+    ensures few { IfOk result (λ lines. length lines.keys.items ≤ length covering.now) }
+    ensures changes { IfOk result (λ lines.
+        map (line_change lines.keys.items) (changes_of lines.changes.items)
+        ≡ map (key_change rows.now positions.now) covering.now) }
+    ensures below { IfOk result (λ lines.
+        All (IsBelow (length lines.keys.items)) (changes_of lines.changes.items)) }
+{
+    let keys = sorted_keys(alloc, rows, positions, covering)?;
+    let changes = line_changes(alloc, rows, positions, &keys, covering)?;
+    Ok(Lines { keys, changes })
 }
