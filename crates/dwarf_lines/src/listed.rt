@@ -3,7 +3,7 @@
 ghost use Rattle.std.specs.Prelude.{◌≡◌, IfOk};
 ghost use Rattle.leb_cursor.specs.Ahead.{bytes_at};
 ghost use Rattle.dwarf_lines.specs.Names.{with_value, paths, files_of, directory_of};
-ghost use Rattle.dwarf_lines.specs.Reading.{Walks, WalksOver, field, text_in, value, entry, entries, entry_list};
+ghost use Rattle.dwarf_lines.specs.Reading.{Walks, WalksOver, field, text_in, other_value, value, entry, entries, entry_list};
 ghost use Rattle.dwarf_lines.specs.Registers.{files_view, texts_view};
 ghost use Rattle.dwarf_lines.specs.Views.{value_view, entry_view, entries_view, strings_view};
 
@@ -34,11 +34,12 @@ pub struct Entry<'a> {
     pub directory: Option<u64>,
 }
 
-/// So many bytes.
-fn fixed<'a>(count: u64, cursor: &mut Cursor<'a>) -> Result<&'a [u8], LineFault>
-    ensures { Walks (λ x. x.now) result cursor.new (field (bytes_at count cursor.old)) }
+/// So many bytes that nothing is made of.
+fn other<'a>(count: u64, cursor: &mut Cursor<'a>) -> Result<Value<'a>, LineFault>
+    ensures { Walks value_view result cursor.new (other_value (field (bytes_at count cursor.old))) }
 {
-    Ok(cursor.take(count)?)
+    cursor.take(count)?;
+    Ok(Value::Other)
 }
 
 /// The text at the place that four bytes say.
@@ -72,22 +73,12 @@ fn read_value<'a>(
         Form::Byte => Ok(Value::Number(cursor.byte()? as u64)),
         Form::Half => Ok(Value::Number(cursor.half()? as u64)),
         Form::Leb => Ok(Value::Number(unsigned(cursor)?)),
-        Form::Four => {
-            fixed(4, cursor)?;
-            Ok(Value::Other)
-        }
-        Form::Eight => {
-            fixed(8, cursor)?;
-            Ok(Value::Other)
-        }
-        Form::Sixteen => {
-            fixed(16, cursor)?;
-            Ok(Value::Other)
-        }
+        Form::Four => other(4, cursor),
+        Form::Eight => other(8, cursor),
+        Form::Sixteen => other(16, cursor),
         Form::Block => {
             let size = unsigned(cursor)?;
-            fixed(size, cursor)?;
-            Ok(Value::Other)
+            other(size, cursor)
         }
     }
 }
