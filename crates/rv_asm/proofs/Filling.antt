@@ -7,13 +7,19 @@ use Rattle.rv_asm.specs.declared.AsmError.TheVariants as faults
 use Rattle.asm_tokens.specs.declared.form.Section.{Section}
 use Rattle.asm_tokens.specs.declared.form.Section.TheVariants as sections
 use Rattle.rv_asm.specs.declared.state.Put.{Put as CodePut}
-use Rattle.asm_tokens.specs.Tokens.{◌>>=◌}
+use Rattle.asm_tokens.specs.declared.line.LineError.{LineError}
+use Rattle.asm_tokens.specs.declared.line.LineError.TheVariants as errors
+use Rattle.asm_tokens.specs.Tokens.{Read, ◌>>=◌}
 use Rattle.rv_asm.specs.Assembled.{State, Filled, Fails, filled_piece, filled_pieces, all_bytes, text_of, content_of, lines_of}
-use Rattle.rv_asm.specs.Views.{Parts, no_parts, with_filled, with_next, all_parts, with_all, put_of}
+use Rattle.rv_asm.specs.Views.{Steps, Parts, no_parts, with_filled, with_next, all_parts, with_all, put_of}
 
--- two words, one after the other
-pub two_words : (out one two first second : List ℕ) → one ≡ out ++ first → two ≡ one ++ second → two ≡ out ++ (first ++ second)
-two_words out one two first second e f = f ∙ ap (λ xs. xs ++ second) e ∙ append_assoc out first second
+-- two words, one after the other, unless memory ran out
+pub two_words : {U : Type 0} (r : Result U LineError) (out one two first second : List ℕ) → ◌≡◌ {A = Read (List ℕ)} (Ok (out ++ first)) (Ok one) → Steps r two (Ok (one ++ second)) → Steps r two (Ok (out ++ (first ++ second)))
+two_words (Ok u) out one two first second e f =
+    let start : out ++ first ≡ one = cc in
+    ap Ok (sym (append_assoc out first second)) ∙ ap (λ xs. Ok (xs ++ second)) start ∙ f
+two_words (Err errors.Memory) out one two first second e f = tt
+two_words (Err (errors.Fault kind column)) out one two first second e f = absurd cc
 
 one_more : (parts : Parts) (section : Section) (line : ℕ) (bytes : List ℕ) (rest : Result (List Filled) AsmFault)
     → with_all parts (rest >>= λ more. Ok (record { section = section; line = line; bytes = bytes } ∷ more)) ≡ with_all (with_filled parts (record { section = section; line = line; bytes = bytes })) rest

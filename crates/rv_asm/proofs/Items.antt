@@ -1,80 +1,119 @@
 -- The numbers and labels behind `.word` and its kin, one by one.
-use Rattle.std.proofs.Common.{◌≡◌, ◌≤◌, ◌<◌, length, ℕ, ◌+◌, Bool, true, false, List, [], ◌∷◌, ◌++◌, drop, map, slice_index_or, refl, Ok, Err, ap, ◌∙◌, sym, arith, if◌then◌else◌}
+use Rattle.std.proofs.Common.{◌≡◌, ℕ, Bool, true, false, List, [], ◌∷◌, ◌++◌, refl, Result, Ok, Err, ap, ◌∙◌, sym, if◌then◌else◌, is_err}
 use Rattle.std.specs.Prelude.{◌==◌}
 use Rattle.std.specs.Str.{byte}
-use Rattle.std.proofs.lemmas.List.{drop-drop, append_assoc, length-drop, drop_more, drop-map, length-map}
+use Rattle.std.proofs.lemmas.List.{append_assoc, append-nil}
 use Rattle.asm_tokens.specs.declared.AsmKind.TheVariants as kinds
-use Rattle.asm_tokens.specs.declared.line.Placed.{Placed as CodePlaced}
 use Rattle.asm_tokens.specs.declared.line.LineError.{LineError}
 use Rattle.asm_tokens.specs.declared.line.LineError.TheVariants as errors
 use Rattle.asm_tokens.specs.declared.form.Size.{Size}
-use Rattle.asm_tokens.specs.Tokens.{Read, Spot, wrong, Token, Name, Number, Text, Mark, Placed}
-use Rattle.rv_asm.specs.Statements.{Piece, mark, item, items}
-use Rattle.asm_tokens.specs.Views.{placed_of, with_front, FailsLine}
+use Rattle.asm_tokens.specs.Tokens.{Read, Spot, wrong, ◌>>=◌, Token, Name, Number, Text, Mark, Placed}
+use Rattle.rv_asm.specs.Statements.{Piece, mark, item, item_operand, then_item, items}
+use Rattle.rv_asm.specs.Views.{EndsThere}
+use Rattle.asm_tokens.specs.Views.{with_front, FailsLine}
 
-chosen : (b : Bool) (ts ms : List Placed) (column : ℕ) → (if b then Ok ts else wrong kinds.Operand column) ≡ Ok ms → (if b then Ok [] else wrong {A = List Placed} kinds.Operand column) ≡ Ok []
-chosen true ts ms column e = refl
-chosen false ts ms column e = absurd cc
+-- what follows an item: nothing, or a comma and more items
+abbrev pub items_behind : ℕ → Size → List Placed → Read (List Piece)
+items_behind end size [] = Ok []
+items_behind end size (c ∷ ts) = mark end (byte ",") (c ∷ ts) >>= λ rest. items end size rest
 
-not_chosen : (b : Bool) (ts : List Placed) (s : Spot) (column : ℕ) → (if b then Ok ts else wrong kinds.Operand column) ≡ Err s → (if b then Ok [] else wrong {A = List Placed} kinds.Operand column) ≡ Err s
-not_chosen true ts s column e = absurd cc
-not_chosen false ts s column e = cc
+chosen : {A B : Type 0} (b : Bool) (x : A) (y : B) (column : ℕ) (f : Read (List Piece)) → ((if b then Ok x else wrong kinds.Operand column) >>= λ _. f) ≡ ((if b then Ok y else wrong kinds.Operand column) >>= λ _. f)
+chosen true x y column f = refl
+chosen false x y column f = refl
 
--- a mark is read whatever follows it
-mark_alone : (end m column : ℕ) (token : Token) (ts ms : List Placed) → mark end m (record { column = column; token = token } ∷ ts) ≡ Ok ms → mark end m (record { column = column; token = token } ∷ []) ≡ Ok []
-mark_alone end m column (Name n) ts ms e = absurd cc
-mark_alone end m column (Number n) ts ms e = absurd cc
-mark_alone end m column (Text n) ts ms e = absurd cc
-mark_alone end m column (Mark n) ts ms e = chosen (m == n) ts ms column e
+chosen_rest : (b : Bool) (end : ℕ) (size : Size) (ts : List Placed) (column : ℕ) → ((if b then Ok ts else wrong kinds.Operand column) >>= λ rest. items end size rest) ≡ ((if b then Ok ts else wrong kinds.Operand column) >>= λ _. items end size ts)
+chosen_rest true end size ts column = refl
+chosen_rest false end size ts column = refl
 
-no_mark_alone : (end m column : ℕ) (token : Token) (ts : List Placed) (s : Spot) → mark end m (record { column = column; token = token } ∷ ts) ≡ Err s → mark end m (record { column = column; token = token } ∷ []) ≡ Err s
-no_mark_alone end m column (Name n) ts s e = e
-no_mark_alone end m column (Number n) ts s e = e
-no_mark_alone end m column (Text n) ts s e = e
-no_mark_alone end m column (Mark n) ts s e = not_chosen (m == n) ts s column e
+-- a comma is read whatever follows it
+comma : (end : ℕ) (size : Size) (column : ℕ) (token : Token) (ts : List Placed)
+    → (mark end (byte ",") (record { column = column; token = token } ∷ []) >>= λ _. items end size ts) ≡ (mark end (byte ",") (record { column = column; token = token } ∷ ts) >>= λ rest. items end size rest)
+comma end size column (Name n) ts = refl
+comma end size column (Number n) ts = refl
+comma end size column (Text n) ts = refl
+comma end size column (Mark n) ts = chosen (byte "," == n) [] ts column (items end size ts) ∙ sym (chosen_rest (byte "," == n) end size ts column)
 
-step : (end : ℕ) (size : Size) (t : Placed) (p : Piece) (ts ms : List Placed) → item end size t ≡ Ok p → mark end (byte ",") ts ≡ Ok ms
-    → items end size (t ∷ ts) ≡ with_front (p ∷ []) (items end size (drop 1 ts))
-step end size t p [] ms ei em = absurd cc
-step end size t p (c ∷ ts) ms ei em = rw ei (rw (mark_alone end (byte ",") c.column c.token ts ms em) refl)
+joins : {B : Type 0} (m : Read B) (read : Read (List Piece)) (p : Piece) → (m >>= λ _. read >>= λ ps. Ok (p ∷ ps)) ≡ with_front (p ∷ []) (m >>= λ _. read)
+joins (Ok x) (Ok ps) p = refl
+joins (Ok x) (Err s) p = refl
+joins (Err s) read p = refl
 
-no_step : (end : ℕ) (size : Size) (t : Placed) (p : Piece) (ts : List Placed) (s : Spot) → 1 ≤ length ts → item end size t ≡ Ok p → mark end (byte ",") ts ≡ Err s
-    → items end size (t ∷ ts) ≡ Err s
-no_step end size t p [] s some ei em = absurd (omega arith)
-no_step end size t p (c ∷ ts) s some ei em = rw ei (rw (no_mark_alone end (byte ",") c.column c.token ts s em) refl)
+-- items are the first one, and what follows it
+items_by : (end : ℕ) (size : Size) (t : Placed) (ts : List Placed) (r : Read Piece) → item end size t ≡ r → items end size (t ∷ ts) ≡ r >>= λ p. with_front (p ∷ []) (items_behind end size ts)
+items_by end size t [] (Ok p) e = rw e refl
+items_by end size t [] (Err s) e = rw e refl
+items_by end size t (c ∷ ts) (Err s) e = rw e refl
+items_by end size t (c ∷ ts) (Ok p) e =
+    ap (λ (r : Read Piece). r >>= λ p. mark end (byte ",") (c ∷ []) >>= λ _. items end size ts >>= λ ps. Ok (p ∷ ps)) e
+    ∙ joins (mark end (byte ",") (c ∷ [])) (items end size ts) p
+    ∙ ap (with_front (p ∷ [])) (comma end size c.column c.token ts)
+
+same_pair : (x y : Piece × List Placed) → ◌≡◌ {A = Read (Piece × List Placed)} (Ok x) (Ok y) → x ≡ y
+same_pair x y e = cc
+
+first_by : (end : ℕ) (size : Size) (t : Placed) (ts rest : List Placed) (p : Piece) (r : Read Piece) → item end size t ≡ r → ◌>>=◌ {B = Piece × List Placed} r (λ q. Ok (q, ts)) ≡ Ok (p, rest) → items end size (t ∷ ts) ≡ with_front (p ∷ []) (items_behind end size rest)
+first_by end size t ts rest p (Ok q) e is =
+    let both = same_pair (q, ts) (p, rest) is in
+    let same = ap (λ (x : Piece × List Placed). x.0) both in
+    let left = ap (λ (x : Piece × List Placed). x.1) both in
+    items_by end size t ts (Ok q) e ∙ ap (λ x. with_front (x ∷ []) (items_behind end size ts)) same ∙ ap (λ xs. with_front (p ∷ []) (items_behind end size xs)) left
+first_by end size t ts rest p (Err s) e is = absurd cc
+
+-- the first item is read
+pub begins : (end : ℕ) (size : Size) (ts rest : List Placed) (p : Piece) → item_operand end size ts ≡ Ok (p, rest) → items end size ts ≡ with_front (p ∷ []) (items_behind end size rest)
+begins end size [] rest p is = absurd cc
+begins end size (t ∷ ts) rest p is = first_by end size t ts rest p (item end size t) refl is
+
+wrong_by : (end : ℕ) (size : Size) (t : Placed) (ts : List Placed) (s : Spot) (r : Read Piece) → item end size t ≡ r → ◌>>=◌ {B = Piece × List Placed} r (λ q. Ok (q, ts)) ≡ Err s → items end size (t ∷ ts) ≡ Err s
+wrong_by end size t ts s (Ok q) e is = absurd cc
+wrong_by end size t ts s (Err f) e is = let same : f ≡ s = cc in items_by end size t ts (Err f) e ∙ ap Err same
+
+wrong_first : (end : ℕ) (size : Size) (ts : List Placed) (s : Spot) → item_operand end size ts ≡ Err s → items end size ts ≡ Err s
+wrong_first end size [] s is = cc
+wrong_first end size (t ∷ ts) s is = wrong_by end size t ts s (item end size t) refl is
+
+-- or it is none
+pub no_first : (end : ℕ) (size : Size) (ts : List Placed) (e : LineError) → FailsLine e (item_operand end size ts) → FailsLine e (items end size ts)
+no_first end size ts errors.Memory fails = tt
+no_first end size ts (errors.Fault kind column) fails = wrong_first end size ts (record { kind = kind; column = column }) fails
 
 joined : {A : Type 0} (xs ys : List A) (read : Read (List A)) → with_front xs (with_front ys read) ≡ with_front (xs ++ ys) read
 joined xs ys (Ok more) = ap Ok (sym (append_assoc xs ys more))
 joined xs ys (Err e) = refl
 
--- what is left of the tokens, by its first one
-left : (ts : List CodePlaced) (i : ℕ) (t : CodePlaced) → i < length ts → t ≡ slice_index_or ts i t → map placed_of (drop i ts) ≡ placed_of t ∷ map placed_of (drop (i + 1) ts)
-left ts i t more at = ap (map placed_of) (drop_more ts i t more) ∙ ap (λ x. placed_of x ∷ map placed_of (drop (i + 1) ts)) (sym at)
+next_by : (end : ℕ) (size : Size) (comma : Read (List Placed)) (rest : List Placed) (p : Piece) → ◌>>=◌ {B = Piece × List Placed} comma (λ ts. item_operand end size ts) ≡ Ok (p, rest)
+    → (comma >>= λ ts. items end size ts) ≡ with_front (p ∷ []) (items_behind end size rest)
+next_by end size (Ok ts) rest p is = begins end size ts rest p is
+next_by end size (Err s) rest p is = absurd cc
 
-behind : (ts : List CodePlaced) (i : ℕ) → drop 1 (map placed_of (drop (i + 1) ts)) ≡ map placed_of (drop (i + 2) ts)
-behind ts i =
-    let two : i + 1 + 1 ≡ i + 2 = omega arith in
-    drop-map placed_of 1 (drop (i + 1) ts) ∙ ap (map placed_of) (drop-drop 1 (i + 1) ts ∙ ap (λ n. drop n ts) two)
+next : (end : ℕ) (size : Size) (ts rest : List Placed) (p : Piece) → then_item end size ts ≡ Ok (p, rest) → items_behind end size ts ≡ with_front (p ∷ []) (items_behind end size rest)
+next end size [] rest p is = absurd cc
+next end size (c ∷ ts) rest p is = next_by end size (mark end (byte ",") (c ∷ ts)) rest p is
 
--- the loop's equation goes on over an item and its comma
-pub over_item : (end : ℕ) (size : Size) (out : List Piece) (p : Piece) (ts : List CodePlaced) (i : ℕ) (t : CodePlaced) (ms : List Placed) (all : Read (List Piece))
-    → i < length ts → t ≡ slice_index_or ts i t → item end size (placed_of t) ≡ Ok p → mark end (byte ",") (map placed_of (drop (i + 1) ts)) ≡ Ok ms
-    → with_front out (items end size (map placed_of (drop i ts))) ≡ all
-    → with_front (out ++ p ∷ []) (items end size (map placed_of (drop (i + 2) ts))) ≡ all
-over_item end size out p ts i t ms all more at ei em kept =
-    sym (joined out (p ∷ []) (items end size (map placed_of (drop (i + 2) ts))))
-    ∙ ap (with_front out) (ap (λ xs. with_front (p ∷ []) (items end size xs)) (sym (behind ts i))
-    ∙ sym (step end size (placed_of t) p (map placed_of (drop (i + 1) ts)) ms ei em)
-    ∙ ap (items end size) (sym (left ts i t more at)))
-    ∙ kept
+-- one more item
+pub goes_on : (end : ℕ) (size : Size) (out : List Piece) (p : Piece) (ts rest : List Placed) (all : Read (List Piece)) → then_item end size ts ≡ Ok (p, rest)
+    → with_front out (items_behind end size ts) ≡ all → with_front (out ++ p ∷ []) (items_behind end size rest) ≡ all
+goes_on end size out p ts rest all is kept =
+    sym (joined out (p ∷ []) (items_behind end size rest)) ∙ ap (with_front out) (sym (next end size ts rest p is)) ∙ kept
 
--- and ends where there is no comma
-pub at_no_comma : (end : ℕ) (size : Size) (out : List Piece) (p : Piece) (ts : List CodePlaced) (i : ℕ) (t : CodePlaced) (e : LineError) (all : Read (List Piece))
-    → i + 1 < length ts → t ≡ slice_index_or ts i t → item end size (placed_of t) ≡ Ok p → FailsLine e (mark end (byte ",") (map placed_of (drop (i + 1) ts)))
-    → with_front out (items end size (map placed_of (drop i ts))) ≡ all
-    → FailsLine e all
-at_no_comma end size out p ts i t errors.Memory all more at ei em kept = tt
-at_no_comma end size out p ts i t (errors.Fault kind column) all more at ei em kept =
-    sym kept
-    ∙ ap (λ xs. with_front out (items end size xs)) (left ts i t (omega arith) at)
-    ∙ ap (with_front out) (no_step end size (placed_of t) p (map placed_of (drop (i + 1) ts)) (record { kind = kind; column = column }) (omega (arith, length-map (drop (i + 1) ts) placed_of, length-drop (i + 1) ts)) ei em)
+-- nothing is left
+pub ends : {U : Type 0} (end : ℕ) (size : Size) (out : List Piece) (r : Result U LineError) (ts : List Placed) (all : Read (List Piece)) → is_err r ≡ false → EndsThere r ts → with_front out (items_behind end size ts) ≡ all → all ≡ Ok out
+ends end size out (Err e) ts all no_more there kept = absurd cc
+ends end size out (Ok u) ts all no_more none kept = sym kept ∙ ap (λ xs. with_front out (items_behind end size xs)) none ∙ ap Ok (append-nil out)
+
+wrong_next : (end : ℕ) (size : Size) (comma : Read (List Placed)) (s : Spot) → ◌>>=◌ {B = Piece × List Placed} comma (λ ts. item_operand end size ts) ≡ Err s → (comma >>= λ ts. items end size ts) ≡ Err s
+wrong_next end size (Ok ts) s is = wrong_first end size ts s is
+wrong_next end size (Err f) s is = let same : f ≡ s = cc in ap Err same
+
+stops_by : (end : ℕ) (size : Size) (out : List Piece) (t : Placed) (ts : List Placed) (e : LineError) (all : Read (List Piece)) → FailsLine e (then_item end size (t ∷ ts))
+    → with_front out (items_behind end size (t ∷ ts)) ≡ all → FailsLine e all
+stops_by end size out t ts errors.Memory all fails kept = tt
+stops_by end size out t ts (errors.Fault kind column) all fails kept =
+    sym kept ∙ ap (with_front out) (wrong_next end size (mark end (byte ",") (t ∷ ts)) (record { kind = kind; column = column }) fails)
+
+-- something is left, which is no comma and item
+pub stops : {U : Type 0} (end : ℕ) (size : Size) (out : List Piece) (r : Result U LineError) (ts : List Placed) (e : LineError) (all : Read (List Piece)) → is_err r ≡ true → EndsThere r ts
+    → FailsLine e (then_item end size ts) → with_front out (items_behind end size ts) ≡ all → FailsLine e all
+stops end size out (Ok u) ts e all more there fails kept = absurd cc
+stops end size out (Err f) [] e all more there fails kept = absurd there
+stops end size out (Err f) (t ∷ ts) e all more there fails kept = stops_by end size out t ts e all fails kept

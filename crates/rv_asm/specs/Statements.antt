@@ -26,6 +26,7 @@ use Rattle.asm_tokens.specs.declared.form.Alone.{Alone}
 use Rattle.asm_tokens.specs.declared.form.Alone.TheVariants as alone
 use Rattle.asm_tokens.specs.Tokens.{Read, wrong, ◌>>=◌, Name, Number, Text, Mark, Placed}
 use Rattle.asm_tokens.specs.Table.{register_of}
+use Rattle.rv_asm.specs.declared.state.TheConstants.{MOST_BYTES}
 
 -- a label where it is used
 pub record Use : Type 0 where
@@ -248,6 +249,14 @@ module _ (end : ℕ) where
     | Text bytes ↦ wrong kinds.Operand t.column
   ]
 
+  abbrev pub item_operand : Size → List Placed → Taking Piece
+  item_operand size [] = no_operand []
+  item_operand size (t ∷ ts) = item size t >>= λ p. Ok (p, ts)
+
+  -- the same behind a comma
+  abbrev pub then_item : Size → List Placed → Taking Piece
+  then_item size ts = mark (byte ",") ts >>= λ rest. item_operand size rest
+
   -- such items with a comma between each two
   abbrev pub items : Size → List Placed → Read (List Piece)
   items size [] = no_operand []
@@ -336,7 +345,7 @@ module _ (end : ℕ) where
     bytes ← text_operand ts
     puts (Bytes bytes.0 ∷ []) bytes.1
   statement forms.Zeros ts = do
-    n ← number_up_to 1048576 ts
+    n ← number_up_to MOST_BYTES ts
     puts (Zeros n.0 ∷ []) n.1
   statement forms.Align ts = do
     n ← number_up_to 12 ts

@@ -6,8 +6,8 @@ use Rattle.asm_tokens.specs.declared.line.LineError.TheVariants as errors
 use Rattle.asm_tokens.specs.Tokens.{Placed, Read, ◌>>=◌}
 use Rattle.asm_tokens.specs.declared.AsmKind.TheVariants as kinds
 use Rattle.asm_tokens.specs.declared.line.Placed.{Placed as CodePlaced}
-use Rattle.asm_tokens.specs.Views.{FailsLine, all_placed, placed_of}
-use Rattle.rv_asm.specs.Statements.{Taking, Use, Piece, Encoded, BranchTo, JumpTo, AddressTo, AddressOf, Bytes, Zeros, Statement, Puts, Aligns, Enters}
+use Rattle.asm_tokens.specs.Views.{FailsLine, GivesLine, all_placed, placed_of}
+use Rattle.rv_asm.specs.Statements.{Taking, Use, Piece, Encoded, BranchTo, JumpTo, AddressTo, AddressOf, Bytes, Zeros, Statement, Puts, Aligns, Enters, statement}
 use Rattle.asm_tokens.specs.Registers.{number_of}
 use Rattle.rv_asm.specs.declared.pieces.Piece.{Piece as CodePiece}
 use Rattle.rv_asm.specs.declared.pieces.Piece.TheVariants as puts
@@ -23,6 +23,7 @@ use Rattle.rv_asm.specs.declared.AsmError.TheVariants as faults
 use Rattle.rv_asm.specs.Assembled.{Put, State, label_in, Filled, Fails, all_bytes, text_of, content_of, lines_of}
 use Rattle.rv_asm.specs.declared.AsmFault.{AsmFault}
 use Rattle.rv_asm.specs.declared.fill.Filled.{Filled as CodeFilled}
+use Rattle.asm_tokens.specs.declared.form.Form.{Form}
 use Rattle.asm_tokens.specs.declared.form.Section.TheVariants as sections
 use Rattle.std.specs.BTreeMap.{BTreeMap, get_by}
 use Rattle.std.specs.Cmp.Lexicographic.{slice_cmp}
@@ -79,6 +80,12 @@ abbrev pub statement_of : CodeStatement → Statement
 statement_of (does.Puts ps) = Puts (map piece_of ps.items)
 statement_of (does.Aligns bits) = Aligns bits
 statement_of (does.Enters section) = Enters section
+
+-- What was answered is the statement of this form that the operands stand for,
+-- unless memory ran out.
+abbrev pub Reads : Form → Result CodeStatement LineError → Operands → Type 0
+Reads form result operands =
+    GivesLine statement_of result (statement operands.end form (tokens_left operands))
 
 -- the multiple that a statement fills up to is at most 2^12
 abbrev pub AlignsWithin : CodeStatement → Type 0

@@ -101,63 +101,69 @@ fn far_fault(column: u32) -> LineError
     }
 }
 
-/// An instruction's word.
-fn write_instruction(out: &mut Vec<u8>, instr: Instr) -> Result<(), AllocError>
-    requires { InRange instr }
-    ensures { IfOk result (λ _. out.new.items ≡ out.old.items ++ word instr) }
+/// These bytes.
+fn write_bytes(out: &mut Vec<u8>, bytes: &[u8]) -> Result<(), LineError>
+    ensures { Steps result out.new.items (Ok (out.old.items ++ bytes.now)) }
 {
-    out.extend_from_slice(&encode(instr).to_le_bytes())
+    out.extend_from_slice(bytes)?;
+    Ok(())
+}
+
+/// An instruction's word.
+fn write_instruction(out: &mut Vec<u8>, instr: Instr) -> Result<(), LineError>
+    requires { InRange instr }
+    ensures { Steps result out.new.items (Ok (out.old.items ++ word instr)) }
+{
+    write_bytes(out, &encode(instr).to_le_bytes())
 }
 
 /// The first of the two instructions that put an address so far away into a register.
-fn write_upper(out: &mut Vec<u8>, rd: u8, far: i128) -> Result<(), AllocError>
+fn far_upper(rd: u8, far: i128) -> Instr
     requires register { rd < 32 }
     requires low { neg_ℤ (pos (2 ^ 100)) ≤ℤ far }
     requires high { far ≤ℤ pos (2 ^ 100) }
-    ensures { IfOk result (λ _.
-        out.new.items ≡ out.old.items ++ word (instr.Upper Auipc rd (upper far))) }
+    ensures value { result ≡ instr.Upper Auipc rd (upper far) }
+    ensures sound { InRange result }
 {
-    let auipc = Instr::Upper {
+    Instr::Upper {
         op: UpperOp::Auipc,
         rd,
         value: upper(far),
-    };
-    write_instruction(out, auipc)
+    }
 }
 
 /// The second of the two.
-fn write_lower(out: &mut Vec<u8>, rd: u8, far: i128) -> Result<(), AllocError>
+fn far_lower(rd: u8, far: i128) -> Instr
     requires { rd < 32 }
-    ensures { IfOk result (λ _.
-        out.new.items ≡ out.old.items ++ word (instr.Imm Addi rd rd (lower far))) }
+    ensures value { result ≡ instr.Imm Addi rd rd (lower far) }
+    ensures sound { InRange result }
 {
-    let addi = Instr::Imm {
+    Instr::Imm {
         op: ImmOp::Addi,
         rd,
         rs1: rd,
         value: lower(far),
-    };
-    write_instruction(out, addi)
+    }
 }
 
 /// The two instructions that put an address so far away into a register.
-fn write_address_load(out: &mut Vec<u8>, rd: u8, far: i128) -> Result<(), AllocError>
+fn write_address_load(out: &mut Vec<u8>, rd: u8, far: i128) -> Result<(), LineError>
     requires register { rd < 32 }
     requires low { neg_ℤ (pos (2 ^ 100)) ≤ℤ far }
     requires high { far ≤ℤ pos (2 ^ 100) }
-    ensures { IfOk result (λ _. out.new.items ≡ out.old.items ++ load_address rd far) }
+    ensures { Steps result out.new.items (Ok (out.old.items ++ load_address rd far)) }
 {
-    write_upper(out, rd, far)?;
-    write_lower(out, rd, far)?;
-    Ok(())
+    write_instruction(out, far_upper(rd, far))?;
+    write_instruction(out, far_lower(rd, far))
 }
 
 /// So many zeros.
-fn write_zeros(out: &mut Vec<u8>, count: u32) -> Result<(), AllocError>
-    ensures { IfOk result (λ _. out.new.items ≡ out.old.items ++ replicate count 0) }
+fn write_zeros(out: &mut Vec<u8>, count: u32) -> Result<(), LineError>
+    ensures { Steps result out.new.items (Ok (out.old.items ++ replicate count 0)) }
 {
     let length = out.len();
-    out.resize(length + count as usize, 0)
+    out.resize(length + count as usize, 0)?;
+    Ok(())
 }
 
 /// The bytes of a piece at this address.
@@ -167,7 +173,7 @@ fn write_piece(out: &mut Vec<u8>, state: &State, from: u64, piece: &Piece) -> Re
         (with_front out.old.items (bytes_at (state_of state.now) from (piece_of piece.now))) }
 {
     match piece {
-        Piece::Encoded(word) => out.extend_from_slice(&word.to_le_bytes())?,
+        Piece::Encoded(word) => write_bytes(out, &word.to_le_bytes()),
         Piece::Branch {
             op,
             rs1,
@@ -180,26 +186,23 @@ fn write_piece(out: &mut Vec<u8>, state: &State, from: u64, piece: &Piece) -> Re
                 rs2: number_of(*rs2),
                 offset: branch_offset(state, *label, from)?,
             };
-            write_instruction(out, branch)?;
+            write_instruction(out, branch)
         }
         Piece::Jump { rd, label } => {
             let jump = Instr::Jal {
                 rd: number_of(*rd),
                 offset: jump_offset(state, *label, from)?,
             };
-            write_instruction(out, jump)?;
+            write_instruction(out, jump)
         }
         Piece::LoadAddress { rd, label } => {
             let far = i128::from(target(state, *label)?) - i128::from(from);
-            write_address_load(out, number_of(*rd), far)?;
+            write_address_load(out, number_of(*rd), far)
         }
-        Piece::Address(label) => {
-            out.extend_from_slice(&target(state, *label)?.to_le_bytes())?;
-        }
-        Piece::Bytes(bytes) => out.extend_from_slice(bytes)?,
-        Piece::Zeros(count) => write_zeros(out, *count)?,
+        Piece::Address(label) => write_bytes(out, &target(state, *label)?.to_le_bytes()),
+        Piece::Bytes(bytes) => write_bytes(out, bytes),
+        Piece::Zeros(count) => write_zeros(out, *count),
     }
-    Ok(())
 }
 
 /// The line of each word, so many words of one line.

@@ -1,4 +1,5 @@
 //! The forms of statements: each function reads all operands of one form.
+#![tactic(auto, unfolding(crate::specs::Statements::statement))]
 
 ghost use Rattle.std.specs.Prelude.{◌≡◌, ◌≤◌, ◌<◌, ◌-◌, ◌*◌, ◌^◌, ◌++◌, [], ◌∷◌, length, drop, map, IfOk, IsTrue, ℤ, pos, neg_ℤ, ◌≤ℤ◌, Some, None, if◌then◌else◌};
 ghost use Rattle.std.specs.Int.{bytes_low_first};
@@ -7,14 +8,15 @@ ghost use Rattle.rv_decode.specs.Instructions.{amount_bits, InRange, is_second, 
 ghost use Rattle.rv_decode.specs.declared.Instr.TheVariants as instr;
 ghost use Rattle.rv_decode.specs.declared.UpperOp.TheVariants.{Lui};
 ghost use Rattle.asm_tokens.specs.Registers.{number_of};
-ghost use Rattle.rv_asm.specs.Statements.{lower, upper, load_number, whole, puts, one, number_item, label_item, item, items, statement, bytes_of, is_wide, is_acquire, is_release, instruction_alone, is_within, BranchTo, JumpTo, AddressTo, Bytes, Zeros, Puts, Aligns, Enters};
+ghost use Rattle.rv_asm.specs.Statements.{lower, upper, load_number, whole, puts, one, number_item, label_item, item, item_operand, then_item, items, statement, bytes_of, is_wide, is_acquire, is_release, instruction_alone, is_within, BranchTo, JumpTo, AddressTo, Bytes, Zeros, Puts, Aligns, Enters};
 ghost use Rattle.asm_tokens.specs.Views.{GivesLine, all_placed, placed_of};
-ghost use Rattle.rv_asm.specs.Views.{tokens_left, piece_of, statement_of, AlignsWithin};
+ghost use Rattle.rv_asm.specs.Views.{tokens_left, Takes, Reads, piece_of, statement_of, AlignsWithin};
 ghost use Rattle.asm_tokens.specs.declared.form.Form.TheVariants as forms;
 
 use crate::AsmKind;
 use crate::operands::{NameUse, Operands, operand_fault};
 use crate::pieces::{Piece, Statement, low_bits, lower, upper};
+use crate::state::MOST_BYTES;
 use asm_tokens::{
     Alone, Form, LineError, Order, Placed, Register, Section, Size, Token, Width, number_of,
 };
@@ -62,14 +64,12 @@ fn one<'s>(
 }
 
 /// `add rd, rs1, rs2`
-#[tactic(auto, unfolding(crate::specs::Statements::statement))]
 fn register_form<'s>(
     alloc: Global,
     op: RegOp,
     mut operands: Operands<'_, 's>,
 ) -> Result<Statement<'s>, LineError>
-    ensures value { GivesLine statement_of result
-        (statement operands.entry.end (forms.Register op) (tokens_left operands.entry)) }
+    ensures value { Reads (forms.Register op) result operands.entry }
     ensures within { IfOk result AlignsWithin }
 {
     let rd = operands.register()?;
@@ -85,14 +85,12 @@ fn register_form<'s>(
 }
 
 /// `addi rd, rs1, n`
-#[tactic(auto, unfolding(crate::specs::Statements::statement))]
 fn immediate_form<'s>(
     alloc: Global,
     op: ImmOp,
     mut operands: Operands<'_, 's>,
 ) -> Result<Statement<'s>, LineError>
-    ensures value { GivesLine statement_of result
-        (statement operands.entry.end (forms.Immediate op) (tokens_left operands.entry)) }
+    ensures value { Reads (forms.Immediate op) result operands.entry }
     ensures within { IfOk result AlignsWithin }
 {
     let rd = operands.register()?;
@@ -118,14 +116,12 @@ fn greatest_amount(op: ShiftOp) -> u32
 }
 
 /// `slli rd, rs1, n`
-#[tactic(auto, unfolding(crate::specs::Statements::statement))]
 fn shift_form<'s>(
     alloc: Global,
     op: ShiftOp,
     mut operands: Operands<'_, 's>,
 ) -> Result<Statement<'s>, LineError>
-    ensures value { GivesLine statement_of result
-        (statement operands.entry.end (forms.Shift op) (tokens_left operands.entry)) }
+    ensures value { Reads (forms.Shift op) result operands.entry }
     ensures within { IfOk result AlignsWithin }
 {
     let rd = operands.register()?;
@@ -141,14 +137,12 @@ fn shift_form<'s>(
 }
 
 /// `ld rd, n(rs1)`
-#[tactic(auto, unfolding(crate::specs::Statements::statement))]
 fn load_form<'s>(
     alloc: Global,
     op: LoadOp,
     mut operands: Operands<'_, 's>,
 ) -> Result<Statement<'s>, LineError>
-    ensures value { GivesLine statement_of result
-        (statement operands.entry.end (forms.Load op) (tokens_left operands.entry)) }
+    ensures value { Reads (forms.Load op) result operands.entry }
     ensures within { IfOk result AlignsWithin }
 {
     let rd = operands.register()?;
@@ -164,10 +158,8 @@ fn load_form<'s>(
 }
 
 /// `jalr rd, n(rs1)`
-#[tactic(auto, unfolding(crate::specs::Statements::statement))]
 fn jalr_form<'s>(alloc: Global, mut operands: Operands<'_, 's>) -> Result<Statement<'s>, LineError>
-    ensures value { GivesLine statement_of result
-        (statement operands.entry.end forms.Jalr (tokens_left operands.entry)) }
+    ensures value { Reads forms.Jalr result operands.entry }
     ensures within { IfOk result AlignsWithin }
 {
     let rd = operands.register()?;
@@ -182,14 +174,12 @@ fn jalr_form<'s>(alloc: Global, mut operands: Operands<'_, 's>) -> Result<Statem
 }
 
 /// `sd rs2, n(rs1)`
-#[tactic(auto, unfolding(crate::specs::Statements::statement))]
 fn store_form<'s>(
     alloc: Global,
     op: StoreOp,
     mut operands: Operands<'_, 's>,
 ) -> Result<Statement<'s>, LineError>
-    ensures value { GivesLine statement_of result
-        (statement operands.entry.end (forms.Store op) (tokens_left operands.entry)) }
+    ensures value { Reads (forms.Store op) result operands.entry }
     ensures within { IfOk result AlignsWithin }
 {
     let rs2 = operands.register()?;
@@ -205,14 +195,12 @@ fn store_form<'s>(
 }
 
 /// `beq rs1, rs2, label`
-#[tactic(auto, unfolding(crate::specs::Statements::statement))]
 fn branch_form<'s>(
     alloc: Global,
     op: BranchOp,
     mut operands: Operands<'_, 's>,
 ) -> Result<Statement<'s>, LineError>
-    ensures value { GivesLine statement_of result
-        (statement operands.entry.end (forms.Branch op) (tokens_left operands.entry)) }
+    ensures value { Reads (forms.Branch op) result operands.entry }
     ensures within { IfOk result AlignsWithin }
 {
     let rs1 = operands.register()?;
@@ -228,10 +216,8 @@ fn branch_form<'s>(
 }
 
 /// `jal rd, label`
-#[tactic(auto, unfolding(crate::specs::Statements::statement))]
 fn jal_form<'s>(alloc: Global, mut operands: Operands<'_, 's>) -> Result<Statement<'s>, LineError>
-    ensures value { GivesLine statement_of result
-        (statement operands.entry.end forms.Jal (tokens_left operands.entry)) }
+    ensures value { Reads forms.Jal result operands.entry }
     ensures within { IfOk result AlignsWithin }
 {
     let rd = operands.register()?;
@@ -240,14 +226,12 @@ fn jal_form<'s>(alloc: Global, mut operands: Operands<'_, 's>) -> Result<Stateme
 }
 
 /// `lui rd, n`
-#[tactic(auto, unfolding(crate::specs::Statements::statement))]
 fn upper_form<'s>(
     alloc: Global,
     op: UpperOp,
     mut operands: Operands<'_, 's>,
 ) -> Result<Statement<'s>, LineError>
-    ensures value { GivesLine statement_of result
-        (statement operands.entry.end (forms.Upper op) (tokens_left operands.entry)) }
+    ensures value { Reads (forms.Upper op) result operands.entry }
     ensures within { IfOk result AlignsWithin }
 {
     let rd = operands.register()?;
@@ -279,7 +263,6 @@ fn is_release(order: Order) -> bool
 }
 
 /// `amoadd.w rd, rs2, (rs1)`, and `lr.w rd, (rs1)`
-#[tactic(auto, unfolding(crate::specs::Statements::statement))]
 fn atomic_form<'s>(
     alloc: Global,
     op: AtomicOp,
@@ -287,8 +270,7 @@ fn atomic_form<'s>(
     order: Order,
     mut operands: Operands<'_, 's>,
 ) -> Result<Statement<'s>, LineError>
-    ensures value { GivesLine statement_of result
-        (statement operands.entry.end (forms.Atomic op width order) (tokens_left operands.entry)) }
+    ensures value { Reads (forms.Atomic op width order) result operands.entry }
     ensures within { IfOk result AlignsWithin }
 {
     let rd = operands.register()?;
@@ -334,10 +316,8 @@ fn instruction_alone(name: Alone) -> Instr
 }
 
 /// `mv rd, rs`
-#[tactic(auto, unfolding(crate::specs::Statements::statement))]
 fn move_form<'s>(alloc: Global, mut operands: Operands<'_, 's>) -> Result<Statement<'s>, LineError>
-    ensures value { GivesLine statement_of result
-        (statement operands.entry.end forms.Move (tokens_left operands.entry)) }
+    ensures value { Reads forms.Move result operands.entry }
     ensures within { IfOk result AlignsWithin }
 {
     let rd = operands.register()?;
@@ -352,10 +332,8 @@ fn move_form<'s>(alloc: Global, mut operands: Operands<'_, 's>) -> Result<Statem
 }
 
 /// `j label`
-#[tactic(auto, unfolding(crate::specs::Statements::statement))]
 fn jump_form<'s>(alloc: Global, mut operands: Operands<'_, 's>) -> Result<Statement<'s>, LineError>
-    ensures value { GivesLine statement_of result
-        (statement operands.entry.end forms.Jump (tokens_left operands.entry)) }
+    ensures value { Reads forms.Jump result operands.entry }
     ensures within { IfOk result AlignsWithin }
 {
     let label = operands.name()?;
@@ -419,13 +397,11 @@ fn load_number<'s>(alloc: Global, rd: u8, value: i128) -> Result<Vec<Piece<'s>>,
 }
 
 /// `li rd, n`
-#[tactic(auto, unfolding(crate::specs::Statements::statement))]
 fn load_number_form<'s>(
     alloc: Global,
     mut operands: Operands<'_, 's>,
 ) -> Result<Statement<'s>, LineError>
-    ensures value { GivesLine statement_of result
-        (statement operands.entry.end forms.LoadNumber (tokens_left operands.entry)) }
+    ensures value { Reads forms.LoadNumber result operands.entry }
     ensures within { IfOk result AlignsWithin }
 {
     let rd = operands.register()?;
@@ -436,13 +412,11 @@ fn load_number_form<'s>(
 }
 
 /// `la rd, label`
-#[tactic(auto, unfolding(crate::specs::Statements::statement))]
 fn load_address_form<'s>(
     alloc: Global,
     mut operands: Operands<'_, 's>,
 ) -> Result<Statement<'s>, LineError>
-    ensures value { GivesLine statement_of result
-        (statement operands.entry.end forms.LoadAddress (tokens_left operands.entry)) }
+    ensures value { Reads forms.LoadAddress result operands.entry }
     ensures within { IfOk result AlignsWithin }
 {
     let rd = operands.register()?;
@@ -451,13 +425,11 @@ fn load_address_form<'s>(
 }
 
 /// `.globl name`, which does nothing
-#[tactic(auto, unfolding(crate::specs::Statements::statement))]
 fn global_form<'s>(
     alloc: Global,
     mut operands: Operands<'_, 's>,
 ) -> Result<Statement<'s>, LineError>
-    ensures value { GivesLine statement_of result
-        (statement operands.entry.end forms.Global (tokens_left operands.entry)) }
+    ensures value { Reads forms.Global result operands.entry }
     ensures within { IfOk result AlignsWithin }
 {
     operands.name()?;
@@ -465,10 +437,8 @@ fn global_form<'s>(
 }
 
 /// `.ascii "text"`
-#[tactic(auto, unfolding(crate::specs::Statements::statement))]
 fn ascii_form<'s>(alloc: Global, mut operands: Operands<'_, 's>) -> Result<Statement<'s>, LineError>
-    ensures value { GivesLine statement_of result
-        (statement operands.entry.end forms.Ascii (tokens_left operands.entry)) }
+    ensures value { Reads forms.Ascii result operands.entry }
     ensures within { IfOk result AlignsWithin }
 {
     let bytes = operands.text()?;
@@ -477,21 +447,17 @@ fn ascii_form<'s>(alloc: Global, mut operands: Operands<'_, 's>) -> Result<State
 }
 
 /// `.zero n`
-#[tactic(auto, unfolding(crate::specs::Statements::statement))]
 fn zeros_form<'s>(alloc: Global, mut operands: Operands<'_, 's>) -> Result<Statement<'s>, LineError>
-    ensures value { GivesLine statement_of result
-        (statement operands.entry.end forms.Zeros (tokens_left operands.entry)) }
+    ensures value { Reads forms.Zeros result operands.entry }
     ensures within { IfOk result AlignsWithin }
 {
-    let count = operands.number_up_to(1_048_576)?;
+    let count = operands.number_up_to(MOST_BYTES)?;
     puts(alloc, operands, Piece::Zeros(count))
 }
 
 /// `.align n`
-#[tactic(auto, unfolding(crate::specs::Statements::statement))]
 fn align_form<'s>(mut operands: Operands<'_, 's>) -> Result<Statement<'s>, LineError>
-    ensures value { GivesLine statement_of result
-        (statement operands.entry.end forms.Align (tokens_left operands.entry)) }
+    ensures value { Reads forms.Align result operands.entry }
     ensures within { IfOk result AlignsWithin }
 {
     let bits = operands.number_up_to(12)?;
@@ -563,57 +529,64 @@ fn item<'s>(alloc: Global, end: u32, size: Size, found: &Placed<'s>) -> Result<P
     }
 }
 
-/// The tokens from a place on.
-pub fn from_place<'t, 's>(tokens: &'t [Placed<'s>], place: usize) -> &'t [Placed<'s>]
-    requires { place ≤ length tokens.now }
-    ensures { result.now ≡ drop place tokens.now }
+/// The next item.
+fn next_item<'s>(
+    alloc: Global,
+    size: Size,
+    operands: &mut Operands<'_, 's>,
+) -> Result<Piece<'s>, LineError>
+    ensures { Takes piece_of result operands.old operands.new
+        (item_operand operands.old.end size (tokens_left operands.old)) }
 {
-    &tokens[place..]
+    let first = operands.token()?;
+    item(alloc, operands.end(), size, first)
+}
+
+/// The next item behind a comma.
+fn then_item<'s>(
+    alloc: Global,
+    size: Size,
+    operands: &mut Operands<'_, 's>,
+) -> Result<Piece<'s>, LineError>
+    ensures { Takes piece_of result operands.old operands.new
+        (then_item operands.old.end size (tokens_left operands.old)) }
+{
+    operands.mark(b',')?;
+    next_item(alloc, size, operands)
 }
 
 /// Items with a comma between each two.
 fn items<'s>(
     alloc: Global,
-    end: u32,
     size: Size,
-    tokens: &[Placed<'s>],
+    mut operands: Operands<'_, 's>,
 ) -> Result<Vec<Piece<'s>>, LineError>
     ensures { GivesLine (λ v. map piece_of v.items) result
-        (items end size (all_placed tokens.now)) }
+        (items operands.entry.end size (tokens_left operands.entry)) }
 {
-    let mut pieces = Vec::new(alloc);
-    let mut place = 0;
-    while place < tokens.len() {
-        pieces.push(item(alloc, end, size, &tokens[place])?)?;
-        if place + 1 == tokens.len() {
-            return Ok(pieces);
-        }
-        let mut behind = Operands::new(from_place(tokens, place + 1), end);
-        behind.mark(b',')?;
-        place += 2;
+    let first = next_item(alloc, size, &mut operands)?;
+    let mut pieces = vec![in alloc; first]?;
+    while operands.finish().is_err() {
+        pieces.push(then_item(alloc, size, &mut operands)?)?;
     }
-    Err(operand_fault(end))
+    Ok(pieces)
 }
 
 /// `.word n, n`, and its kin of other sizes
-#[tactic(auto, unfolding(crate::specs::Statements::statement))]
 fn numbers_form<'s>(
     alloc: Global,
-    end: u32,
     size: Size,
-    tokens: &[Placed<'s>],
+    operands: Operands<'_, 's>,
 ) -> Result<Statement<'s>, LineError>
-    ensures value { GivesLine statement_of result
-        (statement end (forms.Numbers size) (all_placed tokens.now)) }
+    ensures value { Reads (forms.Numbers size) result operands.entry }
     ensures within { IfOk result AlignsWithin }
 {
-    let pieces = items(alloc, end, size, tokens)?;
+    let pieces = items(alloc, size, operands)?;
     Ok(Statement::Puts(pieces))
 }
 
 /// The statement of this form whose operands these are.
 /// Err tells the first wrong operand, or want of memory.
-#[tactic(auto, unfolding(crate::specs::Statements::statement))]
 pub fn statement<'s>(
     alloc: Global,
     end: u32,
@@ -642,7 +615,7 @@ pub fn statement<'s>(
         Form::LoadAddress => load_address_form(alloc, operands),
         Form::Enter(section) => whole(operands, Statement::Enters(section)),
         Form::Global => global_form(alloc, operands),
-        Form::Numbers(size) => numbers_form(alloc, end, size, tokens),
+        Form::Numbers(size) => numbers_form(alloc, size, operands),
         Form::Ascii => ascii_form(alloc, operands),
         Form::Zeros => zeros_form(alloc, operands),
         Form::Align => align_form(operands),

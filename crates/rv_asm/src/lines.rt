@@ -9,7 +9,7 @@ ghost use Rattle.rv_asm.specs.Assembled.{Gives, start, is_in_place, form_named, 
 ghost use Rattle.asm_tokens.specs.Views.{placed_of, all_placed, token_of};
 ghost use Rattle.rv_asm.specs.Views.{Steps, state_of, use_of, label_front, error_at};
 
-use crate::forms::{from_place, statement};
+use crate::forms::statement;
 use crate::operands::NameUse;
 use crate::state::State;
 use crate::{AsmError, AsmFault, AsmKind};
@@ -56,6 +56,14 @@ fn form_in(first: &Token) -> Option<Form>
         Token::Name(name) => form_of(*name),
         _ => None,
     }
+}
+
+/// The tokens from a place on.
+fn from_place<'t, 's>(tokens: &'t [Placed<'s>], place: usize) -> &'t [Placed<'s>]
+    requires { place ≤ length tokens.now }
+    ensures { result.now ≡ drop place tokens.now }
+{
+    &tokens[place..]
 }
 
 /// The label that begins at this place, if a colon follows the name there.

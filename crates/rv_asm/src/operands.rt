@@ -51,7 +51,7 @@ impl<'t, 's> Operands<'t, 's> {
     }
 
     /// A token.
-    fn token(&mut self) -> Result<&'t Placed<'s>, LineError>
+    pub fn token(&mut self) -> Result<&'t Placed<'s>, LineError>
         ensures { TakesFirst result self.old self.new }
     {
         let tokens = self.tokens;
@@ -62,6 +62,13 @@ impl<'t, 's> Operands<'t, 's> {
                 Ok(first)
             }
         }
+    }
+
+    /// The column behind the line's bytes.
+    pub fn end(&self) -> u32
+        ensures { result ≡ self.now.end }
+    {
+        self.end
     }
 
     /// Nothing, and nothing is left.

@@ -1,27 +1,47 @@
-use Rattle.std.proofs.Common.{rules, ◌+◌, map, drop, ap, ap₂, sym, ◌∙◌, subst, arith}
+use Rattle.std.proofs.Common.{rules, ◌≡◌, [], ◌∷◌, ◌++◌, map, ap, sym, ◌∙◌, true, false, is_err}
 use Rattle.std.proofs.lemmas.List.{map-append}
-use Rattle.std.specs.Str.{byte}
-use Rattle.rv_asm.specs.Statements.{mark, items}
-use Rattle.asm_tokens.specs.Views.{placed_of, with_front, FailsLine}
-use Rattle.rv_asm.specs.Views.{piece_of}
-use Rattle.rv_asm.proofs.Items.{over_item, at_no_comma}
+use Rattle.rv_asm.specs.Statements.{items}
+use Rattle.asm_tokens.specs.Views.{with_front, FailsLine}
+use Rattle.rv_asm.specs.Views.{piece_of, tokens_left}
+use Rattle.rv_asm.proofs.Items.{items_behind, begins, no_first, goes_on, ends, stops}
 use Rattle.rv_asm.proofs.forms.items.Goals as goal
 
-pub returns-in_err-mark : goal.returns-in_err-mark
-returns-in_err-mark c =
-    let e = c.in_err-mark.field-0.0 in
-    let there = ap₂ (λ end ts. mark end (byte ",") ts) c.new-behind.ensures.end (c.new-behind.ensures.left ∙ ap (map placed_of) c.from_place.ensures) in
-    let failed : FailsLine e (items c.args.end c.args.size (map placed_of c.args.tokens.now)) =
-    at_no_comma c.args.end c.args.size (map piece_of c.loop-place.pieces.items) (piece_of c.in_ok-item.field-0) c.args.tokens.now c.loop-place.place c.index-tokens-place.result e _
-    (omega (arith, c.loop-place-test.true, c.if-place-tokens.false)) c.index-tokens-place.is c.in_ok-item.ensures (subst (FailsLine e) there c.in_err-mark.ensures) c.loop-place.invariant.1 in
+pub returns-in_err-first : goal.returns-in_err-first
+returns-in_err-first c =
+    let e = c.in_err-first.field-0.0 in
+    let failed : FailsLine e (items c.args.operands.end c.args.size (tokens_left c.args.operands)) = no_first c.args.operands.end c.args.size (tokens_left c.args.operands) e c.in_err-first.ensures in
     search (rules, failed)
 
-pub loop-place-preserved : goal.loop-place-preserved
-loop-place-preserved c =
-    let there = ap₂ (λ end ts. mark end (byte ",") ts) c.new-behind.ensures.end (c.new-behind.ensures.left ∙ ap (map placed_of) c.from_place.ensures) in
-    let pushed = ap (map piece_of) c.in_ok-push.ensures.items ∙ map-append piece_of c.loop-place.pieces.items _ in (
-      omega (arith, c.loop-place-test.true, c.if-place-tokens.false),
-      ap (λ xs. with_front xs (items c.args.end c.args.size (map placed_of (drop (c.loop-place.place + 2) c.args.tokens.now)))) pushed
-          ∙ over_item c.args.end c.args.size (map piece_of c.loop-place.pieces.items) (piece_of c.in_ok-item.field-0) c.args.tokens.now c.loop-place.place c.index-tokens-place.result _ _
-          (omega (arith, c.loop-place-test.true)) c.index-tokens-place.is c.in_ok-item.ensures (sym there ∙ c.in_ok-mark.ensures.0) c.loop-place.invariant.1,
-    )
+pub loop-operands-init : goal.loop-operands-init
+loop-operands-init c =
+    let old = c.args.operands in
+    let new = c.next_item.new.operands in
+    let first = piece_of c.in_ok-first.first in
+    ap (λ ps. with_front (map piece_of ps) (items_behind new.end c.args.size (tokens_left new))) c.in_ok-pieces.ensures.items
+    ∙ ap (λ end. with_front (first ∷ []) (items_behind end c.args.size (tokens_left new))) c.in_ok-first.ensures.1
+    ∙ sym (begins old.end c.args.size (tokens_left old) (tokens_left new) first c.in_ok-first.ensures.0)
+
+pub returns-in_err-then_item : goal.returns-in_err-then_item
+returns-in_err-then_item c =
+    let operands = c.loop-operands.operands in
+    let e = c.in_err-then_item.field-0.0 in
+    let more : is_err c.finish.result ≡ true = search rules in
+    let failed : FailsLine e (items c.args.operands.end c.args.size (tokens_left c.args.operands)) =
+    stops operands.end c.args.size (map piece_of c.loop-operands.pieces.items) c.finish.result (tokens_left operands) e _ more c.finish.ensures c.in_err-then_item.ensures c.loop-operands.invariant in
+    search (rules, failed)
+
+pub loop-operands-preserved : goal.loop-operands-preserved
+loop-operands-preserved c =
+    let old = c.loop-operands.operands in
+    let new = c.then_item.new.operands in
+    let out = map piece_of c.loop-operands.pieces.items in
+    let piece = piece_of c.in_ok-then_item.field-0 in
+    ap (λ ps. with_front ps (items_behind new.end c.args.size (tokens_left new))) (ap (map piece_of) c.in_ok-push.ensures.items ∙ map-append piece_of c.loop-operands.pieces.items _)
+    ∙ ap (λ end. with_front (out ++ piece ∷ []) (items_behind end c.args.size (tokens_left new))) c.in_ok-then_item.ensures.1
+    ∙ goes_on old.end c.args.size out piece (tokens_left old) (tokens_left new) _ c.in_ok-then_item.ensures.0 c.loop-operands.invariant
+
+pub returns : goal.returns
+returns c =
+    let operands = c.loop-operands.operands in
+    let no_more : is_err c.finish.result ≡ false = search rules in
+    ends operands.end c.args.size (map piece_of c.loop-operands.pieces.items) c.finish.result (tokens_left operands) _ no_more c.finish.ensures c.loop-operands.invariant
