@@ -5,8 +5,9 @@ mod draws;
 mod kinds;
 mod listing;
 
-ghost use Rattle.std.specs.Prelude.{◌≡◌, ◌≤◌, length, IfOk};
-ghost use Rattle.work_gen.specs.Text.{generated, view};
+ghost use Rattle.std.specs.Prelude.{◌≡◌, ◌+◌, ◌≤◌, ◌++◌, length, OnOk, IfOk};
+ghost use Rattle.work_gen.specs.Text.{before_point, ending, generated, view};
+ghost use Rattle.work_gen.specs.Adding.{Adds};
 ghost use Rattle.work_gen.specs.Accepted.{IsAccepted};
 
 use crate::kinds::put_blocks;
@@ -69,6 +70,22 @@ const ENDING: [&[u8]; 18] = [
     b"    .word 0",
 ];
 
+/// All lines, and the line of the progress point. Only want of memory stands against it.
+fn put_source(listing: &mut Listing, seed: u64, size: u32) -> Result<u32, AllocError>
+    requires size { size ≤ 2000 }
+    requires empty { listing.old.lines ≡ 0 }
+    ensures lines { OnOk result
+        (Adds (before_point seed size ++ ending) listing.old listing.new) }
+    ensures point { IfOk result (λ point. point ≡ length (before_point seed size) + 1) }
+{
+    listing.put_all(&OPENING)?;
+    put_blocks(listing, size, seed)?;
+    listing.put_all(&MIDDLE)?;
+    let point = listing.lines + 1;
+    listing.put_all(&ENDING)?;
+    Ok(point)
+}
+
 /// The text that a seed and 1 to 2,000 blocks make, of at most 2 MiB. The assembler accepts each.
 /// Only want of memory stands against it.
 #[tactic(auto, unfolding(crate::specs::Text::generated))]
@@ -83,11 +100,7 @@ pub fn source(alloc: Global, seed: u64, size: u32) -> Result<Generated, AllocErr
         text: Vec::new(alloc),
         lines: 0,
     };
-    listing.put_all(&OPENING)?;
-    put_blocks(&mut listing, size, seed)?;
-    listing.put_all(&MIDDLE)?;
-    let point = listing.lines + 1;
-    listing.put_all(&ENDING)?;
+    let point = put_source(&mut listing, seed, size)?;
     Ok(Generated {
         text: Items::new(listing.text),
         point,
