@@ -10,4 +10,5 @@ pub mod Once
 pub mod Exact
 pub mod Found
 pub mod Fit
+pub mod Gathered
 pub mod Clauses

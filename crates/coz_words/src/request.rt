@@ -4,6 +4,7 @@ ghost use Rattle.std.specs.List.{list_all};
 ghost use Rattle.std.specs.Option.{option_copied};
 ghost use Rattle.clap.specs.Words.{first_value, found_of};
 ghost use Rattle.coz_words.specs.Answers.{Answers, bytes_of, option_value};
+ghost use Rattle.coz_words.specs.Counts.{counts_with};
 ghost use Rattle.coz_words.specs.Parse.{target_id};
 ghost use Rattle.coz_words.specs.Request.{IsFit, Requests, has_text, option_names, request_with, none_or, is_some_text};
 ghost use Rattle.coz_words.specs.Slow.{request_in};
@@ -13,7 +14,7 @@ use crate::command::{Command, has_option, option_names};
 use crate::parse::parsed;
 use crate::spelling::command_in;
 use crate::value::{are_lines, number_or, seed_of, speedup_of, speedups_of, version_of};
-use crate::word::{Word, copied};
+use crate::word::{Word, copied_pair};
 use clap::ArgMatches;
 use coz_lists::Items;
 use std::alloc::{AllocError, AllocFailed, Global};
@@ -99,20 +100,21 @@ fn text_of<'a>(command: Command, matches: &ArgMatches<'a>, name: &str) -> Option
     }
 }
 
-/// The request that the values make.
-fn request_of(alloc: Global, command: Command, matches: &ArgMatches) -> Result<Request, WordsError>
-    ensures { Answers (request_with command (first_value (found_of matches.now) target_id)
+/// The numbers of a request that stand for themselves.
+#[derive(Clone, Copy, Drop)]
+struct Counts {
+    budget: u64,
+    workers: u32,
+    size: u32,
+    dwarf: u8,
+    seed: u64,
+}
+
+/// The numbers that the values make.
+fn counts_of(command: Command, matches: &ArgMatches, target: &str) -> Result<Counts, WordsError>
+    ensures { Answers (counts_with command target.now
         (option_value command (first_value (found_of matches.now)))) result }
 {
-    let line = text_of(command, matches, "line");
-    let lines = text_of(command, matches, "lines");
-    let progress = text_of(command, matches, "progress");
-    if !are_lines(line, lines, progress) {
-        return Err(WordsError::Usage);
-    }
-    let target = matches.get_str("target").ok_or(WordsError::Usage)?;
-    let speedup = speedup_of(line, text_of(command, matches, "speedup"))?;
-    let speedups = speedups_of(alloc, command, text_of(command, matches, "speedups"))?;
     let budget = number_or(
         command,
         "budget",
@@ -139,20 +141,83 @@ fn request_of(alloc: Global, command: Command, matches: &ArgMatches) -> Result<R
     )?;
     let dwarf = version_of(command, text_of(command, matches, "dwarf"))?;
     let seed = seed_of(command, target)?;
-    Ok(Request {
-        command,
-        target: Word::copy(alloc, target)?,
-        input: copied(alloc, text_of(command, matches, "input"))?,
-        line: copied(alloc, line)?,
-        speedup,
-        lines: copied(alloc, lines)?,
-        progress: copied(alloc, progress)?,
-        speedups,
+    Ok(Counts {
         budget,
         workers: workers as u32,
-        seed,
         size: size as u32,
         dwarf,
+        seed,
+    })
+}
+
+/// The texts of a request.
+#[derive(Drop)]
+struct Texts {
+    target: Word,
+    input: Option<Word>,
+    line: Option<Word>,
+    lines: Option<Word>,
+    progress: Option<Word>,
+}
+
+/// The texts, copied.
+fn texts_of(
+    alloc: Global,
+    target: &str,
+    input: Option<&str>,
+    line: Option<&str>,
+    lines: Option<&str>,
+    progress: Option<&str>,
+) -> Result<Texts, AllocError>
+    ensures target { IfOk result (λ texts. texts.target ≡ target.now) }
+    ensures input { IfOk result (λ texts. texts.input ≡ option_copied input.entry) }
+    ensures line { IfOk result (λ texts. texts.line ≡ option_copied line.entry) }
+    ensures lines { IfOk result (λ texts. texts.lines ≡ option_copied lines.entry) }
+    ensures progress { IfOk result (λ texts. texts.progress ≡ option_copied progress.entry) }
+{
+    let target = Word::copy(alloc, target)?;
+    let (input, line) = copied_pair(alloc, input, line)?;
+    let (lines, progress) = copied_pair(alloc, lines, progress)?;
+    Ok(Texts {
+        target,
+        input,
+        line,
+        lines,
+        progress,
+    })
+}
+
+/// The request that the values make.
+fn request_of(alloc: Global, command: Command, matches: &ArgMatches) -> Result<Request, WordsError>
+    ensures { Answers (request_with command (first_value (found_of matches.now) target_id)
+        (option_value command (first_value (found_of matches.now)))) result }
+{
+    let input = text_of(command, matches, "input");
+    let line = text_of(command, matches, "line");
+    let lines = text_of(command, matches, "lines");
+    let progress = text_of(command, matches, "progress");
+    if !are_lines(line, lines, progress) {
+        return Err(WordsError::Usage);
+    }
+    let target = matches.get_str("target").ok_or(WordsError::Usage)?;
+    let speedup = speedup_of(line, text_of(command, matches, "speedup"))?;
+    let speedups = speedups_of(alloc, command, text_of(command, matches, "speedups"))?;
+    let counts = counts_of(command, matches, target)?;
+    let texts = texts_of(alloc, target, input, line, lines, progress)?;
+    Ok(Request {
+        command,
+        target: texts.target,
+        input: texts.input,
+        line: texts.line,
+        speedup,
+        lines: texts.lines,
+        progress: texts.progress,
+        speedups,
+        budget: counts.budget,
+        workers: counts.workers,
+        seed: counts.seed,
+        size: counts.size,
+        dwarf: counts.dwarf,
     })
 }
 

@@ -36,11 +36,24 @@ impl Word {
 }
 
 /// A word of the text, if there is one.
-pub(crate) fn copied(alloc: Global, text: Option<&str>) -> Result<Option<Word>, AllocError>
+fn copied(alloc: Global, text: Option<&str>) -> Result<Option<Word>, AllocError>
     ensures { IfOk result (λ word. word ≡ option_copied text.entry) }
 {
     match text {
         Some(text) => Ok(Some(Word::copy(alloc, text)?)),
         None => Ok(None),
     }
+}
+
+/// The same of two texts.
+pub(crate) fn copied_pair(
+    alloc: Global,
+    first: Option<&str>,
+    second: Option<&str>,
+) -> Result<(Option<Word>, Option<Word>), AllocError>
+    ensures first { IfOk result (λ words. words.0 ≡ option_copied first.entry) }
+    ensures second { IfOk result (λ words. words.1 ≡ option_copied second.entry) }
+{
+    let word = copied(alloc, first)?;
+    Ok((word, copied(alloc, second)?))
 }

@@ -1,15 +1,32 @@
-use Rattle.std.proofs.Common.{arith}
-use Rattle.coz_words.proofs.Fit.{number_fits}
-use Rattle.std.specs.Option.{option_copied}
-use Rattle.coz_words.specs.Request.{workers_name, size_name}
+use Rattle.std.proofs.Common.{rules}
+use Rattle.clap.specs.Words.{first_value, found_of}
+use Rattle.coz_words.specs.Answers.{option_value}
+use Rattle.coz_words.specs.Parse.{target_id}
+use Rattle.coz_words.proofs.Gathered.{Begun, request_counted, request_refused}
 use Rattle.coz_words.proofs.request.request_of.Goals as goal
 
-pub overflow_cast-result : goal.overflow_cast-result
-overflow_cast-result c =
-    let small = (number_fits c.args.command workers_name 4 1 16 (option_copied c.text_of-4.result) c.in_ok-workers.workers (omega arith) (omega arith) c.in_ok-workers.ensures).1 in
-    omega (arith, small)
+pub returns-in_err-counts : goal.returns-in_err-counts
+returns-in_err-counts c =
+    let found = first_value (found_of c.args.matches.now) in
+    let value = option_value c.args.command found in
+    let begun : Begun c.args.command (found target_id) value c.in_ok-target.target.now c.in_ok-speedup.speedup c.in_ok-speedups.speedups = record {
+      right = search rules;
+      path_is = search rules;
+      one = search rules;
+      all = search rules;
+    } in
+    let refused = request_refused _ _ _ _ _ _ c.in_err-counts.field-0.0 begun (search rules) in
+    search rules
 
-pub overflow_cast-result-2 : goal.overflow_cast-result-2
-overflow_cast-result-2 c =
-    let small = (number_fits c.args.command size_name 100 1 2000 (option_copied c.text_of-5.result) c.in_ok-size.size (omega arith) (omega arith) c.in_ok-size.ensures).1 in
-    omega (arith, small)
+pub returns : goal.returns
+returns c =
+    let found = first_value (found_of c.args.matches.now) in
+    let value = option_value c.args.command found in
+    let begun : Begun c.args.command (found target_id) value c.in_ok-target.target.now c.in_ok-speedup.speedup c.in_ok-speedups.speedups = record {
+      right = search rules;
+      path_is = search rules;
+      one = search rules;
+      all = search rules;
+    } in
+    let made = request_counted _ _ _ _ _ _ c.in_ok-counts.counts begun (search rules) in
+    search rules
