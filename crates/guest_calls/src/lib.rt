@@ -77,12 +77,15 @@ impl<'a> Guest<'a> {
         ensures { IfOk result (λ guest.
             guest ≡ first_guest image.now input.now output_limit layout) }
     {
+        let queue = Queue::new(alloc)?;
+        let mut harts = Vec::with_capacity(alloc, HARTS)?;
+        let output = Output::new(alloc, output_limit as usize)?;
+        // The memory has many parts: little that may fail comes after it.
         let mut memory = Memory::new(alloc, image, layout)?;
         let areas = Areas::new(alloc, &mut memory, image)?;
-        let mut harts = Vec::with_capacity(alloc, HARTS)?;
-        harts.push(Hart::first(areas.stack_pointer(), image.entry()))?;
-        let output = Output::new(alloc, output_limit as usize)?;
-        let queue = Queue::new(alloc)?;
+        let Ok(()) = harts.push(Hart::first(areas.stack_pointer(), image.entry())) else {
+            unreachable!()
+        };
         Ok(Guest {
             harts,
             memory,
