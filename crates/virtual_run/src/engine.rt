@@ -229,9 +229,10 @@ impl<'a> Engine<'a> {
         ensures { IfOk result (λ engine. IsFirst setting.now image.now input.now engine) }
     {
         let choice = setting.choice;
-        let guest = Guest::new(alloc, image, input, choice.output_limit, choice.layout)?;
         let visits = Visits::new(alloc, choice.visit_limit)?;
         let mut schedule = Schedule::new(alloc, HARTS as u32)?;
+        // The guest has many parts: nothing that may fail comes after it.
+        let guest = Guest::new(alloc, image, input, choice.output_limit, choice.layout)?;
         let mut selected = HartList::new();
         begin(setting, &guest, &mut schedule, &mut selected, FIRST, 0);
         let starts = selected.harts().len() as u64;

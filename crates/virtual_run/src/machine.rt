@@ -77,9 +77,9 @@ impl<'a> Machine<'a> {
             points,
             choice,
         };
-        let engine = Engine::new(alloc, image, input, &setting)?;
         let mut credits = Credits::new(alloc, HARTS as u32)?;
         credits.start(FIRST, 0);
+        let engine = Engine::new(alloc, image, input, &setting)?;
         raise_harts(
             &mut credits,
             &engine.guest,
