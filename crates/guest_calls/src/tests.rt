@@ -1,6 +1,7 @@
 //! Tests of system calls on harts whose registers they set.
-ghost use Rattle.std.specs.Prelude.{◌≡◌, IsTrue};
-ghost use Rattle.guest_calls.specs.Guest.{is_running, making, IsMade};
+ghost use Rattle.std.specs.Prelude.{◌≡◌, IfOk, IsTrue};
+ghost use Rattle.guest_memory.specs.Regions.{usual};
+ghost use Rattle.guest_calls.specs.Guest.{first_guest, is_running, making, IsMade};
 
 use super::*;
 use coz_types::{Area, Rights};
@@ -11,7 +12,7 @@ use std::test::Fail;
 const FILE: [u8; 12] = [0x73, 0, 0, 0, 0x2F, 0xA5, 5, 0x10, 0x2F, 0xA5, 0xC5, 0x18];
 
 /// Three pairs, of 3 bytes on the stack, of 1 byte of the text, and of 1 byte at 0; and `hello`.
-const INPUT: [u8; 53] = [
+static INPUT: [u8; 53] = [
     0, 1, 0xFF, 0xFF, 0x3F, 0, 0, 0, 3, 0, 0, 0, 0, 0, 0, 0, 0, 0, 1, 0, 0, 0, 0, 0, 1, 0, 0, 0, 0,
     0, 0, 0, 0, 0, 0, 0, 0, 0, 0, 0, 1, 0, 0, 0, 0, 0, 0, 0, 0x68, 0x65, 0x6C, 0x6C, 0x6F,
 ];
@@ -242,6 +243,7 @@ fn streams_are_read_and_written(rt: HostRuntime) -> Result<(), Fail> {
     check_answers(&rt, &mut guest, &READS);
     check_answers(&rt, &mut guest, &WRITES);
     assert_eq!(rt; guest.output(), b"lloll".as_slice());
+    drop(guest);
     Ok(())
 }
 
@@ -251,6 +253,7 @@ fn a_hart_asks_about_itself_and_its_memory(rt: HostRuntime) -> Result<(), Fail> 
     let mut guest = Guest::new(rt.alloc(), &image, &INPUT, 5, Layout::usual())?;
     check_answers(&rt, &mut guest, &OWN);
     check_answers(&rt, &mut guest, &AREAS);
+    drop(guest);
     Ok(())
 }
 
@@ -276,10 +279,7 @@ static ENDS: [End; 15] = [
     (93, [0x108, 0, 0, 0], Ending::Exited(8)),
 ];
 
-#[test]
-fn calls_end_the_run(rt: HostRuntime) -> Result<(), Fail> {
-    let image = image(rt.alloc())?;
-    let mut guest = Guest::new(rt.alloc(), &image, &INPUT, 5, Layout::usual())?;
+fn check_ends(rt: &impl Abort, guest: &mut Guest) {
     for &(number, arguments, ending) in &ENDS {
         let got = guest.ask(number, arguments);
         let first = arguments[0].cast_signed();
@@ -289,7 +289,16 @@ fn calls_end_the_run(rt: HostRuntime) -> Result<(), Fail> {
             "{number} of {arguments:?}"
         );
     }
-    assert_eq!(rt; guest.ask(178, [0, 0, 0, 0]), None);
+}
+
+#[test]
+fn calls_end_the_run(rt: HostRuntime) -> Result<(), Fail> {
+    let image = image(rt.alloc())?;
+    let mut guest = Guest::new(rt.alloc(), &image, &INPUT, 5, Layout::usual())?;
+    check_ends(&rt, &mut guest);
+    let after = guest.ask(178, [0, 0, 0, 0]);
+    drop(guest);
+    assert_eq!(rt; after, None);
     Ok(())
 }
 
@@ -380,6 +389,15 @@ fn check_asked(rt: &impl Abort, guest: &mut Guest, pc: Address, rows: &[Asked])
     }
 }
 
+/// The first hart makes all harts that there may be, and then no other.
+fn check_most_harts(rt: &impl Abort, guest: &mut Guest) {
+    for made in 4..256 {
+        let got = guest.ask(220, [0x10F00, 0, 0, 0]);
+        assert_eq!(rt; got, Some((Fate::Goes, made + 1)));
+    }
+    assert_eq!(rt; guest.ask(220, [0x10F00, 0, 0, 0]), Some((Fate::Goes, -11)));
+}
+
 #[test]
 fn threads_wait_and_are_woken(rt: HostRuntime) -> Result<(), Fail> {
     let image = image(rt.alloc())?;
@@ -388,11 +406,8 @@ fn threads_wait_and_are_woken(rt: HostRuntime) -> Result<(), Fail> {
     check_asked(&rt, &mut guest, CALL, &WAITS);
     check_asked(&rt, &mut guest, CALL, &WAKES);
     check_asked(&rt, &mut guest, CALL, &EXITS);
-    for made in 4..256 {
-        let got = guest.ask(220, [0x10F00, 0, 0, 0]);
-        assert_eq!(rt; got, Some((Fate::Goes, made + 1)));
-    }
-    assert_eq!(rt; guest.ask(220, [0x10F00, 0, 0, 0]), Some((Fate::Goes, -11)));
+    check_most_harts(&rt, &mut guest);
+    drop(guest);
     Ok(())
 }
 
@@ -425,7 +440,7 @@ static BEGUN: [Asked; 6] = [
 static RESERVED: [Asked; 1] = [(0, 0, [0, STACK + 0x40, 7, 0, 0], Fate::Goes, 0, NONE)];
 
 /// Nothing of these is left as it was.
-const WENT_ON: [Asked; 6] = [
+static WENT_ON: [Asked; 6] = [
     (0, 98, [STACK, 1, 1, 0, 0], Fate::Goes, 1, &[HartId(1)]),
     (1, 220, [0x10F00, 0, 0, 0, 0], Fate::Goes, 3, &[HartId(2)]),
     (0, 63, [0, STACK + 0x3E, 100, 0, 0], Fate::Goes, 29, NONE),
@@ -461,22 +476,66 @@ fn check_copy(rt: &impl Abort, guest: &mut Guest) {
     assert_eq!(rt; guest.output(), [0, 1, 0xFF, 1].as_slice());
 }
 
+/// A guest is copied to one that made no call, and to one that went on.
+fn check_copies<'a>(
+    rt: &impl Abort,
+    guest: &mut Guest<'a>,
+    fresh: &mut Guest<'a>,
+    further: &mut Guest<'a>,
+)
+    requires fresh { making fresh.old ≡ making guest.old }
+    requires further { making further.old ≡ making guest.old }
+{
+    check_asked(rt, guest, CALL, &BEGUN);
+    check_asked(rt, further, CALL, &BEGUN);
+    check_asked(rt, further, CALL, &WENT_ON);
+    check_asked(rt, guest, LOAD, &RESERVED);
+    fresh.copy_from(guest);
+    further.copy_from(guest);
+    check_copy(rt, guest);
+    check_copy(rt, fresh);
+    check_copy(rt, further);
+}
+
+/// A guest that is about to begin.
+fn fresh_guest<'a>(
+    alloc: Global,
+    image: &'a Image<'a>,
+    input: &'a [u8],
+) -> Result<Guest<'a>, AllocError>
+    ensures { IfOk result (λ guest.
+        making guest ≡ making (first_guest image.now input.now 5 usual)) }
+{
+    Guest::new(alloc, image, input, 5, Layout::usual())
+}
+
+/// With a third guest that was made as these two.
+fn check_with_third<'a>(
+    rt: &impl Abort,
+    alloc: Global,
+    image: &'a Image<'a>,
+    input: &'a [u8],
+    guest: &mut Guest<'a>,
+    fresh: &mut Guest<'a>,
+) -> Result<(), AllocError>
+    requires guest { making guest.old ≡ making (first_guest image.now input.now 5 usual) }
+    requires fresh { making fresh.old ≡ making guest.old }
+{
+    let mut further = fresh_guest(alloc, image, input)?;
+    check_copies(rt, guest, fresh, &mut further);
+    drop(further);
+    Ok(())
+}
+
 #[test]
 fn a_copied_guest_answers_as_the_other(rt: HostRuntime) -> Result<(), Fail> {
     let image = image(rt.alloc())?;
-    let mut guest = Guest::new(rt.alloc(), &image, &INPUT, 5, Layout::usual())?;
-    let mut fresh = Guest::new(rt.alloc(), &image, &INPUT, 5, Layout::usual())?;
-    let mut further = Guest::new(rt.alloc(), &image, &INPUT, 5, Layout::usual())?;
-    check_asked(&rt, &mut guest, CALL, &BEGUN);
-    check_asked(&rt, &mut further, CALL, &BEGUN);
-    check_asked(&rt, &mut further, CALL, &WENT_ON);
-    check_asked(&rt, &mut guest, LOAD, &RESERVED);
-    fresh.copy_from(&guest);
-    further.copy_from(&guest);
-    check_copy(&rt, &mut guest);
-    check_copy(&rt, &mut fresh);
-    check_copy(&rt, &mut further);
-    Ok(())
+    let mut guest = fresh_guest(rt.alloc(), &image, &INPUT)?;
+    let mut fresh = fresh_guest(rt.alloc(), &image, &INPUT)?;
+    let checked = check_with_third(&rt, rt.alloc(), &image, &INPUT, &mut guest, &mut fresh);
+    drop(fresh);
+    drop(guest);
+    Ok(checked?)
 }
 
 /// The numbers that are stored on the stack, if any are; the net time, the pc, the number
@@ -714,10 +773,7 @@ static TIMES: [Timed; 27] = [
     (None, 200, CALL, 113, [0, STACK], Fate::Goes, 0, [0, 2]),
 ];
 
-#[test]
-fn clocks_and_sleeps_know_net_time(rt: HostRuntime) -> Result<(), Fail> {
-    let image = image(rt.alloc())?;
-    let mut guest = Guest::new(rt.alloc(), &image, &INPUT, 5, Layout::usual())?;
+fn check_times(rt: &impl Abort, guest: &mut Guest) {
     let mut started = HartList::new();
     for &(stored, net, pc, number, [a0, a1], fate, answer, left) in &TIMES {
         if let Some(numbers) = stored {
@@ -732,5 +788,13 @@ fn clocks_and_sleeps_know_net_time(rt: HostRuntime) -> Result<(), Fail> {
             "{number} of {arguments:?} at {net}"
         );
     }
+}
+
+#[test]
+fn clocks_and_sleeps_know_net_time(rt: HostRuntime) -> Result<(), Fail> {
+    let image = image(rt.alloc())?;
+    let mut guest = Guest::new(rt.alloc(), &image, &INPUT, 5, Layout::usual())?;
+    check_times(&rt, &mut guest);
+    drop(guest);
     Ok(())
 }
