@@ -1,7 +1,8 @@
 -- What is known of an answer before it is written.
-use Rattle.std.specs.Prelude.{◌≡◌, ℕ, ◌⊎◌, ◌++◌, codes, Option, Some, None, Result, Ok, Err, IsErrAnd}
+use Rattle.std.specs.Prelude.{◌≡◌, ℕ, ◌⊎◌, ◌++◌, codes, Option, Some, None, Result, Err, IsErrAnd}
 use Rattle.coz_types.specs.Labels.{Text}
 use Rattle.coz_files.specs.Faults.{Rose}
+use Rattle.coz_files.specs.Verdict.{step_verdict}
 use Rattle.profile_reader.specs.declared.fault.BookError.{BookError}
 use Rattle.profile_reader.specs.declared.fault.BookError.TheVariants as book
 use Rattle.coz_page.specs.declared.judge.Ranked.{Ranked}
@@ -35,8 +36,7 @@ fault_verdict fault = refusal (fault_status fault) (fault_line fault)
 
 -- the verdict of a step that came to a value or a fault, and of what follows the value
 abbrev pub verdict_after : {A : Type 0} → Result A Fault → (A → Verdict) → Verdict
-verdict_after (Ok value) next = next value
-verdict_after (Err fault) next = fault_verdict fault
+verdict_after step next = step_verdict fault_verdict step next
 
 -- a profile with its curves, or why there is no page
 abbrev pub Answer : Type 0

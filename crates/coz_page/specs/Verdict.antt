@@ -1,10 +1,9 @@
 -- What the words and the files that the paths hold come to: a status, a text for the output
 -- and a line for the errors.
-use Rattle.std.specs.Prelude.{ℕ, List, [], ◌∷◌, ◌++◌, length, map, nat_le, codes, decimal, Option, Some, None, if◌then◌else◌, string_bytes}
-use Rattle.std.specs.declared.string.String.{String}
-use Rattle.std.specs.declared.alloc.Global.{Global}
+use Rattle.std.specs.Prelude.{List, [], ◌∷◌, ◌++◌, length, nat_le, codes, decimal, Option, Some, None, if◌then◌else◌}
 use Rattle.coz_types.specs.Labels.{Text, is_empty}
 use Rattle.coz_files.specs.Held.{Held, file_at}
+pub use Rattle.coz_files.specs.Verdict.{Verdict, bytes_of, refusal, text_verdict}
 use Rattle.profile_reader.specs.declared.TheConstants.{MAX_PROFILE}
 use Rattle.profile_reader.specs.Grammar.{book_fault}
 use Rattle.profile_reader.specs.Told.{told}
@@ -13,22 +12,7 @@ use Rattle.profile_reader.specs.declared.fault.BookFault.{BookFault}
 use Rattle.profile_reader.specs.ItemNames.{item_name}
 use Rattle.coz_page.specs.Page.{page_text}
 
-pub record Verdict : Type 0 where
-  pub status : ℕ
-  pub text : Text
-  pub line : Text
-
-abbrev pub refusal : ℕ → Text → Verdict
-refusal status line = record { status = status; text = []; line = line }
-
-abbrev pub text_verdict : Text → Verdict
-text_verdict text = record { status = 0; text = text; line = [] }
-
 -- ---- the words
-
--- the words as bytes
-abbrev pub bytes_of : List (String Global) → List Text
-bytes_of words = map string_bytes words
 
 -- the path of the profile: the only word, if it isn't empty
 abbrev pub path_in : List Text → Option Text
