@@ -1,4 +1,5 @@
-//! Tests of the libraries that read programs, their lines, profiles and curves, and nothing else.
+//! Tests of the libraries that read programs, their lines, profiles and curves, and of the buffer
+//! before a sink, and nothing else.
 #![tactic(auto)]
 
 #[cfg(test)]
@@ -21,3 +22,5 @@ mod line_names_tests;
 mod profile_reader_tests;
 #[cfg(test)]
 mod progress_points_tests;
+#[cfg(test)]
+mod put_buffer_tests;
