@@ -1,5 +1,5 @@
 //! The work of a claim: the runs of all pairs of a line.
-ghost use Rattle.std.specs.Prelude.{◌≡◌, ◌<◌, ◌≤◌, Some, length, map, All, IfOk};
+ghost use Rattle.std.specs.Prelude.{◌≡◌, ◌<◌, ◌≤◌, [], Some, length, map, All, IfOk};
 ghost use Rattle.coz_types.specs.declared.TheConstants.{GREATEST_SPEEDUP};
 ghost use Rattle.coz_types.specs.Ranges.{IsSummary};
 ghost use Rattle.experiment_plan.specs.ByLine.{by_line};
@@ -62,31 +62,33 @@ fn run_pair<'a>(
     )
 }
 
-/// The summary of the run of each of some pairs, forked from the lead of their line.
+/// Adds the summary of the run of each of some pairs, forked from the lead of their line.
 fn run_pairs<'a>(
     alloc: Global,
     work: &Work<'a>,
     lead: &Lead<'a>,
     machine: &mut Machine<'a>,
     pairs: &[Experiment],
-) -> Result<Vec<Summary>, AllocError>
+    summaries: &mut Vec<Summary>,
+) -> Result<(), AllocError>
     requires lines { All (λ (pair : Experiment).
         pair.line.0 < length work.now.index.now.lines) pairs.now }
     requires speedups { All (λ (pair : Experiment). pair.speedup ≤ GREATEST_SPEEDUP) pairs.now }
     requires lead { All (λ (pair : Experiment).
         parts_made lead.now ≡ made_for work.now (Some pair.line.0) 0) pairs.now }
     requires machine { IsFor work.now machine.old }
+    requires summaries { summaries.old.items ≡ [] }
     ensures machine { IsFor work.now machine.new }
-    ensures summaries { IfOk result (λ summaries.
-        summaries.items ≡ map (summary_of_pair work.now) pairs.now) }
-    ensures ranges { IfOk result (λ summaries.
-        All (IsSummary (length work.now.points.now.lines)) summaries.items) }
+    ensures summaries { IfOk result (λ _.
+        summaries.new.items ≡ map (summary_of_pair work.now) pairs.now) }
+    ensures ranges { IfOk result (λ _.
+        All (IsSummary (length work.now.points.now.lines)) summaries.new.items) }
 {
-    let mut summaries = Vec::with_capacity(alloc, pairs.len())?;
     for pair in pairs {
-        summaries.push(run_pair(alloc, work, lead, machine, *pair)?)?;
+        let summary = run_pair(alloc, work, lead, machine, *pair)?;
+        summaries.push(summary)?;
     }
-    Ok(summaries)
+    Ok(())
 }
 
 /// What the work of a claim gives: the summary of the run of each pair of the line at that place
@@ -106,6 +108,21 @@ pub fn summaries_at<'a>(
 {
     let pairs = work.plan.of_line(claim);
     take_up(work, &mut runner.lead, pairs[0].line);
-    let summaries = run_pairs(alloc, work, &runner.lead, &mut runner.machine, pairs)?;
-    Ok(Items::new(summaries))
+    let mut summaries = Vec::with_capacity(alloc, pairs.len())?;
+    let lead = &runner.lead;
+    match run_pairs(
+        alloc,
+        work,
+        lead,
+        &mut runner.machine,
+        pairs,
+        &mut summaries,
+    ) {
+        Ok(()) => Ok(Items::new(summaries)),
+        Err(error) => {
+            // By one call, since a drop in place is proved part by part.
+            drop(summaries);
+            Err(error)
+        }
+    }
 }

@@ -11,7 +11,7 @@ ghost use Rattle.profile_pool.specs.Summaries.{summaries_of};
 ghost use Rattle.profile_pool.specs.Made.{AreFor};
 ghost use Rattle.profile_pool.specs.Work.{summary_of_pair, work_at, IsWork};
 ghost use Rattle.profile_pool.specs.Worked.{Worked, EachClaim, AreSummaries};
-ghost use Rattle.profile_pool.specs.Jobs.{IsJob, IsAnswer};
+ghost use Rattle.profile_pool.specs.Jobs.{HaveWorked, IsJob, IsAnswer};
 
 use crate::claimed::{Claimed, summaries_at};
 use crate::job::{Answer, Job, Runner, make_runner};
@@ -34,22 +34,24 @@ fn draw_and_work<'a, G: Gate>(
     work: &Work<'a>,
     claims: &Claims,
     worker: u32,
-    mut seat: ClaimSeat,
+    seat: &mut ClaimSeat,
     runner: &mut Runner<'a>,
+    done: &mut Vec<Claimed>,
     gate: &G,
-) -> Result<Answer, AllocError>
+) -> Result<(), AllocError>
     requires work { IsWork work.now × (bound_of claims.now ≡ length (by_line work.now.plan.now)) }
-    requires seat { IsSeatOf claims.now seat × (hand_of seat ≡ hand (bound_of claims.now + 1) []) }
+    requires seat { IsSeatOf claims.now seat.old
+        × (hand_of seat.old ≡ hand (bound_of claims.now + 1) []) }
     requires runner { AreFor work.now runner.old }
-    ensures { IfOk result (IsAnswer work.now claims.now) }
+    requires done { done.old.items ≡ [] }
+    ensures { IfOk result (λ _. HaveWorked work.now claims.now seat.new done.new.items) }
 {
-    let mut done = Vec::new(alloc);
-    while let Some(claim) = claims.draw(&mut seat) {
+    while let Some(claim) = claims.draw(seat) {
         gate.claimed(worker, claim);
         let summaries = summaries_at(alloc, work, runner, claim)?;
         done.push(Claimed { claim, summaries })?;
     }
-    Ok(Answer { seat, done })
+    Ok(())
 }
 
 /// Does a worker's job.
@@ -66,17 +68,34 @@ fn work_through<'a, G: Gate>(
 {
     let Job {
         worker,
-        seat,
+        mut seat,
         mut runner,
     } = job;
-    let answer = draw_and_work(alloc, work, claims, worker, seat, &mut runner, gate);
+    let mut done = Vec::new(alloc);
+    let drawn = draw_and_work(
+        alloc,
+        work,
+        claims,
+        worker,
+        &mut seat,
+        &mut runner,
+        &mut done,
+        gate,
+    );
     // By one call, since a drop in place is proved part by part.
     drop(runner);
-    answer
+    let answer = Answer { seat, done };
+    match drawn {
+        Ok(()) => Ok(answer),
+        Err(error) => {
+            drop(answer);
+            Err(error)
+        }
+    }
 }
 
-/// A seat for each worker, with one turn more than there are claims, what it runs lines by,
-/// and the seat that is left.
+/// A seat for each worker, with one turn more than there are claims, and what it runs lines by.
+/// What comes back is the seat that is left.
 fn deal<'a>(
     alloc: Global,
     work: &Work<'a>,
@@ -84,31 +103,33 @@ fn deal<'a>(
     first: ClaimSeat,
     bound: u32,
     workers: u32,
-) -> Result<(ClaimSeat, Vec<Job<'a>>), AllocError>
+    jobs: &mut Vec<Job<'a>>,
+) -> Result<ClaimSeat, AllocError>
     requires work { IsWork work.now }
     requires seat { IsSeatOf claims.now first × (hand_of first ≡ hand (2 ^ 40) []) }
     requires bound { bound ≡ bound_of claims.now }
     requires workers { workers ≤ 16 }
-    ensures rest { IfOk result (λ dealt.
-        IsSeatOf claims.now dealt.0 × ((hand_of dealt.0).numbers ≡ [])) }
-    ensures turns { IfOk result (λ dealt.
-        (hand_of dealt.0).turns + workers * (bound + 1) ≡ 2 ^ 40) }
-    ensures jobs { IfOk result (λ dealt.
-        (vec_len dealt.1 ≡ workers) × All (IsJob work.now claims.now) dealt.1.items) }
+    requires jobs { jobs.old.items ≡ [] }
+    ensures rest { IfOk result (λ rest.
+        IsSeatOf claims.now rest × ((hand_of rest).numbers ≡ [])) }
+    ensures turns { IfOk result (λ rest.
+        (hand_of rest).turns + workers * (bound + 1) ≡ 2 ^ 40) }
+    ensures jobs { IfOk result (λ rest.
+        (vec_len jobs.new ≡ workers) × All (IsJob work.now claims.now) jobs.new.items) }
 {
     let turns = u64::from(bound) + 1;
     let mut seat = first;
-    let mut jobs = Vec::new(alloc);
     for worker in 0..workers {
+        let runner = make_runner(alloc, work)?;
         let (rest, part) = claims.split(seat, turns);
         seat = rest;
         jobs.push(Job {
             worker,
             seat: part,
-            runner: make_runner(alloc, work)?,
+            runner,
         })?;
     }
-    Ok((seat, jobs))
+    Ok(seat)
 }
 
 /// Has each worker work in a thread of its own, where one can be made, and else one after another.
@@ -185,6 +206,44 @@ fn in_order(alloc: Global, mut done: Vec<Claimed>) -> Result<Vec<Summary>, Alloc
     Ok(summaries)
 }
 
+/// The joined seat of so many workers, once all claims are drawn, and what they did.
+fn run_claims<'a, R: Threads + Sync, G: Gate>(
+    rt: &R,
+    alloc: Global,
+    work: &Work<'a>,
+    claims: &Claims,
+    first: ClaimSeat,
+    workers: u32,
+    gate: &G,
+) -> Result<Answer, AllocError>
+    requires work { IsWork work.now × (bound_of claims.now ≡ length (by_line work.now.plan.now)) }
+    requires seat { IsSeatOf claims.now first × (hand_of first ≡ hand (2 ^ 40) []) }
+    requires workers { workers ≤ 16 }
+    ensures seat { IfOk result (λ a. IsSeatOf claims.now a.seat) }
+    ensures worked { IfOk result (λ a. Worked (work_at work.now) (bound_of claims.now)
+        (2 ^ 40) workers (hand_of a.seat) a.done.items) }
+    ensures ranges { IfOk result (λ a.
+        AreSummaries (length work.now.points.now.lines) a.done.items) }
+{
+    let bound = work.plan.line_count();
+    let mut jobs = Vec::new(alloc);
+    let rest = match deal(alloc, work, claims, first, bound, workers, &mut jobs) {
+        Ok(rest) => rest,
+        Err(error) => {
+            // By one call, since a drop in place is proved part by part.
+            drop(jobs);
+            return Err(error);
+        }
+    };
+    match run_jobs(rt, alloc, work, claims, jobs, gate) {
+        Ok(answers) => gather(alloc, work, claims, rest, answers),
+        Err(error) => {
+            drop(rest);
+            Err(error)
+        }
+    }
+}
+
 /// The summary of the run of each pair of a plan, in the plan's order.
 fn run_lines<'a, R: Threads + Sync, G: Gate>(
     rt: &R,
@@ -201,13 +260,17 @@ fn run_lines<'a, R: Threads + Sync, G: Gate>(
     ensures ranges { IfOk result (λ summaries.
         All (IsSummary (length work.now.points.now.lines)) summaries.items) }
 {
-    let bound = work.plan.line_count();
-    let (claims, first) = Claims::new(alloc, bound)?;
-    let (rest, jobs) = deal(alloc, work, &claims, first, bound, workers)?;
-    let answers = run_jobs(rt, alloc, work, &claims, jobs, gate)?;
-    let Answer { seat, done } = gather(alloc, work, &claims, rest, answers)?;
-    claims.finish(seat);
-    in_order(alloc, done)
+    let (claims, first) = Claims::new(alloc, work.plan.line_count())?;
+    match run_claims(rt, alloc, work, &claims, first, workers, gate) {
+        Ok(Answer { seat, done }) => {
+            claims.finish(seat);
+            in_order(alloc, done)
+        }
+        Err(error) => {
+            drop(claims);
+            Err(error)
+        }
+    }
 }
 
 /// The summary of the run of each pair of a plan, in the plan's order, whatever the number

@@ -25,11 +25,14 @@ run_pairs-requires-clause-lead c =
     let P : LineId → Type 0 = λ line. parts_made c.take_up.new.lead ≡ made_for c.args.work.now (Some line.0) 0 in
     of_one_line P pairs one _ c.take_up.ensures
 
-pub returns-clause-runner : goal.returns-clause-runner
-returns-clause-runner c = (for_any c.args.work.now (Some _) 0 c.take_up.new.lead c.take_up.ensures, c.run_pairs.ensures.machine)
+pub returns-in-Ok-clause-runner : goal.returns-in-Ok-clause-runner
+returns-in-Ok-clause-runner c = (for_any c.args.work.now (Some _) 0 c.take_up.new.lead c.take_up.ensures, c.run_pairs.ensures.machine)
 
-pub returns-clause-summaries : goal.returns-clause-summaries
-returns-clause-summaries c =
+pub returns-in-Ok-clause-summaries : goal.returns-in-Ok-clause-summaries
+returns-in-Ok-clause-summaries c =
     c.new.ensures
-    ∙ c.in_ok-summaries.ensures.summaries
+    ∙ c.in-Ok.ensures.summaries
     ∙ ap (map (summary_of_pair c.args.work.now)) (sym (get_or_from_slice_get (by_line c.args.work.now.plan.now) c.args.claim c.of_line-pairs.result.now [] c.of_line-pairs.ensures.pairs))
+
+pub returns-in-Err-clause-runner : goal.returns-in-Err-clause-runner
+returns-in-Err-clause-runner c = (for_any c.args.work.now (Some _) 0 c.take_up.new.lead c.take_up.ensures, c.run_pairs.ensures.machine)

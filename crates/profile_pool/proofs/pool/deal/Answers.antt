@@ -17,5 +17,5 @@ loop-worker-preserved c =
       search (rules, more),
       search (rules, more),
       search rules,
-      All-same R _ _ c.in_ok-push.ensures.items (All-push R _ _ before.5 (c.split-rest.ensures.seats.1, search rules, c.in_ok-make_runner.ensures)),
+      All-same R _ _ c.in_ok-push.ensures.items (All-push R _ _ before.5 (c.split-rest.ensures.seats.1, search rules, c.in_ok-runner.ensures)),
     )

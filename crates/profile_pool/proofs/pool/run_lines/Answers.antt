@@ -11,26 +11,26 @@ use Rattle.profile_pool.proofs.Ordered.{each_claim, each_summary, each_answered}
 use Rattle.profile_pool.proofs.Lines.{line_by_line}
 use Rattle.profile_pool.proofs.pool.run_lines.Goals as goal
 
-pub returns-clause-summaries : goal.returns-clause-summaries
-returns-clause-summaries g c =
+pub returns-in-Ok-clause-summaries : goal.returns-in-Ok-clause-summaries
+returns-in-Ok-clause-summaries g c =
     let work = c.args.work.now in
     let lines = by_line work.plan.now in
     let bound : bound_of c.in_ok-claims.claims ≡ length lines = search rules in
-    let each : EachClaim (work_at work) (length lines) c.in_ok-seat.field-0.done.items =
-    rw (sym bound) (each_claim (work_at work) _ _ _ _ _ _ c.in_ok-seat.ensures.worked (search rules) c.finish.ensures.each) in
+    let each : EachClaim (work_at work) (length lines) c.in-Ok.field-0.done.items =
+    rw (sym bound) (each_claim (work_at work) _ _ _ _ _ _ c.in-Ok.ensures.worked (search rules) c.finish.ensures.each) in
     let P : List Summary → Type 0 = λ summaries. IfOk c.in_order.result (λ v. v.items ≡ summaries) in
     subst P
-    (line_by_line (summary_of_pair work) lines ∙ ap (λ (ps : List Experiment). map (summary_of_pair work) ps) c.line_count-bound.ensures.all)
+    (line_by_line (summary_of_pair work) lines ∙ ap (λ (ps : List Experiment). map (summary_of_pair work) ps) c.line_count.ensures.all)
     (c.in_order.ensures (work_at work) (length lines) each)
 
-pub returns-clause-ranges : goal.returns-clause-ranges
-returns-clause-ranges g c =
+pub returns-in-Ok-clause-ranges : goal.returns-in-Ok-clause-ranges
+returns-in-Ok-clause-ranges g c =
     let work = c.args.work.now in
     let points = length work.points.now.lines in
     let lines = by_line work.plan.now in
     let bound : bound_of c.in_ok-claims.claims ≡ length lines = search rules in
-    let each : EachClaim (work_at work) (length lines) c.in_ok-seat.field-0.done.items =
-    rw (sym bound) (each_claim (work_at work) _ _ _ _ _ _ c.in_ok-seat.ensures.worked (search rules) c.finish.ensures.each) in
+    let each : EachClaim (work_at work) (length lines) c.in-Ok.field-0.done.items =
+    rw (sym bound) (each_claim (work_at work) _ _ _ _ _ _ c.in-Ok.ensures.worked (search rules) c.finish.ensures.each) in
     each_answered _ (IsSummary points) (flat_map (work_at work) (range_with_len 0 (length lines))) _
     (c.in_order.ensures (work_at work) (length lines) each)
-    (each_summary (IsSummary points) (work_at work) (length lines) _ each c.in_ok-seat.ensures.ranges)
+    (each_summary (IsSummary points) (work_at work) (length lines) _ each c.in-Ok.ensures.ranges)
