@@ -32,7 +32,6 @@ use Rattle.coz_types.specs.declared.record.Summary.{Summary}
 use Rattle.machines.specs.Standing.{delayed_record}
 use Rattle.progress_points.specs.Points.{Points, IsPoints}
 use Rattle.profile_book.specs.declared.profile.Profile.{Profile}
-use Rattle.profile_pool.specs.Summaries.{summary_in}
 use Rattle.rv_asm.specs.Assembled.{Program, IsProgram, Fails, assembled}
 use Rattle.rv_asm.specs.declared.AsmFault.{AsmFault}
 use Rattle.rv_asm.specs.declared.AsmError.{AsmError}
@@ -275,17 +274,23 @@ module _ (image : ImageParts) (index : Index) (points : Points) (point : ℕ) (p
   abbrev on_points : List ℕ → List Pair → List Summary
   on_points ps all = map (λ pair. summary_on index.lines ps pair (delayed_record (experiment_on (runs_in image index []) 100000000 ps pair))) all
 
-  pub profile_is : (labels : List (List ℕ)) (summaries : List Summary) → IsPoints index (point ∷ []) points → pairs ≡ trial_plan index.lines → labels ≡ map (label_at index.lines) (point ∷ [])
+  pub summaries_of_trial : (summaries : List Summary) → IsPoints index (point ∷ []) points → pairs ≡ trial_plan index.lines
       → summaries ≡ summaries_of image index points [] 100000000 pairs
-      → ◌≡◌ {A = Profile} (record { budget = 100000000; points = labels; summaries = summaries }) (trial_profile (runs_in image index []) index.lines point)
+      → summaries ≡ (trial_profile (runs_in image index []) index.lines point).summaries
   unfolding trial_profile
-  profile_is labels summaries are planned named ran =
+  summaries_of_trial summaries are planned ran =
       let here : IsPoints index points.lines points = subst (λ (ps : List ℕ). IsPoints index ps points) (sym are.lines) are in
-      same_profile index.lines (runs_in image index []) 100000000 (point ∷ []) (trial_plan index.lines) labels summaries named
-      (ran ∙ summaries_are image index points [] 100000000 pairs here ∙ ap (λ (ps : List ℕ). on_points ps pairs) are.lines ∙ ap (on_points (point ∷ [])) planned)
+      ran ∙ summaries_are image index points [] 100000000 pairs here ∙ ap (λ (ps : List ℕ). on_points ps pairs) are.lines ∙ ap (on_points (point ∷ [])) planned
 
-  pub as_many : (summaries : List Summary) → pairs ≡ trial_plan index.lines → summaries ≡ summaries_of image index points [] 100000000 pairs → length summaries ≡ length (trial_plan index.lines)
-  as_many summaries planned ran = ap length ran ∙ length-map pairs (λ (pair : Pair). summary_in image index points [] 100000000 pair.line.0 pair.speedup) ∙ ap length planned
+module _ (runs : Runs) (lines : List Line) (point : ℕ) where
+  pub profile_is : (labels : List (List ℕ)) (summaries : List Summary) → labels ≡ map (label_at lines) (point ∷ []) → summaries ≡ (trial_profile runs lines point).summaries
+      → ◌≡◌ {A = Profile} (record { budget = 100000000; points = labels; summaries = summaries }) (trial_profile runs lines point)
+  unfolding trial_profile
+  profile_is labels summaries named ran = same_profile lines runs 100000000 (point ∷ []) (trial_plan lines) labels summaries named ran
+
+  pub as_many : length (trial_profile runs lines point).summaries ≡ length (trial_plan lines)
+  unfolding trial_profile
+  as_many = length-map (trial_plan lines) (λ (pair : Pair). summary_on lines (point ∷ []) pair (delayed_record (experiment_on runs 100000000 (point ∷ []) pair)))
 
 -- ---- the verdict
 
@@ -300,17 +305,12 @@ pub judged_as : (source : Source) (lines : List Line) (runs : Runs) (point : ℕ
 unfolding trial_judging
 judged_as source lines runs point is = sym (ap (λ (r : Result ℕ Text). named_verdict r (λ point. trial_printed source lines (trial_profile runs lines point))) is)
 
--- what is printed of a profile is the verdict of the file
-pub printed_is : (source : Source) (file : List ℕ) (image : ImageParts) (table : Table) (index : Index) (point status : ℕ) (profile : Profile) (text : List ℕ)
+-- the verdict by an index is that of the file
+pub file_judged : (source : Source) (file : List ℕ) (image : ImageParts) (table : Table) (index : Index)
     → IsIndex table image.areas index → ((next : ImageParts → Table → Verdict) → next image table ≡ program_verdict file next)
-    → trial_point source.point index.lines ≡ Ok point → profile ≡ trial_profile (runs_in image index []) index.lines point
-    → status ≡ (profile_verdict profile).status → text ≡ trial_text source index.lines profile
-    → ◌≡◌ {A = Verdict} (record { status = status; text = text; line = [] }) (file_verdict (trial_judging source) file [])
-printed_is source file image table index point status profile text is_index read found_at is low written =
-    ap₂ (λ (s : ℕ) (t : List ℕ). record { status = s; text = t; line = [] }) low written
-    ∙ ap (trial_printed source index.lines) is
-    ∙ judged_as source index.lines (runs_in image index []) point found_at
-    ∙ indexed image table [] index is_index (trial_judging source)
+    → trial_judging source index.lines (runs_in image index []) ≡ file_verdict (trial_judging source) file []
+file_judged source file image table index is_index read =
+    indexed image table [] index is_index (trial_judging source)
     ∙ read (λ (i : ImageParts) (t : Table). trial_judging source (lines_in t i.areas) (experiment_by_table i t []))
 
 -- ---- answers

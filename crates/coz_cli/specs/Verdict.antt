@@ -6,6 +6,7 @@ use Rattle.coz_types.specs.declared.ending.Ending.{Ending}
 use Rattle.coz_types.specs.declared.ending.Ending.TheVariants.{Exited}
 use Rattle.coz_types.specs.declared.record.Summary.{Summary}
 use Rattle.coz_files.specs.Held.{Held, file_at}
+pub use Rattle.coz_files.specs.Verdict.{Verdict, refusal, text_verdict}
 use Rattle.coz_cli.specs.Words.{request_of}
 use Rattle.coz_types.specs.Image.{ImageParts}
 use Rattle.elf_load.specs.declared.ElfFault.{ElfFault}
@@ -40,18 +41,6 @@ use Rattle.coz_cli.specs.LineTable.{table_in}
 use Rattle.coz_cli.specs.FaultLines.{program_line, table_line, source_line, no_line_line, points_line, plan_line, book_line}
 use Rattle.coz_cli.specs.Profiled.{all_lines, pairs_of, profile_of}
 use Rattle.coz_cli.specs.Trial.{trial_file, trial_point, trial_profile, trial_program, trial_text}
-
-pub record Verdict : Type 0 where
-  pub status : ℕ
-  pub text : List ℕ
-  pub line : List ℕ
-
-abbrev pub refusal : ℕ → List ℕ → Verdict
-refusal status line = record { status = status; text = []; line = line }
-
--- all is printed, and nothing was run
-abbrev pub text_verdict : List ℕ → Verdict
-text_verdict text = record { status = 0; text = text; line = [] }
 
 abbrev pub has_exited : Ending → Bool
 has_exited (Exited code) = true

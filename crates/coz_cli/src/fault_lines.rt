@@ -1,14 +1,13 @@
 //! The lines of faults, and their statuses.
 ghost use Rattle.std.specs.Prelude.{◌≡◌, ◌++◌, codes, decimal};
-ghost use Rattle.coz_files.specs.Puts.{Puts, Continues};
+ghost use Rattle.coz_files.specs.Puts.{Puts};
 ghost use Rattle.coz_cli.specs.FaultLines.{source_line};
 ghost use Rattle.coz_cli.specs.Answer.{fault_status, fault_line};
 ghost use Rattle.coz_cli.specs.Serve.{IsPut};
 
 use crate::fault::Fault;
 use crate::kinds::{asm_kind_name, elf_kind_name, line_kind_name};
-use coz_files::{MEMORY_STATUS, PutAnswer, Sink, put_next};
-use itoa::Buffer;
+use coz_files::{MEMORY_STATUS, PutAnswer, Sink, put_at, put_next, put_number, put_three};
 use rv_asm::AsmFault;
 
 fn status_of(fault: Fault) -> u8
@@ -28,39 +27,6 @@ fn status_of(fault: Fault) -> u8
         Fault::Source(_) => 11,
         Fault::Profile(_) => 12,
     }
-}
-
-/// Puts three pieces, one behind the other.
-fn put_three<S: Sink>(sink: &mut S, first: &[u8], second: &[u8], third: &[u8]) -> PutAnswer
-    ensures { Puts S.holds S.faults sink.old sink.new result
-        (first.now ++ second.now ++ third.now) }
-{
-    match sink.put(first) {
-        PutAnswer::Done => match sink.put(second) {
-            PutAnswer::Done => sink.put(third),
-            PutAnswer::Failed => PutAnswer::Failed,
-        },
-        PutAnswer::Failed => PutAnswer::Failed,
-    }
-}
-
-fn put_number<S: Sink>(sink: &mut S, so_far: PutAnswer, n: u64) -> PutAnswer
-    ensures { Continues S.holds S.faults sink.old sink.new so_far result (decimal n) }
-{
-    let mut buffer = Buffer::new();
-    put_next(sink, so_far, buffer.format(n).as_bytes())
-}
-
-/// Puts the line of a fault: what it is of, its kind and its place.
-fn put_at<S: Sink>(sink: &mut S, before: &[u8], kind: &[u8], place: u64) -> PutAnswer
-    ensures { Puts S.holds S.faults sink.old sink.new result
-        (before.now ++ kind.now ++ codes " at " ++ decimal place ++ codes "\n") }
-{
-    let answer = put_next(sink, PutAnswer::Done, before);
-    let answer = put_next(sink, answer, kind);
-    let answer = put_next(sink, answer, b" at ");
-    let answer = put_number(sink, answer, place);
-    put_next(sink, answer, b"\n")
 }
 
 /// Puts the line of a count that is too large: what it is of, and its unit.

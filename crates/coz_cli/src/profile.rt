@@ -10,7 +10,7 @@ ghost use Rattle.progress_points.specs.Points.{IsPoints};
 ghost use Rattle.experiment_plan.specs.declared.experiment.Experiment.{Experiment};
 ghost use Rattle.experiment_plan.specs.Selected.{ids};
 ghost use Rattle.coz_words.specs.Request.{IsFit};
-ghost use Rattle.coz_cli.specs.Experiment.{runs_in};
+ghost use Rattle.coz_cli.specs.Experiment.{Runs, runs_in};
 ghost use Rattle.coz_cli.specs.Profiled.{label_at, pairs_of, profile_of};
 ghost use Rattle.coz_cli.specs.Verdict.{Verdict, has_exited, plan_verdict, profile_verdict, profiled_verdict};
 ghost use Rattle.coz_cli.specs.Answer.{verdict_of, verdict_after, printed_verdict, IsMemory, IsRead};
@@ -102,6 +102,39 @@ fn planned<'r>(alloc: Global, lines: &[LineId], speedups: &[u8]) -> Result<Plan,
     Ok(plan)
 }
 
+/// The points and the plan of a profile.
+#[derive(Drop)]
+struct AskedPlan {
+    points: Points,
+    plan: Plan,
+}
+
+/// What the runs that a request asks for are run with, if the program has the lines
+/// that are named and the plan isn't too large.
+fn asked_plan<'r>(
+    alloc: Global,
+    index: &LineIndex,
+    request: &'r Request,
+) -> Result<AskedPlan, Fault<'r>>
+    requires fit { IsFit request.now }
+    ensures no_read { IsRead result → ⊥ }
+    ensures settled { (IsMemory result → ⊥) → (runs : Runs) →
+        verdict_after result (λ asked. profile_verdict
+        (profile_of runs index.now.lines request.now.budget asked.points.lines asked.plan))
+        ≡ profiled_verdict request.now index.now.lines runs }
+    ensures points { IfOk result (λ asked. IsPoints index.now asked.points.lines asked.points) }
+    ensures few { IfOk result (λ asked. length asked.points.lines ≤ 64) }
+    ensures below { IfOk result (λ asked.
+        All (λ line. line < length index.now.lines) asked.points.lines) }
+    ensures lines { IfOk result (λ asked.
+        All (λ (pair : Experiment). pair.line.0 < length index.now.lines) asked.plan) }
+{
+    let lines = selected_lines(alloc, index, bytes_of(&request.lines))?;
+    let points = progress_points(alloc, index, bytes_of(&request.progress))?;
+    let plan = planned(alloc, &lines, request.speedups.as_slice())?;
+    Ok(AskedPlan { points, plan })
+}
+
 /// What is written of the runs of a plan.
 fn plan_answer<'r, R: Threads + Sync, G: Gate>(
     rt: &R,
@@ -164,10 +197,16 @@ pub fn profile_answer<'r, R: Threads + Sync, G: Gate>(
     ensures settled { (IsMemory result → ⊥) → verdict_of result ≡
         profiled_verdict request.now index.now.lines (runs_in image.now index.now input.now) }
 {
-    let lines = selected_lines(alloc, index, bytes_of(&request.lines))?;
-    let points = progress_points(alloc, index, bytes_of(&request.progress))?;
-    let plan = planned(alloc, &lines, request.speedups.as_slice())?;
+    let asked = asked_plan(alloc, index, request)?;
     plan_answer(
-        rt, alloc, image, index, &points, input, &plan, request, gate,
+        rt,
+        alloc,
+        image,
+        index,
+        &asked.points,
+        input,
+        &asked.plan,
+        request,
+        gate,
     )
 }

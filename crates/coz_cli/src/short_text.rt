@@ -6,7 +6,7 @@ ghost use Rattle.coz_cli.specs.Text.{net_outcome_text, net_visit_text, net_visit
 ghost use Rattle.coz_cli.specs.Record.{net_record_of};
 
 use crate::record::ShortRecord;
-use crate::text::{push_ending, push_line, push_number, push_output};
+use crate::text::{push_ending, push_line, push_named, push_output};
 use coz_types::Visit;
 use std::alloc::{AllocError, Global};
 
@@ -28,10 +28,8 @@ fn push_visit(text: &mut Vec<u8>, visit: Visit) -> Result<(), AllocError>
     requires { visit.delay ≤ visit.time }
     ensures { OnOk result (text.new.items ≡ text.old.items ++ net_visit_text (net_of visit)) }
 {
-    text.extend_from_slice(b"visit ")?;
-    push_number(text, visit.point.0 as u64)?;
-    text.extend_from_slice(b" hart ")?;
-    push_number(text, visit.hart.0 as u64)?;
+    push_named(text, b"visit ", visit.point.0 as u64)?;
+    push_named(text, b" hart ", visit.hart.0 as u64)?;
     push_line(text, b" net ", visit.time - visit.delay)
 }
 

@@ -5,27 +5,35 @@ ghost use Rattle.virtual_run.specs.DelayedRun.{visit_as};
 ghost use Rattle.coz_types.specs.Endings.{address_text, ending_text};
 ghost use Rattle.coz_cli.specs.Text.{number_line, outcome_text, hart_text, harts_text, visit_text, visits_text, output_text, run_text};
 ghost use Rattle.coz_cli.specs.Record.{record_of};
+ghost use Rattle.coz_types.specs.declared.ending.Ending.TheVariants.{Trapped};
 ghost use Rattle.coz_types.specs.declared.record.Visit.{Visit};
 
 use crate::record::RunRecord;
-use coz_types::{Account, Ending, HexDigits, Visit};
+use coz_types::{Account, Ending, HexDigits, Trap, Visit};
 use itoa::Buffer;
 use std::alloc::{AllocError, Global};
 
 /// Appends a number in decimal. Only want of memory stands against it.
-pub fn push_number(text: &mut Vec<u8>, n: u64) -> Result<(), AllocError>
+fn push_number(text: &mut Vec<u8>, n: u64) -> Result<(), AllocError>
     ensures { OnOk result (text.new.items ≡ text.old.items ++ decimal n) }
 {
     let mut buffer = Buffer::new();
     text.extend_from_slice(buffer.format(n).as_bytes())
 }
 
+/// Appends a name and a number in decimal. Only want of memory stands against it.
+pub fn push_named(text: &mut Vec<u8>, name: &[u8], n: u64) -> Result<(), AllocError>
+    ensures { OnOk result (text.new.items ≡ text.old.items ++ (name.now ++ decimal n)) }
+{
+    text.extend_from_slice(name)?;
+    push_number(text, n)
+}
+
 /// Appends a line of a name and a number. Only want of memory stands against it.
 pub fn push_line(text: &mut Vec<u8>, name: &[u8], n: u64) -> Result<(), AllocError>
     ensures { OnOk result (text.new.items ≡ text.old.items ++ number_line name.now n) }
 {
-    text.extend_from_slice(name)?;
-    push_number(text, n)?;
+    push_named(text, name, n)?;
     text.extend_from_slice(b"\n")
 }
 
@@ -37,27 +45,25 @@ pub fn push_address(text: &mut Vec<u8>, address: u64) -> Result<(), AllocError>
     text.extend_from_slice(HexDigits::new(address).bytes())
 }
 
+/// Appends what a trap is of. Only want of memory stands against it.
+fn push_trap(text: &mut Vec<u8>, trap: Trap) -> Result<(), AllocError>
+    ensures { OnOk result (text.new.items ≡ text.old.items ++ ending_text (Trapped trap)) }
+{
+    text.extend_from_slice(b"trapped:")?;
+    text.extend_from_slice(trap.cause.name())?;
+    push_named(text, b":", trap.hart.0 as u64)?;
+    text.extend_from_slice(b":")?;
+    push_address(text, trap.pc)
+}
+
 /// Appends how a run ended. Only want of memory stands against it.
 pub fn push_ending(text: &mut Vec<u8>, ending: Ending) -> Result<(), AllocError>
     ensures { OnOk result (text.new.items ≡ text.old.items ++ ending_text ending) }
 {
     match ending {
-        Ending::Exited(code) => {
-            text.extend_from_slice(b"exited:")?;
-            push_number(text, code as u64)
-        }
-        Ending::Trapped(trap) => {
-            text.extend_from_slice(b"trapped:")?;
-            text.extend_from_slice(trap.cause.name())?;
-            text.extend_from_slice(b":")?;
-            push_number(text, trap.hart.0 as u64)?;
-            text.extend_from_slice(b":")?;
-            push_address(text, trap.pc)
-        }
-        Ending::Unsupported(number) => {
-            text.extend_from_slice(b"unsupported:")?;
-            push_number(text, number)
-        }
+        Ending::Exited(code) => push_named(text, b"exited:", code as u64),
+        Ending::Trapped(trap) => push_trap(text, trap),
+        Ending::Unsupported(number) => push_named(text, b"unsupported:", number),
         Ending::Clock => text.extend_from_slice(b"clock"),
         Ending::OutputFull => text.extend_from_slice(b"output-full"),
         Ending::VisitsFull => text.extend_from_slice(b"visits-full"),
@@ -87,12 +93,9 @@ fn push_hart(text: &mut Vec<u8>, number: u64, account: Account) -> Result<(), Al
     ensures { OnOk result
         (text.new.items ≡ text.old.items ++ hart_text number (account_as account)) }
 {
-    text.extend_from_slice(b"hart ")?;
-    push_number(text, number)?;
-    text.extend_from_slice(b" own ")?;
-    push_number(text, account.own)?;
-    text.extend_from_slice(b" paused ")?;
-    push_number(text, account.paused)?;
+    push_named(text, b"hart ", number)?;
+    push_named(text, b" own ", account.own)?;
+    push_named(text, b" paused ", account.paused)?;
     push_line(text, b" credited ", account.credited)
 }
 
@@ -112,14 +115,10 @@ fn push_visit(text: &mut Vec<u8>, visit: Visit) -> Result<(), AllocError>
     requires { visit.delay ≤ visit.time }
     ensures { OnOk result (text.new.items ≡ text.old.items ++ visit_text (visit_as visit)) }
 {
-    text.extend_from_slice(b"visit ")?;
-    push_number(text, visit.point.0 as u64)?;
-    text.extend_from_slice(b" hart ")?;
-    push_number(text, visit.hart.0 as u64)?;
-    text.extend_from_slice(b" time ")?;
-    push_number(text, visit.time)?;
-    text.extend_from_slice(b" delay ")?;
-    push_number(text, visit.delay)?;
+    push_named(text, b"visit ", visit.point.0 as u64)?;
+    push_named(text, b" hart ", visit.hart.0 as u64)?;
+    push_named(text, b" time ", visit.time)?;
+    push_named(text, b" delay ", visit.delay)?;
     push_line(text, b" net ", visit.time - visit.delay)
 }
 

@@ -8,11 +8,12 @@ ghost use Rattle.coz_types.specs.declared.LineId.{LineId};
 ghost use Rattle.work_gen.specs.Text.{view};
 ghost use Rattle.work_gen.specs.Accepted.{IsAccepted};
 ghost use Rattle.experiment_plan.specs.Selected.{ids};
+ghost use Rattle.experiment_plan.specs.declared.experiment.Experiment.{Experiment};
 ghost use Rattle.coz_cli.specs.Experiment.{runs_in};
 ghost use Rattle.coz_cli.specs.Profiled.{label_at};
 ghost use Rattle.coz_cli.specs.Trial.{IsTrialFile, tenths, trial_plan, trial_point, trial_profile};
-ghost use Rattle.coz_cli.specs.Verdict.{file_verdict, trial_judging, trial_verdict};
-ghost use Rattle.coz_cli.specs.Answer.{IsMemoryFault, IsOfTrial, printed_verdict};
+ghost use Rattle.coz_cli.specs.Verdict.{file_verdict, trial_judging, trial_printed, trial_verdict};
+ghost use Rattle.coz_cli.specs.Answer.{IsMemoryFault, IsOfTrial};
 
 use crate::answer::{Answer, Printed, Text};
 use crate::fault::Fault;
@@ -22,9 +23,9 @@ use crate::selection::points_of;
 use crate::trial_text::trial_text;
 use coz_files::Gate;
 use coz_lists::Items;
-use coz_types::{Image, Label, LineId};
+use coz_types::{Image, Label, LineId, Summary};
 use coz_words::Request;
-use experiment_plan::plan;
+use experiment_plan::{Plan, plan};
 use image_write::write_elf;
 use line_index::LineIndex;
 use profile_book::Profile;
@@ -101,8 +102,54 @@ fn only_label(alloc: Global, index: &LineIndex, line: LineId) -> Result<Items<La
     Ok(Items::new(labels))
 }
 
+/// The pairs of a trial's runs.
+fn trial_plan<'r>(alloc: Global, index: &LineIndex) -> Result<Plan, Fault<'r>>
+    ensures plan { IfOk result (λ plan. plan ≡ trial_plan index.now.lines) }
+    ensures below { IfOk result
+        (All (λ (pair : Experiment). pair.line.0 < length index.now.lines)) }
+    ensures memory { IfErr result IsMemoryFault }
+{
+    let lines = tenths(alloc, index.count())?;
+    let plan = plan(alloc, &lines, SPEEDUPS.as_slice())?;
+    Ok(plan)
+}
+
+/// The summaries of a trial's runs, with this line as the progress point.
+fn trial_summaries<'r, R: Threads + Sync, G: Gate>(
+    rt: &R,
+    alloc: Global,
+    image: &Image,
+    index: &LineIndex,
+    point: LineId,
+    workers: u32,
+    gate: &G,
+) -> Result<Items<Summary>, Fault<'r>>
+    requires point { point.0 < length index.now.lines }
+    requires some_workers { 1 ≤ workers }
+    requires few_workers { workers ≤ 16 }
+    ensures summaries { IfOk result (λ summaries. summaries ≡
+        (trial_profile (runs_in image.now index.now []) index.now.lines point.0).summaries) }
+    ensures ranges { IfOk result (AllByRecursion (IsSummary 1)) }
+    ensures memory { IfErr result IsMemoryFault }
+{
+    let plan = trial_plan(alloc, index)?;
+    let points = points_of(alloc, index, &[point])?;
+    let summaries = run_plan(
+        rt,
+        alloc,
+        image,
+        index,
+        &points,
+        &[],
+        &plan,
+        BUDGET,
+        workers,
+        gate,
+    )?;
+    Ok(Items::new(summaries))
+}
+
 /// The profile of a trial's program, with this line as its progress point.
-#[tactic(auto, unfolding(crate::specs::Trial::trial_profile))]
 fn trial_profile<'r, R: Threads + Sync, G: Gate>(
     rt: &R,
     alloc: Global,
@@ -123,31 +170,59 @@ fn trial_profile<'r, R: Threads + Sync, G: Gate>(
         length profile.summaries ≡ length (trial_plan index.now.lines)) }
     ensures memory { IfErr result IsMemoryFault }
 {
-    let lines = tenths(alloc, index.count())?;
-    let points = points_of(alloc, index, &[point])?;
-    let plan = plan(alloc, &lines, SPEEDUPS.as_slice())?;
-    let labels = only_label(alloc, index, point)?;
-    let summaries = run_plan(
-        rt,
-        alloc,
-        image,
-        index,
-        &points,
-        &[],
-        &plan,
-        BUDGET,
-        workers,
-        gate,
-    )?;
+    let points = only_label(alloc, index, point)?;
+    let summaries = trial_summaries(rt, alloc, image, index, point, workers, gate)?;
     Ok(Profile {
         budget: BUDGET,
-        points: labels,
-        summaries: Items::new(summaries),
+        points,
+        summaries,
     })
 }
 
+/// What is written of a trial that came to this profile.
+fn printed_trial<'r>(
+    alloc: Global,
+    source: &Generated,
+    index: &LineIndex,
+    profile: &Profile,
+) -> Answer<'r>
+    requires points { length profile.now.points ≤ 64 }
+    requires ranges { AllByRecursion (IsSummary (length profile.now.points)) profile.now.summaries }
+    requires whole { length profile.now.summaries ≡ length (trial_plan index.now.lines) }
+    ensures { IsOfTrial (trial_printed (view source.now) index.now.lines profile.now) result }
+{
+    let text = trial_text(alloc, source, index, profile)?;
+    Ok(Printed {
+        status: profile_status(profile),
+        text: Text::Bytes(text),
+    })
+}
+
+/// What is written of the runs of a trial's program with these lines.
+fn index_answer<'r, R: Threads + Sync, G: Gate>(
+    rt: &R,
+    alloc: Global,
+    source: &Generated,
+    image: &Image,
+    index: &LineIndex,
+    workers: u32,
+    gate: &G,
+) -> Answer<'r>
+    requires point { IsOk (trial_point source.now.point index.now.lines) }
+    requires some_workers { 1 ≤ workers }
+    requires few_workers { workers ≤ 16 }
+    ensures { IsOfTrial (trial_judging (view source.now)
+        index.now.lines (runs_in image.now index.now [])) result }
+{
+    let point = point_line(index, source.point);
+    let profile = trial_profile(rt, alloc, image, index, point, workers, gate)?;
+    let answer = printed_trial(alloc, source, index, &profile);
+    // By one call, since a drop in place is proved part by part.
+    drop(profile);
+    answer
+}
+
 /// What is written of a trial's file.
-#[tactic(auto, unfolding(crate::specs::Verdict::trial_judging))]
 fn file_answer<'r, R: Threads + Sync, G: Gate>(
     rt: &R,
     alloc: Global,
@@ -162,21 +237,18 @@ fn file_answer<'r, R: Threads + Sync, G: Gate>(
     ensures { IsOfTrial (file_verdict (trial_judging (view source.now)) file.now []) result }
 {
     let program = read_program(alloc, file)?;
-    let point = point_line(&program.index, source.point);
-    let profile = trial_profile(
+    let answer = index_answer(
         rt,
         alloc,
+        source,
         &program.image,
         &program.index,
-        point,
         workers,
         gate,
-    )?;
-    let text = trial_text(alloc, source, &program.index, &profile)?;
-    Ok(Printed {
-        status: profile_status(&profile),
-        text: Text::Bytes(text),
-    })
+    );
+    // By one call, since a drop in place is proved part by part.
+    drop(program);
+    answer
 }
 
 /// What is written of the trial that a request asks for. Only want of memory stands against it.

@@ -1,12 +1,13 @@
 //! The five lines of a trial.
-ghost use Rattle.std.specs.Prelude.{◌≡◌, ◌++◌, ◌≤◌, length, map, IfOk, OnOk};
+ghost use Rattle.std.specs.Prelude.{◌≡◌, ◌++◌, ◌≤◌, codes, length, map, IfOk, OnOk};
 ghost use Rattle.std.specs.List.{AllByRecursion};
 ghost use Rattle.coz_types.specs.Ranges.{IsSummary};
 ghost use Rattle.work_gen.specs.Text.{view};
-ghost use Rattle.profile_book.specs.Profile.{hex_text};
+ghost use Rattle.profile_book.specs.Profile.{hex_text, profile_text};
+ghost use Rattle.causal_curves.specs.Curves.{curves_of, ranked_curves};
 ghost use Rattle.coz_cli.specs.Trial.{best_line, digest_line, gain_line, trial_plan, trial_text};
 
-use crate::text::{push_line, push_number};
+use crate::text::{push_line, push_named};
 use causal_curves::{Curve, curves};
 use itoa::Buffer;
 use line_index::LineIndex;
@@ -30,8 +31,7 @@ fn push_hex(text: &mut Vec<u8>, digest: &[u8; 32]) -> Result<(), AllocError>
 fn push_digest(text: &mut Vec<u8>, name: &[u8], bytes: &[u8]) -> Result<(), AllocError>
     ensures { OnOk result (text.new.items ≡ text.old.items ++ digest_line name.now bytes.now) }
 {
-    text.extend_from_slice(name)?;
-    push_number(text, bytes.len() as u64)?;
+    push_named(text, name, bytes.len() as u64)?;
     text.extend_from_slice(b" ")?;
     push_hex(text, &Sha256::digest(bytes))?;
     text.extend_from_slice(b"\n")
@@ -61,6 +61,26 @@ fn push_best(text: &mut Vec<u8>, curves: &[Curve]) -> Result<(), AllocError>
     }
 }
 
+/// The length of a profile's text and its digest.
+fn push_profile(alloc: Global, text: &mut Vec<u8>, profile: &Profile) -> Result<(), AllocError>
+    ensures { OnOk result (text.new.items
+        ≡ text.old.items ++ digest_line (codes "profile ") (profile_text profile.now)) }
+{
+    let book = profile_text(alloc, profile)?;
+    push_digest(text, b"profile ", &book)
+}
+
+/// The first of a profile's curves by rank, if it has a gain.
+fn push_best_of(alloc: Global, text: &mut Vec<u8>, profile: &Profile) -> Result<(), AllocError>
+    requires points { length profile.now.points ≤ 64 }
+    requires ranges { AllByRecursion (IsSummary (length profile.now.points)) profile.now.summaries }
+    ensures { OnOk result (text.new.items
+        ≡ text.old.items ++ best_line (ranked_curves (curves_of profile.now))) }
+{
+    let curves = curves(alloc, profile)?;
+    push_best(text, curves.as_slice())
+}
+
 /// What `trial` prints. Only want of memory stands against it.
 #[tactic(auto, unfolding(crate::specs::Trial::trial_text))]
 pub fn trial_text(
@@ -75,13 +95,11 @@ pub fn trial_text(
     ensures { IfOk result (λ text.
         text.items ≡ trial_text (view source.now) index.now.lines profile.now) }
 {
-    let book = profile_text(alloc, profile)?;
-    let curves = curves(alloc, profile)?;
     let mut text = Vec::new(alloc);
     push_digest(&mut text, b"source ", source.text.as_slice())?;
     push_line(&mut text, b"lines ", u64::from(index.count()))?;
     push_line(&mut text, b"experiments ", profile.summaries.len() as u64)?;
-    push_digest(&mut text, b"profile ", &book)?;
-    push_best(&mut text, curves.as_slice())?;
+    push_profile(alloc, &mut text, profile)?;
+    push_best_of(alloc, &mut text, profile)?;
     Ok(text)
 }
