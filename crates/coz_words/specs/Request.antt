@@ -2,7 +2,7 @@
 use Rattle.std.specs.Prelude.{◌≡◌, ℕ, ◌≤◌, ◌^◌, Bool, not, ◌&&◌, ◌==◌, nat_lt, nat_le, true, false, List, [], ◌∷◌, length, codes, Option, Some, None, IfSome, if◌then◌else◌, option_and_then, find}
 use Rattle.std.specs.List.{list_all, list_any}
 use Rattle.std.specs.Str.{bytes_eq}
-use Rattle.coz_types.specs.declared.TheConstants.{GREATEST_SPEEDUP}
+use Rattle.coz_types.specs.declared.TheConstants.{GREATEST_SPEEDUP, GREATEST_BUDGET}
 use Rattle.coz_words.specs.Said.{Text, Item, option, target, SaysAll}
 use Rattle.experiment_plan.specs.Lists.{number_in, is_line, is_list, pieces}
 use Rattle.coz_words.specs.declared.command.Command.{Command}
@@ -188,7 +188,7 @@ request_with c path value =
     path >>= λ target.
     speedup_in (value line_name) (value speedup_name) >>= λ speedup.
     speedups_in c (value speedups_name) >>= λ speedups.
-    number_or c budget_name 100000000 1 1000000000000 (value budget_name) >>= λ budget.
+    number_or c budget_name 100000000 1 GREATEST_BUDGET (value budget_name) >>= λ budget.
     number_or c workers_name 4 1 16 (value workers_name) >>= λ workers.
     number_or c size_name 100 1 2000 (value size_name) >>= λ size.
     number_or c dwarf_name 4 4 5 (value dwarf_name) >>= λ dwarf.
@@ -236,7 +236,7 @@ pub record IsFit (request : Request) : Type 0 where
   pub progress : IfSome request.progress (λ text. is_list text ≡ true)
   pub speedups : list_all (λ p. nat_le p GREATEST_SPEEDUP) request.speedups ≡ true
   pub some_budget : is_runner request.command ≡ true → 1 ≤ request.budget
-  pub budget : request.budget ≤ 10 ^ 12
+  pub budget : request.budget ≤ GREATEST_BUDGET
   pub some_workers : has_option request.command workers_name ≡ true → 1 ≤ request.workers
   pub workers : request.workers ≤ 16
   pub some_size : has_option request.command size_name ≡ true → 1 ≤ request.size

@@ -17,10 +17,9 @@ use crate::value::{are_lines, number_or, seed_of, speedup_of, speedups_of, versi
 use crate::word::{Word, copied_pair};
 use clap::ArgMatches;
 use coz_lists::Items;
+use coz_types::GREATEST_BUDGET;
 use std::alloc::{AllocError, AllocFailed, Global};
 
-/// The greatest budget of retirements.
-const GREATEST_BUDGET: u64 = 1000000000000;
 /// The budget where the words name none.
 const USUAL_BUDGET: u64 = 100000000;
 /// The most workers of a profile.

@@ -1,5 +1,6 @@
 //! The experiments of a profile, and why there are none.
 ghost use Rattle.std.specs.Prelude.{◌≡◌, ◌≤◌, length, All};
+ghost use Rattle.experiment_plan.specs.declared.experiment.TheConstants.{MOST_PAIRS};
 ghost use Rattle.coz_types.specs.declared.TheConstants.{GREATEST_SPEEDUP};
 ghost use Rattle.experiment_plan.specs.declared.experiment.Experiment.{Experiment};
 ghost use Rattle.experiment_plan.specs.declared.experiment.PlanError.TheVariants.{Memory};
@@ -7,6 +8,9 @@ ghost use Rattle.experiment_plan.specs.declared.experiment.PlanError.TheVariants
 use coz_types::LineId;
 use std::alloc::{AllocError, AllocFailed};
 use std::marker::Model;
+
+/// The most experiments of a plan.
+pub const MOST_PAIRS: u64 = 100_000;
 
 /// A line and how many per cent faster it is to be, 0 to `GREATEST_SPEEDUP`.
 #[derive(Clone, Copy, Debug, PartialEq, Eq)]
@@ -20,7 +24,7 @@ pub struct Experiment {
 /// Why there is no plan.
 #[derive(Clone, Copy, Debug, PartialEq, Eq)]
 pub enum PlanError {
-    /// There are so many pairs, more than 100,000.
+    /// There are so many pairs, more than `MOST_PAIRS`.
     TooMany(u64),
     /// Memory was wanting.
     Memory,
@@ -60,7 +64,7 @@ impl Plan {
     /// The experiments, by line and then by speedup.
     pub fn pairs(&self) -> &[Experiment]
         ensures pairs { result.now ≡ self.now }
-        ensures few { length result.now ≤ 100000 }
+        ensures few { length result.now ≤ MOST_PAIRS }
         ensures speedups { All (λ (pair : Experiment). pair.speedup ≤ GREATEST_SPEEDUP) result.now }
     {
         &self.pairs

@@ -8,12 +8,9 @@ ghost use Rattle.experiment_plan.specs.declared.experiment.Experiment.{Experimen
 ghost use Rattle.experiment_plan.specs.Selected.{ids, rising_numbers};
 ghost use Rattle.experiment_plan.specs.Pairs.{at_speedup, pairs_of, pair_cmp, IsPlan};
 
-use crate::experiment::{Experiment, Plan, PlanError};
+use crate::experiment::{Experiment, MOST_PAIRS, Plan, PlanError};
 use coz_types::LineId;
 use std::alloc::{AllocError, Global};
-
-/// The most experiments of a plan.
-const MOST_PAIRS: u64 = 100000;
 
 /// Speedups with 0 among them, as they rise and each once.
 fn rising_speedups(alloc: Global, speedups: &[u8]) -> Result<Vec<u8>, AllocError>

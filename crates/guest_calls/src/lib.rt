@@ -13,6 +13,7 @@ mod times;
 
 ghost use Rattle.std.specs.Prelude.{◌≡◌, ◌≤◌, [], length, IfOk, IsTrue};
 ghost use Rattle.std.specs.Result.{result_ok};
+ghost use Rattle.coz_types.specs.declared.TheConstants.{MOST_OUTPUT};
 ghost use Rattle.cost_table.specs.Costs.{cycles_of};
 ghost use Rattle.guest_memory.specs.Regions.{IsLayout};
 ghost use Rattle.guest_calls.specs.Guest.{IsMade, is_running, is_sleeping, with_wake, making, pc_of, hart_at, first_guest};
@@ -72,7 +73,7 @@ impl<'a> Guest<'a> {
         layout: Layout,
     ) -> Result<Guest<'a>, AllocError>
         requires some_output { 1 ≤ output_limit }
-        requires output { output_limit ≤ 67108864 }
+        requires output { output_limit ≤ MOST_OUTPUT }
         requires layout { IsLayout layout }
         ensures { IfOk result (λ guest.
             guest ≡ first_guest image.now input.now output_limit layout) }
@@ -142,7 +143,7 @@ impl<'a> Guest<'a> {
     /// The bytes that were written so far.
     pub fn output(&self) -> &[u8]
         ensures bytes { result.now ≡ self.now.output }
-        ensures few { length result.now ≤ 67108864 }
+        ensures few { length result.now ≤ MOST_OUTPUT }
     {
         self.output.bytes()
     }

@@ -1,5 +1,6 @@
 //! The output of a guest, up to its limit.
 ghost use Rattle.std.specs.Prelude.{◌≡◌, ◌≤◌, ◌%◌, ◌^◌, [], length, take, IfOk, IsTrue};
+ghost use Rattle.coz_types.specs.declared.TheConstants.{MOST_OUTPUT};
 ghost use Rattle.guest_memory.specs.Memory.{is_readable, bytes_at};
 ghost use Rattle.guest_calls.specs.Output.{with_bytes_written};
 ghost use Rattle.guest_calls.specs.Calls.{is_each_readable, bytes_of, total};
@@ -19,6 +20,7 @@ pub struct Output {
 
 impl Model for Output {
     ghost use Rattle.std.specs.Prelude.{◌≤◌, length, take};
+    ghost use Rattle.coz_types.specs.declared.TheConstants.{MOST_OUTPUT};
     ghost use Rattle.guest_calls.specs.Output.{Written};
 
     ghost Value = { Written };
@@ -27,7 +29,7 @@ impl Model for Output {
         record { bytes = take o.written o.places.items; limit = length o.places.items } };
 
     ghost invariant = { λ o.
-        (o.written ≤ length o.places.items) × (length o.places.items ≤ 67108864) };
+        (o.written ≤ length o.places.items) × (length o.places.items ≤ MOST_OUTPUT) };
 }
 
 /// Copies the first bytes of a list over those of another one of the same length.
@@ -44,7 +46,7 @@ impl Output {
     /// Nothing is written yet, and there is room for so many bytes.
     /// Only want of memory stands against it.
     pub fn new(alloc: Global, limit: usize) -> Result<Output, AllocError>
-        requires { limit ≤ 67108864 }
+        requires { limit ≤ MOST_OUTPUT }
         ensures { IfOk result (λ output. output ≡ record { bytes = []; limit = limit }) }
     {
         let places = vec![in alloc; 0u8; limit]?;
@@ -54,7 +56,7 @@ impl Output {
     /// The bytes that were written.
     pub fn bytes(&self) -> &[u8]
         ensures bytes { result.now ≡ self.now.bytes }
-        ensures few { length result.now ≤ 67108864 }
+        ensures few { length result.now ≤ MOST_OUTPUT }
     {
         &self.places[..self.written]
     }

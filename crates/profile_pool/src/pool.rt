@@ -1,6 +1,7 @@
 //! Workers that draw the claims of a plan from one word.
 ghost use Rattle.std.specs.Prelude.{◌≡◌, ℕ, ◌+◌, ◌*◌, ◌<◌, ◌≤◌, ◌^◌, [], IfOk, List, length, map, All, vec_len};
 ghost use Rattle.std.specs.List.{flat_map, range_with_len};
+ghost use Rattle.coz_types.specs.declared.TheConstants.{GREATEST_BUDGET};
 ghost use Rattle.coz_types.specs.declared.record.Summary.{Summary};
 ghost use Rattle.coz_types.specs.Ranges.{IsSummary};
 ghost use Rattle.experiment_claims.specs.Drawn.{hand};
@@ -290,7 +291,7 @@ pub fn run_plan<R: Threads + Sync, G: Gate>(
 ) -> Result<Vec<Summary>, AllocError>
     requires lines { All (λ (pair : Experiment). pair.line.0 < length index.now.lines) plan.now }
     requires some_budget { 1 ≤ budget }
-    requires few { budget ≤ 10 ^ 12 }
+    requires few { budget ≤ GREATEST_BUDGET }
     requires some_workers { 1 ≤ workers }
     requires few_workers { workers ≤ 16 }
     ensures summaries { IfOk result (λ summaries.

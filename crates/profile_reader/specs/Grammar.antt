@@ -5,7 +5,7 @@ use Rattle.std.specs.Str.{bytes_eq}
 use Rattle.std.specs.Str.Parse.{digits_value}
 use Rattle.coz_types.specs.Labels.{Text, is_decimal, is_label, label_before}
 use Rattle.coz_types.specs.Ranges.{greatest_number}
-use Rattle.coz_types.specs.declared.TheConstants.{GREATEST_SPEEDUP}
+use Rattle.coz_types.specs.declared.TheConstants.{GREATEST_SPEEDUP, MOST_POINTS}
 use Rattle.profile_reader.specs.EndingSpellings.{is_ending_text}
 use Rattle.profile_book.specs.Profile.{field, number_field}
 use Rattle.profile_reader.specs.Items.{items_of}
@@ -200,7 +200,7 @@ abbrev pub is_right : BookField → Before → Text → Bool
 is_right Head before item = bytes_eq item (codes "coz-ticks")
 is_right Version before item = bytes_eq item (field (codes "version") (codes "1"))
 is_right Budget before item = has_number Budget greatest_number item
-is_right Points before item = has_number Points 64 item
+is_right Points before item = has_number Points MOST_POINTS item
 is_right Point before item = bytes_eq item (codes "point")
 is_right Index before item = bytes_eq item (number_field (codes "index") (index_at before))
 is_right Name before item = has_label Name (comes_after (latest Name before)) item

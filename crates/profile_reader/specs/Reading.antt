@@ -6,7 +6,7 @@ use Rattle.std.specs.Str.Parse.{digits_value}
 use Rattle.std.specs.List.{slice_split}
 use Rattle.coz_types.specs.Labels.{Text}
 use Rattle.coz_types.specs.Ranges.{greatest_number}
-use Rattle.coz_types.specs.declared.TheConstants.{GREATEST_SPEEDUP}
+use Rattle.coz_types.specs.declared.TheConstants.{GREATEST_SPEEDUP, MOST_POINTS}
 use Rattle.profile_reader.specs.EndingSpellings.{is_ending_text}
 use Rattle.coz_types.specs.declared.record.Summary.{Summary}
 use Rattle.coz_types.specs.declared.record.Outcome.{Outcome}
@@ -140,7 +140,7 @@ head_at a = do
   head ← word_at Head (codes "coz-ticks") a
   version ← word_at Version (codes "\tversion=1") head.1
   budget ← number_at Budget greatest_number version.1
-  points ← number_at Points 64 budget.1
+  points ← number_at Points MOST_POINTS budget.1
   end ← word_at Newline (codes "\n") points.1
   Ok ((budget.0, points.0), end.1)
 

@@ -6,13 +6,11 @@ ghost use Rattle.profile_reader.specs.Standing.{ahead};
 use crate::cursor::Cursor;
 use crate::fault::{BookError, BookField};
 use crate::fields::{digest, ending, index, name, number, selected, speedup, word};
-use coz_types::{Digest, Label, Outcome, Summary};
+use coz_types::{Digest, Label, MOST_POINTS, Outcome, Summary};
 
 /// Times, and numbers of instructions, of starts and of bytes, are at most that.
 const MOST: u64 = 100_000_000_000_000_000;
 
-/// The most progress points of a profile.
-const MOST_POINTS: u64 = 64;
 /// The most visits of a point.
 const MOST_VISITS: u64 = 1_000_000_000;
 
@@ -24,7 +22,7 @@ pub fn head<'a>(at: Cursor<'a>) -> Result<((u64, u64), Cursor<'a>), BookError>
     let at = word(at, BookField::Head, b"coz-ticks")?;
     let at = word(at, BookField::Version, b"\tversion=1")?;
     let (budget, at) = number(at, BookField::Budget, MOST)?;
-    let (points, at) = number(at, BookField::Points, MOST_POINTS)?;
+    let (points, at) = number(at, BookField::Points, MOST_POINTS as u64)?;
     let at = word(at, BookField::Newline, b"\n")?;
     Ok(((budget, points), at))
 }

@@ -10,18 +10,15 @@ ghost use Rattle.progress_points.specs.declared.PointsError.TheVariants.{Memory}
 ghost use Rattle.progress_points.specs.Points.{Points, IsPoints, IsFault, point_of, ids};
 
 use crate::marks::{Mark, first_mark, marks_of};
-use coz_types::{Address, LineId, PointId};
+use coz_types::{Address, LineId, MOST_POINTS, PointId};
 use line_index::LineIndex;
 use std::alloc::{AllocError, AllocFailed, Global};
 use std::marker::Model;
 
-/// So many lines at most can be progress lines.
-const MOST_LINES: usize = 64;
-
 /// Why there are no points.
 #[derive(Clone, Copy, Debug, PartialEq, Eq)]
 pub enum PointsError {
-    /// There are so many lines, more than 64.
+    /// There are so many lines, more than `MOST_POINTS`.
     TooMany(u64),
     /// Memory was wanting.
     Memory,
@@ -74,7 +71,7 @@ impl Points {
         ensures { MatchResult result (IsPoints index.now (ids lines.now))
             (IsFault (length lines.now)) }
     {
-        if lines.len() > MOST_LINES {
+        if lines.len() > MOST_POINTS {
             return Err(PointsError::TooMany(lines.len() as u64));
         }
         Ok(Points {

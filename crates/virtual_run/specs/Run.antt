@@ -1,6 +1,6 @@
 -- The run of a program: the machines over its guest, with a selected line and progress points.
 use Rattle.std.specs.Prelude.{ℕ, ◌^◌, ◌≤◌, Bool, false, List, filter, Option, Some, None, option_map}
-use Rattle.coz_types.specs.declared.TheConstants.{GREATEST_SPEEDUP}
+use Rattle.coz_types.specs.declared.TheConstants.{GREATEST_SPEEDUP, GREATEST_BUDGET, MOST_OUTPUT, MOST_VISITS_KEPT}
 use Rattle.coz_types.specs.Image.{ImageParts}
 use Rattle.machines.specs.Guest.{Experiment}
 use Rattle.line_index.specs.Index.{position_at}
@@ -17,11 +17,11 @@ use Rattle.virtual_run.specs.Begin.{ticks_of}
 pub record IsChoice (c : Choice) : Type 0 where
   pub speedup : c.speedup ≤ GREATEST_SPEEDUP
   pub some_budget : 1 ≤ c.budget
-  pub few : c.budget ≤ 10 ^ 12
+  pub few : c.budget ≤ GREATEST_BUDGET
   pub some_output : 1 ≤ c.output_limit
-  pub output : c.output_limit ≤ 67108864
+  pub output : c.output_limit ≤ MOST_OUTPUT
   pub some_visits : 1 ≤ c.visit_limit
-  pub visits : c.visit_limit ≤ 1048576
+  pub visits : c.visit_limit ≤ MOST_VISITS_KEPT
   pub layout : IsLayout c.layout
 
 -- the number of the selected line

@@ -1,6 +1,6 @@
 //! The engine that both machines stand on, and its moves.
 ghost use Rattle.std.specs.Prelude.{◌≡◌, true, ◌&&◌, ◌==◌, not, ◌+◌, ◌^◌, ◌≤◌, ◌<◌, ◌++◌, [], ◌∷◌, Some, length, nat_le, is_some, IfOk, All, if◌then◌else◌, IsTrue};
-ghost use Rattle.coz_types.specs.declared.TheConstants.{GREATEST_SPEEDUP};
+ghost use Rattle.coz_types.specs.declared.TheConstants.{GREATEST_SPEEDUP, MOST_OUTPUT, MOST_VISITS_KEPT};
 ghost use Rattle.hart_schedule.specs.Keys.{key_of, without_key, IsEmpty, IsLeast};
 ghost use Rattle.machines.specs.Delayed.{is_any};
 ghost use Rattle.machines.specs.Guest.{goes_on};
@@ -453,7 +453,7 @@ impl<'a> Engine<'a> {
     /// The visits so far, at most 1,048,576, in order.
     pub fn visits(&self) -> &[Visit]
         ensures kept { result.now ≡ self.now.visits.kept }
-        ensures few { length result.now ≤ 1048576 }
+        ensures few { length result.now ≤ MOST_VISITS_KEPT }
         ensures harts { All (λ visit. visit.hart.0 < HARTS) result.now }
     {
         self.visits.all()
@@ -462,7 +462,7 @@ impl<'a> Engine<'a> {
     /// What was written so far, at most 67,108,864 bytes.
     pub fn output(&self) -> &[u8]
         ensures bytes { result.now ≡ self.now.guest.output }
-        ensures few { length result.now ≤ 67108864 }
+        ensures few { length result.now ≤ MOST_OUTPUT }
     {
         self.guest.output()
     }

@@ -1,6 +1,6 @@
 //! The delayed machine: runs under virtual time with the delays of a selected line.
 ghost use Rattle.std.specs.Prelude.{◌≡◌, ◌+◌, ◌≤◌, ◌<◌, false, map, length, Some, None, IfOk, IfSome, IsSome, MatchOption, All, option_map};
-ghost use Rattle.coz_types.specs.declared.TheConstants.{GREATEST_SPEEDUP};
+ghost use Rattle.coz_types.specs.declared.TheConstants.{GREATEST_SPEEDUP, MOST_OUTPUT, MOST_VISITS_KEPT};
 ghost use Rattle.hart_schedule.specs.Keys.{key_of};
 ghost use Rattle.delay_credits.specs.Delays.{account_as};
 ghost use Rattle.virtual_run.specs.Seen.{machine_view, experiment_of};
@@ -319,7 +319,7 @@ impl<'a> Machine<'a> {
     /// its delay was raised.
     pub fn visits(&self) -> &[Visit]
         ensures visits { map visit_as result.now ≡ self.now.state.visits }
-        ensures few { length result.now ≤ 1048576 }
+        ensures few { length result.now ≤ MOST_VISITS_KEPT }
         ensures harts { All (λ visit. visit.hart.0 < HARTS) result.now }
         ensures in_time { All (λ visit. visit.delay ≤ visit.time) result.now }
     {
@@ -329,7 +329,7 @@ impl<'a> Machine<'a> {
     /// What was written, at most 67,108,864 bytes.
     pub fn output(&self) -> &[u8]
         ensures bytes { result.now ≡ self.now.state.guest.output }
-        ensures few { length result.now ≤ 67108864 }
+        ensures few { length result.now ≤ MOST_OUTPUT }
     {
         self.engine.guest.output()
     }
