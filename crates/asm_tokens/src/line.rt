@@ -1,6 +1,7 @@
 //! The tokens of a line.
 
 ghost use Rattle.std.specs.Prelude.{◌≡◌, ◌≤◌, ◌<◌, ◌+◌, ◌-◌, length, drop, map, false, IfSome, IfOk, neg_ℤ, pos, if◌then◌else◌};
+ghost use Rattle.asm_tokens.specs.declared.TheConstants.{MAX_SOURCE};
 ghost use Rattle.asm_tokens.specs.Tokens.{text, front, tokens, spelled_number, number_front, is_blank, is_mark};
 ghost use Rattle.asm_tokens.specs.Views.{GivesText, front_of, token_of, placed_of, IsWithin, GivesLine};
 ghost use Rattle.asm_tokens.specs.declared.line.LineError.TheVariants.{Memory};
@@ -189,7 +190,7 @@ fn begins_at<'a>(alloc: Global, line: &'a [u8], place: usize) -> Result<Found<'a
 /// The tokens of a line, or the first bytes that form none.
 #[tactic(auto, unfolding(crate::specs::Tokens::tokens))]
 pub fn tokens<'a>(alloc: Global, line: &'a [u8]) -> Result<Vec<Placed<'a>>, LineError>
-    requires { length line.now ≤ 4194304 }
+    requires { length line.now ≤ MAX_SOURCE }
     ensures { GivesLine (λ v. map placed_of v.items) result (tokens line.now) }
 {
     let mut out = Vec::new(alloc);

@@ -9,6 +9,7 @@ mod pieces;
 mod state;
 
 ghost use Rattle.std.specs.Prelude.{◌≡◌, ◌≤◌, length, IfOk};
+ghost use Rattle.asm_tokens.specs.declared.TheConstants.{MAX_SOURCE};
 ghost use Rattle.rv_asm.specs.Assembled.{Gives, IsProgram, assembled, view};
 
 use crate::fill::{entry, fill};
@@ -57,7 +58,7 @@ pub struct Assembled {
 /// What a source of at most 4,194,304 bytes stands for, or its first fault.
 #[tactic(auto, unfolding(crate::specs::Assembled::assembled))]
 pub fn assemble(alloc: Global, source: &[u8]) -> Result<Assembled, AsmError>
-    requires { length source.now ≤ 4194304 }
+    requires { length source.now ≤ MAX_SOURCE }
     ensures value { Gives view result (assembled source.now) }
     ensures program { IfOk result (λ a. IsProgram (view a)) }
 {

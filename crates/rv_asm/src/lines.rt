@@ -3,6 +3,7 @@
 ghost use Rattle.std.specs.Prelude.{◌≡◌, ◌≤◌, ◌<◌, ◌+◌, ◌-◌, ◌^◌, ◌==◌, length, drop, option_map, position, not, ◌∷◌, Option, IfSome};
 ghost use Rattle.std.specs.List.{prefix_len};
 ghost use Rattle.std.specs.Str.{byte};
+ghost use Rattle.asm_tokens.specs.declared.TheConstants.{MAX_SOURCE};
 ghost use Rattle.asm_tokens.specs.Tokens.{is_allowed, lines};
 ghost use Rattle.rv_asm.specs.Statements.{section_of};
 ghost use Rattle.rv_asm.specs.Assembled.{Gives, start, is_in_place, form_named, name_in, with_statement, take_tokens, take_line, take_lines};
@@ -172,7 +173,7 @@ fn take_line<'s>(
     line: &'s [u8],
     state: &mut State<'s>,
 ) -> Result<(), LineError>
-    requires { length line.now ≤ 4194304 }
+    requires { length line.now ≤ MAX_SOURCE }
     ensures value { Steps result (state_of state.new)
         (take_line number line.now (state_of state.old)) }
 {
@@ -235,7 +236,7 @@ pub fn error_at(line: u32, error: LineError) -> AsmError
 
 /// The lines of a source. Err tells the first fault of a line, or want of memory.
 pub fn take_lines<'s>(alloc: Global, source: &'s [u8]) -> Result<State<'s>, AsmError>
-    requires { length source.now ≤ 4194304 }
+    requires { length source.now ≤ MAX_SOURCE }
     ensures { Gives state_of result (take_lines 1 (lines source.now) start) }
 {
     let mut state = State::new(alloc);
