@@ -2,6 +2,8 @@
 -- of workers the bytes are those of one.
 use Rattle.std.specs.Prelude.{◌≡◌, List, ℕ, [], Option, None, Some, Ok, All, ◌≤◌, length}
 use Rattle.std.specs.Io.KnownBytes.{Appends}
+use Rattle.experiment_plan.specs.declared.experiment.TheConstants.{MOST_PAIRS}
+use Rattle.coz_types.specs.declared.TheConstants.{MOST_POINTS}
 use Rattle.coz_types.specs.Image.{ImageParts}
 use Rattle.coz_files.specs.Held.{Held, file_at}
 use Rattle.elf_load.specs.Loaded.{load_answer}
@@ -43,7 +45,7 @@ pub record IsAsked (held : Held) (asked : Request) (x : Experiment Guest) : Type
   pub lines : table_in file ≡ Ok table
   pub line_is : line_named (lines_in table image.areas) asked.line ≡ Ok selected
   pub points_are : lines_named (lines_in table image.areas) [] asked.progress ≡ Ok points
-  pub few : length points ≤ 64
+  pub few : length points ≤ MOST_POINTS
   pub experiment : x
       ≡ experiment_by_table image table input (choice_of selected asked.speedup asked.budget) points
 
@@ -87,9 +89,9 @@ pub record IsPlanned (held : Held) (asked : Request) (runs : Runs) (lines : List
   pub lines_are : lines ≡ lines_in table image.areas
   pub selected_are : lines_named lines (all_lines lines) asked.lines ≡ Ok selected
   pub points_are : lines_named lines [] asked.progress ≡ Ok points
-  pub few_points : length points ≤ 64
+  pub few_points : length points ≤ MOST_POINTS
   pub planned : pairs ≡ pairs_of selected asked.speedups
-  pub few_pairs : length pairs ≤ 100000
+  pub few_pairs : length pairs ≤ MOST_PAIRS
 
 -- Behind what was held before there is now the text of a profile: of the budget,
 -- the points' labels, and of each pair of the plan, in its order, the summary of the record with

@@ -2,6 +2,11 @@
 -- and a line for the errors.
 use Rattle.std.specs.Prelude.{ℕ, List, [], ◌++◌, length, nat_lt, codes, Bool, true, false, Option, None, Some, Result, Ok, Err, if◌then◌else◌}
 use Rattle.std.specs.List.{list_all}
+use Rattle.coz_cli.specs.declared.program.TheConstants.{MAX_PROGRAM}
+use Rattle.coz_cli.specs.declared.experiment.TheConstants.{MAX_INPUT}
+use Rattle.asm_tokens.specs.declared.TheConstants.{MAX_SOURCE}
+use Rattle.experiment_plan.specs.declared.experiment.TheConstants.{MOST_PAIRS}
+use Rattle.coz_types.specs.declared.TheConstants.{MOST_POINTS}
 use Rattle.coz_types.specs.declared.ending.Ending.{Ending}
 use Rattle.coz_types.specs.declared.ending.Ending.TheVariants.{Exited}
 use Rattle.coz_types.specs.declared.record.Summary.{Summary}
@@ -92,7 +97,8 @@ named_verdict (Ok named) next = next named
 -- of progress points, if there are at most 64, and of what follows
 abbrev pub points_verdict : List ℕ → (List ℕ → Verdict) → Verdict
 points_verdict points next =
-    if nat_lt 64 (length points) then refusal 7 (points_line (length points)) else next points
+    if nat_lt MOST_POINTS (length points) then refusal 7 (points_line (length points))
+    else next points
 
 -- of a program's lines and its runs
 abbrev pub Judging : Type 0
@@ -109,7 +115,7 @@ asked_verdict asked print lines runs =
 -- of a plan, if there are at most 100,000 pairs, and of what follows
 abbrev pub plan_verdict : List Pair → (List Pair → Verdict) → Verdict
 plan_verdict pairs next =
-    if nat_lt 100000 (length pairs) then refusal 9 (plan_line (length pairs)) else next pairs
+    if nat_lt MOST_PAIRS (length pairs) then refusal 9 (plan_line (length pairs)) else next pairs
 
 -- of the profile that a request asks for
 unfoldable pub profiled_verdict : Request → Judging
@@ -136,12 +142,12 @@ read_verdict most path (Some file) next =
 -- of the input, which is empty where none is named
 abbrev pub input_verdict : Option (List ℕ) → Held → (List ℕ → Verdict) → Verdict
 input_verdict None held next = next []
-input_verdict (Some path) held next = read_verdict 16777216 path (file_at held path) next
+input_verdict (Some path) held next = read_verdict MAX_INPUT path (file_at held path) next
 
 -- of the program and the input that a request names, and of what follows
 abbrev pub files_verdict : Request → Held → Judging → Verdict
 files_verdict asked held next =
-    read_verdict 33554432 asked.target (file_at held asked.target) (λ file.
+    read_verdict MAX_PROGRAM asked.target (file_at held asked.target) (λ file.
     input_verdict asked.input held (file_verdict next file))
 
 -- of a program's lines
@@ -196,11 +202,11 @@ command_verdict Really asked held =
     files_verdict asked held (asked_verdict asked (λ x. really_verdict (shortened_record x)))
 command_verdict Profile asked held = files_verdict asked held (profiled_verdict asked)
 command_verdict Lines asked held =
-    read_verdict 33554432 asked.target (file_at held asked.target) lines_verdict
+    read_verdict MAX_PROGRAM asked.target (file_at held asked.target) lines_verdict
 command_verdict Plot asked held =
     read_verdict MAX_PROFILE asked.target (file_at held asked.target) plot_verdict
 command_verdict Asm asked held =
-    read_verdict 4194304 asked.target (file_at held asked.target) (λ source.
+    read_verdict MAX_SOURCE asked.target (file_at held asked.target) (λ source.
     source_verdict asked.target asked.dwarf (assembled source))
 command_verdict Trial asked held = trial_verdict asked.seed asked.size
 

@@ -1,5 +1,6 @@
 //! The command `asm`.
 ghost use Rattle.std.specs.Prelude.{◌≡◌, ◌≤◌, length, IfSome, IfNone};
+ghost use Rattle.asm_tokens.specs.declared.TheConstants.{MAX_SOURCE};
 ghost use Rattle.coz_files.specs.Faults.{Rose};
 ghost use Rattle.image_write.specs.File.{IsName, IsVersion};
 ghost use Rattle.coz_words.specs.declared.command.Command.TheVariants.{Asm};
@@ -9,14 +10,12 @@ ghost use Rattle.coz_cli.specs.Answer.{verdict_of, IsMemory, IsRead, Suits, Sett
 
 use crate::answer::{Answer, Printed, Text};
 use crate::program::read_file;
+use asm_tokens::MAX_SOURCE;
 use coz_files::Files;
 use coz_words::Request;
 use image_write::write_elf;
 use rv_asm::assemble;
 use std::alloc::Global;
-
-/// The most bytes of a source.
-const MAX_SOURCE: u64 = 4194304;
 
 /// What is written of the source that the request names.
 /// Err tells the first fault of the file or of the source, or want of memory.
@@ -39,7 +38,7 @@ pub fn judge_source<'r, F: Files>(alloc: Global, request: &'r Request, files: &m
 /// The file of what a source stands for, with the source's name in it and a line
 /// table of this version.
 fn source_answer<'r>(alloc: Global, source: &[u8], name: &str, version: u8) -> Answer<'r>
-    requires short { length source.now ≤ 4194304 }
+    requires short { length source.now ≤ MAX_SOURCE }
     requires named { IsName name.now }
     requires version { IsVersion version }
     ensures no_read { IsRead result → ⊥ }

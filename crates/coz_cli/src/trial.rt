@@ -3,6 +3,7 @@ ghost use Rattle.std.specs.Prelude.{◌≡◌, ◌<◌, ◌≤◌, [], ◌∷◌
 ghost use Rattle.std.specs.List.{AllByRecursion};
 ghost use Rattle.std.specs.List.Sorted.{IsStrictlySortedBy};
 ghost use Rattle.std.specs.Ordering.{nat_cmp};
+ghost use Rattle.coz_types.specs.declared.TheConstants.{MOST_POINTS};
 ghost use Rattle.coz_types.specs.Ranges.{IsSummary};
 ghost use Rattle.coz_types.specs.declared.LineId.{LineId};
 ghost use Rattle.work_gen.specs.Text.{view};
@@ -186,7 +187,7 @@ fn printed_trial<'r>(
     index: &LineIndex,
     profile: &Profile,
 ) -> Answer<'r>
-    requires points { length profile.now.points ≤ 64 }
+    requires points { length profile.now.points ≤ MOST_POINTS }
     requires ranges { AllByRecursion (IsSummary (length profile.now.points)) profile.now.summaries }
     requires whole { length profile.now.summaries ≡ length (trial_plan index.now.lines) }
     ensures { IsOfTrial (trial_printed (view source.now) index.now.lines profile.now) result }

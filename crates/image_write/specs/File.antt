@@ -3,6 +3,7 @@ use Rattle.std.specs.Prelude.{◌≡◌, ℕ, ◌+◌, ◌-◌, ◌*◌, ◌<◌
 use Rattle.std.specs.List.{AllPass}
 use Rattle.coz_types.specs.declared.TheConstants.{PAGE}
 use Rattle.rv_asm.specs.declared.TheConstants.{TEXT_START}
+use Rattle.rv_asm.specs.declared.state.TheConstants.{MOST_BYTES}
 use Rattle.rv_asm.specs.Assembled.{Program, up_to_multiple}
 use Rattle.image_write.specs.Unit.{half, word, double, unit}
 
@@ -139,4 +140,5 @@ IsVersion version = (4 ≤ version) × (version ≤ 5)
 
 abbrev pub IsWritable : Program → Type 0
 IsWritable p =
-    (length p.text ≤ 1048576) × (length p.content ≤ 1048576) × (length p.text ≡ 4 * length p.lines)
+    (length p.text ≤ MOST_BYTES) × (length p.content ≤ MOST_BYTES)
+    × (length p.text ≡ 4 * length p.lines)
