@@ -28,9 +28,6 @@ use coz_types::{Address, Area, Image, LOAD_END, PAGE, Rights};
 use std::alloc::{AllocError, Global};
 use std::marker::Model;
 
-/// The bytes of a mebibyte.
-const MIB: u64 = 1024 * 1024;
-
 /// Where the region below the break begins: at the end of the load areas.
 pub const BRK_BASE: Address = LOAD_END;
 
@@ -39,6 +36,15 @@ pub const MAP_BASE: Address = 0x21_0000_0000;
 
 /// Where the region of the stack ends.
 pub const STACK_TOP: Address = 0x40_0000_0000;
+
+/// The most bytes of the region below the break.
+pub const BRK_SIZE: u64 = 0x100_0000;
+
+/// The most bytes of the region of the mappings.
+pub const MAP_SIZE: u64 = 0x300_0000;
+
+/// The most bytes of the region of the stack.
+pub const STACK_SIZE: u64 = 0x10_0000;
 
 /// The sizes in bytes of the regions that are no load areas, in whole pages.
 #[derive(Clone, Copy, Debug, PartialEq, Eq)]
@@ -58,9 +64,9 @@ impl Layout {
         ensures valid { IsLayout result }
     {
         Layout {
-            brk: 16 * MIB,
-            map: 48 * MIB,
-            stack: MIB,
+            brk: BRK_SIZE,
+            map: MAP_SIZE,
+            stack: STACK_SIZE,
         }
     }
 }

@@ -10,15 +10,11 @@ use Rattle.coz_cli.proofs.trial.file_answer.Goals as goal
 pub read_program-requires : goal.read_program-requires
 read_program-requires g c = let short = file_short (view c.args.source.now) c.args.file.now c.requires.file in omega (arith, short)
 
-pub index_answer-answer-requires : goal.index_answer-answer-requires
-index_answer-answer-requires g c =
+pub index_answer-answer-requires-clause-point : goal.index_answer-answer-requires-clause-point
+index_answer-answer-requires-clause-point g c = λ lifetimes within.
     let program = c.in_ok-program.program in
     let read = c.in_ok-program.ensures in
-    record {
-      point = point_there (view c.args.source.now) c.args.file.now c.requires.file program.index program.image (table_of program.table) read.loads read.reads read.indexed;
-      some_workers = c.requires.some_workers;
-      few_workers = c.requires.few_workers;
-    }
+    point_there (view c.args.source.now) c.args.file.now c.requires.file program.index program.image (table_of program.table) read.loads read.reads read.indexed
 
 pub returns-in_err-program : goal.returns-in_err-program
 returns-in_err-program g c =
