@@ -3,7 +3,7 @@ ghost use Rattle.std.specs.Prelude.{◌≡◌, ◌<◌, ◌≤◌, [], ◌∷◌
 ghost use Rattle.std.specs.List.{AllByRecursion};
 ghost use Rattle.std.specs.List.Sorted.{IsStrictlySortedBy};
 ghost use Rattle.std.specs.Ordering.{nat_cmp};
-ghost use Rattle.coz_types.specs.declared.TheConstants.{MOST_POINTS};
+ghost use Rattle.coz_types.specs.declared.TheConstants.{MOST_POINTS, MOST_WORKERS, GREATEST_SIZE};
 ghost use Rattle.coz_types.specs.Ranges.{IsSummary};
 ghost use Rattle.coz_types.specs.declared.LineId.{LineId};
 ghost use Rattle.work_gen.specs.Text.{view};
@@ -127,7 +127,7 @@ fn trial_summaries<'r, R: Threads + Sync, G: Gate>(
 ) -> Result<Items<Summary>, Fault<'r>>
     requires point { point.0 < length index.now.lines }
     requires some_workers { 1 ≤ workers }
-    requires few_workers { workers ≤ 16 }
+    requires few_workers { workers ≤ MOST_WORKERS }
     ensures summaries { IfOk result (λ summaries. summaries ≡
         (trial_profile (runs_in image.now index.now []) index.now.lines point.0).summaries) }
     ensures ranges { IfOk result (AllByRecursion (IsSummary 1)) }
@@ -162,7 +162,7 @@ fn trial_profile<'r, R: Threads + Sync, G: Gate>(
 ) -> Result<Profile, Fault<'r>>
     requires point { point.0 < length index.now.lines }
     requires some_workers { 1 ≤ workers }
-    requires few_workers { workers ≤ 16 }
+    requires few_workers { workers ≤ MOST_WORKERS }
     ensures profile { IfOk result (λ profile.
         profile ≡ trial_profile (runs_in image.now index.now []) index.now.lines point.0) }
     ensures points { IfOk result (λ profile. length profile.points ≡ 1) }
@@ -211,7 +211,7 @@ fn index_answer<'r, R: Threads + Sync, G: Gate>(
 ) -> Answer<'r>
     requires point { IsOk (trial_point source.now.point index.now.lines) }
     requires some_workers { 1 ≤ workers }
-    requires few_workers { workers ≤ 16 }
+    requires few_workers { workers ≤ MOST_WORKERS }
     ensures { IsOfTrial (trial_judging (view source.now)
         index.now.lines (runs_in image.now index.now [])) result }
 {
@@ -234,7 +234,7 @@ fn file_answer<'r, R: Threads + Sync, G: Gate>(
 ) -> Answer<'r>
     requires file { IsTrialFile (view source.now) file.now }
     requires some_workers { 1 ≤ workers }
-    requires few_workers { workers ≤ 16 }
+    requires few_workers { workers ≤ MOST_WORKERS }
     ensures { IsOfTrial (file_verdict (trial_judging (view source.now)) file.now []) result }
 {
     let program = read_program(alloc, file)?;
@@ -261,9 +261,9 @@ pub fn judge_trial<'r, R: Threads + Sync, G: Gate>(
     gate: &G,
 ) -> Answer<'r>
     requires least { 1 ≤ request.now.size }
-    requires most { request.now.size ≤ 2000 }
+    requires most { request.now.size ≤ GREATEST_SIZE }
     requires some_workers { 1 ≤ request.now.workers }
-    requires few_workers { request.now.workers ≤ 16 }
+    requires few_workers { request.now.workers ≤ MOST_WORKERS }
     ensures { IsOfTrial (trial_verdict request.now.seed request.now.size) result }
 {
     let source = source(alloc, request.seed, request.size)?;

@@ -1,19 +1,11 @@
 -- The ranges of what a profile says of one run.
 use Rattle.std.specs.Prelude.{◌≡◌, ◌≤◌, ℕ, ◌-◌, Bool, ◌&&◌, nat_lt, nat_le, true, List, length}
 use Rattle.std.specs.List.{list_all}
-use Rattle.coz_types.specs.declared.TheConstants.{GREATEST_SPEEDUP, HARTS}
+use Rattle.coz_types.specs.declared.TheConstants.{GREATEST_SPEEDUP, GREATEST_NUMBER, GREATEST_COUNT, HARTS}
 use Rattle.coz_types.specs.Labels.{is_label}
 use Rattle.coz_types.specs.declared.ending.Ending.{Ending}
 use Rattle.coz_types.specs.declared.ending.Ending.TheVariants.{Exited, Trapped, Unsupported, Clock, OutputFull, VisitsFull, Stalled, Spent}
 use Rattle.coz_types.specs.declared.record.Summary.{Summary}
-
--- 10^17: times, and numbers of instructions, of starts and of bytes, are at most that
-abbrev pub greatest_number : ℕ
-greatest_number = 100000000000000000
-
--- 10^9: counts of visits are at most that
-abbrev pub most_visits : ℕ
-most_visits = 1000000000
 
 -- 2^64 - 1
 abbrev pub last_word : ℕ
@@ -40,12 +32,12 @@ pub record IsSummary (points : ℕ) (s : Summary) : Type 0 where
   pub selected : is_label s.selected ≡ true
   pub speedup : s.speedup ≤ GREATEST_SPEEDUP
   pub ending : is_ending s.outcome.ending ≡ true
-  pub time : s.outcome.time ≤ greatest_number
+  pub time : s.outcome.time ≤ GREATEST_NUMBER
   pub delay : s.outcome.delay ≤ s.outcome.time
-  pub retired : s.outcome.retired ≤ greatest_number
-  pub starts : s.outcome.starts ≤ greatest_number
-  pub size : s.length ≤ greatest_number
+  pub retired : s.outcome.retired ≤ GREATEST_NUMBER
+  pub starts : s.outcome.starts ≤ GREATEST_NUMBER
+  pub size : s.length ≤ GREATEST_NUMBER
   pub output : IsDigest s.output.bytes
   pub visits : IsDigest s.visits.bytes
   pub counts : length s.counts ≡ points
-  pub deltas : list_all (λ n. nat_le n most_visits) s.counts ≡ true
+  pub deltas : list_all (λ n. nat_le n GREATEST_COUNT) s.counts ≡ true

@@ -5,12 +5,12 @@ use Rattle.std.specs.List.{list_all}
 use Rattle.std.specs.Str.{bytes_eq}
 use Rattle.std.proofs.lemmas.Slice.Eq.{bytes_eq-Decides}
 use Rattle.coz_words.specs.Said.{Text, Item}
-use Rattle.coz_words.specs.Request.{Requests, request_of_items, are_items_of, is_of_options, command_name, option_names, is_word}
+use Rattle.coz_words.specs.Request.{commands, Requests, request_of_items, are_items_of, is_of_options, command_name, option_names, is_word}
 use Rattle.coz_words.specs.declared.command.Command.{Command}
 use Rattle.coz_words.specs.declared.request.Request.{Request}
 use Rattle.coz_words.specs.Parse.{AreNames}
 use Rattle.coz_words.specs.declared.command.Command.TheVariants.{Run, Really, Profile, Lines, Plot, Asm, Trial}
-use Rattle.coz_words.specs.Slow.{commands, command_of, items_in, request_in}
+use Rattle.coz_words.specs.Slow.{command_of, items_in, request_in}
 use Rattle.coz_words.proofs.Agree.{both_true}
 use Rattle.coz_words.proofs.Meaning.{said_back, said_forth, are_names_of}
 

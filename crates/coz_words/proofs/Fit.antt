@@ -10,8 +10,9 @@ use Rattle.experiment_plan.specs.Lists.{is_number, number_in, is_line, is_list, 
 use Rattle.coz_words.specs.Said.{Text, Item, option, target, dashes, SaysAll}
 use Rattle.coz_words.specs.declared.command.Command.{Command}
 use Rattle.coz_words.specs.declared.command.Command.TheVariants.{Run, Really, Profile, Lines, Plot, Asm, Trial}
+use Rattle.coz_words.specs.declared.request.Counts.{Counts}
 use Rattle.coz_words.specs.declared.request.Request.{Request}
-use Rattle.coz_words.specs.Request.{IsFit, Requests, request_of_items, are_items_of, is_of_options, has_option, has_text, is_once, is_word, none_or, number_or, numbers_in, seed_in, speedup_in, speedups_in, all_speedups, command_name, option_names, request_with, is_runner, target_of, value_of, input_name, line_name, speedup_name, lines_name, progress_name, speedups_name, budget_name, workers_name, size_name, dwarf_name}
+use Rattle.coz_words.specs.Request.{IsFit, Requests, request_of_items, are_items_of, is_of_options, has_option, has_text, is_once, is_word, none_or, number_or, numbers_in, seed_in, speedup_in, speedups_in, all_speedups, command_name, option_names, counts_with, request_from, request_with, is_runner, target_of, value_of, line_name, speedup_name, lines_name, progress_name, speedups_name, budget_name, workers_name, size_name, dwarf_name}
 use Rattle.coz_words.proofs.Agree.{both_true}
 use Rattle.coz_words.proofs.Exact.{then_some, if_some}
 
@@ -109,8 +110,8 @@ passes test (Some text) e = e
 
 -- ---- the request
 
-made_same : (made r : Request) → Some made ≡ Some r → made ≡ r
-made_same made r is = cc
+some_same : {A : Type 0} (x y : A) → Some x ≡ Some y → x ≡ y
+some_same x y is = cc
 
 request_fits : (c : Command) (path : Option Text) (value : Text → Option Text) (r : Request) → ((t : Text) → path ≡ Some t → (nat_lt 0 (length t) ≡ true) × (is_word t ≡ true)) → request_with c path value ≡ Some r → IsFit r
 request_fits c path value r own is =
@@ -120,13 +121,14 @@ request_fits c path value r own is =
     let target = then_some path _ r tests.1 in
     let speedup = then_some (speedup_in (value line_name) (value speedup_name)) _ r target.2 in
     let speedups = then_some (speedups_in c (value speedups_name)) _ r speedup.2 in
-    let budget = then_some (number_or c budget_name 100000000 1 1000000000000 (value budget_name)) _ r speedups.2 in
-    let workers = then_some (number_or c workers_name 4 1 16 (value workers_name)) _ r budget.2 in
-    let size = then_some (number_or c size_name 100 1 2000 (value size_name)) _ r workers.2 in
-    let dwarf = then_some (number_or c dwarf_name 4 4 5 (value dwarf_name)) _ r size.2 in
-    let seed = then_some (seed_in c target.0) _ r dwarf.2 in
-    let made : Request = record { command = c; target = target.0; input = value input_name; line = value line_name; speedup = speedup.0; lines = value lines_name; progress = value progress_name; speedups = speedups.0; budget = budget.0; workers = workers.0; seed = seed.0; size = size.0; dwarf = dwarf.0 } in
-    let same : made ≡ r = made_same made r seed.2 in
+    let counts = then_some (counts_with c target.0 value) _ r speedups.2 in
+    let budget = then_some (number_or c budget_name 100000000 1 1000000000000 (value budget_name)) _ counts.0 counts.1 in
+    let workers = then_some (number_or c workers_name 4 1 16 (value workers_name)) _ counts.0 budget.2 in
+    let size = then_some (number_or c size_name 100 1 2000 (value size_name)) _ counts.0 workers.2 in
+    let dwarf = then_some (number_or c dwarf_name 4 4 5 (value dwarf_name)) _ counts.0 size.2 in
+    let seed = then_some (seed_in c target.0) _ counts.0 dwarf.2 in
+    let from : Counts → Request = request_from c target.0 value speedup.0 speedups.0 in
+    let same : from (record { budget = budget.0; workers = workers.0; size = size.0; dwarf = dwarf.0; seed = seed.0 }) ≡ r = ap from (some_same _ counts.0 seed.2) ∙ some_same _ r counts.2 in
     let slow = speedup_fits (value line_name) (value speedup_name) speedup.0 speedup.1 in
     let many = number_fits c workers_name 4 1 16 (value workers_name) workers.0 (omega arith) (omega arith) workers.1 in
     let version = number_fits c dwarf_name 4 4 5 (value dwarf_name) dwarf.0 (omega arith) (omega arith) dwarf.1 in

@@ -3,4 +3,3 @@ pub mod Request
 pub mod Slow
 pub mod Parse
 pub mod Answers
-pub mod Counts

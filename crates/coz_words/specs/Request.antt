@@ -1,15 +1,20 @@
 -- The request of a command line.
-use Rattle.std.specs.Prelude.{◌≡◌, ℕ, ◌≤◌, ◌^◌, Bool, not, ◌&&◌, ◌==◌, nat_lt, nat_le, true, false, List, [], ◌∷◌, length, codes, Option, Some, None, IfSome, if◌then◌else◌, option_and_then, find}
+use Rattle.std.specs.Prelude.{◌≡◌, ℕ, ◌≤◌, Bool, not, ◌&&◌, ◌==◌, nat_lt, nat_le, true, false, List, [], ◌∷◌, length, codes, Option, Some, None, IfSome, if◌then◌else◌, option_and_then, find}
 use Rattle.std.specs.List.{list_all, list_any}
 use Rattle.std.specs.Str.{bytes_eq}
-use Rattle.coz_types.specs.declared.TheConstants.{GREATEST_SPEEDUP, GREATEST_BUDGET}
+use Rattle.coz_types.specs.declared.TheConstants.{GREATEST_SPEEDUP, GREATEST_BUDGET, MOST_WORKERS, GREATEST_SIZE}
 use Rattle.coz_words.specs.Said.{Text, Item, option, target, SaysAll}
 use Rattle.experiment_plan.specs.Lists.{number_in, is_line, is_list, pieces}
 use Rattle.coz_words.specs.declared.command.Command.{Command}
 use Rattle.coz_words.specs.declared.command.Command.TheVariants.{Run, Really, Profile, Lines, Plot, Asm, Trial}
+use Rattle.coz_words.specs.declared.request.TheConstants.{USUAL_BUDGET, USUAL_WORKERS, USUAL_SIZE}
+use Rattle.coz_words.specs.declared.request.Counts.{Counts}
 use Rattle.coz_words.specs.declared.request.Request.{Request}
 
 -- ---- commands
+
+abbrev pub commands : List Command
+commands = Run ∷ Really ∷ Profile ∷ Lines ∷ Plot ∷ Asm ∷ Trial ∷ []
 
 abbrev pub command_name : Command → Text
 command_name Run = codes "run"
@@ -25,10 +30,7 @@ abbrev pub is_runner : Command → Bool
 is_runner Run = true
 is_runner Really = true
 is_runner Profile = true
-is_runner Lines = false
-is_runner Plot = false
-is_runner Asm = false
-is_runner Trial = false
+is_runner _ = false
 
 abbrev pub input_name : Text
 input_name = codes "input"
@@ -180,6 +182,35 @@ speedups_in c (Some numbers) = numbers_in 0 GREATEST_SPEEDUP (pieces numbers)
 
 -- ---- the request
 
+-- the numbers that stand for themselves: of a command, its positional, and the values of options
+-- by their names
+abbrev pub counts_with : Command → Text → (Text → Option Text) → Option Counts
+counts_with c text value =
+    number_or c budget_name USUAL_BUDGET 1 GREATEST_BUDGET (value budget_name) >>= λ budget.
+    number_or c workers_name USUAL_WORKERS 1 MOST_WORKERS (value workers_name) >>= λ workers.
+    number_or c size_name USUAL_SIZE 1 GREATEST_SIZE (value size_name) >>= λ size.
+    number_or c dwarf_name 4 4 5 (value dwarf_name) >>= λ dwarf.
+    seed_in c text >>= λ seed.
+    Some (record { budget = budget; workers = workers; size = size; dwarf = dwarf; seed = seed })
+
+-- the request of a command, a positional, the values of options, a speedup, speedups and counts
+abbrev pub request_from : Command → Text → (Text → Option Text) → ℕ → List ℕ → Counts → Request
+request_from c text value speedup speedups counts = record {
+  command = c;
+  target = text;
+  input = value input_name;
+  line = value line_name;
+  speedup = speedup;
+  lines = value lines_name;
+  progress = value progress_name;
+  speedups = speedups;
+  budget = counts.budget;
+  workers = counts.workers;
+  seed = counts.seed;
+  size = counts.size;
+  dwarf = counts.dwarf;
+}
+
 -- the request of a command, a positional, and the values of options by their names
 abbrev pub request_with : Command → Option Text → (Text → Option Text) → Option Request
 request_with c path value =
@@ -188,26 +219,8 @@ request_with c path value =
     path >>= λ target.
     speedup_in (value line_name) (value speedup_name) >>= λ speedup.
     speedups_in c (value speedups_name) >>= λ speedups.
-    number_or c budget_name 100000000 1 GREATEST_BUDGET (value budget_name) >>= λ budget.
-    number_or c workers_name 4 1 16 (value workers_name) >>= λ workers.
-    number_or c size_name 100 1 2000 (value size_name) >>= λ size.
-    number_or c dwarf_name 4 4 5 (value dwarf_name) >>= λ dwarf.
-    seed_in c target >>= λ seed.
-    Some (record {
-      command = c;
-      target = target;
-      input = value input_name;
-      line = value line_name;
-      speedup = speedup;
-      lines = value lines_name;
-      progress = value progress_name;
-      speedups = speedups;
-      budget = budget;
-      workers = workers;
-      seed = seed;
-      size = size;
-      dwarf = dwarf;
-    })
+    counts_with c target value >>= λ counts.
+    Some (request_from c target value speedup speedups counts)
     ) else None
 
 -- the request that the items make, where they are right
@@ -238,9 +251,9 @@ pub record IsFit (request : Request) : Type 0 where
   pub some_budget : is_runner request.command ≡ true → 1 ≤ request.budget
   pub budget : request.budget ≤ GREATEST_BUDGET
   pub some_workers : has_option request.command workers_name ≡ true → 1 ≤ request.workers
-  pub workers : request.workers ≤ 16
+  pub workers : request.workers ≤ MOST_WORKERS
   pub some_size : has_option request.command size_name ≡ true → 1 ≤ request.size
-  pub size : request.size ≤ 2000
+  pub size : request.size ≤ GREATEST_SIZE
   -- what a trial is made from is its positional
   pub seed : seed_in request.command request.target ≡ Some request.seed
   -- 4 or 5 where the command has a version

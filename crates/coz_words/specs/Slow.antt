@@ -3,10 +3,9 @@ use Rattle.std.specs.Prelude.{◌==◌, true, false, List, [], ◌∷◌, ◌&&�
 use Rattle.std.specs.List.{list_all, list_any, before_first, after_first}
 use Rattle.std.specs.Str.{bytes_eq}
 use Rattle.coz_words.specs.Said.{Text, Item, option, target, is_own_word, dashes}
-use Rattle.coz_words.specs.Request.{request_of_items, command_name, option_names, is_among, is_word, ◌>>=◌}
+use Rattle.coz_words.specs.Request.{request_of_items, commands, command_name, option_names, is_among, is_word, ◌>>=◌}
 use Rattle.coz_words.specs.declared.command.Command.{Command}
 use Rattle.coz_words.specs.declared.request.Request.{Request}
-use Rattle.coz_words.specs.declared.command.Command.TheVariants.{Run, Really, Profile, Lines, Plot, Asm, Trial}
 
 -- what follows a word `--`
 abbrev pub after_dashes : List Text → Option (List Item)
@@ -46,9 +45,6 @@ items_in names None (word ∷ words) = elim (is_own_word word) [
     ]
   ]
 ]
-
-abbrev pub commands : List Command
-commands = Run ∷ Really ∷ Profile ∷ Lines ∷ Plot ∷ Asm ∷ Trial ∷ []
 
 abbrev pub command_of : Text → Option Command
 command_of word = find (λ c. bytes_eq (command_name c) word) commands

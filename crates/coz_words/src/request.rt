@@ -4,9 +4,8 @@ ghost use Rattle.std.specs.List.{list_all};
 ghost use Rattle.std.specs.Option.{option_copied};
 ghost use Rattle.clap.specs.Words.{first_value, found_of};
 ghost use Rattle.coz_words.specs.Answers.{Answers, bytes_of, option_value};
-ghost use Rattle.coz_words.specs.Counts.{counts_with};
 ghost use Rattle.coz_words.specs.Parse.{target_id};
-ghost use Rattle.coz_words.specs.Request.{IsFit, Requests, has_text, option_names, request_with, none_or, is_some_text};
+ghost use Rattle.coz_words.specs.Request.{IsFit, Requests, counts_with, has_text, option_names, request_with, none_or, is_some_text};
 ghost use Rattle.coz_words.specs.Slow.{request_in};
 ghost use Rattle.coz_words.specs.declared.request.WordsError.TheVariants.{Usage, Memory};
 
@@ -17,17 +16,13 @@ use crate::value::{are_lines, number_or, seed_of, speedup_of, speedups_of, versi
 use crate::word::{Word, copied_pair};
 use clap::ArgMatches;
 use coz_lists::Items;
-use coz_types::GREATEST_BUDGET;
+use coz_types::{GREATEST_BUDGET, GREATEST_SIZE, MOST_WORKERS};
 use std::alloc::{AllocError, AllocFailed, Global};
 
 /// The budget where the words name none.
-const USUAL_BUDGET: u64 = 100000000;
-/// The most workers of a profile.
-const MOST_WORKERS: u64 = 16;
+const USUAL_BUDGET: u64 = 100_000_000;
 /// The workers where the words name none.
 const USUAL_WORKERS: u64 = 4;
-/// The greatest size of a trial, in blocks.
-const GREATEST_SIZE: u64 = 2000;
 /// The size where the words name none.
 const USUAL_SIZE: u64 = 100;
 

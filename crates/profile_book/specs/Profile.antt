@@ -3,10 +3,10 @@ use Rattle.std.specs.Prelude.{◌≡◌, ◌≤◌, ℕ, ◌/◌, ◌%◌, Bool,
 use Rattle.std.specs.List.{enumerate_from, list_all, AllByRecursion}
 use Rattle.std.specs.Str.{bytes_eq}
 use Rattle.std.specs.Fmt.{digits}
-use Rattle.coz_types.specs.declared.TheConstants.{MOST_POINTS}
+use Rattle.coz_types.specs.declared.TheConstants.{MOST_POINTS, GREATEST_NUMBER}
 use Rattle.coz_types.specs.Labels.{Text, is_label, label_before}
 use Rattle.coz_types.specs.Endings.{ending_text}
-use Rattle.coz_types.specs.Ranges.{greatest_number, IsSummary}
+use Rattle.coz_types.specs.Ranges.{IsSummary}
 use Rattle.coz_types.specs.declared.record.Summary.{Summary}
 use Rattle.profile_book.specs.declared.profile.Profile.{Profile}
 
@@ -82,7 +82,7 @@ summary_before s t =
 
 -- the budget and the points, the summaries within their ranges, and all in their orders
 pub record IsProfile (p : Profile) : Type 0 where
-  pub budget : p.budget ≤ greatest_number
+  pub budget : p.budget ≤ GREATEST_NUMBER
   pub points : length p.points ≤ MOST_POINTS
   pub names : list_all is_label p.points ≡ true
   pub names_rise : is_rising label_before p.points ≡ true

@@ -1,7 +1,7 @@
 //! Workers that draw the claims of a plan from one word.
 ghost use Rattle.std.specs.Prelude.{◌≡◌, ℕ, ◌+◌, ◌*◌, ◌<◌, ◌≤◌, ◌^◌, [], IfOk, List, length, map, All, vec_len};
 ghost use Rattle.std.specs.List.{flat_map, range_with_len};
-ghost use Rattle.coz_types.specs.declared.TheConstants.{GREATEST_BUDGET};
+ghost use Rattle.coz_types.specs.declared.TheConstants.{GREATEST_BUDGET, MOST_WORKERS};
 ghost use Rattle.coz_types.specs.declared.record.Summary.{Summary};
 ghost use Rattle.coz_types.specs.Ranges.{IsSummary};
 ghost use Rattle.experiment_claims.specs.Drawn.{hand};
@@ -109,7 +109,7 @@ fn deal<'a>(
     requires work { IsWork work.now }
     requires seat { IsSeatOf claims.now first × (hand_of first ≡ hand (2 ^ 40) []) }
     requires bound { bound ≡ bound_of claims.now }
-    requires workers { workers ≤ 16 }
+    requires workers { workers ≤ MOST_WORKERS }
     requires jobs { jobs.old.items ≡ [] }
     ensures rest { IfOk result (λ rest.
         IsSeatOf claims.now rest × ((hand_of rest).numbers ≡ [])) }
@@ -219,7 +219,7 @@ fn run_claims<'a, R: Threads + Sync, G: Gate>(
 ) -> Result<Answer, AllocError>
     requires work { IsWork work.now × (bound_of claims.now ≡ length (by_line work.now.plan.now)) }
     requires seat { IsSeatOf claims.now first × (hand_of first ≡ hand (2 ^ 40) []) }
-    requires workers { workers ≤ 16 }
+    requires workers { workers ≤ MOST_WORKERS }
     ensures seat { IfOk result (λ a. IsSeatOf claims.now a.seat) }
     ensures worked { IfOk result (λ a. Worked (work_at work.now) (bound_of claims.now)
         (2 ^ 40) workers (hand_of a.seat) a.done.items) }
@@ -255,7 +255,7 @@ fn run_lines<'a, R: Threads + Sync, G: Gate>(
 ) -> Result<Vec<Summary>, AllocError>
     requires work { IsWork work.now }
     requires some_workers { 1 ≤ workers }
-    requires few_workers { workers ≤ 16 }
+    requires few_workers { workers ≤ MOST_WORKERS }
     ensures summaries { IfOk result (λ summaries.
         summaries.items ≡ map (summary_of_pair work.now) work.now.plan.now) }
     ensures ranges { IfOk result (λ summaries.
@@ -293,7 +293,7 @@ pub fn run_plan<R: Threads + Sync, G: Gate>(
     requires some_budget { 1 ≤ budget }
     requires few { budget ≤ GREATEST_BUDGET }
     requires some_workers { 1 ≤ workers }
-    requires few_workers { workers ≤ 16 }
+    requires few_workers { workers ≤ MOST_WORKERS }
     ensures summaries { IfOk result (λ summaries.
         summaries.items ≡ summaries_of image.now index.now points.now input.now budget plan.now) }
     ensures ranges { IfOk result (λ summaries.

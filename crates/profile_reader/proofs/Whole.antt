@@ -4,7 +4,6 @@ use Rattle.std.specs.List.{concat, AllByRecursion}
 use Rattle.std.specs.Str.{bytes_eq}
 use Rattle.std.proofs.lemmas.List.{append-nil}
 use Rattle.coz_types.specs.Labels.{Text, label_before}
-use Rattle.coz_types.specs.Ranges.{greatest_number}
 use Rattle.coz_types.specs.declared.record.Summary.{Summary}
 use Rattle.profile_book.specs.declared.profile.Profile.{Profile}
 use Rattle.profile_reader.specs.declared.fault.BookField.{BookField}

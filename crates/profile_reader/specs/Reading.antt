@@ -5,8 +5,7 @@ use Rattle.std.specs.Str.{bytes_eq}
 use Rattle.std.specs.Str.Parse.{digits_value}
 use Rattle.std.specs.List.{slice_split}
 use Rattle.coz_types.specs.Labels.{Text}
-use Rattle.coz_types.specs.Ranges.{greatest_number}
-use Rattle.coz_types.specs.declared.TheConstants.{GREATEST_SPEEDUP, MOST_POINTS}
+use Rattle.coz_types.specs.declared.TheConstants.{GREATEST_SPEEDUP, MOST_POINTS, GREATEST_NUMBER, GREATEST_COUNT}
 use Rattle.profile_reader.specs.EndingSpellings.{is_ending_text}
 use Rattle.coz_types.specs.declared.record.Summary.{Summary}
 use Rattle.coz_types.specs.declared.record.Outcome.{Outcome}
@@ -139,7 +138,7 @@ unfoldable pub head_at : Ahead → Result ((ℕ × ℕ) × Ahead) BookFault
 head_at a = do
   head ← word_at Head (codes "coz-ticks") a
   version ← word_at Version (codes "\tversion=1") head.1
-  budget ← number_at Budget greatest_number version.1
+  budget ← number_at Budget GREATEST_NUMBER version.1
   points ← number_at Points MOST_POINTS budget.1
   end ← word_at Newline (codes "\n") points.1
   Ok ((budget.0, points.0), end.1)
@@ -164,7 +163,7 @@ unfoldable pub count_at : ℕ → Ahead → Result (ℕ × Ahead) BookFault
 count_at index a = do
   point ← word_at Throughput (codes "throughput-point") a
   number ← word_at Index (number_field (codes "index") index) point.1
-  count ← number_at Delta 1000000000 number.1
+  count ← number_at Delta GREATEST_COUNT number.1
   end ← word_at Newline (codes "\n") count.1
   Ok (count.0, end.1)
 
@@ -185,10 +184,10 @@ speedup_of last = unwrap_or (option_map (λ (s : Summary). s.speedup) last) 0
 unfoldable pub outcome_at : Ahead → Result (Outcome × Ahead) BookFault
 outcome_at a = do
   ending ← ending_at a
-  time ← number_at Time greatest_number ending.1
+  time ← number_at Time GREATEST_NUMBER ending.1
   delay ← number_at Delay time.0 time.1
-  retired ← number_at Retired greatest_number delay.1
-  starts ← number_at Starts greatest_number retired.1
+  retired ← number_at Retired GREATEST_NUMBER delay.1
+  starts ← number_at Starts GREATEST_NUMBER retired.1
   end ← word_at Newline (codes "\n") starts.1
   Ok (
     record {
@@ -211,7 +210,7 @@ selection_at last a = do
 unfoldable pub output_at : Ahead → Result ((ℕ × List ℕ) × Ahead) BookFault
 output_at a = do
   output ← word_at Output (codes "output") a
-  size ← number_at Length greatest_number output.1
+  size ← number_at Length GREATEST_NUMBER output.1
   digest ← digest_at size.1
   end ← word_at Newline (codes "\n") digest.1
   Ok ((size.0, digest.0), end.1)

@@ -6,6 +6,7 @@ mod kinds;
 mod listing;
 
 ghost use Rattle.std.specs.Prelude.{◌≡◌, ◌+◌, ◌≤◌, ◌++◌, length, OnOk, IfOk};
+ghost use Rattle.coz_types.specs.declared.TheConstants.{GREATEST_SIZE};
 ghost use Rattle.work_gen.specs.Text.{before_point, ending, generated, view};
 ghost use Rattle.work_gen.specs.Adding.{Adds};
 ghost use Rattle.work_gen.specs.Accepted.{IsAccepted};
@@ -72,7 +73,7 @@ const ENDING: [&[u8]; 18] = [
 
 /// All lines, and the line of the progress point. Only want of memory stands against it.
 fn put_source(listing: &mut Listing, seed: u64, size: u32) -> Result<u32, AllocError>
-    requires size { size ≤ 2000 }
+    requires size { size ≤ GREATEST_SIZE }
     requires empty { listing.old.lines ≡ 0 }
     ensures lines { OnOk result
         (Adds (before_point seed size ++ ending) listing.old listing.new) }
@@ -91,7 +92,7 @@ fn put_source(listing: &mut Listing, seed: u64, size: u32) -> Result<u32, AllocE
 #[tactic(auto, unfolding(crate::specs::Text::generated))]
 pub fn source(alloc: Global, seed: u64, size: u32) -> Result<Generated, AllocError>
     requires least { 1 ≤ size }
-    requires most { size ≤ 2000 }
+    requires most { size ≤ GREATEST_SIZE }
     ensures text { IfOk result (λ g. view g ≡ generated seed size) }
     ensures accepted { IfOk result (λ g. IsAccepted (view g)) }
     ensures short { IfOk result (λ g. length g.text ≤ 2097152) }
