@@ -1,5 +1,5 @@
 //! Tests of `rv_asm`.
-use rv_asm::{AsmError, AsmKind, assemble};
+use rv_asm::{AsmError, AsmKind, TEXT_START, assemble};
 use std::alloc::Global;
 use std::test::Fail;
 
@@ -14,14 +14,21 @@ fn fault_of(alloc: Global, source: &[u8]) -> Option<(AsmKind, u32, u32)> {
     }
 }
 
-/// The only word of a source's text.
-fn word_of(alloc: Global, source: &[u8]) -> Option<u32> {
+/// The one word of a source's text or the two, the first in the lower half, and its entry.
+fn program_of(alloc: Global, source: &[u8]) -> Option<(u64, u64)> {
     if source.len() > 4_194_304 {
         return None;
     }
     match assemble(alloc, source) {
         Ok(made) => match made.text.as_slice() {
-            [a, b, c, d] => Some(u32::from_le_bytes([*a, *b, *c, *d])),
+            [a, b, c, d] => {
+                let word = u32::from_le_bytes([*a, *b, *c, *d]);
+                Some((u64::from(word), made.entry))
+            }
+            [a, b, c, d, e, f, g, h] => {
+                let words = u64::from_le_bytes([*a, *b, *c, *d, *e, *f, *g, *h]);
+                Some((words, made.entry))
+            }
             _ => None,
         },
         _ => None,
@@ -84,30 +91,33 @@ fn lines_are_counted(rt: HostRuntime) -> Result<(), Fail> {
     Ok(())
 }
 
-/// Statements, and the words that the GNU assembler makes of them. The last fills
-/// a section up to its limit.
-static WORDS: [(&[u8], u32); 16] = [
-    (b"add x23, x13, x21", 0x0156_8bb3),
-    (b"ld x4, 1406(x24)", 0x57ec_3203),
-    (b"sd x31, -1(x26)", 0xfffd_3fa3),
-    (b"t: beq x27, x3, t", 0x003d_8063),
-    (b"jalr x22, 0(x31)", 0x000f_8b67),
-    (b"lui x29, 1048575", 0xffff_feb7),
-    (b"auipc x4, 1", 0x0000_1217),
-    (b"lr.w x22, (x6)", 0x1003_2b2f),
-    (b"amoadd.w.aq x0, x8, (x29)", 0x048e_a02f),
-    (b"sc.d.aqrl x13, x6, (x18)", 0x1e69_36af),
-    (b"fence", 0x0ff0_000f),
-    (b"ecall", 0x0000_0073),
-    (b"li a0, -2048", 0x8000_0513),
-    (b"ret", 0x0000_8067),
-    (b"_start: nop # \" not a text", 0x0000_0013),
-    (b"nop\n.data\n.zero 1048576", 0x0000_0013),
+/// Statements, the words that the GNU assembler makes of them, the first in the lower half,
+/// and where the program begins. The last fills a section up to its limit.
+static WORDS: [(&[u8], u64, u64); 19] = [
+    (b"add x23, x13, x21", 0x0156_8bb3, TEXT_START),
+    (b"ld x4, 1406(x24)", 0x57ec_3203, TEXT_START),
+    (b"sd x31, -1(x26)", 0xfffd_3fa3, TEXT_START),
+    (b"t: beq x27, x3, t", 0x003d_8063, TEXT_START),
+    (b"jalr x22, 0(x31)", 0x000f_8b67, TEXT_START),
+    (b"lui x29, 1048575", 0xffff_feb7, TEXT_START),
+    (b"auipc x4, 1", 0x0000_1217, TEXT_START),
+    (b"lr.w x22, (x6)", 0x1003_2b2f, TEXT_START),
+    (b"amoadd.w.aq x0, x8, (x29)", 0x048e_a02f, TEXT_START),
+    (b"sc.d.aqrl x13, x6, (x18)", 0x1e69_36af, TEXT_START),
+    (b"fence", 0x0ff0_000f, TEXT_START),
+    (b"ecall", 0x0000_0073, TEXT_START),
+    (b"li a0, -2048", 0x8000_0513, TEXT_START),
+    (b"li a0, 2048", 0x8005_051b_0000_1537, TEXT_START),
+    (b"mv a0, fp", 0x0004_0513, TEXT_START),
+    (b"ret", 0x0000_8067, TEXT_START),
+    (b"_start: nop # \" not a text", 0x0000_0013, TEXT_START),
+    (b"nop\n_start: nop", 0x0000_0013_0000_0013, TEXT_START + 4),
+    (b"nop\n.data\n.zero 1048576", 0x0000_0013, TEXT_START),
 ];
 
 #[test]
 fn statements_have_their_words(rt: HostRuntime) {
-    for &(source, word) in &WORDS {
-        assert_eq!(rt; word_of(rt.alloc(), source), Some(word));
+    for &(source, words, entry) in &WORDS {
+        assert_eq!(rt; program_of(rt.alloc(), source), Some((words, entry)));
     }
 }
