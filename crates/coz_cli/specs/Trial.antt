@@ -14,6 +14,7 @@ use Rattle.profile_book.specs.declared.profile.Profile.{Profile}
 use Rattle.profile_book.specs.Profile.{hex_text, profile_text}
 use Rattle.causal_curves.specs.Curves.{curves_of, ranked_curves}
 use Rattle.causal_curves.specs.declared.curve.Curve.{Curve}
+use Rattle.coz_cli.specs.declared.trial.TheConstants.{BUDGET}
 use Rattle.coz_words.specs.Said.{Text}
 use Rattle.coz_cli.specs.Experiment.{Runs}
 use Rattle.coz_cli.specs.Profiled.{pairs_of, profile_of}
@@ -57,7 +58,7 @@ trial_plan lines = pairs_of (tenths (length lines)) (0 ∷ 25 ∷ 50 ∷ 75 ∷ 
 
 -- the profile of these runs, with one progress point
 unfoldable pub trial_profile : Runs → List Line → ℕ → Profile
-trial_profile runs lines point = profile_of runs lines 100000000 (point ∷ []) (trial_plan lines)
+trial_profile runs lines point = profile_of runs lines BUDGET (point ∷ []) (trial_plan lines)
 
 -- ---- the text
 

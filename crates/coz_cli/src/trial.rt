@@ -47,7 +47,8 @@ const SELECTED: u64 = 10;
 
 static SPEEDUPS: [u8; 4] = [0, 25, 50, 75];
 
-const BUDGET: u64 = 100000000;
+/// What each run of a trial is let retire.
+const BUDGET: u64 = 100_000_000;
 
 /// The file of what a trial's source stands for.
 #[tactic(auto, unfolding(crate::specs::Trial::trial_program, crate::specs::Trial::trial_file))]
