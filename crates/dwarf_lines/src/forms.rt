@@ -38,7 +38,7 @@ const DW_FORM_DATA16: u64 = 0x1E;
 const DW_FORM_LINE_STRP: u64 = 0x1F;
 
 /// How a value is written (DWARF 5, 7.5.6).
-#[derive(Clone, Copy, Debug, PartialEq, Eq)]
+#[derive(Clone, Copy)]
 pub enum Form {
     /// A text in the entry.
     Own,
@@ -63,7 +63,7 @@ pub enum Form {
 }
 
 /// A field of each entry.
-#[derive(Clone, Copy, Debug, PartialEq, Eq)]
+#[derive(Clone, Copy)]
 pub struct Format {
     /// What the field tells: 1 is the path, 2 the number of the directory.
     pub content: u64,

@@ -14,7 +14,7 @@ use coz_types::PAGE;
 use std::alloc::{AllocError, Global};
 
 /// A program header, and its place in the file.
-#[derive(Clone, Copy, Debug, PartialEq, Eq)]
+#[derive(Clone, Copy)]
 pub struct Segment {
     /// The offset of the header in the file.
     pub place: u64,
@@ -33,7 +33,7 @@ pub struct Segment {
 }
 
 /// A section header, and its place in the file.
-#[derive(Clone, Copy, Debug, PartialEq, Eq)]
+#[derive(Clone, Copy)]
 pub struct Section {
     /// The offset of the header in the file.
     pub place: u64,

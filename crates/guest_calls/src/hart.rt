@@ -22,7 +22,7 @@ pub enum HartStatus {
 }
 
 /// A hart that was made.
-#[derive(Clone, Copy, Debug)]
+#[derive(Clone, Copy)]
 pub struct Hart {
     /// Its registers and its pc.
     pub state: HartState,

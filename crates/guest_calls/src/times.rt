@@ -25,7 +25,7 @@ const NANOSECOND: u64 = 100;
 const LAST_MOMENT: u128 = 10_000_000_000_000_000;
 
 /// A span of time, or what a clock shows.
-#[derive(Clone, Copy, Debug)]
+#[derive(Clone, Copy)]
 pub struct Span {
     /// Whole seconds.
     pub seconds: u64,

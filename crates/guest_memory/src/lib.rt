@@ -76,7 +76,7 @@ impl Layout {
 pub struct Access;
 
 /// Pages in a row, and where they begin among the pages of a memory.
-#[derive(Clone, Copy, Debug)]
+#[derive(Clone, Copy)]
 struct Span {
     first: u64,
     count: u64,
@@ -84,7 +84,7 @@ struct Span {
 }
 
 /// The rights of a page, and whether it was written or given rights since the memory was made.
-#[derive(Clone, Copy, Debug)]
+#[derive(Clone, Copy)]
 struct Page {
     rights: Rights,
     touched: bool,

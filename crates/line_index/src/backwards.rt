@@ -11,7 +11,7 @@ ghost use Rattle.line_index.specs.Backwards.{AreBackwards, IsBackward, backward_
 use std::alloc::{AllocError, Global};
 
 /// A path's bytes from the last to the first, and its position in the order of paths.
-#[derive(Debug, PartialEq, Eq, PartialOrd, Ord, Drop)]
+#[derive(PartialEq, Eq, PartialOrd, Ord, Drop)]
 pub struct Backward {
     /// The path's bytes, the last one first.
     pub bytes: Vec<u8>,

@@ -7,7 +7,7 @@ use coz_types::{Address, LineId};
 use std::alloc::{AllocError, Global};
 
 /// From this address on, up to the next change, a span, or none.
-#[derive(Clone, Copy, Debug, PartialEq, Eq)]
+#[derive(Clone, Copy)]
 pub struct Change {
     /// The first address.
     pub address: Address,
@@ -16,7 +16,7 @@ pub struct Change {
 }
 
 /// From this address on, up to the next change, a line, or none.
-#[derive(Clone, Copy, Debug, PartialEq, Eq)]
+#[derive(Clone, Copy)]
 pub struct LineChange {
     /// The first address.
     pub address: Address,
@@ -25,7 +25,7 @@ pub struct LineChange {
 }
 
 /// How two lists of changes become one.
-#[derive(Clone, Copy, Debug, PartialEq, Eq)]
+#[derive(Clone, Copy)]
 pub enum Join {
     /// The first's position, and where it has none the second's.
     Over,

@@ -13,7 +13,7 @@ use std::alloc::{AllocError, Global};
 
 /// A file's name and its directory. They are compared in this order, since long directories are
 /// shared by many files.
-#[derive(Clone, Copy, Debug, PartialEq, Eq, PartialOrd, Ord, Drop)]
+#[derive(Clone, Copy, PartialEq, Eq, PartialOrd, Ord, Drop)]
 pub struct Entry<'a> {
     /// The file's name.
     pub name: &'a [u8],

@@ -15,7 +15,7 @@ use dwarf_lines::Row;
 use std::alloc::{AllocError, Global};
 
 /// A line by the position of its path in the order of paths, and its number.
-#[derive(Clone, Copy, Debug, PartialEq, Eq, PartialOrd, Ord)]
+#[derive(Clone, Copy, PartialEq, Eq, PartialOrd, Ord)]
 pub struct Key {
     /// The position of its path.
     pub path: u32,

@@ -12,7 +12,7 @@ use line_index::LineIndex;
 use std::alloc::{AllocError, Global};
 
 /// An entry address and the point that it has.
-#[derive(Clone, Copy, Debug, PartialEq, Eq)]
+#[derive(Clone, Copy)]
 pub struct Mark {
     /// The entry address.
     pub address: Address,
