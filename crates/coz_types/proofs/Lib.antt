@@ -1,3 +1,4 @@
 pub mod Hexadecimals
+pub mod Images
 pub mod WrittenPaths
 pub mod Labels

@@ -8,7 +8,8 @@ use line_index::{LineIndex, build};
 use std::alloc::{AllocError, Global};
 use std::test::Fail;
 
-const CODE: Area = Area {
+/// A page of text.
+pub const CODE: Area = Area {
     start: 0x10000,
     size: 4096,
     rights: Rights {
@@ -40,7 +41,8 @@ const FILES: [FileName<'static>; 4] = [
     },
 ];
 
-fn row(sequence: u32, address: u64, file: u32, line: u32) -> Row {
+/// A row of a statement.
+pub fn row(sequence: u32, address: u64, file: u32, line: u32) -> Row {
     Row {
         sequence,
         address,
@@ -52,14 +54,16 @@ fn row(sequence: u32, address: u64, file: u32, line: u32) -> Row {
     }
 }
 
-const fn file(name: &'static [u8]) -> FileName<'static> {
+/// A file without a directory.
+pub const fn file(name: &'static [u8]) -> FileName<'static> {
     FileName {
         directory: b"",
         name,
     }
 }
 
-fn index_of(
+/// The index of these rows over one page of text.
+pub fn index_of(
     alloc: Global,
     files: &[FileName<'static>],
     rows: &[Row],

@@ -1,58 +1,21 @@
 //! Tests of `progress_points`.
-use coz_lists::Items;
-use coz_types::{Address, Area, Image, LineId, PointId, Rights};
-use dwarf_lines::{FileName, LineTable, Row};
+use crate::line_index_tests::{file, index_of, row};
+use coz_types::{Address, LineId, PointId};
 use line_index::LineIndex;
 use progress_points::{Points, PointsError};
 use std::alloc::{AllocError, Global};
 use std::test::Fail;
 
-const CODE: Area = Area {
-    start: 0x10000,
-    size: 4096,
-    rights: Rights {
-        read: true,
-        write: false,
-        execute: true,
-    },
-    vaddr: 0x10000,
-    offset: 0,
-    filled: 4,
-};
-
-const FILES: [FileName<'static>; 1] = [FileName {
-    directory: b"",
-    name: b"a.s",
-}];
-
-fn row(address: u64, line: u32) -> Row {
-    Row {
-        sequence: 0,
-        address,
-        file: Some(0),
-        line,
-        column: 0,
-        is_stmt: true,
-        ends: false,
-    }
-}
-
 /// Lines 1 and 2 by turns, four bytes each, and then no line.
 fn index_of_two(alloc: Global) -> Result<LineIndex, AllocError> {
-    let image = Image::new(b"code", vec![in alloc; CODE]?, 0x10000, 0, 0);
     let rows = [
-        row(0x10000, 1),
-        row(0x10004, 2),
-        row(0x10008, 1),
-        row(0x1000C, 2),
-        row(0x10010, 0),
+        row(0, 0x10000, 0, 1),
+        row(0, 0x10004, 0, 2),
+        row(0, 0x10008, 0, 1),
+        row(0, 0x1000C, 0, 2),
+        row(0, 0x10010, 0, 0),
     ];
-    let table = LineTable {
-        files: Items::new(Vec::from_slice(alloc, &FILES)?),
-        rows: Items::new(Vec::from_slice(alloc, &rows)?),
-        skipped: 0,
-    };
-    line_index::build(alloc, &table, &image)
+    index_of(alloc, &[file(b"a.s")], &rows)
 }
 
 /// Whether the point of each address is the one beside it.

@@ -1,19 +1,6 @@
-use Rattle.std.proofs.Common.{refl, lit<, lit≤}
-use Rattle.coz_types.specs.Image.{one_area}
+use Rattle.std.proofs.Common.{refl, lit≤}
+use Rattle.coz_types.proofs.Images.{one_text}
 use Rattle.file_tests.proofs.coz_types_tests.an_image_of_one_area_is_made.Goals as goal
 
 pub new-image-requires : goal.new-image-requires
-new-image-requires g c =
-    rw c.in_ok-vec.ensures.items (one_area _ _ _ _ _
-    (record {
-      whole_start = refl;
-      whole_size = refl;
-      low = lit≤ tt;
-      high = lit≤ tt;
-      fill_starts = lit≤ tt;
-      fill_starts_within = lit< tt;
-      fill_ends = lit≤ tt;
-      in_file = lit≤ tt;
-      no_write_execute = λ write execute. let no : ⊥ = cc in no;
-    })
-    (lit≤ tt) refl (refl, lit≤ tt, lit< tt))
+new-image-requires g c = rw c.in_ok-vec.ensures.items (one_text _ _ _ _ _ 4 (lit≤ tt) refl)

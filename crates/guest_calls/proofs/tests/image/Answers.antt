@@ -1,19 +1,6 @@
-use Rattle.std.proofs.Common.{refl, lit<, lit≤}
-use Rattle.coz_types.specs.Image.{one_area}
+use Rattle.std.proofs.Common.{refl, lit≤}
+use Rattle.coz_types.proofs.Images.{one_text}
 use Rattle.guest_calls.proofs.tests.image.Goals as goal
 
 pub new-requires : goal.new-requires
-new-requires c =
-    rw c.in_ok-vec.ensures.items (one_area _ _ _ _ _
-    (record {
-      whole_start = refl;
-      whole_size = refl;
-      low = lit≤ tt;
-      high = lit≤ tt;
-      fill_starts = lit≤ tt;
-      fill_starts_within = lit< tt;
-      fill_ends = lit≤ tt;
-      in_file = lit≤ tt;
-      no_write_execute = λ write execute. let no : ⊥ = cc in no;
-    })
-    (lit≤ tt) refl (refl, lit≤ tt, lit< tt))
+new-requires c = rw c.in_ok-vec.ensures.items (one_text _ _ _ _ _ 12 (lit≤ tt) refl)
