@@ -1,8 +1,7 @@
 -- What is known of an answer before it is written.
-use Rattle.std.specs.Prelude.{◌≡◌, ℕ, ◌⊎◌, ◌++◌, codes, Option, Some, None, Result, Err, IsErrAnd}
+use Rattle.std.specs.Prelude.{◌≡◌, ℕ, ◌++◌, codes, Option, Some, None, Result, Err, IsErrAnd}
 use Rattle.coz_types.specs.Labels.{Text}
-use Rattle.coz_files.specs.Faults.{Rose}
-use Rattle.coz_files.specs.Verdict.{step_verdict}
+use Rattle.coz_files.specs.Verdict.{StepSettles, step_verdict}
 use Rattle.profile_reader.specs.declared.fault.BookError.{BookError}
 use Rattle.profile_reader.specs.declared.fault.BookError.TheVariants as book
 use Rattle.coz_page.specs.declared.judge.Ranked.{Ranked}
@@ -76,10 +75,10 @@ Suits (Some path) (Err (Read p)) = p.now ≡ path
 Suits (Some path) (Err (Long p)) = p.now ≡ path
 Suits (Some path) _ = Unit {0}
 
--- a step, and what follows it, is this verdict's, or it is a read that failed with a counted fault
+-- a step, and what follows it, settles on this verdict
 abbrev pub SettlesThen : {A : Type 0} → (A → Verdict) → Verdict → ℕ → ℕ → Result A Fault → Type 0
 SettlesThen next verdict before now step =
-    (verdict_after step next ≡ verdict) ⊎ (IsRead step × Rose before now)
+    StepSettles fault_verdict IsReadFault next verdict before now step
 
 -- an answer is this verdict's, or that of a read that failed with a counted fault
 abbrev pub Settles : Verdict → ℕ → ℕ → Answer → Type 0
