@@ -1,6 +1,8 @@
 //! Tests of `coz_cli`.
+use crate::calls::{ONE_SOURCE, held};
+use crate::program_tests::ONE;
 use coz_cli::serve;
-use coz_files::{FreeGate, Gate, HeldFile, MemoryFiles, MemorySink};
+use coz_files::{FreeGate, MemoryFiles, MemorySink};
 use std::alloc::{AllocError, Global};
 use std::process::Abort;
 use std::test::Fail;
@@ -49,13 +51,6 @@ static TEXTS: [(&str, [u8; 12]); 7] = [
     ("again", [0x6F, 0, 0, 0, 0, 0, 0, 0, 0, 0, 0, 0]),
 ];
 
-fn held(alloc: Global, path: &str, bytes: Vec<u8>) -> Result<HeldFile, AllocError> {
-    Ok(HeldFile {
-        path: path.as_bytes().to_vec(alloc)?,
-        bytes,
-    })
-}
-
 /// A program whose header flags compressed instructions.
 fn compressed(alloc: Global) -> Result<Vec<u8>, AllocError> {
     let mut file = Vec::new(alloc);
@@ -80,10 +75,7 @@ fn doubled(alloc: Global) -> Result<Vec<u8>, AllocError> {
 
 /// A source of the program `one`, and three that have a fault.
 static SOURCES: [(&str, &[u8]); 4] = [
-    (
-        "one.s",
-        b"    addi a0, x0, 0\n    addi a7, x0, 93\n    ecall\n",
-    ),
+    ("one.s", ONE_SOURCE),
     ("range.s", b"    addi a0, x0, 2048"),
     ("empty.s", b""),
     ("much.s", b".data\n.zero 1048576\n.byte 1"),
@@ -157,9 +149,6 @@ fn all_come_out<R: Threads + Sync + AllocGlobal + Abort>(
     }
     Ok(())
 }
-
-const ONE: &[u8] =
-    b"end exited:0\ntime 4200\ndelay 0\nnet 4200\nretired 3\nstarts 0\nhart 0 own 0 paused 0 credited 0\noutput 0\n\n";
 
 const OTHER: &[u8] =
     b"end unsupported:92\ntime 4200\ndelay 0\nnet 4200\nretired 3\nstarts 0\nhart 0 own 0 paused 0 credited 0\noutput 0\n\n";

@@ -1,5 +1,15 @@
-//! Tests of the top call over files of programs and sources, and nothing else.
+//! Tests of the top call over files, words and programs that it assembles, and nothing else.
 #![tactic(auto)]
 
 #[cfg(test)]
+mod calls;
+#[cfg(test)]
 mod coz_cli_tests;
+#[cfg(test)]
+mod profile_tests;
+#[cfg(test)]
+mod program_tests;
+#[cfg(test)]
+mod sleep_tests;
+#[cfg(test)]
+mod workers_tests;

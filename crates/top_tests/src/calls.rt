@@ -13,6 +13,7 @@ pub(crate) fn held(alloc: Global, path: &str, bytes: Vec<u8>) -> Result<HeldFile
         bytes,
     })
 }
+
 /// What a call answered and left.
 #[derive(Drop)]
 pub(crate) struct Served {

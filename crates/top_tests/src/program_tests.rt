@@ -5,8 +5,10 @@ use std::alloc::{AllocError, Global};
 use std::test::Fail;
 use std::thread::Threads;
 
-const ONE: &[u8] =
+/// What `run` prints of the program of three instructions.
+pub(crate) const ONE: &[u8] =
     b"end exited:0\ntime 4200\ndelay 0\nnet 4200\nretired 3\nstarts 0\nhart 0 own 0 paused 0 credited 0\noutput 0\n\n";
+
 /// Line tables of 13 bytes, and the lines of their faults: the beginning of a unit whose header
 /// says that it is longer, and one of the form of 64 bits.
 static TABLES: [([u8; 13], &[u8]); 2] = [
