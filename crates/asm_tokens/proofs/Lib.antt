@@ -1,2 +1,2 @@
-mod Skips
+pub mod Skips
 mod Tables
