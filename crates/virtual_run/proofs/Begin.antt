@@ -2,11 +2,8 @@
 use Rattle.std.proofs.Common.{◌≡◌, ◌≢◌, ℕ, ◌+◌, ◌-◌, ◌*◌, ◌≤◌, ◌<◌, Bool, true, false, if◌then◌else◌, ◌==◌, List, [], ◌∷◌, ◌++◌, length, filter, refl, sym, ap, subst, ◌∙◌, arith, eq-eqb, ne_eqb, Option, Some, None, ◌⊎◌, inl, inr, lit≤, length-append, mul-le-mul, mul_comm, add-mul}
 use Rattle.std.proofs.lemmas.Bool.{cases_eq}
 use Rattle.std.proofs.lemmas.List.{length-set, append_assoc}
-use Rattle.rv_decode.specs.declared.Instr.{Instr}
-use Rattle.rv_decode.specs.declared.Instr.TheVariants.{Reg}
-use Rattle.rv_decode.specs.declared.RegOp.{RegOp}
-use Rattle.rv_decode.specs.declared.RegOp.TheVariants.{Mul, Mulh, Mulhsu, Mulhu, Mulw}
-use Rattle.cost_table.specs.Costs.{register_cycles, instruction_cycles, cycles_of, reduced_cost}
+use Rattle.cost_table.specs.Costs.{cycles_of, reduced_cost}
+use Rattle.cost_table.proofs.ByOpcode.{few_cycles}
 use Rattle.hart_schedule.specs.Keys.{Keys, key_of, with_key, without_key}
 use Rattle.machines.specs.Places.{is_among}
 use Rattle.guest_calls.specs.Guest.{Guest, pc_of}
@@ -176,23 +173,6 @@ pub all_chosen : (b : Bool) (ticks : ℕ → ℕ) (p : ℕ → Bool) (m h : ℕ)
 all_chosen true ticks p m h hs keys now chosen new is more = more ∙ ap (λ (xs : List ℕ). xs ++ filter p hs) is.chooses ∙ sym (filter_more p h hs)
 all_chosen false ticks p m h hs keys now chosen new is more = more ∙ ap (λ (xs : List ℕ). xs ++ filter p hs) is.chooses
 
-register_few : (op : RegOp) → register_cycles op ≤ 40
-register_few Mul = lit≤ tt
-register_few Mulh = lit≤ tt
-register_few Mulhsu = lit≤ tt
-register_few Mulhu = lit≤ tt
-register_few Mulw = lit≤ tt
-register_few _ = lit≤ tt
-
-instruction_few : (i : Instr) → instruction_cycles i ≤ 40
-instruction_few (Reg op rd rs1 rs2) = register_few op
-instruction_few _ = lit≤ tt
-
--- no instruction costs more
-pub cycles_few : (i : Option Instr) → cycles_of i ≤ 40
-cycles_few (Some i) = instruction_few i
-cycles_few None = lit≤ tt
-
 less_of : (c r : ℕ) → c ≤ 40 → r ≤ 100 → c * r ≤ 4000
 less_of c r few less = mul-le-mul few less
 
@@ -216,7 +196,7 @@ ticks_less is_selected speedup v g h small = cut_by (is_selected (pc_of g h)) v 
 
 -- nor does a selected one
 pub ticks_few : (is_selected : ℕ → Bool) (speedup : ℕ) (g : Guest) (h : ℕ) → ticks_of is_selected speedup g h ≤ 4000
-ticks_few is_selected speedup g h = ticks_by (is_selected (pc_of g h)) (cycles_of (next_of g h)) speedup (cycles_few (next_of g h))
+ticks_few is_selected speedup g h = ticks_by (is_selected (pc_of g h)) (cycles_of (next_of g h)) speedup (few_cycles (next_of g h))
 
 pub within_by : (ticks : ℕ → ℕ) (m h due : ℕ) (among : Bool) (o p : Option ℕ) (moment : ℕ) → ticks h ≤ 4000 → o ≡ (if among then Some (m + ticks h) else p) → m ≤ moment → ((v : ℕ) → p ≡ Some v → v ≤ moment) → o ≡ Some due → due ≤ moment + 4000
 within_by ticks m h due true o p moment few is soon within has =

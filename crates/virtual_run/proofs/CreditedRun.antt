@@ -55,7 +55,8 @@ use Rattle.virtual_run.specs.Seen.{Seen, view_in, experiment_with, experiment_of
 use Rattle.virtual_run.specs.DelayedRun.{visit_as, net_due_of, account_in, outcome_of, IsOfAHart, IsSmall, Happens, AgreesThroughout, EndsOnce, IsPaced}
 use Rattle.virtual_run.proofs.Keys.{has_place, rested_length, next_is}
 use Rattle.virtual_run.proofs.Many.{many_few}
-use Rattle.virtual_run.proofs.Begin.{cycles_few, one_at_most}
+use Rattle.cost_table.proofs.ByOpcode.{few_cycles}
+use Rattle.virtual_run.proofs.Begin.{one_at_most}
 use Rattle.virtual_run.proofs.Law.{lawful_run, followed_by, steady, reached_next, reached_woken, IsTurn, started_idle, none_own}
 use Rattle.virtual_run.proofs.Credited.{among_filter, rest_of, with_rest_is, holds_begin}
 use Rattle.virtual_run.proofs.CreditedLists.{at_latest, change_length, raises_length, raises_latest, start_is, starts_run}
@@ -159,7 +160,7 @@ module _ (image : ImageParts) (input : List ℕ) (setting : Setting) (engine : E
 
   -- the delay is at most 3800 ticks a start
   delay_few : d.delay ≤ 3800 * d.starts
-  delay_few = standing_bounded x IsOrderly law 3800 (cut_few x 40 95 (λ g h. cycles_few (next_of g h)) p.valid.speedup) (events_of engine)
+  delay_few = standing_bounded x IsOrderly law 3800 (cut_few x 40 95 (λ g h. few_cycles (next_of g h)) p.valid.speedup) (events_of engine)
 
   -- each wake followed a retirement
   pub wakes_few : engine.wakes ≤ engine.retired
