@@ -14,7 +14,8 @@ use Rattle.profile_book.specs.declared.profile.Profile.{Profile}
 use Rattle.profile_book.specs.Profile.{hex_text, profile_text}
 use Rattle.causal_curves.specs.Curves.{curves_of, ranked_curves}
 use Rattle.causal_curves.specs.declared.curve.Curve.{Curve}
-use Rattle.coz_cli.specs.declared.trial.TheConstants.{BUDGET}
+use Rattle.coz_types.specs.declared.TheConstants.{LEAST_VERSION}
+use Rattle.coz_cli.specs.declared.trial.TheConstants.{BUDGET, SELECTED}
 use Rattle.coz_words.specs.Said.{Text}
 use Rattle.coz_cli.specs.Experiment.{Runs}
 use Rattle.coz_cli.specs.Profiled.{pairs_of, profile_of}
@@ -30,7 +31,7 @@ trial_program source = assembled source.text
 
 -- its file
 unfoldable pub trial_file : Program → List ℕ
-trial_file program = written_file program trial_name 4
+trial_file program = written_file program trial_name LEAST_VERSION
 
 -- a file is that of the program that the source stands for, of which a word has the line
 -- of the progress point
@@ -50,8 +51,8 @@ trial_point point lines = elim (position_named trial_name point lines) [
 
 -- of n positions the multiples of a tenth of n, rounded up: ten of these are n or more
 unfoldable pub tenths : ℕ → List ℕ
-tenths n = let tenth = (n + 9) / 10 in
-    filter (λ position. nat_lt position n) (map (λ i. i * tenth) (range_with_len 0 10))
+tenths n = let tenth = (n + 9) / SELECTED in
+    filter (λ position. nat_lt position n) (map (λ i. i * tenth) (range_with_len 0 SELECTED))
 
 unfoldable pub trial_plan : List Line → List Pair
 trial_plan lines = pairs_of (tenths (length lines)) (0 ∷ 25 ∷ 50 ∷ 75 ∷ [])

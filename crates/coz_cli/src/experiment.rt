@@ -1,5 +1,6 @@
 //! The commands that run a program: `run`, `really` and `profile`.
 ghost use Rattle.std.specs.Prelude.{◌≡◌, ◌≤◌, ℕ, List, length, IfOk, IfSome, IfNone};
+ghost use Rattle.coz_types.specs.declared.TheConstants.{MAX_PROGRAM};
 ghost use Rattle.coz_types.specs.Image.{ImageParts};
 ghost use Rattle.coz_files.specs.Faults.{Rose};
 ghost use Rattle.line_index.specs.Index.{position_at};
@@ -17,11 +18,11 @@ ghost use Rattle.coz_cli.specs.Answer.{verdict_of, verdict_after, IsMemory, IsRe
 use crate::answer::Answer;
 use crate::fault::Fault;
 use crate::profile::profile_answer;
-use crate::program::{MAX_PROGRAM, read_file, read_program};
+use crate::program::{read_file, read_program};
 use crate::runs::{really_answer, run_answer};
 use crate::selection::{bytes_of, line_named, progress_points};
 use coz_files::{Files, Gate};
-use coz_types::Image;
+use coz_types::{Image, MAX_PROGRAM};
 use coz_words::Request;
 use line_index::LineIndex;
 use profile_pool::choice;
@@ -31,7 +32,7 @@ use std::thread::Threads;
 use virtual_run::Choice;
 
 /// The most bytes of an input.
-const MAX_INPUT: u64 = 16777216;
+const MAX_INPUT: u64 = 0x100_0000;
 
 /// What a program is run for.
 #[derive(Clone, Copy)]
@@ -84,7 +85,7 @@ fn file_answer<'r, R: Threads + Sync, G: Gate>(
     kind: Kind,
     gate: &G,
 ) -> Answer<'r>
-    requires short { length file.now ≤ 33554432 }
+    requires short { length file.now ≤ MAX_PROGRAM }
     requires fit { IsFit request.now }
     requires some_budget { 1 ≤ request.now.budget }
     requires some_workers { kind ≡ Profiled → 1 ≤ request.now.workers }

@@ -1,5 +1,6 @@
 //! The line table of a program.
 ghost use Rattle.std.specs.Prelude.{◌≡◌, ◌≤◌, length, None, IfOk};
+ghost use Rattle.coz_types.specs.declared.TheConstants.{MAX_PROGRAM};
 ghost use Rattle.elf_load.specs.Faults.{fault};
 ghost use Rattle.dwarf_lines.specs.Registers.{view};
 ghost use Rattle.dwarf_lines.specs.Reading.{Gives};
@@ -28,10 +29,10 @@ fn bytes_in<'a>(image: &Image<'a>, name: &[u8]) -> &'a [u8]
 #[tactic(auto, unfolding(crate::specs::LineTable::table_in))]
 pub fn read_table<'a>(alloc: Global, image: &Image<'a>) -> Result<LineTable<'a>, LineError>
     requires right { fault image.now.file ≡ None }
-    requires short { length image.now.file ≤ 33554432 }
+    requires short { length image.now.file ≤ MAX_PROGRAM }
     ensures exact { Gives view result (table_in image.now.file) }
-    ensures few_rows { IfOk result (λ table. length table.rows ≤ 33554432) }
-    ensures few_files { IfOk result (λ table. length table.files ≤ 33554432) }
+    ensures few_rows { IfOk result (λ table. length table.rows ≤ MAX_PROGRAM) }
+    ensures few_files { IfOk result (λ table. length table.files ≤ MAX_PROGRAM) }
 {
     let lines = bytes_in(image, b".debug_line");
     let general = bytes_in(image, b".debug_str");

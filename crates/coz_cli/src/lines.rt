@@ -1,5 +1,6 @@
 //! The command `lines`.
 ghost use Rattle.std.specs.Prelude.{◌≡◌, ◌≤◌, length, IfSome, IfNone};
+ghost use Rattle.coz_types.specs.declared.TheConstants.{MAX_PROGRAM};
 ghost use Rattle.coz_files.specs.Faults.{Rose};
 ghost use Rattle.coz_words.specs.declared.command.Command.TheVariants.{Lines};
 ghost use Rattle.coz_cli.specs.Verdict.{command_verdict, lines_verdict};
@@ -7,8 +8,9 @@ ghost use Rattle.coz_cli.specs.Answer.{verdict_of, IsMemory, IsRead, Suits, Sett
 
 use crate::answer::{Answer, Printed, Text};
 use crate::lines_text::lines_text;
-use crate::program::{MAX_PROGRAM, read_file, read_program};
+use crate::program::{read_file, read_program};
 use coz_files::Files;
+use coz_types::MAX_PROGRAM;
 use coz_words::Request;
 use std::alloc::Global;
 
@@ -30,7 +32,7 @@ pub fn judge_lines<'r, F: Files>(alloc: Global, request: &'r Request, files: &mu
 
 /// What is written of the lines of the program that a file is, if it is one.
 fn lines_answer<'r>(alloc: Global, file: &[u8]) -> Answer<'r>
-    requires short { length file.now ≤ 33554432 }
+    requires short { length file.now ≤ MAX_PROGRAM }
     ensures no_read { IsRead result → ⊥ }
     ensures settled { (IsMemory result → ⊥) → verdict_of result ≡ lines_verdict file.now }
 {

@@ -1,5 +1,6 @@
 //! The steps that commands share: a file is read, and a program with its lines.
 ghost use Rattle.std.specs.Prelude.{◌≡◌, ◌≤◌, ℕ, List, length, Ok, IfOk, IfErr, IfSome, IfNone};
+ghost use Rattle.coz_types.specs.declared.TheConstants.{MAX_PROGRAM};
 ghost use Rattle.coz_types.specs.Image.{ImageParts};
 ghost use Rattle.coz_files.specs.Faults.{Rose};
 ghost use Rattle.coz_files.specs.Held.{file_at};
@@ -18,9 +19,6 @@ use dwarf_lines::LineTable;
 use elf_load::load;
 use line_index::{LineIndex, build};
 use std::alloc::Global;
-
-/// The most bytes of a program's file.
-pub const MAX_PROGRAM: u64 = 33554432;
 
 /// The bytes of a path's file, where they are so many at most.
 /// Err tells that it can't be read or is longer, or want of memory.
@@ -64,7 +62,7 @@ pub struct Program<'f> {
 
 /// The program that a file is, if it is one and has a line table.
 pub fn read_program<'a, 'f>(alloc: Global, file: &'f [u8]) -> Result<Program<'f>, Fault<'a>>
-    requires { length file.now ≤ 33554432 }
+    requires { length file.now ≤ MAX_PROGRAM }
     ensures no_read { IsRead result → ⊥ }
     ensures settled { (IsMemory result → ⊥) → (next : ImageParts → Table → Verdict) →
         verdict_after result (λ program. next program.image (view program.table))

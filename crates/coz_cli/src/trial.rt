@@ -6,12 +6,14 @@ ghost use Rattle.std.specs.Ordering.{nat_cmp};
 ghost use Rattle.coz_types.specs.declared.TheConstants.{MOST_POINTS, MOST_WORKERS, GREATEST_SIZE};
 ghost use Rattle.coz_types.specs.Ranges.{IsSummary};
 ghost use Rattle.coz_types.specs.declared.LineId.{LineId};
+ghost use Rattle.work_gen.specs.declared.TheConstants.{MOST_TEXT};
 ghost use Rattle.work_gen.specs.Text.{view};
 ghost use Rattle.work_gen.specs.Accepted.{IsAccepted};
 ghost use Rattle.experiment_plan.specs.Selected.{ids};
 ghost use Rattle.experiment_plan.specs.declared.experiment.Experiment.{Experiment};
 ghost use Rattle.coz_cli.specs.Experiment.{runs_in};
 ghost use Rattle.coz_cli.specs.Profiled.{label_at};
+ghost use Rattle.coz_cli.specs.declared.trial.TheConstants.{SELECTED};
 ghost use Rattle.coz_cli.specs.Trial.{IsTrialFile, tenths, trial_plan, trial_point, trial_profile};
 ghost use Rattle.coz_cli.specs.Verdict.{file_verdict, trial_judging, trial_printed, trial_verdict};
 ghost use Rattle.coz_cli.specs.Answer.{IsMemoryFault, IsOfTrial};
@@ -24,7 +26,7 @@ use crate::selection::points_of;
 use crate::trial_text::trial_text;
 use coz_files::Gate;
 use coz_lists::Items;
-use coz_types::{Image, Label, LineId, Summary};
+use coz_types::{Image, LEAST_VERSION, Label, LineId, Summary};
 use coz_words::Request;
 use experiment_plan::{Plan, plan};
 use image_write::write_elf;
@@ -39,9 +41,6 @@ use work_gen::{Generated, source};
 /// The name of the source in the lines of its program.
 const NAME: &[u8] = b"trial.s";
 
-/// The version of its line table.
-const LINES_VERSION: u8 = 4;
-
 /// How many lines are selected at most.
 const SELECTED: u64 = 10;
 
@@ -54,12 +53,12 @@ const BUDGET: u64 = 100_000_000;
 #[tactic(auto, unfolding(crate::specs::Trial::trial_program, crate::specs::Trial::trial_file))]
 fn trial_file<'r>(alloc: Global, source: &Generated) -> Result<Vec<u8>, Fault<'r>>
     requires accepted { IsAccepted (view source.now) }
-    requires short { length source.now.text ≤ 2097152 }
+    requires short { length source.now.text ≤ MOST_TEXT }
     ensures file { IfOk result (λ file. IsTrialFile (view source.now) file.items) }
     ensures memory { IfErr result IsMemoryFault }
 {
     let assembled = assemble(alloc, source.text.as_slice())?;
-    let file = write_elf(alloc, &assembled, NAME, LINES_VERSION)?;
+    let file = write_elf(alloc, &assembled, NAME, LEAST_VERSION)?;
     Ok(file)
 }
 
@@ -69,7 +68,7 @@ fn tenths(alloc: Global, count: u32) -> Result<Vec<LineId>, AllocError>
     ensures lines { IfOk result (λ lines. ids lines.items ≡ tenths count) }
     ensures rising { IfOk result (λ lines. IsStrictlySortedBy nat_cmp (ids lines.items)) }
     ensures below { IfOk result (λ lines. All (λ (line : LineId). line.0 < count) lines.items) }
-    ensures few { IfOk result (λ lines. length lines.items ≤ 10) }
+    ensures few { IfOk result (λ lines. length lines.items ≤ SELECTED) }
 {
     let tenth = (u64::from(count) + 9) / SELECTED;
     let mut lines = Vec::new(alloc);

@@ -2,7 +2,8 @@
 use Rattle.std.specs.Prelude.{◌≡◌, ℕ, ◌≤◌, Bool, not, ◌&&◌, ◌==◌, nat_lt, nat_le, true, false, List, [], ◌∷◌, length, codes, Option, Some, None, IfSome, if◌then◌else◌, option_and_then, find}
 use Rattle.std.specs.List.{list_all, list_any}
 use Rattle.std.specs.Str.{bytes_eq}
-use Rattle.coz_types.specs.declared.TheConstants.{GREATEST_SPEEDUP, GREATEST_BUDGET, MOST_WORKERS, GREATEST_SIZE}
+use Rattle.coz_types.specs.declared.TheConstants.{GREATEST_SPEEDUP, GREATEST_BUDGET, MOST_WORKERS, GREATEST_SIZE, LEAST_VERSION, GREATEST_VERSION, MAX_WORD}
+use Rattle.coz_types.specs.Ranges.{last_word}
 use Rattle.coz_words.specs.Said.{Text, Item, option, target, SaysAll}
 use Rattle.experiment_plan.specs.Lists.{number_in, is_line, is_list, pieces}
 use Rattle.coz_words.specs.declared.command.Command.{Command}
@@ -154,7 +155,7 @@ speedup_in (Some line) (Some number) = number_in 0 GREATEST_SPEEDUP number
 
 -- what a source is made from is the positional of `trial`, a number; other commands make none
 abbrev pub seed_in : Command → Text → Option ℕ
-seed_in Trial text = number_in 0 18446744073709551615 text
+seed_in Trial text = number_in 0 last_word text
 seed_in _ text = Some 0
 
 -- one value after the other, where all are there
@@ -189,7 +190,7 @@ counts_with c text value =
     number_or c budget_name USUAL_BUDGET 1 GREATEST_BUDGET (value budget_name) >>= λ budget.
     number_or c workers_name USUAL_WORKERS 1 MOST_WORKERS (value workers_name) >>= λ workers.
     number_or c size_name USUAL_SIZE 1 GREATEST_SIZE (value size_name) >>= λ size.
-    number_or c dwarf_name 4 4 5 (value dwarf_name) >>= λ dwarf.
+    number_or c dwarf_name LEAST_VERSION LEAST_VERSION GREATEST_VERSION (value dwarf_name) >>= λ dwarf.
     seed_in c text >>= λ seed.
     Some (record { budget = budget; workers = workers; size = size; dwarf = dwarf; seed = seed })
 
@@ -234,7 +235,7 @@ has_no_zero word = list_all (λ b. not (b == 0)) word
 
 -- no zero byte, and not too long
 abbrev pub is_word : Text → Bool
-is_word word = has_no_zero word && nat_le (length word) 131072
+is_word word = has_no_zero word && nat_le (length word) MAX_WORD
 
 -- what is so of each request
 pub record IsFit (request : Request) : Type 0 where
@@ -257,8 +258,8 @@ pub record IsFit (request : Request) : Type 0 where
   -- what a trial is made from is its positional
   pub seed : seed_in request.command request.target ≡ Some request.seed
   -- 4 or 5 where the command has a version
-  pub some_dwarf : has_option request.command dwarf_name ≡ true → 4 ≤ request.dwarf
-  pub dwarf : request.dwarf ≤ 5
+  pub some_dwarf : has_option request.command dwarf_name ≡ true → LEAST_VERSION ≤ request.dwarf
+  pub dwarf : request.dwarf ≤ GREATEST_VERSION
 
 -- the words make this request: a command, and items that are right for it
 pub record Requests (words : List Text) (request : Request) : Type 0 where

@@ -6,9 +6,7 @@ ghost use Rattle.coz_words.specs.Request.{has_no_zero, is_word};
 ghost use Rattle.coz_words.specs.Slow.{command_in};
 
 use crate::command::{Command, command_of};
-
-/// The most bytes of a word.
-const MAX_WORD: usize = 131072;
+use coz_types::MAX_WORD;
 
 fn has_no_zero(word: &[u8]) -> bool
     ensures { result ≡ has_no_zero word.now }

@@ -1,6 +1,7 @@
 //! What the values of options mean.
 ghost use Rattle.std.specs.Prelude.{◌≡◌, ◌&&◌};
 ghost use Rattle.std.specs.Option.{option_copied};
+ghost use Rattle.coz_types.specs.declared.TheConstants.{LEAST_VERSION, GREATEST_VERSION};
 ghost use Rattle.experiment_plan.specs.Lists.{is_line, is_list, number_in, pieces};
 ghost use Rattle.coz_words.specs.Answers.{Answers};
 ghost use Rattle.coz_words.specs.Request.{dwarf_name, none_or, number_or, numbers_in, seed_in, speedup_in, speedups_in};
@@ -8,14 +9,9 @@ ghost use Rattle.coz_words.specs.Request.{dwarf_name, none_or, number_or, number
 use crate::command::{Command, has_option};
 use crate::request::WordsError;
 use coz_lists::Items;
-use coz_types::GREATEST_SPEEDUP;
+use coz_types::{GREATEST_SPEEDUP, GREATEST_VERSION, LEAST_VERSION};
 use experiment_plan::{first_piece, is_line, is_list, number_in};
 use std::alloc::Global;
-
-/// The least version of DWARF that is written.
-const LEAST_VERSION: u8 = 4;
-/// The greatest.
-const GREATEST_VERSION: u8 = 5;
 
 /// The speedups, in percent, where the words give none.
 static ALL_SPEEDUPS: [u8; 20] = [
@@ -76,7 +72,8 @@ fn speedup_in(text: &[u8]) -> Result<u8, WordsError>
 /// The version of a line table. Where no text is given, it is the least,
 /// or 0 where the command lacks the option.
 pub fn version_of(command: Command, text: Option<&str>) -> Result<u8, WordsError>
-    ensures { Answers (number_or command dwarf_name 4 4 5 (option_copied text.entry)) result }
+    ensures { Answers (number_or command dwarf_name LEAST_VERSION LEAST_VERSION GREATEST_VERSION
+        (option_copied text.entry)) result }
 {
     match text {
         Some(number) => version_in(number.as_bytes()),
@@ -89,7 +86,7 @@ pub fn version_of(command: Command, text: Option<&str>) -> Result<u8, WordsError
 }
 
 fn version_in(text: &[u8]) -> Result<u8, WordsError>
-    ensures { Answers (number_in 4 5 text.now) result }
+    ensures { Answers (number_in LEAST_VERSION GREATEST_VERSION text.now) result }
 {
     match number_in(text, u64::from(LEAST_VERSION), u64::from(GREATEST_VERSION)) {
         Some(version) => Ok(version as u8),

@@ -1,6 +1,7 @@
 //! The table while it is read, unit by unit.
 
 ghost use Rattle.std.specs.Prelude.{◌≡◌, count_by};
+ghost use Rattle.coz_types.specs.declared.TheConstants.{MAX_PROGRAM};
 ghost use Rattle.dwarf_lines.specs.declared.Row.{Row};
 
 use crate::fields::{address_sizes, announced, half, word};
@@ -67,7 +68,7 @@ impl<'a> Draft<'a> {
         sections: &mut Sections<'a>,
         cursor: &mut Cursor<'a>,
     ) -> Result<(), LineError>
-        requires { weight (so_far self.old) + length cursor.old.bytes ≤ 2 ^ 25 }
+        requires { weight (so_far self.old) + length cursor.old.bytes ≤ MAX_PROGRAM }
         ensures exact { WalksOver (λ _. so_far self.new) result cursor.new
             (unit (sections_view sections.old) (so_far self.old) cursor.old) }
         ensures kept { sections_view sections.new ≡ sections_view sections.old }
@@ -101,7 +102,7 @@ impl<'a> Draft<'a> {
         sections: &mut Sections<'a>,
         mut body: Cursor<'a>,
     ) -> Result<(), LineError>
-        requires { weight (so_far self.old) + length body.bytes ≤ 2 ^ 25 }
+        requires { weight (so_far self.old) + length body.bytes ≤ MAX_PROGRAM }
         ensures exact { Gives (λ _. so_far self.new) result
             (unit_body version (sections_view sections.old) (so_far self.old) body.entry) }
         ensures kept { sections_view sections.new ≡ sections_view sections.old }
@@ -125,7 +126,7 @@ impl<'a> Draft<'a> {
         first_file: usize,
         mut opcodes: Cursor<'a>,
     ) -> Result<(), LineError>
-        requires { weight (so_far self.old) + length opcodes.bytes ≤ 2 ^ 25 }
+        requires { weight (so_far self.old) + length opcodes.bytes ≤ MAX_PROGRAM }
         ensures exact { Gives (λ _. so_far self.new) result
             (finished_table
             (program (suc (length opcodes.entry.bytes)) (header_view header.now)
@@ -159,7 +160,7 @@ impl<'a> Draft<'a> {
         operation: Operation<'a>,
     ) -> Result<Registers, LineError>
         requires line { IsLineWithin (2 ^ 100) before.line }
-        requires room { weight (so_far self.old) < 2 ^ 25 }
+        requires room { weight (so_far self.old) < MAX_PROGRAM }
         ensures exact { let s = state_of self.old first_file before in
             Gives (λ r. state_of self.new first_file r) result
             (check (has_line (header_view header.now) (operation_view operation.entry) s)
@@ -204,7 +205,7 @@ impl<'a> Draft<'a> {
         registers: Registers,
         ends: bool,
     ) -> Result<(), LineError>
-        requires { weight (so_far self.old) < 2 ^ 25 }
+        requires { weight (so_far self.old) < MAX_PROGRAM }
         ensures exact { Gives (λ _. so_far self.new) result
             (check (fits_line registers.line) LineOut place (record (so_far self.old) {
               rows = self.old.rows.items
@@ -239,7 +240,7 @@ impl<'a> Draft<'a> {
 
     /// The position of the unit's file of that number, if there is an entry.
     fn file_of(&self, header: &Header, first_file: usize, number: u64) -> Option<u32>
-        requires { length self.now.files.items ≤ 2 ^ 25 }
+        requires { length self.now.files.items ≤ MAX_PROGRAM }
         ensures { (registers : _) → result
             ≡ file_of (header_view header.now) (state_of self.now first_file registers) number }
     {

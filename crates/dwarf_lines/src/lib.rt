@@ -14,6 +14,7 @@ mod registers;
 mod strings;
 
 ghost use Rattle.std.specs.Prelude.{◌≡◌, ◌≤◌, length, IfOk, Ok};
+ghost use Rattle.coz_types.specs.declared.TheConstants.{MAX_PROGRAM};
 ghost use Rattle.dwarf_lines.specs.Registers.{Table, view};
 ghost use Rattle.dwarf_lines.specs.declared.LineError.TheVariants.{Fault, Memory};
 ghost use Rattle.dwarf_lines.specs.declared.LineKind.TheVariants.{Short};
@@ -191,7 +192,7 @@ pub fn read_lines<'a>(
     general: &'a [u8],
     line: &'a [u8],
 ) -> Result<LineTable<'a>, LineError>
-    requires { length section.now ≤ 33554432 }
+    requires { length section.now ≤ MAX_PROGRAM }
     // Which table or which fault it is.
     ensures exact { Gives view result (reading (strings general.now line.now) section.now) }
     // What is read is a table of the section.

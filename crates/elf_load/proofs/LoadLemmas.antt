@@ -1,5 +1,5 @@
 -- What loading answers, from what was read and judged.
-use Rattle.std.proofs.Common.{◌≡◌, ℕ, ◌≤◌, List, map, filter, true, Some, None, Result, Ok, Err, refl, sym, ap, subst, ◌∙◌}
+use Rattle.std.proofs.Common.{◌≡◌, ℕ, ◌*◌, ◌≤◌, List, map, filter, true, Some, None, Result, Ok, Err, refl, sym, ap, subst, ◌∙◌}
 use Rattle.std.specs.Prelude.{All}
 use Rattle.std.specs.Result.{IsErrAnd}
 use Rattle.std.proofs.lemmas.List.Elements.{filter_passes}
@@ -52,8 +52,8 @@ rows_same file ss ns areas read =
     ∙ (ap (λ (xs : List Section). first_row (rows_on file (segments file) xs areas)) read.sections_read
     ∙ ap (λ (xs : List Segment). first_row (rows_on file (segments file) (sections file) xs)) read.areas_read)
 
-pub low_areas : (file : List ℕ) (ss : List Segment) (ns : List Section) (areas : List Segment) → WereRead file ss ns areas → first_row (table_rows file) ≡ None → All (λ s. end_page s ≤ 0x2000000) areas
-low_areas file ss ns areas read e = subst (λ (xs : List Segment). All (λ s. end_page s ≤ 0x2000000) xs) (sym read.areas_read) (areas_end file e)
+pub low_areas : (file : List ℕ) (ss : List Segment) (ns : List Section) (areas : List Segment) → WereRead file ss ns areas → first_row (table_rows file) ≡ None → All (λ s. 4096 * end_page s ≤ 0x2000000000) areas
+low_areas file ss ns areas read e = subst (λ (xs : List Segment). All (λ s. 4096 * end_page s ≤ 0x2000000000) xs) (sym read.areas_read) (areas_end file e)
 
 -- an error that is this fault
 fault_answered : (r : Result ImageParts LoadError) (f : ElfFault) (holds : Result ImageParts ElfFault) → IsErrAnd r (λ e. e ≡ errors.Fault f) → holds ≡ Err f → Loads r holds

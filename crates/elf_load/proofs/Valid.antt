@@ -274,27 +274,25 @@ valid file e =
 
 -- ---- where the areas end
 
-low_end : (low high : Bool) (n : ℕ) → (low || nat_lt 0x2000000000 (4096 * n)) ≡ false → n ≤ 0x2000000
-low_end low high n e =
-    let le : 4096 * n ≤ 0x2000000000 = ltb-false _ _ (or_false low (nat_lt 0x2000000000 (4096 * n)) e).1 in
-    omega arith
+low_end : (s : Segment) → (nat_lt (4096 * first_page s) 0x1000 || nat_lt 0x2000000000 (4096 * end_page s)) ≡ false → 4096 * end_page s ≤ 0x2000000000
+low_end s placed = ltb-false _ _ (or_false (nat_lt (4096 * first_page s) 0x1000) (nat_lt 0x2000000000 (4096 * end_page s)) placed).1
 
-ends : (ss : List Segment) → AllByRecursion (λ s. (nat_lt (4096 * first_page s) 0x1000 || nat_lt 0x2000000000 (4096 * end_page s)) ≡ false) ss → AllByRecursion (λ s. end_page s ≤ 0x2000000) ss
+ends : (ss : List Segment) → AllByRecursion (λ s. (nat_lt (4096 * first_page s) 0x1000 || nat_lt 0x2000000000 (4096 * end_page s)) ≡ false) ss → AllByRecursion (λ s. 4096 * end_page s ≤ 0x2000000000) ss
 ends [] placed = tt
-ends (s ∷ ss) placed = (low_end (nat_lt (4096 * first_page s) 0x1000) true (end_page s) placed.0, ends ss placed.1)
+ends (s ∷ ss) placed = (low_end s placed.0, ends ss placed.1)
 
-pub areas_end : (file : List ℕ) → first_row (table_rows file) ≡ None → All (λ s. end_page s ≤ 0x2000000) (load_areas file)
+pub areas_end : (file : List ℕ) → first_row (table_rows file) ≡ None → All (λ s. 4096 * end_page s ≤ 0x2000000000) (load_areas file)
 areas_end file e = All-from_recursion _ _ (ends (load_areas file) (no_row file e).placed)
 
 -- the memory of a PT_LOAD with bytes in the file ends there too
 abbrev pub EndsLow : Segment → Type 0
 EndsLow s = is_load s ≡ true → 0 < s.filesz → s.vaddr + s.filesz ≤ 0x2000000000
 
-loaded_end : (s : Segment) → (is_load s && nat_lt s.memsz s.filesz) ≡ false → (is_area s ≡ true → end_page s ≤ 0x2000000) → EndsLow s
+loaded_end : (s : Segment) → (is_load s && nat_lt s.memsz s.filesz) ≡ false → (is_area s ≡ true → 4096 * end_page s ≤ 0x2000000000) → EndsLow s
 loaded_end s in_memory placed load some =
     let filled : s.filesz ≤ s.memsz = ltb-false _ _ (true_and (is_load s) (nat_lt s.memsz s.filesz) load in_memory) in
     let area : is_area s ≡ true = rw (load, ne_eqb s.memsz 0 (λ e. omega arith)) refl in
-    let low : end_page s ≤ 0x2000000 = placed area in
+    let low : 4096 * end_page s ≤ 0x2000000000 = placed area in
     omega (arith, to_page_end s)
 
 loaded_ends : (ss : List Segment) → AllByRecursion (λ s. (is_load s && nat_lt s.memsz s.filesz) ≡ false) ss
@@ -304,7 +302,7 @@ loaded_ends (s ∷ ss) in_memory placed =
     elim (cases_Bool (is_area s)) [
       | inl area ↦
           let both = rw area at placed in
-          (loaded_end s in_memory.0 (λ e. low_end (nat_lt (4096 * first_page s) 0x1000) true (end_page s) both.0), loaded_ends ss in_memory.1 both.1)
+          (loaded_end s in_memory.0 (λ e. low_end s both.0), loaded_ends ss in_memory.1 both.1)
       | inr out ↦
           let rest = rw out at placed in
           (loaded_end s in_memory.0 (λ e. absurd cc), loaded_ends ss in_memory.1 rest)

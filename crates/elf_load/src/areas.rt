@@ -1,7 +1,8 @@
 //! The load areas of a file.
 
-ghost use Rattle.std.specs.Prelude.{◌≡◌, ◌≤◌, ◌&&◌, None, IfOk, All, filter, find, map};
+ghost use Rattle.std.specs.Prelude.{◌≡◌, ◌≤◌, ◌*◌, ◌&&◌, None, IfOk, All, filter, find, map};
 ghost use Rattle.std.specs.Option.{option_copied};
+ghost use Rattle.coz_types.specs.declared.TheConstants.{PAGE, LOAD_END};
 ghost use Rattle.elf_load.specs.Tables.{is_area, is_load, has_place, end_page, segments as segments_of};
 ghost use Rattle.elf_load.specs.Faults.{HasHeaders, first_row, table_rows};
 ghost use Rattle.elf_load.specs.Loaded.{rights_of, area_of, headers};
@@ -35,7 +36,7 @@ fn rights_of(segment: &Segment) -> Rights
 }
 
 fn area_of(file: &[u8], segment: &Segment) -> Area
-    requires { end_page segment.now ≤ 0x2000000 }
+    requires { PAGE * end_page segment.now ≤ LOAD_END }
     ensures { result ≡ area_of file.now segment.now }
 {
     Area {
@@ -51,7 +52,7 @@ fn area_of(file: &[u8], segment: &Segment) -> Area
 /// The areas of the image, in the order of their program headers.
 /// Only want of memory stands against it.
 pub fn image_areas(alloc: Global, file: &[u8], areas: &[Segment]) -> Result<Vec<Area>, AllocError>
-    requires { All (λ s. end_page s ≤ 0x2000000) areas.now }
+    requires { All (λ s. PAGE * end_page s ≤ LOAD_END) areas.now }
     ensures { IfOk result (λ made. made.items ≡ map (area_of file.now) areas.now) }
 {
     areas.iter().map(|s| area_of(file, s)).collect(alloc)

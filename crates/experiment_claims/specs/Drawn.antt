@@ -8,6 +8,14 @@ use Rattle.experiment_claims.specs.declared.hand.Hand.{Hand}
 abbrev pub hand : ℕ → List ℕ → Hand
 hand turns numbers = record { turns = turns; numbers = numbers }
 
+-- the turns of all seats together, before any is spent
+abbrev pub all_turns : ℕ
+all_turns = 2 ^ 40
+
+-- what the first seat has
+abbrev pub first_hand : Hand
+first_hand = hand all_turns []
+
 -- how often the number x stands in the list
 abbrev pub times : ℕ → List ℕ → ℕ
 times x numbers = count_by (λ y. y == x) numbers
@@ -21,10 +29,10 @@ abbrev pub total : (Hand → ℕ) → List Hand → ℕ
 total f [] = 0
 total f (h ∷ hs) = f h + total f hs
 
--- where the claim word is w: the turns of all seats and w are 2^40 together, as many numbers were
+-- where the claim word is w: the turns of all seats and w are all turns, as many numbers were
 -- drawn as w says, and the lists of all seats have each number below w once and no other
 pub record Fits (w : ℕ) (hands : List Hand) : Type 0 where
-  pub turns : total (λ h. h.turns) hands + w ≡ 2 ^ 40
+  pub turns : total (λ h. h.turns) hands + w ≡ all_turns
   pub count : total (λ h. length h.numbers) hands ≡ w
   pub each : (x : ℕ) → total (λ h. times x h.numbers) hands ≡ once_below x w
 
@@ -36,7 +44,7 @@ Drawn s = (length s.words ≡ 1) × Fits (slice_index s.words 0) s.views
 -- than all that the seat has
 abbrev pub drew : Step (Unit {0}) → Me (Unit {0}) Hand → ℕ → Me (Unit {0}) Hand → Type 0
 drew st m number m' =
-    (number < 2 ^ 40)
+    (number < all_turns)
     × (m'.0 ≡ hand (m.0.turns - 1) (m.0.numbers ++ number ∷ []))
     × (m'.1 ≡ m.1)
     × All (λ x. x < number) m.0.numbers
@@ -44,4 +52,4 @@ drew st m number m' =
 
 -- a hand with all turns, spent or not, has all that was drawn
 abbrev pub owns_all : Hand → Type 0
-owns_all h = h.turns + length h.numbers ≡ 2 ^ 40
+owns_all h = h.turns + length h.numbers ≡ all_turns

@@ -1,6 +1,6 @@
 //! The calls on claims and their seats: one step of the shared word each.
-ghost use Rattle.std.specs.Prelude.{◌≡◌, ℕ, ◌+◌, ◌-◌, ◌<◌, ◌≤◌, ◌^◌, ◌++◌, [], ◌∷◌, IfOk, length};
-ghost use Rattle.experiment_claims.specs.Drawn.{hand, times, once_below, owns_all};
+ghost use Rattle.std.specs.Prelude.{◌≡◌, ℕ, ◌+◌, ◌-◌, ◌<◌, ◌≤◌, ◌++◌, [], ◌∷◌, IfOk, length};
+ghost use Rattle.experiment_claims.specs.Drawn.{first_hand, hand, times, once_below, owns_all};
 ghost use Rattle.experiment_claims.specs.Seats.{hand_of, bound_of, IsSeatOf, Draws};
 
 use crate::hand::{Draw, Give, Part, Together};
@@ -15,7 +15,7 @@ impl Claims {
     /// Only want of memory stands against it.
     pub fn new(alloc: Global, bound: u32) -> Result<(Claims, ClaimSeat), AllocError>
         ensures seat { IfOk result (λ made. IsSeatOf made.0 made.1) }
-        ensures hand { IfOk result (λ made. hand_of made.1 ≡ hand (2 ^ 40) []) }
+        ensures hand { IfOk result (λ made. hand_of made.1 ≡ first_hand) }
         ensures bound { IfOk result (λ made. bound_of made.0 ≡ bound) }
     {
         let (table, seat) = Table::of_words(alloc, &[0], &())?;

@@ -1,5 +1,5 @@
 //! What a seat has, the rule on all seats, and the steps.
-ghost use Rattle.std.specs.Prelude.{◌≡◌, ℕ, ◌+◌, ◌-◌, ◌^◌, ◌++◌, [], ◌∷◌};
+ghost use Rattle.std.specs.Prelude.{◌≡◌, ℕ, ◌+◌, ◌-◌, ◌++◌, [], ◌∷◌};
 
 use atomic_table::{Join, Play, Split, TableRule};
 use std::collections::LinkedList;
@@ -18,12 +18,11 @@ pub struct Hand {
 pub struct EachOnce;
 
 impl TableRule<(), Hand, ()> for EachOnce {
-    ghost use Rattle.std.specs.Prelude.{◌^◌, []};
-    ghost use Rattle.experiment_claims.specs.Drawn.{Drawn, hand};
+    ghost use Rattle.experiment_claims.specs.Drawn.{Drawn, first_hand};
 
     ghost holds = { λ _. Drawn };
 
-    ghost first = { λ _. hand (2 ^ 40) [] };
+    ghost first = { λ _. first_hand };
 }
 
 /// A seat spends a turn on the number that the claim word has.

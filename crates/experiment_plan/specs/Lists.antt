@@ -2,6 +2,7 @@
 use Rattle.std.specs.Prelude.{◌≡◌, ℕ, ◌+◌, Bool, not, ◌&&◌, ◌==◌, nat_lt, nat_le, List, [], ◌∷◌, ◌++◌, length, Option, Some, None, if◌then◌else◌, is_some}
 use Rattle.std.specs.List.{list_all, before_last, after_last, slice_split}
 use Rattle.std.specs.Str.Parse.{digits_value}
+use Rattle.experiment_plan.specs.declared.line.TheConstants.{GREATEST_LINE}
 
 abbrev pub Text : Type 0
 Text = List ℕ
@@ -35,7 +36,7 @@ is_path path = nat_lt 0 (length path) && list_all (λ b. not (is_comma b)) path
 unfoldable pub is_line : Text → Bool
 is_line text =
     is_path (before_last is_colon text)
-    && is_some (number_in 1 4294967295 (after_last is_colon text))
+    && is_some (number_in 1 GREATEST_LINE (after_last is_colon text))
 
 -- the path of a line, and its number
 unfoldable pub line_parts : Text → Text × ℕ

@@ -1,5 +1,5 @@
 //! The plan of a profile: each line at each speedup.
-ghost use Rattle.std.specs.Prelude.{◌≡◌, ◌≤◌, ◌<◌, ◌∷◌, ◌++◌, ◌*◌, ◌^◌, ℕ, length, map, All, IfOk, OnOk};
+ghost use Rattle.std.specs.Prelude.{◌≡◌, ◌≤◌, ◌<◌, ◌∷◌, ◌++◌, ◌+◌, ◌*◌, ◌^◌, ℕ, length, map, All, IfOk, OnOk};
 ghost use Rattle.std.specs.Ordering.{nat_cmp};
 ghost use Rattle.std.specs.List.Sorted.{IsStrictlySortedBy};
 ghost use Rattle.coz_types.specs.declared.LineId.{LineId};
@@ -59,7 +59,7 @@ fn number_of(line: LineId) -> u64
 /// How many pairs there are.
 fn pair_count(lines: &[LineId], speedups: &[u8]) -> u64
     requires rising { IsStrictlySortedBy nat_cmp (ids lines.now) }
-    requires few { length speedups.now ≤ 96 }
+    requires few { length speedups.now ≤ GREATEST_SPEEDUP + 1 }
     ensures { result ≡ length lines.now * length speedups.now }
 {
     let Some(last) = lines.last() else {

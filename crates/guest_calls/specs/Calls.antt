@@ -19,6 +19,7 @@ use Rattle.rv_execute.specs.declared.hart.HartState.{HartState}
 use Rattle.rv_execute.specs.Execution.{with_register}
 use Rattle.guest_calls.specs.declared.hart.Hart.{Hart}
 use Rattle.guest_calls.specs.declared.hart.HartStatus.TheVariants.{Waiting, Sleeping, Gone}
+use Rattle.guest_calls.specs.declared.pieces.TheConstants.{PIECES}
 use Rattle.guest_calls.specs.declared.pieces.Piece.{Piece}
 use Rattle.guest_calls.specs.Answering.{after_call, with_result}
 use Rattle.guest_calls.specs.Times.{span_at, span_bytes, wake_moment, last_moment, clock_at}
@@ -204,7 +205,7 @@ module _ (g : Guest) (h : ℕ) where
 
   -- no more pieces than these are named
   abbrev pub are_few : Bool
-  are_few = nat_le a2 1024
+  are_few = nat_le a2 PIECES
 
   -- a2 pairs at a1 name the pieces
   abbrev pub is_named : Bool

@@ -14,6 +14,7 @@ mod times;
 ghost use Rattle.std.specs.Prelude.{◌≡◌, ◌≤◌, [], length, IfOk, IsTrue};
 ghost use Rattle.std.specs.Result.{result_ok};
 ghost use Rattle.coz_types.specs.declared.TheConstants.{MOST_OUTPUT};
+ghost use Rattle.cost_table.specs.declared.TheConstants.{MOST_CYCLES};
 ghost use Rattle.cost_table.specs.Costs.{cycles_of};
 ghost use Rattle.guest_memory.specs.Regions.{IsLayout};
 ghost use Rattle.guest_calls.specs.Guest.{IsMade, is_running, is_sleeping, with_wake, making, pc_of, hart_at, first_guest};
@@ -116,7 +117,7 @@ impl<'a> Guest<'a> {
     pub fn next_cycles(&self, hart: HartId) -> u64
         requires { IsMade self.now hart.0 }
         ensures cycles { result ≡ cycles_of (next_of self.now hart.0) }
-        ensures few { result ≤ 40 }
+        ensures few { result ≤ MOST_CYCLES }
     {
         match self.word(hart) {
             Ok(word) => word_cycles(word),

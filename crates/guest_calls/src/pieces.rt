@@ -1,6 +1,7 @@
 //! The pieces of a vectored read or write.
 ghost use Rattle.std.specs.Prelude.{◌≡◌, ◌≤◌, ◌+◌, ◌*◌, ◌^◌, IsTrue};
 ghost use Rattle.guest_memory.specs.Memory.{is_readable, number_at};
+ghost use Rattle.guest_calls.specs.declared.pieces.TheConstants.{PIECES};
 ghost use Rattle.guest_calls.specs.Calls.{piece_at, pieces_at, filled_parts, is_each_readable, is_each_writable};
 
 use arrayvec::ArrayVec;
@@ -11,7 +12,7 @@ use guest_memory::Memory;
 pub const PIECES: usize = 1024;
 
 /// So many bytes at an address.
-#[derive(Clone, Copy, Debug, Default)]
+#[derive(Clone, Copy, Default)]
 pub struct Piece {
     /// Where it begins.
     pub address: Address,
@@ -44,7 +45,7 @@ fn piece_at(memory: &Memory, address: Address) -> Piece
 
 /// The pieces that so many pairs at an address name, each an address and a length of 8 bytes.
 pub fn pieces_at(memory: &Memory, address: Address, count: u64) -> ArrayVec<Piece, PIECES>
-    requires few { count ≤ 1024 }
+    requires few { count ≤ PIECES }
     requires named { IsTrue (is_readable memory.now address (16 * count)) }
     requires low { address + 16 * count ≤ 2 ^ 64 }
     ensures { result.items ≡ pieces_at memory.now address count }

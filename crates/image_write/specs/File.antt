@@ -1,7 +1,7 @@
 -- The bytes of a written file.
 use Rattle.std.specs.Prelude.{◌≡◌, ℕ, ◌+◌, ◌-◌, ◌*◌, ◌<◌, ◌≤◌, Bool, List, [], ◌∷◌, ◌++◌, length, replicate, nat_lt, not, ◌==◌, if◌then◌else◌, codes}
 use Rattle.std.specs.List.{AllPass}
-use Rattle.coz_types.specs.declared.TheConstants.{PAGE}
+use Rattle.coz_types.specs.declared.TheConstants.{LEAST_VERSION, GREATEST_VERSION, MAX_WORD, PAGE}
 use Rattle.rv_asm.specs.declared.TheConstants.{TEXT_START}
 use Rattle.rv_asm.specs.declared.state.TheConstants.{MOST_BYTES}
 use Rattle.rv_asm.specs.Assembled.{Program, up_to_multiple}
@@ -133,10 +133,10 @@ written_file p name version = file_with (unit p.lines name version) p
 -- ---- what can be written
 
 abbrev pub IsName : List ℕ → Type 0
-IsName name = (0 < length name) × (length name ≤ 131072) × AllPass (λ b. not (b == 0)) name
+IsName name = (0 < length name) × (length name ≤ MAX_WORD) × AllPass (λ b. not (b == 0)) name
 
 abbrev pub IsVersion : ℕ → Type 0
-IsVersion version = (4 ≤ version) × (version ≤ 5)
+IsVersion version = (LEAST_VERSION ≤ version) × (version ≤ GREATEST_VERSION)
 
 abbrev pub IsWritable : Program → Type 0
 IsWritable p =

@@ -19,6 +19,7 @@ mod turns;
 mod written;
 
 ghost use Rattle.std.specs.Prelude.{◌≡◌, ◌≤◌, ◌<◌, ℕ, true, length, IfOk, Some, option_map, map, slice_get};
+ghost use Rattle.coz_types.specs.declared.TheConstants.{MAX_PROGRAM};
 ghost use Rattle.coz_types.specs.Labels.{Text, is_label, label_before};
 ghost use Rattle.dwarf_lines.specs.Registers.{view};
 ghost use Rattle.line_index.specs.Lines.{label, position_named};
@@ -120,8 +121,8 @@ impl LineIndex {
 
 /// The index of a program's line table. Only want of memory stands against it.
 pub fn build(alloc: Global, table: &LineTable, image: &Image) -> Result<LineIndex, AllocError>
-    requires few_rows { length table.now.rows ≤ 33554432 }
-    requires few_files { length table.now.files ≤ 33554432 }
+    requires few_rows { length table.now.rows ≤ MAX_PROGRAM }
+    requires few_files { length table.now.files ≤ MAX_PROGRAM }
     ensures index { IfOk result (λ index. IsIndex (view table.now) image.now.areas index) }
     ensures listed { IfOk result (λ index. IsListed (view table.now) image.now.areas index) }
 {

@@ -1,10 +1,10 @@
 //! Workers that draw the claims of a plan from one word.
-ghost use Rattle.std.specs.Prelude.{◌≡◌, ℕ, ◌+◌, ◌*◌, ◌<◌, ◌≤◌, ◌^◌, [], IfOk, List, length, map, All, vec_len};
+ghost use Rattle.std.specs.Prelude.{◌≡◌, ℕ, ◌+◌, ◌*◌, ◌<◌, ◌≤◌, [], IfOk, List, length, map, All, vec_len};
 ghost use Rattle.std.specs.List.{flat_map, range_with_len};
 ghost use Rattle.coz_types.specs.declared.TheConstants.{GREATEST_BUDGET, MOST_WORKERS};
 ghost use Rattle.coz_types.specs.declared.record.Summary.{Summary};
 ghost use Rattle.coz_types.specs.Ranges.{IsSummary};
-ghost use Rattle.experiment_claims.specs.Drawn.{hand};
+ghost use Rattle.experiment_claims.specs.Drawn.{all_turns, first_hand, hand};
 ghost use Rattle.experiment_claims.specs.Seats.{hand_of, IsSeatOf, bound_of};
 ghost use Rattle.experiment_plan.specs.declared.experiment.Experiment.{Experiment};
 ghost use Rattle.experiment_plan.specs.ByLine.{by_line};
@@ -107,14 +107,14 @@ fn deal<'a>(
     jobs: &mut Vec<Job<'a>>,
 ) -> Result<ClaimSeat, AllocError>
     requires work { IsWork work.now }
-    requires seat { IsSeatOf claims.now first × (hand_of first ≡ hand (2 ^ 40) []) }
+    requires seat { IsSeatOf claims.now first × (hand_of first ≡ first_hand) }
     requires bound { bound ≡ bound_of claims.now }
     requires workers { workers ≤ MOST_WORKERS }
     requires jobs { jobs.old.items ≡ [] }
     ensures rest { IfOk result (λ rest.
         IsSeatOf claims.now rest × ((hand_of rest).numbers ≡ [])) }
     ensures turns { IfOk result (λ rest.
-        (hand_of rest).turns + workers * (bound + 1) ≡ 2 ^ 40) }
+        (hand_of rest).turns + workers * (bound + 1) ≡ all_turns) }
     ensures jobs { IfOk result (λ rest.
         (vec_len jobs.new ≡ workers) × All (IsJob work.now claims.now) jobs.new.items) }
 {
@@ -218,11 +218,11 @@ fn run_claims<'a, R: Threads + Sync, G: Gate>(
     gate: &G,
 ) -> Result<Answer, AllocError>
     requires work { IsWork work.now × (bound_of claims.now ≡ length (by_line work.now.plan.now)) }
-    requires seat { IsSeatOf claims.now first × (hand_of first ≡ hand (2 ^ 40) []) }
+    requires seat { IsSeatOf claims.now first × (hand_of first ≡ first_hand) }
     requires workers { workers ≤ MOST_WORKERS }
     ensures seat { IfOk result (λ a. IsSeatOf claims.now a.seat) }
     ensures worked { IfOk result (λ a. Worked (work_at work.now) (bound_of claims.now)
-        (2 ^ 40) workers (hand_of a.seat) a.done.items) }
+        all_turns workers (hand_of a.seat) a.done.items) }
     ensures ranges { IfOk result (λ a.
         AreSummaries (length work.now.points.now.lines) a.done.items) }
 {

@@ -3,6 +3,7 @@ use Rattle.std.specs.Prelude.{◌≡◌, ℕ, ◌+◌, ◌-◌, ◌*◌, ◌/◌
 use Rattle.std.specs.Map.{update}
 use Rattle.std.specs.Str.{byte}
 use Rattle.std.specs.Int.{w32, w64, to_le_bytes}
+use Rattle.coz_types.specs.declared.TheConstants.{PAGE}
 use Rattle.rv_decode.specs.declared.Instr.{Instr}
 use Rattle.rv_decode.specs.declared.Instr.TheVariants as instr
 use Rattle.rv_decode.specs.declared.UpperOp.TheVariants.{Auipc}
@@ -168,7 +169,7 @@ take_lines n (line ∷ more) s = at_line n (take_line n line s) >>= λ t. take_l
 abbrev pub address : State → Place → ℕ
 address s p = elim (p.section) [
   | sections.Text ↦ TEXT_START + p.offset
-  | sections.Data ↦ TEXT_START + up_to_multiple 4096 s.text + p.offset
+  | sections.Data ↦ TEXT_START + up_to_multiple PAGE s.text + p.offset
 ]
 
 abbrev pub address_in : State → ℕ → Option Place → Read ℕ

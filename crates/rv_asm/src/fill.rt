@@ -18,6 +18,7 @@ use crate::pieces::{Piece, lower, upper};
 use crate::state::{Place, Put, State, up_to_multiple};
 use crate::{AsmError, AsmKind, TEXT_START};
 use asm_tokens::{LineError, Section, number_of};
+use coz_types::PAGE;
 use rv_decode::{ImmOp, Instr, UpperOp, encode};
 use std::alloc::{AllocError, Global};
 
@@ -40,7 +41,7 @@ pub fn address(state: &State, place: Place) -> u64
     match place.section {
         Section::Text => TEXT_START + u64::from(place.offset),
         Section::Data => {
-            TEXT_START + up_to_multiple(4096, u64::from(state.text)) + u64::from(place.offset)
+            TEXT_START + up_to_multiple(PAGE, u64::from(state.text)) + u64::from(place.offset)
         }
     }
 }

@@ -7,6 +7,7 @@ mod listing;
 
 ghost use Rattle.std.specs.Prelude.{◌≡◌, ◌+◌, ◌≤◌, ◌++◌, length, OnOk, IfOk};
 ghost use Rattle.coz_types.specs.declared.TheConstants.{GREATEST_SIZE};
+ghost use Rattle.work_gen.specs.declared.TheConstants.{MOST_TEXT};
 ghost use Rattle.work_gen.specs.Text.{before_point, ending, generated, view};
 ghost use Rattle.work_gen.specs.Adding.{Adds};
 ghost use Rattle.work_gen.specs.Accepted.{IsAccepted};
@@ -15,6 +16,9 @@ use crate::kinds::put_blocks;
 use crate::listing::Listing;
 use coz_lists::Items;
 use std::alloc::{AllocError, Global};
+
+/// The most bytes of a source's text.
+pub const MOST_TEXT: usize = 0x20_0000;
 
 /// A source, and the line of its progress point.
 #[derive(Drop)]
@@ -95,7 +99,7 @@ pub fn source(alloc: Global, seed: u64, size: u32) -> Result<Generated, AllocErr
     requires most { size ≤ GREATEST_SIZE }
     ensures text { IfOk result (λ g. view g ≡ generated seed size) }
     ensures accepted { IfOk result (λ g. IsAccepted (view g)) }
-    ensures short { IfOk result (λ g. length g.text ≤ 2097152) }
+    ensures short { IfOk result (λ g. length g.text ≤ MOST_TEXT) }
 {
     let mut listing = Listing {
         text: Vec::new(alloc),

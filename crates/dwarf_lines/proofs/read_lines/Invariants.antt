@@ -1,4 +1,5 @@
-use Rattle.std.proofs.Common.{◌≡◌, ◌≤◌, ◌+◌, ◌^◌, suc, length}
+use Rattle.std.proofs.Common.{◌≡◌, ◌≤◌, ◌+◌, suc, length}
+use Rattle.coz_types.specs.declared.TheConstants.{MAX_PROGRAM}
 use Rattle.dwarf_lines.specs.Reading.{units, reading}
 use Rattle.dwarf_lines.specs.Bounds.{weight}
 use Rattle.dwarf_lines.specs.Names.{strings}
@@ -10,7 +11,7 @@ abbrev pub invariant-loop-cursor : goal.invariant-loop-cursor
 invariant-loop-cursor l = record {
   read : units (suc (length l.cursor.bytes)) (strings l.general l.line) (so_far l.draft) l.cursor ≡ reading (strings l.general l.line) l.section;
   texts : sections_view l.sections ≡ strings l.general l.line;
-  room : weight (so_far l.draft) + length l.cursor.bytes ≤ 2 ^ 25;
+  room : weight (so_far l.draft) + length l.cursor.bytes ≤ MAX_PROGRAM;
 }
 
 abbrev pub decreases-loop-cursor : goal.decreases-loop-cursor

@@ -1,16 +1,13 @@
-use Rattle.std.proofs.Common.{rules, arith, ◌≡◌, ◌+◌, ◌*◌, ℕ}
+use Rattle.std.proofs.Common.{rules, arith, ◌+◌, add-mul}
 use Rattle.std.proofs.lemmas.List.Elements.{All-push, All-same}
 use Rattle.profile_pool.specs.declared.job.Job.{Job}
 use Rattle.profile_pool.specs.Jobs.{IsJob}
 use Rattle.profile_pool.proofs.pool.deal.Goals as goal
 
-one_more : (n b : ℕ) → (n + 1) * b ≡ n * b + b
-one_more n b = grind arith
-
 pub loop-worker-preserved : goal.loop-worker-preserved
 loop-worker-preserved c =
     let before = c.loop-worker.invariant in
-    let more = one_more c.loop-worker.worker (c.args.bound + 1) in
+    let more = add-mul c.loop-worker.worker 1 (c.args.bound + 1) in
     let R : Job → Type 0 = IsJob c.args.work.now c.args.claims.now in (
       c.split-rest.ensures.seats.0,
       search rules,

@@ -1,4 +1,4 @@
-use Rattle.std.proofs.Common.{arith, ℕ, ◌≡◌, ◌*◌, ◌+◌, length, ◌∷◌, [], ◌++◌, length-append, sym, ap, IfOk, Result}
+use Rattle.std.proofs.Common.{arith, ℕ, ◌≡◌, ◌*◌, ◌+◌, length, ◌∷◌, [], ◌++◌, length-append, sym, ap, add-mul, IfOk, Result}
 use Rattle.std.proofs.lemmas.List.Elements.{All-append, All-rest, All-head, All-same}
 use Rattle.std.specs.List.{All}
 use Rattle.std.specs.declared.alloc.AllocError.{AllocError}
@@ -9,9 +9,6 @@ use Rattle.profile_pool.specs.declared.claimed.Claimed.{Claimed}
 use Rattle.profile_pool.specs.declared.job.Answer.{Answer}
 use Rattle.profile_pool.proofs.Joined.{worked_joined}
 use Rattle.profile_pool.proofs.pool.gather.Goals as goal
-
-one_more : (n b : ℕ) → (n + 1) * b ≡ n * b + b
-one_more n b = grind arith
 
 pub loop-answer-preserved : goal.loop-answer-preserved
 loop-answer-preserved c =
@@ -31,6 +28,6 @@ loop-answer-preserved c =
       All-rest P c.in-Some.answer new old steps before.2,
       (let had = before.3 in omega (arith, more, ap length steps)),
       c.join-seat.ensures.seat,
-      worked_joined before.5 is.1 _ _ _ _ c.join-seat.ensures.turns c.join-seat.ensures.numbers c.in_ok-append.ensures.items (omega (arith, one_more n b, ap (λ m. m * b) more)) more,
+      worked_joined before.5 is.1 _ _ _ _ c.join-seat.ensures.turns c.join-seat.ensures.numbers c.in_ok-append.ensures.items (omega (arith, add-mul n 1 b, ap (λ m. m * b) more)) more,
       All-same R _ _ c.in_ok-append.ensures.items (All-append R _ _ before.6 is.2),
     )
