@@ -1,8 +1,8 @@
 -- Reservations of harts that are apart stay so, and are at most 256.
-use Rattle.std.proofs.Common.{ℕ, ◌≡◌, ◌≢◌, ◌≤◌, ◌<◌, Bool, true, false, eqb, List, [], ◌∷◌, ◌++◌, length, map, filter, arith, ⊎_elim, sym}
+use Rattle.std.proofs.Common.{ℕ, ◌≡◌, ◌≢◌, ◌≤◌, ◌<◌, Bool, true, false, eqb, List, [], ◌∷◌, ◌++◌, ◌+◌, length, take, set, map, filter, arith, subst, ap, ◌∙◌, ⊎_elim, sym}
 use Rattle.std.specs.List.{list_any, AllByRecursion, IsDistinct}
 use Rattle.std.proofs.lemmas.Bool.{eqb-true, eqb-false, ne_eqb, cases_Bool}
-use Rattle.std.proofs.lemmas.List.{length-map}
+use Rattle.std.proofs.lemmas.List.{length-map, length-take, take_more_set}
 use Rattle.std.proofs.lemmas.Map.Steps.{length-le_from_distinct_below}
 use Rattle.rv_execute.specs.Held.{AreOthers, AreApart}
 use Rattle.rv_execute.specs.Reservations.{without_own, with_reservation, eight_at}
@@ -77,3 +77,13 @@ length-others hart es low apart =
     let one_more : AreApart ((hart, 0) ∷ without_own hart es) = (low, others-without_own hart es, apart) in
     let many = length-apart ((hart, 0) ∷ without_own hart es) one_more in
     omega arith
+
+-- what stands with one more in the first place that is free
+pub reserved : (hart address count : ℕ) (places r : List (ℕ × ℕ)) → hart < 256 → count ≤ length places → length places ≡ 256 → AreApart (take count places) → take count places ≡ without_own hart r → (count < 256) × (take (count + 1) (set places count (hart, eight_at address)) ≡ with_reservation hart address r) × AreApart (with_reservation hart address r)
+reserved hart address count places r low within all apart kept =
+    let others : AreApart (without_own hart r) = subst AreApart kept apart in
+    let room = length-others hart r low others in
+    let many = length-take count places in
+    let same = ap length kept in
+    let free : count < 256 = omega arith in
+    (free, take_more_set places count (hart, eight_at address) (omega arith) ∙ ap (λ es. es ++ (hart, eight_at address) ∷ []) kept, apart-with_reservation hart address r low others)

@@ -1,3 +1,4 @@
 pub mod HeldLemmas
 mod Worked
 pub mod Orderly
+pub mod Kept

@@ -2,7 +2,6 @@
 ghost use Rattle.std.specs.Prelude.{◌≡◌, ◌<◌, []};
 ghost use Rattle.rv_execute.specs.Reservations.{eight_at, without_own, with_reservation, is_touched, without_touched, is_reserved};
 
-use arrayvec::ArrayVec;
 use coz_types::{Address, HARTS, HartId};
 use std::marker::Model;
 
@@ -11,18 +10,20 @@ use std::marker::Model;
 pub struct Reservations {
     // Of each hart that has one, its number and the start of its 8 bytes. Few stand at a time,
     // so a store looks at few.
-    held: ArrayVec<(u16, Address), HARTS>,
+    places: [(u16, Address); HARTS],
+    count: usize,
 }
 
 impl Model for Reservations {
-    ghost use Rattle.std.specs.Prelude.{List, ℕ};
+    ghost use Rattle.std.specs.Prelude.{◌≤◌, List, ℕ, take};
+    ghost use Rattle.coz_types.specs.declared.TheConstants.{HARTS};
     ghost use Rattle.rv_execute.specs.Held.{AreApart};
 
     ghost Value = { List (ℕ × ℕ) };
 
-    ghost view = { λ r. r.held.items };
+    ghost view = { λ r. take r.count r.places };
 
-    ghost invariant = { λ r. AreApart r.held.items };
+    ghost invariant = { λ r. AreApart (take r.count r.places) × (r.count ≤ HARTS) };
 }
 
 /// Whether the 8 bytes at `start` have one of `count` bytes from an address on.
@@ -43,7 +44,8 @@ impl Reservations {
         ensures { result ≡ [] }
     {
         Reservations {
-            held: ArrayVec::new(),
+            places: [(0, 0); HARTS],
+            count: 0,
         }
     }
 
@@ -52,9 +54,15 @@ impl Reservations {
     pub fn end_at(&mut self, address: Address, count: u64)
         ensures { self.new ≡ without_touched address count self.old }
     {
-        if !self.held.is_empty() {
-            self.held.retain(|held| !touches(address, count, held.1));
+        let mut kept = 0;
+        for i in 0..self.count {
+            let place = self.places[i];
+            if !touches(address, count, place.1) {
+                self.places[kept] = place;
+                kept += 1;
+            }
         }
+        self.count = kept;
     }
 
     /// Ends the hart's own reservation.
@@ -62,9 +70,15 @@ impl Reservations {
     pub(crate) fn end_own(&mut self, hart: HartId)
         ensures { self.new ≡ without_own hart.0 self.old }
     {
-        if !self.held.is_empty() {
-            self.held.retain(|held| held.0 != hart.0);
+        let mut kept = 0;
+        for i in 0..self.count {
+            let place = self.places[i];
+            if place.0 != hart.0 {
+                self.places[kept] = place;
+                kept += 1;
+            }
         }
+        self.count = kept;
     }
 
     /// Makes the aligned 8 bytes that hold an address the hart's one reservation.
@@ -73,7 +87,8 @@ impl Reservations {
         ensures { self.new ≡ with_reservation hart.0 address self.old }
     {
         self.end_own(hart);
-        self.held.push((hart.0, address / 8 * 8));
+        self.places[self.count] = (hart.0, address / 8 * 8);
+        self.count += 1;
     }
 
     /// Whether the hart has a reservation of the bytes at an address.
@@ -81,20 +96,18 @@ impl Reservations {
         ensures { result ≡ is_reserved hart.0 address self.now }
     {
         let start = address / 8 * 8;
-        self.held
-            .as_slice()
+        self.places[..self.count]
             .iter()
-            .any(|held| held.0 == hart.0 && held.1 == start)
+            .any(|place| place.0 == hart.0 && place.1 == start)
     }
 
     /// Makes these reservations the same as others.
     pub fn copy_from(&mut self, other: &Reservations)
         ensures { self.new ≡ other.now }
     {
-        self.held.clear();
-        let Ok(()) = self.held.try_extend_from_slice(other.held.as_slice()) else {
-            unreachable!()
-        };
+        let count = other.count;
+        self.places[..count].copy_from_slice(&other.places[..count]);
+        self.count = count;
     }
 }
 

@@ -1,17 +1,22 @@
-use Rattle.std.proofs.Common.{◌≡◌, lit<, ◌∙◌, subst}
-use Rattle.rv_execute.proofs.HeldLemmas.{length-others, apart-with_reservation}
-use Rattle.rv_execute.specs.Held.{AreApart}
-use Rattle.rv_execute.specs.Reservations.{without_own}
+use Rattle.std.proofs.Common.{arith, ◌∙◌}
+use Rattle.rv_execute.proofs.HeldLemmas.{reserved}
 use Rattle.rv_execute.proofs.reservations.Reservations.reserve.Goals as goal
 
-pub push-requires : goal.push-requires
-push-requires c =
-    let kept : c.self.inside.held.items ≡ without_own c.args.hart.0 c.args.self.now = c.self.view_is ∙ c.end_own.ensures in
-    let apart : AreApart (without_own c.args.hart.0 c.args.self.now) = subst AreApart kept c.self.invariant in
-    (lit< tt, rw kept (length-others c.args.hart.0 c.args.self.now c.requires apart))
+pub bounds-self-inside-self-inside : goal.bounds-self-inside-self-inside
+bounds-self-inside-self-inside c =
+    let few = c.self.invariant.1 in
+    let one = reserved c.args.hart.0 c.args.address _ _ _ c.requires (omega arith) (omega arith) c.self.invariant.0 (c.self.view_is ∙ c.end_own.ensures) in
+    one.0
 
 pub invariant_of-self : goal.invariant_of-self
 invariant_of-self c =
-    let kept : c.self.inside.held.items ≡ without_own c.args.hart.0 c.args.self.now = c.self.view_is ∙ c.end_own.ensures in
-    let apart : AreApart (without_own c.args.hart.0 c.args.self.now) = subst AreApart kept c.self.invariant in
-    rw (c.push.ensures.items, kept) (apart-with_reservation c.args.hart.0 c.args.address c.args.self.now c.requires apart)
+    let few = c.self.invariant.1 in
+    let one = reserved c.args.hart.0 c.args.address _ _ _ c.requires (omega arith) (omega arith) c.self.invariant.0 (c.self.view_is ∙ c.end_own.ensures) in
+    let free = one.0 in
+    (rw one.1 one.2, omega arith)
+
+pub returns : goal.returns
+returns c =
+    let few = c.self.invariant.1 in
+    let one = reserved c.args.hart.0 c.args.address _ _ _ c.requires (omega arith) (omega arith) c.self.invariant.0 (c.self.view_is ∙ c.end_own.ensures) in
+    one.1
