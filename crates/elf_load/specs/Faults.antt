@@ -2,6 +2,7 @@
 use Rattle.std.specs.Prelude.{◌≡◌, ℕ, ◌*◌, ◌%◌, Bool, not, ◌&&◌, ◌||◌, List, [], ◌∷◌, ◌++◌, length, take, sum_by, slice_index, Option, Some, None, Result, Ok, Err, option_map, find, nat_lt, nat_le, ◌==◌, if◌then◌else◌, bytes_eq}
 use Rattle.std.specs.List.{list_any}
 use Rattle.coz_types.specs.declared.TheConstants.{PAGE, LOAD_END, MOST_LOADED}
+use Rattle.elf_load.specs.declared.codes.TheConstants.{EHDR_SIZE, PHDR_SIZE, SHDR_SIZE, PN_XNUM}
 use Rattle.elf_load.specs.declared.ElfKind.{ElfKind}
 use Rattle.elf_load.specs.declared.ElfKind.TheVariants.{NotElf, NotClass64, NotLittle, NotExec, NotRiscv, Compressed, HeaderOut, PackedLines, Interp, SizeOrder, AddressOut, WritableCode, SharedPage, TooMuch, EntryOut}
 use Rattle.elf_load.specs.declared.ElfFault.{ElfFault}
@@ -42,18 +43,18 @@ first_row (Some f ∷ rows) = Some f
 -- the rows on the header
 abbrev pub header_rows : List ℕ → List (Option ElfFault)
 header_rows file =
-    row NotElf (nat_lt (length file) 64) (length file)
+    row NotElf (nat_lt (length file) EHDR_SIZE) (length file)
     ∷ row NotElf (not (bytes_eq (take 4 file) (0x7F ∷ 0x45 ∷ 0x4C ∷ 0x46 ∷ []))) 0
     ∷ row NotClass64 (not (slice_index file 4 == 2)) 4
     ∷ row NotLittle (not (slice_index file 5 == 1)) 5
     ∷ row NotExec (not (kind_of file == 2)) 16
     ∷ row NotRiscv (not (machine file == 243)) 18
     ∷ row Compressed (has_bit 0 (flags file)) 48
-    ∷ row HeaderOut (phnum file == 65535) 56
-    ∷ row HeaderOut (not (phnum file == 0) && not (phentsize file == 56)) 54
-    ∷ row HeaderOut (runs_past file (phoff file) (56 * phnum file)) 32
-    ∷ row HeaderOut (not (shnum file == 0) && not (shentsize file == 64)) 58
-    ∷ row HeaderOut (runs_past file (shoff file) (64 * shnum file)) 40
+    ∷ row HeaderOut (phnum file == PN_XNUM) 56
+    ∷ row HeaderOut (not (phnum file == 0) && not (phentsize file == PHDR_SIZE)) 54
+    ∷ row HeaderOut (runs_past file (phoff file) (PHDR_SIZE * phnum file)) 32
+    ∷ row HeaderOut (not (shnum file == 0) && not (shentsize file == SHDR_SIZE)) 58
+    ∷ row HeaderOut (runs_past file (shoff file) (SHDR_SIZE * shnum file)) 40
     ∷ row HeaderOut (not (shnum file == 0) && nat_le (shnum file) (shstrndx file)) 62
     ∷ []
 

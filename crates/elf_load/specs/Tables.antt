@@ -4,6 +4,7 @@ use Rattle.std.specs.Prelude.{ℕ, zero, suc, ◌+◌, ◌-◌, ◌*◌, ◌/◌
 use Rattle.std.specs.List.{list_any}
 use Rattle.std.specs.Int.{Width, w16, w32, w64, from_le_bytes, bit_at}
 use Rattle.coz_types.specs.declared.TheConstants.{PAGE}
+use Rattle.elf_load.specs.declared.codes.TheConstants.{PHDR_SIZE, SHDR_SIZE}
 use Rattle.elf_load.specs.declared.tables.Segment.{Segment}
 use Rattle.elf_load.specs.declared.tables.Section.{Section}
 
@@ -72,7 +73,7 @@ segment_at file place = record {
 }
 
 abbrev pub segments : List ℕ → List Segment
-segments file = map (segment_at file) (places (phoff file) 56 (phnum file))
+segments file = map (segment_at file) (places (phoff file) PHDR_SIZE (phnum file))
 
 abbrev pub is_load : Segment → Bool
 is_load s = s.kind == 1
@@ -129,7 +130,7 @@ section_at file place = record {
 }
 
 abbrev pub sections : List ℕ → List Section
-sections file = map (section_at file) (places (shoff file) 64 (shnum file))
+sections file = map (section_at file) (places (shoff file) SHDR_SIZE (shnum file))
 
 -- it is neither NULL nor NOBITS
 abbrev pub has_bytes : Section → Bool
@@ -144,7 +145,7 @@ bytes_of file s = take s.size (drop s.offset file)
 -- the bytes of the section that holds the names, none where there is no such section
 abbrev pub names : List ℕ → List ℕ
 names file =
-    let s = section_at file (shoff file + 64 * shstrndx file) in
+    let s = section_at file (shoff file + SHDR_SIZE * shstrndx file) in
     if nat_lt 0 (shstrndx file) && nat_lt (shstrndx file) (shnum file) && has_bytes s
     then bytes_of file s
     else []

@@ -2,7 +2,7 @@
 use Rattle.std.specs.Prelude.{◌≡◌, ℕ, ◌+◌, Bool, not, ◌&&◌, ◌==◌, nat_lt, nat_le, List, [], ◌∷◌, ◌++◌, length, Option, Some, None, if◌then◌else◌, is_some}
 use Rattle.std.specs.List.{list_all, before_last, after_last, slice_split}
 use Rattle.std.specs.Str.Parse.{digits_value}
-use Rattle.experiment_plan.specs.declared.line.TheConstants.{GREATEST_LINE}
+use Rattle.coz_types.specs.declared.TheConstants.{GREATEST_LINE}
 
 abbrev pub Text : Type 0
 Text = List ℕ

@@ -5,9 +5,7 @@ ghost use Rattle.std.specs.Option.{option_copied};
 ghost use Rattle.experiment_plan.specs.Lists.{is_comma, is_colon, is_path, is_line, line_parts, pieces, pieces_left, is_list, IsCut};
 
 use crate::number::{number_in, value_of};
-
-/// The greatest number of a line.
-const GREATEST_LINE: u64 = 4294967295;
+use coz_types::GREATEST_LINE;
 
 /// The place behind the last `:`, which is 0 where there is none.
 fn behind_last_colon(text: &[u8]) -> usize

@@ -3,12 +3,13 @@ use Rattle.std.specs.Prelude.{ℕ, ◌+◌, ◌*◌, ◌/◌, ◌%◌, ◌^◌, 
 use Rattle.std.specs.Int.{w64, to_le_bytes}
 use Rattle.rv_decode.specs.Fields.{signed_bits}
 use Rattle.guest_memory.specs.Memory.{MemoryMap, number_at}
+use Rattle.guest_calls.specs.declared.times.TheConstants.{SECOND, NANOSECOND}
 use Rattle.guest_calls.specs.declared.times.Span.{Span}
 
 -- the span of so many seconds and nanoseconds, if both are in their ranges
 abbrev pub span_of : ℤ → ℤ → Option Span
 span_of (pos seconds) (pos nanoseconds) =
-    if nat_lt nanoseconds 1000000000
+    if nat_lt nanoseconds SECOND
     then Some (record { seconds = seconds; nanoseconds = nanoseconds })
     else None
 span_of seconds nanoseconds = None
@@ -23,7 +24,7 @@ span_bytes span = to_le_bytes w64 span.seconds ++ to_le_bytes w64 span.nanosecon
 
 -- the net moment at which a hart wakes that sleeps for a span from net time v on
 abbrev pub wake_moment : ℕ → Span → ℕ
-wake_moment v span = v + (span.seconds * 1000000000 + span.nanoseconds) * 100
+wake_moment v span = v + (span.seconds * SECOND + span.nanoseconds) * NANOSECOND
 
 -- the last moment until which a hart may sleep
 abbrev pub last_moment : ℕ
@@ -31,4 +32,7 @@ last_moment = 10 ^ 16
 
 -- what a clock shows at net time v
 abbrev pub clock_at : ℕ → Span
-clock_at v = record { seconds = v / 10 ^ 11; nanoseconds = v % 10 ^ 11 / 100 }
+clock_at v = record {
+  seconds = v / (SECOND * NANOSECOND);
+  nanoseconds = v % (SECOND * NANOSECOND) / NANOSECOND;
+}

@@ -4,9 +4,7 @@ ghost use Rattle.coz_types.specs.Labels.{is_hex_digit, hex_value, is_escaped, sc
 ghost use Rattle.profile_reader.specs.Scanning.{small_digit, small_next};
 
 use crate::numbers::decimal;
-
-/// 2^32 - 1: the last number of a line.
-const LAST_NUMBER: u64 = 4_294_967_295;
+use coz_types::GREATEST_LINE;
 
 fn is_hex_digit(byte: u8) -> bool
     ensures { result ≡ is_hex_digit byte }
@@ -93,7 +91,7 @@ fn last_colon(label: &[u8]) -> Option<usize>
 fn line_number(text: &[u8]) -> u64
     ensures { result ≡ line_number text.now }
 {
-    decimal(text, LAST_NUMBER).unwrap_or(0)
+    decimal(text, GREATEST_LINE).unwrap_or(0)
 }
 
 fn number_of(label: &[u8]) -> u64

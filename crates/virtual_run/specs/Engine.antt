@@ -2,6 +2,7 @@
 -- and what holds between its moves.
 use Rattle.std.specs.Prelude.{◌≡◌, ℕ, ◌+◌, ◌*◌, ◌^◌, ◌≤◌, ◌<◌, List, [], ◌∷◌, map, length, get_or, Option, Some, None, is_some}
 use Rattle.coz_types.specs.declared.TheConstants.{HARTS}
+use Rattle.cost_table.specs.declared.TheConstants.{MOST_TICKS}
 use Rattle.coz_types.specs.Image.{ImageParts}
 use Rattle.hart_schedule.specs.Keys.{Keys, key_of, IsEmpty}
 use Rattle.machines.specs.Guest.{Experiment}
@@ -66,8 +67,8 @@ pub record IsReached (x : Experiment Guest) (engine : Engine) : Type 0 where
   pub unfull : engine.ending ≡ None → length engine.visits.kept < x.visit_limit
   pub retired : engine.retired ≤ x.budget
   pub few : engine.starts ≤ events_of engine + many engine.schedule
-  -- a hart sleeps to a moment of at most 10^16, and an instruction takes at most 4,000 ticks
-  pub within : AreWithin (10 ^ 16 + 4000 * (events_of engine + 1)) engine.schedule
+  -- a hart sleeps to a moment of at most 10^16, and each event takes at most the ticks of an instruction
+  pub within : AreWithin (10 ^ 16 + MOST_TICKS * (events_of engine + 1)) engine.schedule
 
 -- as it begins the run of an image on an input
 pub record IsFirst (setting : Setting) (image : ImageParts) (input : List ℕ)

@@ -2,6 +2,7 @@
 
 ghost use Rattle.std.specs.Prelude.{◌≡◌, ◌+◌, ◌*◌, ◌^◌, ◌≤◌, ◌<◌, [], ◌∷◌, length, map, None, if◌then◌else◌, IsTrue};
 ghost use Rattle.coz_types.specs.declared.TheConstants.{GREATEST_SPEEDUP};
+ghost use Rattle.cost_table.specs.declared.TheConstants.{MOST_RAISE};
 ghost use Rattle.machines.specs.Delayed.{is_running, total};
 ghost use Rattle.machines.specs.Guest.{goes_on};
 ghost use Rattle.delay_credits.specs.Delays.{hart_at, pause_of, at, with_stop};
@@ -57,7 +58,7 @@ pub fn raised_by(guest: &Guest, hart: HartId, speedup: u8) -> Tick
     requires made { IsMade guest.now hart.0 }
     requires speedup { speedup ≤ GREATEST_SPEEDUP }
     ensures ticks { result ≡ raise_ticks guest.now speedup hart.0 }
-    ensures few { result ≤ 3800 }
+    ensures few { result ≤ MOST_RAISE }
 {
     raise(guest.next_cycles(hart), speedup)
 }
@@ -69,7 +70,7 @@ pub fn raise_harts(credits: &mut Credits, guest: &Guest, harts: &[HartId], speed
     requires made { AllMade guest.now (map (λ hart. hart.0) harts.now) }
     requires speedup { speedup ≤ GREATEST_SPEEDUP }
     requires now { credits.old.latest ≡ now }
-    requires few { credits.old.raised + 3800 * length (map (λ hart. hart.0) harts.now) ≤ 10 ^ 17 }
+    requires few { credits.old.raised + MOST_RAISE * length (map (λ hart. hart.0) harts.now) ≤ 10 ^ 17 }
     ensures { credits.new
         ≡ with_raises (raise_ticks guest.now speedup) (map (λ hart. hart.0) harts.now) credits.old }
 {
@@ -84,7 +85,7 @@ pub fn raise_selected(credits: &mut Credits, engine: &Engine, speedup: u8, now: 
     requires made { AllMade engine.now.guest engine.now.selected }
     requires speedup { speedup ≤ GREATEST_SPEEDUP }
     requires now { credits.old.latest ≡ now }
-    requires few { credits.old.raised + 3800 * length engine.now.selected ≤ 10 ^ 17 }
+    requires few { credits.old.raised + MOST_RAISE * length engine.now.selected ≤ 10 ^ 17 }
     ensures { credits.new
         ≡ with_raises (raise_ticks engine.now.guest speedup) engine.now.selected credits.old }
 {
@@ -170,7 +171,7 @@ fn wake_up(credits: &mut Credits, engine: &Engine, hart: HartId, speedup: u8, no
     requires run { AllRun (with_starts (hart.0 ∷ []) (at now credits.old)) engine.now.selected }
     requires made { AllMade engine.now.guest engine.now.selected }
     requires speedup { speedup ≤ GREATEST_SPEEDUP }
-    requires few { credits.old.raised + 3800 * length engine.now.selected ≤ 10 ^ 17 }
+    requires few { credits.old.raised + MOST_RAISE * length engine.now.selected ≤ 10 ^ 17 }
     ensures { credits.new ≡ with_wake (raise_ticks engine.now.guest speedup)
         hart.0 engine.now.selected (at now credits.old) }
 {

@@ -2,6 +2,7 @@
 
 ghost use Rattle.std.specs.Prelude.{◌≡◌, ◌+◌, ◌^◌, ◌≤◌, ◌<◌, ◌++◌, [], ◌∷◌, length, map, if◌then◌else◌, IsTrue};
 ghost use Rattle.coz_types.specs.declared.TheConstants.{GREATEST_SPEEDUP, HARTS};
+ghost use Rattle.cost_table.specs.declared.TheConstants.{MOST_TICKS};
 ghost use Rattle.hart_schedule.specs.Keys.{key_of, with_key, without_key};
 ghost use Rattle.machines.specs.Guest.{goes_on};
 ghost use Rattle.guest_calls.specs.Guest.{IsMade, pc_of};
@@ -32,7 +33,7 @@ fn cost_of(setting: &Setting, guest: &Guest, hart: HartId) -> Cost
     requires speedup { setting.now.choice.speedup ≤ GREATEST_SPEEDUP }
     ensures ticks { result.ticks ≡ ticks_in setting.now guest.now hart.0 }
     ensures selected { result.selected ≡ is_selecting setting.now (pc_of guest.now hart.0) }
-    ensures few { result.ticks ≤ 4000 }
+    ensures few { result.ticks ≤ MOST_TICKS }
 {
     let cycles = guest.next_cycles(hart);
     if setting.has_selected(guest.pc(hart)) {
