@@ -10,11 +10,11 @@ use Rattle.coz_cli.specs.declared.fault.Fault.{Fault}
 use Rattle.coz_cli.specs.declared.fault.Fault.TheVariants.{Usage, Program, Lines, Read, Write, NoLine, ManyPoints, Long, ManyExperiments, Memory, Source, Profile}
 use Rattle.coz_cli.specs.Words.{request_of}
 use Rattle.coz_cli.specs.Verdict.{Verdict, command_verdict, request_verdict, verdict}
-use Rattle.coz_cli.specs.Answer.{Answer, IsMemory, IsReadFault, Suits, Settles, fault_line, fault_status, printed_verdict, text_bytes}
+use Rattle.coz_cli.specs.Answer.{Answer, IsMemory, IsMemoryFault, IsReadFault, Suits, Settles, fault_line, fault_status, printed_verdict, text_bytes}
 use Rattle.coz_cli.specs.Headline.{PrintsForAnyWorkers, PrintsShortened}
 use Rattle.coz_cli.specs.Serve.{IsLine}
 use Rattle.coz_cli.proofs.Printed.{prints_shortened}
-use Rattle.coz_cli.proofs.Told.{IsOf, told_line}
+use Rattle.coz_cli.proofs.Told.{IsOf, memory_status, told_line}
 use Rattle.coz_cli.proofs.Workers.{printed_alike}
 
 -- nothing is asked of a status that is above a run's
@@ -45,19 +45,8 @@ is_read Memory five = absurd (omega (arith, five))
 is_read (Source fault) five = absurd (omega (arith, five))
 is_read (Profile fault) five = absurd (omega (arith, five))
 
-not_memory : (fault : Fault) → fault_status fault ≡ 5 → IsMemory {A = Printed} (Err fault) → ⊥
-not_memory Usage five memory = memory
-not_memory (Program fault) five memory = memory
-not_memory (Lines fault) five memory = memory
-not_memory (Read path) five memory = memory
-not_memory Write five memory = memory
-not_memory (NoLine piece) five memory = memory
-not_memory (ManyPoints count) five memory = memory
-not_memory (Long path) five memory = memory
-not_memory (ManyExperiments count) five memory = memory
-not_memory Memory five memory = omega (arith, five)
-not_memory (Source fault) five memory = memory
-not_memory (Profile fault) five memory = memory
+not_memory : (fault : Fault) → fault_status fault ≡ 5 → IsMemoryFault fault → ⊥
+not_memory fault five memory = let ten = memory_status fault memory in omega (arith, five, ten)
 
 module _ (words : List (List ℕ)) (faults now : ℕ) where
   -- what an answer settles of a request it settles of the words

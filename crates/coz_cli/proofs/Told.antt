@@ -1,14 +1,15 @@
 -- What is known of the line of a fault.
-use Rattle.std.proofs.Common.{◌≡◌, ◌≢◌, ◌≤◌, ℕ, List, Option, Some, None, IfSome, Err, refl, ap, arith, ◌⊎◌, inl, inr}
+use Rattle.std.proofs.Common.{◌≡◌, ◌≢◌, ◌≤◌, ◌==◌, false, ◌∙◌, ℕ, List, Option, Some, None, IfSome, Err, refl, sym, ap, subst, arith, ◌⊎◌, inl, inr}
 use Rattle.std.specs.Prelude.{IfNone, IsSomeAnd}
+use Rattle.std.proofs.lemmas.Bool.{eqb-false}
 use Rattle.coz_files.specs.Faults.{Rose}
 use Rattle.coz_files.specs.Held.{Held}
 use Rattle.coz_cli.specs.declared.fault.Fault.{Fault}
 use Rattle.coz_cli.specs.declared.fault.Fault.TheVariants.{Usage, Program, Lines, Read, Write, NoLine, ManyPoints, Long, ManyExperiments, Memory, Source, Profile}
 use Rattle.coz_words.specs.declared.request.Request.{Request}
 use Rattle.coz_cli.specs.Words.{Names, request_of}
-use Rattle.coz_cli.specs.Verdict.{Verdict, verdict}
-use Rattle.coz_cli.specs.Answer.{IsMemoryFault, IsReadFault, Suits, Settles, fault_status, fault_line}
+use Rattle.coz_cli.specs.Verdict.{Verdict, text_verdict, verdict}
+use Rattle.coz_cli.specs.Answer.{IsMemoryFault, IsReadFault, Suits, Settles, fault_status, fault_line, fault_verdict}
 use Rattle.coz_cli.specs.Serve.{IsLine}
 
 -- a fault of the words themselves, or one that suits their request
@@ -39,14 +40,19 @@ module _ (status : ℕ) (words : List (List ℕ)) (told : Option Held) (before n
   of_verdict fault (Some held) no_read no_memory settled =
       elim (settled no_memory) [ inl is ↦ ap (λ (v : Verdict). v.line) is | inr failed ↦ absurd (no_read failed.0) ]
 
-  plain : (fault : Fault) → IsKnown fault status words told before now → status ≢ 2 → status ≢ 5 → status ≢ 6 → status ≢ 10 → (IsReadFault fault → ⊥) → (IsMemoryFault fault → ⊥)
-      → IsLine status words told before now (fault_line fault)
+  -- the status is that of no other fault
+  apart : (fault : Fault) (other : ℕ) → IsKnown fault status words told before now → (fault_status fault == other) ≡ false → status ≢ other
+  apart fault other k differs is = eqb-false (fault_status fault) other differs (sym k.status_is ∙ is)
+
+  plain : (fault : Fault) → IsKnown fault status words told before now
+      → (fault_status fault == 2) ≡ false → (fault_status fault == 5) ≡ false → (fault_status fault == 6) ≡ false → (fault_status fault == 10) ≡ false
+      → (IsReadFault fault → ⊥) → (IsMemoryFault fault → ⊥) → IsLine status words told before now (fault_line fault)
   plain fault k two five six ten no_read no_memory = record {
-    usage = λ is. absurd (two is);
-    write = λ is. absurd (six is);
-    memory = λ is. absurd (ten is);
-    read = λ is. absurd (five is);
-    absent = λ is. absurd (five is);
+    usage = λ is. absurd (apart fault 2 k two is);
+    write = λ is. absurd (apart fault 6 k six is);
+    memory = λ is. absurd (apart fault 10 k ten is);
+    read = λ is. absurd (apart fault 5 k five is);
+    absent = λ is. absurd (apart fault 5 k five is);
     verdict = λ of. of_verdict fault told no_read no_memory k.settled;
   }
 
@@ -60,37 +66,37 @@ module _ (status : ℕ) (words : List (List ℕ)) (told : Option Held) (before n
   pub told_line : (fault : Fault) → IsKnown fault status words told before now → IsLine status words told before now (fault_line fault)
   told_line Usage k = record {
     usage = λ is. refl;
-    write = λ is. absurd (omega (arith, is, k.status_is));
-    memory = λ is. absurd (omega (arith, is, k.status_is));
-    read = λ is. absurd (omega (arith, is, k.status_is));
-    absent = λ is. absurd (omega (arith, is, k.status_is));
+    write = λ is. absurd (apart Usage 6 k refl is);
+    memory = λ is. absurd (apart Usage 10 k refl is);
+    read = λ is. absurd (apart Usage 5 k refl is);
+    absent = λ is. absurd (apart Usage 5 k refl is);
     verdict = λ of. of_verdict Usage told (λ no. no) (λ no. no) k.settled;
   }
   told_line (Read path) k = record {
-    usage = λ is. absurd (omega (arith, is, k.status_is));
-    write = λ is. absurd (omega (arith, is, k.status_is));
-    memory = λ is. absurd (omega (arith, is, k.status_is));
+    usage = λ is. absurd (apart (Read path) 2 k refl is);
+    write = λ is. absurd (apart (Read path) 6 k refl is);
+    memory = λ is. absurd (apart (Read path) 10 k refl is);
     read = λ is. (path.now, names_path (request_of words) path k.of_words, refl);
     absent = λ is. absent_by path told (k.untold tt) k.settled;
     verdict = λ of. absurd (of.no_read k.status_is);
   }
   told_line Write k = absurd (no_write (request_of words) k.of_words)
   told_line Memory k = record {
-    usage = λ is. absurd (omega (arith, is, k.status_is));
-    write = λ is. absurd (omega (arith, is, k.status_is));
+    usage = λ is. absurd (apart Memory 2 k refl is);
+    write = λ is. absurd (apart Memory 6 k refl is);
     memory = λ is. refl;
-    read = λ is. absurd (omega (arith, is, k.status_is));
-    absent = λ is. absurd (omega (arith, is, k.status_is));
+    read = λ is. absurd (apart Memory 5 k refl is);
+    absent = λ is. absurd (apart Memory 5 k refl is);
     verdict = λ of. absurd (of.no_memory k.status_is);
   }
-  told_line (Program fault) k = plain (Program fault) k (λ is. omega (arith, is, k.status_is)) (λ is. omega (arith, is, k.status_is)) (λ is. omega (arith, is, k.status_is)) (λ is. omega (arith, is, k.status_is)) (λ no. no) (λ no. no)
-  told_line (Lines fault) k = plain (Lines fault) k (λ is. omega (arith, is, k.status_is)) (λ is. omega (arith, is, k.status_is)) (λ is. omega (arith, is, k.status_is)) (λ is. omega (arith, is, k.status_is)) (λ no. no) (λ no. no)
-  told_line (NoLine piece) k = plain (NoLine piece) k (λ is. omega (arith, is, k.status_is)) (λ is. omega (arith, is, k.status_is)) (λ is. omega (arith, is, k.status_is)) (λ is. omega (arith, is, k.status_is)) (λ no. no) (λ no. no)
-  told_line (ManyPoints count) k = plain (ManyPoints count) k (λ is. omega (arith, is, k.status_is)) (λ is. omega (arith, is, k.status_is)) (λ is. omega (arith, is, k.status_is)) (λ is. omega (arith, is, k.status_is)) (λ no. no) (λ no. no)
-  told_line (Long path) k = plain (Long path) k (λ is. omega (arith, is, k.status_is)) (λ is. omega (arith, is, k.status_is)) (λ is. omega (arith, is, k.status_is)) (λ is. omega (arith, is, k.status_is)) (λ no. no) (λ no. no)
-  told_line (ManyExperiments count) k = plain (ManyExperiments count) k (λ is. omega (arith, is, k.status_is)) (λ is. omega (arith, is, k.status_is)) (λ is. omega (arith, is, k.status_is)) (λ is. omega (arith, is, k.status_is)) (λ no. no) (λ no. no)
-  told_line (Source fault) k = plain (Source fault) k (λ is. omega (arith, is, k.status_is)) (λ is. omega (arith, is, k.status_is)) (λ is. omega (arith, is, k.status_is)) (λ is. omega (arith, is, k.status_is)) (λ no. no) (λ no. no)
-  told_line (Profile fault) k = plain (Profile fault) k (λ is. omega (arith, is, k.status_is)) (λ is. omega (arith, is, k.status_is)) (λ is. omega (arith, is, k.status_is)) (λ is. omega (arith, is, k.status_is)) (λ no. no) (λ no. no)
+  told_line (Program fault) k = plain (Program fault) k refl refl refl refl (λ no. no) (λ no. no)
+  told_line (Lines fault) k = plain (Lines fault) k refl refl refl refl (λ no. no) (λ no. no)
+  told_line (NoLine piece) k = plain (NoLine piece) k refl refl refl refl (λ no. no) (λ no. no)
+  told_line (ManyPoints count) k = plain (ManyPoints count) k refl refl refl refl (λ no. no) (λ no. no)
+  told_line (Long path) k = plain (Long path) k refl refl refl refl (λ no. no) (λ no. no)
+  told_line (ManyExperiments count) k = plain (ManyExperiments count) k refl refl refl refl (λ no. no) (λ no. no)
+  told_line (Source fault) k = plain (Source fault) k refl refl refl refl (λ no. no) (λ no. no)
+  told_line (Profile fault) k = plain (Profile fault) k refl refl refl refl (λ no. no) (λ no. no)
 
 -- no fault has the status of a run
 pub told_high : (fault : Fault) → 2 ≤ fault_status fault
@@ -106,3 +112,32 @@ told_high (ManyExperiments count) = omega arith
 told_high Memory = omega arith
 told_high (Source fault) = omega arith
 told_high (Profile fault) = omega arith
+
+-- a fault is want of memory, or it isn't
+memory_or : (fault : Fault) → (fault ≡ Memory) ⊎ (IsMemoryFault fault → ⊥)
+memory_or Memory = inl refl
+memory_or Usage = inr (λ no. no)
+memory_or (Program fault) = inr (λ no. no)
+memory_or (Lines fault) = inr (λ no. no)
+memory_or (Read path) = inr (λ no. no)
+memory_or Write = inr (λ no. no)
+memory_or (NoLine piece) = inr (λ no. no)
+memory_or (ManyPoints count) = inr (λ no. no)
+memory_or (Long path) = inr (λ no. no)
+memory_or (ManyExperiments count) = inr (λ no. no)
+memory_or (Source fault) = inr (λ no. no)
+memory_or (Profile fault) = inr (λ no. no)
+
+pub memory_is : (fault : Fault) → IsMemoryFault fault → fault ≡ Memory
+memory_is fault memory = elim (memory_or fault) [ inl is ↦ is | inr other ↦ absurd (other memory) ]
+
+pub memory_status : (fault : Fault) → IsMemoryFault fault → fault_status fault ≡ 10
+memory_status fault memory = ap fault_status (memory_is fault memory)
+
+never : (fault : Fault) (text : List ℕ) → fault_verdict fault ≡ text_verdict text → ⊥
+never fault text is = let e : fault_status fault ≡ 0 = ap (λ (v : Verdict). v.status) is in omega (arith, e, told_high fault)
+
+-- where the verdict is a text, a fault is want of memory
+pub is_memory : (fault : Fault) (text : List ℕ) → ((IsMemoryFault fault → ⊥) → fault_verdict fault ≡ text_verdict text) → IsMemoryFault fault
+is_memory fault text settled =
+    elim (memory_or fault) [ inl is ↦ subst IsMemoryFault (sym is) tt | inr other ↦ absurd (never fault text (settled other)) ]

@@ -45,12 +45,11 @@ use Rattle.image_write.proofs.LineSection.{no_texts, unit_found}
 use Rattle.image_write.proofs.Loading.{written_loads, written_short}
 use Rattle.image_write.proofs.Written.{unit_is_read}
 use Rattle.coz_cli.specs.declared.fault.Fault.{Fault}
-use Rattle.coz_cli.specs.declared.fault.Fault.TheVariants.{Usage, Program as NoProgram, Lines, Read, Write, NoLine, ManyPoints, Long, ManyExperiments, Memory, Source as NoSource, Profile as NoProfile}
 use Rattle.coz_files.specs.Held.{Held}
 use Rattle.coz_words.specs.declared.command.Command.{Command}
 use Rattle.coz_words.specs.declared.command.Command.TheVariants.{Trial}
 use Rattle.coz_words.specs.declared.request.Request.{Request}
-use Rattle.coz_cli.specs.Answer.{Answer, IsMemory, IsMemoryFault, IsOfTrial, IsRead, IsReadFault, Settles, Suits, fault_status, fault_verdict}
+use Rattle.coz_cli.specs.Answer.{Answer, IsMemory, IsMemoryFault, IsOfTrial, IsRead, IsReadFault, Settles, Suits, fault_verdict}
 use Rattle.coz_cli.specs.Serve.{AskTrial}
 use Rattle.coz_cli.specs.Words.{request_of}
 use Rattle.coz_cli.specs.Causes.{assembling_fault, planning_fault}
@@ -58,33 +57,13 @@ use Rattle.coz_cli.specs.Experiment.{Runs, experiment_by_table, runs_in}
 use Rattle.profile_pool.specs.Summaries.{summaries_of}
 use Rattle.coz_cli.specs.Profiled.{experiment_on, label_at, pairs_of, summary_on}
 use Rattle.coz_cli.specs.LineTable.{table_in}
-use Rattle.coz_cli.specs.Trial.{IsTrialFile, tenths, trial_file, trial_name, trial_plan, trial_point, trial_profile, trial_program, trial_text}
-use Rattle.coz_cli.specs.Verdict.{Verdict, assembled_verdict, command_verdict, file_verdict, named_verdict, text_verdict, profile_verdict, program_verdict, trial_judging, trial_printed, trial_verdict}
+use Rattle.coz_cli.specs.Trial.{IsTrialFile, tenths, trial_file, trial_name, trial_plan, trial_point, trial_profile, trial_program}
+use Rattle.coz_cli.specs.Verdict.{Verdict, assembled_verdict, command_verdict, file_verdict, named_verdict, text_verdict, program_verdict, trial_judging, trial_printed, trial_verdict}
 use Rattle.coz_cli.proofs.Files.{whole_program}
 use Rattle.coz_cli.proofs.Indexed.{indexed}
 use Rattle.coz_cli.proofs.PointLine.{word_found}
 use Rattle.coz_cli.proofs.Profiling.{pairs_are, same_profile, summaries_are}
-use Rattle.coz_cli.proofs.Told.{told_high}
-
--- ---- faults
-
-never : (fault : Fault) (text : List ℕ) → fault_verdict fault ≡ text_verdict text → ⊥
-never fault text is = let e : fault_status fault ≡ 0 = ap (λ (v : Verdict). v.status) is in omega (arith, e, told_high fault)
-
--- where the verdict is a text, a fault is want of memory
-pub is_memory : (fault : Fault) (text : List ℕ) → ((IsMemoryFault fault → ⊥) → fault_verdict fault ≡ text_verdict text) → IsMemoryFault fault
-is_memory Memory text settled = tt
-is_memory Usage text settled = absurd (never Usage text (settled (λ no. no)))
-is_memory (NoProgram fault) text settled = absurd (never (NoProgram fault) text (settled (λ no. no)))
-is_memory (Lines fault) text settled = absurd (never (Lines fault) text (settled (λ no. no)))
-is_memory (Read path) text settled = absurd (never (Read path) text (settled (λ no. no)))
-is_memory Write text settled = absurd (never Write text (settled (λ no. no)))
-is_memory (NoLine piece) text settled = absurd (never (NoLine piece) text (settled (λ no. no)))
-is_memory (ManyPoints count) text settled = absurd (never (ManyPoints count) text (settled (λ no. no)))
-is_memory (Long path) text settled = absurd (never (Long path) text (settled (λ no. no)))
-is_memory (ManyExperiments count) text settled = absurd (never (ManyExperiments count) text (settled (λ no. no)))
-is_memory (NoSource fault) text settled = absurd (never (NoSource fault) text (settled (λ no. no)))
-is_memory (NoProfile fault) text settled = absurd (never (NoProfile fault) text (settled (λ no. no)))
+use Rattle.coz_cli.proofs.Told.{is_memory, memory_is}
 
 same_ok : {A E : Type 0} {x y : A} → (let r : Result A E = Ok x in r ≡ Ok y) → x ≡ y
 same_ok e = cc
@@ -315,23 +294,9 @@ file_judged source file image table index is_index read =
 
 -- ---- answers
 
-memory_suits : (asked : Request) (fault : Fault) → IsMemoryFault fault → Suits asked (Err fault)
-memory_suits asked Memory m = tt
-memory_suits asked Usage m = m
-memory_suits asked (NoProgram fault) m = tt
-memory_suits asked (Lines fault) m = tt
-memory_suits asked (Read path) m = absurd m
-memory_suits asked Write m = m
-memory_suits asked (NoLine piece) m = tt
-memory_suits asked (ManyPoints count) m = tt
-memory_suits asked (Long path) m = absurd m
-memory_suits asked (ManyExperiments count) m = tt
-memory_suits asked (NoSource fault) m = tt
-memory_suits asked (NoProfile fault) m = tt
-
 pub trial_suits : (asked : Request) (v : Verdict) (answer : Answer) → IsOfTrial v answer → Suits asked answer
 trial_suits asked v (Ok p) is = is.low
-trial_suits asked v (Err fault) is = memory_suits asked fault is.memory
+trial_suits asked v (Err fault) is = subst (λ (f : Fault). Suits asked (Err f)) (sym (memory_is fault is.memory)) tt
 
 pub trial_settled : (told : Option Held) (asked : Request) (command : Command) (before now : ℕ) (answer : Answer) → command ≡ Trial → IsOfTrial (trial_verdict asked.seed asked.size) answer
     → IfSome told (λ held. (IsMemory answer → ⊥) → Settles (command_verdict command asked held) before now answer)
@@ -340,37 +305,9 @@ trial_settled (Some held) asked command before now (Ok p) is of = λ other.
     subst (λ (c : Command). Settles (command_verdict c asked held) before now (Ok p)) (sym is) (inl of.settled)
 trial_settled (Some held) asked command before now (Err fault) is of = λ other. absurd (other of.memory)
 
-read_is_other : (fault : Fault) → IsMemoryFault fault → IsReadFault fault → ⊥
-read_is_other Memory m read = read
-read_is_other Usage m read = m
-read_is_other (NoProgram fault) m read = m
-read_is_other (Lines fault) m read = m
-read_is_other (Read path) m read = m
-read_is_other Write m read = m
-read_is_other (NoLine piece) m read = m
-read_is_other (ManyPoints count) m read = m
-read_is_other (Long path) m read = m
-read_is_other (ManyExperiments count) m read = m
-read_is_other (NoSource fault) m read = m
-read_is_other (NoProfile fault) m read = m
-
 pub trial_no_read : (v : Verdict) (answer : Answer) → IsOfTrial v answer → IsRead answer → ⊥
 trial_no_read v (Ok p) of read = read
-trial_no_read v (Err fault) of read = read_is_other fault of.memory read
-
-pub memory_status : (fault : Fault) → IsMemoryFault fault → fault_status fault ≡ 10
-memory_status Memory m = refl
-memory_status Usage m = absurd m
-memory_status (NoProgram fault) m = absurd m
-memory_status (Lines fault) m = absurd m
-memory_status (Read path) m = absurd m
-memory_status Write m = absurd m
-memory_status (NoLine piece) m = absurd m
-memory_status (ManyPoints count) m = absurd m
-memory_status (Long path) m = absurd m
-memory_status (ManyExperiments count) m = absurd m
-memory_status (NoSource fault) m = absurd m
-memory_status (NoProfile fault) m = absurd m
+trial_no_read v (Err fault) of read = subst IsReadFault (memory_is fault of.memory) read
 
 -- the request of words that ask for a trial
 pub asks_trial : (words : List (List ℕ)) (asked : Request) → Some asked ≡ request_of words → AskTrial words → asked.command ≡ Trial

@@ -4,7 +4,8 @@ use Rattle.std.proofs.lemmas.List.Elements.{recursion_from_All}
 use Rattle.std.proofs.lemmas.Result.{err_from_is_err_and}
 use Rattle.coz_types.specs.Ranges.{IsSummary}
 use Rattle.coz_cli.specs.Verdict.{text_verdict}
-use Rattle.coz_cli.proofs.Trials.{is_memory, summaries_of_trial}
+use Rattle.coz_cli.proofs.Told.{is_memory}
+use Rattle.coz_cli.proofs.Trials.{summaries_of_trial}
 use Rattle.coz_cli.proofs.trial.trial_summaries.Goals as goal
 
 pub returns-in_err-points-clause-memory : goal.returns-in_err-points-clause-memory
