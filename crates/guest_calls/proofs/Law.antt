@@ -1,15 +1,14 @@
 -- The guest keeps the rules of a guest of the machines.
-use Rattle.std.proofs.Common.{◌≡◌, ℕ, zero, suc, ◌+◌, ◌≤◌, ◌<◌, ◌^◌, ◌==◌, Bool, true, false, ◌||◌, if◌then◌else◌, List, Option, IsNone, refl, sym, ap, ◌∙◌, arith}
+use Rattle.std.proofs.Common.{◌≡◌, ℕ, zero, suc, ◌≤◌, ◌<◌, ◌^◌, ◌==◌, Bool, true, false, ◌||◌, if◌then◌else◌, List, Option, IsNone, refl, sym, ap, ◌∙◌, arith}
 use Rattle.std.proofs.lemmas.List.{length-set}
 use Rattle.std.proofs.lemmas.Bool.{eqb-true}
 use Rattle.std.proofs.Math.Dec.{eqb-suc-zero}
 use Rattle.coz_types.specs.declared.ending.Ending.TheVariants.{Trapped}
 use Rattle.coz_types.specs.declared.ending.Trap.{Trap}
 use Rattle.coz_types.specs.Image.{ImageParts}
-use Rattle.machines.specs.declared.Fate.{Fate}
-use Rattle.machines.specs.declared.Fate.TheVariants.{Goes, Waits, Leaves, Sleeps, Ends}
+use Rattle.machines.specs.declared.Fate.TheVariants.{Sleeps, Ends}
 use Rattle.machines.specs.Places.{is_among}
-use Rattle.machines.specs.Guest.{IsLawful, IsLater, started_harts, own_ending, is_sleeper}
+use Rattle.machines.specs.Guest.{IsLawful, started_harts, own_ending}
 use Rattle.guest_memory.specs.declared.Layout.{Layout}
 use Rattle.guest_calls.specs.Guest.{Guest, making, is_running, hart_at, is_sleeping, is_sleeping_status, is_timed, sleepers, with_wake, first_guest}
 use Rattle.guest_calls.specs.declared.hart.HartStatus.TheVariants.{Running}

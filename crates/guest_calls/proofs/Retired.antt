@@ -21,7 +21,7 @@ use Rattle.guest_calls.specs.Orderly.{IsOrderly}
 use Rattle.guest_calls.proofs.Steady.{regions-kept}
 use Rattle.guest_calls.proofs.Steps.{step-call, step-guest}
 use Rattle.guest_calls.proofs.ByNumber.{IsRow, AreRows, call_has}
-use Rattle.guest_calls.proofs.Started.{IsStarted, IsStartedAt, at_any_net, IsAsBefore, either, memory_made, stored_made, space_made, same_harts, later, hart_kept, unchanged, still_orderly, none_beside, goes_started, ends_started, kept_started, answer_started, checked, of_space_started, unsupported_started}
+use Rattle.guest_calls.proofs.Started.{IsStarted, IsStartedAt, at_any_net, IsAsBefore, either, memory_made, stored_made, space_made, same_harts, later, hart_kept, unchanged, none_beside, goes_started, ends_started, kept_started, answer_started, checked, of_space_started, unsupported_started}
 use Rattle.guest_calls.proofs.ThreadRows.{exit_started, futex_started, clone_started}
 use Rattle.guest_calls.proofs.TimeRows.{nanosleep_started, clock_gettime_started}
 

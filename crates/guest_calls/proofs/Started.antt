@@ -17,11 +17,10 @@ use Rattle.guest_areas.specs.Space.{Space, Answered}
 use Rattle.guest_areas.proofs.Shares.{IsSteady}
 use Rattle.guest_calls.specs.declared.hart.Hart.{Hart}
 use Rattle.guest_calls.specs.Answering.{with_result}
-use Rattle.guest_calls.specs.Guest.{Guest, Making, making, memory_of, hart_at, state_of, with_hart, with_state, with_memory, with_stored, is_running, is_running_status, is_timed, sleepers}
+use Rattle.guest_calls.specs.Guest.{Guest, Making, making, memory_of, hart_at, state_of, with_hart, with_state, with_memory, with_stored, is_running, is_timed, sleepers}
 use Rattle.guest_calls.specs.Calls.{retirement, with_answer, of_space, unsupported}
 use Rattle.guest_calls.specs.Orderly.{IsOrderly}
 use Rattle.guest_calls.proofs.Waiting.{status-set}
-use Rattle.guest_calls.specs.declared.hart.HartStatus.{HartStatus}
 use Rattle.guest_calls.specs.declared.hart.HartStatus.TheVariants.{Running}
 use Rattle.guest_calls.proofs.RunningHarts.{status_at, is_timed_status, made_timed, runs_timed, chosen_status, waiting_same, asleep_same}
 

@@ -17,7 +17,6 @@ use Rattle.guest_futex.specs.Waiters.{woken_harts}
 use Rattle.guest_futex.specs.Apart.{AreOthers}
 use Rattle.guest_futex.proofs.WaitersLemmas.{apart-with_waiter, apart-left}
 use Rattle.guest_calls.specs.declared.hart.Hart.{Hart}
-use Rattle.guest_calls.specs.declared.hart.HartStatus.{HartStatus}
 use Rattle.guest_calls.specs.Guest.{Guest, with_hart, with_stored, is_running, is_running_status, is_over, memory_of, thread_id}
 use Rattle.guest_calls.specs.Calls
 use Rattle.guest_calls.specs.Calls.{retirement, with_answer, left_by, leave, unsupported, with_word, with_woken, clear_address, woken_at_exit, cleared, is_cleared, waiting_for, most_woken, woken_here, parent_set_tid, child_set_tid, child, with_child, with_parent_tid, with_child_tid, cloned, is_accepted, a0, a1, a2, a3, a4}

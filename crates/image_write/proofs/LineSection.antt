@@ -3,7 +3,7 @@ use Rattle.std.proofs.Common.{◌≡◌, ℕ, ◌+◌, ◌-◌, ◌*◌, ◌&&�
 use Rattle.std.specs.Prelude.{codes, IfOk}
 use Rattle.std.proofs.lemmas.List.{take_at, drop_at}
 use Rattle.elf_load.specs.declared.tables.Section.{Section}
-use Rattle.elf_load.specs.Tables.{section_at, sections, shoff, shnum, shstrndx, has_bytes, bytes_of, has_name}
+use Rattle.elf_load.specs.Tables.{section_at, sections, shoff, shstrndx, has_bytes, bytes_of, has_name}
 use Rattle.elf_load.specs.Tables as tables
 use Rattle.elf_load.specs.Loaded as loading
 use Rattle.rv_asm.specs.Assembled.{Program, IsProgram}

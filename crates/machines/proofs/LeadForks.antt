@@ -17,7 +17,7 @@ use Rattle.machines.proofs.Jump.{jump_is}
 use Rattle.machines.proofs.Stepping.{begin_frame}
 use Rattle.machines.proofs.Standing.{all_have, jump_goes, agrees, comes_at}
 use Rattle.machines.proofs.Lead.{standing_begins, forked}
-use Rattle.machines.proofs.LeadDues.{BeforeShort, Beside, beside, shortened_begins}
+use Rattle.machines.proofs.LeadDues.{BeforeShort, beside, shortened_begins}
 use Rattle.machines.proofs.LeadDues as dues
 
 module _ {G : Type 0} (x : Experiment G) where

@@ -1,5 +1,5 @@
 -- What the work of a claim is: the runs of a line of a plan.
-use Rattle.std.specs.Prelude.{◌≡◌, ℕ, ◌<◌, ◌≤◌, ◌^◌, List, [], ◌∷◌, Some, length, map, All}
+use Rattle.std.specs.Prelude.{◌≡◌, ℕ, ◌<◌, ◌≤◌, List, [], ◌∷◌, Some, length, map, All}
 use Rattle.std.specs.List.{slice_index_or}
 use Rattle.coz_types.specs.declared.TheConstants.{GREATEST_BUDGET}
 use Rattle.coz_types.specs.declared.record.Summary.{Summary}

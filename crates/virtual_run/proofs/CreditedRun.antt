@@ -19,7 +19,7 @@ use Rattle.machines.specs.declared.Fate.TheVariants.{Goes, Waits, Leaves, Sleeps
 use Rattle.machines.specs.Places.{is_among}
 use Rattle.machines.specs.Guest.{Experiment, Retirement, IsLawful, enough, goes_on, own_ending, ending_if, first_ending, started_harts, is_timed}
 use Rattle.machines.specs.Delayed.{Account, Load, Hart, Delayed, Visit, idle_hart, is_running, run as run_from, begin, unbegun, events, after, delayed}
-use Rattle.machines.specs.Shortened.{Shortened, Turn, shortened, move}
+use Rattle.machines.specs.Shortened.{Shortened, Turn, shortened}
 use Rattle.machines.specs.Shortened as short
 use Rattle.machines.specs.Agreement.{LoadAgrees, Agrees}
 use Rattle.machines.specs.Steps.{Steps, Passes}

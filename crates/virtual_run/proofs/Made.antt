@@ -23,7 +23,7 @@ use Rattle.guest_calls.specs.declared.times.Span.{Span}
 use Rattle.guest_calls.specs.Times.{span_at, span_bytes, wake_moment, last_moment, clock_at}
 use Rattle.guest_calls.specs.Guest.{Guest, hart_at, no_hart, with_hart, with_stored, with_written, with_running_each, memory_of, thread_id, first_guest}
 use Rattle.guest_calls.specs.Calls
-use Rattle.guest_calls.specs.Calls.{retirement, with_answer, of_space, unsupported, left_by, leave, with_word, with_woken, clear_address, woken_at_exit, cleared, is_cleared, waiting_for, asleep, sleep_until, most_woken, woken_here, parent_set_tid, child_set_tid, child, with_child, with_parent_tid, with_child_tid, cloned, is_accepted, a0, a1, a2, a3, a4, with_filled, with_read, filled_parts, total, is_each_writable, is_each_readable, bytes_of, pieces_at, are_few, is_named, read_length, is_stream, is_input, is_output, is_mapping, calls, call_of}
+use Rattle.guest_calls.specs.Calls.{retirement, with_answer, of_space, unsupported, leave, with_word, with_woken, clear_address, woken_at_exit, cleared, is_cleared, asleep, sleep_until, most_woken, parent_set_tid, child_set_tid, child, with_child, with_parent_tid, cloned, is_accepted, a0, a1, a2, a3, a4, with_filled, with_read, filled_parts, total, is_each_writable, is_each_readable, bytes_of, pieces_at, are_few, is_named, read_length, is_stream, is_input, is_output, is_mapping, calls, call_of}
 use Rattle.guest_calls.specs.Retire.{step_result, step, retirement_after, retire}
 use Rattle.guest_calls.specs.Orderly.{AreWaiting, IsOrderly}
 use Rattle.guest_calls.proofs.Steps.{step-call, step-harts}

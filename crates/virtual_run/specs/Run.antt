@@ -1,5 +1,5 @@
 -- The run of a program: the machines over its guest, with a selected line and progress points.
-use Rattle.std.specs.Prelude.{ℕ, ◌^◌, ◌≤◌, Bool, false, List, filter, Option, Some, None, option_map}
+use Rattle.std.specs.Prelude.{ℕ, ◌≤◌, Bool, false, List, filter, Option, Some, None, option_map}
 use Rattle.coz_types.specs.declared.TheConstants.{GREATEST_SPEEDUP, GREATEST_BUDGET, MOST_OUTPUT, MOST_VISITS_KEPT}
 use Rattle.coz_types.specs.Image.{ImageParts}
 use Rattle.machines.specs.Guest.{Experiment}

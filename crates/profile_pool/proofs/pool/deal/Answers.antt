@@ -1,4 +1,4 @@
-use Rattle.std.proofs.Common.{rules, arith, ◌+◌, add-mul}
+use Rattle.std.proofs.Common.{rules, ◌+◌, add-mul}
 use Rattle.std.proofs.lemmas.List.Elements.{All-push, All-same}
 use Rattle.profile_pool.specs.declared.job.Job.{Job}
 use Rattle.profile_pool.specs.Jobs.{IsJob}
