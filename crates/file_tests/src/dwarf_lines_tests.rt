@@ -78,8 +78,10 @@ fn four_rows_are_read(rt: HostRuntime) -> Result<(), Fail> {
         row(0x1004C, Some(0), 5, false),
         row(0x10054, Some(0), 5, true),
     ];
-    assert_eq!(rt; table.rows.as_slice(), rows.as_slice());
-    assert_eq!(rt; table.skipped, 0);
+    assert_eq!(rt;
+        (table.rows.as_slice(), table.skipped),
+        (rows.as_slice(), 0)
+    );
     Ok(())
 }
 
@@ -96,8 +98,10 @@ fn each_opcode_is_read(rt: HostRuntime) -> Result<(), Fail> {
         next_row(false),
         next_row(true),
     ];
-    assert_eq!(rt; table.rows.as_slice(), rows.as_slice());
-    assert_eq!(rt; table.skipped, 1);
+    assert_eq!(rt;
+        (table.rows.as_slice(), table.skipped),
+        (rows.as_slice(), 1)
+    );
     Ok(())
 }
 
@@ -109,8 +113,8 @@ fn files_are_read(rt: HostRuntime) -> Result<(), Fail> {
     let table = read_lines(rt.alloc(), &EACH_OPCODE, &[], &[])?;
     assert_eq!(rt; table.files.len(), FILES.len());
     for (file, (directory, name)) in table.files.as_slice().iter().zip(FILES.iter()) {
-        assert_eq!(rt; file.directory, directory.as_bytes());
-        assert_eq!(rt; file.name, name.as_bytes());
+        let same = file.directory == directory.as_bytes() && file.name == name.as_bytes();
+        assert!(rt; same, "{directory} and {name}");
     }
     Ok(())
 }
@@ -159,13 +163,13 @@ fn a_unit_that_is_cut_has_its_first_fault(rt: HostRuntime) -> Result<(), Fail> {
 
 #[test]
 fn a_section_that_is_cut_is_short(rt: HostRuntime) -> Result<(), Fail> {
-    assert_eq!(rt; fault_of(rt.alloc(), &[])?, None);
     for length in 1..71usize {
         let found = fault_of(rt.alloc(), &FOUR_ROWS[..length])?;
         assert_eq!(rt; found, fault(LineKind::Short, 0), "only {length}");
     }
+    let none = fault_of(rt.alloc(), &[])?;
     let long_form = fault_of(rt.alloc(), &[0xF0, 0xFF, 0xFF, 0xFF])?;
-    assert_eq!(rt; long_form, fault(LineKind::LongForm, 0));
+    assert_eq!(rt; (none, long_form), (None, fault(LineKind::LongForm, 0)));
     Ok(())
 }
 

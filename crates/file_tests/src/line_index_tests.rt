@@ -110,8 +110,7 @@ fn the_first_row_in_file_order_has_the_address(rt: HostRuntime) -> Result<(), Fa
         (0x10008, Some(LineId(1))),
         (0x1000C, None),
     ];
-    assert!(rt; are_lines(&index, &lines));
-    assert_eq!(rt; index.count(), 2);
+    assert!(rt; are_lines(&index, &lines) && index.count() == 2);
     assert_eq!(rt; index.entries(LineId(1)), [0x10000u64, 0x10008].as_slice());
     Ok(())
 }
@@ -136,9 +135,8 @@ fn two_entries_with_one_path_are_one_file(rt: HostRuntime) -> Result<(), Fail> {
         (0x10FFF, Some(LineId(0))),
         (0x11000, None),
     ];
-    assert!(rt; are_lines(&index, &lines));
-    assert_eq!(rt; index.find(b"a%2C%20b%25.s", 7), Some(LineId(1)));
-    assert_eq!(rt; index.count(), 2);
+    let found = index.find(b"a%2C%20b%25.s", 7);
+    assert!(rt; are_lines(&index, &lines) && found == Some(LineId(1)) && index.count() == 2);
     assert_eq!(rt;
         index.label(LineId(1)).bytes(),
         b"d/a%2C%20b%25.s:7".as_slice()
@@ -162,8 +160,7 @@ fn a_row_covers_nothing_unless_the_next_address_is_greater(rt: HostRuntime) -> R
         (0x1000F, Some(LineId(0))),
         (0x10010, None),
     ];
-    assert!(rt; are_lines(&index, &lines));
-    assert_eq!(rt; index.count(), 1);
+    assert!(rt; are_lines(&index, &lines) && index.count() == 1);
     assert_eq!(rt; index.entries(LineId(0)), [0x10004u64].as_slice());
     Ok(())
 }
@@ -204,8 +201,7 @@ fn a_whole_path_is_found_before_an_ending(rt: HostRuntime) -> Result<(), Fail> {
         (b".s".as_slice(), 7, None),
         (b"".as_slice(), 7, None),
     ];
-    assert!(rt; are_found(&index, &names));
-    assert_eq!(rt; index.count(), 8);
+    assert!(rt; are_found(&index, &names) && index.count() == 8);
     Ok(())
 }
 
@@ -230,8 +226,7 @@ fn labels_are_escaped_and_in_order(rt: HostRuntime) -> Result<(), Fail> {
         (b"a%20b.s".as_slice(), 1, Some(LineId(3))),
         (b"a b.s".as_slice(), 1, None),
     ];
-    assert!(rt; are_found(&index, &names));
-    assert_eq!(rt; index.count(), 4);
+    assert!(rt; are_found(&index, &names) && index.count() == 4);
     for (place, label) in labels.iter().enumerate() {
         assert_eq!(rt; index.label(LineId(place as u32)).bytes(), *label);
     }

@@ -39,8 +39,7 @@ fn an_entry_has_the_point_of_its_line(rt: HostRuntime) -> Result<(), Fail> {
         (0x1000C, Some(PointId(1))),
         (0x10010, None),
     ];
-    assert!(rt; are_points(&points, &table));
-    assert_eq!(rt; points.count(), 2);
+    assert!(rt; are_points(&points, &table) && points.count() == 2);
     assert_eq!(rt; points.line(PointId(1)), LineId(1));
     Ok(())
 }
@@ -64,8 +63,8 @@ fn a_point_has_the_position_of_its_line(rt: HostRuntime) -> Result<(), Fail> {
 fn without_lines_there_are_no_points(rt: HostRuntime) -> Result<(), Fail> {
     let index = index_of_two(rt.alloc())?;
     let points = Points::new(rt.alloc(), &index, &[])?;
-    assert!(rt; are_points(&points, &[(0x10000, None), (0x10004, None)]));
-    assert_eq!(rt; points.count(), 0);
+    let table = [(0x10000, None), (0x10004, None)];
+    assert!(rt; are_points(&points, &table) && points.count() == 0);
     Ok(())
 }
 
@@ -74,8 +73,10 @@ fn at_most_64_lines_have_points(rt: HostRuntime) -> Result<(), Fail> {
     let index = index_of_two(rt.alloc())?;
     assert_eq!(rt; index.count(), 2);
     let most = Points::new(rt.alloc(), &index, &[LineId(0); 64])?;
-    assert_eq!(rt; most.count(), 64);
     let more = Points::new(rt.alloc(), &index, &[LineId(0); 65]);
-    assert_eq!(rt; more.err(), Some(PointsError::TooMany(65)));
+    assert_eq!(rt;
+        (most.count(), more.err()),
+        (64, Some(PointsError::TooMany(65)))
+    );
     Ok(())
 }

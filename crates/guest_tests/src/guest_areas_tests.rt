@@ -106,9 +106,9 @@ fn the_break_and_the_entry(rt: HostRuntime) -> Result<(), Fail> {
     ] {
         assert_eq!(rt; areas.brk(&mut memory, to), wanted, "to {to}");
     }
-    assert_eq!(rt; memory.writable(BRK_BASE, 4096), true);
-    assert_eq!(rt; memory.readable(BRK_BASE + 4096, 1), false);
-    assert_eq!(rt; memory.load(BRK_BASE, 8), Ok(0));
+    let page = (memory.writable(BRK_BASE, 4096), memory.load(BRK_BASE, 8));
+    let next = memory.readable(BRK_BASE + 4096, 1);
+    assert_eq!(rt; (page, next), ((true, Ok(0)), false));
 
     assert_eq!(rt; areas.stack_pointer(), 0x3F_FFFF_FF50);
     for &(address, wanted) in &ENTRY {
@@ -155,10 +155,13 @@ fn mappings_take_the_lowest_run(rt: HostRuntime) -> Result<(), Fail> {
         (MAP_BASE + 0x5000, false, false),
         (TEXT, true, true),
     ] {
-        assert_eq!(rt; memory.readable(address, 4096), readable, "at {address}");
-        assert_eq!(rt; memory.writable(address, 4096), writable, "at {address}");
+        let rights = (
+            memory.readable(address, 4096),
+            memory.writable(address, 4096),
+        );
+        assert_eq!(rt; rights, (readable, writable), "at {address}");
     }
-    assert_eq!(rt; memory.fetch(TEXT), Err(Access));
-    assert_eq!(rt; memory.load(TEXT, 4), Ok(0x73));
+    let text = (memory.fetch(TEXT), memory.load(TEXT, 4));
+    assert_eq!(rt; text, (Err(Access), Ok(0x73)));
     Ok(())
 }

@@ -51,8 +51,11 @@ fn made<'a>(alloc: Global, image: &'a Image<'a>) -> Result<Memory<'a>, AllocErro
 fn a_new_memory_has_the_file_and_a_stack(rt: HostRuntime) -> Result<(), Fail> {
     let image = program(rt.alloc())?;
     let memory = made(rt.alloc(), &image)?;
-    assert_eq!(rt; memory.layout(), Layout::usual());
-    assert_eq!(rt; memory.load(0x10FFC, 8), Ok(0x0073_0050_0113_0000));
+    let eight = memory.load(0x10FFC, 8);
+    assert_eq!(rt;
+        (memory.layout(), eight),
+        (Layout::usual(), Ok(0x0073_0050_0113_0000))
+    );
     for (address, wanted) in [
         (BORDER, Ok(0x0050_0113)),
         (0x11FFC, Ok(0)),
@@ -83,16 +86,11 @@ fn a_new_memory_has_the_file_and_a_stack(rt: HostRuntime) -> Result<(), Fail> {
         (STACK, u64::MAX, false, false),
         (u64::MAX, 2, false, false),
     ] {
-        assert_eq!(rt;
+        let rights = (
             memory.readable(address, count),
-            readable,
-            "{count} at {address}"
-        );
-        assert_eq!(rt;
             memory.writable(address, count),
-            writable,
-            "{count} at {address}"
         );
+        assert_eq!(rt; rights, (readable, writable), "{count} at {address}");
     }
     Ok(())
 }
@@ -107,11 +105,9 @@ fn writes_reach_each_page_of_a_range(rt: HostRuntime) -> Result<(), Fail> {
         execute: false,
     };
     memory.give(BRK_BASE, 2, rights, true);
-    assert_eq!(rt;
-        memory.store(BRK_BASE + 0xFFC, 8, 0x1122_3344_5566_7788),
-        Ok(())
-    );
-    assert_eq!(rt; memory.store(BRK_BASE + 0x1FFC, 8, 7), Err(Access));
+    let within = memory.store(BRK_BASE + 0xFFC, 8, 0x1122_3344_5566_7788);
+    let past = memory.store(BRK_BASE + 0x1FFC, 8, 7);
+    assert_eq!(rt; (within, past), (Ok(()), Err(Access)));
     for (address, wanted) in [
         (BRK_BASE + 0xFFC, 0x5566_7788),
         (BRK_BASE + 0x1000, 0x1122_3344),
@@ -121,13 +117,14 @@ fn writes_reach_each_page_of_a_range(rt: HostRuntime) -> Result<(), Fail> {
     }
 
     let five = [1, 2, 3, 4, 5];
-    assert_eq!(rt; memory.copy_in(BRK_BASE + 0xFFD, &five), Ok(()));
-    assert_eq!(rt; memory.copy_in(BRK_BASE + 0x1FFC, &five), Err(Access));
+    let within = memory.copy_in(BRK_BASE + 0xFFD, &five);
+    let past = memory.copy_in(BRK_BASE + 0x1FFC, &five);
+    assert_eq!(rt; (within, past), (Ok(()), Err(Access)));
     let mut seven = [9; 7];
-    assert_eq!(rt; memory.read_at(BRK_BASE + 0x1FFC, &mut seven), Err(Access));
-    assert_eq!(rt; seven, [9; 7]);
-    assert_eq!(rt; memory.read_at(BRK_BASE + 0xFFC, &mut seven), Ok(()));
-    assert_eq!(rt; seven, [0x88, 1, 2, 3, 4, 5, 0x22]);
+    let past = memory.read_at(BRK_BASE + 0x1FFC, &mut seven);
+    assert_eq!(rt; (past, seven), (Err(Access), [9; 7]));
+    let within = memory.read_at(BRK_BASE + 0xFFC, &mut seven);
+    assert_eq!(rt; (within, seven), (Ok(()), [0x88, 1, 2, 3, 4, 5, 0x22]));
     assert_eq!(rt; memory.load(BRK_BASE + 0x1FFC, 4), Ok(0));
     Ok(())
 }
@@ -268,12 +265,12 @@ fn a_copy_is_equal_and_apart(rt: HostRuntime) -> Result<(), Fail> {
     change_otherwise(&mut right);
     assert!(rt; shows(&first, 0) && shows(&left, 1) && shows(&right, 2));
     left.copy_from(&right);
-    assert!(rt; shows(&left, 2));
+    let same = shows(&left, 2);
     put(&mut left, STACK, 1);
-    assert!(rt; shows(&right, 2) && !shows(&left, 2));
+    assert!(rt; same && shows(&right, 2) && !shows(&left, 2));
     left.copy_from(&right);
-    assert!(rt; shows(&left, 2));
+    let same = shows(&left, 2);
     left.copy_from(&first);
-    assert!(rt; shows(&left, 0));
+    assert!(rt; same && shows(&left, 0));
     Ok(())
 }

@@ -11,9 +11,9 @@ fn the_other_hart_pauses_for_a_raise(rt: HostRuntime) -> Result<(), Fail> {
     credits.raise(HartId(0), 2, 0);
     assert_eq!(rt; credits.raised(), 2);
     for (now, paused, pause) in [(1u64, 1u64, 1u64), (3, 2, 0)] {
-        assert_eq!(rt; credits.account(HartId(1), now).paused, paused);
-        assert_eq!(rt; credits.pause(HartId(1), now), pause);
-        assert_eq!(rt; credits.pause(HartId(0), now), 0);
+        let before = credits.account(HartId(1), now).paused;
+        let pauses = (credits.pause(HartId(1), now), credits.pause(HartId(0), now));
+        assert_eq!(rt; (before, pauses), (paused, (pause, 0)));
     }
     assert_eq!(rt; credits.account(HartId(0), 3).own, 2);
     let mut other = Credits::new(rt.alloc(), 2)?;
@@ -21,7 +21,7 @@ fn the_other_hart_pauses_for_a_raise(rt: HostRuntime) -> Result<(), Fail> {
     other.stop(HartId(1), 3);
     other.raise(HartId(0), 7, 4);
     other.take_credit(HartId(1), HartId(0));
-    assert_eq!(rt; other.account(HartId(1), 5).credited, 7);
-    assert_eq!(rt; other.pause(HartId(1), 5), 0);
+    let credited = other.account(HartId(1), 5).credited;
+    assert_eq!(rt; (credited, other.pause(HartId(1), 5)), (7, 0));
     Ok(())
 }

@@ -1,9 +1,12 @@
 //! Tests of `hart_schedule`.
-ghost use Rattle.std.specs.Prelude.{◌≡◌};
-
 use coz_types::{HartId, Tick};
 use hart_schedule::Schedule;
 use std::test::Fail;
+
+/// Whether the hart is the one that is due first, and has this key. It is taken.
+fn takes(schedule: &mut Schedule, hart: u16, key: Tick) -> bool {
+    schedule.least() == Some(HartId(hart)) && schedule.take(HartId(hart)) == Some(key)
+}
 
 #[test]
 fn the_least_is_by_key_and_then_by_number(rt: HostRuntime) -> Result<(), Fail> {
@@ -14,20 +17,22 @@ fn the_least_is_by_key_and_then_by_number(rt: HostRuntime) -> Result<(), Fail> {
     let mut schedule = Schedule::new(rt.alloc(), 8)?;
     schedule.put(HartId(0), 1);
     schedule.copy_from(&first);
-    assert_eq!(rt; schedule.key(HartId(7)), Some(100));
-    assert_eq!(rt; schedule.key(HartId(0)), None);
-    assert_eq!(rt; schedule.key(HartId(8)), None);
-    assert_eq!(rt; schedule.take(HartId(8)), None);
-    for hart in [2u16, 4, 7] {
-        let least = schedule.least();
-        assert_eq!(rt; least, Some(HartId(hart)));
-        assert_eq!(rt; schedule.take(HartId(hart)).is_some(), true);
-        assert_eq!(rt; schedule.take(HartId(hart)), None);
+    let found = [
+        schedule.key(HartId(7)),
+        schedule.key(HartId(0)),
+        schedule.key(HartId(8)),
+        schedule.take(HartId(8)),
+    ];
+    assert_eq!(rt; found, [Some(100), None, None, None]);
+    for (hart, key) in [(2u16, 90u64), (4, 90), (7, 100)] {
+        let taken = takes(&mut schedule, hart, key);
+        let again = schedule.take(HartId(hart));
+        assert!(rt; taken && again.is_none(), "hart {hart}");
     }
-    assert_eq!(rt; schedule.least(), None);
-    assert_eq!(rt; first.take(HartId(2)), Some(90));
+    let taken = first.take(HartId(2));
     first.rekey(HartId(7), 80);
-    assert_eq!(rt; first.least(), Some(HartId(7)));
+    let none = schedule.least();
+    assert!(rt; none.is_none() && taken == Some(90) && takes(&mut first, 7, 80));
     Ok(())
 }
 
@@ -38,8 +43,7 @@ fn harts_of_one_key_are_taken_by_number(rt: HostRuntime) -> Result<(), Fail> {
         schedule.rekey(HartId(255 - hart), 7);
     }
     for hart in 0u16..256 {
-        assert_eq!(rt; schedule.least(), Some(HartId(hart)));
-        assert_eq!(rt; schedule.take(HartId(hart)), Some(7));
+        assert!(rt; takes(&mut schedule, hart, 7), "hart {hart}");
     }
     assert_eq!(rt; schedule.least(), None);
     Ok(())
@@ -52,9 +56,11 @@ fn falling_keys_are_taken_from_the_last_hart(rt: HostRuntime) -> Result<(), Fail
         schedule.put(HartId(hart), Tick::from(1000 - hart));
     }
     for taken in 0u16..256 {
-        let hart = HartId(255 - taken);
-        assert_eq!(rt; schedule.least(), Some(hart));
-        assert_eq!(rt; schedule.take(hart), Some(Tick::from(745 + taken)));
+        let key = Tick::from(745 + taken);
+        assert!(rt;
+            takes(&mut schedule, 255 - taken, key),
+            "hart {taken} from the last"
+        );
     }
     assert_eq!(rt; schedule.least(), None);
     Ok(())
@@ -72,13 +78,11 @@ fn what_takes_the_place_of_a_taken_hart_rises_or_sinks(rt: HostRuntime) -> Resul
         schedule.put(HartId(4), 12);
         schedule.put(HartId(5), 3);
         schedule.put(HartId(6), 4);
-        assert_eq!(rt; schedule.take(HartId(taken)).is_some(), true);
-        for hart in [0u16, 2, 5, 6] {
-            assert_eq!(rt; schedule.least(), Some(HartId(hart)));
-            assert_eq!(rt; schedule.take(HartId(hart)).is_some(), true);
+        let first = schedule.take(HartId(taken));
+        for (hart, key) in [(0u16, 1u64), (2, 2), (5, 3), (6, 4)] {
+            assert!(rt; takes(&mut schedule, hart, key), "hart {hart}");
         }
-        let next = schedule.least();
-        assert_eq!(rt; next, Some(HartId(4 - taken)));
+        assert!(rt; first.is_some() && schedule.least() == Some(HartId(4 - taken)));
     }
     Ok(())
 }

@@ -158,19 +158,19 @@ fn exited(net: Tick, starts: u64, visit: Tick) -> Option<End> {
 #[test]
 fn a_selected_line_costs_less(rt: HostRuntime) -> Result<(), Fail> {
     let alloc = rt.alloc();
-    assert_eq!(rt; run_twice(alloc, None, 95, 10)?, exited(4200, 0, 200));
-    assert_eq!(rt;
+    let runs = [
+        run_twice(alloc, None, 95, 10)?,
         run_twice(alloc, Some(LineId(1)), 95, 10)?,
-        exited(4105, 1, 105)
-    );
-    assert_eq!(rt;
         run_twice(alloc, Some(LineId(1)), 0, 10)?,
-        exited(4200, 1, 200)
-    );
-    assert_eq!(rt;
         run_twice(alloc, Some(LineId(0)), 50, 10)?,
-        exited(2150, 2, 150)
-    );
+    ];
+    let wanted = [
+        exited(4200, 0, 200),
+        exited(4105, 1, 105),
+        exited(4200, 1, 200),
+        exited(2150, 2, 150),
+    ];
+    assert_eq!(rt; runs, wanted);
     Ok(())
 }
 
@@ -324,7 +324,10 @@ fn the_delayed_run_has_the_same_net_part(rt: HostRuntime) -> Result<(), Fail> {
         first: visit_after(200, 50),
     };
     let alloc = rt.alloc();
-    assert_eq!(rt; run_delayed(alloc, Some(LineId(1)), 95)?, Some(second));
-    assert_eq!(rt; run_delayed(alloc, Some(LineId(0)), 50)?, Some(others));
+    let runs = [
+        run_delayed(alloc, Some(LineId(1)), 95)?,
+        run_delayed(alloc, Some(LineId(0)), 50)?,
+    ];
+    assert_eq!(rt; runs, [Some(second), Some(others)]);
     Ok(())
 }
