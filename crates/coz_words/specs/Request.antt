@@ -190,7 +190,8 @@ counts_with c text value =
     number_or c budget_name USUAL_BUDGET 1 GREATEST_BUDGET (value budget_name) >>= λ budget.
     number_or c workers_name USUAL_WORKERS 1 MOST_WORKERS (value workers_name) >>= λ workers.
     number_or c size_name USUAL_SIZE 1 GREATEST_SIZE (value size_name) >>= λ size.
-    number_or c dwarf_name LEAST_VERSION LEAST_VERSION GREATEST_VERSION (value dwarf_name) >>= λ dwarf.
+    number_or c dwarf_name LEAST_VERSION LEAST_VERSION GREATEST_VERSION (value dwarf_name)
+    >>= λ dwarf.
     seed_in c text >>= λ seed.
     Some (record { budget = budget; workers = workers; size = size; dwarf = dwarf; seed = seed })
 

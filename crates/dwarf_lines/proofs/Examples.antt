@@ -1,6 +1,7 @@
 -- A section with four rows, and its cuts.
 use Rattle.std.proofs.Common.{◌≡◌, pos, inr, lit<, lit≤, arith, ℕ, ◌-◌, List, [], ◌∷◌, ◌++◌, take, drop, set, refl, Some, None, Ok, Err, true, false, map, replicate}
 use Rattle.leb_cursor.specs.Ahead.{◌>>=◌}
+use Rattle.dwarf_lines.specs.declared.LineFault.{LineFault}
 use Rattle.dwarf_lines.specs.declared.LineKind.TheVariants as kinds
 use Rattle.dwarf_lines.specs.Registers.{Header, AdvancePc, empty_table}
 use Rattle.dwarf_lines.specs.Spelling.{IsTable, Spells}
@@ -45,10 +46,6 @@ raw_cuts : map (λ n. line_fault none (take n section)) (1 ∷ 3 ∷ 4 ∷ 10 �
 unfolding reading units unit unit_body header texts files operation ahead_of_numbers program formats entries entry_list values form_for
 raw_cuts = refl
 
-short_header : reading none (set (take 13 section) 0 9) ≡ Err (fault kinds.Short 6)
-unfolding reading units unit unit_body header texts files operation ahead_of_numbers program formats entries entry_list values form_for
-short_header = refl
-
 -- the faults of its cuts
 cut_faults : map (λ n. line_fault none (cut n)) (4 ∷ 5 ∷ 6 ∷ 13 ∷ 36 ∷ 37 ∷ 38 ∷ 39 ∷ 40 ∷ 41 ∷ 42 ∷ 43 ∷ 44 ∷ 45 ∷ 46 ∷ 47 ∷ 48 ∷ 49 ∷ 50 ∷ 51 ∷ 52 ∷ 53 ∷
     54 ∷ 55 ∷ 56 ∷ 57 ∷ 58 ∷ 59 ∷ 60 ∷ 61 ∷ 62 ∷ 63 ∷ 64 ∷ 65 ∷ 66 ∷ 67 ∷ 68 ∷ 69 ∷ 70 ∷ [])
@@ -68,46 +65,25 @@ cut_faults : map (λ n. line_fault none (cut n)) (4 ∷ 5 ∷ 6 ∷ 13 ∷ 36 �
 unfolding reading units unit unit_body header texts files operation ahead_of_numbers program formats entries entry_list values form_for
 cut_faults = refl
 
-long_form : reading none (set (set (set (set section 0 0xF0) 1 0xFF) 2 0xFF) 3 0xFF) ≡ Err (fault kinds.LongForm 0)
-unfolding reading units unit unit_body header texts files operation ahead_of_numbers program formats entries entry_list values form_for
-long_form = refl
+-- damaged copies, the last one with an advance whose number doesn't fit 64 bits in place of its program
+abbrev damaged : List (List ℕ × LineFault)
+damaged =
+    (set (take 13 section) 0 9, fault kinds.Short 6)
+    ∷ (set (set (set (set section 0 0xF0) 1 0xFF) 2 0xFF) 3 0xFF, fault kinds.LongForm 0)
+    ∷ (set section 11 2, fault kinds.ManyOps 11)
+    ∷ (set section 14 0, fault kinds.ZeroRange 14)
+    ∷ (set section 15 0, fault kinds.OpcodeBaseZero 15)
+    ∷ (set section 38 8, fault kinds.AddressLength 37)
+    ∷ (set section 59 0x7D, fault kinds.LineOut 60)
+    ∷ (set section 6 18, fault kinds.Short 28)
+    ∷ (set section 6 62, fault kinds.Short 6)
+    ∷ (set section 6 22, fault kinds.Short 29)
+    ∷ (44 ∷ drop 1 (take 37 section) ++ 2 ∷ 255 ∷ 255 ∷ 255 ∷ 255 ∷ 255 ∷ 255 ∷ 255 ∷ 255 ∷ 255 ∷ 2 ∷ [], fault kinds.Wide 38)
+    ∷ []
 
-many_ops : reading none (set section 11 2) ≡ Err (fault kinds.ManyOps 11)
+faults : map (λ (section, first). reading none section) damaged ≡ map (λ (section, first). Err first) damaged
 unfolding reading units unit unit_body header texts files operation ahead_of_numbers program formats entries entry_list values form_for
-many_ops = refl
-
-zero_range : reading none (set section 14 0) ≡ Err (fault kinds.ZeroRange 14)
-unfolding reading units unit unit_body header texts files operation ahead_of_numbers program formats entries entry_list values form_for
-zero_range = refl
-
-base_zero : reading none (set section 15 0) ≡ Err (fault kinds.OpcodeBaseZero 15)
-unfolding reading units unit unit_body header texts files operation ahead_of_numbers program formats entries entry_list values form_for
-base_zero = refl
-
-address_length : reading none (set section 38 8) ≡ Err (fault kinds.AddressLength 37)
-unfolding reading units unit unit_body header texts files operation ahead_of_numbers program formats entries entry_list values form_for
-address_length = refl
-
-line_out : reading none (set section 59 0x7D) ≡ Err (fault kinds.LineOut 60)
-unfolding reading units unit unit_body header texts files operation ahead_of_numbers program formats entries entry_list values form_for
-line_out = refl
-
-header_short : reading none (set section 6 18) ≡ Err (fault kinds.Short 28)
-unfolding reading units unit unit_body header texts files operation ahead_of_numbers program formats entries entry_list values form_for
-header_short = refl
-
-header_past : reading none (set section 6 62) ≡ Err (fault kinds.Short 6)
-unfolding reading units unit unit_body header texts files operation ahead_of_numbers program formats entries entry_list values form_for
-header_past = refl
-
-text_short : reading none (set section 6 22) ≡ Err (fault kinds.Short 29)
-unfolding reading units unit unit_body header texts files operation ahead_of_numbers program formats entries entry_list values form_for
-text_short = refl
-
--- an advance whose number doesn't fit 64 bits, in place of the program
-wide : reading none (44 ∷ drop 1 (take 37 section) ++ 2 ∷ 255 ∷ 255 ∷ 255 ∷ 255 ∷ 255 ∷ 255 ∷ 255 ∷ 255 ∷ 255 ∷ 2 ∷ []) ≡ Err (fault kinds.Wide 38)
-unfolding reading units unit unit_body header texts files operation ahead_of_numbers program formats entries entry_list values form_for
-wide = refl
+faults = refl
 
 -- the relation holds of small cases
 no_units : IsTable none [] empty_table
@@ -153,21 +129,17 @@ five_rows : reading none five ≡ Ok (record {
 unfolding reading units unit unit_body header texts files operation ahead_of_numbers program formats entries entry_list values form_for
 five_rows = refl
 
-address_size : reading none (set five 6 4) ≡ Err (fault kinds.AddressSize 6)
-unfolding reading units unit unit_body header texts files operation ahead_of_numbers program formats entries entry_list values form_for
-address_size = refl
+abbrev damaged_five : List (List ℕ × LineFault)
+damaged_five =
+    (set five 6 4, fault kinds.AddressSize 6)
+    ∷ (set five 32 0x1A, fault kinds.FormOut 32)
+    ∷ (set five 32 0x0e, fault kinds.TextOut 34)
+    ∷ (set five 7 4, fault kinds.SegmentSize 7)
+    ∷ []
 
-form_out : reading none (set five 32 0x1A) ≡ Err (fault kinds.FormOut 32)
+faults_of_five : map (λ (section, first). reading none section) damaged_five ≡ map (λ (section, first). Err first) damaged_five
 unfolding reading units unit unit_body header texts files operation ahead_of_numbers program formats entries entry_list values form_for
-form_out = refl
-
-text_out : reading none (set five 32 0x0e) ≡ Err (fault kinds.TextOut 34)
-unfolding reading units unit unit_body header texts files operation ahead_of_numbers program formats entries entry_list values form_for
-text_out = refl
-
-segment_size : reading none (set five 7 4) ≡ Err (fault kinds.SegmentSize 7)
-unfolding reading units unit unit_body header texts files operation ahead_of_numbers program formats entries entry_list values form_for
-segment_size = refl
+faults_of_five = refl
 
 -- units of other versions are passed over
 other_versions : reading none (set five 4 6 ++ section) ≡ (reading none section >>= λ t. Ok (record t { skipped = 1 }))

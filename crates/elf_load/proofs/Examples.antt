@@ -1,6 +1,7 @@
 -- The file that the assembler writes for three instructions, and what the table says of it and of damaged copies.
-use Rattle.std.proofs.Common.{◌≡◌, ℕ, List, [], ◌∷◌, ◌++◌, replicate, set, take, length, refl, Some, None, true, false}
+use Rattle.std.proofs.Common.{◌≡◌, ℕ, List, [], ◌∷◌, ◌++◌, map, replicate, set, take, length, refl, Some, None, true, false}
 use Rattle.std.specs.Prelude.{codes, option_map}
+use Rattle.elf_load.specs.declared.ElfKind.{ElfKind}
 use Rattle.elf_load.specs.declared.ElfKind.TheVariants.{NotElf, NotClass64, NotLittle, NotExec, NotRiscv, Compressed, HeaderOut, PackedLines, Interp, SizeOrder, AddressOut, WritableCode, EntryOut}
 use Rattle.elf_load.specs.Tables.{number}
 use Rattle.elf_load.specs.Faults.{fault}
@@ -72,97 +73,37 @@ one_lines : option_map length (section one (codes ".debug_line")) ≡ Some 66
 unfolding section number
 one_lines = refl
 
-compressed : fault (set one 48 1) ≡ Some (record { kind = Compressed; place = 48 })
-unfolding fault number
-compressed = refl
+-- damaged copies, with the kind and the place of the first fault of each
+abbrev damaged : List (List ℕ × ElfKind × ℕ)
+damaged =
+    (set one 48 1, Compressed, 48)
+    ∷ (set one 68 7, WritableCode, 64)
+    ∷ ([], NotElf, 0)
+    ∷ (take 63 one, NotElf, 63)
+    ∷ (take 64 one, HeaderOut, 32)
+    ∷ (take 119 one, HeaderOut, 32)
+    ∷ (take 120 one, HeaderOut, 40)
+    ∷ (take 4535 one, HeaderOut, 40)
+    ∷ (set one 4417 8, PackedLines, 4408)
+    ∷ (set one 64 3, Interp, 64)
+    ∷ (set one 104 1, SizeOrder, 64)
+    ∷ (set one 82 0, AddressOut, 64)
+    ∷ (set one 54 55, HeaderOut, 54)
+    ∷ (set one 24 2, EntryOut, 24)
+    ∷ (set one 24 12, EntryOut, 24)
+    ∷ (set one 97 32, HeaderOut, 64)
+    ∷ (set one 4442 1, HeaderOut, 4408)
+    ∷ (set one 62 5, HeaderOut, 62)
+    ∷ (set one 4 1, NotClass64, 4)
+    ∷ (set one 5 2, NotLittle, 5)
+    ∷ (set one 16 3, NotExec, 16)
+    ∷ (set one 18 62, NotRiscv, 18)
+    ∷ (set one 1 0, NotElf, 0)
+    ∷ []
 
-writable : fault (set one 68 7) ≡ Some (record { kind = WritableCode; place = 64 })
+faults : map (λ (file, kind, place). fault file) damaged ≡ map (λ (file, kind, place). Some (record { kind = kind; place = place })) damaged
 unfolding fault number
-writable = refl
-
-cut_0 : fault [] ≡ Some (record { kind = NotElf; place = 0 })
-unfolding fault number
-cut_0 = refl
-
-cut_63 : fault (take 63 one) ≡ Some (record { kind = NotElf; place = 63 })
-unfolding fault number
-cut_63 = refl
-
-cut_64 : fault (take 64 one) ≡ Some (record { kind = HeaderOut; place = 32 })
-unfolding fault number
-cut_64 = refl
-
-cut_119 : fault (take 119 one) ≡ Some (record { kind = HeaderOut; place = 32 })
-unfolding fault number
-cut_119 = refl
-
-cut_120 : fault (take 120 one) ≡ Some (record { kind = HeaderOut; place = 40 })
-unfolding fault number
-cut_120 = refl
-
-cut_4535 : fault (take 4535 one) ≡ Some (record { kind = HeaderOut; place = 40 })
-unfolding fault number
-cut_4535 = refl
-
-packed : fault (set one 4417 8) ≡ Some (record { kind = PackedLines; place = 4408 })
-unfolding fault number
-packed = refl
-
-interp : fault (set one 64 3) ≡ Some (record { kind = Interp; place = 64 })
-unfolding fault number
-interp = refl
-
-size_order : fault (set one 104 1) ≡ Some (record { kind = SizeOrder; place = 64 })
-unfolding fault number
-size_order = refl
-
-low_area : fault (set one 82 0) ≡ Some (record { kind = AddressOut; place = 64 })
-unfolding fault number
-low_area = refl
-
-entry_size : fault (set one 54 55) ≡ Some (record { kind = HeaderOut; place = 54 })
-unfolding fault number
-entry_size = refl
-
-odd_entry : fault (set one 24 2) ≡ Some (record { kind = EntryOut; place = 24 })
-unfolding fault number
-odd_entry = refl
-
-far_entry : fault (set one 24 12) ≡ Some (record { kind = EntryOut; place = 24 })
-unfolding fault number
-far_entry = refl
-
-long_segment : fault (set one 97 32) ≡ Some (record { kind = HeaderOut; place = 64 })
-unfolding fault number
-long_segment = refl
-
-long_section : fault (set one 4442 1) ≡ Some (record { kind = HeaderOut; place = 4408 })
-unfolding fault number
-long_section = refl
-
-names_out : fault (set one 62 5) ≡ Some (record { kind = HeaderOut; place = 62 })
-unfolding fault number
-names_out = refl
-
-class_32 : fault (set one 4 1) ≡ Some (record { kind = NotClass64; place = 4 })
-unfolding fault number
-class_32 = refl
-
-big : fault (set one 5 2) ≡ Some (record { kind = NotLittle; place = 5 })
-unfolding fault number
-big = refl
-
-shared_kind : fault (set one 16 3) ≡ Some (record { kind = NotExec; place = 16 })
-unfolding fault number
-shared_kind = refl
-
-x86 : fault (set one 18 62) ≡ Some (record { kind = NotRiscv; place = 18 })
-unfolding fault number
-x86 = refl
-
-magic : fault (set one 1 0) ≡ Some (record { kind = NotElf; place = 0 })
-unfolding fault number
-magic = refl
+faults = refl
 
 -- no bytes run past nothing
 sectionless : fault (set (set one 60 0) 47 255) ≡ None

@@ -81,10 +81,9 @@ impl Schedule {
     pub fn least(&self) -> Option<HartId>
         ensures { MatchOption result (IsEmpty self.now) (λ hart. IsLeast self.now hart.0) }
     {
-        if self.count == 0 {
-            None
-        } else {
-            Some(self.entries[1].hart)
+        match self.first() {
+            None => None,
+            Some(first) => Some(first.hart),
         }
     }
 

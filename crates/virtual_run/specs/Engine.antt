@@ -67,7 +67,7 @@ pub record IsReached (x : Experiment Guest) (engine : Engine) : Type 0 where
   pub unfull : engine.ending ≡ None → length engine.visits.kept < x.visit_limit
   pub retired : engine.retired ≤ x.budget
   pub few : engine.starts ≤ events_of engine + many engine.schedule
-  -- a hart sleeps to a moment of at most 10^16, and each event takes at most the ticks of an instruction
+  -- a hart sleeps to a moment of at most 10^16, and each event takes at most an instruction's ticks
   pub within : AreWithin (10 ^ 16 + MOST_TICKS * (events_of engine + 1)) engine.schedule
 
 -- as it begins the run of an image on an input

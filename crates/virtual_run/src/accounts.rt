@@ -70,7 +70,8 @@ pub fn raise_harts(credits: &mut Credits, guest: &Guest, harts: &[HartId], speed
     requires made { AllMade guest.now (map (λ hart. hart.0) harts.now) }
     requires speedup { speedup ≤ GREATEST_SPEEDUP }
     requires now { credits.old.latest ≡ now }
-    requires few { credits.old.raised + MOST_RAISE * length (map (λ hart. hart.0) harts.now) ≤ 10 ^ 17 }
+    requires few { credits.old.raised + MOST_RAISE * length (map (λ hart. hart.0) harts.now)
+        ≤ 10 ^ 17 }
     ensures { credits.new
         ≡ with_raises (raise_ticks guest.now speedup) (map (λ hart. hart.0) harts.now) credits.old }
 {
