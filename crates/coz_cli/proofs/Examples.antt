@@ -11,7 +11,7 @@ use Rattle.coz_words.specs.Said.{Text}
 use Rattle.experiment_plan.specs.Lists.{line_parts, pieces}
 use Rattle.experiment_plan.specs.declared.experiment.Experiment.{Experiment}
 use Rattle.coz_cli.specs.Profiled.{pairs_of}
-use Rattle.coz_cli.specs.Selection.{line_named, lines_named}
+use Rattle.program_steps.specs.Selection.{line_named, lines_named}
 use Rattle.coz_cli.specs.Text.{outcome_text, net_outcome_text, hart_text, harts_text, visit_text, visits_text, net_visit_text, net_visits_text, output_text, run_text, really_text, more_addresses, addresses_text, labelled_text, lines_text}
 
 -- ---- the line and the points that are named

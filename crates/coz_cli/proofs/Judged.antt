@@ -20,12 +20,12 @@ use Rattle.coz_cli.specs.declared.experiment.Kind.{Kind}
 use Rattle.coz_cli.specs.declared.experiment.Kind.TheVariants.{Delayed, Shortened, Profiled}
 use Rattle.coz_files.specs.Faults.{Rose}
 use Rattle.coz_files.specs.Held.{Held, file_at}
-use Rattle.coz_cli.specs.declared.fault.Fault.{Fault}
-use Rattle.coz_cli.specs.declared.fault.Fault.TheVariants.{Usage, Program, Lines, Read, Write, NoLine, ManyPoints, Long, ManyExperiments, Memory, Source, Profile}
-use Rattle.coz_cli.specs.LineTable.{table_in}
+use Rattle.program_steps.specs.declared.fault.Fault.{Fault}
+use Rattle.program_steps.specs.declared.fault.Fault.TheVariants.{Usage, Program, Lines, Read, Write, NoLine, ManyPoints, Long, ManyExperiments, Memory, Source, Profile}
+use Rattle.program_steps.specs.LineTable.{table_in}
 use Rattle.coz_cli.specs.Experiment.{Runs, choice_of}
 use Rattle.coz_cli.specs.Profiled.{all_lines, pairs_of, profile_of}
-use Rattle.coz_cli.specs.Selection.{line_named, lines_named}
+use Rattle.program_steps.specs.Selection.{line_named, lines_named}
 use Rattle.coz_cli.specs.Kind.{judgement_by, really_printed, run_printed}
 use Rattle.coz_cli.specs.Answer.{Answer, IsMemory, IsMemoryFault, IsRead, IsReadFault, Suits, verdict_of, fault_verdict}
 use Rattle.coz_cli.specs.Verdict.{Verdict, Judging, asked_verdict, profiled_verdict, file_verdict, files_verdict, input_verdict, read_verdict, has_exited, loaded_verdict, named_verdict, plan_verdict, points_verdict, profile_verdict, table_verdict}

@@ -13,7 +13,7 @@ use Rattle.causal_curves.specs.Curves.{curves_of, ranked_curves}
 use Rattle.causal_curves.specs.Texts.{curve_text}
 use Rattle.causal_curves.specs.declared.curve.Curve.{Curve}
 use Rattle.coz_cli.specs.Answer.{fault_verdict, IsMemoryFault}
-use Rattle.coz_cli.specs.Causes.{profile_fault}
+use Rattle.program_steps.specs.Causes.{profile_fault}
 use Rattle.coz_cli.specs.Text.{plot_text}
 use Rattle.coz_cli.specs.Verdict.{book_verdict, plot_verdict, text_verdict}
 

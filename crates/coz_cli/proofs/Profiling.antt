@@ -19,8 +19,8 @@ use Rattle.experiment_plan.specs.declared.experiment.Experiment.{Experiment as P
 use Rattle.experiment_plan.specs.declared.experiment.PlanError.{PlanError}
 use Rattle.experiment_plan.specs.declared.experiment.PlanError.TheVariants as planning
 use Rattle.coz_cli.specs.Answer.{fault_verdict, IsMemoryFault}
-use Rattle.coz_cli.specs.Causes.{planning_fault, points_fault}
-use Rattle.coz_cli.specs.FaultLines.{plan_line, points_line}
+use Rattle.program_steps.specs.Causes.{planning_fault, points_fault}
+use Rattle.program_steps.specs.FaultLines.{plan_line, points_line}
 use Rattle.machines.specs.Guest.{Experiment}
 use Rattle.machines.specs.Standing.{delayed_record}
 use Rattle.guest_calls.specs.Guest.{Guest}
@@ -30,7 +30,7 @@ use Rattle.experiment_plan.proofs.Pairing.{speedups_few}
 use Rattle.coz_words.specs.Said.{Text}
 use Rattle.coz_words.specs.declared.request.Request.{Request}
 use Rattle.coz_cli.specs.Experiment.{Runs, runs_in}
-use Rattle.coz_cli.specs.Selection.{lines_named}
+use Rattle.program_steps.specs.Selection.{lines_named}
 use Rattle.coz_cli.specs.Profiled.{all_lines, experiment_on, label_at, pairs_of, profile_of, summary_on}
 use Rattle.profile_book.specs.declared.profile.Profile.{Profile}
 use Rattle.coz_cli.proofs.Indexed.{experiment_is}

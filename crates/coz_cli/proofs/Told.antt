@@ -4,8 +4,8 @@ use Rattle.std.specs.Prelude.{IfNone, IsSomeAnd}
 use Rattle.std.proofs.lemmas.Bool.{eqb-false}
 use Rattle.coz_files.specs.Faults.{Rose}
 use Rattle.coz_files.specs.Held.{Held}
-use Rattle.coz_cli.specs.declared.fault.Fault.{Fault}
-use Rattle.coz_cli.specs.declared.fault.Fault.TheVariants.{Usage, Program, Lines, Read, Write, NoLine, ManyPoints, Long, ManyExperiments, Memory, Source, Profile}
+use Rattle.program_steps.specs.declared.fault.Fault.{Fault}
+use Rattle.program_steps.specs.declared.fault.Fault.TheVariants.{Usage, Program, Lines, Read, Write, NoLine, ManyPoints, Long, ManyExperiments, Memory, Source, Profile}
 use Rattle.coz_words.specs.declared.request.Request.{Request}
 use Rattle.coz_cli.specs.Words.{Names, request_of}
 use Rattle.coz_cli.specs.Verdict.{Verdict, text_verdict, verdict}

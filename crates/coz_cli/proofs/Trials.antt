@@ -44,7 +44,7 @@ use Rattle.image_write.specs.Lines.{table_of}
 use Rattle.image_write.proofs.LineSection.{no_texts, unit_found}
 use Rattle.image_write.proofs.Loading.{written_loads, written_short}
 use Rattle.image_write.proofs.Written.{unit_is_read}
-use Rattle.coz_cli.specs.declared.fault.Fault.{Fault}
+use Rattle.program_steps.specs.declared.fault.Fault.{Fault}
 use Rattle.coz_files.specs.Held.{Held}
 use Rattle.coz_words.specs.declared.command.Command.{Command}
 use Rattle.coz_words.specs.declared.command.Command.TheVariants.{Trial}
@@ -52,14 +52,14 @@ use Rattle.coz_words.specs.declared.request.Request.{Request}
 use Rattle.coz_cli.specs.Answer.{Answer, IsMemory, IsMemoryFault, IsOfTrial, IsRead, IsReadFault, Settles, Suits, fault_verdict}
 use Rattle.coz_cli.specs.Serve.{AskTrial}
 use Rattle.coz_cli.specs.Words.{request_of}
-use Rattle.coz_cli.specs.Causes.{assembling_fault, planning_fault}
+use Rattle.program_steps.specs.Causes.{assembling_fault, planning_fault}
 use Rattle.coz_cli.specs.Experiment.{Runs, experiment_by_table, runs_in}
 use Rattle.profile_pool.specs.Summaries.{summaries_of}
 use Rattle.coz_cli.specs.Profiled.{experiment_on, label_at, pairs_of, summary_on}
-use Rattle.coz_cli.specs.LineTable.{table_in}
+use Rattle.program_steps.specs.LineTable.{table_in}
 use Rattle.coz_cli.specs.Trial.{IsTrialFile, tenths, trial_file, trial_name, trial_plan, trial_point, trial_profile, trial_program}
 use Rattle.coz_cli.specs.Verdict.{Verdict, assembled_verdict, command_verdict, file_verdict, named_verdict, text_verdict, program_verdict, trial_judging, trial_printed, trial_verdict}
-use Rattle.coz_cli.proofs.Files.{whole_program}
+use Rattle.program_steps.proofs.Files.{whole_program}
 use Rattle.coz_cli.proofs.Indexed.{indexed}
 use Rattle.coz_cli.proofs.PointLine.{word_found}
 use Rattle.coz_cli.proofs.Profiling.{pairs_are, same_profile, summaries_are}

@@ -1,9 +1,6 @@
 pub mod Words
 pub mod Record
 pub mod Text
-pub mod FaultLines
-pub mod LineTable
-pub mod Selection
 pub mod Experiment
 pub mod Profiled
 pub mod Trial
@@ -11,6 +8,5 @@ pub mod Verdict
 pub mod Kind
 pub mod LinesText
 pub mod Answer
-pub mod Causes
 pub mod Serve
 pub mod Headline

@@ -1,9 +1,8 @@
 -- What a request for a profile asks for: the lines that are selected in turn, the pairs
 -- of the plan, and the profile of their runs.
-use Rattle.std.specs.Prelude.{ℕ, List, [], length, map, get_or, Some}
-use Rattle.std.specs.List.{range_with_len}
+use Rattle.std.specs.Prelude.{ℕ, List, length, map, Some}
 use Rattle.coz_types.specs.declared.record.Summary.{Summary}
-use Rattle.line_index.specs.Lines.{Line, label}
+use Rattle.line_index.specs.Lines.{Line}
 use Rattle.machines.specs.Guest.{Experiment}
 use Rattle.machines.specs.Records.{Record}
 use Rattle.machines.specs.Standing.{delayed_record}
@@ -13,19 +12,12 @@ use Rattle.experiment_plan.specs.declared.experiment.Experiment.{Experiment as P
 use Rattle.profile_pool.specs.Summaries.{summary_of}
 use Rattle.profile_book.specs.declared.profile.Profile.{Profile}
 use Rattle.profile_pool.specs.Choices.{choice_of}
+pub use Rattle.program_steps.specs.Selection.{all_lines, label_at}
 use Rattle.coz_cli.specs.Experiment.{Runs}
-
--- the positions of all lines
-abbrev pub all_lines : List Line → List ℕ
-all_lines lines = range_with_len 0 (length lines)
 
 -- the pairs of the lines at these positions: each at 0 and at each speedup
 abbrev pub pairs_of : List ℕ → List ℕ → List Pair
 pairs_of positions speedups = planned_pairs (map (λ (l : ℕ). record { 0 = l }) positions) speedups
-
--- the label of the line at a position
-abbrev pub label_at : List Line → ℕ → List ℕ
-label_at lines k = get_or (map label lines) k []
 
 -- the experiment of a pair
 abbrev pub experiment_on : Runs → ℕ → List ℕ → Pair → Experiment Guest

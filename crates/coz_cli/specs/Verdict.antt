@@ -1,20 +1,17 @@
 -- What the words and the files that the paths hold come to: a status, a text for the output
 -- and a line for the errors.
-use Rattle.std.specs.Prelude.{ℕ, List, [], ◌++◌, length, nat_lt, codes, Bool, true, false, Option, None, Some, Result, Ok, Err, if◌then◌else◌}
+use Rattle.std.specs.Prelude.{ℕ, List, [], length, nat_lt, codes, Bool, true, false, Option, None, Some, Result, Ok, Err, if◌then◌else◌}
 use Rattle.std.specs.List.{list_all}
 use Rattle.coz_cli.specs.declared.experiment.TheConstants.{MAX_INPUT}
 use Rattle.asm_tokens.specs.declared.TheConstants.{MAX_SOURCE}
 use Rattle.experiment_plan.specs.declared.experiment.TheConstants.{MOST_PAIRS}
-use Rattle.coz_types.specs.declared.TheConstants.{MAX_PROGRAM, MOST_POINTS}
+use Rattle.coz_types.specs.declared.TheConstants.{MAX_PROGRAM}
 use Rattle.coz_types.specs.declared.ending.Ending.{Ending}
 use Rattle.coz_types.specs.declared.ending.Ending.TheVariants.{Exited}
 use Rattle.coz_types.specs.declared.record.Summary.{Summary}
 use Rattle.coz_files.specs.Held.{Held, file_at}
-pub use Rattle.coz_files.specs.Verdict.{Verdict, refusal, text_verdict}
+pub use Rattle.program_steps.specs.Verdict.{Verdict, refusal, text_verdict, loaded_verdict, table_verdict, program_verdict, named_verdict, points_verdict, read_verdict}
 use Rattle.coz_cli.specs.Words.{request_of}
-use Rattle.coz_types.specs.Image.{ImageParts}
-use Rattle.elf_load.specs.declared.ElfFault.{ElfFault}
-use Rattle.elf_load.specs.Loaded.{load_answer}
 use Rattle.coz_words.specs.declared.request.Request.{Request}
 use Rattle.coz_words.specs.declared.command.Command.{Command}
 use Rattle.coz_words.specs.declared.command.Command.TheVariants.{Run, Really, Profile, Lines, Plot, Asm, Trial}
@@ -36,13 +33,9 @@ use Rattle.profile_reader.specs.Told.{told}
 use Rattle.profile_reader.specs.declared.fault.BookFault.{BookFault}
 use Rattle.profile_book.specs.declared.profile.Profile.{Profile as Book}
 use Rattle.coz_cli.specs.Text.{run_text, really_text, lines_text, plot_text}
-use Rattle.coz_words.specs.Said.{Text}
-use Rattle.coz_cli.specs.Selection.{line_named, lines_named}
+use Rattle.program_steps.specs.Selection.{line_named, lines_named}
 use Rattle.coz_cli.specs.Experiment.{Runs, choice_of, experiment_by_table}
-use Rattle.dwarf_lines.specs.declared.LineFault.{LineFault}
-use Rattle.dwarf_lines.specs.Registers.{Table}
-use Rattle.coz_cli.specs.LineTable.{table_in}
-use Rattle.coz_cli.specs.FaultLines.{program_line, table_line, source_line, no_line_line, points_line, plan_line, book_line}
+use Rattle.program_steps.specs.FaultLines.{source_line, plan_line, book_line}
 use Rattle.coz_cli.specs.Profiled.{all_lines, pairs_of, profile_of}
 use Rattle.coz_cli.specs.Trial.{trial_file, trial_point, trial_profile, trial_program, trial_text}
 
@@ -72,32 +65,6 @@ profile_verdict p = record {
   text = profile_text p;
   line = [];
 }
-
--- of the program that a file is, if it is one, and of what follows
-abbrev pub loaded_verdict : Result ImageParts ElfFault → (ImageParts → Verdict) → Verdict
-loaded_verdict (Err fault) next = refusal 3 (program_line fault)
-loaded_verdict (Ok image) next = next image
-
--- of a line table, if there is one, and of what follows
-abbrev pub table_verdict : Result Table LineFault → (Table → Verdict) → Verdict
-table_verdict (Err fault) next = refusal 4 (table_line fault)
-table_verdict (Ok table) next = next table
-
--- of a file that is to be a program with a line table, and of what follows
-abbrev pub program_verdict : List ℕ → (ImageParts → Table → Verdict) → Verdict
-program_verdict file next =
-    loaded_verdict (load_answer file) (λ image. table_verdict (table_in file) (next image))
-
--- of lines that are named, if the program has them, and of what follows
-abbrev pub named_verdict : {A : Type 0} → Result A Text → (A → Verdict) → Verdict
-named_verdict (Err piece) next = refusal 7 (no_line_line piece)
-named_verdict (Ok named) next = next named
-
--- of progress points, if there are at most 64, and of what follows
-abbrev pub points_verdict : List ℕ → (List ℕ → Verdict) → Verdict
-points_verdict points next =
-    if nat_lt MOST_POINTS (length points) then refusal 7 (points_line (length points))
-    else next points
 
 -- of a program's lines and its runs
 abbrev pub Judging : Type 0
@@ -130,13 +97,6 @@ abbrev pub file_verdict : Judging → List ℕ → List ℕ → Verdict
 file_verdict next file input =
     program_verdict file (λ image table.
     next (lines_in table image.areas) (experiment_by_table image table input))
-
--- of a path's file that may have so many bytes, and of what follows where it is
--- there and has no more
-abbrev pub read_verdict : ℕ → List ℕ → Option (List ℕ) → (List ℕ → Verdict) → Verdict
-read_verdict most path None next = refusal 5 (codes "coz: read: " ++ path)
-read_verdict most path (Some file) next =
-    if nat_lt most (length file) then refusal 8 (codes "coz: long: " ++ path) else next file
 
 -- of the input, which is empty where none is named
 abbrev pub input_verdict : Option (List ℕ) → Held → (List ℕ → Verdict) → Verdict

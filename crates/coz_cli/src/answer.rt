@@ -8,7 +8,6 @@ ghost use Rattle.coz_cli.specs.Verdict.{command_verdict};
 ghost use Rattle.coz_cli.specs.Answer.{IsMemory, IsMemoryFault, IsRead, Suits, Settles, text_bytes};
 
 use crate::experiment::{Kind, judge_experiment};
-use crate::fault::Fault;
 use crate::lines::judge_lines;
 use crate::plot::judge_plot;
 use crate::source::judge_source;
@@ -18,6 +17,7 @@ use coz_files::{Files, Gate, PutAnswer, Sink};
 use coz_lists::Items;
 use coz_words::{Command, Request};
 use profile_book::{Profile, write_profile};
+use program_steps::Fault;
 use std::alloc::Global;
 use std::thread::Threads;
 

@@ -16,16 +16,14 @@ ghost use Rattle.coz_cli.specs.Verdict.{Verdict, asked_verdict, file_verdict, fi
 ghost use Rattle.coz_cli.specs.Answer.{verdict_of, verdict_after, IsMemory, IsRead, Suits, Settles};
 
 use crate::answer::Answer;
-use crate::fault::Fault;
 use crate::profile::profile_answer;
-use crate::program::{read_file, read_program};
 use crate::runs::{really_answer, run_answer};
-use crate::selection::{bytes_of, line_named, progress_points};
 use coz_files::{Files, Gate};
 use coz_types::{Image, MAX_PROGRAM};
 use coz_words::Request;
 use line_index::LineIndex;
 use profile_pool::choice;
+use program_steps::{Fault, bytes_of, line_named, progress_points, read_file, read_program};
 use progress_points::Points;
 use std::alloc::Global;
 use std::thread::Threads;

@@ -3,18 +3,12 @@
 
 mod answer;
 mod experiment;
-mod fault;
-mod fault_lines;
-mod kinds;
-mod line_table;
 mod lines;
 mod lines_text;
 mod plot;
 mod profile;
-mod program;
 mod record;
 mod runs;
-mod selection;
 mod short_text;
 mod source;
 mod text;

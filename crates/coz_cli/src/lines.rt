@@ -8,10 +8,10 @@ ghost use Rattle.coz_cli.specs.Answer.{verdict_of, IsMemory, IsRead, Suits, Sett
 
 use crate::answer::{Answer, Printed, Text};
 use crate::lines_text::lines_text;
-use crate::program::{read_file, read_program};
 use coz_files::Files;
 use coz_types::MAX_PROGRAM;
 use coz_words::Request;
+use program_steps::{read_file, read_program};
 use std::alloc::Global;
 
 /// What is written of the lines of the program that the request names.

@@ -6,11 +6,11 @@ ghost use Rattle.coz_cli.specs.Verdict.{command_verdict, plot_verdict};
 ghost use Rattle.coz_cli.specs.Answer.{verdict_of, IsMemory, IsRead, Suits, Settles};
 
 use crate::answer::{Answer, Printed, Text};
-use crate::program::read_file;
 use causal_curves::curves;
 use coz_files::Files;
 use coz_words::Request;
 use profile_reader::{MAX_PROFILE, read_profile};
+use program_steps::read_file;
 use std::alloc::Global;
 
 /// What is written of the profile that the request names.

@@ -16,8 +16,6 @@ ghost use Rattle.coz_cli.specs.Verdict.{Verdict, has_exited, plan_verdict, profi
 ghost use Rattle.coz_cli.specs.Answer.{verdict_of, verdict_after, printed_verdict, IsMemory, IsRead};
 
 use crate::answer::{Answer, Printed, Text};
-use crate::fault::Fault;
-use crate::selection::{bytes_of, progress_points, selected_lines};
 use coz_files::Gate;
 use coz_lists::Items;
 use coz_types::{Ending, Image, Label, LineId, PointId, Summary};
@@ -26,6 +24,7 @@ use experiment_plan::{Plan, plan};
 use line_index::LineIndex;
 use profile_book::Profile;
 use profile_pool::run_plan;
+use program_steps::{Fault, bytes_of, progress_points, selected_lines};
 use progress_points::Points;
 use std::alloc::{AllocError, Global};
 use std::thread::Threads;

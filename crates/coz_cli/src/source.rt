@@ -9,11 +9,11 @@ ghost use Rattle.coz_cli.specs.Verdict.{command_verdict, source_verdict};
 ghost use Rattle.coz_cli.specs.Answer.{verdict_of, IsMemory, IsRead, Suits, Settles};
 
 use crate::answer::{Answer, Printed, Text};
-use crate::program::read_file;
 use asm_tokens::MAX_SOURCE;
 use coz_files::Files;
 use coz_words::Request;
 use image_write::write_elf;
+use program_steps::read_file;
 use rv_asm::assemble;
 use std::alloc::Global;
 

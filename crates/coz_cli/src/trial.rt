@@ -19,10 +19,7 @@ ghost use Rattle.coz_cli.specs.Verdict.{file_verdict, trial_judging, trial_print
 ghost use Rattle.coz_cli.specs.Answer.{IsMemoryFault, IsOfTrial};
 
 use crate::answer::{Answer, Printed, Text};
-use crate::fault::Fault;
 use crate::profile::profile_status;
-use crate::program::read_program;
-use crate::selection::points_of;
 use crate::trial_text::trial_text;
 use coz_files::Gate;
 use coz_lists::Items;
@@ -33,6 +30,7 @@ use image_write::write_elf;
 use line_index::LineIndex;
 use profile_book::Profile;
 use profile_pool::run_plan;
+use program_steps::{Fault, points_of, read_program};
 use rv_asm::assemble;
 use std::alloc::{AllocError, Global};
 use std::thread::Threads;

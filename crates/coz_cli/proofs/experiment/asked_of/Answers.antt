@@ -7,7 +7,7 @@ use Rattle.experiment_plan.specs.Selected.{id_of}
 use Rattle.coz_words.specs.Said.{Text}
 use Rattle.coz_words.specs.declared.request.Request.{Request}
 use Rattle.coz_cli.specs.Experiment.{Runs, choice_of, runs_in}
-use Rattle.coz_cli.specs.Selection.{line_named, lines_named}
+use Rattle.program_steps.specs.Selection.{line_named, lines_named}
 use Rattle.coz_cli.specs.Verdict.{Verdict, asked_verdict, named_verdict, points_verdict}
 use Rattle.coz_cli.proofs.Indexed.{experiment_is}
 use Rattle.coz_cli.proofs.experiment.asked_of.Goals as goal

@@ -1,5 +1,5 @@
 use Rattle.std.proofs.Common.{◌∙◌, ◌++◌, ◌∷◌, [], length, ap}
-use Rattle.coz_cli.proofs.Naming.{one_below, one_label}
+use Rattle.program_steps.proofs.Naming.{one_below, one_label}
 use Rattle.coz_cli.proofs.profile.point_labels.Goals as goal
 
 pub label-requires : goal.label-requires

@@ -1,0 +1,5 @@
+pub mod Naming
+pub mod Sections
+pub mod Tables
+pub mod Loads
+pub mod Files

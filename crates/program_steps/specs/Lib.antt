@@ -1,0 +1,6 @@
+pub mod FaultLines
+pub mod LineTable
+pub mod Selection
+pub mod Verdict
+pub mod Answer
+pub mod Causes

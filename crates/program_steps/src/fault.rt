@@ -1,0 +1,115 @@
+//! Why nothing is printed, and which errors of the layers below that is.
+ghost use Rattle.std.specs.Prelude.{◌≡◌};
+ghost use Rattle.program_steps.specs.declared.fault.Fault.TheVariants.{Memory};
+ghost use Rattle.program_steps.specs.Causes.{assembling_fault, loading_fault, planning_fault, points_fault, profile_fault, reading_fault};
+
+use dwarf_lines::{LineError, LineFault};
+use elf_load::{ElfFault, LoadError};
+use experiment_plan::PlanError;
+use profile_reader::{BookError, BookFault};
+use progress_points::PointsError;
+use rv_asm::{AsmError, AsmFault};
+use std::alloc::AllocError;
+
+/// Why nothing is printed.
+#[derive(Clone, Copy)]
+pub enum Fault<'a> {
+    /// The words ask for nothing.
+    Usage,
+    /// The file is no program.
+    Program(ElfFault),
+    /// The program's line table can't be read.
+    Lines(LineFault),
+    /// The file of this path could not be read.
+    Read(&'a str),
+    /// The output could not be written.
+    Write,
+    /// A line that is named is none of the program's.
+    NoLine(&'a [u8]),
+    /// There are so many progress points, more than 64.
+    ManyPoints(u64),
+    /// The file of this path is longer than such a file may be.
+    Long(&'a str),
+    /// There are so many runs in the plan, more than 100,000.
+    ManyExperiments(u64),
+    /// Memory was wanting.
+    Memory,
+    /// The source isn't assembled.
+    Source(AsmFault),
+    /// The text is no profile's.
+    Profile(BookFault),
+}
+
+impl<'a> From<AllocError> for Fault<'a> {
+    ghost from_gives = { λ _ fault. fault ≡ Memory };
+
+    fn from(_: AllocError) -> Fault<'a> {
+        Fault::Memory
+    }
+}
+
+impl<'a> From<LoadError> for Fault<'a> {
+    ghost from_gives = { λ error fault. fault ≡ loading_fault error };
+
+    fn from(error: LoadError) -> Fault<'a> {
+        match error {
+            LoadError::Fault(fault) => Fault::Program(fault),
+            LoadError::Memory => Fault::Memory,
+        }
+    }
+}
+
+impl<'a> From<LineError> for Fault<'a> {
+    ghost from_gives = { λ error fault. fault ≡ reading_fault error };
+
+    fn from(error: LineError) -> Fault<'a> {
+        match error {
+            LineError::Fault(fault) => Fault::Lines(fault),
+            LineError::Memory => Fault::Memory,
+        }
+    }
+}
+
+impl<'a> From<PointsError> for Fault<'a> {
+    ghost from_gives = { λ error fault. fault ≡ points_fault error };
+
+    fn from(error: PointsError) -> Fault<'a> {
+        match error {
+            PointsError::TooMany(count) => Fault::ManyPoints(count),
+            PointsError::Memory => Fault::Memory,
+        }
+    }
+}
+
+impl<'a> From<PlanError> for Fault<'a> {
+    ghost from_gives = { λ error fault. fault ≡ planning_fault error };
+
+    fn from(error: PlanError) -> Fault<'a> {
+        match error {
+            PlanError::TooMany(count) => Fault::ManyExperiments(count),
+            PlanError::Memory => Fault::Memory,
+        }
+    }
+}
+
+impl<'a> From<AsmError> for Fault<'a> {
+    ghost from_gives = { λ error fault. fault ≡ assembling_fault error };
+
+    fn from(error: AsmError) -> Fault<'a> {
+        match error {
+            AsmError::Fault(fault) => Fault::Source(fault),
+            AsmError::Memory => Fault::Memory,
+        }
+    }
+}
+
+impl<'a> From<BookError> for Fault<'a> {
+    ghost from_gives = { λ error fault. fault ≡ profile_fault error };
+
+    fn from(error: BookError) -> Fault<'a> {
+        match error {
+            BookError::Fault(fault) => Fault::Profile(fault),
+            BookError::Memory => Fault::Memory,
+        }
+    }
+}

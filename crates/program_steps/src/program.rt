@@ -1,0 +1,83 @@
+//! The steps that commands share: a file is read, and a program with its lines.
+ghost use Rattle.std.specs.Prelude.{◌≡◌, ◌≤◌, ℕ, List, length, Ok, IfOk, IfErr, IfSome, IfNone};
+ghost use Rattle.coz_types.specs.declared.TheConstants.{MAX_PROGRAM};
+ghost use Rattle.coz_types.specs.Image.{ImageParts};
+ghost use Rattle.coz_files.specs.Faults.{Rose};
+ghost use Rattle.coz_files.specs.Held.{file_at};
+ghost use Rattle.elf_load.specs.Loaded.{load_answer};
+ghost use Rattle.dwarf_lines.specs.Registers.{Table, view};
+ghost use Rattle.line_index.specs.Index.{IsIndex};
+ghost use Rattle.program_steps.specs.LineTable.{table_in};
+ghost use Rattle.program_steps.specs.Verdict.{Verdict, program_verdict, read_verdict};
+ghost use Rattle.program_steps.specs.Answer.{verdict_after, IsMemory, IsOfPath, IsRead, SettlesThen};
+
+use crate::fault::Fault;
+use crate::line_table::read_table;
+use coz_files::{FileAnswer, Files};
+use coz_types::Image;
+use dwarf_lines::LineTable;
+use elf_load::load;
+use line_index::{LineIndex, build};
+use std::alloc::Global;
+
+/// The bytes of a path's file, where they are so many at most.
+/// Err tells that it can't be read or is longer, or want of memory.
+pub fn read_file<'a, F: Files>(
+    alloc: Global,
+    files: &mut F,
+    path: &'a str,
+    most: u64,
+) -> Result<Vec<u8>, Fault<'a>>
+    ensures same { F.held files.new ≡ F.held files.old }
+    ensures short { IfOk result (λ file. length file.items ≤ most) }
+    ensures of_path { IfErr result (IsOfPath path.now) }
+    ensures settled { IfSome (F.held files.old) (λ held.
+        (IsMemory result → ⊥) → (next : List ℕ → Verdict) →
+        SettlesThen (λ file. next file.items)
+        (read_verdict most path.now (file_at held path.now) next)
+        (F.faults files.old) (F.faults files.new) result) }
+    ensures untold { IsRead result
+        → IfNone (F.held files.old) (Rose (F.faults files.old) (F.faults files.new)) }
+    ensures no_fault { (IsRead result → ⊥) → F.faults files.new ≡ F.faults files.old }
+{
+    let mut file = Vec::new(alloc);
+    match files.read_whole(path, most, &mut file) {
+        FileAnswer::Whole => Ok(file),
+        FileAnswer::Longer => Err(Fault::Long(path)),
+        FileAnswer::Failed => Err(Fault::Read(path)),
+        FileAnswer::Memory => Err(Fault::Memory),
+    }
+}
+
+/// A program, its line table and the index of its lines.
+#[derive(Drop)]
+pub struct Program<'f> {
+    /// What is loaded of its file.
+    pub image: Image<'f>,
+    /// Its line table, as it was read.
+    pub table: LineTable<'f>,
+    /// The lines that it has.
+    pub index: LineIndex,
+}
+
+/// The program that a file is, if it is one and has a line table.
+pub fn read_program<'a, 'f>(alloc: Global, file: &'f [u8]) -> Result<Program<'f>, Fault<'a>>
+    requires { length file.now ≤ MAX_PROGRAM }
+    ensures no_read { IsRead result → ⊥ }
+    ensures settled { (IsMemory result → ⊥) → (next : ImageParts → Table → Verdict) →
+        verdict_after result (λ program. next program.image (view program.table))
+        ≡ program_verdict file.now next }
+    ensures loads { IfOk result (λ program. load_answer file.now ≡ Ok program.image) }
+    ensures reads { IfOk result (λ program. table_in file.now ≡ Ok (view program.table)) }
+    ensures indexed { IfOk result (λ program.
+        IsIndex (view program.table) program.image.areas program.index) }
+{
+    let image = load(alloc, file)?;
+    let table = read_table(alloc, &image)?;
+    let index = build(alloc, &table, &image)?;
+    Ok(Program {
+        image,
+        table,
+        index,
+    })
+}
