@@ -13,12 +13,11 @@ abbrev pub left : List ℕ → ℕ → List Section
 left file k = map (section_at file) (places (shoff file + 64 * k) 64 (shnum file - k))
 
 -- what a search among those that are left does with the next one
-pub next : (file name : List ℕ) (k first : ℕ) (s : Section) → k < shnum file → first ≡ shoff file → s ≡ section_at file (first + 64 * k)
+pub next : (file name : List ℕ) (k : ℕ) (s : Section) → k < shnum file → s ≡ section_at file (shoff file + 64 * k)
     → find (wanted file name) (left file k) ≡ cond (wanted file name s) (Some s) (find (wanted file name) (left file (k + 1)))
-next file name k first s below is_first is =
-    let same : section_at file (shoff file + 64 * k) ≡ s = ap (λ (n : ℕ). section_at file (n + 64 * k)) (sym is_first) ∙ sym is in
+next file name k s below is =
     ap (λ (ss : List Section). find (wanted file name) ss) (entries_next (section_at file) (shoff file) 64 k (shnum file) below)
-    ∙ ap (λ (x : Section). cond (wanted file name x) (Some x) (find (wanted file name) (left file (k + 1)))) same
+    ∙ ap (λ (x : Section). cond (wanted file name x) (Some x) (find (wanted file name) (left file (k + 1)))) (sym is)
 
 pub both_hold : (file name names_now : List ℕ) (s : Section) (b n : Bool) → names_now ≡ names file → b ≡ has_bytes s → n ≡ has_name names_now name s → b ≡ true → n ≡ true → wanted file name s ≡ true
 both_hold file name names_now s b n is_names is_b is_n bt nt =

@@ -5,19 +5,20 @@ ghost use Rattle.std.specs.Option.{option_copied};
 ghost use Rattle.elf_load.specs.Faults.{HasHeaders};
 ghost use Rattle.elf_load.specs.Loaded.{section};
 
+use crate::codes::E_SHNUM;
 use crate::faults::has_name;
-use crate::fields::{double_at, half_at};
-use crate::tables::{bytes_of, names, section_at};
+use crate::fields::half_at;
+use crate::tables::{bytes_of, names, nth_section};
 
 /// The bytes of the first section of that name. None where there is none.
+#[tactic(auto, using(crate::proofs::Rows::room))]
 pub fn section_of<'a>(file: &'a [u8], name: &[u8]) -> Option<&'a [u8]>
     requires { HasHeaders file.now }
     ensures { option_copied result ≡ section file.now name.now }
 {
     let names = names(file);
-    let first = double_at(file, 40) as usize;
-    for index in 0..half_at(file, 60) as usize {
-        let section = section_at(file, first + 64 * index);
+    for index in 0..half_at(file, E_SHNUM) {
+        let section = nth_section(file, index);
         if section.has_bytes() && has_name(names, name, &section) {
             return Some(bytes_of(file, &section));
         }

@@ -1,8 +1,9 @@
 //! Program headers and section headers.
 
-ghost use Rattle.std.specs.Prelude.{◌≡◌, ◌≤◌, ◌+◌, length, IfOk};
-ghost use Rattle.elf_load.specs.Tables.{has_bit, segment_at, segments, section_at, sections, bytes_of, names};
+ghost use Rattle.std.specs.Prelude.{◌≡◌, ◌<◌, ◌≤◌, ◌+◌, ◌*◌, length, IfOk};
+ghost use Rattle.elf_load.specs.Tables.{has_bit, phoff, phnum, shoff, shnum, segment_at, segments, section_at, sections, bytes_of, names};
 ghost use Rattle.elf_load.specs.Faults.{HasHeaders};
+ghost use Rattle.elf_load.specs.declared.codes.TheConstants.{PHDR_SIZE, SHDR_SIZE};
 
 use crate::codes::{
     E_PHNUM, E_PHOFF, E_SHNUM, E_SHOFF, E_SHSTRNDX, P_FILESZ, P_FLAGS, P_MEMSZ, P_OFFSET, P_TYPE,
@@ -166,22 +167,32 @@ fn segment_at(file: &[u8], place: usize) -> Segment
     }
 }
 
+/// The program header of a number.
+#[tactic(auto, using(crate::proofs::Rows::room))]
+fn nth_segment(file: &[u8], index: u16) -> Segment
+    requires headers { HasHeaders file.now }
+    requires within { index < phnum file.now }
+    ensures { result ≡ segment_at file.now (phoff file.now + PHDR_SIZE * index) }
+{
+    let first = double_at(file, E_PHOFF) as usize;
+    segment_at(file, first + PHDR_SIZE * index as usize)
+}
+
 /// The program headers, in their order. Only want of memory stands against it.
+#[tactic(auto, using(crate::proofs::Rows::room))]
 pub fn read_segments(alloc: Global, file: &[u8]) -> Result<Vec<Segment>, AllocError>
     requires { HasHeaders file.now }
     ensures { IfOk result (λ read. read.items ≡ segments file.now) }
 {
-    let first = double_at(file, E_PHOFF);
-    let count = half_at(file, E_PHNUM) as usize;
-    let mut segments = Vec::with_capacity(alloc, count)?;
+    let count = half_at(file, E_PHNUM);
+    let mut segments = Vec::with_capacity(alloc, count as usize)?;
     for index in 0..count {
-        segments.push(segment_at(file, first as usize + PHDR_SIZE * index))?;
+        segments.push(nth_segment(file, index))?;
     }
     Ok(segments)
 }
 
-/// The section header at a place of the file.
-pub fn section_at(file: &[u8], place: usize) -> Section
+fn section_at(file: &[u8], place: usize) -> Section
     requires { place + 64 ≤ length file.now }
     ensures { result ≡ section_at file.now place }
 {
@@ -195,16 +206,27 @@ pub fn section_at(file: &[u8], place: usize) -> Section
     }
 }
 
+/// The section header of a number.
+#[tactic(auto, using(crate::proofs::Rows::room))]
+pub fn nth_section(file: &[u8], index: u16) -> Section
+    requires headers { HasHeaders file.now }
+    requires within { index < shnum file.now }
+    ensures { result ≡ section_at file.now (shoff file.now + SHDR_SIZE * index) }
+{
+    let first = double_at(file, E_SHOFF) as usize;
+    section_at(file, first + SHDR_SIZE * index as usize)
+}
+
 /// The section headers, in their order. Only want of memory stands against it.
+#[tactic(auto, using(crate::proofs::Rows::room))]
 pub fn read_sections(alloc: Global, file: &[u8]) -> Result<Vec<Section>, AllocError>
     requires { HasHeaders file.now }
     ensures { IfOk result (λ read. read.items ≡ sections file.now) }
 {
-    let first = double_at(file, E_SHOFF);
-    let count = half_at(file, E_SHNUM) as usize;
-    let mut sections = Vec::with_capacity(alloc, count)?;
+    let count = half_at(file, E_SHNUM);
+    let mut sections = Vec::with_capacity(alloc, count as usize)?;
     for index in 0..count {
-        sections.push(section_at(file, first as usize + SHDR_SIZE * index))?;
+        sections.push(nth_section(file, index))?;
     }
     Ok(sections)
 }
@@ -220,6 +242,7 @@ pub fn bytes_of<'a>(file: &'a [u8], section: &Section) -> &'a [u8]
 }
 
 /// The bytes of the section that holds the names.
+#[tactic(auto, using(crate::proofs::Rows::room))]
 pub fn names(file: &[u8]) -> &[u8]
     requires { HasHeaders file.now }
     ensures { result.now ≡ names file.now }
@@ -228,8 +251,7 @@ pub fn names(file: &[u8]) -> &[u8]
     if index == 0 || index >= half_at(file, E_SHNUM) {
         return &[];
     }
-    let first = double_at(file, E_SHOFF);
-    let section = section_at(file, first as usize + SHDR_SIZE * index as usize);
+    let section = nth_section(file, index);
     if section.has_bytes() {
         bytes_of(file, &section)
     } else {

@@ -1,47 +1,30 @@
 use Rattle.std.proofs.Common.{◌≡◌, ◌∙◌, ◌+◌, ◌<◌, ◌≤◌, ap, sym, arith, Bool, true, false, cond, Some, None, find}
 use Rattle.elf_load.specs.Tables.{sections, shnum}
-use Rattle.elf_load.proofs.Rows.{room, section_fits}
 use Rattle.elf_load.proofs.SectionLemmas.{wanted, left, next, both_hold, not_named, no_bytes, found, none_left}
 use Rattle.elf_load.proofs.sections.section_of.Goals as goal
 use Rattle.elf_load.proofs.sections.section_of.Goals.{else-has_bytes-via-then-has_bytes+else-has_name, else-has_bytes-via-else-has_bytes}
-
-pub double_at-first-requires : goal.double_at-first-requires
-double_at-first-requires c = omega (arith, room c.args.file.now c.requires)
-
-pub half_at-index-end-requires : goal.half_at-index-end-requires
-half_at-index-end-requires c = omega (arith, room c.args.file.now c.requires)
-
-pub overflow_add-first : goal.overflow_add-first
-overflow_add-first c =
-    let below : c.loop-index.index < shnum c.args.file.now = omega (arith, c.half_at-index-end.ensures) in
-    omega (arith, section_fits c.args.file.now c.loop-index.index c.requires below)
-
-pub section_at-section-requires : goal.section_at-section-requires
-section_at-section-requires c =
-    let below : c.loop-index.index < shnum c.args.file.now = omega (arith, c.half_at-index-end.ensures) in
-    omega (arith, section_fits c.args.file.now c.loop-index.index c.requires below)
 
 pub returns-then-has_name : goal.returns-then-has_name
 returns-then-has_name c =
     let file = c.args.file.now in
     let name = c.args.name.now in
-    let s = c.section_at-section.result in
+    let s = c.nth_section-section.result in
     let below : c.loop-index.index < shnum file = omega (arith, c.half_at-index-end.ensures) in
     let holds : wanted file name s ≡ true = both_hold file name c.names-names.result.now s c.has_bytes.result c.has_name.result c.names-names.ensures c.has_bytes.ensures c.has_name.ensures c.if-has_bytes.true c.if-has_name.true in
-    let here : Some s ≡ find (wanted file name) (sections file) = sym (next file name c.loop-index.index c.double_at-first.result s below c.double_at-first.ensures c.section_at-section.ensures ∙ ap (λ (b : Bool). cond b (Some s) (find (wanted file name) (left file (c.loop-index.index + 1)))) holds) ∙ c.loop-index.invariant in
+    let here : Some s ≡ find (wanted file name) (sections file) = sym (next file name c.loop-index.index s below c.nth_section-section.ensures ∙ ap (λ (b : Bool). cond b (Some s) (find (wanted file name) (left file (c.loop-index.index + 1)))) holds) ∙ c.loop-index.invariant in
     ap (λ x. Some x) c.bytes_of.ensures ∙ found file name (Some s) here
 
 pub loop-index-preserved : goal.loop-index-preserved
 loop-index-preserved c =
     let file = c.args.file.now in
     let name = c.args.name.now in
-    let s = c.section_at-section.result in
+    let s = c.nth_section-section.result in
     let below : c.loop-index.index < shnum file = omega (arith, c.half_at-index-end.ensures) in
     let fails : wanted file name s ≡ false = elim c.else-has_bytes.branch [
       | else-has_bytes-via-then-has_bytes+else-has_name w ↦ not_named file name c.names-names.result.now s w.has_name.result c.names-names.ensures w.has_name.ensures w.if-has_name.false
       | else-has_bytes-via-else-has_bytes w ↦ no_bytes file name s c.has_bytes.result c.has_bytes.ensures w.if-has_bytes.false
     ] in
-    sym (next file name c.loop-index.index c.double_at-first.result s below c.double_at-first.ensures c.section_at-section.ensures ∙ ap (λ (b : Bool). cond b (Some s) (find (wanted file name) (left file (c.loop-index.index + 1)))) fails) ∙ c.loop-index.invariant
+    sym (next file name c.loop-index.index s below c.nth_section-section.ensures ∙ ap (λ (b : Bool). cond b (Some s) (find (wanted file name) (left file (c.loop-index.index + 1)))) fails) ∙ c.loop-index.invariant
 
 pub returns : goal.returns
 returns c =
