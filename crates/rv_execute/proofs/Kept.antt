@@ -1,7 +1,10 @@
 -- One pass over reservations: those that are kept are moved to the front, in their order.
-use Rattle.std.proofs.Common.{ℕ, suc, ◌≡◌, ◌≤◌, ◌<◌, ◌+◌, Bool, true, false, List, [], ◌∷◌, ◌++◌, length, take, drop, set, get_or, filter, arith, refl, sym, ◌∙◌, ap, add-one, drop-cons, length-set}
-use Rattle.std.proofs.lemmas.List.{append-nil, drop-set-lt, take_more, take_more_set}
+use mir.Val.{bool_byte}
+use Rattle.std.proofs.Common.{ℕ, suc, ◌≡◌, ◌≤◌, ◌<◌, ◌+◌, Bool, true, false, List, [], ◌∷◌, ◌++◌, length, take, drop, set, get_or, filter, arith, refl, sym, ◌∙◌, ap, ap₂, add-one, add-zero, drop-cons, length-set}
+use Rattle.std.proofs.lemmas.List.{append-nil, drop-set-lt, take-set, take_more, take_more_set}
 use Rattle.std.proofs.lemmas.List.Elements.{filter-append}
+use Rattle.rv_execute.specs.Held.{AreApart}
+use Rattle.rv_execute.proofs.HeldLemmas.{apart-filter}
 
 -- after i places, of which some are kept
 pub record Kept (keeps : (ℕ × ℕ) → Bool) (old : List (ℕ × ℕ)) (i kept : ℕ) (places : List (ℕ × ℕ)) : Type 0 where
@@ -21,34 +24,33 @@ at_rest old places i d same below rest =
 filter-more : (keeps : (ℕ × ℕ) → Bool) (old : List (ℕ × ℕ)) (i : ℕ) (d : ℕ × ℕ) → i < length old → filter keeps (take (i + 1) old) ≡ filter keeps (take i old) ++ filter keeps (get_or old i d ∷ [])
 filter-more keeps old i d below = ap (filter keeps) (take_more old i d below) ∙ filter-append keeps (take i old) (get_or old i d ∷ [])
 
--- the place is kept
-pub kept-stays : {keeps : (ℕ × ℕ) → Bool} {old places : List (ℕ × ℕ)} {i kept : ℕ} (d : ℕ × ℕ) → Kept keeps old i kept places → i < length old → keeps (get_or places i d) ≡ true → Kept keeps old (i + 1) (kept + 1) (set places kept (get_or places i d))
-kept-stays {keeps} {old} {places} {i} {kept} d p below stays =
+-- an element is put behind those in front, and counted where the test keeps it
+counted : (keeps : (ℕ × ℕ) → Bool) (places : List (ℕ × ℕ)) (kept : ℕ) (w : ℕ × ℕ) (b : Bool) → kept < length places → keeps w ≡ b
+    → (kept + bool_byte b ≤ kept + 1) × (take (kept + bool_byte b) (set places kept w) ≡ take kept places ++ filter keeps (w ∷ []))
+counted keeps places kept w true below is = (omega arith, rw is (take_more_set places kept w below))
+counted keeps places kept w false below is = (omega arith, rw (is, add-zero, append-nil) (take-set places kept w))
+
+-- one place more is moved behind those that are kept, and counted where the test keeps it
+pub kept-more : {keeps : (ℕ × ℕ) → Bool} {old places : List (ℕ × ℕ)} {i kept : ℕ} (d : ℕ × ℕ) (b : Bool) → Kept keeps old i kept places → i < length old → keeps (get_or places i d) ≡ b → Kept keeps old (i + 1) (kept + bool_byte b) (set places kept (get_or places i d))
+kept-more {keeps} {old} {places} {i} {kept} d b p below is =
     let w : ℕ × ℕ = get_or places i d in
     let at : (w ≡ get_or old i d) × (drop (i + 1) places ≡ drop (i + 1) old) = at_rest old places i d p.same below p.rest in
     let within : kept ≤ i = p.within in
     let same : length places ≡ length old = p.same in
-    let one : filter keeps (w ∷ []) ≡ w ∷ [] = rw stays refl in
+    let more = counted keeps places kept w b (omega arith) is in
     record {
-      within = omega arith;
+      within = omega (arith, more.0);
       same = length-set places kept w ∙ p.same;
       rest = drop-set-lt (i + 1) places kept w (omega arith) ∙ at.1;
-      done = take_more_set places kept w (omega arith) ∙ ap (λ xs. xs ++ w ∷ []) p.done ∙ ap (λ xs. filter keeps (take i old) ++ xs) (sym one ∙ ap (λ x. filter keeps (x ∷ [])) at.0) ∙ sym (filter-more keeps old i d below);
+      done = more.1 ∙ ap₂ (λ xs x. xs ++ filter keeps (x ∷ [])) p.done at.0 ∙ sym (filter-more keeps old i d below);
     }
 
--- the place is left out
-pub kept-goes : {keeps : (ℕ × ℕ) → Bool} {old places : List (ℕ × ℕ)} {i kept : ℕ} (d : ℕ × ℕ) → Kept keeps old i kept places → i < length old → keeps (get_or places i d) ≡ false → Kept keeps old (i + 1) kept places
-kept-goes {keeps} {old} {places} {i} {kept} d p below goes =
-    let w : ℕ × ℕ = get_or places i d in
-    let at : (w ≡ get_or old i d) × (drop (i + 1) places ≡ drop (i + 1) old) = at_rest old places i d p.same below p.rest in
+-- all places are passed
+pub kept-all : {keeps : (ℕ × ℕ) → Bool} {old places : List (ℕ × ℕ)} {i kept n : ℕ} → Kept keeps old i kept places → i ≤ n → n ≤ i → AreApart (take n old) → n ≤ 256 → AreApart (take kept places) × (kept ≤ 256)
+kept-all {keeps} {old} {places} {i} {kept} {n} p most least apart few =
     let within : kept ≤ i = p.within in
-    let none : filter keeps (w ∷ []) ≡ [] = rw goes refl in
-    record {
-      within = omega arith;
-      same = p.same;
-      rest = at.1;
-      done = p.done ∙ sym (append-nil (filter keeps (take i old))) ∙ ap (λ xs. filter keeps (take i old) ++ xs) (sym none ∙ ap (λ x. filter keeps (x ∷ [])) at.0) ∙ sym (filter-more keeps old i d below);
-    }
+    let all : i ≡ n = omega arith in
+    (rw (p.done, all) (apart-filter keeps (take n old) apart), omega arith)
 
 -- before the first place
 pub kept-none : (keeps : (ℕ × ℕ) → Bool) (old : List (ℕ × ℕ)) → Kept keeps old 0 0 old

@@ -57,10 +57,8 @@ impl Reservations {
         let mut kept = 0;
         for i in 0..self.count {
             let place = self.places[i];
-            if !touches(address, count, place.1) {
-                self.places[kept] = place;
-                kept += 1;
-            }
+            self.places[kept] = place;
+            kept += usize::from(!touches(address, count, place.1));
         }
         self.count = kept;
     }
@@ -73,10 +71,8 @@ impl Reservations {
         let mut kept = 0;
         for i in 0..self.count {
             let place = self.places[i];
-            if place.0 != hart.0 {
-                self.places[kept] = place;
-                kept += 1;
-            }
+            self.places[kept] = place;
+            kept += usize::from(place.0 != hart.0);
         }
         self.count = kept;
     }
