@@ -1,17 +1,20 @@
 -- So many bytes from an address on.
-use Rattle.std.proofs.Common.{ℕ, zero, suc, ◌≡◌, ◌+◌, ◌-◌, ◌*◌, ◌/◌, ◌%◌, ◌^◌, ◌≤◌, ◌<◌, Bool, true, false, List, [], ◌∷◌, length, drop, get_or, arith, refl, sym, ap, ◌∙◌, ⊎_elim, Some, None}
+use Rattle.std.proofs.Common.{ℕ, zero, suc, ◌≡◌, ◌+◌, ◌-◌, ◌*◌, ◌/◌, ◌%◌, ◌^◌, ◌≤◌, ◌<◌, Bool, true, false, List, [], ◌∷◌, length, get_or, arith, refl, sym, ap, ◌∙◌, ⊎_elim, Some, None}
 use Rattle.std.specs.Int.{byte_at as byte_of, bytes_low_first}
-use Rattle.std.proofs.Math.Nat.{pow-le-pow_right, pow-succ', div-div-eq-div-mul}
-use Rattle.std.proofs.lemmas.Bool.{cases_Bool, cond-true, cond-false, both_ways, true_from_ne_false}
-use Rattle.std.proofs.lemmas.List.{ext_get_or, drop_more}
+use Rattle.std.proofs.Math.Nat.{pow-succ', div-div-eq-div-mul}
+use Rattle.std.proofs.lemmas.Bool.{cases_Bool, both_ways, true_from_ne_false}
+use Rattle.std.proofs.lemmas.List.{ext_get_or}
 use Rattle.coz_types.specs.declared.image.Rights.{Rights}
+use Rattle.guest_memory.specs.declared.Right.{Right}
+use Rattle.guest_memory.specs.declared.Right.TheVariants.{Read, Write, Execute}
+use Rattle.guest_memory.specs.Right.{has_right}
 use Rattle.coz_types.specs.declared.image.Area.{Area}
 use Rattle.coz_types.specs.Image.{ImageParts}
 use Rattle.guest_memory.specs.declared.Layout.{Layout}
 use Rattle.std.specs.Prelude.{fold, if◌then◌else◌}
 use Rattle.coz_types.specs.Maps.{value_or}
 use Rattle.byteorder.specs.Endian.{little_from}
-use Rattle.guest_memory.specs.Memory.{empty_memory, first_memory, read_and_write, MemoryMap, no_rights, byte_at, with_byte, rights_at, is_allowed, is_readable, is_writable, is_executable, number_at, with_number, with_bytes, with_rights, with_area, area_bytes, with_rights_from, bytes_at, load, store, fetch}
+use Rattle.guest_memory.specs.Memory.{empty_memory, first_memory, read_and_write, MemoryMap, no_rights, byte_at, with_byte, rights_at, is_allowed, is_writable, number_at, with_number, with_bytes, with_rights, with_area, area_bytes, with_rights_from, bytes_at, store}
 use Rattle.guest_memory.specs.Regions.{page_of, stack_base}
 
 pub allowed_from : (right : Rights → Bool) (m : MemoryMap) (a n : ℕ) → ((j : ℕ) → j < n → right (rights_at m (a + j)) ≡ true) → is_allowed right m a n ≡ true
@@ -58,6 +61,11 @@ refused_here right m a n some h =
     refused_from right m a n 0 some
     (ap (λ (p : ℕ). right (rights_at m p)) (let e : a + 0 ≡ a = omega arith in e) ∙ h)
 
+pub none_has : (right : Right) → has_right right no_rights ≡ false
+none_has Read = refl
+none_has Write = refl
+none_has Execute = refl
+
 pub number-from : (m : MemoryMap) (bytes : List ℕ) (a p n : ℕ) → ((j : ℕ) → j < n → byte_at m (a + j) ≡ get_or bytes (p + j) 0) → number_at m a n ≡ little_from p n bytes
 number-from m bytes a p zero h = refl
 number-from m bytes a p (suc n) h =
@@ -69,34 +77,6 @@ number-from m bytes a p (suc n) h =
     ap (λ (b : ℕ). byte_at m b) (let e : a + 1 + j ≡ a + suc j = omega arith in e) ∙ h (suc j) (omega arith)
     ∙ ap (λ (b : ℕ). get_or bytes b 0) (let e : p + suc j ≡ suc p + j = omega arith in e)) in
     omega (arith, here, rest)
-
-pub load-allowed : (m : MemoryMap) (a n v : ℕ) → is_readable m a n ≡ true → number_at m a n ≡ v → Some v ≡ load m a n
-load-allowed m a n v h e = ap (λ (x : ℕ). Some x) (sym e) ∙ sym (cond-true (is_readable m a n) (Some (number_at m a n)) None h)
-
-pub load-refused : (m : MemoryMap) (a n : ℕ) → is_readable m a n ≡ false → None ≡ load m a n
-load-refused m a n h = sym (cond-false (is_readable m a n) (Some (number_at m a n)) None h)
-
-pub fetch-allowed : (m : MemoryMap) (a v : ℕ) → is_executable m a 4 ≡ true → number_at m a 4 ≡ v → Some v ≡ fetch m a
-fetch-allowed m a v h e = ap (λ (x : ℕ). Some x) (sym e) ∙ sym (cond-true (is_executable m a 4) (Some (number_at m a 4)) None h)
-
-pub fetch-refused : (m : MemoryMap) (a : ℕ) → is_executable m a 4 ≡ false → None ≡ fetch m a
-fetch-refused m a h = sym (cond-false (is_executable m a 4) (Some (number_at m a 4)) None h)
-
-pub store-allowed : (m after : MemoryMap) (a n v : ℕ) → is_writable m a n ≡ true → after ≡ with_number a n v m → Some after ≡ store a n v m
-store-allowed m after a n v h e =
-    ap (λ (x : MemoryMap). Some x) e ∙ sym (cond-true (is_writable m a n) (Some (with_number a n v m)) None h)
-
-pub store-refused : (m : MemoryMap) (a n v : ℕ) → is_writable m a n ≡ false → None ≡ store a n v m
-store-refused m a n v h = sym (cond-false (is_writable m a n) (Some (with_number a n v m)) None h)
-
-fits : (v b : ℕ) → v < 72057594037927936 → b < 256 → v * 256 + b < 18446744073709551616
-fits v b h byte = omega arith
-
-pub number_fits : (v b i : ℕ) → v < 256 ^ i → i < 8 → b < 256 → v * 256 + b < 2 ^ 64
-number_fits v b i h small byte =
-    let p : 256 ^ i ≤ 256 ^ 7 = pow-le-pow_right {n = 256} (omega arith) {j = 7} (omega arith) in
-    let q : v < 256 ^ 7 = omega arith in
-    fits v b q byte
 
 -- the bytes of a number above its lowest
 byte_above : (i v : ℕ) → byte_of (suc i) v ≡ byte_of i (v / 256)
@@ -114,14 +94,6 @@ bytes_above i (suc n) v =
 -- a number's lowest byte is written first
 pub number-more : (a n v : ℕ) (m : MemoryMap) → with_number a (suc n) v m ≡ with_number (a + 1) n (v / 256) (with_byte a (v % 256) m)
 number-more a n v m = ap (λ (bs : List ℕ). with_bytes (a + 1) bs (with_byte a (v % 256) m)) (bytes_above 0 n v)
-
--- one byte more of a number that is written
-pub written_more : (m after : MemoryMap) (a n i v : ℕ) → i < n → after ≡ with_byte (a + i) (v % 256) m → with_number (a + (i + 1)) (n - (i + 1)) (v / 256) after ≡ with_number (a + i) (n - i) v m
-written_more m after a n i v h e =
-    ap (λ (x : MemoryMap). with_number (a + (i + 1)) (n - (i + 1)) (v / 256) x) e
-    ∙ ap (λ (q : ℕ). with_number q (n - (i + 1)) (v / 256) (with_byte (a + i) (v % 256) m)) (let f : a + (i + 1) ≡ a + i + 1 = omega arith in f)
-    ∙ sym (number-more (a + i) (n - (i + 1)) v m)
-    ∙ ap (λ (k : ℕ). with_number (a + i) k v m) (let f : suc (n - (i + 1)) ≡ n - i = omega arith in f)
 
 pub length-bytes_at : (m : MemoryMap) (a n : ℕ) → length (bytes_at m a n) ≡ n
 length-bytes_at m a zero = refl
@@ -143,13 +115,6 @@ bytes_from m a bs h =
 pub allowed_each : (right : Rights → Bool) (m : MemoryMap) (a n : ℕ) → is_allowed right m a n ≡ true → (j : ℕ) → j < n → right (rights_at m (a + j)) ≡ true
 allowed_each right m a n h j below =
     true_from_ne_false (right (rights_at m (a + j))) (λ e. both_ways (is_allowed right m a n) (refused_from right m a n j below e) h)
-
--- one byte more
-pub bytes_more : (m after : MemoryMap) (a i : ℕ) (bs : List ℕ) → i < length bs → after ≡ with_byte (a + i) (get_or bs i 0) m → with_bytes (a + (i + 1)) (drop (i + 1) bs) after ≡ with_bytes (a + i) (drop i bs) m
-bytes_more m after a i bs h e =
-    ap (λ (x : MemoryMap). with_bytes (a + (i + 1)) (drop (i + 1) bs) x) e
-    ∙ ap (λ (q : ℕ). with_bytes q (drop (i + 1) bs) (with_byte (a + i) (get_or bs i 0) m)) (let f : a + (i + 1) ≡ a + i + 1 = omega arith in f)
-    ∙ ap (λ (xs : List ℕ). with_bytes (a + i) xs m) (sym (drop_more bs i 0 h))
 
 -- one page more
 pub with_rights_from_more : (m after : MemoryMap) (first count i : ℕ) (r : Rights) → i < count → after ≡ with_rights (first + i) r m → with_rights_from (first + (i + 1)) (count - (i + 1)) r after ≡ with_rights_from (first + i) (count - i) r m

@@ -20,7 +20,7 @@ ghost use Rattle.guest_memory.specs.Regions.{IsLayout, IsKnown, usual, page_of};
 ghost use Rattle.std.specs.List.{Contains};
 ghost use Rattle.coz_types.specs.Image.{IsAreaOf};
 
-use crate::find::{find, find_from, pick};
+use crate::find::{find, find_for, pick};
 use crate::lay::spans;
 use crate::numbers::{number_of, put_number, zero_from};
 use crate::pages::Pages;
@@ -330,32 +330,7 @@ impl<'a> Memory<'a> {
         requires { IsSize size }
         ensures { result_ok result ≡ load self.now address size }
     {
-        match find(&self.spans, address / PAGE) {
-            None => Err(Access),
-            Some(index) => {
-                if !self.pages.each[index].rights.read {
-                    return Err(Access);
-                }
-                let within = (address % PAGE) as usize;
-                if within + size as usize <= PAGE as usize {
-                    Ok(number_of(&self.bytes, index * PAGE as usize + within, size))
-                } else {
-                    self.load_across(address, size)
-                }
-            }
-        }
-    }
-
-    #[inline(never)]
-    fn load_across(&self, address: Address, size: u8) -> Result<u64, Access>
-        requires { IsSize size }
-        ensures { result_ok result ≡ load self.now address size }
-    {
-        if self.readable(address, size as u64) {
-            Ok(self.number_across(address, size))
-        } else {
-            Err(Access)
-        }
+        self.read_number(address, size, Right::Read)
     }
 
     /// The word that stands at an address, to be executed. Err where some byte may not be executed.
@@ -363,44 +338,47 @@ impl<'a> Memory<'a> {
     pub fn fetch(&self, address: Address) -> Result<u32, Access>
         ensures { result_ok result ≡ fetch self.now address }
     {
-        match find_from(&self.spans, self.code, address / PAGE) {
+        Ok(self.read_number(address, 4, Right::Execute)? as u32)
+    }
+
+    /// The number that stands at an address, each byte of which has the right.
+    #[inline(always)]
+    fn read_number(&self, address: Address, size: u8, right: Right) -> Result<u64, Access>
+        requires { IsSize size }
+        ensures number { result_ok result ≡ (if is_allowed (has_right right) self.now address size
+            then Some (number_at self.now address size) else None) }
+        ensures below { IfOk result (λ number. number < 256 ^ size) }
+    {
+        match find_for(right, &self.spans, self.code, address / PAGE) {
             None => Err(Access),
             Some(index) => {
-                if !self.pages.each[index].rights.execute {
+                if !has(self.pages.each[index].rights, right) {
                     return Err(Access);
                 }
                 let within = (address % PAGE) as usize;
-                if within + 4 <= PAGE as usize {
-                    Ok(number_of(&self.bytes, index * PAGE as usize + within, 4) as u32)
+                if within + size as usize <= PAGE as usize {
+                    Ok(number_of(&self.bytes, index * PAGE as usize + within, size))
                 } else {
-                    self.fetch_across(address)
+                    self.read_across(address, size, right)
                 }
             }
         }
     }
 
+    /// The same by its bytes: also across pages.
     #[inline(never)]
-    fn fetch_across(&self, address: Address) -> Result<u32, Access>
-        ensures { result_ok result ≡ fetch self.now address }
+    fn read_across(&self, address: Address, size: u8, right: Right) -> Result<u64, Access>
+        requires { IsSize size }
+        ensures number { result_ok result ≡ (if is_allowed (has_right right) self.now address size
+            then Some (number_at self.now address size) else None) }
+        ensures below { IfOk result (λ number. number < 256 ^ size) }
     {
-        if self.all_have(address, 4, Right::Execute) {
-            Ok(self.number_across(address, 4) as u32)
-        } else {
-            Err(Access)
+        if !self.all_have(address, size as u64, right) {
+            return Err(Access);
         }
-    }
-
-    fn number_across(&self, address: Address, size: u8) -> u64
-        requires size { size ≤ 8 }
-        requires low { address + size ≤ 2 ^ 64 }
-        ensures number { result ≡ number_at self.now address size }
-        ensures below { result < 256 ^ size }
-    {
-        let mut value = 0;
-        for i in 0..size {
-            value = value * 256 + self.byte(address + (size - 1 - i) as u64) as u64;
-        }
-        value
+        let mut bytes = [0; 8];
+        self.read_run(address, &mut bytes[..size as usize]);
+        Ok(number_of(&bytes, 0, size))
     }
 
     /// Whether so many bytes from an address on may be read.
@@ -457,15 +435,6 @@ impl<'a> Memory<'a> {
         }
     }
 
-    fn byte(&self, address: Address) -> u8
-        ensures { result ≡ byte_at self.now address }
-    {
-        match find(&self.spans, address / PAGE) {
-            None => 0,
-            Some(index) => self.bytes[index * PAGE as usize + (address % PAGE) as usize],
-        }
-    }
-
     /// Writes a number at an address, in 1, 2, 4 or 8 bytes.
     /// Err where some byte may not be written; then nothing is.
     #[inline(always)]
@@ -493,36 +462,14 @@ impl<'a> Memory<'a> {
         }
     }
 
-    /// The same, byte by byte: also across pages, and for a page's first store.
+    /// The same by its bytes: also across pages, and for a page's first store.
     #[inline(never)]
     fn store_by_bytes(&mut self, address: Address, size: u8, value: u64) -> Result<(), Access>
         requires { IsSize size }
         ensures { MatchResult result (λ _. Some self.new ≡ store address size value self.old)
             (λ _. (None ≡ store address size value self.old) × (self.new ≡ self.old)) }
     {
-        if !self.writable(address, size as u64) {
-            return Err(Access);
-        }
-        let mut rest = value;
-        for i in 0..size {
-            self.put_byte(address + i as u64, (rest % 256) as u8);
-            rest /= 256;
-        }
-        Ok(())
-    }
-
-    /// Writes a byte whatever the rights.
-    fn put_byte(&mut self, address: Address, byte: u8)
-        requires { IsHeld self.old address }
-        ensures { self.new ≡ with_byte address byte self.old }
-    {
-        match find(&self.spans, address / PAGE) {
-            None => unreachable!(),
-            Some(index) => {
-                self.pages.touch(index);
-                self.bytes[index * PAGE as usize + (address % PAGE) as usize] = byte;
-            }
-        }
+        self.copy_in(address, &value.to_le_bytes()[..size as usize])
     }
 
     /// Reads bytes from an address on; nothing is read where some byte may not be.
@@ -537,6 +484,15 @@ impl<'a> Memory<'a> {
         if !self.readable(address, into.len() as u64) {
             return Err(Access);
         }
+        self.read_run(address, into);
+        Ok(())
+    }
+
+    /// Reads bytes whatever the rights, page by page.
+    fn read_run(&self, address: Address, into: &mut [u8])
+        requires { address + length into.old ≤ 2 ^ 64 }
+        ensures { into.new ≡ bytes_at self.now address (length into.old) }
+    {
         let mut done = 0;
         while done < into.len() {
             let here = address + done as u64;
@@ -544,7 +500,6 @@ impl<'a> Memory<'a> {
             self.read_piece(here, &mut into[done..done + count]);
             done += count;
         }
-        Ok(())
     }
 
     /// Reads bytes that lie in one page, and zeros where there is no such page.
