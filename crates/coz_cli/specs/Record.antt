@@ -3,7 +3,7 @@ use Rattle.std.specs.Prelude.{map}
 use Rattle.machines.specs.Records.{Record, NetRecord}
 use Rattle.delay_credits.specs.Delays.{account_as}
 use Rattle.virtual_run.specs.DelayedRun.{visit_as}
-use Rattle.virtual_run.specs.Visits.{net_of}
+use Rattle.machines.specs.NetVisits.{net_of}
 use Rattle.coz_cli.specs.declared.record.RunRecord.{RunRecord}
 use Rattle.coz_cli.specs.declared.record.ShortRecord.{ShortRecord}
 

@@ -1,7 +1,7 @@
 //! The text of a shortened run.
 ghost use Rattle.std.specs.Prelude.{◌≡◌, ◌++◌, ◌≤◌, codes, decimal, map, OnOk, IfOk, All};
 ghost use Rattle.coz_types.specs.declared.record.Visit.{Visit};
-ghost use Rattle.virtual_run.specs.Visits.{net_of};
+ghost use Rattle.machines.specs.NetVisits.{net_of};
 ghost use Rattle.coz_cli.specs.Text.{net_outcome_text, net_visit_text, net_visits_text, really_text};
 ghost use Rattle.coz_cli.specs.Record.{net_record_of};
 

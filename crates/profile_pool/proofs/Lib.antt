@@ -1,6 +1,3 @@
-pub mod Examples
-pub mod Counting
-pub mod Hashing
 pub mod Within
 pub mod Summing
 mod Joined

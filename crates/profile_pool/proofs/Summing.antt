@@ -12,9 +12,10 @@ use Rattle.machines.specs.Shortened.{NetVisit}
 use Rattle.machines.specs.Records.{Record, net_visit}
 use Rattle.sha2.specs.Sha256.{sha256}
 use Rattle.guest_calls.specs.Guest.{Guest}
-use Rattle.virtual_run.specs.Visits.{net_of}
+use Rattle.machines.specs.NetVisits.{net_of}
 use Rattle.virtual_run.specs.DelayedRun.{visit_as, outcome_of}
-use Rattle.profile_pool.specs.Summaries.{visits_bytes, counts_of, outcome_in, summary_of}
+use Rattle.net_visits.specs.Kept.{visits_bytes, counts_of}
+use Rattle.profile_pool.specs.Summaries.{outcome_in, summary_of}
 
 abbrev pub outcome_at : Delayed Guest → Ending → Outcome
 outcome_at d ending = record { ending = ending; time = d.now; delay = d.delay; retired = d.retired; starts = d.starts }

@@ -1,31 +1,14 @@
 -- A summary is within the ranges of a profile.
-use Rattle.std.proofs.Common.{◌≡◌, ◌≤◌, ◌==◌, ℕ, ◌^◌, Bool, true, ◌&&◌, nat_le, List, [], ◌∷◌, length, refl, ap₂, ◌∙◌, arith}
-use Rattle.std.specs.Prelude.{count_by}
-use Rattle.std.specs.List.{list_all, range_with_len}
-use Rattle.std.proofs.lemmas.Bool.{le-leb}
+use Rattle.std.proofs.Common.{◌≡◌, ◌≤◌, ℕ, ◌^◌, true, List, length, arith}
 use Rattle.std.proofs.lemmas.List.{length-map}
-use Rattle.std.proofs.lemmas.List.Folds.{list_all-map}
 use Rattle.std.proofs.lemmas.List.FromFn.{length-map-range_with_len}
-use Rattle.std.proofs.lemmas.List.Sums.{count_by-le-length}
 use Rattle.coz_types.specs.declared.record.Outcome.{Outcome}
 use Rattle.coz_types.specs.Labels.{is_label}
-use Rattle.coz_types.specs.declared.TheConstants.{GREATEST_COUNT}
 use Rattle.coz_types.specs.Ranges.{is_ending, IsSummary}
-use Rattle.machines.specs.Shortened.{NetVisit}
 use Rattle.machines.specs.Records.{Record, net, net_visit}
-use Rattle.profile_pool.specs.Summaries.{counts_of, outcome_in, summary_of}
-use Rattle.profile_pool.proofs.Hashing.{sha256_is}
-
-all_pass : (p : ℕ → Bool) → ((n : ℕ) → p n ≡ true) → (ns : List ℕ) → list_all p ns ≡ true
-all_pass p each [] = refl
-all_pass p each (n ∷ ns) = ap₂ (λ (a b : Bool). a && b) (each n) (all_pass p each ns)
-
--- so few visits have small counts
-counts_within : (points : ℕ) (visits : List NetVisit) → length visits ≤ 1048576 → list_all (λ (n : ℕ). nat_le n GREATEST_COUNT) (counts_of points visits) ≡ true
-counts_within points visits few =
-    let at : ℕ → ℕ = λ point. count_by (λ (visit : NetVisit). visit.point == point) visits in
-    list_all-map (λ (n : ℕ). nat_le n GREATEST_COUNT) at (range_with_len 0 points)
-    ∙ all_pass (λ (point : ℕ). nat_le (at point) GREATEST_COUNT) (λ point. le-leb _ _ (omega (arith, count_by-le-length (λ (visit : NetVisit). visit.point == point) visits))) (range_with_len 0 points)
+use Rattle.net_visits.proofs.Counting.{counts_within}
+use Rattle.net_visits.proofs.Hashing.{sha256_is}
+use Rattle.profile_pool.specs.Summaries.{outcome_in, summary_of}
 
 -- the numbers of an outcome are those of a profile
 pub record IsWithin (o : Outcome) : Type 0 where

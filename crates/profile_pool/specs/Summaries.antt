@@ -1,11 +1,8 @@
 -- What a profile keeps of a run.
-use Rattle.std.specs.Prelude.{ℕ, ◌==◌, List, [], ◌++◌, map, length, get_or, Some, count_by}
-use Rattle.std.specs.List.{flat_map, range_with_len}
-use Rattle.std.specs.Int.{w16, w64, to_le_bytes}
+use Rattle.std.specs.Prelude.{ℕ, List, [], map, length, get_or, Some}
 use Rattle.coz_types.specs.Image.{ImageParts}
 use Rattle.coz_types.specs.declared.record.Outcome.{Outcome}
 use Rattle.coz_types.specs.declared.record.Summary.{Summary}
-use Rattle.machines.specs.Shortened.{NetVisit}
 use Rattle.machines.specs.Records.{Record, net}
 use Rattle.machines.specs.Standing.{delayed_record}
 use Rattle.experiment_plan.specs.declared.experiment.Experiment.{Experiment}
@@ -14,20 +11,8 @@ use Rattle.line_index.specs.Index.{Index, position_at}
 use Rattle.progress_points.specs.Points.{Points, point_of}
 use Rattle.virtual_run.specs.Run.{experiment}
 use Rattle.sha2.specs.Sha256.{sha256}
+use Rattle.net_visits.specs.Kept.{visits_bytes, counts_of}
 use Rattle.profile_pool.specs.Choices.{choice_of}
-
--- the point and the hart in 2 bytes each and the net time in 8, low byte first
-abbrev pub visit_bytes : NetVisit → List ℕ
-visit_bytes visit =
-    to_le_bytes w16 visit.point ++ to_le_bytes w16 visit.hart ++ to_le_bytes w64 visit.time
-
-abbrev pub visits_bytes : List NetVisit → List ℕ
-visits_bytes visits = flat_map visit_bytes visits
-
--- how many visits each point from 0 below k has
-abbrev pub counts_of : ℕ → List NetVisit → List ℕ
-counts_of k visits =
-    map (λ point. count_by (λ (visit : NetVisit). visit.point == point) visits) (range_with_len 0 k)
 
 -- how the run of a record came out
 abbrev pub outcome_in : Record → Outcome

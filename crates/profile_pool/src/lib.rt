@@ -2,8 +2,6 @@
 #![tactic(auto)]
 
 mod claimed;
-mod counts;
-mod digests;
 mod job;
 mod limits;
 mod outcomes;

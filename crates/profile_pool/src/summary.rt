@@ -8,11 +8,10 @@ ghost use Rattle.machines.specs.Records.{record_of};
 ghost use Rattle.virtual_run.specs.Seen.{experiment_of};
 ghost use Rattle.profile_pool.specs.Summaries.{summary_of};
 
-use crate::counts::counts;
-use crate::digests::{digest_of_bytes, digest_of_visits};
 use crate::outcomes::outcome;
 use coz_lists::Items;
 use coz_types::{Label, Summary};
+use net_visits::{counts_of_visits, digest_of_bytes, digest_of_visits};
 use progress_points::Points;
 use std::alloc::{AllocError, Global};
 use virtual_run::Machine;
@@ -39,7 +38,7 @@ pub fn summarise(
     let visits = machine.visits();
     let output = machine.output();
     let selected = Label::copy(alloc, label.bytes())?;
-    let counts = counts(alloc, points.count(), visits)?;
+    let counts = counts_of_visits(alloc, points.count(), visits)?;
     Ok(Summary {
         selected,
         speedup,

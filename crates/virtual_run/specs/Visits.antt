@@ -1,7 +1,6 @@
 -- The visits of progress points in a run.
-use Rattle.std.specs.Prelude.{ℕ, ◌-◌, List, Option, option_map, option_to_list}
+use Rattle.std.specs.Prelude.{ℕ, List, Option, option_map, option_to_list}
 use Rattle.coz_types.specs.declared.record.Visit.{Visit}
-use Rattle.machines.specs.Shortened.{NetVisit}
 
 -- those that were kept so far, in order, and how many may be
 pub record Visits : Type 0 where
@@ -14,11 +13,3 @@ visits_of point hart time delay =
     option_to_list (option_map (λ p.
     record { point = record { 0 = p }; hart = record { 0 = hart }; time = time; delay = delay })
     point)
-
--- a visit at its net time
-abbrev pub net_of : Visit → NetVisit
-net_of visit = record {
-  point = visit.point.0;
-  hart = visit.hart.0;
-  time = visit.time - visit.delay;
-}

@@ -1,5 +1,5 @@
 use Rattle.std.proofs.Common.{◌≡◌, ◌++◌, drop, map}
-use Rattle.virtual_run.specs.Visits.{net_of}
+use Rattle.machines.specs.NetVisits.{net_of}
 use Rattle.coz_cli.specs.Text.{net_visits_text}
 use Rattle.coz_cli.proofs.short_text.push_visits.Given as goal
 

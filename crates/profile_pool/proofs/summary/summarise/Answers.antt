@@ -3,8 +3,8 @@ use Rattle.coz_types.specs.Ranges.{IsSummary}
 use Rattle.sha2.specs.Sha256.{sha256}
 use Rattle.machines.specs.Records.{record_of}
 use Rattle.virtual_run.specs.Seen.{experiment_of}
-use Rattle.virtual_run.specs.Visits.{net_of}
-use Rattle.profile_pool.specs.Summaries.{counts_of}
+use Rattle.machines.specs.NetVisits.{net_of}
+use Rattle.net_visits.specs.Kept.{counts_of}
 use Rattle.profile_pool.proofs.Within.{IsWithin, summary_is}
 use Rattle.profile_pool.proofs.Summing.{ending_is, few_visits, outcome_is, summed}
 use Rattle.profile_pool.proofs.summary.summarise.Goals as goal

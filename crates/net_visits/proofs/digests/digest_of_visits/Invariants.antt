@@ -1,8 +1,8 @@
 use Rattle.std.proofs.Common.{map, take}
 use Rattle.sha2.specs.Hashers.{Holds256}
-use Rattle.virtual_run.specs.Visits.{net_of}
-use Rattle.profile_pool.specs.Summaries.{visits_bytes}
-use Rattle.profile_pool.proofs.digests.digest_of_visits.Given as goal
+use Rattle.machines.specs.NetVisits.{net_of}
+use Rattle.net_visits.specs.Kept.{visits_bytes}
+use Rattle.net_visits.proofs.digests.digest_of_visits.Given as goal
 
 -- the bytes of the visits so far are in the hasher
 abbrev pub invariant-loop-visit : goal.invariant-loop-visit

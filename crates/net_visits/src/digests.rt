@@ -2,8 +2,8 @@
 ghost use Rattle.std.specs.Prelude.{◌≡◌, ◌≤◌, All, map};
 ghost use Rattle.coz_types.specs.declared.record.Visit.{Visit};
 ghost use Rattle.sha2.specs.Sha256.{sha256};
-ghost use Rattle.virtual_run.specs.Visits.{net_of};
-ghost use Rattle.profile_pool.specs.Summaries.{visit_bytes, visits_bytes};
+ghost use Rattle.machines.specs.NetVisits.{net_of};
+ghost use Rattle.net_visits.specs.Kept.{visit_bytes, visits_bytes};
 
 use coz_types::{Digest, Visit};
 use sha2::{Digest as Hasher, Sha256};

@@ -1,8 +1,8 @@
 use Rattle.std.proofs.Common.{take, arith, rules, ◌≡◌, List, subst}
 use Rattle.std.proofs.lemmas.List.{take_all}
-use Rattle.profile_pool.proofs.Counting.{AreCounts, counted, passed, counts_are, count_fits}
-use Rattle.profile_pool.proofs.counts.counts.Goals as goal
-use Rattle.profile_pool.proofs.counts.counts.Goals.{then-point-len, else-point-len}
+use Rattle.net_visits.proofs.Counting.{AreCounts, counted, passed, counts_are, count_fits}
+use Rattle.net_visits.proofs.counts.counts_of_visits.Goals as goal
+use Rattle.net_visits.proofs.counts.counts_of_visits.Goals.{then-point-len, else-point-len}
 
 pub overflow_add-index_mut : goal.overflow_add-index_mut
 overflow_add-index_mut c =

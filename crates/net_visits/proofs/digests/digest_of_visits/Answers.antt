@@ -1,9 +1,9 @@
 use Rattle.std.proofs.Common.{map, take, sym, subst}
 use Rattle.sha2.specs.Hashers.{Holds256}
-use Rattle.virtual_run.specs.Visits.{net_of}
-use Rattle.profile_pool.specs.Summaries.{visits_bytes}
-use Rattle.profile_pool.proofs.Hashing.{one_more}
-use Rattle.profile_pool.proofs.digests.digest_of_visits.Goals as goal
+use Rattle.machines.specs.NetVisits.{net_of}
+use Rattle.net_visits.specs.Kept.{visits_bytes}
+use Rattle.net_visits.proofs.Hashing.{one_more}
+use Rattle.net_visits.proofs.digests.digest_of_visits.Goals as goal
 
 pub loop-visit-preserved : goal.loop-visit-preserved
 loop-visit-preserved c =

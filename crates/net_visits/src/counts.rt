@@ -1,14 +1,18 @@
 //! How often each progress point was visited.
 ghost use Rattle.std.specs.Prelude.{◌≡◌, ◌≤◌, length, map, IfOk};
 ghost use Rattle.coz_types.specs.declared.TheConstants.{MOST_VISITS_KEPT};
-ghost use Rattle.virtual_run.specs.Visits.{net_of};
-ghost use Rattle.profile_pool.specs.Summaries.{counts_of};
+ghost use Rattle.machines.specs.NetVisits.{net_of};
+ghost use Rattle.net_visits.specs.Kept.{counts_of};
 
 use coz_types::Visit;
 use std::alloc::{AllocError, Global};
 
 /// How often each of so many points was visited. Only want of memory stands against it.
-pub fn counts(alloc: Global, points: u32, visits: &[Visit]) -> Result<Vec<u64>, AllocError>
+pub fn counts_of_visits(
+    alloc: Global,
+    points: u32,
+    visits: &[Visit],
+) -> Result<Vec<u64>, AllocError>
     requires few { length visits.now ≤ MOST_VISITS_KEPT }
     ensures { IfOk result (λ counts. counts.items ≡ counts_of points (map net_of visits.now)) }
 {

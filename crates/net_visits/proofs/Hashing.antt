@@ -11,11 +11,11 @@ use Rattle.coz_types.specs.declared.record.Visit.{Visit}
 use Rattle.coz_types.specs.Ranges.{IsDigest}
 use Rattle.sha2.specs.Sha256.{sha256, digest_bytes, final_hash, initial_hash_256}
 use Rattle.sha2.proofs.Facts256.{length-sha256}
-use Rattle.virtual_run.specs.Visits.{net_of}
-use Rattle.profile_pool.specs.Summaries.{visit_bytes, visits_bytes}
+use Rattle.machines.specs.NetVisits.{net_of}
+use Rattle.net_visits.specs.Kept.{visit_bytes, visits_bytes}
 
 -- the visit at a place
-abbrev visit_at : List Visit → ℕ → Visit
+abbrev pub visit_at : List Visit → ℕ → Visit
 visit_at visits i = get_or visits i (record { point = record { 0 = 0 }; hart = record { 0 = 0 }; time = 0; delay = 0 })
 
 -- the bytes of one visit more

@@ -1,14 +1,18 @@
 -- Counts of visits, point by point.
-use Rattle.std.proofs.Common.{rules, ◌≡◌, ◌≤◌, ◌<◌, ℕ, ◌+◌, Bool, true, false, cond, ◌==◌, List, [], map, take, length, replicate, get_or, set, refl, sym, ap, add-zero, ◌∙◌, arith}
+use Rattle.std.proofs.Common.{rules, ◌≡◌, ◌≤◌, ◌<◌, ℕ, ◌+◌, Bool, true, false, cond, ◌&&◌, ◌==◌, nat_le, List, [], ◌∷◌, map, take, length, get_or, set, refl, sym, ap, ap₂, add-zero, ◌∙◌, arith}
 use Rattle.std.specs.Prelude.{count_by}
-use Rattle.std.proofs.lemmas.List.{length-set, length-take, length-replicate, get_or-replicate, get_or-set_same, get_or-set_other, get_or_read}
-use Rattle.std.proofs.lemmas.List.Folds.{fold-map}
+use Rattle.std.specs.List.{list_all, range_with_len}
+use Rattle.std.proofs.lemmas.Bool.{le-leb}
+use Rattle.std.proofs.lemmas.List.{length-set, length-take, get_or-set_same, get_or-set_other, get_or_read}
+use Rattle.std.proofs.lemmas.List.Folds.{fold-map, list_all-map}
 use Rattle.std.proofs.lemmas.List.FromFn.{fill_by_all}
 use Rattle.std.proofs.lemmas.List.Sums.{count_by-le-length, count_by_more_yes, count_by_more_no}
+use Rattle.coz_types.specs.declared.TheConstants.{GREATEST_COUNT}
 use Rattle.coz_types.specs.declared.record.Visit.{Visit}
 use Rattle.machines.specs.Shortened.{NetVisit}
-use Rattle.virtual_run.specs.Visits.{net_of}
-use Rattle.profile_pool.specs.Summaries.{counts_of}
+use Rattle.machines.specs.NetVisits.{net_of}
+use Rattle.net_visits.specs.Kept.{counts_of}
+use Rattle.net_visits.proofs.Hashing.{visit_at}
 
 abbrev is_at : ℕ → Visit → Bool
 is_at point visit = visit.point.0 == point
@@ -18,9 +22,6 @@ pub record AreCounts (points : ℕ) (visits : List Visit) (counts : List ℕ) : 
   pub size : length counts ≡ points
   pub each : (point : ℕ) → point < points → get_or counts point 0 ≡ count_by (is_at point) visits
 
-pub none_yet : (points : ℕ) → AreCounts points [] (replicate points 0)
-none_yet points = record { size = length-replicate points 0; each = λ point below. get_or-replicate points point 0 0 below }
-
 -- a count is no more than the visits
 pub count_fits : (points : ℕ) (visits : List Visit) (counts : List ℕ) (i at n : ℕ) → AreCounts points (take i visits) counts
     → at < points → n ≡ get_or counts at n → n ≤ i
@@ -29,7 +30,7 @@ count_fits points visits counts i at n are below read =
 
 -- the point of the visit at a place
 abbrev pub point_at : List Visit → ℕ → ℕ
-point_at visits i = (get_or visits i (record { point = record { 0 = 0 }; hart = record { 0 = 0 }; time = 0; delay = 0 })).point.0
+point_at visits i = (visit_at visits i).point.0
 
 at_point : (visits : List Visit) (i point : ℕ) (b : Bool) → i < length visits → (point_at visits i == point) ≡ b
     → count_by (is_at point) (take (i + 1) visits) ≡ count_by (is_at point) (take i visits) + cond b 1 0
@@ -70,3 +71,14 @@ pub counts_are : (points : ℕ) (visits : List Visit) (counts : List ℕ) → Ar
 counts_are points visits counts are =
     fill_by_all (λ (point : ℕ). count_by (λ (visit : NetVisit). visit.point == point) (map net_of visits)) counts points 0 are.size
     (λ point below. are.each point below ∙ sym (fold-map (λ (n : ℕ) (visit : NetVisit). n + cond (visit.point == point) 1 0) net_of 0 visits))
+
+all_pass : (p : ℕ → Bool) → ((n : ℕ) → p n ≡ true) → (ns : List ℕ) → list_all p ns ≡ true
+all_pass p each [] = refl
+all_pass p each (n ∷ ns) = ap₂ (λ (a b : Bool). a && b) (each n) (all_pass p each ns)
+
+-- so few visits have small counts
+pub counts_within : (points : ℕ) (visits : List NetVisit) → length visits ≤ 1048576 → list_all (λ (n : ℕ). nat_le n GREATEST_COUNT) (counts_of points visits) ≡ true
+counts_within points visits few =
+    let at : ℕ → ℕ = λ point. count_by (λ (visit : NetVisit). visit.point == point) visits in
+    list_all-map (λ (n : ℕ). nat_le n GREATEST_COUNT) at (range_with_len 0 points)
+    ∙ all_pass (λ (point : ℕ). nat_le (at point) GREATEST_COUNT) (λ point. le-leb _ _ (omega (arith, count_by-le-length (λ (visit : NetVisit). visit.point == point) visits))) (range_with_len 0 points)

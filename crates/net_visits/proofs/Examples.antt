@@ -2,7 +2,7 @@
 use Rattle.std.proofs.Common.{◌≡◌, [], ◌∷◌, refl}
 use Rattle.machines.specs.Delayed.{Visit}
 use Rattle.machines.specs.Records.{net_visit}
-use Rattle.profile_pool.specs.Summaries.{visit_bytes, counts_of}
+use Rattle.net_visits.specs.Kept.{visit_bytes, counts_of}
 
 -- a visit of point 0 by hart 1 at the real time 4550, when the delay was 50
 abbrev seen : Visit
