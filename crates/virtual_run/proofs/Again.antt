@@ -21,6 +21,7 @@ use Rattle.virtual_run.specs.Engine.{events_of, IsReached, state_of}
 use Rattle.virtual_run.specs.Credited.{Holds}
 use Rattle.virtual_run.specs.Seen.{experiment_with}
 use Rattle.virtual_run.specs.DelayedRun.{IsPaced}
+use Rattle.virtual_run.proofs.Choices.{valid_with}
 use Rattle.virtual_run.proofs.Begin.{one_at_most}
 use Rattle.virtual_run.proofs.Law.{first_made}
 
@@ -170,16 +171,7 @@ module _ (image : ImageParts) (input : List ℕ) (setting : Setting) (engine : E
   first_begins = refl
 
   valid_new : IsChoice (lined_setting line setting).choice
-  valid_new = record {
-    speedup = p.valid.speedup;
-    some_budget = p.valid.some_budget;
-    few = p.valid.few;
-    some_output = p.valid.some_output;
-    output = p.valid.output;
-    some_visits = p.valid.some_visits;
-    visits = p.valid.visits;
-    layout = p.valid.layout;
-  }
+  valid_new = valid_with setting.choice line p.valid
 
   pub again_paced : (new : Engine) → new ≡ new_engine → IsPaced image input (lined_setting line setting) new credits now
   again_paced new is =

@@ -15,7 +15,7 @@ use Rattle.virtual_run.specs.declared.engine.Retired.{Retired as RetiredHart}
 use Rattle.virtual_run.specs.declared.engine.Engine.{Engine}
 use Rattle.virtual_run.specs.Begin.{started_by}
 use Rattle.virtual_run.specs.Credited.{with_credits, with_starts, with_rest, with_begun, moment_of, AllBelow, AllRun, CanBegin, CanWake, CanSettle, CanFollow, IsAlone}
-use Rattle.virtual_run.proofs.CreditedLists.{among_first, among_rest, credits_length, raises_length, starts_run}
+use Rattle.virtual_run.proofs.CreditedLists.{among_rest, credits_length, raises_length, starts_run}
 
 -- the retiring hart, if it goes on, and then the others
 abbrev pub started_again : ℕ → Bool → Delays → Delays
@@ -39,10 +39,6 @@ again_length hart false c below = refl
 pub others_among : (goes : Bool) (hart k : ℕ) (others : List ℕ) → is_among k others ≡ true → is_among k (if goes then hart ∷ others else others) ≡ true
 others_among true hart k others e = among_rest hart k others e
 others_among false hart k others e = e
-
-again_among : (goes : Bool) (hart : ℕ) (others : List ℕ) → goes ≡ true → is_among hart (if goes then hart ∷ others else others) ≡ true
-again_among true hart others e = among_first hart others
-again_among false hart others e = absurd (let no : false ≡ true = e in cc)
 
 module _ (c : Delays) (g : Guest) (hart : ℕ) (fate : Fate) (others raisers : List ℕ) (can : CanBegin c g hart fate others raisers) where
   same_places : length (with_credits others c).harts ≡ length c.harts

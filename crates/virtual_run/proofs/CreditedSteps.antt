@@ -8,7 +8,7 @@ use Rattle.machines.specs.Guest.{Experiment, Retirement, IsLawful, started_harts
 use Rattle.machines.specs.Delayed.{Account, Load, Hart, Visit, Delayed, total, idle_hart, is_ready, is_running, account_of, over_or, begin, retirement, leave, give_credit, ending, retire, wake}
 use Rattle.machines.specs.Shortened.{Shortened, Turn, next_turn, shortened}
 use Rattle.machines.specs.Agreement.{Agrees}
-use Rattle.machines.specs.Steps.{Passes, sit_hart, jump}
+use Rattle.machines.specs.Steps.{Passes, jump}
 use Rattle.machines.specs.Standing.{standing}
 use Rattle.machines.proofs.Maps.{change_same, change_other}
 use Rattle.machines.proofs.Turns.{first_is, turn_has}
@@ -47,13 +47,6 @@ unpaused_ready hart r = go hart.account hart.load r
     go : (a : Account) (o : Option Load) → is_ready (record { account = a; load = o }) ≡ true → pause_of (without_work (record { account = a; load = o })) ≡ 0
     go a None r = refl
     go a (Some l) r = let none : l.work + l.pause ≡ 0 = eqb-true _ _ r in omega arith
-
-runs_sat : (n : ℕ) (hart : Hart) → is_running (sit_hart n hart) ≡ is_running hart
-runs_sat n hart = go hart.account hart.load
-  where
-    go : (a : Account) (o : Option Load) → is_running (sit_hart n (record { account = a; load = o })) ≡ is_some o
-    go a None = refl
-    go a (Some l) = refl
 
 -- a run that ends with a retirement, or goes on
 over_ended : {G : Type 0} (o : Option Ending) (d next : Delayed G) (a : Ending) → next.ending ≡ None → (over_or o d next).ending ≡ Some a → over_or o d next ≡ record d { ending = Some a }

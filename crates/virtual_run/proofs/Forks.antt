@@ -30,6 +30,7 @@ use Rattle.virtual_run.specs.Credited.{raise_ticks, with_one_raise, with_raises,
 use Rattle.virtual_run.specs.Seen.{experiment_with}
 use Rattle.virtual_run.specs.DelayedRun.{IsPaced}
 use Rattle.virtual_run.specs.Lead.{with_sooner}
+use Rattle.virtual_run.proofs.Choices.{valid_at}
 use Rattle.virtual_run.proofs.Keys.{has_place}
 use Rattle.virtual_run.proofs.Credited.{among_filter, among_more, held_raise}
 use Rattle.virtual_run.proofs.CreditedLists.{raises_length}
@@ -157,16 +158,7 @@ module _ (image : ImageParts) (input : List ℕ) (setting : Setting) (engine : E
     new_choice = record setting.choice { speedup = q }
 
     valid_new : IsChoice new_choice
-    valid_new = record {
-      speedup = small;
-      some_budget = p.valid.some_budget;
-      few = p.valid.few;
-      some_output = p.valid.some_output;
-      output = p.valid.output;
-      some_visits = p.valid.some_visits;
-      visits = p.valid.visits;
-      layout = p.valid.layout;
-    }
+    valid_new = valid_at setting.choice q small p.valid
 
     abbrev ticks : ℕ → ℕ
     ticks = raise_ticks engine.guest q

@@ -1,5 +1,5 @@
 -- Machines at speedup 0 up to the first start, and the leads that they are.
-use Rattle.std.proofs.Common.{◌≡◌, ℕ, suc, ◌+◌, ◌-◌, ◌*◌, ◌≤◌, ◌<◌, ◌==◌, ◌&&◌, Bool, true, false, not, List, [], ◌∷◌, length, filter, refl, sym, ap, ap₂, ◌∙◌, subst, arith, Option, Some, None, is_some, IsSome, eqb-true, zero-add}
+use Rattle.std.proofs.Common.{◌≡◌, ℕ, suc, ◌+◌, ◌-◌, ◌*◌, ◌<◌, ◌==◌, ◌&&◌, Bool, true, false, not, List, [], ◌∷◌, length, filter, refl, sym, ap, ap₂, ◌∙◌, subst, arith, Option, Some, None, is_some, IsSome, eqb-true, zero-add}
 use Rattle.std.proofs.Math.Dec.{eqb-suc-zero}
 use Rattle.coz_types.specs.declared.ending.Ending.{Ending}
 use Rattle.coz_types.specs.declared.LineId.{LineId}
@@ -19,6 +19,7 @@ use Rattle.virtual_run.specs.declared.engine.Engine.{Engine}
 use Rattle.virtual_run.specs.DelayedRun.{IsPaced}
 use Rattle.virtual_run.specs.Seen.{Seen, experiment_with, experiment_of}
 use Rattle.virtual_run.specs.Run.{IsChoice}
+use Rattle.virtual_run.proofs.Choices.{valid_at, valid_with}
 use Rattle.virtual_run.specs.Engine.{events_of}
 use Rattle.virtual_run.specs.Lead.{arguments, is_unstarted, starts_next, Stands, IsShared, IsLead}
 use Rattle.virtual_run.proofs.CreditedRun.{seen_of, ending_now, events_now, starts_now, IsAt, at_next, at_smaller, going_first}
@@ -242,30 +243,6 @@ lead_first m valid whole first =
       stands = first ∙ ap (standing x) (sym zeroth);
       none = ap (λ (n : ℕ). (before x n).state.starts) zeroth ∙ ap (λ (b : Before Guest). b.state.starts) (before_first x) ∙ first_starts x;
     }
-
-valid_at : (choice : Choice) (q : ℕ) → q ≤ 95 → IsChoice choice → IsChoice (record choice { speedup = q })
-valid_at choice q small valid = record {
-  speedup = small;
-  some_budget = valid.some_budget;
-  few = valid.few;
-  some_output = valid.some_output;
-  output = valid.output;
-  some_visits = valid.some_visits;
-  visits = valid.visits;
-  layout = valid.layout;
-}
-
-valid_with : (choice : Choice) (line : LineId) → IsChoice choice → IsChoice (record choice { selected = Some line })
-valid_with choice line valid = record {
-  speedup = valid.speedup;
-  some_budget = valid.some_budget;
-  few = valid.few;
-  some_output = valid.some_output;
-  output = valid.output;
-  some_visits = valid.some_visits;
-  visits = valid.visits;
-  layout = valid.layout;
-}
 
 -- what contracts see of a lead
 abbrev pub lead_view : Seen (Delayed Guest) → ℕ → Seen (Before Guest)

@@ -14,6 +14,7 @@ pub mod CreditedBegin
 pub mod CreditedRun
 pub mod Advance
 pub mod Sooner
+mod Choices
 pub mod Forks
 pub mod Again
 pub mod Leads

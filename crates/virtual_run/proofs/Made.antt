@@ -6,7 +6,6 @@ use Rattle.std.proofs.lemmas.List.{length-set}
 use Rattle.coz_types.specs.declared.TheConstants.{HARTS}
 use Rattle.coz_types.specs.declared.ending.Ending.TheVariants.{Clock}
 use Rattle.coz_types.specs.Image.{ImageParts}
-use Rattle.machines.specs.declared.Fate.{Fate}
 use Rattle.machines.specs.declared.Fate.TheVariants.{Sleeps, Ends}
 use Rattle.machines.specs.Guest.{Retirement}
 use Rattle.guest_memory.specs.declared.Layout.{Layout}
@@ -38,9 +37,6 @@ Grows n r = length r.guest.harts ≡ places r.others n
 -- no hart is made
 answer_grows : (z : ℤ) (h n : ℕ) (g : Guest) → length g.harts ≡ n → Grows n (with_answer z h g)
 answer_grows z h n g same = length-set g.harts h _ ∙ same
-
-ends_grows : (n : ℕ) (g : Guest) (fate : Fate) → length g.harts ≡ n → Grows n (retirement g fate [])
-ends_grows n g fate same = same
 
 checked : (b : Bool) (z : ℤ) (h : ℕ) (g : Guest) (r : Retirement Guest) → Grows (length g.harts) r → Grows (length g.harts) (if b then with_answer z h g else r)
 checked true z h g r rest = answer_grows z h (length g.harts) g refl
@@ -125,10 +121,6 @@ clock_gettime_grows g h v =
     either (Grows (length g.harts)) (not (a0 g h == 0 || a0 g h == 1)) (unsupported g h) _ refl
     (checked (not (is_writable (memory_of g) (a1 g h) 16)) bad_address h g _
     (answer_grows (pos 0) h (length g.harts) (with_stored (a1 g h) (span_bytes (clock_at v)) g) refl))
-
--- a hart is made
-SameCount : Guest → Guest → Type 0
-SameCount g after = length after.harts ≡ length g.harts
 
 word_count : (address n : ℕ) (g : Guest) → length (with_word address n g).harts ≡ length g.harts
 word_count address n g = either (λ (after : Guest). length after.harts ≡ length g.harts) (is_writable (memory_of g) address 4) (with_stored address (to_le_bytes w32 n) g) g refl refl

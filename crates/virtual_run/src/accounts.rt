@@ -208,29 +208,8 @@ fn account_retirement(
     }
 }
 
-/// The same for a hart that goes on.
-#[inline(never)]
-fn account_going(credits: &mut Credits, engine: &Engine, hart: HartId, speedup: u8, now: Tick)
-    requires below { hart.0 < length credits.old.harts }
-    requires later { credits.old.latest ≤ now }
-    requires running { IsTrue (is_running (hart_at credits.old hart.0)) }
-    requires unpaused { pause_of (hart_at (at now credits.old) hart.0) ≡ 0 }
-    requires can { engine.now.ending ≡ None →
-        CanBegin (with_rest hart.0 Fate.Goes now credits.old)
-        engine.now.guest hart.0 Fate.Goes engine.now.started engine.now.selected }
-    requires speedup { speedup ≤ GREATEST_SPEEDUP }
-    ensures { credits.new ≡ credits_after engine.now.ending (raise_ticks engine.now.guest speedup)
-        hart.0 Fate.Goes engine.now.started engine.now.selected
-        (with_rest hart.0 Fate.Goes now credits.old) }
-{
-    let retired = Retired {
-        hart,
-        fate: Fate::Goes,
-    };
-    account_retirement(credits, engine, retired, speedup, now);
-}
-
-/// The same, with a shorter way where nothing else begins, as after most retirements.
+/// The same for a hart that goes on, with a shorter way where nothing else begins,
+/// as after most retirements.
 #[inline(always)]
 fn account_plain(credits: &mut Credits, engine: &Engine, hart: HartId, speedup: u8, now: Tick)
     requires below { hart.0 < length credits.old.harts }
@@ -248,7 +227,11 @@ fn account_plain(credits: &mut Credits, engine: &Engine, hart: HartId, speedup: 
     if is_alone(engine) {
         go_on(credits, engine, hart, speedup, now);
     } else {
-        account_going(credits, engine, hart, speedup, now);
+        let retired = Retired {
+            hart,
+            fate: Fate::Goes,
+        };
+        account_retirement(credits, engine, retired, speedup, now);
     }
 }
 
