@@ -57,9 +57,6 @@ ends_put {holds = holds} {faults = faults} {new = new} {answer = answer} put = r
   ends = λ start text before. subst (Puts holds faults start new answer) before.whole (puts_then before.puts put);
 }
 
-pub ends_stop : {S : Type 0} {holds : S → Option (List ℕ)} {faults : S → ℕ} (sink : S) → Ends holds faults sink sink None Failed
-ends_stop sink = record { ends = λ start text before. before }
-
 -- all that went through a buffer is put
 pub puts_whole : {S : Type 0} {holds : S → Option (List ℕ)} {faults : S → ℕ} {old mid new : S} {rest : Rest} {answer : PutAnswer} {bytes : List ℕ} → Gathers holds faults old mid (Some []) rest bytes → Ends holds faults mid new rest answer → Puts holds faults old new answer bytes
 puts_whole {old = old} {bytes = bytes} all last = last.ends old bytes (all.goes_on old [] (record { before = []; whole = refl; puts = puts_nothing old }))

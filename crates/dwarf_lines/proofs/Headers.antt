@@ -24,9 +24,6 @@ field_ok (Err d) x e = absurd cc
 pub ok_is : {A : Type 0} (x y : A) → (let done : A → Result A LineFault = λ z. Ok z in done x ≡ done y) → x ≡ y
 ok_is x y e = cc
 
-IsByte : ℕ → List ℕ → Type 0
-IsByte n code = code ≡ n ∷ []
-
 pub one_takes : (a b : Ahead) (n : ℕ) → IsBytes a.bytes → byte a ≡ Ok (n, b) → Consumes (λ code. code ≡ n ∷ []) a b
 one_takes a b n fits e = byte_takes a b n fits (field_ok (number_at w8 a) (n, b) e)
 

@@ -55,9 +55,3 @@ pub summed : (ss : List Segment) → sum_by pages ss ≡ total ss
 summed ss =
     let whole : sum_by pages ss ≡ 0 + total ss = folded ss 0 in
     omega arith
-
-pub sum_more : (s : Segment) (ss : List Segment) → sum_by pages (s ∷ ss) ≡ sum_by pages ss + pages s
-sum_more s ss =
-    let more : sum_by pages (s ∷ ss) ≡ pages s + total ss = summed (s ∷ ss) in
-    let so_far : sum_by pages ss ≡ total ss = summed ss in
-    omega arith

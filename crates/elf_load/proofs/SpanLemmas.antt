@@ -41,10 +41,6 @@ either_is : (a b : Bool) → (a || b) ≡ true → (a ≡ true) ⊎ (b ≡ true)
 either_is true b e = inl refl
 either_is false b e = inr e
 
-neither_is : (a b : Bool) → (a || b) ≡ false → (a ≡ false) × (b ≡ false)
-neither_is true b e = absurd cc
-neither_is false b e = (refl, e)
-
 found_among : (g : ℕ → Option ℕ) (s : Segment) (earlier : List Segment) → AllByRecursion (λ e. g (first_page e) ≡ Some (end_page e)) earlier → list_any (share_page s) earlier ≡ true → HasPageOf g s
 found_among g s [] held any = absurd cc
 found_among g s (e ∷ es) held any =

@@ -5,10 +5,6 @@ pub both_true : (a b : Bool) → (a && b) ≡ true → (a ≡ true) × (b ≡ tr
 both_true true b e = (refl, e)
 both_true false b e = absurd cc
 
-pub not_false : (b : Bool) → not b ≡ true → b ≡ false
-not_false true e = absurd cc
-not_false false e = refl
-
 pub not_not : (b : Bool) → false ≡ not b → b ≡ true
 not_not true e = refl
 not_not false e = absurd cc

@@ -1,17 +1,16 @@
 -- The lines of a list's pieces, one after the other, and where the first missing piece stands.
-use Rattle.std.proofs.Common.{◌≡◌, ℕ, suc, ◌+◌, ◌-◌, ◌<◌, inl, inr, Bool, true, false, not, ◌&&◌, List, [], ◌∷◌, ◌++◌, length, take, drop, cond, Option, Some, None, Result, Ok, Err, All, refl, sym, ap, ◌∙◌, subst, arith, length-append}
+use Rattle.std.proofs.Common.{◌≡◌, ℕ, suc, ◌+◌, ◌<◌, inl, inr, Bool, true, false, not, ◌&&◌, List, [], ◌∷◌, ◌++◌, length, take, cond, Option, Some, None, Result, Ok, Err, All, refl, sym, ap, ◌∙◌, subst, arith, length-append}
 use Rattle.std.specs.List.{list_all, cons_option, filter_map, find, position, prefix_len, sum_by}
 use Rattle.std.specs.Option.{is_none}
-use Rattle.std.proofs.lemmas.List.{append_assoc, append-nil}
+use Rattle.std.proofs.lemmas.List.{append_assoc}
 use Rattle.std.proofs.lemmas.List.Sums.{sum_by-cons}
 use Rattle.std.proofs.lemmas.List.Quantifiers.{position-Some}
-use Rattle.std.proofs.Math.Seq.{take-append_seam, drop-append_seam}
 use Rattle.coz_types.specs.declared.LineId.{LineId}
 use Rattle.line_index.specs.Changes.{or_else}
 use Rattle.line_index.specs.Lines.{Line, is_line_named as is_whole, is_line_below, position_named}
 use Rattle.line_index.proofs.Pieces.{Among, among_map}
 use Rattle.experiment_plan.specs.Lists.{Text, is_line, line_parts, pieces, pieces_left, IsCut}
-use Rattle.experiment_plan.specs.Selected.{id_of, ids, line_found, is_missing, rising_numbers, selected, bytes_before, IsMissingAt}
+use Rattle.experiment_plan.specs.Selected.{id_of, ids, line_found, is_missing, rising_numbers, selected, bytes_before}
 use Rattle.experiment_plan.proofs.Among.{all_among}
 use Rattle.experiment_plan.proofs.Rising.{of_rising}
 
@@ -45,11 +44,6 @@ before_found lines piece left n there =
     ∙ ap (λ j. sum_by (λ (p : Text). length p + 1) (take j (piece ∷ left))) on
     ∙ sum_by-cons (λ (p : Text). length p + 1) piece (take k left)
 
-before_missing : (lines : List Line) (piece : Text) (left : List Text) → line_found lines piece ≡ None → bytes_before lines (piece ∷ left) ≡ 0
-before_missing lines piece left missing =
-    let k = prefix_len (λ p. not (is_missing lines p)) left in
-    ap (λ o. sum_by (λ (p : Text). length p + 1) (take (cond (not (is_none o)) (1 + k) 0) (piece ∷ left))) missing
-
 stands_with : (lines : List Line) (text list piece : Text) (rest : Option Text) (n : ℕ) → line_found lines piece ≡ Some n → pieces list ≡ piece ∷ pieces_left rest → IsCut list piece rest → Stands lines text (Some list) → Stands lines text rest
 stands_with lines text list piece None n there cut is stands = tt
 stands_with lines text list piece (Some rest) n there cut is stands =
@@ -76,39 +70,7 @@ continues_with lines text list piece rest put new n there is cut part before =
 
 -- ---- a piece that is missing
 
-tail_of : (list piece : Text) (rest : Option Text) → IsCut list piece rest → (tail : Text) × (list ≡ piece ++ tail)
-tail_of list piece None is = ([], is ∙ sym (append-nil piece))
-tail_of list piece (Some rest) is = (44 ∷ rest, is)
-
-first_missing : (lines : List Line) (text : Text) (piece : Text) → find (is_missing lines) (pieces text) ≡ Some piece → selected lines text ≡ Err piece
-first_missing lines text piece e =
-    let of : Option Text → Result (List ℕ) Text = λ o. elim o [ Some p ↦ Err p | None ↦ Ok (rising_numbers (filter_map (line_found lines) (pieces text))) ] in
-    ap of e
-
-pub missing_at : (lines : List Line) (text list piece : Text) (rest : Option Text) (put : List ℕ) → line_found lines piece ≡ None → pieces list ≡ piece ∷ pieces_left rest → IsCut list piece rest
-    → Continues lines text put (Some list) → IsMissingAt lines text (length text - length list) (length piece)
-missing_at lines text list piece rest put missing cut part before =
-    let front = before.3.0 in
-    let tail = tail_of list piece rest part in
-    let sizes : length text ≡ length front + length list = ap length before.3.1 ∙ length-append front list in
-    let start : length text - length list ≡ length front = omega (arith, sizes) in
-    let size : length list ≡ length piece + length tail.0 = ap length tail.1 ∙ length-append piece tail.0 in
-    let none : bytes_before lines (pieces list) ≡ 0 = ap (bytes_before lines) cut ∙ before_missing lines piece (pieces_left rest) missing in
-    let there : take (length piece) (drop (length text - length list) text) ≡ piece =
-    ap (λ k. take (length piece) (drop k text)) start ∙ ap (λ (t : Text). take (length piece) (drop (length front) t)) before.3.1
-    ∙ ap (take (length piece)) (drop-append_seam front list ∙ tail.1) ∙ take-append_seam piece tail.0 in
-    let first : find (is_missing lines) (pieces text) ≡ Some piece =
-    sym before.1 ∙ ap (find (is_missing lines)) cut ∙ ap (λ o. cond (is_none o) (Some piece) (find (is_missing lines) (pieces_left rest))) missing in
-    record {
-      place = omega (arith, start, none, before.3.2);
-      piece = first_missing lines text piece first ∙ ap (λ (t : Text). Err t) (sym there);
-      within = omega (arith, sizes, size);
-    }
-
 -- ---- all pieces are found
-
-pub all_named : (lines : List Line) (text : Text) (put : List ℕ) → Continues lines text put None → (find (is_missing lines) (pieces text) ≡ None) × (put ≡ filter_map (line_found lines) (pieces text))
-all_named lines text put all = (sym all.1, sym (append-nil put) ∙ all.2)
 
 pub all_selected : (lines : List Line) (text : Text) (named new : List ℕ) → find (is_missing lines) (pieces text) ≡ None → named ≡ filter_map (line_found lines) (pieces text) → new ≡ rising_numbers named → selected lines text ≡ Ok new
 all_selected lines text named new none is sorted =

@@ -1,5 +1,5 @@
 -- The guest keeps the rules of a guest of the machines.
-use Rattle.std.proofs.Common.{◌≡◌, ℕ, zero, suc, ◌≤◌, ◌<◌, ◌^◌, ◌==◌, Bool, true, false, ◌||◌, if◌then◌else◌, List, Option, IsNone, refl, sym, ap, ◌∙◌, arith}
+use Rattle.std.proofs.Common.{◌≡◌, ℕ, zero, suc, ◌≤◌, ◌^◌, ◌==◌, Bool, true, false, ◌||◌, if◌then◌else◌, List, Option, refl, sym, ap, ◌∙◌, arith}
 use Rattle.std.proofs.lemmas.List.{length-set}
 use Rattle.std.proofs.lemmas.Bool.{eqb-true}
 use Rattle.std.proofs.Math.Dec.{eqb-suc-zero}
@@ -8,7 +8,7 @@ use Rattle.coz_types.specs.declared.ending.Trap.{Trap}
 use Rattle.coz_types.specs.Image.{ImageParts}
 use Rattle.machines.specs.declared.Fate.TheVariants.{Sleeps, Ends}
 use Rattle.machines.specs.Places.{is_among}
-use Rattle.machines.specs.Guest.{IsLawful, started_harts, own_ending}
+use Rattle.machines.specs.Guest.{IsLawful}
 use Rattle.guest_memory.specs.declared.Layout.{Layout}
 use Rattle.guest_calls.specs.Guest.{Guest, making, is_running, hart_at, is_sleeping, is_sleeping_status, is_timed, sleepers, with_wake, first_guest}
 use Rattle.guest_calls.specs.declared.hart.HartStatus.TheVariants.{Running}
@@ -20,16 +20,6 @@ pub use Rattle.guest_calls.proofs.Started.{running_low, timed_low}
 use Rattle.guest_calls.proofs.Waiting.{waiting-elsewhere, others-moving}
 use Rattle.guest_calls.proofs.RunningHarts.{made_timed, runs_awake, timed_put, asleep_less, status_at}
 use Rattle.guest_calls.proofs.Retired.{call_started, retire_started}
-
--- a hart that a retirement starts has its next turn after it
-pub started_timed : (g : Guest) (h v : ℕ) → IsOrderly g → is_running g h ≡ true → IsNone (own_ending (retire g h v).fate)
-    → (k : ℕ) → is_among k (started_harts h (retire g h v)) ≡ true → is_timed (retire g h v).guest k ≡ true
-started_timed g h v good runs none k among = (retire_started g h v good runs).timed none k ∙ rw among refl
-
-pub started_low : (g : Guest) (h v : ℕ) → IsOrderly g → is_running g h ≡ true → IsNone (own_ending (retire g h v).fate)
-    → (k : ℕ) → is_among k (started_harts h (retire g h v)) ≡ true → k < 256
-started_low g h v good runs none k among =
-    (timed_low (retire g h v).guest k (retire_started g h v good runs).orderly (started_timed g h v good runs none k among)).1
 
 -- the harts that a retirement makes or wakes neither ran nor slept before it
 pub others_idle : (g : Guest) (h v : ℕ) → IsOrderly g → is_running g h ≡ true → (k : ℕ) → is_among k (retire g h v).others ≡ true → is_timed g k ≡ false

@@ -1,7 +1,7 @@
 -- What the functions of the calls share.
 use borrow.Rule.Slice.PartMut.{put_mid, post_of}
 use Rattle.std.specs.Vec.{with_items}
-use Rattle.std.proofs.Common.{ℕ, zero, suc, ◌-◌, min, Vec, append_assoc, ⊎_elim, ◌≡◌, ◌≢◌, ◌+◌, ◌<◌, ◌≤◌, ◌^◌, ◌++◌, List, [], ◌∷◌, length, take, drop, set, Bool, true, false, if◌then◌else◌, Option, Some, None, refl, sym, ap, ◌∙◌, arith, pos, ℤ, replicate, get_or}
+use Rattle.std.proofs.Common.{ℕ, zero, suc, ◌-◌, min, Vec, append_assoc, ⊎_elim, ◌≡◌, ◌≢◌, ◌+◌, ◌<◌, ◌≤◌, ◌^◌, ◌++◌, List, [], ◌∷◌, length, take, drop, set, Bool, true, false, if◌then◌else◌, Option, Some, None, refl, sym, ap, ◌∙◌, arith, pos, replicate, get_or}
 use Rattle.std.proofs.lemmas.Bool.{ne_eqb}
 use Rattle.std.proofs.lemmas.Bool.{cases_lt, false≢true}
 use Rattle.std.proofs.lemmas.List.{get_or_past, length-append, length-take, length-drop, take_all, take-append-le, with_items_is}
@@ -14,7 +14,7 @@ use Rattle.machines.specs.Guest.{Retirement}
 use Rattle.guest_memory.specs.declared.Layout.{Layout}
 use Rattle.guest_memory.specs.Memory.{MemoryMap, with_bytes, is_readable, byte_at, bytes_at, first_memory}
 use Rattle.guest_memory.proofs.Runs.{allowed_from, allowed_each, length-bytes_at, same_regions-with_bytes, same_regions-first}
-use Rattle.guest_areas.specs.Space.{RegionMap, Space, Answered, SharesRegions, space}
+use Rattle.guest_areas.specs.Space.{RegionMap, Space, SharesRegions, space}
 use Rattle.guest_areas.specs.Entry.{stack_pointer, first_space}
 use Rattle.guest_futex.specs.Waiters.{Waiter}
 use Rattle.rv_execute.specs.Reservations.{Reservations}
@@ -22,7 +22,7 @@ use Rattle.guest_calls.specs.declared.hart.Hart.{Hart}
 use Rattle.guest_calls.specs.Output.{Written, with_bytes_written}
 use Rattle.guest_calls.specs.Guest.{Guest, IsMade, no_hart, is_running, is_running_status, hart_from, first_hart, first_guest}
 use Rattle.guest_calls.specs.Kept.{guest_of}
-use Rattle.guest_calls.specs.Calls.{retirement, number, with_reply, with_answer, of_space, leave, exit, is_cleared, woken_at_exit, cleared, unsupported, calls, call_of}
+use Rattle.guest_calls.specs.Calls.{retirement, number, with_reply, with_answer, leave, exit, is_cleared, woken_at_exit, cleared, unsupported, calls, call_of}
 
 -- an answer that fits stands as it is
 pub answered_count : (n h : ℕ) (g : Guest) → n < 2 ^ 64 → with_reply n h g ≡ with_answer (pos n) h g
@@ -45,10 +45,6 @@ pub first-again : (m : MemoryMap) (image : ImageParts) (layout : Layout) → m �
 first-again m image layout e =
     let kept = same_regions-first image layout in
     e ∙ ap (first_memory image) (sym (ap (λ (x : MemoryMap). x.layout) e ∙ kept.1))
-
--- a call of the areas, and its answer
-pub of_space-is : (g : Guest) (h : ℕ) (a : Answered) (z : ℤ) (after : Guest) → after ≡ record g { space = a.space } → z ≡ a.answer → with_answer z h after ≡ of_space g h a
-of_space-is g h a z after e f = ap (λ (x : Guest). with_answer z h x) e ∙ ap (λ (x : ℤ). with_answer x h (record g { space = a.space })) f
 
 each_case : (h : ℕ) (b : Bool) (hs : List ℕ) (x y : Guest) → leave h (if b then hs else []) (if b then x else y) ≡ (if b then leave h hs x else leave h [] y)
 each_case h true hs x y = refl

@@ -63,10 +63,6 @@ passed-kept {address} {count} {i} {kept} {wanted} {old} {places} {before} {into}
       still = ap (λ xs. xs ++ left_by address more wanted) longer ∙ append_assoc (waiters_of (take kept places)) (waiter_of w ∷ []) (left_by address more wanted) ∙ ap (λ xs. waiters_of (take kept places) ++ xs) (sym leaves) ∙ p.still;
     }
 
--- before the first place
-pub passed-none : (address : ℕ) (old : List Place) (count : ℕ) (before : List ℕ) → Passed address old count before 0 0 count old before
-passed-none address old count before = record { within = omega arith; same = refl; rest = refl; taken = refl; still = refl }
-
 -- there is room for the place's hart
 pub passed-room : {address count i kept wanted : ℕ} {old places : List Place} {before into : List ℕ} (d : Place) → Passed address old count before i kept wanted places into → length before + length (woken_harts address (waiters_of old) count) ≤ 256 → i < length old → 0 < wanted → (get_or places i d).address ≡ address → length into < 256
 passed-room {address} {count} {i} {kept} {wanted} {old} {places} {before} {into} d p room below some here =

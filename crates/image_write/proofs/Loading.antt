@@ -229,9 +229,6 @@ rows_none unit p file content is small at same =
 
 -- ---- the whole
 
-pages_of : (n : ℕ) → (0x10000 + n + 4095) / 4096 - 16 ≡ (n + 4095) / 4096
-pages_of n = omega arith
-
 text_made : (p : Program) (file : List ℕ) → 4096 ≤ length file → area_of file (text_header p) ≡ text_area p
 text_made p file long =
     let size : 4096 * pages (text_header p) ≡ whole_pages p = omega arith in

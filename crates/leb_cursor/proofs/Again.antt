@@ -1,10 +1,10 @@
 -- What is spelled so is read again, whatever follows.
 use Rattle.std.proofs.Common.{◌≡◌, ℕ, suc, ◌+◌, ◌^◌, ◌<◌, true, false, ◌==◌, ne_eqb, List, [], ◌∷◌, ◌++◌, length, take, drop, ℤ, Some, position, Ok, refl, ap, ◌∙◌, arith, nat_le, append_assoc}
 use Rattle.std.specs.List.{AllByRecursion}
-use Rattle.std.specs.Int.{Width, w8, w16, w32, w64, byte_len, from_le_bytes, to_le_bytes}
+use Rattle.std.specs.Int.{Width, w8, w16, w32, byte_len, from_le_bytes, to_le_bytes}
 use Rattle.std.proofs.lemmas.Bool.{le-leb}
 use Rattle.std.proofs.lemmas.List.{take_at, drop_at, length-append}
-use Rattle.std.proofs.lemmas.Nat.{from_le_bytes-to_le_bytes_2, from_le_bytes-to_le_bytes_4, from_le_bytes-to_le_bytes_8}
+use Rattle.std.proofs.lemmas.Nat.{from_le_bytes-to_le_bytes_2, from_le_bytes-to_le_bytes_4}
 use Rattle.leb_cursor.specs.Ahead.{bytes_at, number_at, text_at, part_at, sleb_at}
 use Rattle.leb_cursor.proofs.Exact.{ahead, position_step, number_length_again, IsSleb}
 
@@ -29,9 +29,6 @@ half_again n place rest lt = number_back w16 n place (to_le_bytes w16 n) rest re
 
 pub word_again : (n place : ℕ) (rest : List ℕ) → n < 2 ^ 32 → number_at w32 (ahead place (to_le_bytes w32 n ++ rest)) ≡ Ok (n, ahead (place + 4) rest)
 word_again n place rest lt = number_back w32 n place (to_le_bytes w32 n) rest refl (from_le_bytes-to_le_bytes_4 n lt)
-
-pub double_again : (n place : ℕ) (rest : List ℕ) → n < 2 ^ 64 → number_at w64 (ahead place (to_le_bytes w64 n ++ rest)) ≡ Ok (n, ahead (place + 8) rest)
-double_again n place rest lt = number_back w64 n place (to_le_bytes w64 n) rest refl (from_le_bytes-to_le_bytes_8 n lt)
 
 pub zero_place : (x rest : List ℕ) → AllByRecursion (λ b. 0 < b) x → position (λ b. b == 0) ((x ++ 0 ∷ []) ++ rest) ≡ Some (length x)
 zero_place [] rest all = position_step (λ b. b == 0) 0 rest

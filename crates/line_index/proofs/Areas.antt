@@ -1,15 +1,9 @@
 -- What an image says of its areas.
-use Rattle.std.proofs.Common.{ℕ, ◌≤◌, ◌<◌, ◌^◌, List, [], ◌∷◌, length, sum_by, All, arith}
-use Rattle.std.proofs.lemmas.List.Elements.{All-weaker, All-head, All-tail}
+use Rattle.std.proofs.Common.{ℕ, ◌≤◌, List, [], ◌∷◌, length, sum_by, All, arith}
+use Rattle.std.proofs.lemmas.List.Elements.{All-head, All-tail}
 use Rattle.std.proofs.lemmas.List.Sums.{sum_by-cons}
 use Rattle.coz_types.specs.declared.image.Area.{Area}
-use Rattle.coz_types.specs.Image.{ImageParts, IsImage, IsAreaOf, area_end}
-
-low_end : (n : ℕ) → n ≤ 0x2000000000 → n < 2 ^ 64
-low_end n le = omega arith
-
-pub areas_end : (image : ImageParts) → IsImage image → All (λ (area : Area). area_end area < 2 ^ 64) image.areas
-areas_end image valid = All-weaker (IsAreaOf image.file) (λ (area : Area). area_end area < 2 ^ 64) (λ area is. low_end (area_end area) is.high) image.areas valid.each
+use Rattle.coz_types.specs.Image.{ImageParts, IsImage, IsAreaOf}
 
 some_size : (file : List ℕ) (area : Area) → IsAreaOf file area → 1 ≤ area.size
 some_size file area is = omega (arith, is.fill_starts, is.fill_starts_within)

@@ -23,12 +23,6 @@ pub record IsFirst (keys : List Key) (number : ℕ) (P : ℕ → Type 0) (line :
   pub there : (k : ℕ) → line ≡ Some k → IsOf keys number P k
   pub first : (j : ℕ) → IsOf keys number P j → (k : ℕ) × (line ≡ Some k) × (k ≤ j)
 
-pub first_of_none : (keys : List Key) (number : ℕ) (P : ℕ → Type 0) → ((p : ℕ) → P p → ⊥) → IsFirst keys number P None
-first_of_none keys number P none = record {
-  there = λ k e. let no : ⊥ = cc in absurd no;
-  first = λ j one. absurd (none (get_or keys j no_key).path one.2);
-}
-
 key_there : (keys : List Key) (number q j : ℕ) → (get_or keys j no_key).number ≡ number → q ≡ (get_or keys j no_key).path → is_key (with_path number q) (get_or keys j no_key) ≡ true
 key_there keys number q j e f =
     let key : Key = get_or keys j no_key in

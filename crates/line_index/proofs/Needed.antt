@@ -1,8 +1,8 @@
 -- Files that no row in force names may go without a name.
-use Rattle.std.proofs.Common.{◌≡◌, ◌≢◌, ℕ, suc, ◌⊎◌, ⊎_elim, ◌↔◌, Bool, true, false, List, [], ◌∷◌, Option, Some, None, cond, option_map, option_and_then, slice_get, All, Contains, nat_lt, ◌==◌, refl, sym, ap, ◌∙◌, subst}
+use Rattle.std.proofs.Common.{◌≡◌, ◌≢◌, ℕ, suc, ◌↔◌, Bool, true, false, List, [], ◌∷◌, Option, Some, None, cond, option_map, option_and_then, slice_get, All, Contains, nat_lt, ◌==◌, refl, sym, ap, ◌∙◌, subst}
 use Rattle.std.proofs.Math.Path.{fun_ext}
 use Rattle.std.specs.List.{AllByRecursion, position_from}
-use Rattle.std.proofs.lemmas.List.Elements.{All-weaker, recursion_from_All}
+use Rattle.std.proofs.lemmas.List.Elements.{recursion_from_All}
 use Rattle.std.proofs.lemmas.Option.{slice_get-map}
 use Rattle.coz_types.specs.declared.image.Area.{Area}
 use Rattle.dwarf_lines.specs.declared.Row.{Row}
@@ -21,14 +21,6 @@ abbrev pub Names : List Row → List FileName → List FileName → Option ℕ �
 Names rows named files position = option_and_then (slice_get named) (named_file rows position) ≡ option_and_then (slice_get files) (named_file rows position)
 
 -- ---- one more name
-
-kept_by : (old new files : List FileName) (file : Option ℕ) → ((k : ℕ) → (slice_get new k ≡ slice_get files k) ⊎ (slice_get new k ≡ slice_get old k)) → option_and_then (slice_get old) file ≡ option_and_then (slice_get files) file → option_and_then (slice_get new) file ≡ option_and_then (slice_get files) file
-kept_by old new files None others e = e
-kept_by old new files (Some k) others e = ⊎_elim (λ given. given) (λ same. same ∙ e) (others k)
-
-pub names_kept : (rows : List Row) (old new files : List FileName) (changes : List Change) → ((k : ℕ) → (slice_get new k ≡ slice_get files k) ⊎ (slice_get new k ≡ slice_get old k)) → All (λ (c : Change). Names rows old files c.position) changes → All (λ (c : Change). Names rows new files c.position) changes
-names_kept rows old new files changes others all =
-    All-weaker (λ (c : Change). Names rows old files c.position) (λ (c : Change). Names rows new files c.position) (λ c e. kept_by old new files (named_file rows c.position) others e) changes all
 
 -- ---- the line of an address
 

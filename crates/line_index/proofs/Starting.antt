@@ -17,12 +17,6 @@ pub record Starting (count : ℕ) (changes : List Change) (lists : List (List �
   pub as_many : length lists ≡ count
   pub each : (k : ℕ) → k < count → get_or lists k [] ++ starts k before ahead ≡ starts k None changes
 
-pub starting : (count : ℕ) (changes : List Change) (lists : List (List ℕ)) → length lists ≡ count → All (λ (list : List ℕ). list ≡ []) lists → Starting count changes lists None changes
-starting count changes lists many empty = record {
-  as_many = many;
-  each = λ k lt. ap (λ xs. xs ++ starts k None changes) (All-get_or (λ (list : List ℕ). list ≡ []) lists k [] (omega arith) empty);
-}
-
 differs : (line k : ℕ) → (line == k) ≡ false → k ≡ line → ⊥
 differs line k e same = let t : (line == k) ≡ true = grind (arith, nat_tests) in let no : true ≡ false = sym t ∙ e in cc
 

@@ -2,9 +2,9 @@
 use Rattle.std.proofs.Common.{⊎_elim, ◌≡◌, ℕ, zero, suc, ◌+◌, ◌≤◌, ◌<◌, ◌%◌, ◌==◌, Bool, true, false, not, List, [], ◌∷◌, ◌++◌, length, drop, Option, Some, None, nat_lt, nat_le, leb, cond, get_or, set, refl, sym, ap, ◌∙◌, subst, arith, append_assoc, All, IfSome}
 use Rattle.std.specs.Global.{Vec}
 use Rattle.std.specs.List.Sorted.{IsNonDecreasingBy, IsPartitionPoint}
-use Rattle.std.proofs.lemmas.Bool.{cases_lt, eqb-true}
+use Rattle.std.proofs.lemmas.Bool.{cases_lt}
 use Rattle.std.proofs.lemmas.Bool.Decides.{nat_tests}
-use Rattle.std.proofs.lemmas.List.{append-nil, get_or-set_same, get_or-set_other, length-map, length-set, drop_more, get_or-map, get_or_past, map-set}
+use Rattle.std.proofs.lemmas.List.{length-map, drop_more, get_or-map, get_or_past, map-set}
 use Rattle.std.proofs.lemmas.List.Elements.{All-get_or}
 use Rattle.coz_types.specs.declared.LineId.{LineId}
 use Rattle.line_index.specs.declared.changes.Change.{Change}
@@ -12,7 +12,7 @@ use Rattle.line_index.specs.declared.changes.LineChange.{LineChange}
 use Rattle.line_index.specs.Changes.{value_at, IsRising, place_of, change_of, changes_of}
 use Rattle.line_index.specs.Keys.{texts, is_at, IsBelow}
 use Rattle.line_index.specs.Turns.{Rises, is_different, is_within, turns, with_turn}
-use Rattle.line_index.proofs.Starting.{nothing_ahead, line_change_at}
+use Rattle.line_index.proofs.Starting.{line_change_at}
 
 -- ---- what the turns tell
 
@@ -112,71 +112,11 @@ odd_turns xs a n le h = odd_rest n ∙ odd_passed xs a n le h
 
 -- ---- noting them
 
-with_end : ℕ → Bool → List ℕ → List ℕ
-with_end a t xs = xs ++ cond t (a ∷ []) []
-
-differs : (line k : ℕ) → (line == k) ≡ false → k ≡ line → ⊥
-differs line k e same = let t : (line == k) ≡ true = grind (arith, nat_tests) in let no : true ≡ false = sym t ∙ e in cc
-
-turn_at : (line k a : ℕ) (lists : List (List ℕ)) (t : Bool) → line < length lists → (line == k) ≡ t → get_or (set lists line (get_or lists line [] ++ a ∷ [])) k [] ≡ get_or lists k [] ++ cond t (a ∷ []) []
-turn_at line k a lists true lt e =
-    let same : line ≡ k = eqb-true line k e in
-    subst (λ j. get_or (set lists line (get_or lists line [] ++ a ∷ [])) j [] ≡ get_or lists j [] ++ a ∷ []) same (get_or-set_same lists line (get_or lists line [] ++ a ∷ []) [] lt)
-turn_at line k a lists false lt e = get_or-set_other lists line k (get_or lists line [] ++ a ∷ []) [] (λ same. differs line k e same) ∙ sym (append-nil (get_or lists k []))
-
--- what one turn adds to each line's list
-pub turn_noted : (position : Option ℕ) (k a : ℕ) (lists : List (List ℕ)) → IfSome position (λ line. line < length lists) → get_or (with_turn position a lists) k [] ≡ get_or lists k [] ++ cond (is_at k position) (a ∷ []) []
-turn_noted None k a lists below = sym (append-nil (get_or lists k []))
-turn_noted (Some line) k a lists below = turn_at line k a lists (line == k) below refl
-
-pub turn_many : (position : Option ℕ) (a : ℕ) (lists : List (List ℕ)) → length (with_turn position a lists) ≡ length lists
-turn_many None a lists = refl
-turn_many (Some line) a lists = length-set lists line (get_or lists line [] ++ a ∷ [])
-
-not_both : (k : ℕ) (p q : Option ℕ) → is_at k p ≡ true → is_at k q ≡ true → p ≡ q
-not_both k None q e f = let no : ⊥ = cc in absurd no
-not_both k (Some i) None e f = let no : ⊥ = cc in absurd no
-not_both k (Some i) (Some j) e f = ap (λ n. Some n) (eqb-true i k e ∙ sym (eqb-true j k f))
-
-one_turn : (p q : Bool) (a : ℕ) (xs : List ℕ) → (p ≡ true → q ≡ true → ⊥) → (xs ++ cond p (a ∷ []) []) ++ cond q (a ∷ []) [] ≡ xs ++ cond (is_different p q) (a ∷ []) []
-one_turn true true a xs other = absurd (other refl refl)
-one_turn true false a xs other = append-nil (xs ++ a ∷ [])
-one_turn false true a xs other = ap (λ ys. ys ++ a ∷ []) (append-nil xs)
-one_turn false false a xs other = append-nil (xs ++ [])
-
--- and both turns of a change
-pub turns_noted : (before position : Option ℕ) (k a : ℕ) (lists : List (List ℕ)) → (before ≡ position → ⊥) → IfSome before (λ line. line < length lists) → IfSome position (λ line. line < length lists)
-    → get_or (with_turn position a (with_turn before a lists)) k [] ≡ get_or lists k [] ++ cond (is_different (is_at k before) (is_at k position)) (a ∷ []) []
-turns_noted before position k a lists other below within =
-    turn_noted position k a (with_turn before a lists) (subst (λ n. IfSome position (λ line. line < n)) (sym (turn_many before a lists)) within)
-    ∙ ap (λ xs. xs ++ cond (is_at k position) (a ∷ []) []) (turn_noted before k a lists below)
-    ∙ one_turn (is_at k before) (is_at k position) a (get_or lists k []) (λ e f. other (not_both k before position e f))
-
-is_different_same : (p : Bool) → is_different p p ≡ false
-is_different_same true = refl
-is_different_same false = refl
-
--- none where nothing changes
-pub no_turns : (before position : Option ℕ) (k a : ℕ) (xs : List ℕ) → before ≡ position → xs ≡ xs ++ cond (is_different (is_at k before) (is_at k position)) (a ∷ []) []
-no_turns before position k a xs same =
-    sym (append-nil xs) ∙ ap (λ t. xs ++ cond t (a ∷ []) []) (sym (ap (λ p. is_different (is_at k before) (is_at k p)) (sym same) ∙ is_different_same (is_at k before)))
-
 -- what is noted, and what is still ahead
 pub record Turning (count : ℕ) (changes : List Change) (lists : List (List ℕ)) (before : Option ℕ) (ahead : List Change) : Type 0 where
   pub as_many : length lists ≡ count
   pub below : IfSome before (λ line. line < count)
   pub each : (k : ℕ) → get_or lists k [] ++ turns k before ahead ≡ turns k None changes
-
-empty_everywhere : (lists : List (List ℕ)) (k : ℕ) → All (λ (list : List ℕ). list ≡ []) lists → get_or lists k [] ≡ []
-empty_everywhere lists k empty =
-    ⊎_elim (λ lt. All-get_or (λ (list : List ℕ). list ≡ []) lists k [] lt empty) (λ le. get_or_past lists k [] le) (cases_lt k (length lists))
-
-pub turning : (count : ℕ) (changes : List Change) (lists : List (List ℕ)) → length lists ≡ count → All (λ (list : List ℕ). list ≡ []) lists → Turning count changes lists None changes
-turning count changes lists many empty = record {
-  as_many = many;
-  below = tt;
-  each = λ k. ap (λ xs. xs ++ turns k None changes) (empty_everywhere lists k empty);
-}
 
 -- one change is noted
 pub turned : (count : ℕ) (changes : List Change) (lists after : List (List ℕ)) (before : Option ℕ) (i : ℕ) (d : Change) → i < length changes → All (IsBelow count) changes → length after ≡ length lists
@@ -201,11 +141,6 @@ turned_change count cs lists after before i d lt below many added so_far =
     (turned count (changes_of cs) (texts lists) (texts after) (place_of before) i (change_of d) (omega (arith, length-map cs change_of)) below
     (length-map after (λ (v : Vec ℕ). v.items) ∙ many ∙ sym (length-map lists (λ (v : Vec ℕ). v.items)))
     (λ k. added k ∙ ap (λ (c : Change). get_or (texts lists) k [] ++ cond (is_different (is_at k (place_of before)) (is_at k c.position)) (c.address ∷ []) []) (sym (line_change_at cs i d lt))) so_far)
-
--- and all are
-pub all_turned : (count : ℕ) (changes : List Change) (lists : List (List ℕ)) (before : Option ℕ) (i : ℕ) → length changes ≤ i → Turning count changes lists before (drop i changes) → (k : ℕ) → get_or lists k [] ≡ turns k None changes
-all_turned count changes lists before i le so_far k =
-    sym (append-nil (get_or lists k [])) ∙ ap (λ ds. get_or lists k [] ++ turns k before ds) (sym (nothing_ahead changes i le)) ∙ so_far.each k
 
 -- a turn goes to the end of its line's list
 pub turn_added : (lists : List (Vec ℕ)) (line a : ℕ) (grown old d : Vec ℕ) (position : Option ℕ) → position ≡ Some line → line < length lists → old ≡ get_or lists line d → grown.items ≡ old.items ++ a ∷ []

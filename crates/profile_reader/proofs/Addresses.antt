@@ -29,11 +29,6 @@ numeral n le = digits_is_IsNumeral 16 false (omega arith) (omega arith) n (small
 behind : (text : Text) → is_address text ≡ true → drop 2 text ≡ digits 16 false (digits_value 16 (drop 2 text))
 behind text e = ap (λ (t : Text). drop 2 t) (address_is text e).0
 
-pub not_prefixed : (text : Text) → bytes_eq (take 2 text) (codes "0x") ≡ false → is_address text ≡ false
-not_prefixed text e = not_so _ (λ d.
-    let h : bytes_eq (take 2 text) (codes "0x") ≡ true = (bytes_eq-Decides _ _).1 (ap (λ (t : Text). take 2 t) (address_is text d).0) in
-    let never : true ≡ false = sym h ∙ e in absurd cc)
-
 pub right_address : (text : Text) (number : ℕ) → bytes_eq (take 2 text) (codes "0x") ≡ true → drop 2 text ≡ digits 16 false number → number ≤ last_word → (is_address text ≡ true) × (number ≡ digits_value 16 (drop 2 text))
 right_address text number prefixed e le =
     let same : digits_value 16 (drop 2 text) ≡ number = ap (digits_value 16) e ∙ (numeral number le).1 in

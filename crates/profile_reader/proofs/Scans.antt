@@ -1,17 +1,14 @@
 -- Loops over a path, a label and the digits of a digest.
-use Rattle.std.proofs.Common.{rules, ◌≡◌, ℕ, zero, suc, ◌+◌, ◌*◌, ◌<◌, ◌≤◌, Bool, true, false, ◌==◌, List, [], ◌∷◌, ◌++◌, length, take, drop, get_or, Option, Some, None, refl, sym, ap, ◌∙◌, arith, add-one, drop-cons, if◌then◌else◌}
+use Rattle.std.proofs.Common.{rules, ◌≡◌, ℕ, zero, suc, ◌+◌, ◌*◌, ◌<◌, ◌≤◌, Bool, true, false, ◌==◌, List, [], ◌∷◌, ◌++◌, length, take, drop, get_or, Option, Some, None, refl, sym, ap, ◌∙◌, arith, add-one, if◌then◌else◌}
 use Rattle.std.specs.List.{list_all}
 use Rattle.std.proofs.lemmas.List.{take_more_set}
 use Rattle.std.proofs.Math.ListN.{set}
-use Rattle.coz_types.specs.Labels.{Text, Scan, is_scanned, scan_step, parts_of}
+use Rattle.coz_types.specs.Labels.{Text, parts_of}
 use Rattle.profile_reader.specs.Grammar.{is_lower_hex, is_digest}
 use Rattle.profile_reader.specs.Reading.{bytes_in, lower_value}
 use Rattle.profile_reader.proofs.FieldSteps.{both}
 
 -- ---- the scan of a path
-
-pub scan_on : (at : Scan) (path : Text) (i : ℕ) → i < length path → is_scanned (Some at) (drop i path) ≡ is_scanned (scan_step at (get_or path i 0)) (drop (i + 1) path)
-scan_on at path i lt = rw (add-one, drop-cons path i 0) refl
 
 pub nothing_left : (text : Text) (i : ℕ) → length text ≤ i → drop i text ≡ []
 nothing_left [] zero le = refl
@@ -49,11 +46,6 @@ all_at p (x ∷ xs) (suc i) all lt = all_at p xs i (both (p x) (list_all p xs) a
 
 pub digest_long : (text : Text) → is_digest text ≡ true → length text ≡ 64
 digest_long text e = let h = (both (length text == 64) (list_all is_lower_hex text) e).0 in search (rules, h)
-
-pub digest_digit : (text : Text) (i : ℕ) → is_digest text ≡ true → i < 64 → is_lower_hex (get_or text i 0) ≡ true
-digest_digit text i e lt =
-    let long = digest_long text e in
-    all_at is_lower_hex text i (both (length text == 64) (list_all is_lower_hex text) e).1 (omega arith)
 
 abbrev pub byte_at : Text → ℕ → ℕ
 byte_at text k = 16 * lower_value (get_or text (2 * k) 0) + lower_value (get_or text (suc (2 * k)) 0)

@@ -1,6 +1,6 @@
 -- One pass over reservations: those that are kept are moved to the front, in their order.
 use mir.Val.{bool_byte}
-use Rattle.std.proofs.Common.{ℕ, suc, ◌≡◌, ◌≤◌, ◌<◌, ◌+◌, Bool, true, false, List, [], ◌∷◌, ◌++◌, length, take, drop, set, get_or, filter, arith, refl, sym, ◌∙◌, ap, ap₂, add-one, add-zero, drop-cons, length-set}
+use Rattle.std.proofs.Common.{ℕ, suc, ◌≡◌, ◌≤◌, ◌<◌, ◌+◌, Bool, true, false, List, [], ◌∷◌, ◌++◌, length, take, drop, set, get_or, filter, arith, sym, ◌∙◌, ap, ap₂, add-one, add-zero, drop-cons, length-set}
 use Rattle.std.proofs.lemmas.List.{append-nil, drop-set-lt, take-set, take_more, take_more_set}
 use Rattle.std.proofs.lemmas.List.Elements.{filter-append}
 use Rattle.rv_execute.specs.Held.{AreApart}
@@ -51,7 +51,3 @@ kept-all {keeps} {old} {places} {i} {kept} {n} p most least apart few =
     let within : kept ≤ i = p.within in
     let all : i ≡ n = omega arith in
     (rw (p.done, all) (apart-filter keeps (take n old) apart), omega arith)
-
--- before the first place
-pub kept-none : (keeps : (ℕ × ℕ) → Bool) (old : List (ℕ × ℕ)) → Kept keeps old 0 0 old
-kept-none keeps old = record { within = omega arith; same = refl; rest = refl; done = refl }
