@@ -9,7 +9,8 @@ use Rattle.std.proofs.lemmas.List.FromFn.{fill_by_all}
 use Rattle.coz_types.specs.declared.LineId.{LineId}
 use Rattle.coz_types.specs.declared.record.Summary.{Summary}
 use Rattle.experiment_plan.specs.declared.experiment.Experiment.{Experiment}
-use Rattle.experiment_plan.specs.ByLine.{all_pairs, IsOfOneLine}
+use Rattle.experiment_plan.specs.ByLine.{by_line, all_pairs, IsOfOneLine}
+use Rattle.experiment_plan.proofs.Lines.{joined_again}
 
 -- one pair more
 pub pair_next : (s : Experiment → Summary) (pairs : List Experiment) (i : ℕ) (none : Experiment) (before new : List Summary) (summary : Summary)
@@ -37,13 +38,18 @@ map_joined s [] = refl
 map_joined s (run ∷ runs) = ap (λ (rest : List Summary). map s run ++ rest) (map_joined s runs) ∙ sym (map-append s run (all_pairs runs))
 
 -- the summaries of the pairs, line by line, are those of all pairs
-pub line_by_line : (s : Experiment → Summary) (runs : List (List Experiment))
+line_by_line : (s : Experiment → Summary) (runs : List (List Experiment))
     → flat_map (λ i. map s (get_or runs i [])) (range_with_len 0 (length runs)) ≡ map s (all_pairs runs)
 line_by_line s runs =
     sym (flat_map-map (λ (line : List Summary). line) (λ i. map s (get_or runs i [])) (range_with_len 0 (length runs)))
     ∙ ap (flat_map (λ (line : List Summary). line)) (at_places (map s) [] runs)
     ∙ flat_map-map (λ (line : List Summary). line) (map s) runs
     ∙ map_joined s runs
+
+-- the summaries of a plan's lines, one behind the other, are those of its pairs
+pub plan_by_line : (s : Experiment → Summary) (plan : List Experiment)
+    → flat_map (λ i. map s (get_or (by_line plan) i [])) (range_with_len 0 (length (by_line plan))) ≡ map s plan
+plan_by_line s plan = line_by_line s (by_line plan) ∙ ap (map s) (joined_again plan)
 
 -- what is so of all pairs is so of those of a line
 pub of_all : (P : Experiment → Type 0) (runs : List (List Experiment)) (i : ℕ) (line : List Experiment)

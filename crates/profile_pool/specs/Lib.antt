@@ -2,5 +2,3 @@ pub mod Choices
 pub mod Summaries
 pub mod Made
 pub mod Work
-pub mod Worked
-pub mod Jobs

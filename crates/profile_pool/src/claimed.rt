@@ -7,23 +7,15 @@ ghost use Rattle.experiment_plan.specs.declared.experiment.Experiment.{Experimen
 ghost use Rattle.profile_pool.specs.Made.{parts_made, made_for, IsFor, AreFor};
 ghost use Rattle.profile_pool.specs.Work.{summary_of_pair, work_at, IsWork};
 
-use crate::job::Runner;
+use crate::runner::{Runner, make_runner};
 use crate::summary::summarise;
 use crate::work::Work;
+use claim_workers::ClaimWork;
 use coz_lists::Items;
 use coz_types::{LineId, Summary};
 use experiment_plan::Experiment;
 use std::alloc::{AllocError, Global};
 use virtual_run::{Lead, Machine};
-
-/// A claim and the summaries that its work gave.
-#[derive(Drop)]
-pub struct Claimed {
-    /// The place of the line in the plan.
-    pub claim: u32,
-    /// The summary of the run of each pair of the line, in the plan's order.
-    pub summaries: Items<Summary>,
-}
 
 /// Has a lead stand before the first start of a line.
 fn take_up<'a>(work: &Work<'a>, lead: &mut Lead<'a>, line: LineId)
@@ -91,38 +83,53 @@ fn run_pairs<'a>(
     Ok(())
 }
 
-/// What the work of a claim gives: the summary of the run of each pair of the line at that place
-/// of the plan. Only want of memory stands against it.
-pub fn summaries_at<'a>(
-    alloc: Global,
-    work: &Work<'a>,
-    runner: &mut Runner<'a>,
-    claim: u32,
-) -> Result<Items<Summary>, AllocError>
-    requires work { IsWork work.now }
-    requires runner { AreFor work.now runner.old }
-    requires claim { claim < length (by_line work.now.plan.now) }
-    ensures runner { AreFor work.now runner.new }
-    ensures summaries { IfOk result (λ summaries. summaries ≡ work_at work.now claim) }
-    ensures ranges { IfOk result (All (IsSummary (length work.now.points.now.lines))) }
-{
-    let pairs = work.plan.of_line(claim);
-    take_up(work, &mut runner.lead, pairs[0].line);
-    let mut summaries = Vec::with_capacity(alloc, pairs.len())?;
-    let lead = &runner.lead;
-    match run_pairs(
-        alloc,
-        work,
-        lead,
-        &mut runner.machine,
-        pairs,
-        &mut summaries,
-    ) {
-        Ok(()) => Ok(Items::new(summaries)),
-        Err(error) => {
-            // By one call, since a drop in place is proved part by part.
-            drop(summaries);
-            Err(error)
+impl<'a> ClaimWork for Work<'a> {
+    type Runner = Runner<'a>;
+
+    ghost is_ready = { IsWork };
+
+    ghost bound = { λ work. length (by_line work.plan.now) };
+
+    ghost summaries_of_claim = { work_at };
+
+    ghost points = { λ work. length work.points.now.lines };
+
+    ghost is_for = { AreFor };
+
+    /// How many lines the plan has: a claim is a line.
+    fn count(&self) -> u32 {
+        self.plan.line_count()
+    }
+
+    fn runner(&self, alloc: Global) -> Result<Runner<'a>, AllocError> {
+        make_runner(alloc, self)
+    }
+
+    /// The summary of the run of each pair of the line at that place of the plan.
+    fn summaries(
+        &self,
+        alloc: Global,
+        runner: &mut Runner<'a>,
+        claim: u32,
+    ) -> Result<Items<Summary>, AllocError> {
+        let pairs = self.plan.of_line(claim);
+        take_up(self, &mut runner.lead, pairs[0].line);
+        let mut summaries = Vec::with_capacity(alloc, pairs.len())?;
+        let lead = &runner.lead;
+        match run_pairs(
+            alloc,
+            self,
+            lead,
+            &mut runner.machine,
+            pairs,
+            &mut summaries,
+        ) {
+            Ok(()) => Ok(Items::new(summaries)),
+            Err(error) => {
+                // By one call, since a drop in place is proved part by part.
+                drop(summaries);
+                Err(error)
+            }
         }
     }
 }

@@ -6,6 +6,7 @@ mod job;
 mod limits;
 mod outcomes;
 mod pool;
+mod runner;
 mod summary;
 mod work;
 

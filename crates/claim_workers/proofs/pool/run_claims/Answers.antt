@@ -1,0 +1,21 @@
+use Rattle.std.proofs.Common.{◌∙◌, sym}
+use Rattle.std.specs.List.{flat_map, range_with_len}
+use Rattle.coz_types.specs.Ranges.{IsSummary}
+use Rattle.claim_workers.specs.Worked.{EachClaim}
+use Rattle.claim_workers.proofs.Ordered.{each_claim, each_summary, each_answered}
+use Rattle.claim_workers.proofs.pool.run_claims.Goals as goal
+
+pub returns : goal.returns
+returns g c =
+    let f = g.W.ClaimWork.summaries_of_claim c.args.work.now in
+    let bound = g.W.ClaimWork.bound c.args.work.now in
+    let Kept = IsSummary (g.W.ClaimWork.points c.args.work.now) in
+    let did = c.in_ok-seat in
+    let all = c.in_ok-claims.ensures.bound ∙ c.count.ensures in
+    let each : EachClaim f bound did.field-0.done.items =
+    rw (sym all) (each_claim f _ _ _ _ _ _ did.ensures.worked c.requires.some_workers c.finish.ensures.each) in
+    let summaries = c.in_order.ensures f bound each in
+    record {
+      summaries = summaries;
+      ranges = each_answered _ Kept (flat_map f (range_with_len 0 bound)) _ summaries (each_summary Kept f bound _ each did.ensures.ranges);
+    }

@@ -1,0 +1,136 @@
+//! Workers that draw claims from one word, and what all of them give.
+ghost use Rattle.std.specs.Prelude.{◌≡◌, ◌+◌, ◌*◌, ◌≤◌, [], IfOk, All, vec_len};
+ghost use Rattle.std.specs.List.{flat_map, range_with_len};
+ghost use Rattle.coz_types.specs.declared.TheConstants.{MOST_WORKERS};
+ghost use Rattle.coz_types.specs.Ranges.{IsSummary};
+ghost use Rattle.experiment_claims.specs.Drawn.{all_turns, first_hand};
+ghost use Rattle.experiment_claims.specs.Seats.{hand_of, IsSeatOf, bound_of};
+ghost use Rattle.claim_workers.specs.Worked.{Worked, AreSummaries};
+ghost use Rattle.claim_workers.specs.Jobs.{IsJob, IsAnswer};
+
+use crate::claimed::in_order;
+use crate::gathering::gather;
+use crate::job::{Answer, Job};
+use crate::work::ClaimWork;
+use crate::worker::work_through;
+use coz_files::Gate;
+use coz_types::Summary;
+use experiment_claims::{ClaimSeat, Claims};
+use std::alloc::{AllocError, Global};
+use std::thread;
+use std::thread::Threads;
+
+/// A seat for each worker, with one turn more than there are claims, and what it works by.
+/// What comes back is the seat that is left.
+fn deal<W: ClaimWork>(
+    alloc: Global,
+    work: &W,
+    claims: &Claims,
+    first: ClaimSeat,
+    bound: u32,
+    workers: u32,
+    jobs: &mut Vec<Job<W::Runner>>,
+) -> Result<ClaimSeat, AllocError>
+    requires work { W.is_ready work.now }
+    requires seat { IsSeatOf claims.now first × (hand_of first ≡ first_hand) }
+    requires bound { bound ≡ bound_of claims.now }
+    requires workers { workers ≤ MOST_WORKERS }
+    requires jobs { jobs.old.items ≡ [] }
+    ensures rest { IfOk result (λ rest.
+        IsSeatOf claims.now rest × ((hand_of rest).numbers ≡ [])) }
+    ensures turns { IfOk result (λ rest.
+        (hand_of rest).turns + workers * (bound + 1) ≡ all_turns) }
+    ensures jobs { IfOk result (λ rest. (vec_len jobs.new ≡ workers)
+        × All (IsJob (W.is_for work.now) claims.now) jobs.new.items) }
+{
+    let turns = u64::from(bound) + 1;
+    let mut seat = first;
+    for worker in 0..workers {
+        let runner = work.runner(alloc)?;
+        let (rest, part) = claims.split(seat, turns);
+        seat = rest;
+        jobs.push(Job {
+            worker,
+            seat: part,
+            runner,
+        })?;
+    }
+    Ok(seat)
+}
+
+/// Has each worker work in a thread of its own, where one can be made, and else one after another.
+fn run_jobs<R: Threads + Sync, W: ClaimWork, G: Gate>(
+    rt: &R,
+    alloc: Global,
+    work: &W,
+    claims: &Claims,
+    jobs: Vec<Job<W::Runner>>,
+    gate: &G,
+) -> Result<Vec<Result<Answer, AllocError>>, AllocError>
+    requires work { W.is_ready work.now × (bound_of claims.now ≡ W.bound work.now) }
+    requires jobs { All (IsJob (W.is_for work.now) claims.now) jobs.items }
+    ensures len { IfOk result (λ answers. vec_len answers ≡ vec_len jobs) }
+    ensures each { IfOk result (λ answers. All (λ r. IfOk r
+        (IsAnswer (W.summaries_of_claim work.now) (W.points work.now) claims.now))
+        answers.items) }
+{
+    thread::map_vec(
+        rt,
+        jobs,
+        &|job: Job<W::Runner>| -> Result<Answer, AllocError>
+            requires { W.is_ready work.now × (bound_of claims.now ≡ W.bound work.now)
+                × IsJob (W.is_for work.now) claims.now job }
+            ensures { IfOk result (IsAnswer (W.summaries_of_claim work.entry.now)
+                (W.points work.entry.now) claims.entry.now) }
+        { work_through(alloc, work, claims, job, gate) },
+    )
+}
+
+/// The joined seat of so many workers, once all claims are drawn, and what they did.
+fn draw_all<R: Threads + Sync, W: ClaimWork, G: Gate>(
+    rt: &R,
+    alloc: Global,
+    work: &W,
+    claims: &Claims,
+    first: ClaimSeat,
+    workers: u32,
+    gate: &G,
+) -> Result<Answer, AllocError>
+    requires work { W.is_ready work.now × (bound_of claims.now ≡ W.bound work.now) }
+    requires seat { IsSeatOf claims.now first × (hand_of first ≡ first_hand) }
+    requires workers { workers ≤ MOST_WORKERS }
+    ensures seat { IfOk result (λ a. IsSeatOf claims.now a.seat) }
+    ensures worked { IfOk result (λ a. Worked (W.summaries_of_claim work.now)
+        (bound_of claims.now) all_turns workers (hand_of a.seat) a.done.items) }
+    ensures ranges { IfOk result (λ a. AreSummaries (W.points work.now) a.done.items) }
+{
+    let bound = work.count();
+    let mut jobs = Vec::new(alloc);
+    let rest = deal(alloc, work, claims, first, bound, workers, &mut jobs)?;
+    let answers = run_jobs(rt, alloc, work, claims, jobs, gate)?;
+    gather(alloc, work, claims, rest, answers)
+}
+
+/// What the work of all claims gives, in the order of the claims, whatever the number of workers
+/// and the gate. Only want of memory stands against it, after which the workers that are left
+/// work to their end.
+pub fn run_claims<R: Threads + Sync, W: ClaimWork, G: Gate>(
+    rt: &R,
+    alloc: Global,
+    work: &W,
+    workers: u32,
+    gate: &G,
+) -> Result<Vec<Summary>, AllocError>
+    requires work { W.is_ready work.now }
+    requires some_workers { 1 ≤ workers }
+    requires few_workers { workers ≤ MOST_WORKERS }
+    ensures summaries { IfOk result (λ summaries. summaries.items
+        ≡ flat_map (W.summaries_of_claim work.now) (range_with_len 0 (W.bound work.now))) }
+    ensures ranges { IfOk result (λ summaries.
+        All (IsSummary (W.points work.now)) summaries.items) }
+{
+    let (claims, first) = Claims::new(alloc, work.count())?;
+    let Answer { seat, done } = draw_all(rt, alloc, work, &claims, first, workers, gate)?;
+    claims.finish(seat);
+    in_order(alloc, done)
+}

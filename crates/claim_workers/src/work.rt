@@ -1,0 +1,54 @@
+//! What the work of claims is, as its workers see it.
+ghost use Rattle.std.specs.Prelude.{◌≡◌, ℕ, ◌<◌, List, All, IfOk};
+ghost use Rattle.coz_types.specs.declared.record.Summary.{Summary};
+ghost use Rattle.coz_types.specs.Ranges.{IsSummary};
+
+use coz_lists::Items;
+use coz_types::Summary;
+use std::alloc::{AllocError, Global};
+
+/// The work of claims: what workers work by, and what the work of each claim gives.
+/// Workers share it, and nobody writes it.
+pub trait ClaimWork: Sync {
+    /// What a worker does the work of its claims by. It is made once for each worker.
+    type Runner: Drop + Send;
+
+    /// What the work asks for.
+    ghost is_ready: { Self → Type 0 };
+
+    /// How many claims there are.
+    ghost bound: { Self → ℕ };
+
+    /// What the work of a claim gives.
+    ghost summaries_of_claim: { Self → ℕ → List Summary };
+
+    /// How many progress points the summaries are of.
+    ghost points: { Self → ℕ };
+
+    /// A runner was made for this work.
+    ghost is_for: { Self → Self.Runner → Type 0 };
+
+    /// How many claims there are.
+    fn count(&self) -> u32
+        ensures { result ≡ bound self.now };
+
+    /// What a worker begins with. Only want of memory stands against it.
+    fn runner(&self, alloc: Global) -> Result<Self::Runner, AllocError>
+        requires { is_ready self.now }
+        ensures { IfOk result (is_for self.now) };
+
+    /// Does the work of a claim. Only want of memory stands against it.
+    fn summaries(
+        &self,
+        alloc: Global,
+        runner: &mut Self::Runner,
+        claim: u32,
+    ) -> Result<Items<Summary>, AllocError>
+        requires work { is_ready self.now }
+        requires runner { is_for self.now runner.old }
+        requires claim { claim < bound self.now }
+        ensures runner { is_for self.now runner.new }
+        ensures summaries { IfOk result (λ summaries.
+            summaries ≡ summaries_of_claim self.now claim) }
+        ensures ranges { IfOk result (All (IsSummary (points self.now))) };
+}
