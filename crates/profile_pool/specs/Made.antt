@@ -2,7 +2,7 @@
 use Rattle.std.specs.Prelude.{◌≡◌, ℕ, Option, None}
 use Rattle.virtual_run.specs.Seen.{Seen}
 use Rattle.virtual_run.specs.Lead.{arguments}
-use Rattle.profile_pool.specs.declared.runner.Runner.{Runner}
+use Rattle.profile_pool.specs.declared.work.Runner.{Runner}
 use Rattle.profile_pool.specs.declared.work.Work.{Work}
 use Rattle.profile_pool.specs.Choices.{choice_of}
 

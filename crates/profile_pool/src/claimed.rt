@@ -7,9 +7,9 @@ ghost use Rattle.experiment_plan.specs.declared.experiment.Experiment.{Experimen
 ghost use Rattle.profile_pool.specs.Made.{parts_made, made_for, IsFor, AreFor};
 ghost use Rattle.profile_pool.specs.Work.{summary_of_pair, work_at, IsWork};
 
-use crate::runner::{Runner, make_runner};
+use crate::limits::choice;
 use crate::summary::summarise;
-use crate::work::Work;
+use crate::work::{Runner, Work};
 use claim_workers::ClaimWork;
 use coz_lists::Items;
 use coz_types::{LineId, Summary};
@@ -101,8 +101,32 @@ impl<'a> ClaimWork for Work<'a> {
         self.plan.line_count()
     }
 
+    /// A lead and a machine of the program. Which line is selected at first doesn't matter.
     fn runner(&self, alloc: Global) -> Result<Runner<'a>, AllocError> {
-        make_runner(alloc, self)
+        let choice = choice(Some(LineId(0)), 0, self.budget);
+        let lead = Lead::new(
+            alloc,
+            self.image,
+            self.index,
+            self.points,
+            self.input,
+            choice,
+        )?;
+        match Machine::new(
+            alloc,
+            self.image,
+            self.index,
+            self.points,
+            self.input,
+            choice,
+        ) {
+            Ok(machine) => Ok(Runner { lead, machine }),
+            Err(error) => {
+                // By one call, since a drop in place is proved part by part.
+                drop(lead);
+                Err(error)
+            }
+        }
     }
 
     /// The summary of the run of each pair of the line at that place of the plan.

@@ -6,7 +6,6 @@ mod job;
 mod limits;
 mod outcomes;
 mod pool;
-mod runner;
 mod summary;
 mod work;
 

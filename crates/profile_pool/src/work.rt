@@ -1,9 +1,9 @@
-//! What the runs of a plan are made of.
+//! What the runs of a plan are made of, and what a worker makes them by.
 use coz_types::Image;
 use experiment_plan::Plan;
 use line_index::LineIndex;
 use progress_points::Points;
-use virtual_run::Lead;
+use virtual_run::{Lead, Machine};
 
 /// The runs that are to be made of a program: what workers share, and nobody writes.
 #[derive(Clone, Copy)]
@@ -22,4 +22,13 @@ pub struct Work<'a> {
     pub first: &'a Lead<'a>,
     /// How many instructions each run may retire.
     pub budget: u64,
+}
+
+/// What a worker runs lines by: a lead, and a machine that is forked from it. They are made once.
+#[derive(Drop)]
+pub struct Runner<'a> {
+    /// What goes up to the first start of a line.
+    pub lead: Lead<'a>,
+    /// What runs the pairs of the line from there.
+    pub machine: Machine<'a>,
 }

@@ -2,11 +2,11 @@ use Rattle.std.proofs.Common.{◌∙◌, ap, Some}
 use Rattle.virtual_run.specs.declared.choice.Choice.{Choice}
 use Rattle.profile_pool.specs.Made.{parts_made}
 use Rattle.profile_pool.proofs.Making.{for_any}
-use Rattle.profile_pool.proofs.runner.make_runner.Goals as goal
+use Rattle.profile_pool.proofs.claimed.WorkClaimWork.runner.Goals as goal
 
 pub returns-in-Ok : goal.returns-in-Ok
 returns-in-Ok c =
-    let work = c.args.work.now in (
+    let work = c.args.self.now in (
       for_any work (Some 0) 0 c.in_ok-lead.lead (ap parts_made c.in_ok-lead.ensures ∙ ap (λ (choice : Choice). record { image = work.image.now; index = work.index.now; points = work.points.now; input = work.input.now; choice = choice; state = tt }) c.choice-choice.ensures.choice),
       for_any work (Some 0) 0 c.in-Ok.machine (ap parts_made c.in-Ok.ensures ∙ ap (λ (choice : Choice). record { image = work.image.now; index = work.index.now; points = work.points.now; input = work.input.now; choice = choice; state = tt }) c.choice-choice.ensures.choice),
     )
