@@ -20,8 +20,8 @@ use std::alloc::{AllocError, Global};
 use std::thread;
 use std::thread::Threads;
 
-/// A seat for each worker, with one turn more than there are claims, and what it works by.
-/// What comes back is the seat that is left.
+/// The seat that is left, and a job for each worker: a seat with one turn more than there are
+/// claims, and what it works by.
 fn deal<W: ClaimWork>(
     alloc: Global,
     work: &W,
@@ -29,22 +29,21 @@ fn deal<W: ClaimWork>(
     first: ClaimSeat,
     bound: u32,
     workers: u32,
-    jobs: &mut Vec<Job<W::Runner>>,
-) -> Result<ClaimSeat, AllocError>
+) -> Result<(ClaimSeat, Vec<Job<W::Runner>>), AllocError>
     requires work { W.is_ready work.now }
     requires seat { IsSeatOf claims.now first × (hand_of first ≡ first_hand) }
     requires bound { bound ≡ bound_of claims.now }
     requires workers { workers ≤ MOST_WORKERS }
-    requires jobs { jobs.old.items ≡ [] }
-    ensures rest { IfOk result (λ rest.
-        IsSeatOf claims.now rest × ((hand_of rest).numbers ≡ [])) }
-    ensures turns { IfOk result (λ rest.
-        (hand_of rest).turns + workers * (bound + 1) ≡ all_turns) }
-    ensures jobs { IfOk result (λ rest. (vec_len jobs.new ≡ workers)
-        × All (IsJob (W.is_for work.now) claims.now) jobs.new.items) }
+    ensures rest { IfOk result (λ dealt.
+        IsSeatOf claims.now dealt.0 × ((hand_of dealt.0).numbers ≡ [])) }
+    ensures turns { IfOk result (λ dealt.
+        (hand_of dealt.0).turns + workers * (bound + 1) ≡ all_turns) }
+    ensures jobs { IfOk result (λ dealt. (vec_len dealt.1 ≡ workers)
+        × All (IsJob (W.is_for work.now) claims.now) dealt.1.items) }
 {
     let turns = u64::from(bound) + 1;
     let mut seat = first;
+    let mut jobs = Vec::new(alloc);
     for worker in 0..workers {
         let runner = work.runner(alloc)?;
         let (rest, part) = claims.split(seat, turns);
@@ -55,7 +54,7 @@ fn deal<W: ClaimWork>(
             runner,
         })?;
     }
-    Ok(seat)
+    Ok((seat, jobs))
 }
 
 /// Has each worker work in a thread of its own, where one can be made, and else one after another.
@@ -105,8 +104,7 @@ fn draw_all<R: Threads + Sync, W: ClaimWork, G: Gate>(
     ensures ranges { IfOk result (λ a. AreSummaries (W.points work.now) a.done.items) }
 {
     let bound = work.count();
-    let mut jobs = Vec::new(alloc);
-    let rest = deal(alloc, work, claims, first, bound, workers, &mut jobs)?;
+    let (rest, jobs) = deal(alloc, work, claims, first, bound, workers)?;
     let answers = run_jobs(rt, alloc, work, claims, jobs, gate)?;
     gather(alloc, work, claims, rest, answers)
 }

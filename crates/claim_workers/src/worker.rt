@@ -57,7 +57,7 @@ pub fn work_through<W: ClaimWork, G: Gate>(
         mut runner,
     } = job;
     let mut done = Vec::new(alloc);
-    let drawn = draw_and_work(
+    draw_and_work(
         alloc,
         work,
         claims,
@@ -66,10 +66,6 @@ pub fn work_through<W: ClaimWork, G: Gate>(
         &mut runner,
         &mut done,
         gate,
-    );
-    let answer = Answer { seat, done };
-    match drawn {
-        Ok(()) => Ok(answer),
-        Err(error) => Err(error),
-    }
+    )?;
+    Ok(Answer { seat, done })
 }

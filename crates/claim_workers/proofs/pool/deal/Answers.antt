@@ -18,7 +18,7 @@ loop-worker-preserved g c =
       omega (arith, left, more, turns, before.2, before.3, c.loop-worker-test.true, c.requires.workers),
       omega (arith, left, turns, before.3, c.ranges.bound.fits),
       c.in_ok-push.ensures.len ∙ ap (λ (n : ℕ). n + 1) before.4,
-      All-same R _ _ c.in_ok-push.ensures.items (All-push R c.loop-worker.jobs.items _ before.5 (
+      All-same R c.push.new.self.items _ c.in_ok-push.ensures.items (All-push R c.loop-worker.jobs.items _ before.5 (
         split.seats.1,
         split.second ∙ ap (λ (n : ℕ). hand (n + 1) []) (turns ∙ c.requires.bound),
         c.in_ok-runner.ensures,
