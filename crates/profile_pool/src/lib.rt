@@ -2,7 +2,6 @@
 #![tactic(auto)]
 
 mod claimed;
-mod job;
 mod limits;
 mod outcomes;
 mod pool;
