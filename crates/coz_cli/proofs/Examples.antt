@@ -12,7 +12,7 @@ use Rattle.experiment_plan.specs.Lists.{line_parts, pieces}
 use Rattle.experiment_plan.specs.declared.experiment.Experiment.{Experiment}
 use Rattle.coz_cli.specs.Profiled.{pairs_of}
 use Rattle.program_steps.specs.Selection.{line_named, lines_named}
-use Rattle.coz_cli.specs.Text.{outcome_text, net_outcome_text, hart_text, harts_text, visit_text, visits_text, net_visit_text, net_visits_text, output_text, run_text, really_text, more_addresses, addresses_text, labelled_text, lines_text}
+use Rattle.printed_texts.specs.Text.{outcome_text, net_outcome_text, hart_text, harts_text, visit_text, visits_text, net_visit_text, net_visits_text, output_text, run_text, really_text, more_addresses, addresses_text, labelled_text, lines_text}
 
 -- ---- the line and the points that are named
 
@@ -51,48 +51,3 @@ first_unfound = refl
 -- each line at 0 and at each speedup, once
 planned_once : pairs_of (0 ∷ 2 ∷ []) (50 ∷ 5 ∷ 50 ∷ []) ≡ pair 0 0 ∷ pair 0 5 ∷ pair 0 50 ∷ pair 2 0 ∷ pair 2 5 ∷ pair 2 50 ∷ []
 planned_once = refl
-
--- ---- what is printed
-
-run_of_one : run_text (record {
-  ending = Exited 0;
-  time = 30;
-  delay = 10;
-  retired = 3;
-  starts = 1;
-  output = codes "hi";
-  visits = record { point = 0; hart = 0; time = 20; delay = 10 } ∷ [];
-  accounts = record { own = 10; paused = 0; credited = 0 } ∷ [];
-})
-    ≡ codes "end exited:0\ntime 30\ndelay 10\nnet 20\nretired 3\nstarts 1\nhart 0 own 10 paused 0 credited 0\nvisit 0 hart 0 time 20 delay 10 net 10\noutput 2\nhi\n"
-unfolding run_text outcome_text harts_text hart_text visits_text visit_text output_text digits
-run_of_one = refl
-
-really_of_one : really_text (record {
-  ending = Exited 0;
-  time = 20;
-  retired = 3;
-  starts = 1;
-  output = codes "hi";
-  visits = record { point = 0; hart = 0; time = 10 } ∷ [];
-}) ≡ codes "end exited:0\nnet 20\nretired 3\nstarts 1\nvisit 0 hart 0 net 10\noutput 2\nhi\n"
-unfolding really_text net_outcome_text net_visits_text net_visit_text output_text digits
-really_of_one = refl
-
-abbrev area : Area
-area = record { start = 0x10000; size = 4096; rights = record { read = true; write = false; execute = true }; vaddr = 0x10000; offset = 0; filled = 100 }
-
-abbrev row : ℕ → ℕ → Row
-row address number = record { sequence = 0; address = address; file = Some 0; line = number; column = 0; is_stmt = true; ends = false }
-
--- line 7 begins twice, and line 8 between
-abbrev table : Table
-table = record {
-  files = record { directory = []; name = codes "a b" } ∷ [];
-  rows = row 0x10000 7 ∷ row 0x10004 8 ∷ row 0x10008 7 ∷ record (row 0x1000C 1) { ends = true } ∷ [];
-  skipped = 2;
-}
-
-lines_of_table : lines_text table (area ∷ []) ≡ codes "skipped 2\na%20b:7\t0x10000,0x10008\na%20b:8\t0x10004\n"
-unfolding lines_text labelled_text addresses_text more_addresses lines_in entries_in line_of digits
-lines_of_table = refl

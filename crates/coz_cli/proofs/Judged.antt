@@ -15,7 +15,7 @@ use Rattle.guest_calls.specs.Guest.{Guest}
 use Rattle.experiment_plan.specs.declared.experiment.Experiment.{Experiment as Pair}
 use Rattle.coz_words.specs.Said.{Text}
 use Rattle.coz_words.specs.declared.request.Request.{Request}
-use Rattle.coz_cli.specs.declared.answer.Printed.{Printed}
+use Rattle.printed_texts.specs.declared.printed.Printed.{Printed}
 use Rattle.coz_cli.specs.declared.experiment.Kind.{Kind}
 use Rattle.coz_cli.specs.declared.experiment.Kind.TheVariants.{Delayed, Shortened, Profiled}
 use Rattle.coz_files.specs.Faults.{Rose}

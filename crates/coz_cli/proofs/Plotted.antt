@@ -14,7 +14,7 @@ use Rattle.causal_curves.specs.Texts.{curve_text}
 use Rattle.causal_curves.specs.declared.curve.Curve.{Curve}
 use Rattle.coz_cli.specs.Answer.{fault_verdict, IsMemoryFault}
 use Rattle.program_steps.specs.Causes.{profile_fault}
-use Rattle.coz_cli.specs.Text.{plot_text}
+use Rattle.printed_texts.specs.Text.{plot_text}
 use Rattle.coz_cli.specs.Verdict.{book_verdict, plot_verdict, text_verdict}
 
 at_fault : (bytes : List ℕ) (fault : Option BookFault) → book_fault bytes ≡ fault → book_verdict fault (told bytes) ≡ plot_verdict bytes

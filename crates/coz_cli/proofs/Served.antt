@@ -5,10 +5,10 @@ use Rattle.std.specs.Io.KnownBytes.{Appends}
 use Rattle.coz_files.specs.Faults.{Rose}
 use Rattle.coz_files.specs.Held.{Held}
 use Rattle.coz_words.specs.declared.request.Request.{Request}
-use Rattle.coz_cli.specs.declared.answer.Printed.{Printed}
+use Rattle.printed_texts.specs.declared.printed.Printed.{Printed}
 use Rattle.program_steps.specs.declared.fault.Fault.{Fault}
 use Rattle.program_steps.specs.declared.fault.Fault.TheVariants.{Usage, Program, Lines, Read, Write, NoLine, ManyPoints, Long, ManyExperiments, Memory, Source, Profile}
-use Rattle.coz_cli.specs.Words.{request_of}
+use Rattle.program_steps.specs.Words.{request_of}
 use Rattle.coz_cli.specs.Verdict.{Verdict, command_verdict, request_verdict, verdict}
 use Rattle.coz_cli.specs.Answer.{Answer, IsMemory, IsMemoryFault, IsReadFault, Suits, Settles, fault_line, fault_status, printed_verdict, text_bytes}
 use Rattle.coz_cli.specs.Headline.{PrintsForAnyWorkers, PrintsShortened}

@@ -7,7 +7,7 @@ use Rattle.coz_files.specs.Held.{Held}
 use Rattle.program_steps.specs.declared.fault.Fault.{Fault}
 use Rattle.program_steps.specs.declared.fault.Fault.TheVariants.{Usage, Program, Lines, Read, Write, NoLine, ManyPoints, Long, ManyExperiments, Memory, Source, Profile}
 use Rattle.coz_words.specs.declared.request.Request.{Request}
-use Rattle.coz_cli.specs.Words.{Names, request_of}
+use Rattle.program_steps.specs.Words.{Names, request_of}
 use Rattle.coz_cli.specs.Verdict.{Verdict, text_verdict, verdict}
 use Rattle.coz_cli.specs.Answer.{IsMemoryFault, IsReadFault, Suits, Settles, fault_status, fault_line, fault_verdict}
 use Rattle.coz_cli.specs.Serve.{IsLine}

@@ -51,7 +51,7 @@ use Rattle.coz_words.specs.declared.command.Command.TheVariants.{Trial}
 use Rattle.coz_words.specs.declared.request.Request.{Request}
 use Rattle.coz_cli.specs.Answer.{Answer, IsMemory, IsMemoryFault, IsOfTrial, IsRead, IsReadFault, Settles, Suits, fault_verdict}
 use Rattle.coz_cli.specs.Serve.{AskTrial}
-use Rattle.coz_cli.specs.Words.{request_of}
+use Rattle.program_steps.specs.Words.{request_of}
 use Rattle.program_steps.specs.Causes.{assembling_fault, planning_fault}
 use Rattle.coz_cli.specs.Experiment.{Runs, experiment_by_table, runs_in}
 use Rattle.profile_pool.specs.Summaries.{summaries_of}

@@ -17,12 +17,12 @@ use Rattle.machines.specs.Records.{Record, NetRecord, net, IsDelayed, IsShortene
 use Rattle.guest_calls.specs.Guest.{Guest}
 use Rattle.coz_words.specs.declared.request.Request.{Request}
 use Rattle.coz_words.specs.declared.command.Command.TheVariants.{Run, Really, Profile}
-use Rattle.coz_cli.specs.Words.{request_of}
+use Rattle.program_steps.specs.Words.{request_of}
 use Rattle.program_steps.specs.LineTable.{table_in}
 use Rattle.program_steps.specs.Selection.{line_named, lines_named}
 use Rattle.coz_cli.specs.Experiment.{Runs, choice_of, experiment_by_table}
 use Rattle.coz_cli.specs.Profiled.{all_lines, experiment_on, pairs_of, profile_with}
-use Rattle.coz_cli.specs.Text.{run_text, really_text}
+use Rattle.printed_texts.specs.Text.{run_text, really_text}
 use Rattle.coz_cli.specs.Verdict.{verdict}
 
 -- the bytes of the input that is named, and none where none is

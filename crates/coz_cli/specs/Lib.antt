@@ -1,12 +1,8 @@
-pub mod Words
-pub mod Record
-pub mod Text
 pub mod Experiment
 pub mod Profiled
 pub mod Trial
 pub mod Verdict
 pub mod Kind
-pub mod LinesText
 pub mod Answer
 pub mod Serve
 pub mod Headline

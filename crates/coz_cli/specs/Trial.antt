@@ -19,7 +19,7 @@ use Rattle.coz_cli.specs.declared.trial.TheConstants.{BUDGET, SELECTED}
 use Rattle.coz_words.specs.Said.{Text}
 use Rattle.coz_cli.specs.Experiment.{Runs}
 use Rattle.coz_cli.specs.Profiled.{pairs_of, profile_of}
-use Rattle.coz_cli.specs.Text.{number_line}
+use Rattle.printed_texts.specs.TrialText.{trial_lines}
 
 -- the name of a trial's source
 abbrev pub trial_name : Text
@@ -61,28 +61,6 @@ trial_plan lines = pairs_of (tenths (length lines)) (0 ∷ 25 ∷ 50 ∷ 75 ∷ 
 unfoldable pub trial_profile : Runs → List Line → ℕ → Profile
 trial_profile runs lines point = profile_of runs lines BUDGET (point ∷ []) (trial_plan lines)
 
--- ---- the text
-
--- the length of some bytes, and their digest
-abbrev pub digest_line : Text → List ℕ → Text
-digest_line name bytes =
-    name ++ decimal (length bytes) ++ codes " " ++ hex_text (sha256 bytes) ++ codes "\n"
-
-abbrev pub gain_line : Text → Option ℤ → Text
-gain_line label None = codes "best none\n"
-gain_line label (Some gain) =
-    codes "best " ++ label ++ codes " " ++ signed_decimal gain ++ codes "\n"
-
--- of the first of ranked curves
-abbrev pub best_line : List Curve → Text
-best_line [] = codes "best none\n"
-best_line (curve ∷ curves) = gain_line curve.selected curve.gain
-
 -- what `trial` prints
-unfoldable pub trial_text : Source → List Line → Profile → Text
-trial_text source lines profile =
-    digest_line (codes "source ") source.text
-    ++ number_line (codes "lines ") (length lines)
-    ++ number_line (codes "experiments ") (length (trial_plan lines))
-    ++ digest_line (codes "profile ") (profile_text profile)
-    ++ best_line (ranked_curves (curves_of profile))
+abbrev pub trial_text : Source → List Line → Profile → Text
+trial_text source lines profile = trial_lines source lines (length (trial_plan lines)) profile

@@ -10,8 +10,9 @@ use Rattle.coz_types.specs.declared.ending.Ending.{Ending}
 use Rattle.coz_types.specs.declared.ending.Ending.TheVariants.{Exited}
 use Rattle.coz_types.specs.declared.record.Summary.{Summary}
 use Rattle.coz_files.specs.Held.{Held, file_at}
+pub use Rattle.printed_texts.specs.Printed.{has_exited, ending_status, ended_verdict}
 pub use Rattle.program_steps.specs.Verdict.{Verdict, refusal, text_verdict, loaded_verdict, table_verdict, program_verdict, named_verdict, points_verdict, read_verdict}
-use Rattle.coz_cli.specs.Words.{request_of}
+use Rattle.program_steps.specs.Words.{request_of}
 use Rattle.coz_words.specs.declared.request.Request.{Request}
 use Rattle.coz_words.specs.declared.command.Command.{Command}
 use Rattle.coz_words.specs.declared.command.Command.TheVariants.{Run, Really, Profile, Lines, Plot, Asm, Trial}
@@ -32,23 +33,12 @@ use Rattle.profile_reader.specs.Grammar.{book_fault}
 use Rattle.profile_reader.specs.Told.{told}
 use Rattle.profile_reader.specs.declared.fault.BookFault.{BookFault}
 use Rattle.profile_book.specs.declared.profile.Profile.{Profile as Book}
-use Rattle.coz_cli.specs.Text.{run_text, really_text, lines_text, plot_text}
+use Rattle.printed_texts.specs.Text.{run_text, really_text, lines_text, plot_text}
 use Rattle.program_steps.specs.Selection.{line_named, lines_named}
 use Rattle.coz_cli.specs.Experiment.{Runs, choice_of, experiment_by_table}
 use Rattle.program_steps.specs.FaultLines.{source_line, plan_line, book_line}
 use Rattle.coz_cli.specs.Profiled.{all_lines, pairs_of, profile_of}
 use Rattle.coz_cli.specs.Trial.{trial_file, trial_point, trial_profile, trial_program, trial_text}
-
-abbrev pub has_exited : Ending → Bool
-has_exited (Exited code) = true
-has_exited _ = false
-
-abbrev pub ending_status : Ending → ℕ
-ending_status ending = if has_exited ending then 0 else 1
-
--- of a run that came to this end, by its text
-abbrev pub ended_verdict : Ending → List ℕ → Verdict
-ended_verdict ending text = record { status = ending_status ending; text = text; line = [] }
 
 -- of a run
 abbrev pub run_verdict : Record → Verdict

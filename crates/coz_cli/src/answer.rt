@@ -1,59 +1,25 @@
 //! What a request comes to: a text and its status, or a fault.
 ghost use Rattle.std.specs.Prelude.{◌≡◌, IfErr, IfSome, IfNone};
 ghost use Rattle.coz_files.specs.Faults.{Rose};
-ghost use Rattle.coz_files.specs.Puts.{Puts};
 ghost use Rattle.coz_words.specs.Request.{IsFit};
 ghost use Rattle.coz_words.specs.declared.command.Command.TheVariants.{Trial};
 ghost use Rattle.coz_cli.specs.Verdict.{command_verdict};
-ghost use Rattle.coz_cli.specs.Answer.{IsMemory, IsMemoryFault, IsRead, Suits, Settles, text_bytes};
+ghost use Rattle.coz_cli.specs.Answer.{IsMemory, IsMemoryFault, IsRead, Suits, Settles};
 
 use crate::experiment::{Kind, judge_experiment};
 use crate::lines::judge_lines;
 use crate::plot::judge_plot;
 use crate::source::judge_source;
 use crate::trial::judge_trial;
-use causal_curves::{Curve, write_curves};
-use coz_files::{Files, Gate, PutAnswer, Sink};
-use coz_lists::Items;
+use coz_files::{Files, Gate};
 use coz_words::{Command, Request};
-use profile_book::{Profile, write_profile};
+use printed_texts::Printed;
 use program_steps::Fault;
 use std::alloc::Global;
 use std::thread::Threads;
 
-/// A text that is to be written.
-#[derive(Drop)]
-pub enum Text {
-    /// These bytes.
-    Bytes(Vec<u8>),
-    /// The text of a profile.
-    Profile(Profile),
-    /// The text of curves.
-    Curves(Items<Curve>),
-}
-
-/// A text that is to be written, and the status beside it.
-#[derive(Drop)]
-pub struct Printed {
-    /// The status of the command where the text is put: 0 or 1.
-    pub status: u8,
-    /// What is put.
-    pub text: Text,
-}
-
 /// What is to be written. A fault borrows from the request.
 pub type Answer<'r> = Result<Printed, Fault<'r>>;
-
-/// Puts a text.
-pub fn put_text<O: Sink>(out: &mut O, text: &Text) -> PutAnswer
-    ensures { Puts O.holds O.faults out.old out.new result (text_bytes text.now) }
-{
-    match text {
-        Text::Bytes(bytes) => out.put(bytes),
-        Text::Profile(profile) => write_profile(profile, out),
-        Text::Curves(curves) => write_curves(curves.as_slice(), out),
-    }
-}
 
 /// What a request comes to, and the files that it names. Err tells why nothing is printed.
 pub fn judge<'r, R: Threads + Sync, F: Files, G: Gate>(

@@ -6,11 +6,11 @@ ghost use Rattle.coz_words.specs.declared.command.Command.TheVariants.{Lines};
 ghost use Rattle.coz_cli.specs.Verdict.{command_verdict, lines_verdict};
 ghost use Rattle.coz_cli.specs.Answer.{verdict_of, IsMemory, IsRead, Suits, Settles};
 
-use crate::answer::{Answer, Printed, Text};
-use crate::lines_text::lines_text;
+use crate::answer::Answer;
 use coz_files::Files;
 use coz_types::MAX_PROGRAM;
 use coz_words::Request;
+use printed_texts::{Printed, Text, lines_text};
 use program_steps::{read_file, read_program};
 use std::alloc::Global;
 

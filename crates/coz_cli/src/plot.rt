@@ -5,10 +5,11 @@ ghost use Rattle.coz_words.specs.declared.command.Command.TheVariants.{Plot};
 ghost use Rattle.coz_cli.specs.Verdict.{command_verdict, plot_verdict};
 ghost use Rattle.coz_cli.specs.Answer.{verdict_of, IsMemory, IsRead, Suits, Settles};
 
-use crate::answer::{Answer, Printed, Text};
+use crate::answer::Answer;
 use causal_curves::curves;
 use coz_files::Files;
 use coz_words::Request;
+use printed_texts::{Printed, Text};
 use profile_reader::{MAX_PROFILE, read_profile};
 use program_steps::read_file;
 use std::alloc::Global;

@@ -15,13 +15,14 @@ ghost use Rattle.coz_cli.specs.Profiled.{label_at, pairs_of, profile_of};
 ghost use Rattle.coz_cli.specs.Verdict.{Verdict, has_exited, plan_verdict, profile_verdict, profiled_verdict};
 ghost use Rattle.coz_cli.specs.Answer.{verdict_of, verdict_after, printed_verdict, IsMemory, IsRead};
 
-use crate::answer::{Answer, Printed, Text};
+use crate::answer::Answer;
 use coz_files::Gate;
 use coz_lists::Items;
 use coz_types::{Ending, Image, Label, LineId, PointId, Summary};
 use coz_words::Request;
 use experiment_plan::{Plan, plan};
 use line_index::LineIndex;
+use printed_texts::{Printed, Text, has_exited};
 use profile_book::Profile;
 use profile_pool::run_plan;
 use program_steps::{Fault, bytes_of, progress_points, selected_lines};
@@ -45,15 +46,6 @@ fn point_labels(
         labels.push(Label::copy(alloc, index.label(line).bytes())?)?;
     }
     Ok(Items::new(labels))
-}
-
-fn has_exited(ending: Ending) -> bool
-    ensures { result ≡ has_exited ending }
-{
-    match ending {
-        Ending::Exited(_) => true,
-        _ => false,
-    }
 }
 
 /// Whether each run exited.

@@ -10,29 +10,18 @@ ghost use Rattle.guest_calls.specs.Guest.{Guest};
 ghost use Rattle.machines.specs.Delayed.{Hart};
 ghost use Rattle.machines.specs.Records.{net_record_of, record_of, shortened_record};
 ghost use Rattle.machines.specs.Standing.{delayed_record};
-ghost use Rattle.coz_cli.specs.Text.{really_text, run_text};
+ghost use Rattle.printed_texts.specs.Text.{really_text, run_text};
 ghost use Rattle.coz_cli.specs.Verdict.{ended_verdict, ending_status, really_verdict, run_verdict};
 ghost use Rattle.coz_cli.specs.Answer.{verdict_of, printed_verdict, IsMemory, IsRead};
 
-use crate::answer::{Answer, Printed, Text};
-use crate::record::{RunRecord, ShortRecord};
-use crate::short_text::really_text;
-use crate::text::run_text;
+use crate::answer::Answer;
 use coz_types::{Account, Ending, HartId, Image};
 use line_index::LineIndex;
+use printed_texts::{Printed, RunRecord, ShortRecord, Text, ending_status, really_text, run_text};
 use progress_points::Points;
 use shortened_run::Short;
 use std::alloc::{AllocError, Global};
 use virtual_run::{Choice, Machine};
-
-fn ending_status(ending: Ending) -> u8
-    ensures { result ≡ ending_status ending }
-{
-    match ending {
-        Ending::Exited(_) => 0,
-        _ => 1,
-    }
-}
 
 /// The account of each hart that was made.
 fn accounts(alloc: Global, machine: &Machine) -> Result<Vec<Account>, AllocError>

@@ -8,11 +8,12 @@ ghost use Rattle.rv_asm.specs.Assembled.{assembled};
 ghost use Rattle.coz_cli.specs.Verdict.{command_verdict, source_verdict};
 ghost use Rattle.coz_cli.specs.Answer.{verdict_of, IsMemory, IsRead, Suits, Settles};
 
-use crate::answer::{Answer, Printed, Text};
+use crate::answer::Answer;
 use asm_tokens::MAX_SOURCE;
 use coz_files::Files;
 use coz_words::Request;
 use image_write::write_elf;
+use printed_texts::{Printed, Text};
 use program_steps::read_file;
 use rv_asm::assemble;
 use std::alloc::Global;

@@ -18,9 +18,8 @@ ghost use Rattle.coz_cli.specs.Trial.{IsTrialFile, tenths, trial_plan, trial_poi
 ghost use Rattle.coz_cli.specs.Verdict.{file_verdict, trial_judging, trial_printed, trial_verdict};
 ghost use Rattle.coz_cli.specs.Answer.{IsMemoryFault, IsOfTrial};
 
-use crate::answer::{Answer, Printed, Text};
+use crate::answer::Answer;
 use crate::profile::profile_status;
-use crate::trial_text::trial_text;
 use coz_files::Gate;
 use coz_lists::Items;
 use coz_types::{Image, LEAST_VERSION, Label, LineId, Summary};
@@ -28,6 +27,7 @@ use coz_words::Request;
 use experiment_plan::{Plan, plan};
 use image_write::write_elf;
 use line_index::LineIndex;
+use printed_texts::{Printed, Text, trial_text};
 use profile_book::Profile;
 use profile_pool::run_plan;
 use program_steps::{Fault, points_of, read_program};

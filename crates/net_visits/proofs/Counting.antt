@@ -10,7 +10,7 @@ use Rattle.std.proofs.lemmas.List.Sums.{count_by-le-length, count_by_more_yes, c
 use Rattle.coz_types.specs.declared.TheConstants.{GREATEST_COUNT}
 use Rattle.coz_types.specs.declared.record.Visit.{Visit}
 use Rattle.machines.specs.Shortened.{NetVisit}
-use Rattle.machines.specs.NetVisits.{net_of}
+use Rattle.machines.specs.KeptVisits.{net_of}
 use Rattle.net_visits.specs.Kept.{counts_of}
 use Rattle.net_visits.proofs.Hashing.{visit_at}
 

@@ -11,7 +11,7 @@ use Rattle.coz_types.specs.declared.record.Visit.{Visit}
 use Rattle.coz_types.specs.Ranges.{IsDigest}
 use Rattle.sha2.specs.Sha256.{sha256, digest_bytes, final_hash, initial_hash_256}
 use Rattle.sha2.proofs.Facts256.{length-sha256}
-use Rattle.machines.specs.NetVisits.{net_of}
+use Rattle.machines.specs.KeptVisits.{net_of}
 use Rattle.net_visits.specs.Kept.{visit_bytes, visits_bytes}
 
 -- the visit at a place

@@ -1,7 +1,7 @@
 //! How often each progress point was visited.
 ghost use Rattle.std.specs.Prelude.{◌≡◌, ◌≤◌, length, map, IfOk};
 ghost use Rattle.coz_types.specs.declared.TheConstants.{MOST_VISITS_KEPT};
-ghost use Rattle.machines.specs.NetVisits.{net_of};
+ghost use Rattle.machines.specs.KeptVisits.{net_of};
 ghost use Rattle.net_visits.specs.Kept.{counts_of};
 
 use coz_types::Visit;

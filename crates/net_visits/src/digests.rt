@@ -2,7 +2,7 @@
 ghost use Rattle.std.specs.Prelude.{◌≡◌, ◌≤◌, All, map};
 ghost use Rattle.coz_types.specs.declared.record.Visit.{Visit};
 ghost use Rattle.sha2.specs.Sha256.{sha256};
-ghost use Rattle.machines.specs.NetVisits.{net_of};
+ghost use Rattle.machines.specs.KeptVisits.{net_of};
 ghost use Rattle.net_visits.specs.Kept.{visit_bytes, visits_bytes};
 
 use coz_types::{Digest, Visit};

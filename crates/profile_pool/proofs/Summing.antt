@@ -12,8 +12,9 @@ use Rattle.machines.specs.Shortened.{NetVisit}
 use Rattle.machines.specs.Records.{Record, net_visit}
 use Rattle.sha2.specs.Sha256.{sha256}
 use Rattle.guest_calls.specs.Guest.{Guest}
-use Rattle.machines.specs.NetVisits.{net_of}
-use Rattle.virtual_run.specs.DelayedRun.{visit_as, outcome_of}
+use Rattle.machines.specs.KeptVisits.{net_of}
+use Rattle.virtual_run.specs.DelayedRun.{outcome_of}
+use Rattle.machines.specs.KeptVisits.{visit_as}
 use Rattle.net_visits.specs.Kept.{visits_bytes, counts_of}
 use Rattle.profile_pool.specs.Summaries.{outcome_in, summary_of}
 

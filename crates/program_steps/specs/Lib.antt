@@ -1,3 +1,4 @@
+pub mod Words
 pub mod FaultLines
 pub mod LineTable
 pub mod Selection

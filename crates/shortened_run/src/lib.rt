@@ -3,7 +3,7 @@
 
 ghost use Rattle.std.specs.Prelude.{◌≡◌, ◌≤◌, ◌<◌, Some, IfOk, All, length, map};
 ghost use Rattle.coz_types.specs.declared.TheConstants.{HARTS, MOST_OUTPUT, MOST_VISITS_KEPT};
-ghost use Rattle.machines.specs.NetVisits.{net_of};
+ghost use Rattle.machines.specs.KeptVisits.{net_of};
 ghost use Rattle.virtual_run.specs.Seen.{machine_view, experiment_of};
 ghost use Rattle.shortened_run.specs.ShortenedRun.{AreUndelayed};
 

@@ -52,7 +52,8 @@ use Rattle.virtual_run.specs.Advance.{IsRetired, IsWoken, IsAdvance}
 use Rattle.virtual_run.specs.Credited.{raise_ticks, with_credits, with_starts, with_raises, with_rest, with_begun, credits_after, moment_of, credited_by, Runs, AllRun, AllBelow, Holds, CanBegin, CanWake, CanSettle, CanFollow}
 use Rattle.virtual_run.specs.Credited as credited
 use Rattle.virtual_run.specs.Seen.{Seen, view_in, experiment_with, experiment_of}
-use Rattle.virtual_run.specs.DelayedRun.{visit_as, net_due_of, account_in, outcome_of, IsOfAHart, IsSmall, Happens, AgreesThroughout, EndsOnce, IsPaced}
+use Rattle.virtual_run.specs.DelayedRun.{net_due_of, account_in, outcome_of, IsOfAHart, IsSmall, Happens, AgreesThroughout, EndsOnce, IsPaced}
+use Rattle.machines.specs.KeptVisits.{visit_as}
 use Rattle.virtual_run.proofs.Keys.{has_place, rested_length, next_is}
 use Rattle.virtual_run.proofs.Many.{many_few}
 use Rattle.cost_table.proofs.ByOpcode.{few_cycles}

@@ -18,7 +18,7 @@ use Rattle.guest_calls.specs.Guest.{Guest, pc_of, is_sleeping, with_wake}
 use Rattle.guest_calls.specs.Retire.{next_of, retire}
 use Rattle.virtual_run.specs.declared.choice.Setting.{Setting}
 use Rattle.virtual_run.specs.declared.engine.Engine.{Engine}
-use Rattle.machines.specs.NetVisits.{net_of}
+use Rattle.machines.specs.KeptVisits.{net_of}
 use Rattle.virtual_run.specs.Visits.{Visits, visits_of}
 use Rattle.virtual_run.specs.Begin.{started_by, keys_at_rest, AreBegun}
 use Rattle.virtual_run.specs.Ending.{ending_of, runs_after}

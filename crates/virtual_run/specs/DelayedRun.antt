@@ -25,15 +25,6 @@ use Rattle.virtual_run.specs.Engine.{events_of, IsReached}
 use Rattle.virtual_run.specs.Seen.{experiment_with}
 use Rattle.virtual_run.specs.Credited.{Holds}
 
--- a visit as the machine keeps it
-abbrev pub visit_as : GivenVisit → Visit
-visit_as visit = record {
-  point = visit.point.0;
-  hart = visit.hart.0;
-  time = visit.time;
-  delay = visit.delay;
-}
-
 -- the net moment at which a hart of a run that goes on retires: as many ticks from now on as it
 -- works and pauses before it, less the global delay
 abbrev pub net_due_of : Delayed Guest → ℕ → Option ℕ

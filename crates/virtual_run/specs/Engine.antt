@@ -13,7 +13,7 @@ use Rattle.virtual_run.specs.declared.choice.Setting.{Setting}
 use Rattle.virtual_run.specs.declared.engine.Engine.{Engine}
 use Rattle.virtual_run.specs.Begin.{many}
 use Rattle.virtual_run.specs.Run.{experiment_in, selected_of}
-use Rattle.machines.specs.NetVisits.{net_of}
+use Rattle.machines.specs.KeptVisits.{net_of}
 
 -- the retirements and wakes so far
 abbrev pub events_of : Engine → ℕ

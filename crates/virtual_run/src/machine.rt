@@ -5,7 +5,8 @@ ghost use Rattle.hart_schedule.specs.Keys.{key_of};
 ghost use Rattle.delay_credits.specs.Delays.{account_as};
 ghost use Rattle.virtual_run.specs.Seen.{machine_view, experiment_of};
 ghost use Rattle.virtual_run.specs.Lead.{arguments, is_unstarted};
-ghost use Rattle.virtual_run.specs.DelayedRun.{visit_as, net_due_of, account_in, outcome_of, IsSmall, Happens, AgreesThroughout, EndsOnce};
+ghost use Rattle.virtual_run.specs.DelayedRun.{net_due_of, account_in, outcome_of, IsSmall, Happens, AgreesThroughout, EndsOnce};
+ghost use Rattle.machines.specs.KeptVisits.{visit_as};
 
 use crate::accounts::{follow, raise_harts, raise_selected};
 use crate::engine::{FIRST, is_wake};

@@ -1,9 +1,9 @@
 use Rattle.std.proofs.Common.{ap, ◌∙◌}
 use Rattle.coz_types.specs.Image.{ImageParts}
 use Rattle.dwarf_lines.specs.Registers.{Table, view}
-use Rattle.coz_cli.specs.Text.{lines_text}
+use Rattle.printed_texts.specs.Text.{lines_text}
 use Rattle.coz_cli.specs.Verdict.{text_verdict}
-use Rattle.coz_cli.proofs.Listing.{listed}
+use Rattle.printed_texts.proofs.IndexText.{listed}
 use Rattle.coz_cli.proofs.lines.lines_answer.Goals as goal
 
 pub returns-clause-settled : goal.returns-clause-settled

@@ -1,6 +1,6 @@
 use Rattle.std.proofs.Common.{map, take, sym, subst}
 use Rattle.sha2.specs.Hashers.{Holds256}
-use Rattle.machines.specs.NetVisits.{net_of}
+use Rattle.machines.specs.KeptVisits.{net_of}
 use Rattle.net_visits.specs.Kept.{visits_bytes}
 use Rattle.net_visits.proofs.Hashing.{one_more}
 use Rattle.net_visits.proofs.digests.digest_of_visits.Goals as goal

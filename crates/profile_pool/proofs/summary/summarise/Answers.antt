@@ -3,7 +3,7 @@ use Rattle.coz_types.specs.Ranges.{IsSummary}
 use Rattle.sha2.specs.Sha256.{sha256}
 use Rattle.machines.specs.Records.{record_of}
 use Rattle.virtual_run.specs.Seen.{experiment_of}
-use Rattle.machines.specs.NetVisits.{net_of}
+use Rattle.machines.specs.KeptVisits.{net_of}
 use Rattle.net_visits.specs.Kept.{counts_of}
 use Rattle.profile_pool.proofs.Within.{IsWithin, summary_is}
 use Rattle.profile_pool.proofs.Summing.{ending_is, few_visits, outcome_is, summed}

@@ -1,5 +1,0 @@
-use Rattle.coz_cli.proofs.Listing.{one_more}
-use Rattle.coz_cli.proofs.lines_text.lines_text.Goals as goal
-
-pub loop-line-preserved : goal.loop-line-preserved
-loop-line-preserved c = one_more c.args.index.now c.loop-line.line _ _ _ c.in_ok-push_index_line.ensures c.loop-line.invariant

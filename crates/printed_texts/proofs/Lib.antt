@@ -1,0 +1,2 @@
+pub mod IndexText
+mod Examples

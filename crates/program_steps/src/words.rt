@@ -1,0 +1,16 @@
+//! The request of the words.
+ghost use Rattle.std.specs.Prelude.{IfOk};
+ghost use Rattle.coz_words.specs.Answers.{Answers};
+ghost use Rattle.coz_words.specs.Request.{IsFit};
+ghost use Rattle.program_steps.specs.Words.{bytes_of, request_of};
+
+use coz_words::{Request, WordsError, read_words};
+use std::alloc::Global;
+
+/// What the words ask for, where they are right. Err tells that they aren't, or want of memory.
+pub fn request(alloc: Global, words: &[String]) -> Result<Request, WordsError>
+    ensures asked { Answers (request_of (bytes_of words.now)) result }
+    ensures fit { IfOk result IsFit }
+{
+    read_words(alloc, words)
+}
