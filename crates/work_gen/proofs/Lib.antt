@@ -1,4 +1,4 @@
-mod Adding
+mod BlockTexts
 mod Texts
 mod Reading
 mod Names

@@ -6,7 +6,7 @@ use Rattle.std.proofs.lemmas.Bool.{and_parts, leb-true}
 use Rattle.std.proofs.lemmas.Fmt.{length-decimal-le}
 use Rattle.work_gen.specs.Text.{Line, b, c, next, draw_of, statement, statements, label, line_saying, turning_lines, locking_lines, locked_block, kinds, block, blocks, text_of_lines, opening, before_point, ending, generated}
 use Rattle.work_gen.proofs.Blocks.{all_blocks}
-use Rattle.work_gen.proofs.Steps.{adds, sleeps}
+use Rattle.work_gen.proofs.BlockTexts.{sleeps, adds}
 
 abbrev IsShort : Line → Type 0
 IsShort line = length line ≤ 40
