@@ -5,7 +5,6 @@ ghost use Rattle.coz_types.specs.declared.TheConstants.{MOST_WORKERS};
 ghost use Rattle.coz_types.specs.Ranges.{IsSummary};
 ghost use Rattle.experiment_claims.specs.Drawn.{all_turns, first_hand};
 ghost use Rattle.experiment_claims.specs.Seats.{hand_of, IsSeatOf, bound_of};
-ghost use Rattle.claim_workers.specs.Worked.{Worked, AreSummaries};
 ghost use Rattle.claim_workers.specs.Jobs.{IsJob, IsAnswer};
 
 use crate::claimed::in_order;
@@ -85,30 +84,6 @@ fn run_jobs<R: Threads + Sync, W: ClaimWork, G: Gate>(
     )
 }
 
-/// The joined seat of so many workers, once all claims are drawn, and what they did.
-fn draw_all<R: Threads + Sync, W: ClaimWork, G: Gate>(
-    rt: &R,
-    alloc: Global,
-    work: &W,
-    claims: &Claims,
-    first: ClaimSeat,
-    workers: u32,
-    gate: &G,
-) -> Result<Answer, AllocError>
-    requires work { W.is_ready work.now × (bound_of claims.now ≡ W.bound work.now) }
-    requires seat { IsSeatOf claims.now first × (hand_of first ≡ first_hand) }
-    requires workers { workers ≤ MOST_WORKERS }
-    ensures seat { IfOk result (λ a. IsSeatOf claims.now a.seat) }
-    ensures worked { IfOk result (λ a. Worked (W.summaries_of_claim work.now)
-        (bound_of claims.now) all_turns workers (hand_of a.seat) a.done.items) }
-    ensures ranges { IfOk result (λ a. AreSummaries (W.points work.now) a.done.items) }
-{
-    let bound = work.count();
-    let (rest, jobs) = deal(alloc, work, claims, first, bound, workers)?;
-    let answers = run_jobs(rt, alloc, work, claims, jobs, gate)?;
-    gather(alloc, work, claims, rest, answers)
-}
-
 /// What the work of all claims gives, in the order of the claims, whatever the number of workers
 /// and the gate. Only want of memory stands against it, after which the workers that are left
 /// work to their end.
@@ -127,8 +102,11 @@ pub fn run_claims<R: Threads + Sync, W: ClaimWork, G: Gate>(
     ensures ranges { IfOk result (λ summaries.
         All (IsSummary (W.points work.now)) summaries.items) }
 {
-    let (claims, first) = Claims::new(alloc, work.count())?;
-    let Answer { seat, done } = draw_all(rt, alloc, work, &claims, first, workers, gate)?;
+    let count = work.count();
+    let (claims, first) = Claims::new(alloc, count)?;
+    let (rest, jobs) = deal(alloc, work, &claims, first, count, workers)?;
+    let answers = run_jobs(rt, alloc, work, &claims, jobs, gate)?;
+    let Answer { seat, done } = gather(alloc, work, &claims, rest, answers)?;
     claims.finish(seat);
     in_order(alloc, done)
 }

@@ -1,4 +1,4 @@
-use Rattle.std.proofs.Common.{◌∙◌, sym}
+use Rattle.std.proofs.Common.{◌∙◌, ◌≤◌, sym, arith, vec_len}
 use Rattle.std.specs.List.{flat_map, range_with_len}
 use Rattle.coz_types.specs.Ranges.{IsSummary}
 use Rattle.claim_workers.specs.Worked.{EachClaim}
@@ -11,9 +11,10 @@ returns g c =
     let bound = g.W.ClaimWork.bound c.args.work.now in
     let Kept = IsSummary (g.W.ClaimWork.points c.args.work.now) in
     let did = c.in_ok-seat in
-    let all = c.in_ok-claims.ensures.bound ∙ c.count.ensures in
+    let all = c.in_ok-claims.ensures.bound ∙ c.count-count.ensures in
+    let some : 1 ≤ vec_len c.in_ok-answers.answers = omega (arith, c.in_ok-answers.ensures.len, c.in_ok-rest.ensures.jobs.0, c.requires.some_workers) in
     let each : EachClaim f bound did.field-0.done.items =
-    rw (sym all) (each_claim f _ _ _ _ _ _ did.ensures.worked c.requires.some_workers c.finish.ensures.each) in
+    rw (sym all) (each_claim f _ _ _ _ _ _ did.ensures.worked some c.finish.ensures.each) in
     let summaries = c.in_order.ensures f bound each in
     record {
       summaries = summaries;
