@@ -4,10 +4,10 @@ use Rattle.coz_types.specs.declared.TheConstants.{HARTS}
 use Rattle.coz_types.specs.declared.ending.Ending.{Ending}
 use Rattle.coz_types.specs.declared.ending.Ending.TheVariants.{Exited, Trapped, Unsupported, Clock, OutputFull, VisitsFull, Stalled, Spent}
 use Rattle.coz_types.specs.declared.record.Outcome.{Outcome}
-use Rattle.coz_types.specs.declared.record.Visit.{Visit as GivenVisit}
 use Rattle.coz_types.specs.Image.{ImageParts}
 use Rattle.machines.specs.Guest.{Experiment}
-use Rattle.machines.specs.Delayed.{Account, Visit, Delayed, idle_hart, events, delayed}
+use Rattle.machines.specs.Delayed.{Account, Delayed, idle_hart, events, delayed}
+use Rattle.machines.specs.KeptVisits.{visit_as}
 use Rattle.machines.specs.Shortened.{shortened}
 use Rattle.machines.specs.Agreement.{Agrees}
 use Rattle.machines.specs.Records.{Record, IsDelayed}
