@@ -10,17 +10,15 @@ use Rattle.coz_types.specs.declared.LineId.{LineId}
 use Rattle.coz_types.specs.declared.record.Summary.{Summary}
 use Rattle.line_index.specs.Index.{Index}
 use Rattle.line_index.specs.Lines.{Line}
-use Rattle.progress_points.specs.Points.{Points, IsPoints, IsFault}
-use Rattle.progress_points.specs.declared.PointsError.{PointsError}
-use Rattle.progress_points.specs.declared.PointsError.TheVariants as pointing
+use Rattle.progress_points.specs.Points.{Points, IsPoints}
 use Rattle.experiment_plan.specs.Selected.{ids}
 use Rattle.experiment_plan.specs.Pairs.{planned_pairs, IsPlan}
 use Rattle.experiment_plan.specs.declared.experiment.Experiment.{Experiment as Pair}
 use Rattle.experiment_plan.specs.declared.experiment.PlanError.{PlanError}
 use Rattle.experiment_plan.specs.declared.experiment.PlanError.TheVariants as planning
 use Rattle.coz_cli.specs.Answer.{fault_verdict, IsMemoryFault}
-use Rattle.program_steps.specs.Causes.{planning_fault, points_fault}
-use Rattle.program_steps.specs.FaultLines.{plan_line, points_line}
+use Rattle.program_steps.specs.Causes.{planning_fault}
+use Rattle.program_steps.specs.FaultLines.{plan_line}
 use Rattle.machines.specs.Guest.{Experiment}
 use Rattle.machines.specs.Standing.{delayed_record}
 use Rattle.guest_calls.specs.Guest.{Guest}
@@ -35,20 +33,6 @@ use Rattle.coz_cli.specs.Profiled.{all_lines, experiment_on, label_at, pairs_of,
 use Rattle.profile_book.specs.declared.profile.Profile.{Profile}
 use Rattle.coz_cli.proofs.Indexed.{experiment_is}
 use Rattle.coz_cli.specs.Verdict.{Verdict, named_verdict, plan_verdict, points_verdict, profile_verdict, profiled_verdict, refusal}
-
--- ---- points
-
--- at most 64 points
-pub points_few : (named : List ℕ) (next : List ℕ → Verdict) → length named ≤ 64 → next named ≡ points_verdict named next
-points_few named next few = ap (λ (many : Bool). cond many (refusal 7 (points_line (length named))) (next named)) (sym (le-ltb 64 (length named) few))
-
--- more are too many
-pub points_many : (named : List ℕ) (error : PointsError) (next : List ℕ → Verdict) → IsFault (length named) error → (IsMemoryFault (points_fault error) → ⊥)
-    → fault_verdict (points_fault error) ≡ points_verdict named next
-points_many named (pointing.TooMany count) next is other =
-    ap (λ (n : ℕ). refusal 7 (points_line n)) is.1
-    ∙ ap (λ (many : Bool). cond many (refusal 7 (points_line (length named))) (next named)) (sym (lt-ltb 64 (length named) is.0))
-points_many named pointing.Memory next is other = absurd (other tt)
 
 -- ---- the plan
 

@@ -26,7 +26,6 @@ use Rattle.experiment_plan.specs.Pairs.{IsPlan, planned_pairs}
 use Rattle.experiment_plan.specs.declared.experiment.Experiment.{Experiment as Pair}
 use Rattle.experiment_plan.specs.declared.experiment.PlanError.{PlanError}
 use Rattle.experiment_plan.specs.declared.experiment.PlanError.TheVariants as planning
-use Rattle.experiment_plan.proofs.Naming.{found_below}
 use Rattle.experiment_plan.proofs.Pairing.{many}
 use Rattle.coz_types.specs.declared.record.Summary.{Summary}
 use Rattle.machines.specs.Standing.{delayed_record}
@@ -133,9 +132,6 @@ pub point_found : (point : ℕ) (lines : List Line) (k : ℕ) → position_named
 unfolding trial_point
 point_found point lines k is = ap (λ (o : Option ℕ). elim o as (λ x. Result ℕ Text) [ Some line ↦ Ok line | None ↦ Err trial_name ]) is
 
-pub point_within : (point : ℕ) (lines : List Line) (k : ℕ) → position_named trial_name point lines ≡ Some k → k < length lines
-point_within point lines k is = found_below trial_name point lines k is
-
 pub point_absent : (point : ℕ) (lines : List Line) → position_named trial_name point lines ≡ None → IsOk (trial_point point lines) → ⊥
 unfolding trial_point
 point_absent point lines is ok =
@@ -181,14 +177,6 @@ pub tenths_rise : (n : ℕ) → IsStrictlySortedBy nat_cmp (tenths n)
 unfolding tenths IsStrictlySortedBy
 tenths_rise zero = tt
 tenths_rise (suc n) = kept_rise (λ position. nat_lt position (suc n)) (map (λ i. i * ((suc n + 9) / 10)) (range_with_len 0 10)) (multiples_rise ((suc n + 9) / 10) 0 10 (omega arith))
-
-kept_few : (test : ℕ → Bool) (xs : List ℕ) → length (filter test xs) ≤ length xs
-kept_few test [] = omega arith
-kept_few test (x ∷ xs) = elim (test x) as (λ b. length (cond b (x ∷ filter test xs) (filter test xs)) ≤ length (x ∷ xs)) [ true ↦ omega (arith, kept_few test xs) | false ↦ omega (arith, kept_few test xs) ]
-
-pub tenths_few : (n : ℕ) → length (tenths n) ≤ 10
-unfolding tenths
-tenths_few n = kept_few (λ position. nat_lt position n) (map (λ i. i * ((n + 9) / 10)) (range_with_len 0 10))
 
 -- one multiple more
 abbrev pub so_many : ℕ → ℕ → ℕ → List ℕ

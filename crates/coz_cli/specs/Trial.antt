@@ -1,9 +1,7 @@
 -- A trial: the program that a seed and a size make, its profile over at most ten of its lines,
 -- and the five lines of that.
-use Rattle.std.specs.Prelude.{◌≡◌, ℕ, ◌+◌, ◌*◌, ◌/◌, nat_lt, List, [], ◌∷◌, ◌++◌, length, map, filter, Contains, Option, None, Some, Result, Ok, Err, codes, decimal, ℤ}
+use Rattle.std.specs.Prelude.{◌≡◌, ℕ, ◌+◌, ◌*◌, ◌/◌, nat_lt, List, [], ◌∷◌, length, map, filter, Contains, None, Some, Result, Ok, Err, codes}
 use Rattle.std.specs.List.{range_with_len}
-use Rattle.std.specs.Fmt.{signed_decimal}
-use Rattle.sha2.specs.Sha256.{sha256}
 use Rattle.rv_asm.specs.declared.AsmFault.{AsmFault}
 use Rattle.rv_asm.specs.Assembled.{Program, IsProgram, assembled}
 use Rattle.work_gen.specs.Text.{Source}
@@ -11,9 +9,6 @@ use Rattle.image_write.specs.File.{written_file}
 use Rattle.line_index.specs.Lines.{Line, position_named}
 use Rattle.experiment_plan.specs.declared.experiment.Experiment.{Experiment as Pair}
 use Rattle.profile_book.specs.declared.profile.Profile.{Profile}
-use Rattle.profile_book.specs.Profile.{hex_text, profile_text}
-use Rattle.causal_curves.specs.Curves.{curves_of, ranked_curves}
-use Rattle.causal_curves.specs.declared.curve.Curve.{Curve}
 use Rattle.coz_types.specs.declared.TheConstants.{LEAST_VERSION}
 use Rattle.coz_cli.specs.declared.trial.TheConstants.{BUDGET, SELECTED}
 use Rattle.coz_words.specs.Said.{Text}

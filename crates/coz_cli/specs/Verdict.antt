@@ -1,13 +1,11 @@
 -- What the words and the files that the paths hold come to: a status, a text for the output
 -- and a line for the errors.
-use Rattle.std.specs.Prelude.{ℕ, List, [], length, nat_lt, codes, Bool, true, false, Option, None, Some, Result, Ok, Err, if◌then◌else◌}
+use Rattle.std.specs.Prelude.{ℕ, List, [], length, nat_lt, codes, Option, None, Some, Result, Ok, Err, if◌then◌else◌}
 use Rattle.std.specs.List.{list_all}
 use Rattle.coz_cli.specs.declared.experiment.TheConstants.{MAX_INPUT}
 use Rattle.asm_tokens.specs.declared.TheConstants.{MAX_SOURCE}
 use Rattle.experiment_plan.specs.declared.experiment.TheConstants.{MOST_PAIRS}
 use Rattle.coz_types.specs.declared.TheConstants.{MAX_PROGRAM}
-use Rattle.coz_types.specs.declared.ending.Ending.{Ending}
-use Rattle.coz_types.specs.declared.ending.Ending.TheVariants.{Exited}
 use Rattle.coz_types.specs.declared.record.Summary.{Summary}
 use Rattle.coz_files.specs.Held.{Held, file_at}
 pub use Rattle.printed_texts.specs.Printed.{has_exited, ending_status, ended_verdict}

@@ -1,5 +1,5 @@
 -- Texts, computed on the definitions.
-use Rattle.std.proofs.Common.{◌≡◌, ℕ, List, [], ◌∷◌, codes, Some, true, false, refl}
+use Rattle.std.proofs.Common.{◌≡◌, ℕ, [], ◌∷◌, codes, Some, true, false, refl}
 use Rattle.std.specs.Fmt.{digits}
 use Rattle.coz_types.specs.declared.ending.Ending.TheVariants.{Exited}
 use Rattle.coz_types.specs.declared.image.Area.{Area}

@@ -4,3 +4,4 @@ pub mod Tables
 pub mod Loads
 pub mod Files
 pub mod Requested
+mod Examples
