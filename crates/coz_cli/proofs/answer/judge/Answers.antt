@@ -24,3 +24,6 @@ returns-in-Trial-clause-settled g c =
 
 pub returns-in-Trial-clause-untold : goal.returns-in-Trial-clause-untold
 returns-in-Trial-clause-untold g c = λ read. absurd (trial_no_read (trial_verdict c.args.request.now.seed c.args.request.now.size) c.judge_trial.result c.judge_trial.ensures read)
+
+pub returns-in-Really-clause-settled : goal.returns-in-Really-clause-settled
+returns-in-Really-clause-settled g c = rw c.in-Really.is c.judge_experiment-in-Really.ensures.settled
