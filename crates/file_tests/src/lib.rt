@@ -1,5 +1,5 @@
-//! Tests of the libraries that read programs, their lines, profiles and curves, and of the buffer
-//! before a sink, and nothing else.
+//! Tests of the libraries that read programs, their lines, profiles and curves, of the host's files
+//! and sinks and of the buffer before a sink, and nothing else.
 #![tactic(auto)]
 
 #[cfg(test)]
@@ -12,6 +12,8 @@ mod coz_types_tests;
 mod dwarf_lines_tests;
 #[cfg(test)]
 mod elf_load_tests;
+#[cfg(test)]
+mod host_tests;
 #[cfg(test)]
 mod leb_cursor_tests;
 #[cfg(test)]
