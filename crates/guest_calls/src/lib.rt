@@ -6,8 +6,6 @@ mod hart;
 mod linux;
 mod output;
 mod pieces;
-#[cfg(test)]
-mod tests;
 mod threads;
 mod times;
 

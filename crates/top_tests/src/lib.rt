@@ -2,6 +2,8 @@
 #![tactic(auto)]
 
 #[cfg(test)]
+mod call_tests;
+#[cfg(test)]
 mod calls;
 #[cfg(test)]
 mod coz_cli_tests;

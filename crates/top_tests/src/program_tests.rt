@@ -53,12 +53,12 @@ fn what_is_assembled_runs(rt: HostRuntime) -> Result<(), Fail> {
     Ok(())
 }
 
-/// It writes 1,024 bytes again and again.
+/// It writes 1,000 bytes again and again. There is room for 304 of the last.
 const FILL: &[u8] =
-    b"again: li a0, 1\nla a1, text\nli a2, 1024\nli a7, 64\necall\nj again\n.data\ntext: .zero 1024\n";
+    b"again: li a0, 1\nla a1, text\nli a2, 1000\nli a7, 64\necall\nj again\n.data\ntext: .zero 1000\n";
 
 const FULL: &[u8] =
-    b"end output-full\ntime 19251000\ndelay 0\nnet 19251000\nretired 28671\nstarts 0\nhart 0 own 0 paused 0 credited 0\noutput 4194304\n";
+    b"end output-full\ntime 19716300\ndelay 0\nnet 19716300\nretired 29364\nstarts 0\nhart 0 own 0 paused 0 credited 0\noutput 4194304\n";
 
 #[test]
 fn a_run_ends_as_its_output_is_full(rt: HostRuntime) -> Result<(), Fail> {
