@@ -33,11 +33,12 @@ use Rattle.program_steps.specs.Words.{request_of}
 use Rattle.program_steps.specs.LineTable.{table_in}
 use Rattle.program_steps.specs.Selection.{line_named, lines_named}
 use Rattle.progress_points.specs.Points.{point_in}
-use Rattle.coz_cli.specs.Experiment.{Runs, choice_of, entries_of, experiment_by_table}
-use Rattle.coz_cli.specs.Profiled.{all_lines, experiment_on, pairs_of, profile_of}
+use Rattle.command_answers.specs.Experiment.{Runs, choice_of, entries_of, experiment_by_table}
+use Rattle.command_answers.specs.Profiled.{all_lines, experiment_on, pairs_of, profile_of}
 use Rattle.program_steps.specs.FaultLines.{plan_line, points_line}
-use Rattle.coz_cli.proofs.Profiling.{speedups_small}
-use Rattle.coz_cli.specs.Verdict.{Verdict, Judging, refusal, verdict, request_verdict, command_verdict, read_verdict, input_verdict, file_verdict, files_verdict, asked_verdict, named_verdict, points_verdict, plan_verdict, profile_verdict, profiled_verdict, loaded_verdict, table_verdict, run_verdict, really_verdict}
+use Rattle.command_answers.proofs.Profiling.{speedups_small}
+use Rattle.command_answers.specs.Verdict.{Verdict, Judging, refusal, command_verdict, read_verdict, input_verdict, file_verdict, files_verdict, asked_verdict, named_verdict, points_verdict, plan_verdict, profile_verdict, profiled_verdict, loaded_verdict, table_verdict, run_verdict, really_verdict}
+use Rattle.coz_cli.specs.Verdict.{verdict, request_verdict}
 use Rattle.coz_cli.specs.Headline.{IsAsked, PrintsRun, PrintsProfile, PrintsReally, PrintsShortened, IsInput}
 
 -- ---- the experiments of a request

@@ -9,12 +9,14 @@ use Rattle.printed_texts.specs.declared.printed.Printed.{Printed}
 use Rattle.program_steps.specs.declared.fault.Fault.{Fault}
 use Rattle.program_steps.specs.declared.fault.Fault.TheVariants.{Usage, Program, Lines, Read, Write, NoLine, ManyPoints, Long, ManyExperiments, Memory, Source, Profile}
 use Rattle.program_steps.specs.Words.{request_of}
-use Rattle.coz_cli.specs.Verdict.{Verdict, command_verdict, request_verdict, verdict}
-use Rattle.coz_cli.specs.Answer.{Answer, IsMemory, IsMemoryFault, IsReadFault, Suits, Settles, fault_line, fault_status, printed_verdict, text_bytes}
+use Rattle.command_answers.specs.Verdict.{Verdict, command_verdict}
+use Rattle.coz_cli.specs.Verdict.{request_verdict, verdict}
+use Rattle.command_answers.specs.Answer.{Answer, IsMemory, IsMemoryFault, IsReadFault, Suits, Settles, fault_line, fault_status, printed_verdict, text_bytes}
 use Rattle.coz_cli.specs.Headline.{PrintsForAnyWorkers, PrintsShortened}
 use Rattle.coz_cli.specs.Serve.{IsLine}
 use Rattle.coz_cli.proofs.Printed.{prints_shortened}
-use Rattle.coz_cli.proofs.Told.{IsOf, memory_status, told_line}
+use Rattle.command_answers.proofs.Faults.{memory_status}
+use Rattle.coz_cli.proofs.Told.{IsOf, told_line}
 use Rattle.coz_cli.proofs.Workers.{printed_alike}
 
 -- nothing is asked of a status that is above a run's

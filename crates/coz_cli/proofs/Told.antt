@@ -1,5 +1,5 @@
 -- What is known of the line of a fault.
-use Rattle.std.proofs.Common.{◌≡◌, ◌≢◌, ◌≤◌, ◌==◌, false, ◌∙◌, ℕ, List, Option, Some, None, IfSome, Err, refl, sym, ap, subst, arith, ◌⊎◌, inl, inr}
+use Rattle.std.proofs.Common.{◌≡◌, ◌≢◌, ◌==◌, false, ◌∙◌, ℕ, List, Option, Some, None, IfSome, Err, refl, sym, ap, ◌⊎◌, inl, inr}
 use Rattle.std.specs.Prelude.{IfNone, IsSomeAnd}
 use Rattle.std.proofs.lemmas.Bool.{eqb-false}
 use Rattle.coz_files.specs.Faults.{Rose}
@@ -8,8 +8,9 @@ use Rattle.program_steps.specs.declared.fault.Fault.{Fault}
 use Rattle.program_steps.specs.declared.fault.Fault.TheVariants.{Usage, Program, Lines, Read, Write, NoLine, ManyPoints, Long, ManyExperiments, Memory, Source, Profile}
 use Rattle.coz_words.specs.declared.request.Request.{Request}
 use Rattle.program_steps.specs.Words.{Names, request_of}
-use Rattle.coz_cli.specs.Verdict.{Verdict, text_verdict, verdict}
-use Rattle.coz_cli.specs.Answer.{IsMemoryFault, IsReadFault, Suits, Settles, fault_status, fault_line, fault_verdict}
+use Rattle.command_answers.specs.Verdict.{Verdict}
+use Rattle.coz_cli.specs.Verdict.{verdict}
+use Rattle.command_answers.specs.Answer.{IsMemoryFault, IsReadFault, Suits, Settles, fault_status, fault_line}
 use Rattle.coz_cli.specs.Serve.{IsLine}
 
 -- a fault of the words themselves, or one that suits their request
@@ -97,47 +98,3 @@ module _ (status : ℕ) (words : List (List ℕ)) (told : Option Held) (before n
   told_line (ManyExperiments count) k = plain (ManyExperiments count) k refl refl refl refl (λ no. no) (λ no. no)
   told_line (Source fault) k = plain (Source fault) k refl refl refl refl (λ no. no) (λ no. no)
   told_line (Profile fault) k = plain (Profile fault) k refl refl refl refl (λ no. no) (λ no. no)
-
--- no fault has the status of a run
-pub told_high : (fault : Fault) → 2 ≤ fault_status fault
-told_high Usage = omega arith
-told_high (Program fault) = omega arith
-told_high (Lines fault) = omega arith
-told_high (Read path) = omega arith
-told_high Write = omega arith
-told_high (NoLine piece) = omega arith
-told_high (ManyPoints count) = omega arith
-told_high (Long path) = omega arith
-told_high (ManyExperiments count) = omega arith
-told_high Memory = omega arith
-told_high (Source fault) = omega arith
-told_high (Profile fault) = omega arith
-
--- a fault is want of memory, or it isn't
-memory_or : (fault : Fault) → (fault ≡ Memory) ⊎ (IsMemoryFault fault → ⊥)
-memory_or Memory = inl refl
-memory_or Usage = inr (λ no. no)
-memory_or (Program fault) = inr (λ no. no)
-memory_or (Lines fault) = inr (λ no. no)
-memory_or (Read path) = inr (λ no. no)
-memory_or Write = inr (λ no. no)
-memory_or (NoLine piece) = inr (λ no. no)
-memory_or (ManyPoints count) = inr (λ no. no)
-memory_or (Long path) = inr (λ no. no)
-memory_or (ManyExperiments count) = inr (λ no. no)
-memory_or (Source fault) = inr (λ no. no)
-memory_or (Profile fault) = inr (λ no. no)
-
-pub memory_is : (fault : Fault) → IsMemoryFault fault → fault ≡ Memory
-memory_is fault memory = elim (memory_or fault) [ inl is ↦ is | inr other ↦ absurd (other memory) ]
-
-pub memory_status : (fault : Fault) → IsMemoryFault fault → fault_status fault ≡ 10
-memory_status fault memory = ap fault_status (memory_is fault memory)
-
-never : (fault : Fault) (text : List ℕ) → fault_verdict fault ≡ text_verdict text → ⊥
-never fault text is = let e : fault_status fault ≡ 0 = ap (λ (v : Verdict). v.status) is in omega (arith, e, told_high fault)
-
--- where the verdict is a text, a fault is want of memory
-pub is_memory : (fault : Fault) (text : List ℕ) → ((IsMemoryFault fault → ⊥) → fault_verdict fault ≡ text_verdict text) → IsMemoryFault fault
-is_memory fault text settled =
-    elim (memory_or fault) [ inl is ↦ subst IsMemoryFault (sym is) tt | inr other ↦ absurd (never fault text (settled other)) ]

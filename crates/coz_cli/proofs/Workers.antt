@@ -5,7 +5,8 @@ use Rattle.coz_files.specs.Held.{Held}
 use Rattle.coz_words.specs.declared.command.Command.{Command}
 use Rattle.coz_words.specs.declared.command.Command.TheVariants.{Run, Really, Profile, Lines, Plot, Asm, Trial}
 use Rattle.coz_words.specs.declared.request.Request.{Request}
-use Rattle.coz_cli.specs.Verdict.{Verdict, command_verdict, profiled_verdict, request_verdict, verdict}
+use Rattle.command_answers.specs.Verdict.{Verdict, command_verdict, profiled_verdict}
+use Rattle.coz_cli.specs.Verdict.{request_verdict, verdict}
 use Rattle.coz_cli.specs.Headline.{AskAlike, PrintsForAnyWorkers}
 
 same_command : (c : Command) (asked : Request) (workers : ℕ) (held : Held) → command_verdict c asked held ≡ command_verdict c (record asked { workers = workers }) held

@@ -20,8 +20,8 @@ use Rattle.coz_words.specs.declared.command.Command.TheVariants.{Run, Really, Pr
 use Rattle.program_steps.specs.Words.{request_of}
 use Rattle.program_steps.specs.LineTable.{table_in}
 use Rattle.program_steps.specs.Selection.{line_named, lines_named}
-use Rattle.coz_cli.specs.Experiment.{Runs, choice_of, experiment_by_table}
-use Rattle.coz_cli.specs.Profiled.{all_lines, experiment_on, pairs_of, profile_with}
+use Rattle.command_answers.specs.Experiment.{Runs, choice_of, experiment_by_table}
+use Rattle.command_answers.specs.Profiled.{all_lines, experiment_on, pairs_of, profile_with}
 use Rattle.printed_texts.specs.Text.{run_text, really_text}
 use Rattle.coz_cli.specs.Verdict.{verdict}
 

@@ -1,8 +1,3 @@
-pub mod Experiment
-pub mod Profiled
-pub mod Trial
 pub mod Verdict
-pub mod Kind
-pub mod Answer
 pub mod Serve
 pub mod Headline

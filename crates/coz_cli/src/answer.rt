@@ -3,23 +3,16 @@ ghost use Rattle.std.specs.Prelude.{◌≡◌, IfErr, IfSome, IfNone};
 ghost use Rattle.coz_files.specs.Faults.{Rose};
 ghost use Rattle.coz_words.specs.Request.{IsFit};
 ghost use Rattle.coz_words.specs.declared.command.Command.TheVariants.{Trial};
-ghost use Rattle.coz_cli.specs.Verdict.{command_verdict};
-ghost use Rattle.coz_cli.specs.Answer.{IsMemory, IsMemoryFault, IsRead, Suits, Settles};
+ghost use Rattle.command_answers.specs.Verdict.{command_verdict};
+ghost use Rattle.command_answers.specs.Answer.{IsMemory, IsMemoryFault, IsRead, Suits, Settles};
 
-use crate::experiment::{Kind, judge_experiment};
-use crate::lines::judge_lines;
-use crate::plot::judge_plot;
-use crate::source::judge_source;
-use crate::trial::judge_trial;
+use command_answers::{
+    Answer, Kind, judge_experiment, judge_lines, judge_plot, judge_source, judge_trial,
+};
 use coz_files::{Files, Gate};
 use coz_words::{Command, Request};
-use printed_texts::Printed;
-use program_steps::Fault;
 use std::alloc::Global;
 use std::thread::Threads;
-
-/// What is to be written. A fault borrows from the request.
-pub type Answer<'r> = Result<Printed, Fault<'r>>;
 
 /// What a request comes to, and the files that it names. Err tells why nothing is printed.
 pub fn judge<'r, R: Threads + Sync, F: Files, G: Gate>(

@@ -2,13 +2,6 @@
 #![tactic(auto)]
 
 mod answer;
-mod experiment;
-mod lines;
-mod plot;
-mod profile;
-mod runs;
-mod source;
 mod top;
-mod trial;
 
 pub use top::serve;

@@ -1,7 +1,7 @@
 use Rattle.std.proofs.Common.{◌≡◌, true, subst, sym, refl}
 use Rattle.coz_words.specs.Request.{has_option, size_name, workers_name}
 use Rattle.coz_words.specs.declared.command.Command.{Command}
-use Rattle.coz_cli.specs.Verdict.{trial_verdict}
+use Rattle.command_answers.specs.Verdict.{trial_verdict}
 use Rattle.coz_cli.proofs.Names.{named, version}
 use Rattle.coz_cli.proofs.Trials.{trial_no_read, trial_settled, trial_suits}
 use Rattle.coz_cli.proofs.answer.judge.Goals as goal

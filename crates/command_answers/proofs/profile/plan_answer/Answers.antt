@@ -1,0 +1,18 @@
+use Rattle.std.proofs.Common.{◌∙◌, ap}
+use Rattle.command_answers.specs.Experiment.{runs_in}
+use Rattle.command_answers.specs.Verdict.{profile_verdict}
+use Rattle.command_answers.proofs.Profiling.{same_profile, summaries_are}
+use Rattle.command_answers.proofs.profile.plan_answer.Goals as goal
+
+pub returns-clause-settled : goal.returns-clause-settled
+returns-clause-settled g c = λ _.
+    let image = c.args.image.now in
+    let index = c.args.index.now in
+    let points = c.args.points.now in
+    let budget = c.args.request.now.budget in
+    let pairs = c.args.plan.now in
+    let ran = c.new.ensures
+    ∙ c.in_ok-summaries.ensures.summaries
+    ∙ summaries_are image index points c.args.input.now budget pairs c.requires.points in
+    c.printed_profile.ensures
+    ∙ ap profile_verdict (same_profile index.lines (runs_in image index c.args.input.now) budget points.lines pairs _ _ c.in_ok-labels.ensures ran)

@@ -1,0 +1,37 @@
+-- What is known of an answer before it is written.
+use Rattle.std.specs.Prelude.{◌≡◌, ℕ, ◌≤◌, Some, Result, Ok, Err, IfOk, IfErr}
+use Rattle.printed_texts.specs.declared.printed.Printed.{Printed}
+pub use Rattle.printed_texts.specs.Printed.{text_bytes, printed_verdict}
+pub use Rattle.program_steps.specs.Answer.{fault_status, fault_line, fault_verdict, verdict_after, IsReadFault, IsRead, IsMemoryFault, IsMemory, SettlesThen}
+use Rattle.program_steps.specs.declared.fault.Fault.{Fault}
+use Rattle.program_steps.specs.declared.fault.Fault.TheVariants.{Usage, Read, Write, Long}
+use Rattle.coz_words.specs.declared.request.Request.{Request}
+use Rattle.program_steps.specs.Words.{Names}
+use Rattle.command_answers.specs.Verdict.{Verdict}
+
+-- a text with its status, or why nothing is printed
+abbrev pub Answer : Type 0
+Answer = Result Printed Fault
+
+-- the verdict that an answer stands for
+abbrev pub verdict_of : Answer → Verdict
+verdict_of answer = verdict_after answer printed_verdict
+
+-- which answers a request may have
+abbrev pub Suits : Request → Answer → Type 0
+Suits asked (Ok printed) = printed.status ≤ 1
+Suits asked (Err Usage) = ⊥
+Suits asked (Err (Read path)) = Names (Some asked) path.now
+Suits asked (Err (Long path)) = Names (Some asked) path.now
+Suits asked (Err Write) = ⊥
+Suits asked (Err _) = Unit {0}
+
+-- an answer is this verdict's, or that of a read that failed with a counted fault
+abbrev pub Settles : Verdict → ℕ → ℕ → Answer → Type 0
+Settles verdict before now answer = SettlesThen printed_verdict verdict before now answer
+
+-- an answer of a trial: its verdict's, or want of memory
+pub record IsOfTrial (v : Verdict) (answer : Answer) : Type 0 where
+  pub settled : IfOk answer (λ p. printed_verdict p ≡ v)
+  pub low : IfOk answer (λ p. p.status ≤ 1)
+  pub memory : IfErr answer IsMemoryFault

@@ -1,0 +1,18 @@
+//! What each command comes to: a text and its status, or a fault.
+#![tactic(auto)]
+
+mod answer;
+mod experiment;
+mod lines;
+mod plot;
+mod profile;
+mod runs;
+mod source;
+mod trial;
+
+pub use answer::Answer;
+pub use experiment::{Kind, judge_experiment};
+pub use lines::judge_lines;
+pub use plot::judge_plot;
+pub use source::judge_source;
+pub use trial::judge_trial;

@@ -1,0 +1,45 @@
+//! The command `lines`.
+ghost use Rattle.std.specs.Prelude.{◌≡◌, ◌≤◌, length, IfSome, IfNone};
+ghost use Rattle.coz_types.specs.declared.TheConstants.{MAX_PROGRAM};
+ghost use Rattle.coz_files.specs.Faults.{Rose};
+ghost use Rattle.coz_words.specs.declared.command.Command.TheVariants.{Lines};
+ghost use Rattle.command_answers.specs.Verdict.{command_verdict, lines_verdict};
+ghost use Rattle.command_answers.specs.Answer.{verdict_of, IsMemory, IsRead, Suits, Settles};
+
+use crate::answer::Answer;
+use coz_files::Files;
+use coz_types::MAX_PROGRAM;
+use coz_words::Request;
+use printed_texts::{Printed, Text, lines_text};
+use program_steps::{read_file, read_program};
+use std::alloc::Global;
+
+/// What is written of the lines of the program that the request names.
+/// Err tells the first fault of the file, the program or its line table, or want of memory.
+pub fn judge_lines<'r, F: Files>(alloc: Global, request: &'r Request, files: &mut F) -> Answer<'r>
+    ensures same { F.held files.new ≡ F.held files.old }
+    ensures suits { Suits request.now result }
+    ensures settled { IfSome (F.held files.old) (λ held. (IsMemory result → ⊥) →
+        Settles (command_verdict Lines request.now held)
+        (F.faults files.old) (F.faults files.new) result) }
+    ensures untold { IsRead result
+        → IfNone (F.held files.old) (Rose (F.faults files.old) (F.faults files.new)) }
+    ensures no_fault { (IsRead result → ⊥) → F.faults files.new ≡ F.faults files.old }
+{
+    let file = read_file(alloc, files, request.target.text(), MAX_PROGRAM)?;
+    lines_answer(alloc, &file)
+}
+
+/// What is written of the lines of the program that a file is, if it is one.
+fn lines_answer<'r>(alloc: Global, file: &[u8]) -> Answer<'r>
+    requires short { length file.now ≤ MAX_PROGRAM }
+    ensures no_read { IsRead result → ⊥ }
+    ensures settled { (IsMemory result → ⊥) → verdict_of result ≡ lines_verdict file.now }
+{
+    let program = read_program(alloc, file)?;
+    let text = lines_text(alloc, program.table.skipped, &program.index)?;
+    Ok(Printed {
+        status: 0,
+        text: Text::Bytes(text),
+    })
+}

@@ -1,0 +1,203 @@
+//! The profile that a request asks for.
+ghost use Rattle.std.specs.Prelude.{◌≡◌, ◌<◌, ◌≤◌, ℕ, List, length, map, All, IfOk};
+ghost use Rattle.std.specs.List.{list_all};
+ghost use Rattle.std.specs.List.Sorted.{IsStrictlySortedBy};
+ghost use Rattle.std.specs.Ordering.{nat_cmp};
+ghost use Rattle.coz_types.specs.declared.LineId.{LineId};
+ghost use Rattle.coz_types.specs.declared.TheConstants.{GREATEST_SPEEDUP, MOST_POINTS};
+ghost use Rattle.coz_types.specs.declared.record.Summary.{Summary};
+ghost use Rattle.progress_points.specs.Points.{IsPoints};
+ghost use Rattle.experiment_plan.specs.declared.experiment.Experiment.{Experiment};
+ghost use Rattle.experiment_plan.specs.Selected.{ids};
+ghost use Rattle.coz_words.specs.Request.{IsFit};
+ghost use Rattle.command_answers.specs.Experiment.{Runs, runs_in};
+ghost use Rattle.command_answers.specs.Profiled.{label_at, pairs_of, profile_of};
+ghost use Rattle.command_answers.specs.Verdict.{Verdict, has_exited, plan_verdict, profile_verdict, profiled_verdict};
+ghost use Rattle.command_answers.specs.Answer.{verdict_of, verdict_after, printed_verdict, IsMemory, IsRead};
+
+use crate::answer::Answer;
+use coz_files::Gate;
+use coz_lists::Items;
+use coz_types::{Ending, Image, Label, LineId, PointId, Summary};
+use coz_words::Request;
+use experiment_plan::{Plan, plan};
+use line_index::LineIndex;
+use printed_texts::{Printed, Text, has_exited};
+use profile_book::Profile;
+use profile_pool::run_plan;
+use program_steps::{Fault, bytes_of, progress_points, selected_lines};
+use progress_points::Points;
+use std::alloc::{AllocError, Global};
+use std::thread::Threads;
+
+/// The labels of the points' lines.
+fn point_labels(
+    alloc: Global,
+    index: &LineIndex,
+    points: &Points,
+) -> Result<Items<Label>, AllocError>
+    requires few { length points.now.lines ≤ MOST_POINTS }
+    requires below { All (λ line. line < length index.now.lines) points.now.lines }
+    ensures { IfOk result (λ labels. labels ≡ map (label_at index.now.lines) points.now.lines) }
+{
+    let mut labels = Vec::new(alloc);
+    for point in 0..points.count() {
+        let line = points.line(PointId(point as u16));
+        labels.push(Label::copy(alloc, index.label(line).bytes())?)?;
+    }
+    Ok(Items::new(labels))
+}
+
+/// Whether each run exited.
+fn all_exited(summaries: &[Summary]) -> bool
+    ensures { result ≡ list_all (λ (s : Summary). has_exited s.outcome.ending) summaries.now }
+{
+    summaries
+        .iter()
+        .all(|summary| has_exited(summary.outcome.ending))
+}
+
+/// The status of runs: 0 where each exited.
+pub fn profile_status(profile: &Profile) -> u8
+    ensures status { result ≡ (profile_verdict profile.now).status }
+    ensures low { result ≤ 1 }
+{
+    if all_exited(profile.summaries.as_slice()) {
+        0
+    } else {
+        1
+    }
+}
+
+/// A profile that is to be written, and its status.
+fn printed_profile(profile: Profile) -> Printed
+    ensures { printed_verdict result ≡ profile_verdict profile }
+{
+    Printed {
+        status: profile_status(&profile),
+        text: Text::Profile(profile),
+    }
+}
+
+/// The plan of these lines and speedups, if it isn't too large.
+fn planned<'r>(alloc: Global, lines: &[LineId], speedups: &[u8]) -> Result<Plan, Fault<'r>>
+    requires rising { IsStrictlySortedBy nat_cmp (ids lines.now) }
+    requires small { All (λ speedup. speedup ≤ GREATEST_SPEEDUP) speedups.now }
+    ensures no_read { IsRead result → ⊥ }
+    ensures settled { (IsMemory result → ⊥) → (next : List Experiment → Verdict) →
+        verdict_after result next ≡ plan_verdict (pairs_of (ids lines.now) speedups.now) next }
+    ensures below { (count : ℕ) → All (λ (line : LineId). line.0 < count) lines.now →
+        IfOk result (All (λ (pair : Experiment). pair.line.0 < count)) }
+{
+    let plan = plan(alloc, lines, speedups)?;
+    Ok(plan)
+}
+
+/// The points and the plan of a profile.
+#[derive(Drop)]
+struct AskedPlan {
+    points: Points,
+    plan: Plan,
+}
+
+/// What the runs that a request asks for are run with, if the program has the lines
+/// that are named and the plan isn't too large.
+fn asked_plan<'r>(
+    alloc: Global,
+    index: &LineIndex,
+    request: &'r Request,
+) -> Result<AskedPlan, Fault<'r>>
+    requires fit { IsFit request.now }
+    ensures no_read { IsRead result → ⊥ }
+    ensures settled { (IsMemory result → ⊥) → (runs : Runs) →
+        verdict_after result (λ asked. profile_verdict
+        (profile_of runs index.now.lines request.now.budget asked.points.lines asked.plan))
+        ≡ profiled_verdict request.now index.now.lines runs }
+    ensures points { IfOk result (λ asked. IsPoints index.now asked.points.lines asked.points) }
+    ensures few { IfOk result (λ asked. length asked.points.lines ≤ MOST_POINTS) }
+    ensures below { IfOk result (λ asked.
+        All (λ line. line < length index.now.lines) asked.points.lines) }
+    ensures lines { IfOk result (λ asked.
+        All (λ (pair : Experiment). pair.line.0 < length index.now.lines) asked.plan) }
+{
+    let lines = selected_lines(alloc, index, bytes_of(&request.lines))?;
+    let points = progress_points(alloc, index, bytes_of(&request.progress))?;
+    let plan = planned(alloc, &lines, request.speedups.as_slice())?;
+    Ok(AskedPlan { points, plan })
+}
+
+/// What is written of the runs of a plan.
+fn plan_answer<'r, R: Threads + Sync, G: Gate>(
+    rt: &R,
+    alloc: Global,
+    image: &Image,
+    index: &LineIndex,
+    points: &Points,
+    input: &[u8],
+    plan: &Plan,
+    request: &'r Request,
+    gate: &G,
+) -> Answer<'r>
+    requires fit { IsFit request.now }
+    requires some_budget { 1 ≤ request.now.budget }
+    requires some_workers { 1 ≤ request.now.workers }
+    requires points { IsPoints index.now points.now.lines points.now }
+    requires few { length points.now.lines ≤ MOST_POINTS }
+    requires below { All (λ line. line < length index.now.lines) points.now.lines }
+    requires lines { All (λ (pair : Experiment). pair.line.0 < length index.now.lines) plan.now }
+    ensures no_read { IsRead result → ⊥ }
+    ensures settled { (IsMemory result → ⊥) → verdict_of result ≡ profile_verdict
+        (profile_of (runs_in image.now index.now input.now)
+        index.now.lines request.now.budget points.now.lines plan.now) }
+{
+    let labels = point_labels(alloc, index, points)?;
+    let summaries = run_plan(
+        rt,
+        alloc,
+        image,
+        index,
+        points,
+        input,
+        plan,
+        request.budget,
+        request.workers,
+        gate,
+    )?;
+    Ok(printed_profile(Profile {
+        budget: request.budget,
+        points: labels,
+        summaries: Items::new(summaries),
+    }))
+}
+
+/// What is written of the runs of a program with these lines, if it has those that are named
+/// and the plan isn't too large.
+pub fn profile_answer<'r, R: Threads + Sync, G: Gate>(
+    rt: &R,
+    alloc: Global,
+    image: &Image,
+    index: &LineIndex,
+    input: &[u8],
+    request: &'r Request,
+    gate: &G,
+) -> Answer<'r>
+    requires fit { IsFit request.now }
+    requires some_budget { 1 ≤ request.now.budget }
+    requires some_workers { 1 ≤ request.now.workers }
+    ensures no_read { IsRead result → ⊥ }
+    ensures settled { (IsMemory result → ⊥) → verdict_of result ≡
+        profiled_verdict request.now index.now.lines (runs_in image.now index.now input.now) }
+{
+    let asked = asked_plan(alloc, index, request)?;
+    plan_answer(
+        rt,
+        alloc,
+        image,
+        index,
+        &asked.points,
+        input,
+        &asked.plan,
+        request,
+        gate,
+    )
+}

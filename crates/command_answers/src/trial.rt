@@ -1,0 +1,270 @@
+//! A trial: a program that a number makes, and its profile over some of its lines.
+ghost use Rattle.std.specs.Prelude.{◌≡◌, ◌<◌, ◌≤◌, [], ◌∷◌, Ok, All, length, map, IsOk, IfOk, IfErr};
+ghost use Rattle.std.specs.List.{AllByRecursion};
+ghost use Rattle.std.specs.List.Sorted.{IsStrictlySortedBy};
+ghost use Rattle.std.specs.Ordering.{nat_cmp};
+ghost use Rattle.coz_types.specs.declared.TheConstants.{MOST_POINTS, MOST_WORKERS, GREATEST_SIZE};
+ghost use Rattle.coz_types.specs.Ranges.{IsSummary};
+ghost use Rattle.coz_types.specs.declared.LineId.{LineId};
+ghost use Rattle.work_gen.specs.declared.TheConstants.{MOST_TEXT};
+ghost use Rattle.work_gen.specs.Text.{view};
+ghost use Rattle.work_gen.specs.Accepted.{IsAccepted};
+ghost use Rattle.experiment_plan.specs.Selected.{ids};
+ghost use Rattle.experiment_plan.specs.declared.experiment.Experiment.{Experiment};
+ghost use Rattle.command_answers.specs.Experiment.{runs_in};
+ghost use Rattle.command_answers.specs.Profiled.{label_at};
+ghost use Rattle.command_answers.specs.declared.trial.TheConstants.{SELECTED};
+ghost use Rattle.command_answers.specs.Trial.{IsTrialFile, tenths, trial_plan, trial_point, trial_profile};
+ghost use Rattle.command_answers.specs.Verdict.{file_verdict, trial_judging, trial_printed, trial_verdict};
+ghost use Rattle.command_answers.specs.Answer.{IsMemoryFault, IsOfTrial};
+
+use crate::answer::Answer;
+use crate::profile::profile_status;
+use coz_files::Gate;
+use coz_lists::Items;
+use coz_types::{Image, LEAST_VERSION, Label, LineId, Summary};
+use coz_words::Request;
+use experiment_plan::{Plan, plan};
+use image_write::write_elf;
+use line_index::LineIndex;
+use printed_texts::{Printed, Text, trial_text};
+use profile_book::Profile;
+use profile_pool::run_plan;
+use program_steps::{Fault, points_of, read_program};
+use rv_asm::assemble;
+use std::alloc::{AllocError, Global};
+use std::thread::Threads;
+use work_gen::{Generated, source};
+
+/// The name of the source in the lines of its program.
+const NAME: &[u8] = b"trial.s";
+
+/// How many lines are selected at most.
+const SELECTED: u64 = 10;
+
+static SPEEDUPS: [u8; 4] = [0, 25, 50, 75];
+
+/// What each run of a trial is let retire.
+const BUDGET: u64 = 100_000_000;
+
+/// The file of what a trial's source stands for.
+#[tactic(auto, unfolding(crate::specs::Trial::trial_program, crate::specs::Trial::trial_file))]
+fn trial_file<'r>(alloc: Global, source: &Generated) -> Result<Vec<u8>, Fault<'r>>
+    requires accepted { IsAccepted (view source.now) }
+    requires short { length source.now.text ≤ MOST_TEXT }
+    ensures file { IfOk result (λ file. IsTrialFile (view source.now) file.items) }
+    ensures memory { IfErr result IsMemoryFault }
+{
+    let assembled = assemble(alloc, source.text.as_slice())?;
+    let file = write_elf(alloc, &assembled, NAME, LEAST_VERSION)?;
+    Ok(file)
+}
+
+/// Each line whose position is a multiple of a tenth of so many, rounded up.
+#[tactic(auto, unfolding(crate::specs::Trial::tenths))]
+fn tenths(alloc: Global, count: u32) -> Result<Vec<LineId>, AllocError>
+    ensures lines { IfOk result (λ lines. ids lines.items ≡ tenths count) }
+    ensures rising { IfOk result (λ lines. IsStrictlySortedBy nat_cmp (ids lines.items)) }
+    ensures below { IfOk result (λ lines. All (λ (line : LineId). line.0 < count) lines.items) }
+    ensures few { IfOk result (λ lines. length lines.items ≤ SELECTED) }
+{
+    let tenth = (u64::from(count) + 9) / SELECTED;
+    let mut lines = Vec::new(alloc);
+    for i in 0..SELECTED {
+        let position = i * tenth;
+        if position < u64::from(count) {
+            lines.push(LineId(position as u32))?;
+        }
+    }
+    Ok(lines)
+}
+
+/// The line of a trial's progress point.
+fn point_line(index: &LineIndex, point: u32) -> LineId
+    requires { IsOk (trial_point point index.now.lines) }
+    ensures point { trial_point point index.now.lines ≡ Ok result.0 }
+    ensures within { result.0 < length index.now.lines }
+{
+    match index.find(NAME, point) {
+        Some(line) => line,
+        None => unreachable!(),
+    }
+}
+
+/// The label of a line, by itself.
+fn only_label(alloc: Global, index: &LineIndex, line: LineId) -> Result<Items<Label>, AllocError>
+    requires { line.0 < length index.now.lines }
+    ensures { IfOk result (λ labels. labels ≡ map (label_at index.now.lines) (line.0 ∷ [])) }
+{
+    let mut labels = Vec::new(alloc);
+    labels.push(Label::copy(alloc, index.label(line).bytes())?)?;
+    Ok(Items::new(labels))
+}
+
+/// The pairs of a trial's runs.
+fn trial_plan<'r>(alloc: Global, index: &LineIndex) -> Result<Plan, Fault<'r>>
+    ensures plan { IfOk result (λ plan. plan ≡ trial_plan index.now.lines) }
+    ensures below { IfOk result
+        (All (λ (pair : Experiment). pair.line.0 < length index.now.lines)) }
+    ensures memory { IfErr result IsMemoryFault }
+{
+    let lines = tenths(alloc, index.count())?;
+    let plan = plan(alloc, &lines, SPEEDUPS.as_slice())?;
+    Ok(plan)
+}
+
+/// The summaries of a trial's runs, with this line as the progress point.
+fn trial_summaries<'r, R: Threads + Sync, G: Gate>(
+    rt: &R,
+    alloc: Global,
+    image: &Image,
+    index: &LineIndex,
+    point: LineId,
+    workers: u32,
+    gate: &G,
+) -> Result<Items<Summary>, Fault<'r>>
+    requires point { point.0 < length index.now.lines }
+    requires some_workers { 1 ≤ workers }
+    requires few_workers { workers ≤ MOST_WORKERS }
+    ensures summaries { IfOk result (λ summaries. summaries ≡
+        (trial_profile (runs_in image.now index.now []) index.now.lines point.0).summaries) }
+    ensures ranges { IfOk result (AllByRecursion (IsSummary 1)) }
+    ensures memory { IfErr result IsMemoryFault }
+{
+    let plan = trial_plan(alloc, index)?;
+    let points = points_of(alloc, index, &[point])?;
+    let summaries = run_plan(
+        rt,
+        alloc,
+        image,
+        index,
+        &points,
+        &[],
+        &plan,
+        BUDGET,
+        workers,
+        gate,
+    )?;
+    Ok(Items::new(summaries))
+}
+
+/// The profile of a trial's program, with this line as its progress point.
+fn trial_profile<'r, R: Threads + Sync, G: Gate>(
+    rt: &R,
+    alloc: Global,
+    image: &Image,
+    index: &LineIndex,
+    point: LineId,
+    workers: u32,
+    gate: &G,
+) -> Result<Profile, Fault<'r>>
+    requires point { point.0 < length index.now.lines }
+    requires some_workers { 1 ≤ workers }
+    requires few_workers { workers ≤ MOST_WORKERS }
+    ensures profile { IfOk result (λ profile.
+        profile ≡ trial_profile (runs_in image.now index.now []) index.now.lines point.0) }
+    ensures points { IfOk result (λ profile. length profile.points ≡ 1) }
+    ensures ranges { IfOk result (λ profile. AllByRecursion (IsSummary 1) profile.summaries) }
+    ensures whole { IfOk result (λ profile.
+        length profile.summaries ≡ length (trial_plan index.now.lines)) }
+    ensures memory { IfErr result IsMemoryFault }
+{
+    let points = only_label(alloc, index, point)?;
+    let summaries = trial_summaries(rt, alloc, image, index, point, workers, gate)?;
+    Ok(Profile {
+        budget: BUDGET,
+        points,
+        summaries,
+    })
+}
+
+/// What is written of a trial that came to this profile.
+fn printed_trial<'r>(
+    alloc: Global,
+    source: &Generated,
+    index: &LineIndex,
+    profile: &Profile,
+) -> Answer<'r>
+    requires points { length profile.now.points ≤ MOST_POINTS }
+    requires ranges { AllByRecursion (IsSummary (length profile.now.points)) profile.now.summaries }
+    requires whole { length profile.now.summaries ≡ length (trial_plan index.now.lines) }
+    ensures { IsOfTrial (trial_printed (view source.now) index.now.lines profile.now) result }
+{
+    let text = trial_text(alloc, source, index, profile)?;
+    Ok(Printed {
+        status: profile_status(profile),
+        text: Text::Bytes(text),
+    })
+}
+
+/// What is written of the runs of a trial's program with these lines.
+fn index_answer<'r, R: Threads + Sync, G: Gate>(
+    rt: &R,
+    alloc: Global,
+    source: &Generated,
+    image: &Image,
+    index: &LineIndex,
+    workers: u32,
+    gate: &G,
+) -> Answer<'r>
+    requires point { IsOk (trial_point source.now.point index.now.lines) }
+    requires some_workers { 1 ≤ workers }
+    requires few_workers { workers ≤ MOST_WORKERS }
+    ensures { IsOfTrial (trial_judging (view source.now)
+        index.now.lines (runs_in image.now index.now [])) result }
+{
+    let point = point_line(index, source.point);
+    let profile = trial_profile(rt, alloc, image, index, point, workers, gate)?;
+    let answer = printed_trial(alloc, source, index, &profile);
+    // By one call, since a drop in place is proved part by part.
+    drop(profile);
+    answer
+}
+
+/// What is written of a trial's file.
+fn file_answer<'r, R: Threads + Sync, G: Gate>(
+    rt: &R,
+    alloc: Global,
+    source: &Generated,
+    file: &[u8],
+    workers: u32,
+    gate: &G,
+) -> Answer<'r>
+    requires file { IsTrialFile (view source.now) file.now }
+    requires some_workers { 1 ≤ workers }
+    requires few_workers { workers ≤ MOST_WORKERS }
+    ensures { IsOfTrial (file_verdict (trial_judging (view source.now)) file.now []) result }
+{
+    let program = read_program(alloc, file)?;
+    let answer = index_answer(
+        rt,
+        alloc,
+        source,
+        &program.image,
+        &program.index,
+        workers,
+        gate,
+    );
+    // By one call, since a drop in place is proved part by part.
+    drop(program);
+    answer
+}
+
+/// What is written of the trial that a request asks for. Only want of memory stands against it.
+#[tactic(auto, unfolding(crate::specs::Verdict::trial_verdict))]
+pub fn judge_trial<'r, R: Threads + Sync, G: Gate>(
+    rt: &R,
+    alloc: Global,
+    request: &'r Request,
+    gate: &G,
+) -> Answer<'r>
+    requires least { 1 ≤ request.now.size }
+    requires most { request.now.size ≤ GREATEST_SIZE }
+    requires some_workers { 1 ≤ request.now.workers }
+    requires few_workers { request.now.workers ≤ MOST_WORKERS }
+    ensures { IsOfTrial (trial_verdict request.now.seed request.now.size) result }
+{
+    let source = source(alloc, request.seed, request.size)?;
+    let file = trial_file(alloc, &source)?;
+    file_answer(rt, alloc, &source, &file, request.workers, gate)
+}
