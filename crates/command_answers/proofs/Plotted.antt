@@ -6,8 +6,8 @@ use Rattle.profile_book.specs.Profile.{IsTextOf}
 use Rattle.profile_reader.specs.Told.{told}
 use Rattle.profile_book.specs.declared.profile.Profile.{Profile}
 use Rattle.profile_reader.specs.declared.fault.BookFault.{BookFault}
-use Rattle.profile_reader.specs.declared.fault.BookError.{BookError}
-use Rattle.profile_reader.specs.declared.fault.BookError.TheVariants as book
+use Rattle.failures.specs.declared.Failure.{Failure}
+use Rattle.failures.specs.declared.Failure.TheVariants as book
 use Rattle.profile_reader.proofs.Only.{told_is}
 use Rattle.causal_curves.specs.Curves.{curves_of, ranked_curves}
 use Rattle.causal_curves.specs.Texts.{curve_text}
@@ -20,7 +20,7 @@ use Rattle.command_answers.specs.Verdict.{book_verdict, plot_verdict, text_verdi
 at_fault : (bytes : List ℕ) (fault : Option BookFault) → book_fault bytes ≡ fault → book_verdict fault (told bytes) ≡ plot_verdict bytes
 at_fault bytes fault is = ap (λ (o : Option BookFault). book_verdict o (told bytes)) (sym is)
 
-pub no_profile : (bytes : List ℕ) (error : BookError) → IsError error (book_fault bytes) → (IsMemoryFault (profile_fault error) → ⊥)
+pub no_profile : (bytes : List ℕ) (error : Failure BookFault) → IsError error (book_fault bytes) → (IsMemoryFault (profile_fault error) → ⊥)
     → fault_verdict (profile_fault error) ≡ plot_verdict bytes
 no_profile bytes (book.Fault fault) is other = at_fault bytes (Some fault) is
 no_profile bytes book.Memory is other = absurd (other tt)

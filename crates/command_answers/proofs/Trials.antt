@@ -31,10 +31,11 @@ use Rattle.coz_types.specs.declared.record.Summary.{Summary}
 use Rattle.machines.specs.Standing.{delayed_record}
 use Rattle.progress_points.specs.Points.{Points, IsPoints}
 use Rattle.profile_book.specs.declared.profile.Profile.{Profile}
-use Rattle.rv_asm.specs.Assembled.{Program, IsProgram, Fails, assembled}
+use Rattle.rv_asm.specs.Assembled.{Program, IsProgram, assembled}
+use Rattle.failures.specs.Answers.{Fails}
 use Rattle.rv_asm.specs.declared.AsmFault.{AsmFault}
-use Rattle.rv_asm.specs.declared.AsmError.{AsmError}
-use Rattle.rv_asm.specs.declared.AsmError.TheVariants as assembling
+use Rattle.failures.specs.declared.Failure.{Failure}
+use Rattle.failures.specs.declared.Failure.TheVariants as assembling
 use Rattle.work_gen.specs.Text.{Source, generated}
 use Rattle.work_gen.specs.Accepted.{IsAccepted}
 use Rattle.image_write.specs.File.{IsName, written_file}
@@ -200,7 +201,7 @@ length_ids (line ∷ lines) = ap suc (length_ids lines)
 -- ---- the source
 
 -- the assembler gives no fault on a source that is accepted
-pub assembled_memory : (text : List ℕ) (p : Program) (error : AsmError) → assembled text ≡ Ok p → Fails error (assembled text) → IsMemoryFault (assembling_fault error)
+pub assembled_memory : (text : List ℕ) (p : Program) (error : Failure AsmFault) → assembled text ≡ Ok p → Fails error (assembled text) → IsMemoryFault (assembling_fault error)
 assembled_memory text p (assembling.Fault fault) is fails = absurd (let both : Ok p ≡ Err fault = sym is ∙ fails in cc)
 assembled_memory text p assembling.Memory is fails = tt
 

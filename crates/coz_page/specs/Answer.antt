@@ -2,15 +2,16 @@
 use Rattle.std.specs.Prelude.{◌≡◌, ℕ, ◌++◌, codes, Option, Some, None, Result, Err, IsErrAnd}
 use Rattle.coz_types.specs.Labels.{Text}
 use Rattle.coz_files.specs.Verdict.{StepSettles, step_verdict}
-use Rattle.profile_reader.specs.declared.fault.BookError.{BookError}
-use Rattle.profile_reader.specs.declared.fault.BookError.TheVariants as book
+use Rattle.failures.specs.declared.Failure.{Failure}
+use Rattle.profile_reader.specs.declared.fault.BookFault.{BookFault}
+use Rattle.failures.specs.declared.Failure.TheVariants as book
 use Rattle.coz_page.specs.declared.judge.Ranked.{Ranked}
 use Rattle.coz_page.specs.declared.fault.Fault.{Fault}
 use Rattle.coz_page.specs.declared.fault.Fault.TheVariants.{Usage, Read, Write, Long, Memory, Profile}
 use Rattle.coz_page.specs.Page.{curves_page}
 use Rattle.coz_page.specs.Verdict.{Verdict, text_verdict, refusal, profile_line}
 
-abbrev pub profile_fault : BookError → Fault
+abbrev pub profile_fault : Failure BookFault → Fault
 profile_fault (book.Fault fault) = Profile fault
 profile_fault book.Memory = Memory
 

@@ -4,12 +4,13 @@ use Rattle.std.proofs.lemmas.Bool.{eqb-true}
 use Rattle.std.proofs.lemmas.List.{append-nil}
 use Rattle.leb_cursor.specs.Ahead.{Ahead, Reading, ◌>>=◌, text_at}
 use Rattle.dwarf_lines.specs.declared.LineFault.{LineFault}
-use Rattle.dwarf_lines.specs.declared.LineError.{LineError}
-use Rattle.dwarf_lines.specs.declared.LineError.TheVariants as errors
+use Rattle.failures.specs.declared.Failure.{Failure}
+use Rattle.failures.specs.declared.Failure.TheVariants as errors
 use Rattle.dwarf_lines.specs.declared.LineKind.TheVariants as kinds
 use Rattle.dwarf_lines.specs.Registers.{File, Table, Header, Operation, State, state_after, has_line, is_open}
 use Rattle.dwarf_lines.specs.Names.{Strings}
-use Rattle.dwarf_lines.specs.Reading.{fault, field, check, unsigned_field, ahead_of_numbers, texts, file_named, files, operation, program, finished_table, unit, units, Fails}
+use Rattle.dwarf_lines.specs.Reading.{fault, field, check, unsigned_field, ahead_of_numbers, texts, file_named, files, operation, program, finished_table, unit, units}
+use Rattle.failures.specs.Answers.{Fails}
 use Rattle.dwarf_lines.proofs.Shorter.{IsLess, text_less, named_less, operation_less, unit_less}
 
 -- one more is passed
@@ -214,7 +215,7 @@ program_closed h s a total none closed so_far =
     ap finished_table end ∙ ap (λ (b : Bool). finished_table (check (not b) kinds.Unended a.place s)) closed
 
 -- an operation that can't be done ends the program with its fault, or with want of memory
-pub apply_fault : (h : Header) (s : State) (a b : Ahead) (op : Operation) (e : LineError) (total : Result State LineFault) → 0 < length a.bytes → operation h a ≡ Ok (op, b) → Fails e (check (has_line h op s) kinds.LineOut a.place (state_after h op s))
+pub apply_fault : (h : Header) (s : State) (a b : Ahead) (op : Operation) (e : Failure LineFault) (total : Result State LineFault) → 0 < length a.bytes → operation h a ≡ Ok (op, b) → Fails e (check (has_line h op s) kinds.LineOut a.place (state_after h op s))
     → program (suc (length a.bytes)) h s a ≡ total → Fails e (finished_table total)
 apply_fault h s a b op errors.Memory total some read fails so_far = tt
 apply_fault h s a b op (errors.Fault f) total some read fails so_far = ap finished_table (sym so_far ∙ line_fault h s a b op f some read fails)

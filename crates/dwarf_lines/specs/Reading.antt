@@ -8,8 +8,8 @@ use Rattle.leb_cursor.specs.Ahead.{Ahead, Reading, ◌>>=◌, up_to, number_at, 
 use Rattle.dwarf_lines.specs.declared.LineKind.{LineKind}
 use Rattle.dwarf_lines.specs.declared.LineKind.TheVariants as kinds
 use Rattle.dwarf_lines.specs.declared.LineFault.{LineFault}
-use Rattle.dwarf_lines.specs.declared.LineError.{LineError}
-use Rattle.dwarf_lines.specs.declared.LineError.TheVariants as errors
+use Rattle.failures.specs.declared.Failure.{Failure}
+use Rattle.failures.specs.Answers.{Fails}
 use Rattle.dwarf_lines.specs.Registers.{File, Table, Header, Operation, Copy, AdvancePc, AdvanceLine, SetFile, SetColumn, NegateStmt, ConstAddPc, FixedAdvancePc, Special, EndSequence, SetAddress, DefineFile, Pass, State, empty_table, state_after, has_line, first_state, is_open, directory}
 use Rattle.dwarf_lines.specs.declared.forms.Form.{Form}
 use Rattle.dwarf_lines.specs.declared.forms.Form.TheVariants.{Own, General, Line, Byte, Half, Leb, Four, Eight, Sixteen, Block}
@@ -404,17 +404,7 @@ reading strings section =
 
 -- ---- what calls answer
 
--- The fault of a reading, unless memory ran out.
-abbrev pub Fails : {A : Type 0} → LineError → Result A LineFault → Type 0
-Fails errors.Memory reads = Unit {0}
-Fails (errors.Fault f) reads = reads ≡ Err f
-
--- What a call answered is what this reading gives, unless memory ran out.
-abbrev pub Gives : {X A : Type 0} → (X → A) → Result X LineError → Result A LineFault → Type 0
-Gives view (Ok x) reads = reads ≡ Ok (view x)
-Gives view (Err e) reads = Fails e reads
-
--- The same where memory isn't asked for.
+-- What a call answered that asks for no memory is what this reading gives.
 abbrev pub Finds : {X A : Type 0} → (X → A) → Result X LineFault → Result A LineFault → Type 0
 Finds view (Ok x) reads = reads ≡ Ok (view x)
 Finds view (Err e) reads = reads ≡ Err e
@@ -430,7 +420,7 @@ WalksOn (Ok x) new reads = reads ≡ Ok new
 WalksOn (Err e) new reads = reads ≡ Err e
 
 -- The same where memory may run out.
-abbrev pub WalksOver : {X A : Type 0} → (X → A) → Result X LineError → Ahead
+abbrev pub WalksOver : {X A : Type 0} → (X → A) → Result X (Failure LineFault) → Ahead
     → Reading A LineFault → Type 0
 WalksOver view (Ok x) new reads = reads ≡ Ok (view x, new)
 WalksOver view (Err e) new reads = Fails e reads

@@ -32,7 +32,8 @@ impl<'a> Draft<'a> {
     ghost use Rattle.std.specs.Prelude.{◌+◌, ◌<◌, ◌≤◌, ◌^◌, ◌∷◌, ◌++◌, [], ℕ, suc, length, IfOk, OnOk, Ok, Some, None};
     ghost use Rattle.dwarf_lines.specs.declared.LineKind.TheVariants.{LineOut};
     ghost use Rattle.dwarf_lines.specs.Registers.{empty_table, fits_line, row, state_after, has_line, first_registers, file_of, is_open, view};
-    ghost use Rattle.dwarf_lines.specs.Reading.{Gives, WalksOver, check, program, finished_table, unit, unit_body};
+    ghost use Rattle.dwarf_lines.specs.Reading.{WalksOver, check, program, finished_table, unit, unit_body};
+    ghost use Rattle.failures.specs.Answers.{Gives};
     ghost use Rattle.dwarf_lines.specs.Bounds.{IsLineWithin, weight};
     ghost use Rattle.dwarf_lines.specs.Views.{header_view, operation_view, sections_view, so_far, state_of};
 

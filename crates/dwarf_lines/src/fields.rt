@@ -1,7 +1,7 @@
 //! The fields that headers and opcodes share.
 
 ghost use Rattle.std.specs.Prelude.{◌≡◌, ◌<◌, ◌==◌, IfOk, nat_lt, List, ℕ, length, ◌++◌, take};
-ghost use Rattle.leb_cursor.specs.Ahead.{bytes_at, sleb_at, text_at};
+ghost use Rattle.leb_cursor.specs.Ahead.{bytes_at, part_at, sleb_at, text_at};
 ghost use Rattle.dwarf_lines.specs.Reading.{Walks, WalksOn, WalksOver, field, leb_field, unsigned_field, byte, half_field, word, byte_that, sizes, operations, announced_bytes, ahead_of_numbers};
 
 use crate::{LineError, LineFault, LineKind};
@@ -118,11 +118,18 @@ pub fn announced<'a>(
     }
 }
 
+/// The next bytes, as a cursor of their own. Err where fewer are left.
+fn front<'a>(count: u64, cursor: &mut Cursor<'a>) -> Result<Cursor<'a>, LineFault>
+    ensures { Walks (λ x. x) result cursor.new (field (part_at count cursor.old)) }
+{
+    Ok(cursor.part(count)?)
+}
+
 /// The next bytes as a list. Err where fewer are left, or for want of memory.
 pub fn bytes(alloc: Global, count: u8, cursor: &mut Cursor) -> Result<Vec<u8>, LineError>
     ensures { WalksOver (λ v. v.items) result cursor.new (field (bytes_at count cursor.old)) }
 {
-    let mut part = cursor.part(count as u64)?;
+    let mut part = front(count as u64, cursor)?;
     let mut items = Vec::with_capacity(alloc, count as usize)?;
     while let Ok(item) = part.byte() {
         items.push(item)?;

@@ -45,7 +45,8 @@ pub struct Header<'a> {
 }
 
 impl<'a> Header<'a> {
-    ghost use Rattle.dwarf_lines.specs.Reading.{Gives, header};
+    ghost use Rattle.dwarf_lines.specs.Reading.{header};
+    ghost use Rattle.failures.specs.Answers.{Gives};
     ghost use Rattle.dwarf_lines.specs.Views.{header_view, sections_view};
 
     /// The header from minimum_instruction_length on. What is left behind its files is passed.

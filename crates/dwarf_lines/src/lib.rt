@@ -16,9 +16,10 @@ mod strings;
 ghost use Rattle.std.specs.Prelude.{◌≡◌, ◌≤◌, length, IfOk, Ok};
 ghost use Rattle.coz_types.specs.declared.TheConstants.{MAX_PROGRAM};
 ghost use Rattle.dwarf_lines.specs.Registers.{Table, view};
-ghost use Rattle.dwarf_lines.specs.declared.LineError.TheVariants.{Fault, Memory};
+ghost use Rattle.failures.specs.declared.Failure.TheVariants.{Fault};
 ghost use Rattle.dwarf_lines.specs.declared.LineKind.TheVariants.{Short};
-ghost use Rattle.dwarf_lines.specs.Reading.{Gives, reading, leb_fault};
+ghost use Rattle.dwarf_lines.specs.Reading.{reading, leb_fault};
+ghost use Rattle.failures.specs.Answers.{Gives};
 ghost use Rattle.dwarf_lines.specs.Spelling.{IsTable};
 ghost use Rattle.dwarf_lines.specs.Law.{HasOne};
 ghost use Rattle.dwarf_lines.specs.Names.{strings};
@@ -26,8 +27,9 @@ ghost use Rattle.dwarf_lines.specs.Names.{strings};
 use crate::draft::Draft;
 use crate::strings::Sections;
 use coz_lists::Items;
+use failures::Failure;
 use leb_cursor::{Cursor, LebFault};
-use std::alloc::{AllocError, AllocFailed, Global};
+use std::alloc::Global;
 
 /// What is wrong with a field.
 #[derive(Clone, Copy, Debug, PartialEq, Eq)]
@@ -100,46 +102,13 @@ impl From<LebFault> for LineFault {
 }
 
 /// Why a section has no table.
-#[derive(Clone, Copy, Debug, PartialEq, Eq)]
-pub enum LineError {
-    /// The section's first fault.
-    Fault(LineFault),
-    /// Memory was wanting.
-    Memory,
-}
+pub type LineError = Failure<LineFault>;
 
 impl From<LineFault> for LineError {
     ghost from_gives = { λ f e. e ≡ Fault f };
 
     fn from(f: LineFault) -> LineError {
         LineError::Fault(f)
-    }
-}
-
-impl From<leb_cursor::Short> for LineError {
-    ghost from_gives = { λ s e. e ≡ Fault (record { kind = Short; place = s.place }) };
-
-    fn from(s: leb_cursor::Short) -> LineError {
-        LineError::Fault(LineFault {
-            kind: LineKind::Short,
-            place: s.place,
-        })
-    }
-}
-
-impl From<AllocError> for LineError {
-    ghost from_gives = { λ _ e. e ≡ Memory };
-
-    fn from(_e: AllocError) -> LineError {
-        LineError::Memory
-    }
-}
-
-impl<T: Drop> From<AllocFailed<T>> for LineError {
-    ghost from_gives = { λ _ e. e ≡ Memory };
-
-    fn from(_e: AllocFailed<T>) -> LineError {
-        LineError::Memory
     }
 }
 

@@ -6,8 +6,8 @@ use Rattle.std.proofs.lemmas.List.Elements.{filter_passes}
 use Rattle.coz_types.specs.declared.image.Area.{Area}
 use Rattle.coz_types.specs.Image.{ImageParts, IsImage}
 use Rattle.elf_load.specs.declared.ElfFault.{ElfFault}
-use Rattle.elf_load.specs.declared.LoadError.{LoadError}
-use Rattle.elf_load.specs.declared.LoadError.TheVariants as errors
+use Rattle.failures.specs.declared.Failure.{Failure}
+use Rattle.failures.specs.declared.Failure.TheVariants as errors
 use Rattle.elf_load.specs.declared.tables.Segment.{Segment}
 use Rattle.elf_load.specs.declared.tables.Section.{Section}
 use Rattle.elf_load.specs.Tables.{entry, phnum, segments, sections, is_area, load_areas, end_page}
@@ -56,18 +56,18 @@ pub low_areas : (file : List ℕ) (ss : List Segment) (ns : List Section) (areas
 low_areas file ss ns areas read e = subst (λ (xs : List Segment). All (λ s. 4096 * end_page s ≤ 0x2000000000) xs) (sym read.areas_read) (areas_end file e)
 
 -- an error that is this fault
-fault_answered : (r : Result ImageParts LoadError) (f : ElfFault) (holds : Result ImageParts ElfFault) → IsErrAnd r (λ e. e ≡ errors.Fault f) → holds ≡ Err f → Loads r holds
+fault_answered : (r : Result ImageParts (Failure ElfFault)) (f : ElfFault) (holds : Result ImageParts ElfFault) → IsErrAnd r (λ e. e ≡ errors.Fault f) → holds ≡ Err f → Loads r holds
 fault_answered (Ok parts) f holds is e = absurd is
-fault_answered (Err x) f holds is e = subst (λ (y : LoadError). Loads (Err y) holds) (sym is) e
+fault_answered (Err x) f holds is e = subst (λ (y : Failure ElfFault). Loads (Err y) holds) (sym is) e
 
-pub header_answered : (file : List ℕ) (r : Result ImageParts LoadError) (f : ElfFault) → IsErrAnd r (λ e. e ≡ errors.Fault f) → first_row (header_rows file) ≡ Some f → Loads r (load_answer file)
+pub header_answered : (file : List ℕ) (r : Result ImageParts (Failure ElfFault)) (f : ElfFault) → IsErrAnd r (λ e. e ≡ errors.Fault f) → first_row (header_rows file) ≡ Some f → Loads r (load_answer file)
 header_answered file r f is e = fault_answered r f (load_answer file) is (load_answer_fault file f (header_fault file f e))
 
-memory_answered : (r : Result ImageParts LoadError) (holds : Result ImageParts ElfFault) → IsErrAnd r (λ e. e ≡ errors.Memory) → Loads r holds
+memory_answered : (r : Result ImageParts (Failure ElfFault)) (holds : Result ImageParts ElfFault) → IsErrAnd r (λ e. e ≡ errors.Memory) → Loads r holds
 memory_answered (Ok parts) holds is = absurd is
-memory_answered (Err x) holds is = subst (λ (y : LoadError). Loads (Err y) holds) (sym is) tt
+memory_answered (Err x) holds is = subst (λ (y : Failure ElfFault). Loads (Err y) holds) (sym is) tt
 
-pub tables_answered : (file : List ℕ) (r : Result ImageParts LoadError) (x : LoadError) → HasHeaders file → IsErrAnd r (λ e. e ≡ x) → JudgesOrFails (Err x) (first_row (table_rows file)) → Loads r (load_answer file)
+pub tables_answered : (file : List ℕ) (r : Result ImageParts (Failure ElfFault)) (x : Failure ElfFault) → HasHeaders file → IsErrAnd r (λ e. e ≡ x) → JudgesOrFails (Err x) (first_row (table_rows file)) → Loads r (load_answer file)
 tables_answered file r errors.Memory headed is judged = memory_answered r (load_answer file) is
 tables_answered file r (errors.Fault f) headed is judged = fault_answered r f (load_answer file) is (load_answer_fault file f (table_fault file headed ∙ judged))
 

@@ -6,8 +6,8 @@ use Rattle.elf_load.specs.declared.codes.TheConstants.{EHDR_SIZE, PHDR_SIZE, SHD
 use Rattle.elf_load.specs.declared.ElfKind.{ElfKind}
 use Rattle.elf_load.specs.declared.ElfKind.TheVariants.{NotElf, NotClass64, NotLittle, NotExec, NotRiscv, Compressed, HeaderOut, PackedLines, Interp, SizeOrder, AddressOut, WritableCode, SharedPage, TooMuch, EntryOut}
 use Rattle.elf_load.specs.declared.ElfFault.{ElfFault}
-use Rattle.elf_load.specs.declared.LoadError.{LoadError}
-use Rattle.elf_load.specs.declared.LoadError.TheVariants as errors
+use Rattle.failures.specs.declared.Failure.{Failure}
+use Rattle.failures.specs.declared.Failure.TheVariants as errors
 use Rattle.elf_load.specs.declared.tables.Segment.{Segment}
 use Rattle.elf_load.specs.declared.tables.Section.{Section}
 use Rattle.elf_load.specs.Tables.{kind_of, machine, entry, phoff, shoff, flags, phentsize, phnum, shentsize, shnum, shstrndx, has_bit, runs_past, segments, sections, is_load, is_interp, load_areas, is_executable, is_writable, first_page, end_page, pages, share_page, has_address, has_bytes, is_compressed, holds_lines}
@@ -96,7 +96,7 @@ Judges (Ok passed) found = found ≡ None
 Judges (Err f) found = found ≡ Some f
 
 -- the same for one that may run out of memory
-abbrev pub JudgesOrFails : Result (Unit {0}) LoadError → Option ElfFault → Type 0
+abbrev pub JudgesOrFails : Result (Unit {0}) (Failure ElfFault) → Option ElfFault → Type 0
 JudgesOrFails (Ok passed) found = found ≡ None
 JudgesOrFails (Err errors.Memory) found = Unit {0}
 JudgesOrFails (Err (errors.Fault f)) found = found ≡ Some f

@@ -5,8 +5,8 @@ use Rattle.coz_types.specs.declared.image.Area.{Area}
 use Rattle.coz_types.specs.declared.image.Rights.{Rights}
 use Rattle.coz_types.specs.Image.{ImageParts}
 use Rattle.elf_load.specs.declared.ElfFault.{ElfFault}
-use Rattle.elf_load.specs.declared.LoadError.{LoadError}
-use Rattle.elf_load.specs.declared.LoadError.TheVariants as errors
+use Rattle.failures.specs.declared.Failure.{Failure}
+use Rattle.failures.specs.Answers.{Fails}
 use Rattle.elf_load.specs.declared.tables.Segment.{Segment}
 use Rattle.elf_load.specs.Tables.{entry, phoff, phnum, segments, sections, is_load, load_areas, is_executable, is_writable, is_readable, first_page, pages, has_place, has_bytes, is_named, bytes_of}
 use Rattle.elf_load.specs.Faults.{fault}
@@ -63,10 +63,6 @@ section file name =
     option_map (bytes_of file) (find (λ s. has_bytes s && is_named file name s) (sections file))
 
 -- What loading answered is what the file holds, unless memory ran out.
-abbrev pub Fails : LoadError → Result ImageParts ElfFault → Type 0
-Fails errors.Memory holds = Unit {0}
-Fails (errors.Fault f) holds = holds ≡ Err f
-
-abbrev pub Loads : Result ImageParts LoadError → Result ImageParts ElfFault → Type 0
+abbrev pub Loads : Result ImageParts (Failure ElfFault) → Result ImageParts ElfFault → Type 0
 Loads (Ok parts) holds = holds ≡ Ok parts
 Loads (Err e) holds = Fails e holds

@@ -13,7 +13,7 @@ mod tables;
 
 ghost use Rattle.std.specs.Prelude.{◌≡◌, None, IfOk};
 ghost use Rattle.std.specs.Option.{option_copied};
-ghost use Rattle.elf_load.specs.declared.LoadError.TheVariants.{Fault, Memory};
+ghost use Rattle.failures.specs.declared.Failure.TheVariants.{Fault};
 ghost use Rattle.elf_load.specs.Faults.{fault};
 ghost use Rattle.elf_load.specs.Loaded.{Loads, load_answer, section};
 
@@ -25,7 +25,8 @@ use crate::header::check_header;
 use crate::sections::section_of;
 use crate::tables::{read_sections, read_segments};
 use coz_types::Image;
-use std::alloc::{AllocError, AllocFailed, Global};
+use failures::Failure;
+use std::alloc::Global;
 
 /// What may be wrong with a file, in the order in which it is judged.
 #[derive(Clone, Copy, Debug, PartialEq, Eq)]
@@ -73,35 +74,13 @@ pub struct ElfFault {
 }
 
 /// Why a file is not loaded.
-#[derive(Clone, Copy, Debug, PartialEq, Eq)]
-pub enum LoadError {
-    /// The file's first fault.
-    Fault(ElfFault),
-    /// Memory was wanting.
-    Memory,
-}
+pub type LoadError = Failure<ElfFault>;
 
 impl From<ElfFault> for LoadError {
     ghost from_gives = { λ fault e. e ≡ Fault fault };
 
     fn from(fault: ElfFault) -> LoadError {
         LoadError::Fault(fault)
-    }
-}
-
-impl From<AllocError> for LoadError {
-    ghost from_gives = { λ _ e. e ≡ Memory };
-
-    fn from(_: AllocError) -> LoadError {
-        LoadError::Memory
-    }
-}
-
-impl<T: Drop> From<AllocFailed<T>> for LoadError {
-    ghost from_gives = { λ _ e. e ≡ Memory };
-
-    fn from(_: AllocFailed<T>) -> LoadError {
-        LoadError::Memory
     }
 }
 

@@ -10,10 +10,11 @@ use Rattle.profile_reader.specs.declared.fault.BookFault.{BookFault}
 use Rattle.profile_book.specs.Profile.{field, number_field, IsProfile, profile_text, block, point_line, count_line, experiment_line, output_line, visits_line}
 use Rattle.profile_reader.specs.Items.{items_of, join, begins_item}
 use Rattle.profile_reader.specs.Grammar.{Before, book_fault}
-use Rattle.profile_reader.specs.Reading.{profile_at, Gives}
+use Rattle.profile_reader.specs.Reading.{profile_at}
+use Rattle.failures.specs.Answers.{Gives}
 use Rattle.profile_reader.specs.Judging.{IsJudged}
-use Rattle.profile_reader.specs.declared.fault.BookError.{BookError}
-use Rattle.profile_reader.specs.declared.fault.BookError.TheVariants as errors
+use Rattle.failures.specs.declared.Failure.{Failure}
+use Rattle.failures.specs.declared.Failure.TheVariants as errors
 use Rattle.std.specs.Prelude.{IfOk}
 use Rattle.profile_reader.proofs.Steps.{text_of}
 use Rattle.profile_reader.proofs.LineSteps.{head_before, name_before, names_before, selection_before, outcome_before, output_before, count_before, counts_before, visits_before}
@@ -128,17 +129,17 @@ reading_is bytes = by (profile_at (length bytes) (items_of bytes)) (profile_part
 
 -- ---- the answer of the code
 
-pub judged_by : (bytes : Text) (result : Result Profile BookError) → Gives (λ p. p) result (profile_at (length bytes) (items_of bytes)) → IsJudged result (book_fault bytes)
+pub judged_by : (bytes : Text) (result : Result Profile (Failure BookFault)) → Gives (λ p. p) result (profile_at (length bytes) (items_of bytes)) → IsJudged result (book_fault bytes)
 judged_by bytes result gives = by result gives (reading_is bytes)
   where
-    by : (result : Result Profile BookError) → Gives (λ p. p) result (profile_at (length bytes) (items_of bytes)) → IsReading bytes (profile_at (length bytes) (items_of bytes)) → IsJudged result (book_fault bytes)
+    by : (result : Result Profile (Failure BookFault)) → Gives (λ p. p) result (profile_at (length bytes) (items_of bytes)) → IsReading bytes (profile_at (length bytes) (items_of bytes)) → IsJudged result (book_fault bytes)
     by (Ok p) e is = (subst (IsReading bytes) e is).0
     by (Err errors.Memory) e is = tt
     by (Err (errors.Fault f)) e is = subst (IsReading bytes) e is
 
-pub found_by : (bytes : Text) (result : Result Profile BookError) → Gives (λ p. p) result (profile_at (length bytes) (items_of bytes)) → IfOk result (λ p. IsProfile p × (bytes ≡ profile_text p))
+pub found_by : (bytes : Text) (result : Result Profile (Failure BookFault)) → Gives (λ p. p) result (profile_at (length bytes) (items_of bytes)) → IfOk result (λ p. IsProfile p × (bytes ≡ profile_text p))
 found_by bytes result gives = by result gives (reading_is bytes)
   where
-    by : (result : Result Profile BookError) → Gives (λ p. p) result (profile_at (length bytes) (items_of bytes)) → IsReading bytes (profile_at (length bytes) (items_of bytes)) → IfOk result (λ p. IsProfile p × (bytes ≡ profile_text p))
+    by : (result : Result Profile (Failure BookFault)) → Gives (λ p. p) result (profile_at (length bytes) (items_of bytes)) → IsReading bytes (profile_at (length bytes) (items_of bytes)) → IfOk result (λ p. IsProfile p × (bytes ≡ profile_text p))
     by (Ok p) e is = let h = subst (IsReading bytes) e is in (h.1, h.2)
     by (Err e) d is = tt

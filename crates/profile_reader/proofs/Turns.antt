@@ -5,9 +5,10 @@ use Rattle.std.proofs.lemmas.List.{append-nil}
 use Rattle.coz_types.specs.Labels.{Text}
 use Rattle.coz_types.specs.declared.record.Summary.{Summary}
 use Rattle.profile_reader.specs.declared.fault.BookFault.{BookFault}
-use Rattle.profile_reader.specs.declared.fault.BookError.{BookError}
-use Rattle.profile_reader.specs.declared.fault.BookError.TheVariants as errors
-use Rattle.profile_reader.specs.Reading.{Ahead, bind, Fails, name_at, names_at, count_at, counts_at, block_at, blocks_at, is_done}
+use Rattle.failures.specs.declared.Failure.{Failure}
+use Rattle.failures.specs.declared.Failure.TheVariants as errors
+use Rattle.profile_reader.specs.Reading.{Ahead, bind, name_at, names_at, count_at, counts_at, block_at, blocks_at, is_done}
+use Rattle.failures.specs.Answers.{Fails}
 
 -- what was read before, and what is still read
 abbrev pub with_front : {X : Type 0} → List X → Result (List X × Ahead) BookFault → Result (List X × Ahead) BookFault
@@ -30,7 +31,7 @@ count_goes_on front all i a n b total lt h so_far =
     let one : with_front front (counts_at (all - i) i a) ≡ with_front (front ++ n ∷ []) (counts_at (all - (i + 1)) (i + 1) b) = rw (k, h) (regroup front n (counts_at (all - (i + 1)) (suc i) b) ∙ ap (λ (j : ℕ). with_front (front ++ n ∷ []) (counts_at (all - (i + 1)) j b)) next) in
     sym one ∙ so_far
 
-pub count_ends : (e : BookError) (front : List ℕ) (all i : ℕ) (a : Ahead) (total : Result (List ℕ × Ahead) BookFault) → i < all → Fails e (count_at i a)
+pub count_ends : (e : Failure BookFault) (front : List ℕ) (all i : ℕ) (a : Ahead) (total : Result (List ℕ × Ahead) BookFault) → i < all → Fails e (count_at i a)
     → with_front front (counts_at (all - i) i a) ≡ total → Fails e total
 unfolding counts_at bind
 count_ends errors.Memory front all i a total lt h so_far = tt
@@ -71,7 +72,7 @@ name_goes_on front all i a name b total lt h so_far =
     ∙ ap (λ (j : ℕ). with_front (front ++ name ∷ []) (names_at (all - (i + 1)) j (Some name) b)) (sym next)
     ∙ sym one ∙ so_far
 
-pub name_ends : (e : BookError) (front : List Text) (all i : ℕ) (last : Option Text) (a : Ahead) (total : Result (List Text × Ahead) BookFault) → i < all → Fails e (name_at i last a)
+pub name_ends : (e : Failure BookFault) (front : List Text) (all i : ℕ) (last : Option Text) (a : Ahead) (total : Result (List Text × Ahead) BookFault) → i < all → Fails e (name_at i last a)
     → with_front front (names_at (all - i) i last a) ≡ total → Fails e total
 unfolding names_at bind
 name_ends errors.Memory front all i last a total lt h so_far = tt
@@ -115,7 +116,7 @@ block_goes_on front most turn all a s b total lt some h so_far =
     ap (λ (last : Option Summary). with_blocks (front ++ s ∷ []) (blocks_at (most - (turn + 1)) all last b)) (last_pushed front s)
     ∙ sym one ∙ so_far
 
-pub block_ends : (e : BookError) (front : List Summary) (most turn all : ℕ) (last : Option Summary) (a : Ahead) (total : Result (List Summary) BookFault) → turn < most → is_done a.items ≡ false → Fails e (block_at all last a)
+pub block_ends : (e : Failure BookFault) (front : List Summary) (most turn all : ℕ) (last : Option Summary) (a : Ahead) (total : Result (List Summary) BookFault) → turn < most → is_done a.items ≡ false → Fails e (block_at all last a)
     → with_blocks front (blocks_at (most - turn) all last a) ≡ total → Fails e total
 unfolding bind
 block_ends errors.Memory front most turn all last a total lt some h so_far = tt

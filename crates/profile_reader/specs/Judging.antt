@@ -2,21 +2,21 @@
 use Rattle.std.specs.Prelude.{◌≡◌, Option, Some, None, Result, Ok, Err}
 use Rattle.profile_book.specs.declared.profile.Profile.{Profile}
 use Rattle.profile_reader.specs.declared.fault.BookFault.{BookFault}
-use Rattle.profile_reader.specs.declared.fault.BookError.{BookError}
-use Rattle.profile_reader.specs.declared.fault.BookError.TheVariants as errors
+use Rattle.failures.specs.declared.Failure.{Failure}
+use Rattle.failures.specs.declared.Failure.TheVariants as errors
 
-abbrev pub IsError : BookError → Option BookFault → Type 0
+abbrev pub IsError : Failure BookFault → Option BookFault → Type 0
 IsError errors.Memory fault = Unit {0}
 IsError (errors.Fault f) fault = fault ≡ Some f
 
 -- there is none where the answer is a value, and this one where it is a fault; nothing is said
 -- where memory ran out
-abbrev pub IsJudged : {X : Type 0} → Result X BookError → Option BookFault → Type 0
+abbrev pub IsJudged : {X : Type 0} → Result X (Failure BookFault) → Option BookFault → Type 0
 IsJudged (Ok x) fault = fault ≡ None
 IsJudged (Err e) fault = IsError e fault
 
 -- this profile, unless memory ran out
-abbrev pub IsRead : Result Profile BookError → Profile → Type 0
+abbrev pub IsRead : Result Profile (Failure BookFault) → Profile → Type 0
 IsRead (Ok q) p = q ≡ p
 IsRead (Err errors.Memory) p = Unit {0}
 IsRead (Err (errors.Fault f)) p = ⊥

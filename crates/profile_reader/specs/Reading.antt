@@ -17,8 +17,6 @@ use Rattle.profile_book.specs.declared.profile.Profile.{Profile}
 use Rattle.profile_reader.specs.declared.fault.BookField.{BookField}
 use Rattle.profile_reader.specs.declared.fault.BookField.TheVariants.{Head, Version, Budget, Points, Point, Index, Name, Experiment, Selected, Speedup, End, Time, Delay, Retired, Starts, Output, Length, Digest, Throughput, Delta, Visits, Newline}
 use Rattle.profile_reader.specs.declared.fault.BookFault.{BookFault}
-use Rattle.profile_reader.specs.declared.fault.BookError.{BookError}
-use Rattle.profile_reader.specs.declared.fault.BookError.TheVariants as errors
 use Rattle.profile_book.specs.Profile.{number_field}
 use Rattle.profile_reader.specs.Grammar.{value_in, number_in, has_number, has_label, is_field, is_digest, comes_after, not_before, goes_on}
 
@@ -36,15 +34,6 @@ infixl 10 ◌>>=◌
 abbrev pub ◌>>=◌ : {A B : Type 0} → Result A BookFault
     → (A → Result B BookFault) → Result B BookFault
 r >>= f = bind r f
-
--- what a function returned, seen by view, is what reading gives, unless memory ran out
-abbrev pub Fails : {Y : Type 0} → BookError → Result Y BookFault → Type 0
-Fails errors.Memory read = Unit {0}
-Fails (errors.Fault f) read = read ≡ Err f
-
-abbrev pub Gives : {X Y : Type 0} → (X → Y) → Result X BookError → Result Y BookFault → Type 0
-Gives view (Ok x) read = read ≡ Ok (view x)
-Gives view (Err e) read = Fails e read
 
 -- what a test of a text answers: the value where it passes
 abbrev pub Tells : {X Y : Type 0} → (X → Y) → Bool → Y → Option X → Type 0

@@ -1,9 +1,8 @@
 //! The first wrong item of a profile's text.
 ghost use Rattle.std.specs.Prelude.{◌≡◌};
-ghost use Rattle.profile_reader.specs.declared.fault.BookError.TheVariants.{Memory};
 ghost use Rattle.profile_reader.specs.ItemNames.{item_name};
 
-use std::alloc::{AllocError, AllocFailed};
+use failures::Failure;
 
 /// The kinds of items of a profile's text.
 #[derive(Clone, Copy, PartialEq, Eq, Debug)]
@@ -96,26 +95,4 @@ pub struct BookFault {
 }
 
 /// Why a profile could not be read.
-#[derive(Debug, Drop)]
-pub enum BookError {
-    /// The text's first fault.
-    Fault(BookFault),
-    /// Memory was wanting.
-    Memory,
-}
-
-impl From<AllocError> for BookError {
-    ghost from_gives = { λ _ e. e ≡ Memory };
-
-    fn from(_error: AllocError) -> BookError {
-        BookError::Memory
-    }
-}
-
-impl<T: Drop> From<AllocFailed<T>> for BookError {
-    ghost from_gives = { λ _ e. e ≡ Memory };
-
-    fn from(_error: AllocFailed<T>) -> BookError {
-        BookError::Memory
-    }
-}
+pub type BookError = Failure<BookFault>;

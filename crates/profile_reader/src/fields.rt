@@ -3,7 +3,8 @@ ghost use Rattle.std.specs.Prelude.{◌≡◌, option_copied, codes, bytes_eq};
 ghost use Rattle.profile_book.specs.Profile.{number_field};
 ghost use Rattle.profile_reader.specs.Grammar.{comes_after, not_before};
 ghost use Rattle.profile_reader.specs.declared.fault.BookField.TheVariants.{Index, Name, Selected};
-ghost use Rattle.profile_reader.specs.Reading.{Gives, word_at, number_at, label_at, speedup_at, ending_at, digest_at, selected_of, speedup_of};
+ghost use Rattle.profile_reader.specs.Reading.{word_at, number_at, label_at, speedup_at, ending_at, digest_at, selected_of, speedup_of};
+ghost use Rattle.failures.specs.Answers.{Gives};
 ghost use Rattle.profile_reader.specs.Standing.{ahead};
 
 use crate::cursor::Cursor;

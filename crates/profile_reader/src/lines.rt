@@ -1,6 +1,7 @@
 //! The lines of a profile's text.
 ghost use Rattle.std.specs.Prelude.{◌≡◌, option_copied};
-ghost use Rattle.profile_reader.specs.Reading.{Gives, head_at, name_at, count_at, outcome_at, selection_at, output_at, visits_at};
+ghost use Rattle.profile_reader.specs.Reading.{head_at, name_at, count_at, outcome_at, selection_at, output_at, visits_at};
+ghost use Rattle.failures.specs.Answers.{Gives};
 ghost use Rattle.profile_reader.specs.Standing.{ahead};
 
 use crate::cursor::Cursor;

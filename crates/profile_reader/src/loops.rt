@@ -1,6 +1,7 @@
 //! The lines of a profile's text that come several times.
 ghost use Rattle.std.specs.Prelude.{◌≡◌, None, option_copied};
-ghost use Rattle.profile_reader.specs.Reading.{Gives, counts_at, names_at, block_at, blocks_at};
+ghost use Rattle.profile_reader.specs.Reading.{counts_at, names_at, block_at, blocks_at};
+ghost use Rattle.failures.specs.Answers.{Gives};
 ghost use Rattle.profile_reader.specs.Standing.{ahead};
 
 use crate::cursor::Cursor;

@@ -3,6 +3,7 @@ ghost use Rattle.std.specs.Prelude.{◌≡◌};
 ghost use Rattle.profile_reader.specs.Items.{items_of};
 ghost use Rattle.profile_reader.specs.Reading.{next, items_past, is_done};
 ghost use Rattle.profile_reader.specs.Standing.{ahead};
+ghost use Rattle.failures.specs.declared.Failure.TheVariants.{Fault};
 
 use crate::cursor::Cursor;
 use crate::fault::{BookError, BookFault, BookField};
@@ -41,7 +42,7 @@ pub fn item<'a>(at: Cursor<'a>) -> (&'a [u8], Cursor<'a>)
 
 /// The fault that this kind is missing here.
 pub fn fault(at: Cursor<'_>, field: BookField) -> BookError
-    ensures { result ≡ BookError.Fault (record { field = field; place = at.entry.place }) }
+    ensures { result ≡ Fault (record { field = field; place = at.entry.place }) }
 {
     BookError::Fault(BookFault {
         field,

@@ -4,10 +4,10 @@ use Rattle.coz_types.specs.Image.{ImageParts}
 use Rattle.elf_load.specs.declared.ElfFault.{ElfFault}
 use Rattle.elf_load.specs.Loaded.{load_answer}
 use Rattle.dwarf_lines.specs.declared.LineFault.{LineFault}
-use Rattle.dwarf_lines.specs.declared.LineError.{LineError}
-use Rattle.dwarf_lines.specs.declared.LineError.TheVariants as reading
+use Rattle.failures.specs.declared.Failure.{Failure}
+use Rattle.failures.specs.declared.Failure.TheVariants as reading
 use Rattle.dwarf_lines.specs.Registers.{Table}
-use Rattle.dwarf_lines.specs.Reading.{Fails}
+use Rattle.failures.specs.Answers.{Fails}
 use Rattle.program_steps.specs.LineTable.{table_in}
 use Rattle.program_steps.specs.Answer.{fault_verdict, IsMemoryFault}
 use Rattle.program_steps.specs.Causes.{reading_fault}
@@ -23,7 +23,7 @@ program_verdict_at file next image loads =
     ap (λ (f : List ℕ). on_table f next image) (sym (loaded_file file image loads))
     ∙ sym (ap (λ (r : Result ImageParts ElfFault). loaded_verdict r (on_table file next)) loads)
 
-pub no_table : (file : List ℕ) (next : ImageParts → Table → Verdict) (image : ImageParts) (error : LineError) → load_answer file ≡ Ok image → Fails error (table_in image.file) → (IsMemoryFault (reading_fault error) → ⊥)
+pub no_table : (file : List ℕ) (next : ImageParts → Table → Verdict) (image : ImageParts) (error : Failure LineFault) → load_answer file ≡ Ok image → Fails error (table_in image.file) → (IsMemoryFault (reading_fault error) → ⊥)
     → fault_verdict (reading_fault error) ≡ program_verdict file next
 no_table file next image (reading.Fault fault) loads fails other = sym (ap (λ (r : Result Table LineFault). table_verdict r (next image)) fails) ∙ program_verdict_at file next image loads
 no_table file next image reading.Memory loads fails other = absurd (other tt)

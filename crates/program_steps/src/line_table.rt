@@ -3,7 +3,7 @@ ghost use Rattle.std.specs.Prelude.{◌≡◌, ◌≤◌, length, None, IfOk};
 ghost use Rattle.coz_types.specs.declared.TheConstants.{MAX_PROGRAM};
 ghost use Rattle.elf_load.specs.Faults.{fault};
 ghost use Rattle.dwarf_lines.specs.Registers.{view};
-ghost use Rattle.dwarf_lines.specs.Reading.{Gives};
+ghost use Rattle.failures.specs.Answers.{Gives};
 ghost use Rattle.program_steps.specs.LineTable.{bytes_in, table_in};
 
 use coz_types::Image;

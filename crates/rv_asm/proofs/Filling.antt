@@ -2,15 +2,16 @@
 use Rattle.std.proofs.Common.{◌≡◌, ◌<◌, length, ℕ, ◌+◌, List, [], ◌∷◌, ◌++◌, drop, map, refl, Ok, Err, Result, ap, ap₂, ◌∙◌, sym, slice_index_or, replicate, ◌/◌}
 use Rattle.std.proofs.lemmas.List.{append_assoc, append-nil, drop_more}
 use Rattle.rv_asm.specs.declared.AsmFault.{AsmFault}
-use Rattle.rv_asm.specs.declared.AsmError.{AsmError}
-use Rattle.rv_asm.specs.declared.AsmError.TheVariants as faults
+use Rattle.failures.specs.declared.Failure.{Failure}
+use Rattle.failures.specs.declared.Failure.TheVariants as faults
 use Rattle.asm_tokens.specs.declared.form.Section.{Section}
 use Rattle.asm_tokens.specs.declared.form.Section.TheVariants as sections
 use Rattle.rv_asm.specs.declared.state.Put.{Put as CodePut}
 use Rattle.asm_tokens.specs.declared.line.LineError.{LineError}
 use Rattle.asm_tokens.specs.declared.line.LineError.TheVariants as errors
 use Rattle.asm_tokens.specs.Tokens.{Read, ◌>>=◌}
-use Rattle.rv_asm.specs.Assembled.{State, Filled, Fails, filled_piece, filled_pieces, all_bytes, text_of, content_of, lines_of}
+use Rattle.rv_asm.specs.Assembled.{State, Filled, filled_piece, filled_pieces, all_bytes, text_of, content_of, lines_of}
+use Rattle.failures.specs.Answers.{Fails}
 use Rattle.rv_asm.specs.Views.{Steps, Parts, no_parts, with_filled, with_next, all_parts, with_all, put_of}
 
 -- two words, one after the other, unless memory ran out
@@ -55,7 +56,7 @@ failed parts (Err e) rest f h = cc
 failed parts (Ok x) rest f h = absurd cc
 
 -- and ends at a fault
-pub at_fault : (s : State) (ps : List CodePut) (i : ℕ) (p : CodePut) (parts : Parts) (all : Result Parts AsmFault) (e : AsmError)
+pub at_fault : (s : State) (ps : List CodePut) (i : ℕ) (p : CodePut) (parts : Parts) (all : Result Parts AsmFault) (e : Failure AsmFault)
     → i < length ps → p ≡ slice_index_or ps i p → Fails e (with_next parts (filled_piece s (put_of p)))
     → with_all parts (filled_pieces s (map put_of (drop i ps))) ≡ all
     → Fails e all

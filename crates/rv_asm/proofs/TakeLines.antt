@@ -4,7 +4,8 @@ use Rattle.std.proofs.Math.ListN.{drop_of_length-le}
 use Rattle.asm_tokens.specs.declared.line.LineError.{LineError}
 use Rattle.asm_tokens.specs.declared.line.LineError.TheVariants as errors
 use Rattle.asm_tokens.specs.Tokens.{◌>>=◌, lines}
-use Rattle.rv_asm.specs.Assembled.{State, take_line, take_lines, at_line, Fails}
+use Rattle.rv_asm.specs.Assembled.{State, take_line, take_lines, at_line}
+use Rattle.failures.specs.Answers.{Fails}
 use Rattle.asm_tokens.specs.Views.{FailsLine}
 use Rattle.rv_asm.specs.Views.{error_at}
 

@@ -16,8 +16,6 @@ use Rattle.rv_asm.specs.declared.TheConstants.{TEXT_START}
 use Rattle.rv_asm.specs.declared.lines.TheConstants.{MOST_LINES}
 use Rattle.rv_asm.specs.declared.state.TheConstants.{MOST_BYTES}
 use Rattle.rv_asm.specs.declared.AsmFault.{AsmFault}
-use Rattle.rv_asm.specs.declared.AsmError.{AsmError}
-use Rattle.rv_asm.specs.declared.AsmError.TheVariants as errors
 use Rattle.rv_asm.specs.declared.Assembled.{Assembled}
 use Rattle.rv_asm.specs.declared.state.Place.{Place}
 use Rattle.asm_tokens.specs.declared.form.Form.{Form}
@@ -290,12 +288,3 @@ assembled source = do
 
 abbrev pub view : Assembled → Program
 view a = record { text = a.text; content = a.content; lines = a.lines; entry = a.entry }
-
-abbrev pub Fails : {A : Type 0} → AsmError → Result A AsmFault → Type 0
-Fails errors.Memory read = Unit {0}
-Fails (errors.Fault f) read = read ≡ Err f
-
--- It is what is read, unless memory ran out.
-abbrev pub Gives : {X A : Type 0} → (X → A) → Result X AsmError → Result A AsmFault → Type 0
-Gives view (Ok x) read = read ≡ Ok (view x)
-Gives view (Err e) read = Fails e read

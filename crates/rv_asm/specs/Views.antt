@@ -18,9 +18,10 @@ use Rattle.rv_asm.specs.declared.operands.Operands.{Operands}
 use Rattle.rv_asm.specs.declared.state.Place.{Place}
 use Rattle.rv_asm.specs.declared.state.Put.{Put as CodePut}
 use Rattle.rv_asm.specs.declared.state.State.{State as CodeState}
-use Rattle.rv_asm.specs.declared.AsmError.{AsmError}
-use Rattle.rv_asm.specs.declared.AsmError.TheVariants as faults
-use Rattle.rv_asm.specs.Assembled.{Put, State, label_in, Filled, Fails, all_bytes, text_of, content_of, lines_of}
+use Rattle.failures.specs.declared.Failure.{Failure}
+use Rattle.failures.specs.declared.Failure.TheVariants as faults
+use Rattle.rv_asm.specs.Assembled.{Put, State, label_in, Filled, all_bytes, text_of, content_of, lines_of}
+use Rattle.failures.specs.Answers.{Fails}
 use Rattle.rv_asm.specs.declared.AsmFault.{AsmFault}
 use Rattle.rv_asm.specs.declared.fill.Filled.{Filled as CodeFilled}
 use Rattle.asm_tokens.specs.declared.form.Form.{Form}
@@ -115,7 +116,7 @@ label_front (t ∷ []) = None
 label_front (t ∷ c ∷ ts) =
     option_map (λ name. record { name = name; column = t.column }) (label_in t.token c.token)
 
-abbrev pub error_at : ℕ → LineError → AsmError
+abbrev pub error_at : ℕ → LineError → Failure AsmFault
 error_at line errors.Memory = faults.Memory
 error_at line (errors.Fault kind column) =
     faults.Fault (record { kind = kind; line = line; column = column })
@@ -173,6 +174,6 @@ with_all parts read =
     })
 
 -- What was done: now this is what is read, or the source has a fault, unless memory ran out.
-abbrev pub StepsAll : {U A : Type 0} → Result U AsmError → A → Result A AsmFault → Type 0
+abbrev pub StepsAll : {U A : Type 0} → Result U (Failure AsmFault) → A → Result A AsmFault → Type 0
 StepsAll (Ok u) new read = read ≡ Ok new
 StepsAll (Err e) new read = Fails e read

@@ -8,7 +8,8 @@ ghost use Rattle.rv_decode.specs.declared.Instr.TheVariants as instr;
 ghost use Rattle.rv_decode.specs.declared.UpperOp.TheVariants.{Auipc};
 ghost use Rattle.rv_decode.specs.declared.ImmOp.TheVariants.{Addi};
 ghost use Rattle.rv_asm.specs.Statements.{upper, lower};
-ghost use Rattle.rv_asm.specs.Assembled.{Gives, address, target, reach, word, load_address, bytes_at, filled_piece, filled_pieces, begin_of, entry};
+ghost use Rattle.rv_asm.specs.Assembled.{address, target, reach, word, load_address, bytes_at, filled_piece, filled_pieces, begin_of, entry};
+ghost use Rattle.failures.specs.Answers.{Gives};
 ghost use Rattle.asm_tokens.specs.Views.{GivesLine, with_front};
 ghost use Rattle.rv_asm.specs.Views.{Steps, StepsAll, state_of, use_of, piece_of, put_of, with_filled, parts_of, with_next, all_parts};
 

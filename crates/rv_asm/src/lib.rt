@@ -10,12 +10,14 @@ mod state;
 
 ghost use Rattle.std.specs.Prelude.{◌≡◌, ◌≤◌, length, IfOk};
 ghost use Rattle.asm_tokens.specs.declared.TheConstants.{MAX_SOURCE};
-ghost use Rattle.rv_asm.specs.Assembled.{Gives, IsProgram, assembled, view};
+ghost use Rattle.rv_asm.specs.Assembled.{IsProgram, assembled, view};
+ghost use Rattle.failures.specs.Answers.{Gives};
 
 use crate::fill::{entry, fill};
 use crate::lines::take_lines;
 pub use asm_tokens::AsmKind;
 use coz_lists::Items;
+use failures::Failure;
 use std::alloc::Global;
 
 /// The address at which the text begins.
@@ -34,13 +36,7 @@ pub struct AsmFault {
 }
 
 /// Why a source isn't assembled.
-#[derive(Debug, Drop)]
-pub enum AsmError {
-    /// Memory was wanting.
-    Memory,
-    /// The source's first fault.
-    Fault(AsmFault),
-}
+pub type AsmError = Failure<AsmFault>;
 
 /// What a source stands for.
 #[derive(Drop)]

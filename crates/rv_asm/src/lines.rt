@@ -6,7 +6,8 @@ ghost use Rattle.std.specs.Str.{byte};
 ghost use Rattle.asm_tokens.specs.declared.TheConstants.{MAX_SOURCE};
 ghost use Rattle.asm_tokens.specs.Tokens.{is_allowed, lines};
 ghost use Rattle.rv_asm.specs.Statements.{section_of};
-ghost use Rattle.rv_asm.specs.Assembled.{Gives, start, is_in_place, form_named, name_in, with_statement, take_tokens, take_line, take_lines};
+ghost use Rattle.rv_asm.specs.Assembled.{start, is_in_place, form_named, name_in, with_statement, take_tokens, take_line, take_lines};
+ghost use Rattle.failures.specs.Answers.{Gives};
 ghost use Rattle.asm_tokens.specs.Views.{placed_of, all_placed, token_of};
 ghost use Rattle.rv_asm.specs.Views.{Steps, state_of, use_of, label_front, error_at};
 

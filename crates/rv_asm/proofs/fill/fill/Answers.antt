@@ -1,6 +1,7 @@
 use Rattle.std.proofs.Common.{rules, ◌≡◌, ◌<◌, ap, sym, ◌∙◌, subst, map, drop, length, arith, slice_index_or}
 use Rattle.std.proofs.Math.ListN.{drop_of_length-le}
-use Rattle.rv_asm.specs.Assembled.{filled_pieces, Fails}
+use Rattle.rv_asm.specs.Assembled.{filled_pieces}
+use Rattle.failures.specs.Answers.{Fails}
 use Rattle.rv_asm.specs.Views.{all_parts, parts_of, put_of, state_of}
 use Rattle.rv_asm.proofs.Filling.{over_put, at_fault, from_nothing, at_end}
 use Rattle.rv_asm.proofs.fill.fill.Goals as goal

@@ -1,6 +1,7 @@
 use Rattle.std.proofs.Common.{ap, sym, ◌∙◌, subst, drop, length, arith, ◌+◌}
 use Rattle.asm_tokens.specs.Tokens.{lines}
-use Rattle.rv_asm.specs.Assembled.{start, take_lines, Fails}
+use Rattle.rv_asm.specs.Assembled.{start, take_lines}
+use Rattle.failures.specs.Answers.{Fails}
 use Rattle.rv_asm.specs.Views.{state_of, error_at}
 use Rattle.rv_asm.proofs.TakeLines.{over_line, at_fault, at_last}
 use Rattle.rv_asm.proofs.lines.take_lines.Goals as goal
