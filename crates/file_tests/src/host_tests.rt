@@ -1,16 +1,16 @@
 //! Tests of the host's files and of its sink in `coz_files`.
 ghost use Rattle.std.specs.Prelude.{◌≤◌, length};
 
-use coz_files::{FileAnswer, Files, HostFiles, HostSink, PutAnswer, Sink, read_to_end};
-use std::io::{Error, ErrorKind, Read, Write};
+use coz_files::{FileAnswer, Files, HostFiles, HostSink, PutAnswer, Sink};
+use std::io::{Error, ErrorKind, Write};
 use std::test::Fail;
 use std::{env, fs, io, process};
 
 // A file of so many bytes takes many reads.
 const LENGTH: usize = 3 * 1024 * 1024 + 1;
 
-/// A stream of these bytes that passes three at a time, and is interrupted before each
-/// of these pieces. What is written has to be what comes next.
+/// A stream that takes three bytes at a time, which have to be these, and is interrupted before
+/// each such piece.
 #[derive(Drop)]
 struct Pieces {
     bytes: &'static [u8],
@@ -27,14 +27,6 @@ impl Pieces {
         }
     }
 
-    fn begin_piece(&mut self) -> io::Result<()> {
-        self.was_interrupted = !self.was_interrupted;
-        if self.was_interrupted {
-            return Err(Error::from(ErrorKind::Interrupted));
-        }
-        Ok(())
-    }
-
     /// At most so many of the bytes that come next, and never more than three.
     fn piece(&mut self, most: usize) -> &'static [u8]
         ensures { length result.now ≤ most }
@@ -46,18 +38,12 @@ impl Pieces {
     }
 }
 
-impl Read for Pieces {
-    fn read(&mut self, buf: &mut [u8]) -> io::Result<usize> {
-        self.begin_piece()?;
-        let piece = self.piece(buf.len());
-        buf[..piece.len()].copy_from_slice(piece);
-        Ok(piece.len())
-    }
-}
-
 impl Write for Pieces {
     fn write(&mut self, buf: &[u8]) -> io::Result<usize> {
-        self.begin_piece()?;
+        self.was_interrupted = !self.was_interrupted;
+        if self.was_interrupted {
+            return Err(Error::from(ErrorKind::Interrupted));
+        }
         let piece = self.piece(buf.len());
         if !buf.starts_with(piece) {
             return Err(Error::from(ErrorKind::InvalidInput));
@@ -91,17 +77,6 @@ fn a_file_of_the_system_is_read(rt: HostRuntime) -> Result<(), Fail> {
         (FileAnswer::Whole, FileAnswer::Longer, FileAnswer::Failed)
     );
     assert!(rt; whole == bytes && longer == bytes);
-    Ok(())
-}
-
-#[test]
-fn a_stream_in_pieces_is_read(rt: HostRuntime) -> Result<(), Fail> {
-    let mut whole = Vec::new(rt.alloc());
-    let answer = read_to_end(&mut Pieces::new(b"ten bytes."), 10, &mut whole);
-    assert_eq!(rt;
-        (answer, whole.as_slice()),
-        (FileAnswer::Whole, b"ten bytes.".as_slice())
-    );
     Ok(())
 }
 
