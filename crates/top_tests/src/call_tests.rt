@@ -102,6 +102,7 @@ const STREAMS: &str = "
 .dword 0, call, 65, 0, 0, 1, 0, 0, -14
 .dword 0, call, 65, 0, -1, 1, 0, 0, -14
 .dword 0, call, 65, 0, parts, 2, 0, 0, -14
+.dword 0, load, 0, 0, 0x3FFFFF0100, 0, 0, 0, 0
 .dword 0, call, 65, 0, 0, 0, 0, 0, 0
 .dword 0, call, 65, 0, parts, 1, 0, 0, 3
 .dword 0, call, 65, 0, parts, 2, 0, 0, 2
@@ -148,6 +149,7 @@ const OWN: &str = "
 .dword 0, call, 222, 0, -1, 3, 0x22, 0, -12
 .dword 0, call, 215, 0x2100000001, 1, 0, 0, 0, -22
 .dword 0, call, 215, 0x2100000000, 1, 0, 0, 0, 0
+.dword 0, call, 64, 1, 0x2100000000, 1, 0, 0, -14
 .dword 0, call, 216, 0, 0, 0, 0, 0, -12
 # mprotect and madvise
 .dword 0, call, 226, 0x2100001000, 4096, 1, 0, 0, 0
@@ -222,18 +224,41 @@ const THREADS: &str = "
 .dword 3, call, 98, 0x3FFFFF0000, 0, 2, 0, 0, 0
 .dword 1, call, 98, 0x3FFFFF0000, 1, 9, 0, 0, 2
 .dword 1, call, 98, 0x3FFFFF0000, 1, 0xFFFFFFFF, 0, 0, 0
-# U to Z: V waits behind N; W leaves, which clears the word at 0x3FFFFF0004 and starts N alone;
-# Y leaves, whose word may not be written; Z starts V
+# U to Y: V waits behind N; W leaves, which clears the word at 0x3FFFFF0004 and starts N alone;
+# Y starts V
 .dword 3, call, 96, 0x3FFFFF0008, 0, 0, 0, 0, 4
 .dword 3, call, 98, 0x3FFFFF0004, 0, 2, 0, 0, 0
 .dword 1, call, 93, 5, 0, 0, 0, 0, 0
 .dword 0, call, 98, 0x3FFFFF0004, 0, 2, 0, 0, -11
-.dword 2, call, 93, 0, 0, 0, 0, 0, 0
 .dword 0, call, 98, 0x3FFFFF0004, 1, 1, 0, 0, 1
-# [ waits, and the last other hart leaves, which starts it
+# Z waits at the word of [, which leaves and may not write there, so that \\ starts Z
+.dword 3, call, 98, text, 0, 0x73, 0, 0, 0
+.dword 2, call, 93, 0, 0, 0, 0, 0, 0
+.dword 0, call, 98, text, 1, 1, 0, 0, 1
+# ] waits, and the last other hart leaves, which starts it
 .dword 0, call, 98, 0x3FFFFF0008, 0, 0, 0, 0, 0
 .dword 3, call, 93, 0, 0, 0, 0, 0, 0
-.dword 0, call, 64, 1, kept, 25, 0, 0, 25
+.dword 0, call, 64, 1, kept, 27, 0, 0, 27
+.dword 0, call, 94, 0, 0, 0, 0, 0, 0
+";
+
+/// Four harts wait in another order than that of their numbers, and are woken by their age. Those
+/// of one wake go on at one moment, where the hart of the least number is first.
+const AGES: &str = "
+.dword 0, call, 220, 0x10F00, 0, 0, 0, 0, 2
+.dword 0, call, 220, 0x10F00, 0, 0, 0, 0, 3
+.dword 0, call, 220, 0x10F00, 0, 0, 0, 0, 4
+.dword 0, call, 220, 0x10F00, 0, 0, 0, 0, 5
+# E to H wait
+.dword 3, call, 98, 0x3FFFFF0000, 0, 0, 0, 0, 0
+.dword 1, call, 98, 0x3FFFFF0000, 0, 0, 0, 0, 0
+.dword 4, call, 98, 0x3FFFFF0000, 0, 0, 0, 0, 0
+.dword 2, call, 98, 0x3FFFFF0000, 0, 0, 0, 0, 0
+# I starts E and F, J starts G, K starts H
+.dword 0, call, 98, 0x3FFFFF0000, 1, 2, 0, 0, 2
+.dword 0, call, 98, 0x3FFFFF0000, 1, 1, 0, 0, 1
+.dword 0, call, 98, 0x3FFFFF0000, 1, 2, 0, 0, 1
+.dword 0, call, 64, 1, kept, 11, 0, 0, 11
 .dword 0, call, 94, 0, 0, 0, 0, 0, 0
 ";
 
@@ -263,11 +288,12 @@ const HALVES: &str = "
 ";
 
 /// Rows for the driver, all of which answer as they say, and the output with its length.
-static ANSWERS: [(&str, &str); 5] = [
+static ANSWERS: [(&str, &str); 6] = [
     (STREAMS, "14\nllollolsfirst \n"),
     (OWN, "0\n\n"),
     (TIMES, "0\n\n"),
-    (THREADS, "25\nABCDEFGHIJKOPQLMSRTUNXZV[\n"),
+    (THREADS, "27\nABCDEFGHIJKOPQLMSRTUNXYV\\Z]\n"),
+    (AGES, "11\nABCDIFEJGKH\n"),
     (HALVES, "4\nfirh\n"),
 ];
 
@@ -427,6 +453,17 @@ end:
 shown: .zero 16
 span: .dword ";
 
+/// Reads the clock as early as a program may: its number and an address take a cycle each,
+/// and the call 40. The code is the nanoseconds.
+const EARLY: &str = "\
+    li a7, 113
+    mv a1, sp
+    ecall
+    ld a0, 8(sp)
+    li a7, 94
+    ecall
+";
+
 /// The program as it is; with its first line, of two cycles, or its third, of one, made cheaper
 /// by so many per cent.
 const PLAIN: [&str; 2] = ["run", "guest"];
@@ -439,8 +476,15 @@ const ONE_BY_55: [&str; 4] = ["run", "guest", "--line=guest.s:3", "--speedup=55"
 
 const ONE_BY_1: [&str; 4] = ["run", "guest", "--line=guest.s:3", "--speedup=1"];
 
+/// With its first line, of one cycle, or its third, of 40, made cheaper.
+const FIRST_BY_1: [&str; 4] = ["run", "guest", "--line=guest.s:1", "--speedup=1"];
+
+const CALL_BY_93: [&str; 4] = ["run", "guest", "--line=guest.s:3", "--speedup=93"];
+
+const CALL_BY_95: [&str; 4] = ["run", "guest", "--line=guest.s:3", "--speedup=95"];
+
 /// Programs, what stands behind them, words, and how the run ends.
-static PROGRAMS: [(&str, &str, &[&str], &str); 10] = [
+static PROGRAMS: [(&str, &str, &[&str], &str); 14] = [
     (MOST, "", &PLAIN, "end exited:0"),
     // seconds and nanoseconds are rounded down
     (NAP, "0, 0, 0, 89", &PLAIN, "end exited:0"),
@@ -452,6 +496,11 @@ static PROGRAMS: [(&str, &str, &[&str], &str); 10] = [
         &ONE_BY_55,
         "end exited:0",
     ),
+    // at 4,200 ticks, at 4,199, at 480 and at 400, which is the least
+    (EARLY, "", &PLAIN, "end exited:42"),
+    (EARLY, "", &FIRST_BY_1, "end exited:41"),
+    (EARLY, "", &CALL_BY_93, "end exited:4"),
+    (EARLY, "", &CALL_BY_95, "end exited:4"),
     // the last moment is 100,000 seconds
     (NAP, "99999, 999999955, 100000, 44", &PLAIN, "end exited:0"),
     (NAP, "99999, 999999956, 0, 0", &PLAIN, "end clock"),
