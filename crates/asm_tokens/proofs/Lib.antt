@@ -1,2 +1,3 @@
 pub mod Skips
 mod Tables
+mod Numbers

@@ -167,7 +167,7 @@ module _ {X : Type 0} (lt : X → X → Bool) (o : IsStrictWeakOrder lt) where
   sorted_keeps z [] = refl
   sorted_keeps z (x ∷ xs) = put_keeps z x (sorted_by lt xs) ∙ ap (λ (l : List X). cond (ties lt z x) (x ∷ l) l) (sorted_keeps z xs)
 
-  stable_is_one : (xs ys : List X) → IsSortedBy lt ys → IsStableBy lt xs ys → ys ≡ sorted_by lt xs
+  pub stable_is_one : (xs ys : List X) → IsSortedBy lt ys → IsStableBy lt xs ys → ys ≡ sorted_by lt xs
   stable_is_one xs ys up same = one ys (sorted_by lt xs) (rises_by_place ys (sorted_far lt o ys up)) (sorted_rises xs) (λ z. same z ∙ sym (sorted_keeps z xs))
 
 -- ---- curves

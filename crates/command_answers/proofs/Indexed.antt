@@ -31,6 +31,12 @@ module _ (image : ImageParts) (table : Table) (input : List ℕ) where
     pub indexed : (next : Judging) → next index.lines (runs_in image index input) ≡ next (lines_in table image.areas) (experiment_by_table image table input)
     indexed next = ap₂ next (lines_are is) same_runs
 
+    -- and so of what the position of an address decides too
+    pub indexed_at : (next : (ℕ → Option ℕ) → Judging) → next (position_at index) index.lines (runs_in image index input) ≡ next (position_in table image.areas) (lines_in table image.areas) (experiment_by_table image table input)
+    indexed_at next =
+        ap (λ (position : ℕ → Option ℕ). next position index.lines (runs_in image index input)) (fun_ext (positions_are is))
+        ∙ indexed (next (position_in table image.areas))
+
 -- the points that were made of lines of an index
 pub points_are : (index : Index) (lines : List ℕ) (points : Points) → IsPoints index lines points → point_of points ≡ point_in index.entries lines
 points_are index lines points is = fun_ext is.each

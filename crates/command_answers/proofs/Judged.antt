@@ -17,18 +17,21 @@ use Rattle.coz_words.specs.Said.{Text}
 use Rattle.coz_words.specs.declared.request.Request.{Request}
 use Rattle.printed_texts.specs.declared.printed.Printed.{Printed}
 use Rattle.command_answers.specs.declared.experiment.Kind.{Kind}
-use Rattle.command_answers.specs.declared.experiment.Kind.TheVariants.{Delayed, Shortened, Profiled}
+use Rattle.command_answers.specs.declared.experiment.Kind.TheVariants.{Delayed, Shortened, Profiled, Measured}
 use Rattle.coz_files.specs.Faults.{Rose}
 use Rattle.coz_files.specs.Held.{Held, file_at}
 use Rattle.program_steps.specs.declared.fault.Fault.{Fault}
 use Rattle.program_steps.specs.declared.fault.Fault.TheVariants.{Usage, Program, Lines, Read, Write, NoLine, ManyPoints, Long, ManyExperiments, Memory, Source, Profile}
 use Rattle.program_steps.specs.LineTable.{table_in}
-use Rattle.command_answers.specs.Experiment.{Runs, choice_of}
+use Rattle.command_answers.specs.Experiment.{Runs, choice_of, experiment_by_table}
+use Rattle.command_answers.specs.CriticalPath.{path_on, path_printed, plain_run}
+use Rattle.experiment_plan.specs.Selected.{places_among}
+use Rattle.command_answers.specs.Latencies.{latency_printed, latency_verdict, lines_of_both, net_at_each, speedups_of}
 use Rattle.command_answers.specs.Profiled.{all_lines, pairs_of, profile_of}
 use Rattle.program_steps.specs.Selection.{line_named, lines_named}
 use Rattle.command_answers.specs.Kind.{judgement_by, really_printed, run_printed}
 use Rattle.command_answers.specs.Answer.{Answer, IsMemory, IsMemoryFault, IsRead, IsReadFault, Suits, verdict_of, fault_verdict}
-use Rattle.command_answers.specs.Verdict.{Verdict, Judging, asked_verdict, profiled_verdict, file_verdict, files_verdict, input_verdict, read_verdict, has_exited, loaded_verdict, named_verdict, plan_verdict, points_verdict, profile_verdict, table_verdict}
+use Rattle.command_answers.specs.Verdict.{Verdict, asked_verdict, bytes_verdict, profiled_verdict, file_verdict, input_verdict, read_verdict, has_exited, loaded_verdict, named_verdict, plan_verdict, points_verdict, profile_verdict, table_verdict}
 
 -- the status is a run's, or one of the refusals behind the reading, with a line
 pub record Refuses (v : Verdict) : Type 0 where
@@ -83,10 +86,21 @@ judged_profiled asked lines runs =
     judged_plan (pairs_of selected asked.speedups) (λ pairs. profile_verdict (profile_of runs lines asked.budget points pairs))
     (λ pairs. inl (low (list_all (λ (s : Summary). has_exited s.outcome.ending) (profile_of runs lines asked.budget points pairs).summaries))))))
 
+judged_latency : (asked : Request) (lines : List Line) (runs : Runs) → Judged (latency_verdict asked lines runs)
+unfolding latency_verdict
+judged_latency asked lines runs =
+    judged_named (line_named lines asked.line) _ (λ selected.
+    judged_named (lines_named lines [] asked.arrive) _ (λ arrive.
+    judged_named (lines_named lines [] asked.depart) _ (λ depart.
+    judged_points (lines_of_both arrive depart)
+    (λ points. latency_printed (places_among points arrive) (places_among points depart) (net_at_each runs selected asked.budget points) (speedups_of asked))
+    (λ points. inl (low (list_all (λ speedup. has_exited (net_at_each runs selected asked.budget points speedup).ending) (speedups_of asked)))))))
+
 judged_kind : (kind : Kind) (asked : Request) (lines : List Line) (runs : Runs) → Judged (judgement_by kind asked lines runs)
 judged_kind Delayed asked = judged_asked asked run_printed (λ x. inl (low (has_exited (delayed_record x).ending)))
 judged_kind Shortened asked = judged_asked asked really_printed (λ x. inl (low (has_exited (shortened_record x).ending)))
 judged_kind Profiled asked = judged_profiled asked
+judged_kind Measured asked = judged_latency asked
 
 judged_table : (t : Result Table LineFault) (next : Table → Verdict) → ((table : Table) → Judged (next table)) → Judged (table_verdict t next)
 judged_table (Err fault) next each = inr (record { high = omega arith; no_read = λ is. omega (arith, is); no_write = λ is. omega (arith, is); no_length = λ is. omega (arith, is); told = λ is. absurd cc })
@@ -136,14 +150,25 @@ pub suits_file : (kind : Kind) (asked : Request) (file input : List ℕ) (answer
     → ((IsMemory answer → ⊥) → verdict_of answer ≡ file_verdict (judgement_by kind asked) file input) → Suits asked answer
 suits_file kind asked file input answer = suits_of asked (file_verdict (judgement_by kind asked) file input) (judged_file kind asked file input) answer
 
+judged_path : (budget : ℕ) (file input : List ℕ) → Judged (path_on budget file input)
+unfolding path_printed
+judged_path budget file input =
+    judged_loaded (load_answer file) _ (λ image.
+    judged_table (table_in file) _ (λ table.
+    inl (low (has_exited (shortened_record (plain_run (experiment_by_table image table input) budget)).ending))))
+
+pub suits_path : (asked : Request) (file input : List ℕ) (answer : Answer) → (IsRead answer → ⊥)
+    → ((IsMemory answer → ⊥) → verdict_of answer ≡ path_on asked.budget file input) → Suits asked answer
+suits_path asked file input answer = suits_of asked (path_on asked.budget file input) (judged_path asked.budget file input) answer
+
 -- ---- reading
 
 -- a program's file that could not be read
-pub first_read : (told : Option Held) (asked : Request) (next : Judging) (path : List ℕ) (before now : ℕ) (fault : Fault) → path ≡ asked.target
+pub first_read : (told : Option Held) (asked : Request) (next : List ℕ → List ℕ → Verdict) (path : List ℕ) (before now : ℕ) (fault : Fault) → path ≡ asked.target
     → IfSome told (λ held. (IsMemoryFault fault → ⊥) → (rest : List ℕ → Verdict) →
     (fault_verdict fault ≡ read_verdict 33554432 path (file_at held path) rest) ⊎ (IsReadFault fault × Rose before now))
-    → IfSome told (λ held. (IsMemoryFault fault → ⊥) → (fault_verdict fault ≡ files_verdict asked held next) ⊎ (IsReadFault fault × Rose before now))
+    → IfSome told (λ held. (IsMemoryFault fault → ⊥) → (fault_verdict fault ≡ bytes_verdict asked held next) ⊎ (IsReadFault fault × Rose before now))
 first_read None asked next path before now fault same is = tt
 first_read (Some held) asked next path before now fault same is = λ other.
-    let rest : List ℕ → Verdict = λ file. input_verdict asked.input held (file_verdict next file) in
+    let rest : List ℕ → Verdict = λ file. input_verdict asked.input held (next file) in
     subst (λ (p : List ℕ). (fault_verdict fault ≡ read_verdict 33554432 p (file_at held p) rest) ⊎ (IsReadFault fault × Rose before now)) same (is other rest)

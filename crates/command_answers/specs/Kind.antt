@@ -5,7 +5,8 @@ use Rattle.machines.specs.Standing.{delayed_record}
 use Rattle.guest_calls.specs.Guest.{Guest}
 use Rattle.coz_words.specs.declared.request.Request.{Request}
 use Rattle.command_answers.specs.declared.experiment.Kind.{Kind}
-use Rattle.command_answers.specs.declared.experiment.Kind.TheVariants.{Delayed, Shortened, Profiled}
+use Rattle.command_answers.specs.declared.experiment.Kind.TheVariants.{Delayed, Shortened, Profiled, Measured}
+use Rattle.command_answers.specs.Latencies.{latency_verdict}
 use Rattle.command_answers.specs.Verdict.{Verdict, Judging, asked_verdict, profiled_verdict, run_verdict, really_verdict}
 
 abbrev pub run_printed : Experiment Guest → Verdict
@@ -18,3 +19,4 @@ abbrev pub judgement_by : Kind → Request → Judging
 judgement_by Delayed asked = asked_verdict asked run_printed
 judgement_by Shortened asked = asked_verdict asked really_printed
 judgement_by Profiled asked = profiled_verdict asked
+judgement_by Measured asked = latency_verdict asked

@@ -1,6 +1,9 @@
 pub mod Experiment
 pub mod Profiled
 pub mod Trial
+pub mod CriticalPath
+pub mod Latencies
+pub mod Measured
 pub mod Verdict
 pub mod Kind
 pub mod Answer

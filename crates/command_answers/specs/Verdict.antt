@@ -12,7 +12,7 @@ pub use Rattle.printed_texts.specs.Printed.{has_exited, ending_status, ended_ver
 pub use Rattle.program_steps.specs.Verdict.{Verdict, refusal, text_verdict, loaded_verdict, table_verdict, program_verdict, named_verdict, points_verdict, read_verdict}
 use Rattle.coz_words.specs.declared.request.Request.{Request}
 use Rattle.coz_words.specs.declared.command.Command.{Command}
-use Rattle.coz_words.specs.declared.command.Command.TheVariants.{Run, Really, Profile, Lines, Plot, Asm, Trial}
+use Rattle.coz_words.specs.declared.command.Command.TheVariants.{Run, Really, Profile, Lines, Plot, Asm, Trial, Latency, Path}
 use Rattle.rv_asm.specs.declared.AsmFault.{AsmFault}
 use Rattle.rv_asm.specs.Assembled.{Program, assembled}
 use Rattle.image_write.specs.File.{written_file}
@@ -33,8 +33,10 @@ use Rattle.profile_book.specs.declared.profile.Profile.{Profile as Book}
 use Rattle.printed_texts.specs.Text.{run_text, really_text, lines_text, plot_text}
 use Rattle.program_steps.specs.Selection.{line_named, lines_named}
 use Rattle.command_answers.specs.Experiment.{Runs, choice_of, experiment_by_table}
+use Rattle.command_answers.specs.CriticalPath.{path_on}
 use Rattle.program_steps.specs.FaultLines.{source_line, plan_line, book_line}
 use Rattle.command_answers.specs.Profiled.{all_lines, pairs_of, profile_of}
+use Rattle.command_answers.specs.Latencies.{latency_verdict}
 use Rattle.command_answers.specs.Trial.{trial_file, trial_point, trial_profile, trial_program, trial_text}
 
 -- of a run
@@ -90,11 +92,19 @@ abbrev pub input_verdict : Option (List ℕ) → Held → (List ℕ → Verdict)
 input_verdict None held next = next []
 input_verdict (Some path) held next = read_verdict MAX_INPUT path (file_at held path) next
 
+-- of the program and the input that a request names, and of what follows their bytes
+abbrev pub bytes_verdict : Request → Held → (List ℕ → List ℕ → Verdict) → Verdict
+bytes_verdict asked held next =
+    read_verdict MAX_PROGRAM asked.target (file_at held asked.target) (λ file.
+    input_verdict asked.input held (next file))
+
 -- of the program and the input that a request names, and of what follows
 abbrev pub files_verdict : Request → Held → Judging → Verdict
-files_verdict asked held next =
-    read_verdict MAX_PROGRAM asked.target (file_at held asked.target) (λ file.
-    input_verdict asked.input held (file_verdict next file))
+files_verdict asked held next = bytes_verdict asked held (file_verdict next)
+
+-- of the critical path that a request asks for
+abbrev pub path_verdict : Request → Held → Verdict
+path_verdict asked held = bytes_verdict asked held (path_on asked.budget)
 
 -- of a program's lines
 abbrev pub lines_verdict : List ℕ → Verdict
@@ -156,3 +166,5 @@ command_verdict Asm asked held =
     read_verdict MAX_SOURCE asked.target (file_at held asked.target) (λ source.
     source_verdict asked.target asked.dwarf (assembled source))
 command_verdict Trial asked held = trial_verdict asked.seed asked.size
+command_verdict Latency asked held = files_verdict asked held (latency_verdict asked)
+command_verdict Path asked held = path_verdict asked held

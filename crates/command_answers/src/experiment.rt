@@ -1,5 +1,5 @@
-//! The commands that run a program: `run`, `really` and `profile`.
-ghost use Rattle.std.specs.Prelude.{◌≡◌, ◌≤◌, ℕ, List, length, IfOk, IfSome, IfNone};
+//! The commands that run a program that a file holds: `run`, `really`, `profile` and `latency`.
+ghost use Rattle.std.specs.Prelude.{◌≡◌, ◌≤◌, ℕ, List, length, IfOk, IfSome, IfNone, IsSome};
 ghost use Rattle.coz_types.specs.declared.TheConstants.{MAX_PROGRAM};
 ghost use Rattle.coz_types.specs.Image.{ImageParts};
 ghost use Rattle.coz_files.specs.Faults.{Rose};
@@ -10,12 +10,13 @@ ghost use Rattle.guest_calls.specs.Guest.{Guest};
 ghost use Rattle.virtual_run.specs.Run.{IsChoice, experiment};
 ghost use Rattle.coz_words.specs.Request.{IsFit};
 ghost use Rattle.command_answers.specs.Experiment.{runs_in};
-ghost use Rattle.command_answers.specs.declared.experiment.Kind.TheVariants.{Profiled};
+ghost use Rattle.command_answers.specs.declared.experiment.Kind.TheVariants.{Profiled, Measured};
 ghost use Rattle.command_answers.specs.Kind.{judgement_by, really_printed, run_printed};
 ghost use Rattle.command_answers.specs.Verdict.{Verdict, asked_verdict, file_verdict, files_verdict};
 ghost use Rattle.command_answers.specs.Answer.{verdict_of, verdict_after, IsMemory, IsRead, Suits, Settles};
 
 use crate::answer::Answer;
+use crate::latency::latency_answer;
 use crate::profile::profile_answer;
 use crate::runs::{really_answer, run_answer};
 use coz_files::{Files, Gate};
@@ -30,7 +31,7 @@ use std::thread::Threads;
 use virtual_run::Choice;
 
 /// The most bytes of an input.
-const MAX_INPUT: u64 = 0x100_0000;
+pub const MAX_INPUT: u64 = 0x100_0000;
 
 /// What a program is run for.
 #[derive(Clone, Copy)]
@@ -41,6 +42,8 @@ pub enum Kind {
     Shortened,
     /// The delayed runs of a plan.
     Profiled,
+    /// The delayed runs of a line, of which the requests are measured.
+    Measured,
 }
 
 /// What is written of a run of the program and the input that the request names.
@@ -56,6 +59,7 @@ pub fn judge_experiment<'r, R: Threads + Sync, F: Files, G: Gate>(
     requires fit { IsFit request.now }
     requires some_budget { 1 ≤ request.now.budget }
     requires some_workers { kind ≡ Profiled → 1 ≤ request.now.workers }
+    requires some_line { kind ≡ Measured → IsSome request.now.line }
     ensures same { F.held files.new ≡ F.held files.old }
     ensures suits { Suits request.now result }
     ensures settled { IfSome (F.held files.old) (λ held. (IsMemory result → ⊥) →
@@ -87,6 +91,7 @@ fn file_answer<'r, R: Threads + Sync, G: Gate>(
     requires fit { IsFit request.now }
     requires some_budget { 1 ≤ request.now.budget }
     requires some_workers { kind ≡ Profiled → 1 ≤ request.now.workers }
+    requires some_line { kind ≡ Measured → IsSome request.now.line }
     ensures no_read { IsRead result → ⊥ }
     ensures settled { (IsMemory result → ⊥)
         → verdict_of result ≡ file_verdict (judgement_by kind request.now) file.now input.now }
@@ -118,6 +123,7 @@ fn index_answer<'r, R: Threads + Sync, G: Gate>(
     requires fit { IsFit request.now }
     requires some_budget { 1 ≤ request.now.budget }
     requires some_workers { kind ≡ Profiled → 1 ≤ request.now.workers }
+    requires some_line { kind ≡ Measured → IsSome request.now.line }
     ensures no_read { IsRead result → ⊥ }
     ensures settled { (IsMemory result → ⊥) → verdict_of result
         ≡ judgement_by kind request.now index.now.lines (runs_in image.now index.now input.now) }
@@ -126,6 +132,7 @@ fn index_answer<'r, R: Threads + Sync, G: Gate>(
         Kind::Delayed => delayed_answer(alloc, image, index, input, request),
         Kind::Shortened => shortened_answer(alloc, image, index, input, request),
         Kind::Profiled => profile_answer(rt, alloc, image, index, input, request, gate),
+        Kind::Measured => latency_answer(alloc, image, index, input, request),
     }
 }
 

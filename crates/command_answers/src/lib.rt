@@ -3,7 +3,10 @@
 
 mod answer;
 mod experiment;
+mod latency;
 mod lines;
+mod measuring;
+mod path;
 mod plot;
 mod profile;
 mod runs;
@@ -13,6 +16,7 @@ mod trial;
 pub use answer::Answer;
 pub use experiment::{Kind, judge_experiment};
 pub use lines::judge_lines;
+pub use path::judge_path;
 pub use plot::judge_plot;
 pub use source::judge_source;
 pub use trial::judge_trial;

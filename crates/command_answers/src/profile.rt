@@ -127,6 +127,7 @@ fn asked_plan<'r>(
 }
 
 /// What is written of the runs of a plan.
+#[tactic(auto, using(crate::proofs::Budgets::few_budget))]
 fn plan_answer<'r, R: Threads + Sync, G: Gate>(
     rt: &R,
     alloc: Global,

@@ -4,6 +4,7 @@ use Rattle.std.specs.Prelude.{IfNone, IsSomeAnd, ◌⊎◌}
 use Rattle.std.specs.Io.KnownBytes.{Appends}
 use Rattle.coz_files.specs.Faults.{Rose}
 use Rattle.coz_files.specs.Held.{Held}
+use Rattle.coz_files.specs.Puts.{AppendsPrefix}
 use Rattle.coz_words.specs.declared.request.Request.{Request}
 use Rattle.printed_texts.specs.declared.printed.Printed.{Printed}
 use Rattle.program_steps.specs.declared.fault.Fault.{Fault}
@@ -112,6 +113,19 @@ module _ (words : List (List ℕ)) (faults now : ℕ) where
         λ low.
         elim (is (λ no. no)) [
           | inl same ↦ printed_run words held before after printed (sym same) gained low
+          | inr failed ↦ absurd failed.0
+        ]
+
+    -- what was put where a write failed begins the verdict's text
+    pub torn : (told before after : Option _) (printed : Printed) (status : ℕ)
+        → IfSome told (λ held. (IsMemory {A = Printed} (Ok printed) → ⊥) → Settles (command_verdict asked.command asked held) faults now (Ok printed))
+        → AppendsPrefix before after (text_bytes printed.text) → IfSome told (λ held. status ≡ 6 → AppendsPrefix before after (verdict words held).text)
+    torn None before after printed status settled put = tt
+    torn (Some held) before after printed status settled put =
+        let is = subst (λ request. IsSettled (Some held) request (Ok printed)) makes settled in
+        λ six.
+        elim (is (λ no. no)) [
+          | inl same ↦ subst (λ (v : Verdict). AppendsPrefix before after v.text) same put
           | inr failed ↦ absurd failed.0
         ]
 

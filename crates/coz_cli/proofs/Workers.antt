@@ -3,14 +3,15 @@ use Rattle.std.proofs.Common.{◌≡◌, ◌≤◌, ℕ, List, Option, Some, Non
 use Rattle.std.specs.Io.KnownBytes.{Appends}
 use Rattle.coz_files.specs.Held.{Held}
 use Rattle.coz_words.specs.declared.command.Command.{Command}
-use Rattle.coz_words.specs.declared.command.Command.TheVariants.{Run, Really, Profile, Lines, Plot, Asm, Trial}
+use Rattle.coz_words.specs.declared.command.Command.TheVariants.{Run, Really, Profile, Lines, Plot, Asm, Trial, Latency, Path}
 use Rattle.coz_words.specs.declared.request.Request.{Request}
+use Rattle.command_answers.specs.Latencies.{latency_verdict}
 use Rattle.command_answers.specs.Verdict.{Verdict, command_verdict, profiled_verdict}
 use Rattle.coz_cli.specs.Verdict.{request_verdict, verdict}
 use Rattle.coz_cli.specs.Headline.{AskAlike, PrintsForAnyWorkers}
 
 same_command : (c : Command) (asked : Request) (workers : ℕ) (held : Held) → command_verdict c asked held ≡ command_verdict c (record asked { workers = workers }) held
-unfolding profiled_verdict
+unfolding profiled_verdict latency_verdict
 same_command Run asked workers held = refl
 same_command Really asked workers held = refl
 same_command Profile asked workers held = refl
@@ -18,6 +19,8 @@ same_command Lines asked workers held = refl
 same_command Plot asked workers held = refl
 same_command Asm asked workers held = refl
 same_command Trial asked workers held = refl
+same_command Latency asked workers held = refl
+same_command Path asked workers held = refl
 
 alike : (words others : List (List ℕ)) (held : Held) → AskAlike words others → verdict words held ≡ verdict others held
 alike words others held asks =

@@ -9,19 +9,26 @@ use Rattle.coz_files.specs.Held.{Held, file_at}
 use Rattle.elf_load.specs.Loaded.{load_answer}
 use Rattle.dwarf_lines.specs.Registers.{Table}
 use Rattle.line_index.specs.Lines.{Line}
-use Rattle.line_index.specs.Listed.{lines_in}
+use Rattle.line_index.specs.Listed.{lines_in, position_in}
+use Rattle.experiment_plan.specs.Selected.{places_among}
 use Rattle.experiment_plan.specs.declared.experiment.Experiment.{Experiment as Pair}
 use Rattle.profile_book.specs.Profile.{profile_text}
 use Rattle.machines.specs.Guest.{Experiment}
 use Rattle.machines.specs.Records.{Record, NetRecord, net, IsDelayed, IsShortened}
-use Rattle.guest_calls.specs.Guest.{Guest}
+use Rattle.guest_calls.specs.Guest.{Guest, pc_of}
+use Rattle.critical_chains.specs.declared.event.Event.{Event}
+use Rattle.critical_chains.specs.Path.{IsChain, Sound, weight}
+use Rattle.critical_path.specs.Events.{events_of}
 use Rattle.coz_words.specs.declared.request.Request.{Request}
-use Rattle.coz_words.specs.declared.command.Command.TheVariants.{Run, Really, Profile}
+use Rattle.coz_words.specs.declared.command.Command.TheVariants.{Run, Really, Profile, Latency, Path}
 use Rattle.program_steps.specs.Words.{request_of}
 use Rattle.program_steps.specs.LineTable.{table_in}
 use Rattle.program_steps.specs.Selection.{line_named, lines_named}
 use Rattle.command_answers.specs.Experiment.{Runs, choice_of, experiment_by_table}
+use Rattle.command_answers.specs.CriticalPath.{path_of_run, plain_run}
 use Rattle.command_answers.specs.Profiled.{all_lines, experiment_on, pairs_of, profile_with}
+use Rattle.command_answers.specs.Latencies.{at_each, lines_of_both, speedups_of}
+use Rattle.printed_texts.specs.LatencyText.{latency_text}
 use Rattle.printed_texts.specs.Text.{run_text, really_text}
 use Rattle.coz_cli.specs.Verdict.{verdict}
 
@@ -111,7 +118,83 @@ pub record PrintsProfile (held : Held) (asked : Request)
       IsShortened (experiment_on runs asked.budget points pair) (net (run pair))) pairs
   pub printed : Appends before now (profile_text (profile_with run lines asked.budget points pairs))
 
--- where the words ask for a run or a profile, such a run or profile is printed
+-- The run that a request for a critical path asks for: its path names a file that is a program
+-- with this line table, its input is that of the named file, no line is selected, and there are
+-- no points.
+pub record IsPlain (held : Held) (asked : Request) (image : ImageParts) (table : Table)
+    (x : Experiment Guest) : Type 0 where
+  pub file : List ℕ
+  pub input : List ℕ
+  pub found : file_at held asked.target ≡ Some file
+  pub given : IsInput held asked.input input
+  pub program : load_answer file ≡ Ok image
+  pub lines : table_in file ≡ Ok table
+  pub experiment : x ≡ plain_run (experiment_by_table image table input) asked.budget
+
+-- Behind what was held before there is now the text of a critical path: of the record that
+-- the shortened machine ends with, and of a chain of the instructions that it retired. The chain
+-- is sound, so that it ends with the last of them; its weight is the run's net time; and no chain
+-- of these instructions is heavier.
+pub record PrintsPath (held : Held) (asked : Request) (before now : Option (List ℕ)) : Type 0 where
+  pub image : ImageParts
+  pub table : Table
+  pub experiment : Experiment Guest
+  pub run : NetRecord
+  pub events : List Event
+  pub chain : List ℕ
+  pub is_plain : IsPlain held asked image table experiment
+  pub shortened : IsShortened experiment run
+  pub events_are : events ≡ events_of experiment pc_of
+  pub sound : Sound events chain
+  pub whole : weight events chain ≡ run.time
+  pub heaviest : (other : List ℕ) → IsChain events other
+      → weight events other ≤ weight events chain
+  pub printed : Appends before now
+      (path_of_run run events chain (position_in table image.areas) (lines_in table image.areas))
+
+-- The runs that a request for latencies asks for, one at each speedup: its path names a file that is
+-- a program with a line table, its input is that of the named file, the lines that it names are
+-- the program's, and those of both lists are the points, of which each list has some.
+pub record IsMeasured (held : Held) (asked : Request) (runs : ℕ → Experiment Guest)
+    (arrive depart : List ℕ) : Type 0 where
+  pub file : List ℕ
+  pub input : List ℕ
+  pub image : ImageParts
+  pub table : Table
+  pub selected : Option ℕ
+  pub arrivals : List ℕ
+  pub departures : List ℕ
+  pub found : file_at held asked.target ≡ Some file
+  pub given : IsInput held asked.input input
+  pub program : load_answer file ≡ Ok image
+  pub table_is : table_in file ≡ Ok table
+  pub line_is : line_named (lines_in table image.areas) asked.line ≡ Ok selected
+  pub arrivals_are : lines_named (lines_in table image.areas) [] asked.arrive ≡ Ok arrivals
+  pub departures_are : lines_named (lines_in table image.areas) [] asked.depart ≡ Ok departures
+  pub few : length (lines_of_both arrivals departures) ≤ MOST_POINTS
+  pub runs_are : runs ≡ at_each (experiment_by_table image table input) selected asked.budget
+      (lines_of_both arrivals departures)
+  pub arrive_is : arrive ≡ places_among (lines_of_both arrivals departures) arrivals
+  pub depart_is : depart ≡ places_among (lines_of_both arrivals departures) departures
+
+-- Behind what was held before there is now a line for each speedup, as they rise and with 0 among
+-- them. At each the delayed machine ends with a record, and the net part of that is what
+-- the shortened machine ends with, whose selected line really costs less and which knows no delays.
+-- The line is that of the latency of the shortened run's visits up to its own end.
+pub record PrintsLatency (held : Held) (asked : Request)
+    (before now : Option (List ℕ)) : Type 0 where
+  pub runs : ℕ → Experiment Guest
+  pub arrive : List ℕ
+  pub depart : List ℕ
+  pub is_measured : IsMeasured held asked runs arrive depart
+  pub run : ℕ → Record
+  pub delayed : All (λ speedup. IsDelayed (runs speedup) (run speedup)) (speedups_of asked)
+  pub shortened : All (λ speedup. IsShortened (runs speedup) (net (run speedup)))
+      (speedups_of asked)
+  pub printed : Appends before now
+      (latency_text arrive depart (λ speedup. net (run speedup)) (speedups_of asked))
+
+-- where the words ask for a run, a profile, latencies or a path, such are printed
 pub record PrintsShortened (words : List (List ℕ)) (held : Held)
     (before now : Option (List ℕ)) : Type 0 where
   pub runs : (asked : Request) → request_of words ≡ Some asked → asked.command ≡ Run
@@ -120,6 +203,10 @@ pub record PrintsShortened (words : List (List ℕ)) (held : Held)
       → PrintsProfile held asked before now
   pub really : (asked : Request) → request_of words ≡ Some asked → asked.command ≡ Really
       → PrintsReally held asked before now
+  pub latencies : (asked : Request) → request_of words ≡ Some asked → asked.command ≡ Latency
+      → PrintsLatency held asked before now
+  pub paths : (asked : Request) → request_of words ≡ Some asked → asked.command ≡ Path
+      → PrintsPath held asked before now
 
 -- words that ask for the same as others, but for the number of workers
 pub record AskAlike (words others : List (List ℕ)) : Type 0 where

@@ -7,7 +7,7 @@ ghost use Rattle.command_answers.specs.Verdict.{command_verdict};
 ghost use Rattle.command_answers.specs.Answer.{IsMemory, IsMemoryFault, IsRead, Suits, Settles};
 
 use command_answers::{
-    Answer, Kind, judge_experiment, judge_lines, judge_plot, judge_source, judge_trial,
+    Answer, Kind, judge_experiment, judge_lines, judge_path, judge_plot, judge_source, judge_trial,
 };
 use coz_files::{Files, Gate};
 use coz_words::{Command, Request};
@@ -42,5 +42,7 @@ pub fn judge<'r, R: Threads + Sync, F: Files, G: Gate>(
         Command::Plot => judge_plot(alloc, request, files),
         Command::Asm => judge_source(alloc, request, files),
         Command::Trial => judge_trial(rt, alloc, request, gate),
+        Command::Latency => judge_experiment(rt, alloc, request, Kind::Measured, files, gate),
+        Command::Path => judge_path(alloc, request, files),
     }
 }

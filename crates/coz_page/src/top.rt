@@ -24,6 +24,9 @@ pub fn serve<F: Files, O: Sink, E: Sink>(
     // The words alone decide on usage.
     ensures usage { (result ≡ 2) ↔ (path_in (bytes_of words.now) ≡ None) }
 
+    // No other status is answered.
+    ensures known { result ≤ 12 }
+
     // Where the files are told, the status is the verdict's, but for a counted fault
     // and want of memory.
     ensures verdict { IfSome (F.held files.old) (λ held.

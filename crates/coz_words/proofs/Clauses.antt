@@ -34,3 +34,6 @@ usage words (Err Memory) is = (λ e. absurd cc, λ none. inr refl)
 pub fit : (words : List Text) (r : Result Request WordsError) → Answers (request_in words) r → IfOk r IsFit
 fit words (Ok s) is = fit_in words s (exact_back words s is)
 fit words (Err e) is = tt
+
+pub law : (words : List Text) (request : Request) → (request_in words ≡ Some request → Requests words request) × (Requests words request → request_in words ≡ Some request)
+law words request = (exact_back words request, exact_forth words request)

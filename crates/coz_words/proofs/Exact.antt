@@ -9,7 +9,7 @@ use Rattle.coz_words.specs.Request.{commands, Requests, request_of_items, are_it
 use Rattle.coz_words.specs.declared.command.Command.{Command}
 use Rattle.coz_words.specs.declared.request.Request.{Request}
 use Rattle.coz_words.specs.Parse.{AreNames}
-use Rattle.coz_words.specs.declared.command.Command.TheVariants.{Run, Really, Profile, Lines, Plot, Asm, Trial}
+use Rattle.coz_words.specs.declared.command.Command.TheVariants.{Run, Really, Profile, Lines, Plot, Asm, Trial, Latency, Path}
 use Rattle.coz_words.specs.Slow.{command_of, items_in, request_in}
 use Rattle.coz_words.proofs.Agree.{both_true}
 use Rattle.coz_words.proofs.Meaning.{said_back, said_forth, are_names_of}
@@ -22,6 +22,8 @@ are_names Lines = record { right = refl; others = refl }
 are_names Plot = record { right = refl; others = refl }
 are_names Asm = record { right = refl; others = refl }
 are_names Trial = record { right = refl; others = refl }
+are_names Latency = record { right = refl; others = refl }
+are_names Path = record { right = refl; others = refl }
 
 named_is : (c : Command) → command_of (command_name c) ≡ Some c
 named_is Run = refl
@@ -31,6 +33,8 @@ named_is Lines = refl
 named_is Plot = refl
 named_is Asm = refl
 named_is Trial = refl
+named_is Latency = refl
+named_is Path = refl
 
 pub find_passes : {A : Type 0} (p : A → Bool) (xs : List A) (x : A) → find p xs ≡ Some x → p x ≡ true
 find_passes p [] x e = absurd cc

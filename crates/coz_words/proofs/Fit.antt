@@ -9,10 +9,10 @@ use Rattle.std.proofs.lemmas.List.Folds.{list_all-append}
 use Rattle.experiment_plan.specs.Lists.{is_number, number_in, is_line, is_list, pieces}
 use Rattle.coz_words.specs.Said.{Text, Item, option, target, dashes, SaysAll}
 use Rattle.coz_words.specs.declared.command.Command.{Command}
-use Rattle.coz_words.specs.declared.command.Command.TheVariants.{Run, Really, Profile, Lines, Plot, Asm, Trial}
+use Rattle.coz_words.specs.declared.command.Command.TheVariants.{Run, Really, Profile, Lines, Plot, Asm, Trial, Latency, Path}
 use Rattle.coz_words.specs.declared.request.Counts.{Counts}
 use Rattle.coz_words.specs.declared.request.Request.{Request}
-use Rattle.coz_words.specs.Request.{IsFit, Requests, request_of_items, are_items_of, is_of_options, has_option, has_text, is_once, is_word, none_or, number_or, numbers_in, seed_in, speedup_in, speedups_in, all_speedups, command_name, option_names, counts_with, request_from, request_with, is_runner, target_of, value_of, line_name, speedup_name, lines_name, progress_name, speedups_name, budget_name, workers_name, size_name, dwarf_name}
+use Rattle.coz_words.specs.Request.{IsFit, Requests, request_of_items, are_items_of, is_of_options, has_option, has_text, is_once, is_word, none_or, number_or, numbers_in, seed_in, speedup_in, speedups_in, are_right, has_needed, all_speedups, command_name, option_names, counts_with, request_from, request_with, is_runner, usual_budget, greatest_budget, target_of, value_of, line_name, speedup_name, lines_name, progress_name, arrive_name, depart_name, speedups_name, budget_name, workers_name, size_name, dwarf_name}
 use Rattle.coz_words.proofs.Agree.{both_true}
 use Rattle.coz_words.proofs.Exact.{then_some, if_some}
 
@@ -103,6 +103,20 @@ has_budget Lines is = absurd cc
 has_budget Plot is = absurd cc
 has_budget Asm is = absurd cc
 has_budget Trial is = absurd cc
+has_budget Latency is = refl
+has_budget Path is = refl
+
+-- the usual budget of a command is one
+usual_is : (c : Command) → (1 ≤ usual_budget c) × (usual_budget c ≤ greatest_budget c)
+usual_is Path = (omega arith, omega arith)
+usual_is Run = (omega arith, omega arith)
+usual_is Really = (omega arith, omega arith)
+usual_is Profile = (omega arith, omega arith)
+usual_is Lines = (omega arith, omega arith)
+usual_is Plot = (omega arith, omega arith)
+usual_is Asm = (omega arith, omega arith)
+usual_is Trial = (omega arith, omega arith)
+usual_is Latency = (omega arith, omega arith)
 
 passes : (test : Text → Bool) (value : Option Text) → none_or test value ≡ true → IfSome value (λ text. test text ≡ true)
 passes test None e = tt
@@ -110,19 +124,36 @@ passes test (Some text) e = e
 
 -- ---- the request
 
+-- what a test of all texts says of each
+record Right (c : Command) (l ls p a d : Option Text) : Type 0 where
+  line : none_or is_line l ≡ true
+  lines : none_or is_list ls ≡ true
+  progress : none_or is_list p ≡ true
+  arrive : none_or is_list a ≡ true
+  depart : none_or is_list d ≡ true
+  needed : has_needed c l a d ≡ true
+
+rights : (c : Command) (line lines progress arrive depart : Option Text) → are_right c line lines progress arrive depart ≡ true → Right c line lines progress arrive depart
+rights c line lines progress arrive depart e =
+    let a = both_true _ (has_needed c line arrive depart) e in
+    let b = both_true _ (none_or is_list depart) a.0 in
+    let d = both_true _ (none_or is_list arrive) b.0 in
+    let f = both_true _ (none_or is_list progress) d.0 in
+    let g = both_true (none_or is_line line) (none_or is_list lines) f.0 in
+    record { line = g.0; lines = g.1; progress = f.1; arrive = d.1; depart = b.1; needed = a.1 }
+
 some_same : {A : Type 0} (x y : A) → Some x ≡ Some y → x ≡ y
 some_same x y is = cc
 
 request_fits : (c : Command) (path : Option Text) (value : Text → Option Text) (r : Request) → ((t : Text) → path ≡ Some t → (nat_lt 0 (length t) ≡ true) × (is_word t ≡ true)) → request_with c path value ≡ Some r → IsFit r
 request_fits c path value r own is =
-    let tests = if_some (none_or is_line (value line_name) && none_or is_list (value lines_name) && none_or is_list (value progress_name)) _ r is in
-    let named = both_true (none_or is_line (value line_name) && none_or is_list (value lines_name)) (none_or is_list (value progress_name)) tests.0 in
-    let first = both_true (none_or is_line (value line_name)) (none_or is_list (value lines_name)) named.0 in
+    let tests = if_some (are_right c (value line_name) (value lines_name) (value progress_name) (value arrive_name) (value depart_name)) _ r is in
+    let fit = rights c (value line_name) (value lines_name) (value progress_name) (value arrive_name) (value depart_name) tests.0 in
     let target = then_some path _ r tests.1 in
     let speedup = then_some (speedup_in (value line_name) (value speedup_name)) _ r target.2 in
     let speedups = then_some (speedups_in c (value speedups_name)) _ r speedup.2 in
     let counts = then_some (counts_with c target.0 value) _ r speedups.2 in
-    let budget = then_some (number_or c budget_name 100000000 1 1000000000000 (value budget_name)) _ counts.0 counts.1 in
+    let budget = then_some (number_or c budget_name (usual_budget c) 1 (greatest_budget c) (value budget_name)) _ counts.0 counts.1 in
     let workers = then_some (number_or c workers_name 4 1 16 (value workers_name)) _ counts.0 budget.2 in
     let size = then_some (number_or c size_name 100 1 2000 (value size_name)) _ counts.0 workers.2 in
     let dwarf = then_some (number_or c dwarf_name 4 4 5 (value dwarf_name)) _ counts.0 size.2 in
@@ -132,19 +163,22 @@ request_fits c path value r own is =
     let slow = speedup_fits (value line_name) (value speedup_name) speedup.0 speedup.1 in
     let many = number_fits c workers_name 4 1 16 (value workers_name) workers.0 (omega arith) (omega arith) workers.1 in
     let version = number_fits c dwarf_name 4 4 5 (value dwarf_name) dwarf.0 (omega arith) (omega arith) dwarf.1 in
-    let few = number_fits c budget_name 100000000 1 1000000000000 (value budget_name) budget.0 (omega arith) (omega arith) budget.1 in
+    let few = number_fits c budget_name (usual_budget c) 1 (greatest_budget c) (value budget_name) budget.0 (usual_is c).0 (usual_is c).1 budget.1 in
     let large = number_fits c size_name 100 1 2000 (value size_name) size.0 (omega arith) (omega arith) size.1 in
     subst IsFit same (record {
       some = (own target.0 target.1).0;
       word = (own target.0 target.1).1;
-      line = passes is_line (value line_name) first.0;
+      line = passes is_line (value line_name) fit.line;
       speedup = slow.0;
       no_speedup = slow.1;
-      lines = passes is_list (value lines_name) first.1;
-      progress = passes is_list (value progress_name) named.1;
+      lines = passes is_list (value lines_name) fit.lines;
+      progress = passes is_list (value progress_name) fit.progress;
+      arrive = passes is_list (value arrive_name) fit.arrive;
+      depart = passes is_list (value depart_name) fit.depart;
+      needed = fit.needed;
       speedups = speedups_fit c (value speedups_name) speedups.0 speedups.1;
       some_budget = λ run. few.0 (has_budget c run);
-      budget = omega (arith, few.1);
+      budget = few.1;
       some_workers = many.0;
       workers = many.1;
       some_size = large.0;

@@ -1,21 +1,21 @@
 -- The request of a command line.
-use Rattle.std.specs.Prelude.{◌≡◌, ℕ, ◌≤◌, Bool, not, ◌&&◌, ◌==◌, nat_lt, nat_le, true, false, List, [], ◌∷◌, length, codes, Option, Some, None, IfSome, if◌then◌else◌, option_and_then, find}
+use Rattle.std.specs.Prelude.{◌≡◌, ℕ, ◌≤◌, Bool, not, ◌&&◌, ◌==◌, ◌^◌, nat_lt, nat_le, true, false, List, [], ◌∷◌, length, codes, Option, Some, None, IfSome, is_some, if◌then◌else◌, option_and_then, find}
 use Rattle.std.specs.List.{list_all, list_any}
 use Rattle.std.specs.Str.{bytes_eq}
-use Rattle.coz_types.specs.declared.TheConstants.{GREATEST_SPEEDUP, GREATEST_BUDGET, MOST_WORKERS, GREATEST_SIZE, LEAST_VERSION, GREATEST_VERSION, MAX_WORD}
+use Rattle.coz_types.specs.declared.TheConstants.{GREATEST_SPEEDUP, MOST_WORKERS, GREATEST_SIZE, LEAST_VERSION, GREATEST_VERSION, MAX_WORD}
 use Rattle.coz_types.specs.Ranges.{last_word}
 use Rattle.coz_words.specs.Said.{Text, Item, option, target, SaysAll}
 use Rattle.experiment_plan.specs.Lists.{number_in, is_line, is_list, pieces}
 use Rattle.coz_words.specs.declared.command.Command.{Command}
-use Rattle.coz_words.specs.declared.command.Command.TheVariants.{Run, Really, Profile, Lines, Plot, Asm, Trial}
-use Rattle.coz_words.specs.declared.request.TheConstants.{USUAL_BUDGET, USUAL_WORKERS, USUAL_SIZE}
+use Rattle.coz_words.specs.declared.command.Command.TheVariants.{Run, Really, Profile, Lines, Plot, Asm, Trial, Latency, Path}
+use Rattle.coz_words.specs.declared.request.TheConstants.{USUAL_WORKERS, USUAL_SIZE}
 use Rattle.coz_words.specs.declared.request.Counts.{Counts}
 use Rattle.coz_words.specs.declared.request.Request.{Request}
 
 -- ---- commands
 
 abbrev pub commands : List Command
-commands = Run ∷ Really ∷ Profile ∷ Lines ∷ Plot ∷ Asm ∷ Trial ∷ []
+commands = Run ∷ Really ∷ Profile ∷ Lines ∷ Plot ∷ Asm ∷ Trial ∷ Latency ∷ Path ∷ []
 
 abbrev pub command_name : Command → Text
 command_name Run = codes "run"
@@ -25,12 +25,16 @@ command_name Lines = codes "lines"
 command_name Plot = codes "plot"
 command_name Asm = codes "asm"
 command_name Trial = codes "trial"
+command_name Latency = codes "latency"
+command_name Path = codes "path"
 
 -- the command runs the program
 abbrev pub is_runner : Command → Bool
 is_runner Run = true
 is_runner Really = true
 is_runner Profile = true
+is_runner Latency = true
+is_runner Path = true
 is_runner _ = false
 
 abbrev pub input_name : Text
@@ -63,6 +67,12 @@ size_name = codes "size"
 abbrev pub dwarf_name : Text
 dwarf_name = codes "dwarf"
 
+abbrev pub arrive_name : Text
+arrive_name = codes "arrive"
+
+abbrev pub depart_name : Text
+depart_name = codes "depart"
+
 -- the options of the commands that run a program once
 abbrev pub run_options : List Text
 run_options = input_name ∷ line_name ∷ speedup_name ∷ progress_name ∷ budget_name ∷ []
@@ -70,6 +80,10 @@ run_options = input_name ∷ line_name ∷ speedup_name ∷ progress_name ∷ bu
 abbrev pub profile_options : List Text
 profile_options =
     input_name ∷ lines_name ∷ progress_name ∷ speedups_name ∷ budget_name ∷ workers_name ∷ []
+
+abbrev pub latency_options : List Text
+latency_options =
+    input_name ∷ line_name ∷ arrive_name ∷ depart_name ∷ speedups_name ∷ budget_name ∷ []
 
 -- the options of a command
 abbrev pub option_names : Command → List Text
@@ -80,6 +94,8 @@ option_names Lines = []
 option_names Plot = []
 option_names Asm = dwarf_name ∷ []
 option_names Trial = size_name ∷ workers_name ∷ []
+option_names Latency = latency_options
+option_names Path = input_name ∷ budget_name ∷ []
 
 abbrev pub is_among : List Text → Text → Bool
 is_among names name = list_any (λ n. bytes_eq n name) names
@@ -138,8 +154,29 @@ abbrev pub none_or : (Text → Bool) → Option Text → Bool
 none_or test None = true
 none_or test (Some text) = test text
 
+-- the options are there without which the command's words make no request
+abbrev pub has_needed : Command → Option Text → Option Text → Option Text → Bool
+has_needed Latency line arrive depart = is_some line && is_some arrive && is_some depart
+has_needed _ line arrive depart = true
+
+-- the line and the lists are such, where they come, and those come that the command needs
+abbrev pub are_right : Command → Option Text → Option Text → Option Text → Option Text
+    → Option Text → Bool
+are_right c line lines progress arrive depart =
+    none_or is_line line && none_or is_list lines && none_or is_list progress
+    && none_or is_list arrive && none_or is_list depart && has_needed c line arrive depart
+
 abbrev pub has_option : Command → Text → Bool
 has_option c name = is_among (option_names c) name
+
+-- the budget of a command where none is given, and the greatest
+abbrev pub usual_budget : Command → ℕ
+usual_budget Path = 1000000
+usual_budget _ = 100000000
+
+abbrev pub greatest_budget : Command → ℕ
+greatest_budget Path = 4000000
+greatest_budget _ = 10 ^ 12
 
 -- the number of an option that comes; where it doesn't, the usual one,
 -- or 0 where the command hasn't the option
@@ -187,7 +224,7 @@ speedups_in c (Some numbers) = numbers_in 0 GREATEST_SPEEDUP (pieces numbers)
 -- by their names
 abbrev pub counts_with : Command → Text → (Text → Option Text) → Option Counts
 counts_with c text value =
-    number_or c budget_name USUAL_BUDGET 1 GREATEST_BUDGET (value budget_name) >>= λ budget.
+    number_or c budget_name (usual_budget c) 1 (greatest_budget c) (value budget_name) >>= λ budget.
     number_or c workers_name USUAL_WORKERS 1 MOST_WORKERS (value workers_name) >>= λ workers.
     number_or c size_name USUAL_SIZE 1 GREATEST_SIZE (value size_name) >>= λ size.
     number_or c dwarf_name LEAST_VERSION LEAST_VERSION GREATEST_VERSION (value dwarf_name)
@@ -211,13 +248,15 @@ request_from c text value speedup speedups counts = record {
   seed = counts.seed;
   size = counts.size;
   dwarf = counts.dwarf;
+  arrive = value arrive_name;
+  depart = value depart_name;
 }
 
 -- the request of a command, a positional, and the values of options by their names
 abbrev pub request_with : Command → Option Text → (Text → Option Text) → Option Request
 request_with c path value =
-    if none_or is_line (value line_name) && none_or is_list (value lines_name)
-    && none_or is_list (value progress_name) then (
+    if are_right c (value line_name) (value lines_name) (value progress_name)
+    (value arrive_name) (value depart_name) then (
     path >>= λ target.
     speedup_in (value line_name) (value speedup_name) >>= λ speedup.
     speedups_in c (value speedups_name) >>= λ speedups.
@@ -249,9 +288,12 @@ pub record IsFit (request : Request) : Type 0 where
   pub no_speedup : request.line ≡ None → request.speedup ≡ 0
   pub lines : IfSome request.lines (λ text. is_list text ≡ true)
   pub progress : IfSome request.progress (λ text. is_list text ≡ true)
+  pub arrive : IfSome request.arrive (λ text. is_list text ≡ true)
+  pub depart : IfSome request.depart (λ text. is_list text ≡ true)
+  pub needed : has_needed request.command request.line request.arrive request.depart ≡ true
   pub speedups : list_all (λ p. nat_le p GREATEST_SPEEDUP) request.speedups ≡ true
   pub some_budget : is_runner request.command ≡ true → 1 ≤ request.budget
-  pub budget : request.budget ≤ GREATEST_BUDGET
+  pub budget : request.budget ≤ greatest_budget request.command
   pub some_workers : has_option request.command workers_name ≡ true → 1 ≤ request.workers
   pub workers : request.workers ≤ MOST_WORKERS
   pub some_size : has_option request.command size_name ≡ true → 1 ≤ request.size

@@ -20,6 +20,10 @@ pub enum Command {
     Asm,
     /// To make a program from a number, and to profile it.
     Trial,
+    /// To say how long requests are under way, with a line sped up by each of several speedups.
+    Latency,
+    /// To find the chain of instructions that made a run as long as it was.
+    Path,
 }
 
 /// The command of that name. None where there is none.
@@ -34,6 +38,8 @@ pub(crate) fn command_of(word: &str) -> Option<Command>
         "plot" => Some(Command::Plot),
         "asm" => Some(Command::Asm),
         "trial" => Some(Command::Trial),
+        "latency" => Some(Command::Latency),
+        "path" => Some(Command::Path),
         _ => None,
     }
 }
@@ -48,6 +54,10 @@ static ASM_OPTIONS: [&str; 1] = ["dwarf"];
 
 static TRIAL_OPTIONS: [&str; 2] = ["size", "workers"];
 
+static LATENCY_OPTIONS: [&str; 6] = ["input", "line", "arrive", "depart", "speedups", "budget"];
+
+static PATH_OPTIONS: [&str; 2] = ["input", "budget"];
+
 static NO_OPTIONS: [&str; 0] = [];
 
 /// The names of a command's options.
@@ -59,6 +69,8 @@ pub(crate) fn option_names(command: Command) -> &'static [&'static str]
         Command::Profile => PROFILE_OPTIONS.as_slice(),
         Command::Asm => ASM_OPTIONS.as_slice(),
         Command::Trial => TRIAL_OPTIONS.as_slice(),
+        Command::Latency => LATENCY_OPTIONS.as_slice(),
+        Command::Path => PATH_OPTIONS.as_slice(),
         Command::Lines | Command::Plot => NO_OPTIONS.as_slice(),
     }
 }

@@ -1,26 +1,28 @@
 //! The request of a command line.
-ghost use Rattle.std.specs.Prelude.{◌≡◌, ◌⊎◌, ◌&&◌, Ok, Err, IfOk, Option, Some, None, if◌then◌else◌};
+ghost use Rattle.std.specs.Prelude.{◌≡◌, ◌⊎◌, ◌&&◌, List, Ok, Err, IfOk, Option, Some, None, if◌then◌else◌};
 ghost use Rattle.std.specs.List.{list_all};
 ghost use Rattle.std.specs.Option.{option_copied};
 ghost use Rattle.clap.specs.Words.{first_value, found_of};
 ghost use Rattle.coz_words.specs.Answers.{Answers, bytes_of, option_value};
 ghost use Rattle.coz_words.specs.Parse.{target_id};
-ghost use Rattle.coz_words.specs.Request.{IsFit, Requests, counts_with, has_text, option_names, request_with, none_or, is_some_text};
+ghost use Rattle.coz_words.specs.Said.{Text};
+ghost use Rattle.coz_words.specs.Request.{IsFit, Requests, are_right, counts_with, has_text, option_names, request_with, none_or, is_some_text};
 ghost use Rattle.coz_words.specs.Slow.{request_in};
 ghost use Rattle.coz_words.specs.declared.request.WordsError.TheVariants.{Usage, Memory};
 
 use crate::command::{Command, has_option, option_names};
 use crate::parse::parsed;
 use crate::spelling::command_in;
-use crate::value::{are_lines, number_or, seed_of, speedup_of, speedups_of, version_of};
+use crate::value::{
+    greatest_budget, has_needed, is_line_or_none, is_list_or_none, number_or, seed_of, speedup_of,
+    speedups_of, usual_budget, version_of,
+};
 use crate::word::{Word, copied_pair};
 use clap::ArgMatches;
 use coz_lists::Items;
-use coz_types::{GREATEST_BUDGET, GREATEST_SIZE, MOST_WORKERS};
+use coz_types::{GREATEST_SIZE, MOST_WORKERS};
 use std::alloc::{AllocError, AllocFailed, Global};
 
-/// The budget where the words name none.
-const USUAL_BUDGET: u64 = 100_000_000;
 /// The workers where the words name none.
 const USUAL_WORKERS: u64 = 4;
 /// The size where the words name none.
@@ -45,7 +47,8 @@ pub struct Request {
     pub progress: Option<Word>,
     /// The speedups to be tried, in percent, as they were given.
     pub speedups: Items<u8>,
-    /// The most instructions to retire: 1 to 10^12, and 0 where the command runs nothing.
+    /// The most instructions to retire: 1 to 10^12, for `path` 1 to 4,000,000, and 0 where
+    /// the command runs nothing.
     pub budget: u64,
     /// How many workers there are: 1 to 16, and 0 where the command has none.
     pub workers: u32,
@@ -55,6 +58,10 @@ pub struct Request {
     pub size: u32,
     /// The version of the line table that is written: 4 or 5, and 0 where the command writes none.
     pub dwarf: u8,
+    /// The list of the lines at which requests arrive, as it was given, if there is one.
+    pub arrive: Option<Word>,
+    /// The list of the lines at which they depart, as it was given, if there is one.
+    pub depart: Option<Word>,
 }
 
 /// Why there is no request.
@@ -112,9 +119,9 @@ fn counts_of(command: Command, matches: &ArgMatches, target: &str) -> Result<Cou
     let budget = number_or(
         command,
         "budget",
-        USUAL_BUDGET,
+        usual_budget(command),
         1,
-        GREATEST_BUDGET,
+        greatest_budget(command),
         text_of(command, matches, "budget"),
     )?;
     let workers = number_or(
@@ -152,6 +159,8 @@ struct Texts {
     line: Option<Word>,
     lines: Option<Word>,
     progress: Option<Word>,
+    arrive: Option<Word>,
+    depart: Option<Word>,
 }
 
 /// The texts, copied.
@@ -162,23 +171,52 @@ fn texts_of(
     line: Option<&str>,
     lines: Option<&str>,
     progress: Option<&str>,
+    arrive: Option<&str>,
+    depart: Option<&str>,
 ) -> Result<Texts, AllocError>
     ensures target { IfOk result (λ texts. texts.target ≡ target.now) }
     ensures input { IfOk result (λ texts. texts.input ≡ option_copied input.entry) }
     ensures line { IfOk result (λ texts. texts.line ≡ option_copied line.entry) }
     ensures lines { IfOk result (λ texts. texts.lines ≡ option_copied lines.entry) }
     ensures progress { IfOk result (λ texts. texts.progress ≡ option_copied progress.entry) }
+    ensures arrive { IfOk result (λ texts. texts.arrive ≡ option_copied arrive.entry) }
+    ensures depart { IfOk result (λ texts. texts.depart ≡ option_copied depart.entry) }
 {
     let target = Word::copy(alloc, target)?;
     let (input, line) = copied_pair(alloc, input, line)?;
     let (lines, progress) = copied_pair(alloc, lines, progress)?;
+    let (arrive, depart) = copied_pair(alloc, arrive, depart)?;
     Ok(Texts {
         target,
         input,
         line,
         lines,
         progress,
+        arrive,
+        depart,
     })
+}
+
+/// Whether the line and the lists are such, where they are given, and those are given that
+/// the command needs.
+fn are_right(
+    command: Command,
+    line: Option<&str>,
+    lines: Option<&str>,
+    progress: Option<&str>,
+    arrive: Option<&str>,
+    depart: Option<&str>,
+) -> bool
+    ensures { result
+        ≡ are_right command (option_copied line.entry) (option_copied lines.entry)
+        (option_copied progress.entry) (option_copied arrive.entry) (option_copied depart.entry) }
+{
+    is_line_or_none(line)
+        && is_list_or_none(lines)
+        && is_list_or_none(progress)
+        && is_list_or_none(arrive)
+        && is_list_or_none(depart)
+        && has_needed(command, line, arrive, depart)
 }
 
 /// The request that the values make.
@@ -190,14 +228,16 @@ fn request_of(alloc: Global, command: Command, matches: &ArgMatches) -> Result<R
     let line = text_of(command, matches, "line");
     let lines = text_of(command, matches, "lines");
     let progress = text_of(command, matches, "progress");
-    if !are_lines(line, lines, progress) {
+    let arrive = text_of(command, matches, "arrive");
+    let depart = text_of(command, matches, "depart");
+    if !are_right(command, line, lines, progress, arrive, depart) {
         return Err(WordsError::Usage);
     }
     let target = matches.get_str("target").ok_or(WordsError::Usage)?;
     let speedup = speedup_of(line, text_of(command, matches, "speedup"))?;
     let speedups = speedups_of(alloc, command, text_of(command, matches, "speedups"))?;
     let counts = counts_of(command, matches, target)?;
-    let texts = texts_of(alloc, target, input, line, lines, progress)?;
+    let texts = texts_of(alloc, target, input, line, lines, progress, arrive, depart)?;
     Ok(Request {
         command,
         target: texts.target,
@@ -212,6 +252,8 @@ fn request_of(alloc: Global, command: Command, matches: &ArgMatches) -> Result<R
         seed: counts.seed,
         size: counts.size,
         dwarf: counts.dwarf,
+        arrive: texts.arrive,
+        depart: texts.depart,
     })
 }
 
@@ -259,11 +301,15 @@ fn request_in(alloc: Global, words: &[String]) -> Result<Request, WordsError>
 /// - `lines` and the program's path;
 /// - `plot` and the profile's path;
 /// - `asm`, the source's path, and `--dwarf V`;
-/// - `trial`, a number below 2^64, and `--size N` and `--workers W` likewise.
+/// - `trial`, a number below 2^64, and `--size N` and `--workers W` likewise;
+/// - `latency`, the program's path, `--line LINE`, `--arrive LIST` and `--depart LIST`,
+///   which are all required, and `--input FILE`, `--speedups NUMBERS` and `--budget N` likewise;
+/// - `path`, the program's path, and `--input FILE` and `--budget N` likewise.
 ///
 /// A value may stand in the option's word behind a `=`; a word `--` ends the options.
 /// A number has 1 to 20 digits. A speedup is 0 to 95, and stands beside a line;
-/// a budget is 1 to 10^12; there are 1 to 16 workers, 4 where none is given; a version is 4 or 5,
+/// a budget is 1 to 10^12, and 10^8 where none is given, but for `path` 1 to 4,000,000,
+/// and 1,000,000 where none is given; there are 1 to 16 workers, 4 where none is given; a version is 4 or 5,
 /// and 4 where none is given; a size is 1 to 2,000, and 100 where none is given.
 /// A line is a path without a comma, `:` and a number from 1 to 2^32 - 1; a list is one line
 /// or more, with a comma between, and so are NUMBERS of speedups, which are 0, 5, 10
@@ -279,6 +325,9 @@ pub fn read_words(alloc: Global, words: &[String]) -> Result<Request, WordsError
         × (((request : Request) → Requests (bytes_of words.now) request → ⊥)
         → (result ≡ Err Usage) ⊎ (result ≡ Err Memory)) }
     ensures fit { IfOk result IsFit }
+    ensures law { (others : List Text) (request : Request)
+        → (request_in others ≡ Some request → Requests others request)
+        × (Requests others request → request_in others ≡ Some request) }
 {
     request_in(alloc, words)
 }

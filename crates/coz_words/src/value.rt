@@ -4,29 +4,76 @@ ghost use Rattle.std.specs.Option.{option_copied};
 ghost use Rattle.coz_types.specs.declared.TheConstants.{LEAST_VERSION, GREATEST_VERSION};
 ghost use Rattle.experiment_plan.specs.Lists.{is_line, is_list, number_in, pieces};
 ghost use Rattle.coz_words.specs.Answers.{Answers};
-ghost use Rattle.coz_words.specs.Request.{dwarf_name, none_or, number_or, numbers_in, seed_in, speedup_in, speedups_in};
+ghost use Rattle.coz_words.specs.Request.{dwarf_name, greatest_budget, has_needed, none_or, number_or, numbers_in, seed_in, speedup_in, speedups_in, usual_budget};
 
 use crate::command::{Command, has_option};
 use crate::request::WordsError;
 use coz_lists::Items;
-use coz_types::{GREATEST_SPEEDUP, GREATEST_VERSION, LEAST_VERSION};
+use coz_types::{GREATEST_BUDGET, GREATEST_SPEEDUP, GREATEST_VERSION, LEAST_VERSION};
 use experiment_plan::{first_piece, is_line, is_list, number_in};
 use std::alloc::Global;
+
+/// The budget of a run where the words give none, in instructions.
+const USUAL_BUDGET: u64 = 100_000_000;
+/// The budget of a run whose critical path is asked for, where the words give none.
+const USUAL_PATH_BUDGET: u64 = 1_000_000;
+/// The greatest budget of such a run: each instruction takes up to 80 bytes.
+const GREATEST_PATH_BUDGET: u64 = 4_000_000;
 
 /// The speedups, in percent, where the words give none.
 static ALL_SPEEDUPS: [u8; 20] = [
     0, 5, 10, 15, 20, 25, 30, 35, 40, 45, 50, 55, 60, 65, 70, 75, 80, 85, 90, 95,
 ];
 
-/// Whether the line and the lists are such, where they are given.
-pub fn are_lines(line: Option<&str>, lines: Option<&str>, progress: Option<&str>) -> bool
-    ensures { result
-        ≡ (none_or is_line (option_copied line.entry) && none_or is_list (option_copied lines.entry)
-        && none_or is_list (option_copied progress.entry)) }
+/// Whether the line is one, where it is given.
+pub fn is_line_or_none(line: Option<&str>) -> bool
+    ensures { result ≡ none_or is_line (option_copied line.entry) }
 {
     line.is_none_or(|text| is_line(text.as_bytes()))
-        && lines.is_none_or(|text| is_list(text.as_bytes()))
-        && progress.is_none_or(|text| is_list(text.as_bytes()))
+}
+
+/// Whether the list is one, where it is given.
+pub fn is_list_or_none(list: Option<&str>) -> bool
+    ensures { result ≡ none_or is_list (option_copied list.entry) }
+{
+    list.is_none_or(|text| is_list(text.as_bytes()))
+}
+
+/// Whether the options are there without which the command's words make no request.
+pub fn has_needed(
+    command: Command,
+    line: Option<&str>,
+    arrive: Option<&str>,
+    depart: Option<&str>,
+) -> bool
+    ensures { result
+        ≡ has_needed command (option_copied line.entry) (option_copied arrive.entry)
+        (option_copied depart.entry) }
+{
+    match command {
+        Command::Latency => line.is_some() && arrive.is_some() && depart.is_some(),
+        _ => true,
+    }
+}
+
+/// The budget of the command, in instructions, where the words give none.
+pub fn usual_budget(command: Command) -> u64
+    ensures { result ≡ usual_budget command }
+{
+    match command {
+        Command::Path => USUAL_PATH_BUDGET,
+        _ => USUAL_BUDGET,
+    }
+}
+
+/// The greatest budget of the command, in instructions.
+pub fn greatest_budget(command: Command) -> u64
+    ensures { result ≡ greatest_budget command }
+{
+    match command {
+        Command::Path => GREATEST_PATH_BUDGET,
+        _ => GREATEST_BUDGET,
+    }
 }
 
 /// A number from `least` to `most`. Where no text is given, it is the usual one,

@@ -21,7 +21,7 @@ use std::marker::Model;
 ///
 /// Contracts see each hart as it is at the latest moment that `start`, `stop` or `raise` got.
 /// The code keeps a hart as it was at an earlier moment, and works out a later one when it is asked
-/// for. Beside its making no call takes memory.
+/// for. `new` alone can be out of memory.
 #[derive(Drop)]
 pub struct Credits {
     seats: Vec<Seat>,
@@ -60,8 +60,8 @@ const NOT_RUNNING: Seat = Seat {
 };
 
 impl Credits {
-    /// Harts that don't run, with accounts of zeros. Fails exactly where there is
-    /// no memory for so many.
+    /// Harts that don't run, with accounts of zeros. Err if there is no memory for
+    /// that many.
     pub fn new(alloc: Global, harts: u32) -> Result<Credits, AllocError>
         ensures { IfOk result (λ credits. credits ≡ none_raised harts) }
     {

@@ -12,8 +12,8 @@ use crate::experiment::{Experiment, MOST_PAIRS, Plan, PlanError};
 use coz_types::LineId;
 use std::alloc::{AllocError, Global};
 
-/// Speedups with 0 among them, as they rise and each once.
-fn rising_speedups(alloc: Global, speedups: &[u8]) -> Result<Vec<u8>, AllocError>
+/// Speedups with 0 among them, in percent, as they rise and each once. Err: out of memory.
+pub fn rising_speedups(alloc: Global, speedups: &[u8]) -> Result<Vec<u8>, AllocError>
     ensures { IfOk result (λ rises. rises.items ≡ rising_numbers (0 ∷ speedups.now)) }
 {
     let mut rises = Vec::with_capacity(alloc, 1)?;

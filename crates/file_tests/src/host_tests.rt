@@ -6,8 +6,8 @@ use std::io::{Error, ErrorKind, Write};
 use std::test::Fail;
 use std::{env, fs, io, process};
 
-// A file of so many bytes takes many reads.
-const LENGTH: usize = 3 * 1024 * 1024 + 1;
+// More than 20 MiB, which take many reads.
+const LENGTH: usize = 20 * 1024 * 1024 + 1;
 
 /// A stream that takes three bytes at a time, which have to be these, and is interrupted before
 /// each such piece.

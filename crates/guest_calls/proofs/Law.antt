@@ -17,6 +17,8 @@ use Rattle.guest_calls.specs.Retire.{retire}
 use Rattle.guest_calls.specs.Plug.{plug}
 use Rattle.guest_calls.specs.Orderly.{IsOrderly}
 pub use Rattle.guest_calls.proofs.Started.{running_low, timed_low}
+use Rattle.guest_calls.proofs.Started.{waiting_of}
+use Rattle.guest_pipes.specs.Pipes.{no_pipes}
 use Rattle.guest_calls.proofs.Waiting.{waiting-elsewhere, others-moving}
 use Rattle.guest_calls.proofs.RunningHarts.{made_timed, runs_awake, timed_put, asleep_less, status_at}
 use Rattle.guest_calls.proofs.Retired.{call_started, retire_started}
@@ -45,8 +47,8 @@ pub call_of-made : (g : Guest) (h v : ℕ) → IsOrderly g → is_running g h �
 call_of-made g h v good runs = (call_started g h v good runs).made
 
 first_orderly : (image : ImageParts) (input : List ℕ) (output_limit : ℕ) (layout : Layout) → IsOrderly (first_guest image input output_limit layout)
-unfolding first_guest
-first_orderly image input output_limit layout = record { few = omega arith; waiting = tt; apart = tt }
+unfolding first_guest no_pipes
+first_orderly image input output_limit layout = record { few = omega arith; waiting = λ h among. absurd (let no : false ≡ true = among in cc); apart = tt }
 
 -- hart 0 runs at first, and none sleeps
 first_timed : (image : ImageParts) (input : List ℕ) (output_limit : ℕ) (layout : Layout) (k : ℕ) → is_timed (first_guest image input output_limit layout) k ≡ (k == 0)
@@ -63,8 +65,8 @@ wake_orderly : (g : Guest) (h : ℕ) → IsOrderly g → is_sleeping g h ≡ tru
 wake_orderly g h good asleep = record {
   few = rw (length-set g.harts h (record (hart_at g h) { status = Running })) good.few;
   waiting =
-      waiting-elsewhere g.harts h _ g.waiters
-      (others-moving g.harts h g.waiters (λ waits. let never : false ≡ true = ap is_sleeping_status (sym waits) ∙ asleep in cc) good.waiting)
+      waiting-elsewhere g.harts h _ (waiting_of g)
+      (others-moving g.harts h (waiting_of g) (λ waits. let never : false ≡ true = ap is_sleeping_status (sym waits) ∙ asleep in cc) good.waiting)
       good.waiting;
   apart = good.apart;
 }

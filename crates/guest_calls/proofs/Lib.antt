@@ -1,7 +1,8 @@
 pub mod Steady
 pub mod Steps
 pub mod Rows
-mod Waiting
+pub mod Among
+pub mod Waiting
 mod Keeping
 mod Rousing
 pub mod Vectors
@@ -9,7 +10,10 @@ pub mod RunningHarts
 pub mod Started
 pub mod ByNumber
 pub mod ThreadRows
+pub mod PipeRows
 mod Clocks
 pub mod TimeRows
 pub mod Retired
 pub mod Law
+pub mod PipeCalls
+mod Numbers

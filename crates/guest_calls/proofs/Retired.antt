@@ -15,7 +15,7 @@ use Rattle.rv_execute.specs.Execution.{Setting, execute}
 use Rattle.guest_calls.specs.declared.pieces.Piece.{Piece}
 use Rattle.guest_calls.specs.Guest.{Guest, making, hart_at, pc_of, with_hart, with_state, with_setting, with_stored, with_written, is_running, memory_of, setting_of, thread_id}
 use Rattle.guest_calls.specs.Calls
-use Rattle.guest_calls.specs.Calls.{of_space, unsupported, a0, a1, a2, a3, with_filled, with_read, filled_parts, total, is_each_writable, is_each_readable, bytes_of, pieces_at, are_few, is_named, read_length, is_stream, is_input, is_output, is_mapping, at_any_time, calls, call_of}
+use Rattle.guest_calls.specs.Calls.{of_space, unsupported, a0, a1, a2, a3, with_filled, with_read, filled_parts, total, is_each_writable, is_each_readable, bytes_of, pieces_at, are_few, is_named, read_length, is_file, is_end, is_input, is_output, is_reading_end, is_writing_end, is_mapping, at_any_time, calls, call_of}
 use Rattle.guest_calls.specs.Retire.{step_result, step, retirement_after, retire}
 use Rattle.guest_calls.specs.Orderly.{IsOrderly}
 use Rattle.guest_calls.proofs.Steady.{regions-kept}
@@ -23,33 +23,44 @@ use Rattle.guest_calls.proofs.Steps.{step-call, step-guest}
 use Rattle.guest_calls.proofs.ByNumber.{IsRow, AreRows, call_has}
 use Rattle.guest_calls.proofs.Started.{IsStarted, IsStartedAt, at_any_net, IsAsBefore, either, memory_made, stored_made, space_made, same_harts, later, hart_kept, unchanged, none_beside, goes_started, ends_started, kept_started, answer_started, checked, of_space_started, unsupported_started}
 use Rattle.guest_calls.proofs.ThreadRows.{exit_started, futex_started, clone_started}
+use Rattle.guest_calls.proofs.PipeRows.{read_pipe_started, write_pipe_started, close_started, pipe2_started}
 use Rattle.guest_calls.proofs.TimeRows.{nanosleep_started, clock_gettime_started}
 
 -- each call
 ioctl_started : (g : Guest) (h : ℕ) → IsOrderly g → is_running g h ≡ true → IsStarted g h (Calls.ioctl g h)
 unfolding Calls.ioctl
-ioctl_started g h good runs = checked (is_stream (a0 g h)) no_terminal h g _ good runs (answer_started bad_file h g g refl refl refl good runs)
+ioctl_started g h good runs = checked (is_file (a0 g h) g) no_terminal h g _ good runs (answer_started bad_file h g g refl refl refl good runs)
 
 lseek_started : (g : Guest) (h : ℕ) → IsOrderly g → is_running g h ≡ true → IsStarted g h (Calls.lseek g h)
 unfolding Calls.lseek
-lseek_started g h good runs = checked (is_stream (a0 g h)) no_seek h g _ good runs (answer_started bad_file h g g refl refl refl good runs)
+lseek_started g h good runs = checked (is_file (a0 g h) g) no_seek h g _ good runs (answer_started bad_file h g g refl refl refl good runs)
 
 filled_made : (address count : ℕ) (g : Guest) → making (with_filled address count g) ≡ making g
 filled_made address count g = stored_made address (take count g.input) (record g { input = drop count g.input })
 
+read_input_started : (g : Guest) (h : ℕ) → IsOrderly g → is_running g h ≡ true → IsStarted g h (Calls.read_input g h)
+unfolding Calls.read_input
+read_input_started g h good runs =
+    checked (not (is_writable (memory_of g) (a1 g h) (read_length g h))) bad_address h g _ good runs
+    (answer_started (pos (read_length g h)) h g (with_filled (a1 g h) (read_length g h) g) refl refl (filled_made (a1 g h) (read_length g h) g) good runs)
+
 read_started : (g : Guest) (h : ℕ) → IsOrderly g → is_running g h ≡ true → IsStarted g h (Calls.read g h)
 unfolding Calls.read
 read_started g h good runs =
-    checked (not (is_input (a0 g h))) bad_file h g _ good runs
-    (checked (not (is_writable (memory_of g) (a1 g h) (read_length g h))) bad_address h g _ good runs
-    (answer_started (pos (read_length g h)) h g (with_filled (a1 g h) (read_length g h) g) refl refl (filled_made (a1 g h) (read_length g h) g) good runs))
+    either (IsStarted g h) (is_input (a0 g h)) (Calls.read_input g h) _ (read_input_started g h good runs)
+    (either (IsStarted g h) (is_reading_end (a0 g h) g) (Calls.read_pipe g h) _ (read_pipe_started g h good runs) (answer_started bad_file h g g refl refl refl good runs))
+
+write_output_started : (g : Guest) (h : ℕ) → IsOrderly g → is_running g h ≡ true → IsStarted g h (Calls.write_output g h)
+unfolding Calls.write_output
+write_output_started g h good runs =
+    checked (not (is_readable (memory_of g) (a1 g h) (a2 g h))) bad_address h g _ good runs
+    (answer_started (pos (a2 g h)) h g (with_written (bytes_at (memory_of g) (a1 g h) (a2 g h)) g) refl refl refl good runs)
 
 write_started : (g : Guest) (h : ℕ) → IsOrderly g → is_running g h ≡ true → IsStarted g h (Calls.write g h)
 unfolding Calls.write
 write_started g h good runs =
-    checked (not (is_output (a0 g h))) bad_file h g _ good runs
-    (checked (not (is_readable (memory_of g) (a1 g h) (a2 g h))) bad_address h g _ good runs
-    (answer_started (pos (a2 g h)) h g (with_written (bytes_at (memory_of g) (a1 g h) (a2 g h)) g) refl refl refl good runs))
+    either (IsStarted g h) (is_output (a0 g h)) (Calls.write_output g h) _ (write_output_started g h good runs)
+    (either (IsStarted g h) (is_writing_end (a0 g h) g) (Calls.write_pipe g h) _ (write_pipe_started g h good runs) (answer_started bad_file h g g refl refl refl good runs))
 
 read_kept : (ps : List Piece) (g : Guest) → IsAsBefore g (with_read ps g)
 read_kept [] g = unchanged g
@@ -66,10 +77,11 @@ read_pieces_started g h ps good runs =
 readv_started : (g : Guest) (h : ℕ) → IsOrderly g → is_running g h ≡ true → IsStarted g h (Calls.readv g h)
 unfolding Calls.readv
 readv_started g h good runs =
-    checked (not (is_input (a0 g h))) bad_file h g _ good runs
+    either (IsStarted g h) (is_end (a0 g h) g) (unsupported g h) _ (unsupported_started g h good)
+    (checked (not (is_input (a0 g h))) bad_file h g _ good runs
     (checked (not (are_few g h)) invalid_argument h g _ good runs
     (checked (not (is_named g h)) bad_address h g _ good runs
-    (read_pieces_started g h (pieces_at (memory_of g) (a1 g h) (a2 g h)) good runs)))
+    (read_pieces_started g h (pieces_at (memory_of g) (a1 g h) (a2 g h)) good runs))))
 
 write_pieces_started : (g : Guest) (h : ℕ) (ps : List Piece) → IsOrderly g → is_running g h ≡ true → IsStarted g h (Calls.write_pieces g h ps)
 unfolding Calls.write_pieces
@@ -80,10 +92,11 @@ write_pieces_started g h ps good runs =
 writev_started : (g : Guest) (h : ℕ) → IsOrderly g → is_running g h ≡ true → IsStarted g h (Calls.writev g h)
 unfolding Calls.writev
 writev_started g h good runs =
-    checked (not (is_output (a0 g h))) bad_file h g _ good runs
+    either (IsStarted g h) (is_end (a0 g h) g) (unsupported g h) _ (unsupported_started g h good)
+    (checked (not (is_output (a0 g h))) bad_file h g _ good runs
     (checked (not (are_few g h)) invalid_argument h g _ good runs
     (checked (not (is_named g h)) bad_address h g _ good runs
-    (write_pieces_started g h (pieces_at (memory_of g) (a1 g h) (a2 g h)) good runs)))
+    (write_pieces_started g h (pieces_at (memory_of g) (a1 g h) (a2 g h)) good runs))))
 
 exit_group_started : (g : Guest) (h : ℕ) → IsOrderly g → is_running g h ≡ true → IsStarted g h (Calls.exit_group g h)
 unfolding Calls.exit_group
@@ -149,7 +162,7 @@ any_time call row g h v good runs = at_any_net g h v (call g h) (row g h good ru
 
 all_rows : AreRows IsStartedBy calls
 all_rows =
-    (any_time Calls.ioctl (λ g h good runs. ioctl_started g h good runs), (any_time Calls.lseek (λ g h good runs. lseek_started g h good runs), (any_time Calls.read (λ g h good runs. read_started g h good runs), (any_time Calls.write (λ g h good runs. write_started g h good runs), (any_time Calls.readv (λ g h good runs. readv_started g h good runs), (any_time Calls.writev (λ g h good runs. writev_started g h good runs), (any_time Calls.exit (λ g h good runs. exit_started g h good runs), (any_time Calls.exit_group (λ g h good runs. exit_group_started g h good runs), (any_time Calls.set_tid_address (λ g h good runs. set_tid_address_started g h good runs), (any_time Calls.futex (λ g h good runs. futex_started g h good runs), ((λ g h v good runs. nanosleep_started g h v good runs), ((λ g h v good runs. clock_gettime_started g h v good runs), (any_time Calls.sched_yield (λ g h good runs. sched_yield_started g h good runs), (any_time Calls.rt_sigprocmask (λ g h good runs. rt_sigprocmask_started g h good runs), (any_time Calls.getpid (λ g h good runs. getpid_started g h good runs), (any_time Calls.gettid (λ g h good runs. gettid_started g h good runs), (any_time Calls.brk (λ g h good runs. brk_started g h good runs), (any_time Calls.munmap (λ g h good runs. munmap_started g h good runs), (any_time Calls.mremap (λ g h good runs. mremap_started g h good runs), (any_time Calls.clone (λ g h good runs. clone_started g h good runs), (any_time Calls.mmap (λ g h good runs. mmap_started g h good runs), (any_time Calls.mprotect (λ g h good runs. mprotect_started g h good runs), (any_time Calls.madvise (λ g h good runs. madvise_started g h good runs), tt)))))))))))))))))))))))
+    (any_time Calls.ioctl (λ g h good runs. ioctl_started g h good runs), (any_time Calls.close (λ g h good runs. close_started g h good runs), (any_time Calls.pipe2 (λ g h good runs. pipe2_started g h good runs), (any_time Calls.lseek (λ g h good runs. lseek_started g h good runs), (any_time Calls.read (λ g h good runs. read_started g h good runs), (any_time Calls.write (λ g h good runs. write_started g h good runs), (any_time Calls.readv (λ g h good runs. readv_started g h good runs), (any_time Calls.writev (λ g h good runs. writev_started g h good runs), (any_time Calls.exit (λ g h good runs. exit_started g h good runs), (any_time Calls.exit_group (λ g h good runs. exit_group_started g h good runs), (any_time Calls.set_tid_address (λ g h good runs. set_tid_address_started g h good runs), (any_time Calls.futex (λ g h good runs. futex_started g h good runs), ((λ g h v good runs. nanosleep_started g h v good runs), ((λ g h v good runs. clock_gettime_started g h v good runs), (any_time Calls.sched_yield (λ g h good runs. sched_yield_started g h good runs), (any_time Calls.rt_sigprocmask (λ g h good runs. rt_sigprocmask_started g h good runs), (any_time Calls.getpid (λ g h good runs. getpid_started g h good runs), (any_time Calls.gettid (λ g h good runs. gettid_started g h good runs), (any_time Calls.brk (λ g h good runs. brk_started g h good runs), (any_time Calls.munmap (λ g h good runs. munmap_started g h good runs), (any_time Calls.mremap (λ g h good runs. mremap_started g h good runs), (any_time Calls.clone (λ g h good runs. clone_started g h good runs), (any_time Calls.mmap (λ g h good runs. mmap_started g h good runs), (any_time Calls.mprotect (λ g h good runs. mprotect_started g h good runs), (any_time Calls.madvise (λ g h good runs. madvise_started g h good runs), tt)))))))))))))))))))))))))
 
 pub call_started : (g : Guest) (h v : ℕ) → IsOrderly g → is_running g h ≡ true → IsStartedAt v g h (call_of g h v)
 call_started g h v = call_has IsStartedBy all_rows g h v (λ good runs. at_any_net g h v (unsupported g h) (unsupported_started g h good))

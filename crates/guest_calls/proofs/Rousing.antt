@@ -3,15 +3,16 @@ use Rattle.std.proofs.Common.{ℕ, zero, suc, ◌≡◌, ◌<◌, ◌≤◌, ◌
 use Rattle.std.specs.Prelude.{slice_index}
 use Rattle.std.specs.Int.{w32, to_le_bytes}
 use Rattle.coz_types.specs.declared.HartId.{HartId}
-use Rattle.guest_memory.specs.Memory.{MemoryMap, is_writable}
+use Rattle.guest_memory.specs.Memory.{MemoryMap, is_writable, with_bytes}
 use Rattle.guest_areas.specs.Space.{RegionMap, has_power}
 use Rattle.guest_futex.specs.Waiters.{Waiter, woken_harts, waiters_left}
-use Rattle.rv_execute.specs.Reservations.{Reservations}
+use Rattle.guest_pipes.specs.Pipes.{PipeMap}
+use Rattle.rv_execute.specs.Reservations.{Reservations, without_touched}
 use Rattle.guest_calls.specs.declared.hart.Hart.{Hart}
 use Rattle.guest_calls.specs.declared.hart.HartStatus.TheVariants.{Running}
 use Rattle.guest_calls.specs.Output.{Written}
 use Rattle.guest_calls.specs.Guest.{Guest, no_hart, is_running, is_running_status, with_running_each, with_stored, memory_of, thread_id}
-use Rattle.guest_calls.specs.Calls.{with_woken, is_cleared, cleared, woken_at_exit, a0, child, cloned, with_word, with_parent_tid, with_child_tid, parent_set_tid, child_set_tid, a2, a4, with_child, child_hart}
+use Rattle.guest_calls.specs.Calls.{with_woken, with_pipes, is_cleared, cleared, woken_at_exit, a0, child, cloned, with_word, with_parent_tid, with_child_tid, parent_set_tid, child_set_tid, a2, a4, with_child, child_hart}
 use Rattle.guest_calls.specs.Kept.{guest_of}
 
 abbrev pub numbers : List HartId → List ℕ
@@ -89,12 +90,12 @@ rewritten items new n same all =
     ∙ ap (take n) (append-none new)
     ∙ take-whole new n (omega arith)
 
-pub roused : (items after : List Hart) (regions : RegionMap) (m : MemoryMap) (rs : Reservations) (ws rest : List Waiter) (input whole : List ℕ) (output : Written) (g : Guest) (a n : ℕ)
-    → guest_of items regions m rs ws input whole output ≡ g → after ≡ with_running_each (woken_harts a ws n) items → rest ≡ waiters_left a ws n
-    → guest_of after regions m rs rest input whole output ≡ with_woken a n g
-roused items after regions m rs ws rest input whole output g a n view run stay =
-    ap (λ (x : List Hart). guest_of x regions m rs rest input whole output) run
-    ∙ ap (λ (x : List Waiter). guest_of (with_running_each (woken_harts a ws n) items) regions m rs x input whole output) stay
+pub roused : (items after : List Hart) (regions : RegionMap) (m : MemoryMap) (rs : Reservations) (ws rest : List Waiter) (ps : PipeMap) (input whole : List ℕ) (output : Written) (g : Guest) (a n : ℕ)
+    → guest_of items regions m rs ws ps input whole output ≡ g → after ≡ with_running_each (woken_harts a ws n) items → rest ≡ waiters_left a ws n
+    → guest_of after regions m rs rest ps input whole output ≡ with_woken a n g
+roused items after regions m rs ws rest ps input whole output g a n view run stay =
+    ap (λ (x : List Hart). guest_of x regions m rs rest ps input whole output) run
+    ∙ ap (λ (x : List Waiter). guest_of (with_running_each (woken_harts a ws n) items) regions m rs x ps input whole output) stay
     ∙ ap (with_woken a n) view
 
 still-set : (hs : List Hart) (x h : ℕ) (hart : Hart) → hart.status ≡ Running → is_running_status (get_or hs h no_hart).status ≡ true → is_running_status (get_or (set hs x hart) h no_hart).status ≡ true
@@ -143,3 +144,39 @@ made-cloned g after h is made =
     ap (λ (x : Guest). length x.harts) is
     ∙ ap (λ (hs : List Hart). length hs) (child-harts g h (with_parent_tid g h (with_child g h)) ∙ parent-harts g h (with_child g h)) in
     omega (arith, simp length-append at same)
+
+-- the harts of a guest once all that were listed run
+pub put_back : (items lent new : List Hart) (len : ℕ) (listed before woken : List ℕ) → length new ≡ length lent → lent ≡ items → len ≡ length items → new ≡ with_running_each listed lent → listed ≡ before ++ woken → before ≡ []
+    → take len (new ++ drop (length new) items) ≡ with_running_each woken items
+put_back items lent new len listed before woken same is all run list none =
+    let size : length new ≡ length items = same ∙ ap (λ (hs : List Hart). length hs) is in
+    rewritten items new len size all
+    ∙ run
+    ∙ ap (λ (hs : List ℕ). with_running_each hs lent) (list ∙ ap (λ (hs : List ℕ). hs ++ woken) none)
+    ∙ ap (with_running_each woken) is
+
+-- a guest whose pipes changed, and some of whose harts run now
+pub piped : (items after : List Hart) (regions : RegionMap) (m : MemoryMap) (rs : Reservations) (ws : List Waiter) (ps new : PipeMap) (input whole : List ℕ) (output : Written) (g : Guest) (f : Guest → PipeMap) (woken : Guest → List ℕ)
+    → guest_of items regions m rs ws ps input whole output ≡ g → after ≡ with_running_each (woken (guest_of items regions m rs ws ps input whole output)) items → new ≡ f (guest_of items regions m rs ws ps input whole output)
+    → guest_of after regions m rs ws new input whole output ≡ with_pipes (f g) (woken g) g
+piped items after regions m rs ws ps new input whole output g f woken view run change =
+    ap (λ (x : List Hart). guest_of x regions m rs ws new input whole output) run
+    ∙ ap (λ (x : PipeMap). guest_of (with_running_each (woken (guest_of items regions m rs ws ps input whole output)) items) regions m rs ws x input whole output) change
+    ∙ ap (λ (x : Guest). with_pipes (f x) (woken x) x) view
+
+-- the same, and bytes are stored
+pub piped_stored : (items after : List Hart) (regions : RegionMap) (m m' : MemoryMap) (rs rs' : Reservations) (ws : List Waiter) (ps new : PipeMap) (input whole : List ℕ) (output : Written) (g : Guest) (address n : ℕ) (b : Guest → List ℕ) (f : Guest → PipeMap) (woken : Guest → List ℕ)
+    → guest_of items regions m rs ws ps input whole output ≡ g → after ≡ with_running_each (woken (guest_of items regions m rs ws ps input whole output)) items → new ≡ f (guest_of items regions m rs ws ps input whole output)
+    → m' ≡ with_bytes address (b (guest_of items regions m rs ws ps input whole output)) m → rs' ≡ without_touched address n rs → n ≡ length (b (guest_of items regions m rs ws ps input whole output))
+    → guest_of after regions m' rs' ws new input whole output ≡ with_pipes (f g) (woken g) (with_stored address (b g) g)
+piped_stored items after regions m m' rs rs' ws ps new input whole output g address n b f woken view run change stored freed size =
+    let old : Guest = guest_of items regions m rs ws ps input whole output in
+    ap (λ (x : List Hart). guest_of x regions m' rs' ws new input whole output) run
+    ∙ ap (λ (x : PipeMap). guest_of (with_running_each (woken old) items) regions m' rs' ws x input whole output) change
+    ∙ ap (λ (x : MemoryMap). guest_of (with_running_each (woken old) items) regions x rs' ws (f old) input whole output) stored
+    ∙ ap (λ (x : Reservations). guest_of (with_running_each (woken old) items) regions (with_bytes address (b old) m) x ws (f old) input whole output) (freed ∙ ap (λ (k : ℕ). without_touched address k rs) size)
+    ∙ ap (λ (x : Guest). with_pipes (f x) (woken x) (with_stored address (b x) x)) view
+
+-- a hart that runs goes on as others are woken
+pub still-piped : (g : Guest) (pipes : PipeMap) (woken : List ℕ) (h : ℕ) → is_running g h ≡ true → is_running (with_pipes pipes woken g) h ≡ true
+still-piped g pipes woken h runs = still-each woken g.harts h runs

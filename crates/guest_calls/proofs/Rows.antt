@@ -17,6 +17,7 @@ use Rattle.guest_memory.proofs.Runs.{allowed_from, allowed_each, length-bytes_at
 use Rattle.guest_areas.specs.Space.{RegionMap, Space, SharesRegions, space}
 use Rattle.guest_areas.specs.Entry.{stack_pointer, first_space}
 use Rattle.guest_futex.specs.Waiters.{Waiter}
+use Rattle.guest_pipes.specs.Pipes.{PipeMap, no_pipes}
 use Rattle.rv_execute.specs.Reservations.{Reservations}
 use Rattle.guest_calls.specs.declared.hart.Hart.{Hart}
 use Rattle.guest_calls.specs.Output.{Written, with_bytes_written}
@@ -85,8 +86,8 @@ absent : {X : Type 0} (m : Map X) (n : ℕ) → HasNo m n → value_at m n ≡ N
 absent [] n no_key = refl
 absent (e ∷ es) n no_key = skipped e.0 n e.1 es no_key.0 ∙ absent es n no_key.1
 
-pub unknown : (n : ℕ) → n ≢ 29 → n ≢ 62 → n ≢ 63 → n ≢ 64 → n ≢ 65 → n ≢ 66 → n ≢ 93 → n ≢ 94 → n ≢ 96 → n ≢ 98 → n ≢ 101 → n ≢ 113 → n ≢ 124 → n ≢ 135 → n ≢ 172 → n ≢ 178 → n ≢ 214 → n ≢ 215 → n ≢ 216 → n ≢ 220 → n ≢ 222 → n ≢ 226 → n ≢ 233 → value_at calls n ≡ None
-unknown n n29 n62 n63 n64 n65 n66 n93 n94 n96 n98 n101 n113 n124 n135 n172 n178 n214 n215 n216 n220 n222 n226 n233 = absent calls n (n29, (n62, (n63, (n64, (n65, (n66, (n93, (n94, (n96, (n98, (n101, (n113, (n124, (n135, (n172, (n178, (n214, (n215, (n216, (n220, (n222, (n226, (n233, tt)))))))))))))))))))))))
+pub unknown : (n : ℕ) → n ≢ 29 → n ≢ 57 → n ≢ 59 → n ≢ 62 → n ≢ 63 → n ≢ 64 → n ≢ 65 → n ≢ 66 → n ≢ 93 → n ≢ 94 → n ≢ 96 → n ≢ 98 → n ≢ 101 → n ≢ 113 → n ≢ 124 → n ≢ 135 → n ≢ 172 → n ≢ 178 → n ≢ 214 → n ≢ 215 → n ≢ 216 → n ≢ 220 → n ≢ 222 → n ≢ 226 → n ≢ 233 → value_at calls n ≡ None
+unknown n n29 n57 n59 n62 n63 n64 n65 n66 n93 n94 n96 n98 n101 n113 n124 n135 n172 n178 n214 n215 n216 n220 n222 n226 n233 = absent calls n (n29, (n57, (n59, (n62, (n63, (n64, (n65, (n66, (n93, (n94, (n96, (n98, (n101, (n113, (n124, (n135, (n172, (n178, (n214, (n215, (n216, (n220, (n222, (n226, (n233, tt)))))))))))))))))))))))))
 
 -- a running hart was made
 pub made-running : (hs : List Hart) (h : ℕ) → is_running_status (get_or hs h no_hart).status ≡ true → h < length hs
@@ -175,15 +176,16 @@ written_over places into there w other kept copied sizes was =
 pub first-layout : (m : MemoryMap) (image : ImageParts) (layout : Layout) → m ≡ first_memory image layout → m.layout ≡ layout
 first-layout m image layout e = ap (λ (x : MemoryMap). x.layout) e ∙ (same_regions-first image layout).1
 
-pub first-made : (items : List Hart) (regions : RegionMap) (m : MemoryMap) (rs : Reservations) (ws : List Waiter) (input : List ℕ) (output : Written) (image : ImageParts) (limit : ℕ) (layout : Layout) → items ≡ first_hart image ∷ []
-    → space regions m ≡ first_space image layout → rs ≡ [] → ws ≡ [] → output ≡ written [] limit → guest_of items regions m rs ws input input output ≡ first_guest image input limit layout
+pub first-made : (items : List Hart) (regions : RegionMap) (m : MemoryMap) (rs : Reservations) (ws : List Waiter) (ps : PipeMap) (input : List ℕ) (output : Written) (image : ImageParts) (limit : ℕ) (layout : Layout) → items ≡ first_hart image ∷ []
+    → space regions m ≡ first_space image layout → rs ≡ [] → ws ≡ [] → ps ≡ no_pipes → output ≡ written [] limit → guest_of items regions m rs ws ps input input output ≡ first_guest image input limit layout
 unfolding first_guest
-first-made items regions m rs ws input output image limit layout hs sp none idle empty =
-    ap (λ (x : List Hart). guest_of x regions m rs ws input input output) hs
-    ∙ ap (λ (x : Space). guest_of (first_hart image ∷ []) x.regions x.memory rs ws input input output) sp
-    ∙ ap (λ (x : Reservations). guest_of (first_hart image ∷ []) (first_space image layout).regions (first_space image layout).memory x ws input input output) none
-    ∙ ap (λ (x : List Waiter). guest_of (first_hart image ∷ []) (first_space image layout).regions (first_space image layout).memory [] x input input output) idle
-    ∙ ap (λ (x : Written). guest_of (first_hart image ∷ []) (first_space image layout).regions (first_space image layout).memory [] [] input input x) empty
+first-made items regions m rs ws ps input output image limit layout hs sp none idle closed empty =
+    ap (λ (x : List Hart). guest_of x regions m rs ws ps input input output) hs
+    ∙ ap (λ (x : Space). guest_of (first_hart image ∷ []) x.regions x.memory rs ws ps input input output) sp
+    ∙ ap (λ (x : Reservations). guest_of (first_hart image ∷ []) (first_space image layout).regions (first_space image layout).memory x ws ps input input output) none
+    ∙ ap (λ (x : List Waiter). guest_of (first_hart image ∷ []) (first_space image layout).regions (first_space image layout).memory [] x ps input input output) idle
+    ∙ ap (λ (x : PipeMap). guest_of (first_hart image ∷ []) (first_space image layout).regions (first_space image layout).memory [] [] x input input output) closed
+    ∙ ap (λ (x : Written). guest_of (first_hart image ∷ []) (first_space image layout).regions (first_space image layout).memory [] [] no_pipes input input x) empty
 
 pub first-hart : (items before : List Hart) (hart : Hart) (sp entry : ℕ) (image : ImageParts) → items ≡ before ++ hart ∷ [] → before ≡ []
     → hart ≡ hart_from (record { registers = set (replicate 32 0) 2 sp; pc = entry }) 0 → sp ≡ stack_pointer → entry ≡ image.entry → items ≡ first_hart image ∷ []

@@ -1,17 +1,16 @@
 -- Which harts run and which sleep, as harts change.
-use Rattle.std.proofs.Common.{◌≡◌, ◌≢◌, ◌+◌, ◌<◌, ℕ, zero, suc, ◌==◌, Bool, true, false, ◌||◌, if◌then◌else◌, List, [], ◌∷◌, ◌++◌, length, get_or, set, eqb, refl, sym, ap, ap₂, ◌∙◌, ⊎_elim, arith, eqb-true}
-use Rattle.std.proofs.lemmas.Bool.{eq-eqb, ne_eqb, cases_eq, cases_Bool}
+use Rattle.std.proofs.Common.{◌≡◌, ◌≢◌, ◌+◌, ◌<◌, ◌≤◌, ℕ, zero, suc, ◌==◌, Bool, true, false, ◌||◌, if◌then◌else◌, List, [], ◌∷◌, ◌++◌, length, get_or, set, refl, ap, ap₂, ◌∙◌, ⊎_elim, arith, eqb-true}
+use Rattle.std.proofs.lemmas.Bool.{eq-eqb, ne_eqb, cases_eq}
 use Rattle.std.proofs.lemmas.List.{length-set, get_or-set_same, get_or-set_other}
 use Rattle.std.proofs.Math.Seq.{get_or-append_seam}
-use Rattle.machines.specs.Places.{is_among, AllApart}
-use Rattle.guest_futex.specs.Waiters.{Waiter, woken_harts}
-use Rattle.guest_futex.specs.Apart.{AreOthers, AreApart}
+use Rattle.machines.specs.Places.{is_among}
 use Rattle.guest_calls.specs.declared.hart.Hart.{Hart}
 use Rattle.guest_calls.specs.declared.hart.HartStatus.{HartStatus}
 use Rattle.guest_calls.specs.declared.hart.HartStatus.TheVariants.{Running, Waiting, Sleeping, Gone}
 use Rattle.guest_calls.specs.Guest.{no_hart, is_running_status, is_sleeping_status, sleepers_of, with_running_each}
 use Rattle.guest_calls.specs.Orderly.{AreWaiting}
-use Rattle.guest_calls.proofs.Waiting.{woken-made}
+use Rattle.guest_calls.proofs.Among.{IsWoken, few_apart}
+use Rattle.guest_calls.proofs.Waiting.{made-waiting}
 
 abbrev pub status_at : List Hart → ℕ → HartStatus
 status_at harts h = (get_or harts h no_hart).status
@@ -74,9 +73,8 @@ pub timed_put : (harts : List Hart) (h k : ℕ) (hart : Hart) → h < length har
 timed_put harts h k hart below = ap is_timed_status (status_put harts h k hart below) ∙ chosen_status is_timed_status (k == h) hart.status (status_at harts k)
 
 -- harts of the same statuses
-pub waiting_same : (old new : List Hart) (ws : List Waiter) → ((k : ℕ) → status_at new k ≡ status_at old k) → AreWaiting old ws → AreWaiting new ws
-waiting_same old new [] same waiting = tt
-waiting_same old new (w ∷ ws) same waiting = (same w.hart ∙ waiting.0, waiting_same old new ws same waiting.1)
+pub waiting_same : (old new : List Hart) (ws : List ℕ) → ((k : ℕ) → status_at new k ≡ status_at old k) → AreWaiting old ws → AreWaiting new ws
+waiting_same old new ws same waiting = λ k among. same k ∙ waiting k among
 
 -- one more hart
 appended_other : (harts : List Hart) (hart : Hart) (k : ℕ) → k ≢ length harts → get_or (harts ++ hart ∷ []) k no_hart ≡ get_or harts k no_hart
@@ -105,62 +103,26 @@ only_one false e = e
 pub next_idle : (harts : List Hart) (k : ℕ) → is_among k (length harts ∷ []) ≡ true → timed_at harts k ≡ false
 next_idle harts k among = ap (timed_at harts) (eqb-true k (length harts) (only_one (k == length harts) among)) ∙ ap is_timed_status (status_past harts)
 
--- those that are woken
-pub not_woken : (h address : ℕ) (ws : List Waiter) (count : ℕ) → AreOthers h ws → is_among h (woken_harts address ws count) ≡ false
-not_woken h address [] zero others = refl
-not_woken h address [] (suc count) others = refl
-not_woken h address (w ∷ ws) zero others = refl
-not_woken h address (w ∷ ws) (suc count) others =
-    ⊎_elim
-    (λ (here : eqb w.address address ≡ true). rw (here, ne_eqb h w.hart (λ (is : h ≡ w.hart). others.0 (sym is))) (not_woken h address ws count others.1))
-    (λ (elsewhere : eqb w.address address ≡ false). rw elsewhere (not_woken h address ws (suc count) others.1))
-    (cases_Bool (eqb w.address address))
-
--- a waiter that is woken neither ran nor slept
-idle_step : (harts : List Hart) (k h : ℕ) (among : Bool) → status_at harts h ≡ Waiting → (among ≡ true → timed_at harts k ≡ false) → (if k == h then true else among) ≡ true → timed_at harts k ≡ false
-idle_step harts k h among waits rest e =
-    ⊎_elim
-    (λ (same : k ≡ h). ap (timed_at harts) same ∙ ap is_timed_status waits)
-    (λ (other : k ≢ h). rest (rw (ne_eqb k h other) at e))
-    (cases_eq k h)
-
-pub woken_idle : (harts : List Hart) (k address : ℕ) (ws : List Waiter) (count : ℕ) → AreWaiting harts ws → is_among k (woken_harts address ws count) ≡ true → timed_at harts k ≡ false
-woken_idle harts k address [] zero waiting among = absurd (let never : false ≡ true = among in cc)
-woken_idle harts k address [] (suc count) waiting among = absurd (let never : false ≡ true = among in cc)
-woken_idle harts k address (w ∷ ws) zero waiting among = absurd (let never : false ≡ true = among in cc)
-woken_idle harts k address (w ∷ ws) (suc count) waiting among =
-    ⊎_elim
-    (λ (here : eqb w.address address ≡ true). idle_step harts k w.hart (is_among k (woken_harts address ws count)) waiting.0 (λ e. woken_idle harts k address ws count waiting.1 e) (rw here at among))
-    (λ (elsewhere : eqb w.address address ≡ false). woken_idle harts k address ws (suc count) waiting.1 (rw elsewhere at among))
-    (cases_Bool (eqb w.address address))
-
-pub apart_woken : (address : ℕ) (ws : List Waiter) (count : ℕ) → AreApart ws → AllApart (woken_harts address ws count)
-apart_woken address [] zero apart = tt
-apart_woken address [] (suc count) apart = tt
-apart_woken address (w ∷ ws) zero apart = tt
-apart_woken address (w ∷ ws) (suc count) apart =
-    ⊎_elim
-    (λ (here : eqb w.address address ≡ true). rw here (not_woken w.hart address ws count apart.1, apart_woken address ws count apart.2))
-    (λ (elsewhere : eqb w.address address ≡ false). rw elsewhere (apart_woken address ws (suc count) apart.2))
-    (cases_Bool (eqb w.address address))
+pub one_more : (is among : Bool) → among ≡ true → (if is then true else among) ≡ true
+one_more true among e = refl
+one_more false among e = e
 
 runs_first : (is among : Bool) (before : HartStatus) → (if among then Running else if is then Running else before) ≡ (if (if is then true else among) then Running else before)
 runs_first true true before = refl
 runs_first true false before = refl
 runs_first false among before = refl
 
-status_each : (hs : List ℕ) (harts : List Hart) (k : ℕ) → ((i : ℕ) → i < length hs → get_or hs i 0 < length harts) → status_at (with_running_each hs harts) k ≡ (if is_among k hs then Running else status_at harts k)
+pub status_each : (hs : List ℕ) (harts : List Hart) (k : ℕ) → ((h : ℕ) → is_among h hs ≡ true → h < length harts) → status_at (with_running_each hs harts) k ≡ (if is_among k hs then Running else status_at harts k)
 status_each [] harts k below = refl
 status_each (h ∷ hs) harts k below =
     let run : Hart = record (get_or harts h no_hart) { status = Running } in
-    status_each hs (set harts h run) k (λ i (within : i < length hs). rw (length-set harts h run) (below (suc i) (omega arith)))
-    ∙ ap (λ (s : HartStatus). if is_among k hs then Running else s) (status_put harts h k run (below 0 (omega arith)))
+    status_each hs (set harts h run) k (λ i among. rw (length-set harts h run) (below i (one_more (i == h) (is_among i hs) among)))
+    ∙ ap (λ (s : HartStatus). if is_among k hs then Running else s) (status_put harts h k run (below h (rw (eq-eqb h h refl) refl)))
     ∙ runs_first (k == h) (is_among k hs) (status_at harts k)
 
--- the harts once some waiters are woken
-pub status_woken : (harts : List Hart) (address : ℕ) (ws : List Waiter) (count k : ℕ) → AreWaiting harts ws
-    → status_at (with_running_each (woken_harts address ws count) harts) k ≡ (if is_among k (woken_harts address ws count) then Running else status_at harts k)
-status_woken harts address ws count k waiting = status_each (woken_harts address ws count) harts k (woken-made harts address ws count waiting)
+pub length_each : (hs : List ℕ) (harts : List Hart) → length (with_running_each hs harts) ≡ length harts
+length_each [] harts = refl
+length_each (h ∷ hs) harts = let run : Hart = record (get_or harts h no_hart) { status = Running } in length_each hs (set harts h run) ∙ length-set harts h run
 
 -- how many sleep: among as many harts of the same statuses as many
 pub asleep_same : (old new : List Hart) → length new ≡ length old → ((k : ℕ) → status_at new k ≡ status_at old k) → sleepers_of new ≡ sleepers_of old
@@ -200,10 +162,6 @@ awake_put (x ∷ xs) zero (suc k) hart runs awake = awake
 awake_put (x ∷ xs) (suc h) zero hart runs awake = awake
 awake_put (x ∷ xs) (suc h) (suc k) hart runs awake = awake_put xs h k hart runs awake
 
-one_more : (is among : Bool) → among ≡ true → (if is then true else among) ≡ true
-one_more true among e = refl
-one_more false among e = e
-
 asleep_each : (hs : List ℕ) (harts : List Hart) → ((k : ℕ) → is_among k hs ≡ true → sleeps_at harts k ≡ false) → sleepers_of (with_running_each hs harts) ≡ sleepers_of harts
 asleep_each [] harts awake = refl
 asleep_each (h ∷ hs) harts awake =
@@ -211,6 +169,23 @@ asleep_each (h ∷ hs) harts awake =
     asleep_each hs (set harts h run) (λ k among. awake_put harts h k run refl (awake k (one_more (k == h) (is_among k hs) among)))
     ∙ asleep_put harts h run (awake h (rw (eq-eqb h h refl) refl)) refl
 
-pub asleep_woken : (harts : List Hart) (address : ℕ) (ws : List Waiter) (count : ℕ) → AreWaiting harts ws → sleepers_of (with_running_each (woken_harts address ws count) harts) ≡ sleepers_of harts
-asleep_woken harts address ws count waiting =
-    asleep_each (woken_harts address ws count) harts (λ k among. or_false (sleeps_at harts k) (runs_at harts k) (woken_idle harts k address ws count waiting among))
+-- those that are woken waited
+pub asleep_woken : (before woken left : List ℕ) (harts : List Hart) → IsWoken before woken left → AreWaiting harts before → sleepers_of (with_running_each woken harts) ≡ sleepers_of harts
+asleep_woken before woken left harts w waiting = asleep_each woken harts (λ k among. ap is_sleeping_status (waiting k (w.from k among)))
+
+pub woken_idle : (before woken left : List ℕ) (harts : List Hart) (k : ℕ) → IsWoken before woken left → AreWaiting harts before → is_among k woken ≡ true → timed_at harts k ≡ false
+woken_idle before woken left harts k w waiting among = ap is_timed_status (waiting k (w.from k among))
+
+pub woken_made : (before woken left : List ℕ) (harts : List Hart) → IsWoken before woken left → AreWaiting harts before → (k : ℕ) → is_among k woken ≡ true → k < length harts
+woken_made before woken left harts w waiting k among = made-waiting harts k (waiting k (w.from k among))
+
+-- the woken run, and the others wait on
+pub waiting_left : (before woken left : List ℕ) (harts : List Hart) → IsWoken before woken left → AreWaiting harts before → AreWaiting (with_running_each woken harts) left
+waiting_left before woken left harts w waiting = λ k among.
+    status_each woken harts k (woken_made before woken left harts w waiting)
+    ∙ ap (λ (b : Bool). if b then Running else status_at harts k) (w.gone k among)
+    ∙ waiting k (w.rest k among)
+
+-- there is room for all that are woken
+pub few_woken : (before woken left : List ℕ) (harts : List Hart) → IsWoken before woken left → AreWaiting harts before → length woken ≤ length harts
+few_woken before woken left harts w waiting = few_apart woken (length harts) w.apart (woken_made before woken left harts w waiting)

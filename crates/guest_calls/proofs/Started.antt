@@ -1,5 +1,5 @@
 -- Which harts run or sleep after a retirement of an orderly guest, that the guest stays orderly, and that what it was made with stays.
-use Rattle.std.proofs.Common.{◌≡◌, ◌+◌, ◌<◌, ◌≤◌, ◌^◌, ℕ, ◌==◌, Bool, true, false, cond, if◌then◌else◌, List, [], ◌∷◌, length, IsNone, ℤ, refl, sym, ap, ◌∙◌, arith, add-zero, eqb-true}
+use Rattle.std.proofs.Common.{◌≡◌, ◌+◌, ◌<◌, ◌≤◌, ◌^◌, ℕ, ◌==◌, Bool, true, false, cond, if◌then◌else◌, List, [], ◌∷◌, length, IsNone, ℤ, refl, sym, ap, ◌∙◌, arith, subst, add-zero, eqb-true}
 use Rattle.std.proofs.lemmas.List.{length-set}
 use Rattle.coz_types.specs.Image.{ImageParts}
 use Rattle.coz_types.specs.declared.ending.Ending.{Ending}
@@ -17,12 +17,13 @@ use Rattle.guest_areas.specs.Space.{Space, Answered}
 use Rattle.guest_areas.proofs.Shares.{IsSteady}
 use Rattle.guest_calls.specs.declared.hart.Hart.{Hart}
 use Rattle.guest_calls.specs.Answering.{with_result}
-use Rattle.guest_calls.specs.Guest.{Guest, Making, making, memory_of, hart_at, state_of, with_hart, with_state, with_memory, with_stored, is_running, is_timed, sleepers}
+use Rattle.guest_calls.specs.Guest.{Guest, Making, making, memory_of, hart_at, state_of, with_hart, with_state, with_memory, with_stored, with_running_each, is_running, is_timed, sleepers, sleepers_of}
 use Rattle.guest_calls.specs.Calls.{retirement, with_answer, of_space, unsupported}
-use Rattle.guest_calls.specs.Orderly.{IsOrderly}
-use Rattle.guest_calls.proofs.Waiting.{status-set}
+use Rattle.guest_calls.specs.Orderly.{IsOrderly, waiting_harts, AreWaiting}
+use Rattle.guest_calls.proofs.Waiting.{status-set, others-running}
+use Rattle.guest_calls.proofs.Among.{IsWoken, among_fewer}
 use Rattle.guest_calls.specs.declared.hart.HartStatus.TheVariants.{Running}
-use Rattle.guest_calls.proofs.RunningHarts.{status_at, is_timed_status, made_timed, runs_timed, chosen_status, waiting_same, asleep_same}
+use Rattle.guest_calls.proofs.RunningHarts.{status_at, is_timed_status, made_timed, runs_timed, chosen_status, waiting_same, asleep_same, runs_here, length_each, status_each, waiting_left, woken_made, woken_idle, asleep_woken}
 
 -- what holds after a retirement of hart h whose fate is one of these: the harts that it starts run, and the others run or sleep as before, but h itself, which may sleep now
 pub record IsStartedWith (Fits : Fate → Type 0) (g : Guest) (h : ℕ) (r : Retirement Guest) : Type 0 where
@@ -72,10 +73,14 @@ at_any_net g h v r s = record {
   made = s.made;
 }
 
+-- those that wait
+abbrev pub waiting_of : Guest → List ℕ
+waiting_of g = waiting_harts g.waiters g.pipes.waiters
+
 -- each hart has the status that it had, and the same harts wait
 pub record IsAsBefore (g after : Guest) : Type 0 where
   pub count : length after.harts ≡ length g.harts
-  pub waiters : after.waiters ≡ g.waiters
+  pub waiters : waiting_of after ≡ waiting_of g
   pub status : (k : ℕ) → status_at after.harts k ≡ status_at g.harts k
   pub made : making after ≡ making g
 
@@ -111,7 +116,7 @@ memory_made g m same =
 pub stored_made : (address : ℕ) (bytes : List ℕ) (g : Guest) → making (with_stored address bytes g) ≡ making g
 stored_made address bytes g = memory_made g (with_bytes address bytes (memory_of g)) (same_regions-with_bytes (memory_of g) address bytes)
 
-pub same_harts : (g after : Guest) → after.harts ≡ g.harts → after.waiters ≡ g.waiters → making after ≡ making g → IsAsBefore g after
+pub same_harts : (g after : Guest) → after.harts ≡ g.harts → waiting_of after ≡ waiting_of g → making after ≡ making g → IsAsBefore g after
 same_harts g after harts waiters made = record {
   count = ap (λ (hs : List Hart). length hs) harts;
   waiters = waiters;
@@ -141,8 +146,8 @@ unchanged g = same_harts g g refl refl refl
 pub still_orderly : (g after : Guest) → IsAsBefore g after → IsOrderly g → IsOrderly after
 still_orderly g after kept good = record {
   few = rw kept.count good.few;
-  waiting = rw kept.waiters (waiting_same g.harts after.harts g.waiters kept.status good.waiting);
-  apart = rw kept.waiters good.apart;
+  waiting = subst (AreWaiting after.harts) (sym kept.waiters) (waiting_same g.harts after.harts (waiting_of g) kept.status good.waiting);
+  apart = subst AllApart (sym kept.waiters) good.apart;
 }
 
 pub none_beside : (g : Guest) (h : ℕ) (after : Guest) → IsAsBefore g after → IsOrderly g → RunsBeside g h [] after
@@ -242,7 +247,7 @@ replied_started n h g others after beside runs =
 pub kept_started : (z : ℤ) (h : ℕ) (g after : Guest) → IsAsBefore g after → IsOrderly g → is_running g h ≡ true → IsStarted g h (with_answer z h after)
 kept_started z h g after kept good runs = replied_started (twos_complement 64 z) h g [] after (none_beside g h after kept good) runs
 
-pub answer_started : (z : ℤ) (h : ℕ) (g after : Guest) → after.harts ≡ g.harts → after.waiters ≡ g.waiters → making after ≡ making g → IsOrderly g → is_running g h ≡ true → IsStarted g h (with_answer z h after)
+pub answer_started : (z : ℤ) (h : ℕ) (g after : Guest) → after.harts ≡ g.harts → waiting_of after ≡ waiting_of g → making after ≡ making g → IsOrderly g → is_running g h ≡ true → IsStarted g h (with_answer z h after)
 answer_started z h g after harts waiters made good runs = kept_started z h g after (same_harts g after harts waiters made) good runs
 
 -- each branch of a choice
@@ -259,3 +264,18 @@ of_space_started g h a steady good runs = answer_started a.answer h g (record g 
 
 pub unsupported_started : (g : Guest) (h : ℕ) → IsOrderly g → IsStarted g h (unsupported g h)
 unsupported_started g h good = ends_started g h g _ (λ t is. absurd (let no : ◌≡◌ {A = Ending} (Unsupported _) (Trapped t) = is in cc)) (unchanged g) good
+
+-- those that some call wakes run then, whatever they waited for
+pub roused_beside : (g after : Guest) (h : ℕ) (woken : List ℕ) → IsOrderly g → is_running g h ≡ true → IsWoken (waiting_of g) woken (waiting_of after) → after.harts ≡ with_running_each woken g.harts → making after ≡ making g → RunsBeside g h woken after
+roused_beside g after h woken good runs w harts made = record {
+  orderly = record {
+    few = subst (λ (hs : List Hart). length hs ≤ 256) (sym harts) (subst (λ (n : ℕ). n ≤ 256) (sym (length_each woken g.harts)) good.few);
+    waiting = subst (λ (hs : List Hart). AreWaiting hs (waiting_of after)) (sym harts) (waiting_left (waiting_of g) woken (waiting_of after) g.harts w good.waiting);
+    apart = w.still;
+  };
+  apart = (among_fewer h woken (waiting_of g) (w.from h) (others-running g.harts h (waiting_of g) (runs_here g.harts h runs) good.waiting), w.apart);
+  status = λ k. ap (λ (hs : List Hart). status_at hs k) harts ∙ status_each woken g.harts k (woken_made (waiting_of g) woken (waiting_of after) g.harts w good.waiting);
+  asleep = ap sleepers_of harts ∙ asleep_woken (waiting_of g) woken (waiting_of after) g.harts w good.waiting;
+  idle = λ k among. woken_idle (waiting_of g) woken (waiting_of after) g.harts k w good.waiting among;
+  made = made;
+}

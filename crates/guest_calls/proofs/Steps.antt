@@ -16,6 +16,7 @@ use Rattle.rv_execute.specs.declared.hart.Step.TheVariants.{Next, Call, Fault}
 use Rattle.rv_execute.specs.Reservations.{Reservations}
 use Rattle.rv_execute.specs.Execution.{Setting, Executed, setting, execution, execute}
 use Rattle.guest_futex.specs.Waiters.{Waiter}
+use Rattle.guest_pipes.specs.Pipes.{PipeMap}
 use Rattle.guest_calls.specs.declared.hart.Hart.{Hart}
 use Rattle.guest_calls.specs.Guest.{Guest, no_hart, setting_of, with_setting}
 use Rattle.guest_calls.specs.Output.{Written}
@@ -138,12 +139,12 @@ shares-executed r h i s hart m rs result e shared =
     }
 
 -- what is executed on the hart's own registers, in its place
-pub step-in_place : (items : List Hart) (regions : RegionMap) (m after_m : MemoryMap) (r after_r : Reservations) (waiters : List Waiter) (input whole : List ℕ) (output : Written) (g : Guest) (h w : ℕ) (i : Instr) (hart : Hart) (s : HartState) (result : Step)
-    → guest_of items regions m r waiters input whole output ≡ g → hart ≡ get_or items h no_hart → Some w ≡ word_at g h → Some i ≡ instruction_of w
+pub step-in_place : (items : List Hart) (regions : RegionMap) (m after_m : MemoryMap) (r after_r : Reservations) (waiters : List Waiter) (pipes : PipeMap) (input whole : List ℕ) (output : Written) (g : Guest) (h w : ℕ) (i : Instr) (hart : Hart) (s : HartState) (result : Step)
+    → guest_of items regions m r waiters pipes input whole output ≡ g → hart ≡ get_or items h no_hart → Some w ≡ word_at g h → Some i ≡ instruction_of w
     → execution s after_m after_r result ≡ execute h i (setting hart.state m r)
-    → step_result (guest_of (set items h (record hart { state = s })) regions after_m after_r waiters input whole output) result ≡ step g h
-step-in_place items regions m after_m r after_r waiters input whole output g h w i hart s result view at e f x =
-    let old : Guest = guest_of items regions m r waiters input whole output in
-    ap (λ (y : Hart). step_result (guest_of (set items h (record y { state = s })) regions after_m after_r waiters input whole output) result) at
+    → step_result (guest_of (set items h (record hart { state = s })) regions after_m after_r waiters pipes input whole output) result ≡ step g h
+step-in_place items regions m after_m r after_r waiters pipes input whole output g h w i hart s result view at e f x =
+    let old : Guest = guest_of items regions m r waiters pipes input whole output in
+    ap (λ (y : Hart). step_result (guest_of (set items h (record y { state = s })) regions after_m after_r waiters pipes input whole output) result) at
     ∙ step-executed old h w i s after_m after_r result (e ∙ ap (λ (y : Guest). word_at y h) (sym view)) f (x ∙ ap (λ (y : Hart). execute h i (setting y.state m r)) at)
     ∙ ap (λ (y : Guest). step y h) view

@@ -1,5 +1,5 @@
 -- The calls by which harts are made, wait, are woken and leave.
-use Rattle.std.proofs.Common.{◌≡◌, ◌<◌, ℕ, ◌%◌, ◌^◌, ◌==◌, nat_le, Bool, true, false, not, ◌||◌, if◌then◌else◌, List, [], ◌∷◌, length, pos, refl, ap, ◌∙◌, arith, replicate, length-append, leb-false, ne_eqb}
+use Rattle.std.proofs.Common.{◌≡◌, ◌<◌, ℕ, ◌%◌, ◌^◌, ◌==◌, nat_le, Bool, true, false, not, ◌||◌, if◌then◌else◌, List, [], ◌∷◌, length, pos, refl, ap, ◌∙◌, arith, replicate, length-append, leb-false, ne_eqb, set, sym, subst, ◌≤◌}
 use Rattle.std.specs.Int.{w32, to_le_bytes}
 use Rattle.std.proofs.lemmas.List.{length-set}
 use Rattle.coz_types.specs.declared.TheConstants.{HARTS}
@@ -14,37 +14,29 @@ use Rattle.guest_memory.specs.Memory.{is_readable, is_writable, number_at}
 use Rattle.guest_areas.specs.Answers.{try_again, bad_address, invalid_argument}
 use Rattle.guest_areas.specs.Space.{has_power}
 use Rattle.guest_futex.specs.Waiters.{woken_harts}
-use Rattle.guest_futex.specs.Apart.{AreOthers}
-use Rattle.guest_futex.proofs.WaitersLemmas.{apart-with_waiter, apart-left}
 use Rattle.guest_calls.specs.declared.hart.Hart.{Hart}
-use Rattle.guest_calls.specs.Guest.{Guest, with_hart, with_stored, is_running, is_running_status, is_over, memory_of, thread_id}
+use Rattle.guest_calls.specs.declared.hart.HartStatus.{HartStatus}
+use Rattle.guest_calls.specs.declared.hart.HartStatus.TheVariants.{Waiting}
+use Rattle.guest_calls.specs.Guest.{Guest, making, sleepers_of, with_hart, with_stored, is_running, is_running_status, is_sleeping_status, is_over, memory_of, thread_id}
 use Rattle.guest_calls.specs.Calls
 use Rattle.guest_calls.specs.Calls.{retirement, with_answer, left_by, leave, unsupported, with_word, with_woken, clear_address, woken_at_exit, cleared, is_cleared, waiting_for, most_woken, woken_here, parent_set_tid, child_set_tid, child, with_child, with_parent_tid, with_child_tid, cloned, is_accepted, a0, a1, a2, a3, a4}
-use Rattle.guest_calls.specs.Orderly.{IsOrderly}
-use Rattle.guest_calls.proofs.Waiting.{others-running, waiting-elsewhere, waiting-append, waiting-with_waiter, waiting-woken, length-run_each}
-use Rattle.guest_calls.proofs.RunningHarts.{made_running, runs_here, runs_awake, timed_put, status_append, next_idle, not_woken, apart_woken, woken_idle, status_woken, asleep_put, asleep_append, asleep_woken}
-use Rattle.guest_calls.proofs.Started.{IsStarted, IsAsBefore, RunsBeside, running_low, either, same_harts, later, unchanged, still_orderly, none_beside, beside_then, beside_still, stops_started, replied_started, answer_started, stored_made, checked, unsupported_started}
+use Rattle.guest_calls.specs.Orderly.{IsOrderly, AreWaiting}
+use Rattle.guest_calls.proofs.Waiting.{others-running, waiting-elsewhere, waiting-append, waiting-added, address_woken, address_added}
+use Rattle.guest_calls.proofs.Among.{IsAdded}
+use Rattle.machines.specs.Places.{is_among}
+use Rattle.guest_calls.proofs.RunningHarts.{timed_at, is_timed_status, made_running, runs_here, runs_awake, timed_put, status_append, next_idle, asleep_put, asleep_append}
+use Rattle.guest_calls.proofs.Started.{IsStarted, IsAsBefore, RunsBeside, waiting_of, roused_beside, running_low, either, same_harts, later, unchanged, still_orderly, none_beside, beside_then, beside_still, stops_started, replied_started, answer_started, stored_made, checked, unsupported_started}
 
 -- waiters are woken
 woken_beside : (g : Guest) (h address count : ℕ) → IsOrderly g → is_running g h ≡ true → RunsBeside g h (woken_harts address g.waiters count) (with_woken address count g)
-woken_beside g h address count good runs = record {
-  orderly = record {
-    few = rw (length-run_each (woken_harts address g.waiters count) g.harts) good.few;
-    waiting = waiting-woken g.harts address g.waiters count good.waiting;
-    apart = apart-left address g.waiters count good.apart;
-  };
-  apart = (not_woken h address g.waiters count (others-running g.harts h g.waiters (runs_here g.harts h runs) good.waiting), apart_woken address g.waiters count good.apart);
-  status = λ k. status_woken g.harts address g.waiters count k good.waiting;
-  asleep = asleep_woken g.harts address g.waiters count good.waiting;
-  idle = λ k among. woken_idle g.harts k address g.waiters count good.waiting among;
-  made = refl;
-}
+woken_beside g h address count good runs =
+    roused_beside g (with_woken address count g) h (woken_harts address g.waiters count) good runs (address_woken g.waiters g.pipes.waiters address count good.apart) refl refl
 
 -- a running hart is no waiter, whatever becomes of it
 pub set_orderly : (g : Guest) (h : ℕ) (hart : Hart) → IsOrderly g → is_running g h ≡ true → IsOrderly (with_hart h hart g)
 set_orderly g h hart good runs = record {
   few = rw (length-set g.harts h hart) good.few;
-  waiting = waiting-elsewhere g.harts h hart g.waiters (others-running g.harts h g.waiters (runs_here g.harts h runs) good.waiting) good.waiting;
+  waiting = waiting-elsewhere g.harts h hart (waiting_of g) (others-running g.harts h (waiting_of g) (runs_here g.harts h runs) good.waiting) good.waiting;
   apart = good.apart;
 }
 
@@ -83,20 +75,23 @@ exit_started g h good runs =
     (leave_started g h (woken_at_exit g h) (cleared g h) (cleared_beside g h good runs) runs)
     (leave_started g h [] g (none_beside g h g (unchanged g) good) runs)
 
-waiting_orderly : (g : Guest) (h address : ℕ) → IsOrderly g → is_running g h ≡ true → IsOrderly (waiting_for g h address)
-waiting_orderly g h address good runs =
-    let others : AreOthers h g.waiters = others-running g.harts h g.waiters (runs_here g.harts h runs) good.waiting in
-    let low = running_low g h good runs in
-    record {
-      few = rw length-set good.few;
-      waiting = waiting-with_waiter g.harts h address _ g.waiters low.0 (runs_here g.harts h runs) refl good.waiting;
-      apart = apart-with_waiter address h g.waiters low.1 others good.apart;
-    }
+-- the hart waits, for an address or for a pipe
+pub stopped_orderly : (g last : Guest) (h : ℕ) (hart : Hart) → IsOrderly g → is_running g h ≡ true → hart.status ≡ Waiting → last.harts ≡ set g.harts h hart → IsAdded (waiting_of g) h (waiting_of last) → IsOrderly last
+stopped_orderly g last h hart good runs waits harts added = record {
+  few = subst (λ (hs : List Hart). length hs ≤ 256) (sym harts) (subst (λ (n : ℕ). n ≤ 256) (sym (length-set g.harts h hart)) good.few);
+  waiting = subst (λ (hs : List Hart). AreWaiting hs (waiting_of last)) (sym harts) (waiting-added g.harts h hart (waiting_of g) (waiting_of last) (running_low g h good runs).0 (runs_here g.harts h runs) waits added good.waiting);
+  apart = added.apart;
+}
 
-waits_started : (g : Guest) (h address : ℕ) → IsOrderly g → is_running g h ≡ true → IsStarted g h (retirement (waiting_for g h address) Waits [])
-waits_started g h address good runs =
-    stops_started g h [] g (waiting_for g h address) Waits refl refl (λ t is. absurd (let no : ◌≡◌ {A = Fate} Waits (Ends (Trapped t)) = is in cc)) (none_beside g h g (unchanged g) good) (waiting_orderly g h address good runs) refl
-    (λ k. timed_put g.harts h k _ (made_running g.harts h runs)) (asleep_put g.harts h _ (runs_awake _ runs) refl)
+pub waits_started : (g last : Guest) (h : ℕ) (hart : Hart) → IsOrderly g → is_running g h ≡ true → hart.status ≡ Waiting → last.harts ≡ set g.harts h hart → IsAdded (waiting_of g) h (waiting_of last) → making last ≡ making g → IsStarted g h (retirement last Waits [])
+waits_started g last h hart good runs waits harts added made =
+    stops_started g h [] g last Waits refl refl (λ t is. absurd (let no : ◌≡◌ {A = Fate} Waits (Ends (Trapped t)) = is in cc)) (none_beside g h g (unchanged g) good) (stopped_orderly g last h hart good runs waits harts added) made
+    (λ k. ap (λ (hs : List Hart). timed_at hs k) harts ∙ timed_put g.harts h k hart (made_running g.harts h runs) ∙ ap (λ (s : HartStatus). if k == h then is_timed_status s else timed_at g.harts k) waits)
+    (ap sleepers_of harts ∙ asleep_put g.harts h hart (runs_awake _ runs) (ap is_sleeping_status waits))
+
+-- a running hart isn't among those that wait
+pub not_waiting : (g : Guest) (h : ℕ) → IsOrderly g → is_running g h ≡ true → is_among h (waiting_of g) ≡ false
+not_waiting g h good runs = others-running g.harts h (waiting_of g) (runs_here g.harts h runs) good.waiting
 
 wait_started : (g : Guest) (h : ℕ) → IsOrderly g → is_running g h ≡ true → IsStarted g h (Calls.wait g h)
 unfolding Calls.wait
@@ -105,7 +100,7 @@ wait_started g h good runs =
     (checked (not (a0 g h % 4 == 0)) invalid_argument h g _ good runs
     (checked (not (is_readable (memory_of g) (a0 g h) 4)) bad_address h g _ good runs
     (checked (not (number_at (memory_of g) (a0 g h) 4 == a2 g h % 2 ^ 32)) try_again h g _ good runs
-    (waits_started g h (a0 g h) good runs))))
+    (waits_started g (waiting_for g h (a0 g h)) h _ good runs refl refl (address_added g.waiters g.pipes.waiters (a0 g h) h good.apart (not_waiting g h good runs)) refl))))
 
 wake_started : (g : Guest) (h : ℕ) → IsOrderly g → is_running g h ≡ true → IsStarted g h (Calls.wake g h)
 unfolding Calls.wake
@@ -137,7 +132,7 @@ child_beside : (g : Guest) (h : ℕ) → IsOrderly g → is_running g h ≡ true
 child_beside g h good runs room =
     let made : h < length g.harts = made_running g.harts h runs in
     record {
-      orderly = record { few = rw length-append (omega arith); waiting = waiting-append g.harts _ g.waiters good.waiting; apart = good.apart };
+      orderly = record { few = rw length-append (omega arith); waiting = waiting-append g.harts _ (waiting_of g) good.waiting; apart = good.apart };
       apart = (rw (ne_eqb h (length g.harts) (omega arith)) refl, (refl, tt));
       status = λ k. status_append g.harts _ k;
       asleep = asleep_append g.harts _ refl;

@@ -1,15 +1,20 @@
 -- The harts that wait, as harts change.
-use Rattle.std.proofs.Common.{ℕ, zero, suc, ◌≡◌, ◌≢◌, ◌<◌, Bool, true, false, not, ◌||◌, ◌==◌, eqb, filter, List, [], ◌∷◌, ◌++◌, length, get_or, set, refl, sym, ap, ◌∙◌, ⊎_elim, arith}
+use Rattle.std.proofs.Common.{ℕ, zero, suc, ◌≡◌, ◌≢◌, ◌<◌, Bool, true, false, not, ◌==◌, List, [], ◌∷◌, ◌++◌, length, map, get_or, set, refl, sym, ap, ◌∙◌, subst, ⊎_elim, arith}
 use Rattle.std.specs.List.{list_any}
-use Rattle.std.proofs.lemmas.Bool.{cases_Bool, eq-eqb}
-use Rattle.std.proofs.lemmas.List.{length-set}
+use Rattle.std.proofs.lemmas.Bool.{cases_Bool}
+use Rattle.machines.specs.Places.{is_among, AllApart}
 use Rattle.guest_futex.specs.Waiters.{Waiter, with_waiter, woken_harts, waiters_left}
-use Rattle.guest_futex.specs.Apart.{AreOthers}
+use Rattle.guest_pipes.specs.declared.ends.End.{End}
+use Rattle.guest_pipes.specs.declared.waiters.PipeWaiter.{PipeWaiter}
+use Rattle.guest_pipes.specs.Pipes.{end_of, waits_at, woken_at, left_at}
+use Rattle.guest_pipes.proofs.WaitersLemmas.{other_end}
+use Rattle.guest_pipes.specs.declared.ends.PipeEnd.TheVariants.{Reading, Writing}
 use Rattle.guest_calls.specs.declared.hart.Hart.{Hart}
 use Rattle.guest_calls.specs.declared.hart.HartStatus.{HartStatus}
 use Rattle.guest_calls.specs.declared.hart.HartStatus.TheVariants.{Running, Waiting, Gone}
-use Rattle.guest_calls.specs.Guest.{no_hart, with_running_each}
-use Rattle.guest_calls.specs.Orderly.{AreWaiting}
+use Rattle.guest_calls.specs.Guest.{no_hart}
+use Rattle.guest_calls.specs.Orderly.{AreWaiting, waiting_harts}
+use Rattle.guest_calls.proofs.Among.{parts, never, IsWoken, first_woken, all_woken, woken_then, woken_left, woken_right, IsAdded, added_first, added_last, not_any}
 
 abbrev status_at : List Hart → ℕ → HartStatus
 status_at hs k = (get_or hs k no_hart).status
@@ -35,134 +40,79 @@ status-append [] k hart e = absurd (let never : Gone ≡ Waiting = e in cc)
 status-append (x ∷ xs) zero hart e = e
 status-append (x ∷ xs) (suc k) hart e = status-append xs k hart e
 
-pub waiting-set : (hs : List Hart) (h : ℕ) (hart : Hart) (ws : List Waiter) → hart.status ≡ status_at hs h → AreWaiting hs ws → AreWaiting (set hs h hart) ws
-waiting-set hs h hart [] e waiting = tt
-waiting-set hs h hart (w ∷ ws) e waiting = (status-set hs h w.hart hart e ∙ waiting.0, waiting-set hs h hart ws e waiting.1)
-
--- a hart that doesn't wait is no waiter
-pub others-moving : (hs : List Hart) (h : ℕ) (ws : List Waiter) → (status_at hs h ≡ Waiting → ⊥) → AreWaiting hs ws → AreOthers h ws
-others-moving hs h [] moves waiting = tt
-others-moving hs h (w ∷ ws) moves waiting = ((λ (is : w.hart ≡ h). moves (sym (ap (status_at hs) is) ∙ waiting.0)), others-moving hs h ws moves waiting.1)
-
-pub others-running : (hs : List Hart) (h : ℕ) (ws : List Waiter) → status_at hs h ≡ Running → AreWaiting hs ws → AreOthers h ws
-others-running hs h ws runs waiting = others-moving hs h ws (λ waits. let never : Running ≡ Waiting = sym runs ∙ waits in cc) waiting
-
-pub waiting-elsewhere : (hs : List Hart) (h : ℕ) (hart : Hart) (ws : List Waiter) → AreOthers h ws → AreWaiting hs ws → AreWaiting (set hs h hart) ws
-waiting-elsewhere hs h hart [] others waiting = tt
-waiting-elsewhere hs h hart (w ∷ ws) others waiting = (status-elsewhere hs h w.hart hart others.0 ∙ waiting.0, waiting-elsewhere hs h hart ws others.1 waiting.1)
-
-pub waiting-append : (hs : List Hart) (hart : Hart) (ws : List Waiter) → AreWaiting hs ws → AreWaiting (hs ++ hart ∷ []) ws
-waiting-append hs hart [] waiting = tt
-waiting-append hs hart (w ∷ ws) waiting = (status-append hs w.hart hart waiting.0, waiting-append hs hart ws waiting.1)
-
-waiting-more : (hs : List Hart) (ws : List Waiter) (w : Waiter) → AreWaiting hs ws → status_at hs w.hart ≡ Waiting → AreWaiting hs (ws ++ w ∷ [])
-waiting-more hs [] w waiting waits = (waits, tt)
-waiting-more hs (x ∷ xs) w waiting waits = (waiting.0, waiting-more hs xs w waiting.1 waits)
-
 status-here : (hs : List Hart) (h : ℕ) (hart : Hart) → h < length hs → status_at (set hs h hart) h ≡ hart.status
 status-here [] h hart below = absurd (omega arith)
 status-here (x ∷ xs) zero hart below = refl
 status-here (x ∷ xs) (suc h) hart below = status-here xs h hart (omega arith)
 
+pub waiting-set : (hs : List Hart) (h : ℕ) (hart : Hart) (ws : List ℕ) → hart.status ≡ status_at hs h → AreWaiting hs ws → AreWaiting (set hs h hart) ws
+waiting-set hs h hart ws e waiting = λ k among. status-set hs h k hart e ∙ waiting k among
+
+-- a hart that doesn't wait is no waiter
+pub others-moving : (hs : List Hart) (h : ℕ) (ws : List ℕ) → (status_at hs h ≡ Waiting → ⊥) → AreWaiting hs ws → is_among h ws ≡ false
+others-moving hs h ws moves waiting =
+    ⊎_elim (λ (yes : is_among h ws ≡ true). absurd (moves (waiting h yes))) (λ (no : is_among h ws ≡ false). no) (cases_Bool (is_among h ws))
+
+pub others-running : (hs : List Hart) (h : ℕ) (ws : List ℕ) → status_at hs h ≡ Running → AreWaiting hs ws → is_among h ws ≡ false
+others-running hs h ws runs waiting = others-moving hs h ws (λ waits. let never : Running ≡ Waiting = sym runs ∙ waits in cc) waiting
+
+pub waiting-elsewhere : (hs : List Hart) (h : ℕ) (hart : Hart) (ws : List ℕ) → is_among h ws ≡ false → AreWaiting hs ws → AreWaiting (set hs h hart) ws
+waiting-elsewhere hs h hart ws others waiting =
+    λ k among. status-elsewhere hs h k hart (λ (is : k ≡ h). never (is_among h ws) (subst (λ (n : ℕ). is_among n ws ≡ true) is among) others) ∙ waiting k among
+
+pub waiting-append : (hs : List Hart) (hart : Hart) (ws : List ℕ) → AreWaiting hs ws → AreWaiting (hs ++ hart ∷ []) ws
+waiting-append hs hart ws waiting = λ k among. status-append hs k hart (waiting k among)
+
 -- a hart that ran waits from now on
-pub waiting-with_waiter : (hs : List Hart) (h a : ℕ) (hart : Hart) (ws : List Waiter) → h < length hs → status_at hs h ≡ Running → hart.status ≡ Waiting → AreWaiting hs ws → AreWaiting (set hs h hart) (with_waiter a h ws)
-waiting-with_waiter hs h a hart ws below runs waits waiting =
-    waiting-more (set hs h hart) ws (record { address = a; hart = h })
-    (waiting-elsewhere hs h hart ws (others-running hs h ws runs waiting) waiting)
-    (status-here hs h hart below ∙ waits)
+pub waiting-added : (hs : List Hart) (h : ℕ) (hart : Hart) (ws more : List ℕ) → h < length hs → status_at hs h ≡ Running → hart.status ≡ Waiting → IsAdded ws h more → AreWaiting hs ws → AreWaiting (set hs h hart) more
+waiting-added hs h hart ws more below runs waits added waiting =
+    λ k among.
+    ⊎_elim
+    (λ (is : k ≡ h). subst (λ (n : ℕ). status_at (set hs h hart) n ≡ Waiting) (sym is) (status-here hs h hart below ∙ waits))
+    (λ (in' : is_among k ws ≡ true). waiting-elsewhere hs h hart ws (others-running hs h ws runs waiting) waiting k in')
+    (added.from k among)
 
--- one hart of the list runs
-abbrev run : ℕ → List Hart → List Hart
-run h hs = set hs h (record (get_or hs h no_hart) { status = Running })
-
--- harts that are none of these waiters run
-AllOthers : List ℕ → List Waiter → Type 0
-AllOthers [] ws = Unit {0}
-AllOthers (h ∷ hs) ws = AreOthers h ws × AllOthers hs ws
-
-waiting-run_each : (woken : List ℕ) (hs : List Hart) (ws : List Waiter) → AllOthers woken ws → AreWaiting hs ws → AreWaiting (with_running_each woken hs) ws
-unfolding AllOthers
-waiting-run_each [] hs ws others waiting = waiting
-waiting-run_each (h ∷ more) hs ws others waiting = waiting-run_each more (run h hs) ws others.1 (waiting-elsewhere hs h (record (get_or hs h no_hart) { status = Running }) ws others.0 waiting)
-
-either_false : (a b : Bool) → (a || b) ≡ false → (a ≡ false) × (b ≡ false)
-either_false true b h = absurd (let never : true ≡ false = h in cc)
-either_false false b h = (refl, h)
+-- a hart that waits was made
+pub made-waiting : (hs : List Hart) (h : ℕ) → status_at hs h ≡ Waiting → h < length hs
+made-waiting [] h e = absurd (let never : Gone ≡ Waiting = e in cc)
+made-waiting (x ∷ xs) zero e = omega arith
+made-waiting (x ∷ xs) (suc h) e = let below : h < length xs = made-waiting xs h e in omega arith
 
 not_true : (b : Bool) → not b ≡ true → b ≡ false
 not_true true h = absurd (let never : false ≡ true = h in cc)
 not_true false h = refl
 
--- a hart that none of those that are kept is
-others-filter : (h : ℕ) (keeps : Waiter → Bool) (ws : List Waiter) → ((w : Waiter) → keeps w ≡ true → w.hart ≢ h) → AreOthers h (filter keeps ws)
-others-filter h keeps [] apart = tt
-others-filter h keeps (w ∷ ws) apart =
-    ⊎_elim
-    (λ (yes : keeps w ≡ true). rw yes (apart w yes, others-filter h keeps ws apart))
-    (λ (no : keeps w ≡ false). rw no (others-filter h keeps ws apart))
-    (cases_Bool (keeps w))
+parts_left : (ws : List Waiter) (ps : List PipeWaiter) → AllApart (waiting_harts ws ps) → AllApart (map (λ (w : Waiter). w.hart) ws)
+parts_left ws ps apart = (parts (map (λ (w : Waiter). w.hart) ws) (map (λ (w : PipeWaiter). w.hart.0) ps) apart).left
 
--- none of these harts is, where none of them is a kept one's
-all_others-filter : (hs : List ℕ) (keeps : Waiter → Bool) (ws : List Waiter) → ((w : Waiter) → keeps w ≡ true → list_any (λ hart. hart == w.hart) hs ≡ false) → AllOthers hs (filter keeps ws)
-unfolding AllOthers
-all_others-filter [] keeps ws apart = tt
-all_others-filter (h ∷ hs) keeps ws apart = (
-  others-filter h keeps ws (λ w kept is.
-      let here : list_any (λ hart. hart == w.hart) (h ∷ hs) ≡ true = rw (eq-eqb h w.hart (sym is)) refl in
-      let never : true ≡ false = sym here ∙ apart w kept in
-      cc),
-  all_others-filter hs keeps ws (λ w kept. (either_false (h == w.hart) (list_any (λ hart. hart == w.hart) hs) (apart w kept)).1),
-)
+parts_right : (ws : List Waiter) (ps : List PipeWaiter) → AllApart (waiting_harts ws ps) → AllApart (map (λ (w : PipeWaiter). w.hart.0) ps)
+parts_right ws ps apart = (parts (map (λ (w : Waiter). w.hart) ws) (map (λ (w : PipeWaiter). w.hart.0) ps) apart).right
 
--- none of the woken is left
-woken-not_left : (address : ℕ) (ws : List Waiter) (count : ℕ) → AllOthers (woken_harts address ws count) (waiters_left address ws count)
-woken-not_left address ws count =
-    all_others-filter (woken_harts address ws count) _ ws (λ w kept. not_true (list_any (λ hart. hart == w.hart) (woken_harts address ws count)) kept)
+-- those that a wake at an address takes
+pub address_woken : (ws : List Waiter) (ps : List PipeWaiter) (address count : ℕ) → AllApart (waiting_harts ws ps) → IsWoken (waiting_harts ws ps) (woken_harts address ws count) (waiting_harts (waiters_left address ws count) ps)
+address_woken ws ps address count apart =
+    woken_left (map (λ (w : Waiter). w.hart) ws) (woken_harts address ws count) (map (λ (w : Waiter). w.hart) (waiters_left address ws count)) (map (λ (w : PipeWaiter). w.hart.0) ps) apart
+    (first_woken (λ (w : Waiter). w.hart) (λ w. w.address == address) (λ w. not (list_any (λ hart. hart == w.hart) (woken_harts address ws count))) count ws (parts_left ws ps apart)
+    (λ w kept. not_any w.hart (woken_harts address ws count) (not_true (list_any (λ hart. hart == w.hart) (woken_harts address ws count)) kept)))
 
-waiting-filter : (hs : List Hart) (keeps : Waiter → Bool) (ws : List Waiter) → AreWaiting hs ws → AreWaiting hs (filter keeps ws)
-waiting-filter hs keeps [] waiting = tt
-waiting-filter hs keeps (w ∷ ws) waiting =
-    ⊎_elim
-    (λ (yes : keeps w ≡ true). rw yes (waiting.0, waiting-filter hs keeps ws waiting.1))
-    (λ (no : keeps w ≡ false). rw no (waiting-filter hs keeps ws waiting.1))
-    (cases_Bool (keeps w))
+-- those that wait at an end of a pipe
+pub end_woken : (ws : List Waiter) (ps : List PipeWaiter) (e : End) → AllApart (waiting_harts ws ps) → IsWoken (waiting_harts ws ps) (woken_at e ps) (waiting_harts ws (left_at e ps))
+end_woken ws ps e apart =
+    woken_right (map (λ (w : Waiter). w.hart) ws) (map (λ (w : PipeWaiter). w.hart.0) ps) (woken_at e ps) (map (λ (w : PipeWaiter). w.hart.0) (left_at e ps)) apart
+    (all_woken (λ (w : PipeWaiter). w.hart.0) (waits_at e) ps (parts_right ws ps apart))
 
--- the woken run, and the others wait on
-pub waiting-woken : (hs : List Hart) (address : ℕ) (ws : List Waiter) (count : ℕ) → AreWaiting hs ws → AreWaiting (with_running_each (woken_harts address ws count) hs) (waiters_left address ws count)
-waiting-woken hs address ws count waiting =
-    waiting-run_each (woken_harts address ws count) hs (waiters_left address ws count) (woken-not_left address ws count) (waiting-filter hs _ ws waiting)
+-- those that wait for the bytes of a pipe, and then those that wait for its room
+pub close_woken : (ws : List Waiter) (ps : List PipeWaiter) (pipe : ℕ) → AllApart (waiting_harts ws ps)
+    → IsWoken (waiting_harts ws ps) (woken_at (end_of pipe Reading) ps ++ woken_at (end_of pipe Writing) ps) (waiting_harts ws (left_at (end_of pipe Writing) (left_at (end_of pipe Reading) ps)))
+close_woken ws ps pipe apart =
+    let rest : List PipeWaiter = left_at (end_of pipe Reading) ps in
+    let first = end_woken ws ps (end_of pipe Reading) apart in
+    let both = woken_then (waiting_harts ws ps) (woken_at (end_of pipe Reading) ps) (waiting_harts ws rest) (woken_at (end_of pipe Writing) rest) (waiting_harts ws (left_at (end_of pipe Writing) rest)) first (end_woken ws rest (end_of pipe Writing) first.still) in
+    subst (λ (hs : List ℕ). IsWoken (waiting_harts ws ps) (woken_at (end_of pipe Reading) ps ++ hs) (waiting_harts ws (left_at (end_of pipe Writing) rest))) (other_end pipe ps) both
 
--- a hart that waits was made
-made-waiting : (hs : List Hart) (h : ℕ) → status_at hs h ≡ Waiting → h < length hs
-made-waiting [] h e = absurd (let never : Gone ≡ Waiting = e in cc)
-made-waiting (x ∷ xs) zero e = omega arith
-made-waiting (x ∷ xs) (suc h) e = let below : h < length xs = made-waiting xs h e in omega arith
+-- one more that waits
+pub address_added : (ws : List Waiter) (ps : List PipeWaiter) (address h : ℕ) → AllApart (waiting_harts ws ps) → is_among h (waiting_harts ws ps) ≡ false → IsAdded (waiting_harts ws ps) h (waiting_harts (with_waiter address h ws) ps)
+address_added ws ps address h apart none = added_first (λ (w : Waiter). w.hart) ws (record { address = address; hart = h }) (map (λ (w : PipeWaiter). w.hart.0) ps) apart none
 
-AllBelow : ℕ → List ℕ → Type 0
-AllBelow n [] = Unit {0}
-AllBelow n (h ∷ hs) = (h < n) × AllBelow n hs
-
-below-woken : (hs : List Hart) (address : ℕ) (ws : List Waiter) (count : ℕ) → AreWaiting hs ws → AllBelow (length hs) (woken_harts address ws count)
-unfolding AllBelow
-below-woken hs address [] zero waiting = tt
-below-woken hs address [] (suc count) waiting = tt
-below-woken hs address (w ∷ ws) zero waiting = tt
-below-woken hs address (w ∷ ws) (suc count) waiting =
-    ⊎_elim
-    (λ (here : eqb w.address address ≡ true). rw here (made-waiting hs w.hart waiting.0, below-woken hs address ws count waiting.1))
-    (λ (elsewhere : eqb w.address address ≡ false). rw elsewhere (below-woken hs address ws (suc count) waiting.1))
-    (cases_Bool (eqb w.address address))
-
-below-each : (n : ℕ) (hs : List ℕ) → AllBelow n hs → (k : ℕ) → k < length hs → get_or hs k 0 < n
-unfolding AllBelow
-below-each n [] all k below = absurd (omega arith)
-below-each n (h ∷ hs) all zero below = all.0
-below-each n (h ∷ hs) all (suc k) below = below-each n hs all.1 k (omega arith)
-
--- each woken hart was made
-pub woken-made : (hs : List Hart) (address : ℕ) (ws : List Waiter) (count : ℕ) → AreWaiting hs ws → (k : ℕ) → k < length (woken_harts address ws count) → get_or (woken_harts address ws count) k 0 < length hs
-woken-made hs address ws count waiting = below-each (length hs) (woken_harts address ws count) (below-woken hs address ws count waiting)
-
-pub length-run_each : (woken : List ℕ) (hs : List Hart) → length (with_running_each woken hs) ≡ length hs
-length-run_each [] hs = refl
-length-run_each (h ∷ more) hs = length-run_each more (run h hs) ∙ length-set hs h (record (get_or hs h no_hart) { status = Running })
+pub end_added : (ws : List Waiter) (ps : List PipeWaiter) (w : PipeWaiter) → AllApart (waiting_harts ws ps) → is_among w.hart.0 (waiting_harts ws ps) ≡ false → IsAdded (waiting_harts ws ps) w.hart.0 (waiting_harts ws (ps ++ w ∷ []))
+end_added ws ps w apart none = added_last (λ (w : PipeWaiter). w.hart.0) (map (λ (w : Waiter). w.hart) ws) ps w apart none

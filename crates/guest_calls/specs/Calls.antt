@@ -1,6 +1,6 @@
 -- The system calls of a guest (Linux on riscv64): each by its number in a7, with its arguments
 -- in a0 to a5 and its answer in a0. The checks of each are in the order in which they are made.
-use Rattle.std.specs.Prelude.{ℕ, zero, suc, ◌+◌, ◌-◌, ◌*◌, ◌%◌, ◌^◌, Bool, not, ◌&&◌, ◌||◌, if◌then◌else◌, nat_le, nat_lt, ◌==◌, min, max, List, [], ◌∷◌, ◌++◌, length, take, drop, replicate, Some, None, ℤ, pos, negsuc, slice_index}
+use Rattle.std.specs.Prelude.{ℕ, zero, suc, ◌+◌, ◌-◌, ◌*◌, ◌%◌, ◌^◌, Bool, not, ◌&&◌, ◌||◌, if◌then◌else◌, nat_le, nat_lt, ◌==◌, min, max, List, [], ◌∷◌, ◌++◌, length, take, drop, replicate, Some, None, is_some, ℤ, pos, negsuc, slice_index}
 use Rattle.std.specs.Int.{w32, to_le_bytes}
 use Rattle.std.specs.Int.RustNames.{bit_and, bit_or}
 use Rattle.std.specs.List.{list_all}
@@ -12,9 +12,13 @@ use Rattle.machines.specs.declared.Fate.TheVariants.{Goes, Waits, Leaves, Sleeps
 use Rattle.machines.specs.Guest.{Retirement}
 use Rattle.rv_decode.specs.Fields.{twos_complement, signed_bits}
 use Rattle.guest_memory.specs.Memory.{MemoryMap, is_readable, is_writable, number_at, bytes_at}
-use Rattle.guest_areas.specs.Answers.{bad_file, try_again, no_memory, bad_address, invalid_argument, no_terminal, no_seek}
+use Rattle.guest_areas.specs.Answers.{bad_file, try_again, no_memory, bad_address, invalid_argument, too_many_files, no_terminal, no_seek, broken_pipe}
 use Rattle.guest_areas.specs.Space.{Space, Answered, has_power, with_break, map, unmap, protect}
 use Rattle.guest_futex.specs.Waiters.{with_waiter, woken_harts, waiters_left}
+use Rattle.guest_pipes.specs.declared.ends.PipeEnd.TheVariants.{Reading, Writing}
+use Rattle.guest_pipes.specs.declared.Ready.TheVariants.{Now, Closed, Wait}
+use Rattle.guest_pipes.specs.Pipes.{PipeMap, kind_at, can_make, made, made_numbers, readiness, held, woken_for, taken, put, waiting, closed}
+use Rattle.guest_pipes.specs.Pipes as pipes
 use Rattle.rv_execute.specs.declared.hart.HartState.{HartState}
 use Rattle.rv_execute.specs.Execution.{with_register}
 use Rattle.guest_calls.specs.declared.hart.Hart.{Hart}
@@ -79,6 +83,20 @@ is_input number = number == 0
 abbrev pub is_output : ℕ → Bool
 is_output number = number == 1 || number == 2
 
+-- the file number of an end of a pipe
+abbrev pub is_reading_end : ℕ → Guest → Bool
+is_reading_end number g = pipes.is_end_kind Reading (kind_at number g.pipes)
+
+abbrev pub is_writing_end : ℕ → Guest → Bool
+is_writing_end number g = pipes.is_end_kind Writing (kind_at number g.pipes)
+
+abbrev pub is_end : ℕ → Guest → Bool
+is_end number g = is_some (kind_at number g.pipes)
+
+-- a file number that is open
+abbrev pub is_file : ℕ → Guest → Bool
+is_file number g = is_stream number || is_end number g
+
 -- private and anonymous, or shared and anonymous, at no fixed address
 abbrev pub is_mapping : ℕ → Bool
 is_mapping flags =
@@ -123,6 +141,18 @@ with_woken address count g =
     with_running (woken_harts address g.waiters count)
     (record g { waiters = waiters_left address g.waiters count })
 
+-- O_CLOEXEC, or none
+abbrev pub is_pipe_flags : ℕ → Bool
+is_pipe_flags flags = flags == 0 || flags == 0x80000
+
+-- the numbers of a pipe's ends, 4 bytes each
+abbrev pub number_bytes : ℕ × ℕ → List ℕ
+number_bytes numbers = to_le_bytes w32 numbers.0 ++ to_le_bytes w32 numbers.1
+
+-- the pipes change, and those that waited for them run
+abbrev pub with_pipes : PipeMap → List ℕ → Guest → Guest
+with_pipes pipes woken g = with_running woken (record g { pipes = pipes })
+
 -- how many a wake takes at most
 abbrev pub wake_count : ℤ → ℕ
 wake_count (pos n) = max n 1
@@ -142,6 +172,10 @@ with_reply n h g = retirement (with_state h (with_result n (state_of g h)) g) Go
 
 abbrev pub with_answer : ℤ → ℕ → Guest → Retirement Guest
 with_answer z h g = with_reply (twos_complement 64 z) h g
+
+-- the same, and it starts these others
+abbrev pub with_answer_and : ℤ → ℕ → List ℕ → Guest → Retirement Guest
+with_answer_and z h others g = record (with_answer z h g) { others = others }
 
 -- the guest after a hart has left
 abbrev pub left_by : ℕ → Guest → Guest
@@ -182,26 +216,99 @@ module _ (g : Guest) (h : ℕ) where
   of_space a = with_answer a.answer h (record g { space = a.space })
 
   unfoldable pub ioctl : Retirement Guest
-  ioctl = if is_stream a0 then answer no_terminal else answer bad_file
+  ioctl = if is_file a0 g then answer no_terminal else answer bad_file
 
   unfoldable pub lseek : Retirement Guest
-  lseek = if is_stream a0 then answer no_seek else answer bad_file
+  lseek = if is_file a0 g then answer no_seek else answer bad_file
 
   -- the bytes that a read takes
   abbrev pub read_length : ℕ
   read_length = min a2 (length g.input)
 
+  unfoldable pub read_input : Retirement Guest
+  read_input =
+      if not (is_writable (memory_of g) a1 read_length) then answer bad_address
+      else with_answer (pos read_length) h (with_filled a1 read_length g)
+
+  -- the hart waits at the end that a0 is, at its ecall and with all registers as they were
+  abbrev pub waiting_for_pipe : Guest
+  waiting_for_pipe =
+      with_hart h (record (hart_at g h) { status = Waiting })
+      (record g { pipes = waiting a0 h g.pipes })
+
+  -- so many bytes are taken from the pipe, and all that wait for its room are woken
+  abbrev pub with_taken : ℕ → Guest
+  with_taken n =
+      with_pipes (taken a0 n g.pipes) (woken_for Writing a0 g.pipes)
+      (with_stored a1 (take n (held a0 g.pipes)) g)
+
+  unfoldable pub read_now : ℕ → Retirement Guest
+  read_now n =
+      if not (is_writable (memory_of g) a1 n) then answer bad_address
+      else with_answer_and (pos n) h (woken_for Writing a0 g.pipes) (with_taken n)
+
+  unfoldable pub read_pipe : Retirement Guest
+  read_pipe =
+      if a2 == 0 then answer (pos 0)
+      else elim (readiness a0 a2 g.pipes) [
+        | Now n ↦ read_now n
+        | Closed ↦ answer (pos 0)
+        | Wait ↦ retirement waiting_for_pipe Waits []
+      ]
+
   unfoldable pub read : Retirement Guest
   read =
-      if not (is_input a0) then answer bad_file
-      else if not (is_writable (memory_of g) a1 read_length) then answer bad_address
-      else with_answer (pos read_length) h (with_filled a1 read_length g)
+      if is_input a0 then read_input
+      else if is_reading_end a0 g then read_pipe
+      else answer bad_file
+
+  unfoldable pub write_output : Retirement Guest
+  write_output =
+      if not (is_readable (memory_of g) a1 a2) then answer bad_address
+      else with_answer (pos a2) h (with_written (bytes_at (memory_of g) a1 a2) g)
+
+  -- so many bytes are put into the pipe, and all that wait for its bytes are woken
+  abbrev pub with_put : ℕ → Guest
+  with_put n =
+      with_pipes (put a0 (bytes_at (memory_of g) a1 n) g.pipes) (woken_for Reading a0 g.pipes) g
+
+  unfoldable pub write_now : ℕ → Retirement Guest
+  write_now n = with_answer_and (pos n) h (woken_for Reading a0 g.pipes) (with_put n)
+
+  unfoldable pub write_pipe : Retirement Guest
+  write_pipe =
+      if a2 == 0 then answer (pos 0)
+      else elim (readiness a0 a2 g.pipes) [
+        | Now n ↦ if not (is_readable (memory_of g) a1 a2) then answer bad_address else write_now n
+        | Closed ↦ answer broken_pipe
+        | Wait ↦
+            if not (is_readable (memory_of g) a1 a2) then answer bad_address
+            else retirement waiting_for_pipe Waits []
+      ]
 
   unfoldable pub write : Retirement Guest
   write =
-      if not (is_output a0) then answer bad_file
-      else if not (is_readable (memory_of g) a1 a2) then answer bad_address
-      else with_answer (pos a2) h (with_written (bytes_at (memory_of g) a1 a2) g)
+      if is_output a0 then write_output
+      else if is_writing_end a0 g then write_pipe
+      else answer bad_file
+
+  -- those that wait for the bytes of the pipe, and then those that wait for its room
+  abbrev pub woken_at_close : List ℕ
+  woken_at_close = woken_for Reading a0 g.pipes ++ woken_for Writing a0 g.pipes
+
+  unfoldable pub close : Retirement Guest
+  close =
+      if is_stream a0 then unsupported
+      else if not (is_end a0 g) then answer bad_file
+      else with_answer_and (pos 0) h woken_at_close (with_pipes (closed a0 g.pipes) woken_at_close g)
+
+  unfoldable pub pipe2 : Retirement Guest
+  pipe2 =
+      if not (is_pipe_flags a1) then unsupported
+      else if not (is_writable (memory_of g) a0 8) then answer bad_address
+      else if not (can_make g.pipes) then answer too_many_files
+      else with_answer (pos 0) h
+      (with_stored a0 (number_bytes (made_numbers g.pipes)) (record g { pipes = made g.pipes }))
 
   -- no more pieces than these are named
   abbrev pub are_few : Bool
@@ -220,7 +327,8 @@ module _ (g : Guest) (h : ℕ) where
 
   unfoldable pub readv : Retirement Guest
   readv =
-      if not (is_input a0) then answer bad_file
+      if is_end a0 g then unsupported
+      else if not (is_input a0) then answer bad_file
       else if not are_few then answer invalid_argument
       else if not is_named then answer bad_address
       else read_pieces (pieces_at (memory_of g) a1 a2)
@@ -232,7 +340,8 @@ module _ (g : Guest) (h : ℕ) where
 
   unfoldable pub writev : Retirement Guest
   writev =
-      if not (is_output a0) then answer bad_file
+      if is_end a0 g then unsupported
+      else if not (is_output a0) then answer bad_file
       else if not are_few then answer invalid_argument
       else if not is_named then answer bad_address
       else write_pieces (pieces_at (memory_of g) a1 a2)
@@ -400,6 +509,8 @@ at_any_time call g h v = call g h
 abbrev pub calls : Map (Guest → ℕ → ℕ → Retirement Guest)
 calls =
     (29, at_any_time ioctl)
+    ∷ (57, at_any_time close)
+    ∷ (59, at_any_time pipe2)
     ∷ (62, at_any_time lseek)
     ∷ (63, at_any_time read)
     ∷ (64, at_any_time write)

@@ -7,6 +7,7 @@ use Rattle.guest_memory.specs.Memory.{MemoryMap, with_bytes}
 use Rattle.guest_areas.specs.Space.{Space, space}
 use Rattle.guest_areas.specs.Entry.{stack_pointer, first_space}
 use Rattle.guest_futex.specs.Waiters.{Waiter}
+use Rattle.guest_pipes.specs.Pipes.{PipeMap, no_pipes}
 use Rattle.rv_execute.specs.declared.hart.HartState.{HartState}
 use Rattle.rv_execute.specs.Reservations.{Reservations, without_touched}
 use Rattle.rv_execute.specs.Execution.{Setting, setting}
@@ -21,6 +22,7 @@ pub record Guest : Type 0 where
   pub reservations : Reservations
   -- the eldest first
   pub waiters : List Waiter
+  pub pipes : PipeMap
   -- the input that is left, and all of it
   pub input : List ℕ
   pub whole_input : List ℕ
@@ -154,6 +156,7 @@ first_guest image input output_limit layout = record {
   space = first_space image layout;
   reservations = [];
   waiters = [];
+  pipes = no_pipes;
   input = input;
   whole_input = input;
   output = [];

@@ -1,34 +1,38 @@
 -- What the fields of `Guest` stand for, and what holds of them.
 use Rattle.std.specs.Prelude.{ℕ, ◌≤◌, List, length}
 use Rattle.coz_types.specs.declared.TheConstants.{HARTS}
+use Rattle.machines.specs.Places.{AllApart}
 use Rattle.guest_memory.specs.Memory.{MemoryMap}
 use Rattle.guest_areas.specs.Space.{RegionMap, space, SharesRegions}
 use Rattle.guest_futex.specs.Waiters.{Waiter}
-use Rattle.guest_futex.specs.Apart.{AreApart}
+use Rattle.guest_pipes.specs.Pipes.{PipeMap}
+use Rattle.guest_pipes.specs.declared.waiters.PipeWaiter.{PipeWaiter}
 use Rattle.rv_execute.specs.Reservations.{Reservations}
 use Rattle.guest_calls.specs.declared.hart.Hart.{Hart}
 use Rattle.guest_calls.specs.Output.{Written}
 use Rattle.guest_calls.specs.Guest.{Guest}
-use Rattle.guest_calls.specs.Orderly.{AreWaiting}
+use Rattle.guest_calls.specs.Orderly.{waiting_harts, AreWaiting}
 
-abbrev pub guest_of : List Hart → RegionMap → MemoryMap → Reservations → List Waiter → List ℕ
-    → List ℕ → Written → Guest
-guest_of harts regions memory reservations waiters input whole_input written = record {
+abbrev pub guest_of : List Hart → RegionMap → MemoryMap → Reservations → List Waiter → PipeMap
+    → List ℕ → List ℕ → Written → Guest
+guest_of harts regions memory reservations waiters pipes input whole_input written = record {
   harts = harts;
   space = space regions memory;
   reservations = reservations;
   waiters = waiters;
+  pipes = pipes;
   input = input;
   whole_input = whole_input;
   output = written.bytes;
   output_limit = written.limit;
 }
 
-pub record IsKept (harts : List Hart) (capacity : ℕ) (waiters : List Waiter) (regions : RegionMap)
-    (memory : MemoryMap) : Type 0 where
+pub record IsKept (harts : List Hart) (capacity : ℕ) (waiters : List Waiter)
+    (pipe_waiters : List PipeWaiter) (regions : RegionMap) (memory : MemoryMap) : Type 0 where
   pub few : length harts ≤ HARTS
   -- no call takes memory
   pub room : HARTS ≤ capacity
-  pub waiting : AreWaiting harts waiters
-  pub apart : AreApart waiters
+  pub waiting : AreWaiting harts (waiting_harts waiters pipe_waiters)
+  -- no hart waits twice
+  pub apart : AllApart (waiting_harts waiters pipe_waiters)
   pub shared : SharesRegions regions memory

@@ -10,10 +10,10 @@ ghost use Rattle.guest_calls.specs.Retire.{next_of};
 
 use crate::linux::{
     A0, A7, EBADF, EFAULT, EINVAL, ENOMEM, ENOTTY, ESPIPE, MAP_ANONYMOUS, MAP_FIXED, MAP_PRIVATE,
-    MAP_SHARED, SYS_BRK, SYS_CLOCK_GETTIME, SYS_CLONE, SYS_EXIT, SYS_EXIT_GROUP, SYS_FUTEX,
-    SYS_GETPID, SYS_GETTID, SYS_IOCTL, SYS_LSEEK, SYS_MADVISE, SYS_MMAP, SYS_MPROTECT, SYS_MREMAP,
-    SYS_MUNMAP, SYS_NANOSLEEP, SYS_READ, SYS_READV, SYS_RT_SIGPROCMASK, SYS_SCHED_YIELD,
-    SYS_SET_TID_ADDRESS, SYS_WRITE, SYS_WRITEV,
+    MAP_SHARED, SYS_BRK, SYS_CLOCK_GETTIME, SYS_CLONE, SYS_CLOSE, SYS_EXIT, SYS_EXIT_GROUP,
+    SYS_FUTEX, SYS_GETPID, SYS_GETTID, SYS_IOCTL, SYS_LSEEK, SYS_MADVISE, SYS_MMAP, SYS_MPROTECT,
+    SYS_MREMAP, SYS_MUNMAP, SYS_NANOSLEEP, SYS_PIPE2, SYS_READ, SYS_READV, SYS_RT_SIGPROCMASK,
+    SYS_SCHED_YIELD, SYS_SET_TID_ADDRESS, SYS_WRITE, SYS_WRITEV,
 };
 use crate::pieces::{PIECES, Piece, are_readable, are_writable, pieces_at};
 use crate::{Fate, Guest};
@@ -21,8 +21,9 @@ use arrayvec::ArrayVec;
 use coz_types::{Address, Ending, HartId, Tick};
 use guest_futex::HartList;
 use guest_memory::Access;
+use guest_pipes::PipeEnd;
 
-fn is_stream(file: u64) -> bool
+pub(crate) fn is_stream(file: u64) -> bool
     ensures { result ≡ calls.is_stream file }
 {
     file < 3
@@ -74,9 +75,11 @@ impl<'a> Guest<'a> {
     {
         match self.number(hart) {
             SYS_IOCTL => self.ioctl(hart),
+            SYS_CLOSE => self.close(hart, started),
+            SYS_PIPE2 => self.pipe2(hart),
             SYS_LSEEK => self.lseek(hart),
-            SYS_READ => self.read(hart),
-            SYS_WRITE => self.write(hart),
+            SYS_READ => self.read(hart, started),
+            SYS_WRITE => self.write(hart, started),
             SYS_READV => self.readv(hart),
             SYS_WRITEV => self.writev(hart),
             SYS_EXIT => self.exit(hart, started),
@@ -160,13 +163,20 @@ impl<'a> Guest<'a> {
         Ok(())
     }
 
+    /// Whether a file number is open.
+    fn is_file(&self, file: u64) -> bool
+        ensures { result ≡ calls.is_file file self.now }
+    {
+        is_stream(file) || self.is_end(file)
+    }
+
     /// Linux: ioctl(2).
     #[tactic(auto, unfolding(crate::specs::Calls::ioctl))]
     fn ioctl(&mut self, hart: HartId) -> Fate
         requires { IsMade self.old hart.0 }
         ensures { retirement self.new result [] ≡ calls.ioctl self.old hart.0 }
     {
-        if is_stream(self.argument(hart, 0)) {
+        if self.is_file(self.argument(hart, 0)) {
             self.answer(hart, -ENOTTY)
         } else {
             self.answer(hart, -EBADF)
@@ -179,7 +189,7 @@ impl<'a> Guest<'a> {
         requires { IsMade self.old hart.0 }
         ensures { retirement self.new result [] ≡ calls.lseek self.old hart.0 }
     {
-        if is_stream(self.argument(hart, 0)) {
+        if self.is_file(self.argument(hart, 0)) {
             self.answer(hart, -ESPIPE)
         } else {
             self.answer(hart, -EBADF)
@@ -248,15 +258,28 @@ impl<'a> Guest<'a> {
 
     /// Linux: read(2).
     #[tactic(auto, unfolding(crate::specs::Calls::read))]
-    fn read(&mut self, hart: HartId) -> Fate
+    fn read(&mut self, hart: HartId, started: &mut HartList) -> Fate
+        requires running { IsTrue (is_running self.old hart.0) }
+        requires started { started.old ≡ [] }
+        ensures { retirement self.new result started.new ≡ calls.read self.old hart.0 }
+    {
+        let file = self.argument(hart, 0);
+        if is_input(file) {
+            return self.read_input(hart);
+        }
+        match self.pipes.end(file) {
+            Some(PipeEnd::Reading) => self.read_pipe(hart, started),
+            _ => self.answer(hart, -EBADF),
+        }
+    }
+
+    #[tactic(auto, unfolding(crate::specs::Calls::read_input))]
+    fn read_input(&mut self, hart: HartId) -> Fate
         requires { IsMade self.old hart.0 }
-        ensures { retirement self.new result [] ≡ calls.read self.old hart.0 }
+        ensures { retirement self.new result [] ≡ calls.read_input self.old hart.0 }
     {
         let address = self.argument(hart, 1);
         let count = self.argument(hart, 2).min(self.input.len() as u64);
-        if !is_input(self.argument(hart, 0)) {
-            return self.answer(hart, -EBADF);
-        }
         match self.fill(address, count) {
             Ok(()) => self.answer_count(hart, count),
             Err(_) => self.answer(hart, -EFAULT),
@@ -265,15 +288,28 @@ impl<'a> Guest<'a> {
 
     /// Linux: write(2).
     #[tactic(auto, unfolding(crate::specs::Calls::write))]
-    fn write(&mut self, hart: HartId) -> Fate
+    fn write(&mut self, hart: HartId, started: &mut HartList) -> Fate
+        requires running { IsTrue (is_running self.old hart.0) }
+        requires started { started.old ≡ [] }
+        ensures { retirement self.new result started.new ≡ calls.write self.old hart.0 }
+    {
+        let file = self.argument(hart, 0);
+        if is_output(file) {
+            return self.write_output(hart);
+        }
+        match self.pipes.end(file) {
+            Some(PipeEnd::Writing) => self.write_pipe(hart, started),
+            _ => self.answer(hart, -EBADF),
+        }
+    }
+
+    #[tactic(auto, unfolding(crate::specs::Calls::write_output))]
+    fn write_output(&mut self, hart: HartId) -> Fate
         requires { IsMade self.old hart.0 }
-        ensures { retirement self.new result [] ≡ calls.write self.old hart.0 }
+        ensures { retirement self.new result [] ≡ calls.write_output self.old hart.0 }
     {
         let address = self.argument(hart, 1);
         let count = self.argument(hart, 2);
-        if !is_output(self.argument(hart, 0)) {
-            return self.answer(hart, -EBADF);
-        }
         if !self.memory.readable(address, count) {
             return self.answer(hart, -EFAULT);
         }
@@ -309,7 +345,11 @@ impl<'a> Guest<'a> {
         requires { IsMade self.old hart.0 }
         ensures { retirement self.new result [] ≡ calls.readv self.old hart.0 }
     {
-        if !is_input(self.argument(hart, 0)) {
+        let file = self.argument(hart, 0);
+        if self.is_end(file) {
+            return self.unsupported(hart);
+        }
+        if !is_input(file) {
             return self.answer(hart, -EBADF);
         }
         match self.named_pieces(hart) {
@@ -364,7 +404,11 @@ impl<'a> Guest<'a> {
         requires { IsMade self.old hart.0 }
         ensures { retirement self.new result [] ≡ calls.writev self.old hart.0 }
     {
-        if !is_output(self.argument(hart, 0)) {
+        let file = self.argument(hart, 0);
+        if self.is_end(file) {
+            return self.unsupported(hart);
+        }
+        if !is_output(file) {
             return self.answer(hart, -EBADF);
         }
         match self.named_pieces(hart) {

@@ -2,10 +2,12 @@
 #![tactic(auto)]
 
 mod calls;
+mod carrier;
 mod hart;
 mod linux;
 mod output;
 mod pieces;
+mod pipes;
 mod threads;
 mod times;
 
@@ -19,6 +21,7 @@ ghost use Rattle.guest_calls.specs.Guest.{IsMade, is_running, is_sleeping, with_
 ghost use Rattle.guest_calls.specs.Calls.{retirement};
 ghost use Rattle.guest_calls.specs.Retire.{word_at, next_of, step_result, step, trap_of, retire};
 
+use crate::carrier::Carrier;
 use crate::hart::Hart;
 use crate::output::Output;
 use cost_table::word_cycles;
@@ -26,6 +29,7 @@ use coz_types::{Address, Ending, HARTS, HartId, Image, Tick, Trap, TrapCause};
 use guest_areas::Areas;
 use guest_futex::{HartList, Queue};
 use guest_memory::{Access, Layout, Memory};
+use guest_pipes::Pipes;
 pub use hart::HartStatus;
 pub use machines::Fate;
 use rv_decode::{Instr, decode};
@@ -41,6 +45,8 @@ pub struct Guest<'a> {
     areas: Areas,
     reservations: Reservations,
     queue: Queue,
+    pipes: Pipes,
+    carrier: Carrier,
     /// The input that is left.
     input: &'a [u8],
     whole_input: &'a [u8],
@@ -55,10 +61,11 @@ impl<'a> Model for Guest<'a> {
     ghost use Rattle.std.specs.Vec.{vec_capacity};
     ghost use Rattle.guest_calls.specs.Kept.{guest_of, IsKept};
 
-    ghost view = { λ g. guest_of g.harts.items g.areas g.memory g.reservations g.queue g.input.now
-        g.whole_input.now g.output };
+    ghost view = { λ g. guest_of g.harts.items g.areas g.memory g.reservations g.queue g.pipes
+        g.input.now g.whole_input.now g.output };
 
-    ghost invariant = { λ g. IsKept g.harts.items (vec_capacity g.harts) g.queue g.areas g.memory };
+    ghost invariant = { λ g. IsKept g.harts.items (vec_capacity g.harts) g.queue
+        g.pipes.waiters g.areas g.memory };
 }
 
 impl<'a> Guest<'a> {
@@ -78,6 +85,8 @@ impl<'a> Guest<'a> {
             guest ≡ first_guest image.now input.now output_limit layout) }
     {
         let queue = Queue::new(alloc)?;
+        let pipes = Pipes::new(alloc)?;
+        let carrier = Carrier::new(alloc)?;
         let mut harts = Vec::with_capacity(alloc, HARTS)?;
         let output = Output::new(alloc, output_limit as usize)?;
         // The memory has many parts: little that may fail comes after it.
@@ -92,6 +101,8 @@ impl<'a> Guest<'a> {
             areas,
             reservations: Reservations::new(),
             queue,
+            pipes,
+            carrier,
             input,
             whole_input: input,
             output,
@@ -183,7 +194,7 @@ impl<'a> Guest<'a> {
     }
 
     /// Makes this guest equal to another one that was made with the same image, layout, input
-    /// and output limit, and takes no memory.
+    /// and output limit.
     pub fn copy_from(&mut self, other: &Guest<'a>)
         requires { making self.old ≡ making other.now }
         ensures { self.new ≡ other.now }
@@ -196,6 +207,7 @@ impl<'a> Guest<'a> {
         self.areas.copy_from(&other.areas);
         self.reservations.copy_from(&other.reservations);
         self.queue.copy_from(&other.queue);
+        self.pipes.copy_from(&other.pipes);
         self.input = other.input;
         self.output.copy_from(&other.output);
     }

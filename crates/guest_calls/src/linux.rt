@@ -6,6 +6,10 @@
 
 /// ioctl(2): on a device.
 pub const SYS_IOCTL: u64 = 29;
+/// close(2).
+pub const SYS_CLOSE: u64 = 57;
+/// pipe2(2): makes a pipe.
+pub const SYS_PIPE2: u64 = 59;
 /// lseek(2): moves in a file.
 pub const SYS_LSEEK: u64 = 62;
 /// read(2).
@@ -94,6 +98,11 @@ pub const FUTEX_WAKE_PRIVATE: u64 = 129;
 /// The clock that no one sets.
 pub const CLOCK_MONOTONIC: u64 = 1;
 
+// A flag of pipe2(2).
+
+/// The ends are closed where another program is begun.
+pub const O_CLOEXEC: u64 = 0x80000;
+
 // The flags of mmap(2). The sort of a mapping stands in their low 2 bits.
 
 /// Writes are shared.
@@ -117,10 +126,14 @@ pub const ENOMEM: i64 = 12;
 pub const EFAULT: i64 = 14;
 /// An argument that is none.
 pub const EINVAL: i64 = 22;
+/// No more files can be open.
+pub const EMFILE: i64 = 24;
 /// The file is no such device.
 pub const ENOTTY: i64 = 25;
 /// The file has no place to move to.
 pub const ESPIPE: i64 = 29;
+/// No end reads what is written.
+pub const EPIPE: i64 = 32;
 
 // The registers of the calling convention.
 

@@ -55,7 +55,7 @@ fn wake_count(value: u64) -> u32
 }
 
 /// These harts, of those that were made, run.
-fn run_each(harts: &mut [Hart], woken: &[HartId])
+pub(crate) fn run_each(harts: &mut [Hart], woken: &[HartId])
     requires { EachIndex (map (λ hart. hart.0) woken.now) (λ k.
         slice_index (map (λ hart. hart.0) woken.now) k < length harts.old) }
     ensures { harts.new ≡ with_running_each (map (λ hart. hart.0) woken.now) harts.old }

@@ -18,7 +18,7 @@ struct Place {
 
 /// Up to `HARTS` harts that each wait for one address.
 ///
-/// Contracts see the list of the waiters, the eldest first. Beside its making no call takes memory.
+/// Contracts see the list of the waiters, the eldest first. `new` alone can be out of memory.
 #[derive(Drop)]
 pub struct Queue {
     // The eldest first.

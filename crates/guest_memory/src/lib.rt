@@ -285,7 +285,7 @@ impl<'a> Memory<'a> {
         }
     }
 
-    /// Makes this memory equal to another one of the same image and layout, and takes no memory.
+    /// Makes this memory equal to another one of the same image and layout.
     /// A page that neither has touched is as it was at first in both.
     pub fn copy_from(&mut self, other: &Memory<'a>)
         requires image { self.old.image ≡ other.now.image }

@@ -40,8 +40,8 @@ impl Model for Schedule {
 }
 
 impl Schedule {
-    /// An empty schedule of 1 to `HARTS` harts. Fails exactly where there is no memory
-    /// for their keys and the heap.
+    /// An empty schedule of 1 to `HARTS` harts. Err if there is no memory for their keys
+    /// and the heap.
     pub fn new(alloc: Global, harts: u32) -> Result<Schedule, AllocError>
         requires some { 1 ≤ harts }
         requires few { harts ≤ HARTS }

@@ -5,6 +5,7 @@ use Rattle.coz_types.specs.declared.ending.Ending.TheVariants.{Exited}
 use Rattle.coz_files.specs.Verdict.{Verdict}
 use Rattle.profile_book.specs.Profile.{profile_text}
 use Rattle.causal_curves.specs.Texts.{curve_text}
+use Rattle.path_texts.specs.PathText.{written_path}
 use Rattle.printed_texts.specs.declared.printed.Printed.{Printed}
 use Rattle.printed_texts.specs.declared.printed.Text.{Text}
 use Rattle.printed_texts.specs.declared.printed.Text.TheVariants as texts
@@ -25,6 +26,7 @@ abbrev pub text_bytes : Text → List ℕ
 text_bytes (texts.Bytes bytes) = bytes.items
 text_bytes (texts.Profile profile) = profile_text profile
 text_bytes (texts.Curves curves) = flat_map curve_text curves
+text_bytes (texts.Path path index) = written_path path index
 
 abbrev pub printed_verdict : Printed → Verdict
 printed_verdict printed = record {

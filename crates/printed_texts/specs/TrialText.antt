@@ -9,7 +9,7 @@ use Rattle.profile_book.specs.declared.profile.Profile.{Profile}
 use Rattle.profile_book.specs.Profile.{hex_text, profile_text}
 use Rattle.causal_curves.specs.Curves.{curves_of, ranked_curves}
 use Rattle.causal_curves.specs.declared.curve.Curve.{Curve}
-use Rattle.printed_texts.specs.Text.{number_line}
+use Rattle.path_texts.specs.PathText.{number_line}
 
 -- the length of some bytes, and their digest
 abbrev pub digest_line : Text → List ℕ → Text

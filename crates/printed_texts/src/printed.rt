@@ -7,6 +7,8 @@ use causal_curves::{Curve, write_curves};
 use coz_files::{PutAnswer, Sink};
 use coz_lists::Items;
 use coz_types::Ending;
+use line_index::LineIndex;
+use path_texts::{CriticalPath, write_path};
 use profile_book::{Profile, write_profile};
 
 /// A text that is to be written.
@@ -18,6 +20,8 @@ pub enum Text {
     Profile(Profile),
     /// The text of curves.
     Curves(Items<Curve>),
+    /// The text of a critical path, whose shares are of the lines of this index.
+    Path(CriticalPath, LineIndex),
 }
 
 /// A text that is to be written, and the status beside it.
@@ -37,6 +41,7 @@ pub fn put_text<O: Sink>(out: &mut O, text: &Text) -> PutAnswer
         Text::Bytes(bytes) => out.put(bytes),
         Text::Profile(profile) => write_profile(profile, out),
         Text::Curves(curves) => write_curves(curves.as_slice(), out),
+        Text::Path(path, index) => write_path(path, index, out),
     }
 }
 

@@ -49,7 +49,8 @@ fn put_trap<O: Sink>(to: &mut PutBuffer, out: &mut O, trap: Trap)
     put_address(to, out, trap.pc);
 }
 
-fn put_ending<O: Sink>(to: &mut PutBuffer, out: &mut O, ending: Ending)
+/// How a run ended.
+pub fn put_ending<O: Sink>(to: &mut PutBuffer, out: &mut O, ending: Ending)
     ensures { Gathers O.holds O.faults out.old out.new to.old to.new (ending_text ending) }
 {
     match ending {

@@ -17,3 +17,4 @@ pub mod BlocksAgain
 pub mod CutLines
 pub mod Only
 pub mod Falls
+mod Limits

@@ -13,5 +13,7 @@ mod words;
 pub use fault::Fault;
 pub use fault_lines::tell;
 pub use program::{Program, read_file, read_program};
-pub use selection::{bytes_of, line_named, points_of, progress_points, selected_lines};
+pub use selection::{
+    bytes_of, line_named, listed_lines, points_of, progress_points, selected_lines,
+};
 pub use words::request;

@@ -1,5 +1,5 @@
 //! The lines that a request names.
-ghost use Rattle.std.specs.Prelude.{◌≡◌, ◌<◌, ℕ, List, [], true, length, Option, option_map, All, IfOk, IfSome};
+ghost use Rattle.std.specs.Prelude.{◌≡◌, ◌<◌, ℕ, List, [], true, length, Option, option_map, All, IfOk, IfSome, IsSome};
 ghost use Rattle.std.specs.List.Sorted.{IsStrictlySortedBy};
 ghost use Rattle.std.specs.Option.{option_copied};
 ghost use Rattle.std.specs.Ordering.{nat_cmp};
@@ -29,7 +29,7 @@ pub fn bytes_of<'r>(word: &'r Option<Word>) -> Option<&'r [u8]>
     }
 }
 
-/// The line that a text names, if there is a text.
+/// The line that a text names, if there is a text. Err tells that the program has no such line.
 pub fn line_named<'r>(
     index: &LineIndex,
     line: Option<&'r [u8]>,
@@ -39,6 +39,7 @@ pub fn line_named<'r>(
     ensures settled { (next : Option ℕ → Verdict) →
         verdict_after result (λ line. next (option_map id_of line))
         ≡ named_verdict (line_named index.now.lines (option_copied line.entry)) next }
+    ensures some { IsSome line.entry → IfOk result (λ line. IsSome line) }
 {
     let Some(text) = line else {
         return Ok(None);
@@ -107,8 +108,9 @@ pub fn selected_lines<'r>(
     }
 }
 
-/// The lines of progress points: those of a list, or none where there is none.
-fn progress_lines<'r>(
+/// The lines that a list names, as they rise and each once, or none where there is no list.
+/// Err tells the first piece that names no line of the program, or that memory ran out.
+pub fn listed_lines<'r>(
     alloc: Global,
     index: &LineIndex,
     list: Option<&'r [u8]>,
@@ -158,6 +160,6 @@ pub fn progress_points<'r>(
     ensures below { IfOk result (λ points.
         All (λ line. line < length index.now.lines) points.lines) }
 {
-    let lines = progress_lines(alloc, index, list)?;
+    let lines = listed_lines(alloc, index, list)?;
     points_of(alloc, index, &lines)
 }

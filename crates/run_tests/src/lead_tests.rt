@@ -20,7 +20,7 @@ use virtual_run::{Choice, Lead, Machine};
 
 /// The programs that are run.
 #[derive(Clone, Copy, Debug)]
-enum Guest {
+pub(crate) enum Guest {
     /// Exits with the code 0.
     One,
     /// Two harts count and exit.
@@ -33,7 +33,7 @@ enum Guest {
     Write,
 }
 
-fn source_of(guest: Guest) -> &'static [u8] {
+pub(crate) fn source_of(guest: Guest) -> &'static [u8] {
     match guest {
         Guest::One => b"addi a0, x0, 0\naddi a7, x0, 93\necall\n",
         Guest::Two => {
@@ -91,7 +91,7 @@ static ROWS: [Row; 14] = [
 ];
 
 /// The file of a source.
-fn file_of(alloc: Global, source: &[u8]) -> Option<Vec<u8>> {
+pub(crate) fn file_of(alloc: Global, source: &[u8]) -> Option<Vec<u8>> {
     if source.len() > 4_194_304 {
         return None;
     }

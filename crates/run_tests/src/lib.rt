@@ -8,6 +8,10 @@ mod experiment_claims_tests;
 #[cfg(test)]
 mod hart_schedule_tests;
 #[cfg(test)]
+mod latency_points_tests;
+#[cfg(test)]
 mod lead_tests;
+#[cfg(test)]
+mod path_tests;
 #[cfg(test)]
 mod shortened_run_tests;

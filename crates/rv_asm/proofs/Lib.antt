@@ -9,3 +9,4 @@ mod States
 mod Made
 mod Faults
 mod Programs
+mod Numbers

@@ -27,6 +27,8 @@ struct Wanted {
     seed: u64,
     size: u32,
     dwarf: u8,
+    arrive: Option<&'static str>,
+    depart: Option<&'static str>,
 }
 
 const RUN: Wanted = Wanted {
@@ -43,6 +45,8 @@ const RUN: Wanted = Wanted {
     seed: 0,
     size: 0,
     dwarf: 0,
+    arrive: None,
+    depart: None,
 };
 
 const PROFILE: Wanted = Wanted {
@@ -71,7 +75,16 @@ const TRIAL: Wanted = Wanted {
     ..PLAIN
 };
 
-static TAKEN: [(&[&str], Wanted); 30] = [
+const LATENCY: Wanted = Wanted {
+    command: Command::Latency,
+    line: Some("one.s:1"),
+    workers: 0,
+    arrive: Some("one.s:1,one.s:2"),
+    depart: Some("one.s:3"),
+    ..PROFILE
+};
+
+static TAKEN: [(&[&str], Wanted); 32] = [
     (&["run", "one"], RUN),
     (&["run", "--", "one"], RUN),
     (&["run", "one", "--"], RUN),
@@ -246,6 +259,37 @@ static TAKEN: [(&[&str], Wanted); 30] = [
             ..TRIAL
         },
     ),
+    (
+        &[
+            "latency",
+            "one",
+            "--line=one.s:1",
+            "--arrive=one.s:1,one.s:2",
+            "--depart=one.s:3",
+        ],
+        LATENCY,
+    ),
+    (
+        &[
+            "latency",
+            "--depart",
+            "one.s:3",
+            "--speedups=50,5",
+            "--arrive",
+            "one.s:1,one.s:2",
+            "--input=data",
+            "--budget=9",
+            "--line",
+            "one.s:1",
+            "one",
+        ],
+        Wanted {
+            input: Some("data"),
+            speedups: &[50, 5],
+            budget: 9,
+            ..LATENCY
+        },
+    ),
 ];
 
 fn is_text(word: &Option<Word>, text: Option<&str>) -> bool {
@@ -270,6 +314,8 @@ fn is_wanted(request: &Request, wanted: &Wanted) -> bool {
         && request.seed == wanted.seed
         && request.size == wanted.size
         && request.dwarf == wanted.dwarf
+        && is_text(&request.arrive, wanted.arrive)
+        && is_text(&request.depart, wanted.depart)
 }
 
 /// Whether the words make the request that is wanted.
@@ -291,7 +337,7 @@ fn takes_words(rt: HostRuntime) -> Result<(), Fail> {
     Ok(())
 }
 
-static REFUSED: [&[&str]; 69] = [
+static REFUSED: [&[&str]; 81] = [
     &[],
     &[""],
     &["walk", "one"],
@@ -357,6 +403,65 @@ static REFUSED: [&[&str]; 69] = [
     &["trial", "x"],
     &["trial", "-1"],
     &["trial", "18446744073709551616"],
+    &["latency", "one", "--arrive=a:1", "--depart=a:1"],
+    &["latency", "one", "--line=a:1", "--depart=a:1"],
+    &["latency", "one", "--line=a:1", "--arrive=a:1"],
+    &[
+        "latency",
+        "one",
+        "--line=a:1,a:2",
+        "--arrive=a:1",
+        "--depart=a:1",
+    ],
+    &[
+        "latency",
+        "one",
+        "--line=a:0",
+        "--arrive=a:1",
+        "--depart=a:1",
+    ],
+    &[
+        "latency",
+        "one",
+        "--line=a:1",
+        "--arrive",
+        "",
+        "--depart=a:1",
+    ],
+    &[
+        "latency",
+        "one",
+        "--line=a:1",
+        "--arrive=a:1",
+        "--depart=a:1",
+        "--speedups=96",
+    ],
+    &[
+        "latency",
+        "one",
+        "--line=a:1",
+        "--arrive=a:1",
+        "--depart=a:1",
+        "--speedup=50",
+    ],
+    &[
+        "latency",
+        "one",
+        "--line=a:1",
+        "--arrive=a:1",
+        "--depart=a:1",
+        "--workers=2",
+    ],
+    &[
+        "latency",
+        "one",
+        "--line=a:1",
+        "--arrive=a:1",
+        "--depart=a:1",
+        "--progress=a:1",
+    ],
+    &["run", "one", "--arrive", "a:1"],
+    &["profile", "one", "--depart", "a:1"],
     &["trial", "1", "--size", "0"],
     &["trial", "1", "--size", "2001"],
     &["trial", "1", "--workers", "17"],

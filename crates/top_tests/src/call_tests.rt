@@ -17,6 +17,9 @@ static INPUT: [u8; 11] = *b"first hello";
 /// there. Behind the call the letter of its row, from `A` on, is kept, so that `kept` tells
 /// in which order the calls came back. A child goes on behind the clone, with the number
 /// that its parent's answer is to name.
+///
+/// `pipes` makes pipes until one isn't made or has other numbers than it is to have: those of the
+/// first are in a2, and grow by a4. It gives the last answer and 256 for each pipe.
 static DRIVER: &str = "\
 text:
 call:
@@ -36,6 +39,21 @@ stack:
     ret
 thread:
     mv a0, tp
+    ret
+pipes:
+    li t3, 0
+more:
+    mv a0, a3
+    ecall
+    bne a0, x0, none
+    ld t4, 0(a3)
+    bne t4, a2, none
+    add a2, a2, a4
+    addi t3, t3, 1
+    j more
+none:
+    slli t3, t3, 8
+    add a0, a0, t3
     ret
 _start:
     la s1, next
@@ -262,11 +280,82 @@ const AGES: &str = "
 .dword 0, call, 94, 0, 0, 0, 0, 0, 0
 ";
 
-/// A word is stored that was reserved before, and nothing is as it was then: a hart waits, half of
-/// the input is read, three bytes are written, the break has moved, and pages are mapped.
+/// The calls of pipes. A hart that waits has its letter behind what wakes it.
+const PIPES: &str = "
+# pipe2: its 8 bytes, which end a reservation. No number is gone where it is refused
+.dword 0, call, 59, text, 0, 0, 0, 0, -14
+.dword 0, call, 59, 0x3FFFFFFFFC, 0, 0, 0, 0, -14
+.dword 0, reserve, 0, 0, 0x3FFFFF0004, 0, 0, 0, 0
+.dword 0, call, 59, 0x3FFFFF0000, 0x80000, 0, 0, 0, 0
+.dword 0, store, 0, 0, 0x3FFFFF0004, 9, 0, 0, 1
+.dword 0, load, 0, 0, 0x3FFFFF0000, 0, 0, 0, 0x400000003
+# ioctl and lseek of an end, the other end, and numbers of 64 bits
+.dword 0, call, 29, 3, 0, 0, 0, 0, -25
+.dword 0, call, 62, 4, 0, 0, 0, 0, -29
+.dword 0, call, 63, 4, 0x3FFFFF0100, 1, 0, 0, -9
+.dword 0, call, 64, 3, 0x3FFFFF0100, 1, 0, 0, -9
+.dword 0, call, 63, 0x100000003, 0x3FFFFF0100, 1, 0, 0, -9
+.dword 0, call, 57, 0x100000003, 0, 0, 0, 0, -9
+# M to U: no bytes, rights, and bytes in their order; a read that is refused takes none,
+# and one that isn't ends a reservation
+.dword 0, call, 63, 3, 0, 0, 0, 0, 0
+.dword 0, call, 64, 4, 0, 1, 0, 0, -14
+.dword 0, call, 64, 4, kept, 4, 0, 0, 4
+.dword 0, call, 63, 3, text, 2, 0, 0, -14
+.dword 0, reserve, 0, 0, 0x3FFFFF0100, 0, 0, 0, 0
+.dword 0, call, 63, 3, 0x3FFFFF0100, 3, 0, 0, 3
+.dword 0, store, 0, 0, 0x3FFFFF0100, 9, 0, 0, 1
+.dword 0, call, 63, 3, 0x3FFFFF0103, -1, 0, 0, 1
+.dword 0, load, 0, 0, 0x3FFFFF0100, 0, 0, 0, 0x44434241
+# V to [: of 70,000 bytes 65,536 fit; Z waits for room, and [ makes it for 4,096
+.dword 0, call, 220, 0x10F00, 0, 0, 0, 0, 2
+.dword 0, call, 64, 4, 0x3FFFFE0000, 70000, 0, 0, 65536
+.dword 0, call, 64, 4, 0, 0, 0, 0, 0
+.dword 0, call, 64, 4, 0, 1, 0, 0, -14
+.dword 1, call, 64, 4, kept, 1, 0, 0, 1
+.dword 0, call, 63, 3, 0x3FFFFE0000, 4096, 0, 0, 4096
+# \\ to _: with room for 4,095 bytes \\ waits, and ] doesn't
+.dword 1, call, 64, 4, 0x3FFFFE0000, 4096, 0, 0, 4096
+.dword 0, call, 64, 4, 0x3FFFFE0000, 4095, 0, 0, 4095
+.dword 0, call, 63, 3, 0x3FFFFE0000, -1, 0, 0, 65536
+.dword 0, call, 63, 3, 0x3FFFFE0000, 100000, 0, 0, 4096
+# ` waits for bytes, and a closes the end that writes
+.dword 1, call, 63, 3, 0x3FFFFE0000, -1, 0, 0, 0
+.dword 0, call, 57, 4, 0, 0, 0, 0, 0
+.dword 0, call, 63, 3, 0x3FFFFE0000, -1, 0, 0, 0
+.dword 0, call, 57, 4, 0, 0, 0, 0, -9
+.dword 0, call, 57, 3, 0, 0, 0, 0, 0
+.dword 0, call, 57, 3, 0, 0, 0, 0, -9
+# no end reads
+.dword 0, call, 59, 0x3FFFFF0000, 0, 0, 0, 0, 0
+.dword 0, call, 57, 3, 0, 0, 0, 0, 0
+.dword 0, call, 64, 4, 0, 0, 0, 0, 0
+.dword 0, call, 64, 4, 0, 1, 0, 0, -32
+.dword 0, call, 57, 4, 0, 0, 0, 0, 0
+# 64 pipes, and no more while an end of each is open
+.dword 0, pipes, 59, 0, 0, 0x400000003, 0x3FFFFF0000, 0x200000002, 16360
+.dword 0, call, 57, 10, 0, 0, 0, 0, 0
+.dword 0, call, 57, 11, 0, 0, 0, 0, 0
+.dword 0, call, 59, 0x3FFFFF0000, 0, 0, 0, 0, -24
+.dword 0, call, 57, 9, 0, 0, 0, 0, 0
+.dword 0, call, 59, 0x3FFFFF0000, 0, 0, 0, 0, 0
+.dword 0, load, 0, 0, 0x3FFFFF0000, 0, 0, 0, 0xA00000009
+.dword 0, call, 64, 1, kept, 49, 0, 0, 49
+.dword 0, call, 94, 0, 0, 0, 0, 0, 0
+";
+
+/// A word is stored that was reserved before, and nothing is as it was then: two harts wait, one of
+/// them at an empty pipe, half of the input and half of another pipe are read, three bytes are
+/// written, the break has moved, and pages are mapped.
 const HALVES: &str = "
 .dword 0, call, 220, 0x10F00, 0, 0, 0, 0, 2
 .dword 1, call, 98, 0x3FFFFF0000, 0, 0, 0, 0, 0
+.dword 0, call, 220, 0x10F00, 0, 0, 0, 0, 3
+.dword 0, call, 59, 0x3FFFFF0050, 0, 0, 0, 0, 0
+.dword 0, call, 59, 0x3FFFFF0050, 0, 0, 0, 0, 0
+.dword 2, call, 63, 5, 0x3FFFFF0300, 9, 0, 0, 2
+.dword 0, call, 64, 4, kept, 4, 0, 0, 4
+.dword 0, call, 63, 3, 0x3FFFFF0310, 2, 0, 0, 2
 .dword 0, call, 63, 0, 0x3FFFFF0100, 6, 0, 0, 6
 .dword 0, call, 64, 1, 0x3FFFFF0100, 3, 0, 0, 3
 .dword 0, call, 214, 0x2000001388, 0, 0, 0, 0, 0x2000001388
@@ -274,6 +363,10 @@ const HALVES: &str = "
 .dword 0, reserve, 0, 0, 0x3FFFFF0040, 0, 0, 0, 0
 .dword 0, store, 0, 0, 0x3FFFFF0040, 7, 0, 0, 0
 .dword 0, load, 0, 0, 0x3FFFFF0040, 0, 0, 0, 7
+.dword 0, call, 63, 3, 0x3FFFFF0310, 9, 0, 0, 2
+.dword 0, call, 64, 6, 0x3FFFFF0310, 2, 0, 0, 2
+.dword 2, load, 0, 0, 0x3FFFFF0300, 0, 0, 0, 0x4544
+.dword 0, call, 57, 3, 0, 0, 0, 0, 0
 .dword 0, call, 63, 0, 0x3FFFFF0200, 100, 0, 0, 5
 .dword 0, call, 64, 1, 0x3FFFFF0200, 1, 0, 0, 1
 .dword 0, call, 214, 0, 0, 0, 0, 0, 0x2000001388
@@ -282,18 +375,22 @@ const HALVES: &str = "
 .dword 0, call, 215, 0x2100000000, 4096, 0, 0, 0, 0
 .dword 0, call, 98, 0x3FFFFF0000, 1, 1, 0, 0, 1
 .dword 1, call, 178, 0, 0, 0, 0, 0, 2
-.dword 1, call, 220, 0x10F00, 0, 0, 0, 0, 3
-.dword 2, call, 178, 0, 0, 0, 0, 0, 3
-.dword 2, call, 94, 0, 0, 0, 0, 0, 0
+.dword 1, call, 220, 0x10F00, 0, 0, 0, 0, 4
+.dword 3, call, 178, 0, 0, 0, 0, 0, 4
+.dword 3, call, 94, 0, 0, 0, 0, 0, 0
 ";
 
 /// Rows for the driver, all of which answer as they say, and the output with its length.
-static ANSWERS: [(&str, &str); 6] = [
+static ANSWERS: [(&str, &str); 7] = [
     (STREAMS, "14\nllollolsfirst \n"),
     (OWN, "0\n\n"),
     (TIMES, "0\n\n"),
     (THREADS, "27\nABCDEFGHIJKOPQLMSRTUNXYV\\Z]\n"),
     (AGES, "11\nABCDIFEJGKH\n"),
+    (
+        PIPES,
+        "49\nABCDEFGHIJKLMNOPQRSTUVWXY[Z]^\\_a`bcdefghijklmnopq\n",
+    ),
     (HALVES, "4\nfirh\n"),
 ];
 
@@ -359,7 +456,7 @@ fn copied_guests_answer_as_the_first(rt: HostRuntime) -> Result<(), Fail> {
 }
 
 /// Rows whose calls end the run: what is not supported, and exits.
-static ENDS: [(&str, &str); 17] = [
+static ENDS: [(&str, &str); 22] = [
     // futex: another operation, and a wait with a timeout
     (".dword 0, call, 98, text, 2", "end unsupported:98"),
     (
@@ -386,6 +483,18 @@ static ENDS: [(&str, &str); 17] = [
     (
         ".dword 0, call, 113, 0x100000000, kept",
         "end unsupported:113",
+    ),
+    // close of a stream, a pipe that doesn't wait, and ranges of an end
+    (".dword 0, call, 57, 0", "end unsupported:57"),
+    (".dword 0, call, 57, 2", "end unsupported:57"),
+    (".dword 0, call, 59, kept, 0x800", "end unsupported:59"),
+    (
+        ".dword 0, call, 59, 0x3FFFFF0000, 0, 0, 0, 0, 0\n.dword 0, call, 65, 3",
+        "end unsupported:65",
+    ),
+    (
+        ".dword 0, call, 59, 0x3FFFFF0000, 0, 0, 0, 0, 0\n.dword 0, call, 66, 4",
+        "end unsupported:66",
     ),
     // no call
     (".dword 0, call, 1000", "end unsupported:1000"),

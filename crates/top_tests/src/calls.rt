@@ -93,3 +93,17 @@ pub(crate) fn copies(alloc: Global, programs: &[HeldFile]) -> Result<MemoryFiles
     }
     Ok(MemoryFiles::new(files, Vec::new(alloc)))
 }
+
+/// What a command says of a program with these options.
+pub(crate) fn asked<R: Threads + Sync + AllocGlobal>(
+    rt: &R,
+    command: &str,
+    options: &[&str],
+    programs: &[HeldFile],
+) -> Result<Served, AllocError> {
+    let alloc = rt.alloc();
+    let mut words = Vec::new(alloc);
+    words.push(command)?;
+    words.extend_from_slice(options)?;
+    call(rt, &words, copies(alloc, programs)?)
+}

@@ -328,6 +328,15 @@ fn reads_that_fail_are_told(rt: HostRuntime) -> Result<(), Fail> {
             read_fails: &[1],
             ..plain_case(&TWO_READS, 5, b"", b"coz: read: data\n")
         },
+        // Each file is read once.
+        Case {
+            read_fails: &[1],
+            ..plain_case(&["run", "one"], 0, ONE, b"")
+        },
+        Case {
+            read_fails: &[2],
+            ..plain_case(&["run", "one", "--input", "data"], 0, ONE, b"")
+        },
     ];
     all_come_out(&rt, &cases)
 }

@@ -8,6 +8,12 @@ mod calls;
 #[cfg(test)]
 mod coz_cli_tests;
 #[cfg(test)]
+mod latency_tests;
+#[cfg(test)]
+mod path_tests;
+#[cfg(test)]
+mod pipe_tests;
+#[cfg(test)]
 mod profile_tests;
 #[cfg(test)]
 mod program_tests;

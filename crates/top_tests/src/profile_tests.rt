@@ -1,6 +1,6 @@
 //! Profiles of a small program: what is put of them, read and plotted.
-use crate::calls::{ONE_SOURCE, Outside, Served, call, call_over, one_file};
-use coz_files::FreeGate;
+use crate::calls::{ONE_SOURCE, Outside, Served, call, call_over, held, one_file};
+use coz_files::{FreeGate, MemoryFiles};
 use std::alloc::{AllocError, Global};
 use std::test::Fail;
 use std::thread::Threads;
@@ -94,7 +94,10 @@ fn profiles_are_plotted(rt: HostRuntime) -> Result<(), Fail> {
         "--progress=one.s:3",
     ];
     let text = profiled(&rt, &options)?;
-    let served = call(&rt, &["plot", "p"], one_file(rt.alloc(), "p", &text)?)?;
+    // A second read of the file would fail.
+    let held_files = vec![in rt.alloc(); held(rt.alloc(), "p", text)?]?;
+    let files = MemoryFiles::new(held_files, vec![in rt.alloc(); 1u64]?);
+    let served = call(&rt, &["plot", "p"], files)?;
     assert_eq!(rt;
         (served.status, served.out.as_slice(), served.err.len()),
         (0, CURVES, 0)

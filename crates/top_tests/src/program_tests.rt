@@ -53,29 +53,38 @@ fn what_is_assembled_runs(rt: HostRuntime) -> Result<(), Fail> {
     Ok(())
 }
 
-/// It writes 1,000 bytes again and again. There is room for 304 of the last.
-const FILL: &[u8] =
-    b"again: li a0, 1\nla a1, text\nli a2, 1000\nli a7, 64\necall\nj again\n.data\ntext: .zero 1000\n";
-
-const FULL: &[u8] =
-    b"end output-full\ntime 19716300\ndelay 0\nnet 19716300\nretired 29364\nstarts 0\nhart 0 own 0 paused 0 credited 0\noutput 4194304\n";
+/// Programs that write 1,024 bytes again and again, which fill the output, and 1,000, of which
+/// 304 of the last have room; and how the records of their runs begin.
+static FILLS: [(&[u8], &[u8]); 2] = [
+    (
+        b"again: li a0, 1\nla a1, text\nli a2, 1024\nli a7, 64\necall\nj again\n.data\ntext: .zero 1024\n",
+        b"end output-full\ntime 19251000\ndelay 0\nnet 19251000\nretired 28671\nstarts 0\nhart 0 own 0 paused 0 credited 0\noutput 4194304\n",
+    ),
+    (
+        b"again: li a0, 1\nla a1, text\nli a2, 1000\nli a7, 64\necall\nj again\n.data\ntext: .zero 1000\n",
+        b"end output-full\ntime 19716300\ndelay 0\nnet 19716300\nretired 29364\nstarts 0\nhart 0 own 0 paused 0 credited 0\noutput 4194304\n",
+    ),
+];
 
 #[test]
 fn a_run_ends_as_its_output_is_full(rt: HostRuntime) -> Result<(), Fail> {
     let alloc = rt.alloc();
-    let made = call(&rt, &["asm", "fill.s"], one_file(alloc, "fill.s", FILL)?)?;
-    let files = one_file(alloc, "fill", &made.out)?;
-    let outside = Outside {
-        files,
-        room: 5000000,
-    };
-    let run = call_over(&rt, &["run", "fill"], outside, &FreeGate)?;
-    assert_eq!(rt;
-        (run.status, run.out.len(), run.out.get(..FULL.len())),
-        (1, 4194427, Some(FULL))
-    );
+    for (source, head) in &FILLS {
+        let made = call(&rt, &["asm", "fill.s"], one_file(alloc, "fill.s", *source)?)?;
+        let files = one_file(alloc, "fill", &made.out)?;
+        let outside = Outside {
+            files,
+            room: 5000000,
+        };
+        let run = call_over(&rt, &["run", "fill"], outside, &FreeGate)?;
+        assert_eq!(rt;
+            (run.status, run.out.len(), run.out.get(..head.len())),
+            (1, 4194427, Some(*head))
+        );
+    }
     Ok(())
 }
+
 /// Programs of one hart and of two, one that traps, and four whose harts wait: for nobody,
 /// for an exit, for a wake, and each for the other.
 static LINED: [(&str, &[u8]); 7] = [

@@ -1,9 +1,6 @@
 //! Programs whose harts sleep and read the clock: the net times of `run` are the times of `really`.
-use crate::calls::{Served, assembled, call, copies};
-use coz_files::HeldFile;
-use std::alloc::AllocError;
+use crate::calls::{asked, assembled};
 use std::test::Fail;
-use std::thread::Threads;
 
 /// Programs of one hart that sleeps, that asks for a moment which is too late,
 /// and that reads the clock; and of two: one sleeps beside another that works; for no time
@@ -137,20 +134,6 @@ static SLEEPS: [(&[&str], u8, &[u8], &[u8]); 11] = [
         b"end exited:0\nnet 12950\nretired 18\nstarts 1\noutput 0\n\n",
     ),
 ];
-
-/// What a command says of a program with these options.
-fn asked<R: Threads + Sync + AllocGlobal>(
-    rt: &R,
-    command: &str,
-    options: &[&str],
-    programs: &[HeldFile],
-) -> Result<Served, AllocError> {
-    let alloc = rt.alloc();
-    let mut words = Vec::new(alloc);
-    words.push(command)?;
-    words.extend_from_slice(options)?;
-    call(rt, &words, copies(alloc, programs)?)
-}
 
 #[test]
 fn sleepers_come_out_alike(rt: HostRuntime) -> Result<(), Fail> {

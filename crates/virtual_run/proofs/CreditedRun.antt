@@ -18,7 +18,7 @@ use Rattle.machines.specs.declared.Fate.{Fate}
 use Rattle.machines.specs.declared.Fate.TheVariants.{Goes, Waits, Leaves, Sleeps, Ends}
 use Rattle.machines.specs.Places.{is_among}
 use Rattle.machines.specs.Guest.{Experiment, Retirement, IsLawful, enough, goes_on, own_ending, ending_if, first_ending, started_harts, is_timed}
-use Rattle.machines.specs.Delayed.{Account, Load, Hart, Delayed, Visit, idle_hart, is_running, run as run_from, begin, unbegun, events, after, delayed}
+use Rattle.machines.specs.Delayed.{Account, Load, Hart, Delayed, Visit, total, idle_hart, is_running, run as run_from, begin, unbegun, events, after, delayed}
 use Rattle.machines.specs.Shortened.{Shortened, Turn, shortened}
 use Rattle.machines.specs.Shortened as short
 use Rattle.machines.specs.Agreement.{LoadAgrees, Agrees}
@@ -26,6 +26,7 @@ use Rattle.machines.specs.Steps.{Steps, Passes}
 use Rattle.machines.specs.Standing.{standing, delayed_record}
 use Rattle.machines.specs.Lead.{before}
 use Rattle.machines.specs.Records.{net, record_of, IsDelayed, IsShortened, shortened_record}
+use Rattle.machines.proofs.Timed.{loads_timed, dues_timed}
 use Rattle.machines.proofs.Runs.{both}
 use Rattle.machines.proofs.LeadForks.{ended_begins, goes_begins, wakes_begins}
 use Rattle.machines.proofs.Headline.{unique}
@@ -567,6 +568,12 @@ same_outcome : (e : Ending) (m m' g g' r r' s s' : ℕ) → m ≡ m' → g ≡ g
     → ◌≡◌ {A = Outcome} (record { ending = e; time = m; delay = g; retired = r; starts = s }) (record { ending = e; time = m'; delay = g'; retired = r'; starts = s' })
 same_outcome e m m' g g' r r' s s' is_m is_g is_r is_s = cc
 
+total_within : (now delay : ℕ) (a : Account) (o : Option Load) (due : Option ℕ) → LoadAgrees now delay a o due → total a ≤ delay
+total_within now delay a (Some l) (Some due) e = omega (arith, e.0)
+total_within now delay a None None e = e
+total_within now delay a None (Some due) e = elim e [ ]
+total_within now delay a (Some l) None e = elim e [ ]
+
 -- what the methods that change nothing give
 module _ (image : ImageParts) (input : List ℕ) (setting : Setting) (engine : Engine) (credits : Delays) (now : ℕ) (p : IsPaced image input setting engine credits now) where
   abbrev seen : Delayed Guest
@@ -591,6 +598,14 @@ module _ (image : ImageParts) (input : List ℕ) (setting : Setting) (engine : E
       let there : h < length seen.harts = rw (harts_now image input setting engine credits now p) made in
       ap Some (is ∙ ap (λ (c : Delays). (hart_at c h).account) (at_latest credits now latest_now) ∙ ap (λ (o : Hart). o.account) (p.holds.harts h) ∙ account_held hart)
       ∙ sym (ap (λ (o : Option Hart). option_map (λ (h : Hart). h.account) o) (place_some seen.harts h there))
+
+  -- an account is at most the global delay
+  pub account_within : (h : ℕ) (given : GivenAccount) → account_as given ≡ (hart_at (at now credits) h).account → given.own + given.paused + given.credited ≤ seen.delay
+  account_within h given is =
+      let hart : Hart = get_or seen.harts h idle_hart in
+      let same : account_as given ≡ hart.account = is ∙ ap (λ (c : Delays). (hart_at c h).account) (at_latest credits now latest_now) ∙ ap (λ (o : Hart). o.account) (p.holds.harts h) ∙ account_held hart in
+      subst (λ (a : Account). total a ≤ seen.delay) (sym same)
+      (total_within seen.now seen.delay hart.account hart.load (get_or (shortened (experiment_with image input setting) (events_of engine)).dues h None) ((agree image input setting engine credits now p).harts h))
 
   pub account_none : (h : ℕ) → length engine.guest.harts ≤ h → ◌≡◌ {A = Option Account} None (account_in seen h)
   account_none h past =
@@ -693,6 +708,17 @@ module _ (image : ImageParts) (input : List ℕ) (setting : Setting) (engine : E
   due_seen v h view =
       subst (λ (v : Seen (Delayed Guest)). key_of engine.schedule h ≡ key_of (shortened (experiment_of v) (events v.state)).dues h) view
       (p.reached.reached.dues h ∙ ap (λ (n : ℕ). key_of (shortened paced_x n).dues h) (sym (events_now image input setting engine credits now p)))
+
+  -- of a run that goes on, a hart has a key exactly where it runs or sleeps
+  pub timed_seen : (v : Seen (Delayed Guest)) (h : ℕ) → seen_of image input setting engine ≡ v → v.state.ending ≡ None → is_some (key_of engine.schedule h) ≡ is_timed (experiment_of v).guest v.state.guest h
+  timed_seen v h view =
+      subst (λ (v : Seen (Delayed Guest)). v.state.ending ≡ None → is_some (key_of engine.schedule h) ≡ is_timed (experiment_of v).guest v.state.guest h) view
+      (λ none.
+      let beside : Agrees (standing paced_x (events_of engine)) (shortened paced_x (events_of engine)) = agree image input setting engine credits now p in
+      let goes : (shortened paced_x (events_of engine)).ending ≡ None = sym beside.ending ∙ none in
+      ap is_some (p.reached.reached.dues h)
+      ∙ sym (dues_timed paced_x IsOrderly (lawful_with image input setting p.valid) (events_of engine) goes h)
+      ∙ ap (λ (g : Guest). is_timed paced_x.guest g h) (sym beside.guest))
 
   pub none_seen : (v : Seen (Delayed Guest)) → seen_of image input setting engine ≡ v → engine.ending ≡ None → v.state.ending ≡ None
   none_seen v view none = sym (ap (λ (v : Seen (Delayed Guest)). v.state.ending) view) ∙ ending_now image input setting engine credits now p ∙ none
@@ -904,7 +930,10 @@ module _ (old now : Seen (Delayed Guest)) (g : IsGoing old now) where
   delayed_now = delayed_is run_x IsOrderly (lawful_of old g.at.valid) g.at.valid.some_budget
 
   pub moves_now : AgreesThroughout run_x
-  moves_now moves = (both run_x IsOrderly (lawful_of old g.at.valid) moves).agrees
+  moves_now = record {
+    agrees = λ moves. (both run_x IsOrderly (lawful_of old g.at.valid) moves).agrees;
+    timed = loads_timed run_x IsOrderly (lawful_of old g.at.valid);
+  }
 
   pub once_now : EndsOnce run_x
   once_now = (delayed_record run_x, delayed_now, λ other is. unique run_x IsOrderly (lawful_of old g.at.valid) other (delayed_record run_x) is delayed_now)

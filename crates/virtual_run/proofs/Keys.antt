@@ -123,3 +123,13 @@ same_runs keys dues are =
 pub runs_least : (keys : Keys) (found : Option HartId) → MatchOption found (IsEmpty keys) (λ hart. IsLeast keys hart.0) → is_some found ≡ runs_any keys
 runs_least keys None empty = sym (runs_none keys empty)
 runs_least keys (Some hart) first = sym (runs_some keys hart.0 first.key first.has)
+
+same_least : (h k m n : ℕ) → (m < n) ⊎ ((m ≡ n) × (h ≤ k)) → (n < m) ⊎ ((n ≡ m) × (k ≤ h)) → h ≡ k
+same_least h k m n (inl less) (inl more) = absurd (omega arith)
+same_least h k m n (inl less) (inr same) = absurd (omega arith)
+same_least h k m n (inr same) (inl more) = absurd (omega arith)
+same_least h k m n (inr one) (inr other) = omega arith
+
+-- one hart alone is due first
+pub least_one : (keys : Keys) (h k : ℕ) → IsLeast keys h → IsLeast keys k → h ≡ k
+least_one keys h k one other = same_least h k one.key other.key (one.least k other.key other.has) (other.least h one.key one.has)

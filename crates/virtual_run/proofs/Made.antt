@@ -1,7 +1,6 @@
 -- The harts that a retirement of the guest makes or wakes are among those that were made by then, and each hart that it makes is one of them.
 use Rattle.std.proofs.Common.{◌≡◌, ℕ, zero, suc, ◌+◌, ◌%◌, ◌^◌, ◌<◌, ◌==◌, max, nat_le, nat_lt, Bool, true, false, not, ◌||◌, if◌then◌else◌, List, [], ◌∷◌, length, get_or, set, eqb, pos, ℤ, Option, Some, None, refl, sym, ap, ◌∙◌, subst, arith, replicate, length-append, ⊎_elim}
 use Rattle.std.specs.Int.{w32, to_le_bytes}
-use Rattle.std.proofs.lemmas.Bool.{cases_Bool}
 use Rattle.std.proofs.lemmas.List.{length-set}
 use Rattle.coz_types.specs.declared.TheConstants.{HARTS}
 use Rattle.coz_types.specs.declared.ending.Ending.TheVariants.{Clock}
@@ -10,9 +9,9 @@ use Rattle.machines.specs.declared.Fate.TheVariants.{Sleeps, Ends}
 use Rattle.machines.specs.Guest.{Retirement}
 use Rattle.guest_memory.specs.declared.Layout.{Layout}
 use Rattle.guest_memory.specs.Memory.{is_readable, is_writable, bytes_at, number_at}
-use Rattle.guest_areas.specs.Answers.{bad_file, no_memory, bad_address, invalid_argument, no_terminal, no_seek, try_again}
+use Rattle.guest_areas.specs.Answers.{bad_file, no_memory, bad_address, invalid_argument, no_terminal, no_seek, try_again, too_many_files, broken_pipe}
 use Rattle.guest_areas.specs.Space.{Space, Answered, with_break, map, unmap, protect, has_power}
-use Rattle.guest_futex.specs.Waiters.{Waiter, woken_harts}
+use Rattle.guest_futex.specs.Waiters.{woken_harts}
 use Rattle.rv_execute.specs.declared.hart.Step.{Step}
 use Rattle.rv_execute.specs.declared.hart.Step.TheVariants.{Next, Call, Fault}
 use Rattle.guest_calls.specs.declared.hart.Hart.{Hart}
@@ -22,13 +21,19 @@ use Rattle.guest_calls.specs.declared.times.Span.{Span}
 use Rattle.guest_calls.specs.Times.{span_at, span_bytes, wake_moment, last_moment, clock_at}
 use Rattle.guest_calls.specs.Guest.{Guest, hart_at, no_hart, with_hart, with_stored, with_written, with_running_each, memory_of, thread_id, first_guest}
 use Rattle.guest_calls.specs.Calls
-use Rattle.guest_calls.specs.Calls.{retirement, with_answer, of_space, unsupported, leave, with_word, with_woken, clear_address, woken_at_exit, cleared, is_cleared, asleep, sleep_until, most_woken, parent_set_tid, child_set_tid, child, with_child, with_parent_tid, cloned, is_accepted, a0, a1, a2, a3, a4, with_filled, with_read, filled_parts, total, is_each_writable, is_each_readable, bytes_of, pieces_at, are_few, is_named, read_length, is_stream, is_input, is_output, is_mapping, calls, call_of}
+use Rattle.guest_calls.specs.Calls.{retirement, with_answer, with_answer_and, is_file, is_end, is_reading_end, is_writing_end, number_bytes, with_taken, with_put, with_pipes, woken_at_close, of_space, unsupported, leave, with_word, with_woken, clear_address, woken_at_exit, cleared, is_cleared, asleep, sleep_until, most_woken, parent_set_tid, child_set_tid, child, with_child, with_parent_tid, cloned, is_accepted, a0, a1, a2, a3, a4, with_filled, with_read, filled_parts, total, is_each_writable, is_each_readable, bytes_of, pieces_at, are_few, is_named, read_length, is_stream, is_input, is_output, is_mapping, calls, call_of}
 use Rattle.guest_calls.specs.Retire.{step_result, step, retirement_after, retire}
-use Rattle.guest_calls.specs.Orderly.{AreWaiting, IsOrderly}
+use Rattle.guest_calls.specs.Orderly.{IsOrderly}
 use Rattle.guest_calls.proofs.Steps.{step-call, step-harts}
 use Rattle.guest_calls.proofs.ByNumber.{AreRows, call_has}
-use Rattle.guest_calls.proofs.Started.{either}
-use Rattle.virtual_run.proofs.CreditedPlaces.{places}
+use Rattle.guest_calls.proofs.Started.{either, waiting_of}
+use Rattle.guest_calls.proofs.Among.{IsWoken}
+use Rattle.guest_calls.proofs.Waiting.{address_woken, end_woken, close_woken}
+use Rattle.guest_calls.proofs.RunningHarts.{woken_made}
+use Rattle.guest_calls.proofs.PipeRows.{by_readiness}
+use Rattle.guest_pipes.specs.declared.ends.PipeEnd.TheVariants.{Reading, Writing}
+use Rattle.guest_pipes.specs.Pipes.{end_of, this_end, can_make, made, made_numbers, readiness, woken_for, closed}
+use Rattle.virtual_run.proofs.CreditedPlaces.{places, places_kept}
 
 -- so many harts were made before
 abbrev pub Grows : ℕ → Retirement Guest → Type 0
@@ -45,33 +50,20 @@ checked false z h g r rest = rest
 of_space_grows : (g : Guest) (h : ℕ) (a : Answered) → Grows (length g.harts) (of_space g h a)
 of_space_grows g h a = answer_grows a.answer h (length g.harts) (record g { space = a.space }) refl
 
--- waiters that are woken were made
-made_waiting : (harts : List Hart) (h : ℕ) → (get_or harts h no_hart).status ≡ Waiting → h < length harts
-made_waiting [] h waits = absurd (let never : Gone ≡ Waiting = waits in cc)
-made_waiting (x ∷ xs) zero waits = omega arith
-made_waiting (x ∷ xs) (suc h) waits = let below : h < length xs = made_waiting xs h waits in omega arith
-
-woken_places : (harts : List Hart) (address : ℕ) (ws : List Waiter) (count : ℕ) → AreWaiting harts ws → places (woken_harts address ws count) (length harts) ≡ length harts
-woken_places harts address [] zero waiting = refl
-woken_places harts address [] (suc count) waiting = refl
-woken_places harts address (w ∷ ws) zero waiting = refl
-woken_places harts address (w ∷ ws) (suc count) waiting =
-    ⊎_elim
-    (λ (here : eqb w.address address ≡ true).
-    let made : w.hart < length harts = made_waiting harts w.hart waiting.0 in
-    let same : max (length harts) (suc w.hart) ≡ length harts = omega arith in
-    rw here (ap (places (woken_harts address ws count)) same ∙ woken_places harts address ws count waiting.1))
-    (λ (elsewhere : eqb w.address address ≡ false). rw elsewhere (woken_places harts address ws (suc count) waiting.1))
-    (cases_Bool (eqb w.address address))
-
 running_each : (hs : List ℕ) (harts : List Hart) → length (with_running_each hs harts) ≡ length harts
 running_each [] harts = refl
 running_each (h ∷ hs) harts =
     let run : Hart = record (get_or harts h no_hart) { status = Running } in
     running_each hs (set harts h run) ∙ length-set harts h run
 
+-- waiters that are woken were made
+roused_count : (g after : Guest) (woken : List ℕ) → IsOrderly g → IsWoken (waiting_of g) woken (waiting_of after) → after.harts ≡ with_running_each woken g.harts → length after.harts ≡ places woken (length g.harts)
+roused_count g after woken good w harts =
+    ap (λ (hs : List Hart). length hs) harts ∙ running_each woken g.harts
+    ∙ sym (places_kept woken (length g.harts) (woken_made (waiting_of g) woken (waiting_of after) g.harts w good.waiting))
+
 woken_count : (g : Guest) (address count : ℕ) → IsOrderly g → length (with_woken address count g).harts ≡ places (woken_harts address g.waiters count) (length g.harts)
-woken_count g address count good = running_each (woken_harts address g.waiters count) g.harts ∙ sym (woken_places g.harts address g.waiters count good.waiting)
+woken_count g address count good = roused_count g (with_woken address count g) (woken_harts address g.waiters count) good (address_woken g.waiters g.pipes.waiters address count good.apart) refl
 
 leave_grows : (h n : ℕ) (others : List ℕ) (g : Guest) → length g.harts ≡ places others n → Grows n (leave h others g)
 leave_grows h n others g same = length-set g.harts h _ ∙ same
@@ -147,25 +139,80 @@ clone_grows g h =
 -- each other call
 ioctl_grows : (g : Guest) (h : ℕ) → Grows (length g.harts) (Calls.ioctl g h)
 unfolding Calls.ioctl
-ioctl_grows g h = checked (is_stream (a0 g h)) no_terminal h g _ (answer_grows bad_file h (length g.harts) g refl)
+ioctl_grows g h = checked (is_file (a0 g h) g) no_terminal h g _ (answer_grows bad_file h (length g.harts) g refl)
 
 lseek_grows : (g : Guest) (h : ℕ) → Grows (length g.harts) (Calls.lseek g h)
 unfolding Calls.lseek
-lseek_grows g h = checked (is_stream (a0 g h)) no_seek h g _ (answer_grows bad_file h (length g.harts) g refl)
+lseek_grows g h = checked (is_file (a0 g h) g) no_seek h g _ (answer_grows bad_file h (length g.harts) g refl)
 
-read_grows : (g : Guest) (h : ℕ) → Grows (length g.harts) (Calls.read g h)
+read_input_grows : (g : Guest) (h : ℕ) → Grows (length g.harts) (Calls.read_input g h)
+unfolding Calls.read_input
+read_input_grows g h =
+    checked (not (is_writable (memory_of g) (a1 g h) (read_length g h))) bad_address h g _
+    (answer_grows (pos (read_length g h)) h (length g.harts) (with_filled (a1 g h) (read_length g h) g) refl)
+
+-- an answer beside harts that are woken
+roused_grows : (z : ℤ) (h : ℕ) (g after : Guest) (woken : List ℕ) → IsOrderly g → IsWoken (waiting_of g) woken (waiting_of after) → after.harts ≡ with_running_each woken g.harts → Grows (length g.harts) (with_answer_and z h woken after)
+roused_grows z h g after woken good w harts = length-set after.harts h _ ∙ roused_count g after woken good w harts
+
+read_now_grows : (g : Guest) (h n : ℕ) → IsOrderly g → Grows (length g.harts) (Calls.read_now g h n)
+unfolding Calls.read_now
+read_now_grows g h n good =
+    checked (not (is_writable (memory_of g) (a1 g h) n)) bad_address h g _
+    (roused_grows (pos n) h g (with_taken g h n) (woken_for Writing (a0 g h) g.pipes) good (end_woken g.waiters g.pipes.waiters (end_of (this_end (a0 g h) g.pipes).pipe Writing) good.apart) refl)
+
+read_pipe_grows : (g : Guest) (h : ℕ) → IsOrderly g → Grows (length g.harts) (Calls.read_pipe g h)
+unfolding Calls.read_pipe
+read_pipe_grows g h good =
+    checked (a2 g h == 0) (pos 0) h g _
+    (by_readiness (Grows (length g.harts)) (readiness (a0 g h) (a2 g h) g.pipes) _ _ _ (λ n. read_now_grows g h n good) (answer_grows (pos 0) h (length g.harts) g refl) (length-set g.harts h _))
+
+read_grows : (g : Guest) (h : ℕ) → IsOrderly g → Grows (length g.harts) (Calls.read g h)
 unfolding Calls.read
-read_grows g h =
-    checked (not (is_input (a0 g h))) bad_file h g _
-    (checked (not (is_writable (memory_of g) (a1 g h) (read_length g h))) bad_address h g _
-    (answer_grows (pos (read_length g h)) h (length g.harts) (with_filled (a1 g h) (read_length g h) g) refl))
+read_grows g h good =
+    either (Grows (length g.harts)) (is_input (a0 g h)) (Calls.read_input g h) _ (read_input_grows g h)
+    (either (Grows (length g.harts)) (is_reading_end (a0 g h) g) (Calls.read_pipe g h) _ (read_pipe_grows g h good) (answer_grows bad_file h (length g.harts) g refl))
 
-write_grows : (g : Guest) (h : ℕ) → Grows (length g.harts) (Calls.write g h)
+write_output_grows : (g : Guest) (h : ℕ) → Grows (length g.harts) (Calls.write_output g h)
+unfolding Calls.write_output
+write_output_grows g h =
+    checked (not (is_readable (memory_of g) (a1 g h) (a2 g h))) bad_address h g _
+    (answer_grows (pos (a2 g h)) h (length g.harts) (with_written (bytes_at (memory_of g) (a1 g h) (a2 g h)) g) refl)
+
+write_now_grows : (g : Guest) (h n : ℕ) → IsOrderly g → Grows (length g.harts) (Calls.write_now g h n)
+unfolding Calls.write_now
+write_now_grows g h n good =
+    roused_grows (pos n) h g (with_put g h n) (woken_for Reading (a0 g h) g.pipes) good (end_woken g.waiters g.pipes.waiters (end_of (this_end (a0 g h) g.pipes).pipe Reading) good.apart) refl
+
+write_pipe_grows : (g : Guest) (h : ℕ) → IsOrderly g → Grows (length g.harts) (Calls.write_pipe g h)
+unfolding Calls.write_pipe
+write_pipe_grows g h good =
+    checked (a2 g h == 0) (pos 0) h g _
+    (by_readiness (Grows (length g.harts)) (readiness (a0 g h) (a2 g h) g.pipes) _ _ _
+    (λ n. checked (not (is_readable (memory_of g) (a1 g h) (a2 g h))) bad_address h g _ (write_now_grows g h n good))
+    (answer_grows broken_pipe h (length g.harts) g refl)
+    (checked (not (is_readable (memory_of g) (a1 g h) (a2 g h))) bad_address h g _ (length-set g.harts h _)))
+
+write_grows : (g : Guest) (h : ℕ) → IsOrderly g → Grows (length g.harts) (Calls.write g h)
 unfolding Calls.write
-write_grows g h =
-    checked (not (is_output (a0 g h))) bad_file h g _
-    (checked (not (is_readable (memory_of g) (a1 g h) (a2 g h))) bad_address h g _
-    (answer_grows (pos (a2 g h)) h (length g.harts) (with_written (bytes_at (memory_of g) (a1 g h) (a2 g h)) g) refl))
+write_grows g h good =
+    either (Grows (length g.harts)) (is_output (a0 g h)) (Calls.write_output g h) _ (write_output_grows g h)
+    (either (Grows (length g.harts)) (is_writing_end (a0 g h) g) (Calls.write_pipe g h) _ (write_pipe_grows g h good) (answer_grows bad_file h (length g.harts) g refl))
+
+close_grows : (g : Guest) (h : ℕ) → IsOrderly g → Grows (length g.harts) (Calls.close g h)
+unfolding Calls.close
+close_grows g h good =
+    either (Grows (length g.harts)) (is_stream (a0 g h)) (unsupported g h) _ refl
+    (checked (not (is_end (a0 g h) g)) bad_file h g _
+    (roused_grows (pos 0) h g (with_pipes (closed (a0 g h) g.pipes) (woken_at_close g h) g) (woken_at_close g h) good (close_woken g.waiters g.pipes.waiters (this_end (a0 g h) g.pipes).pipe good.apart) refl))
+
+pipe2_grows : (g : Guest) (h : ℕ) → Grows (length g.harts) (Calls.pipe2 g h)
+unfolding Calls.pipe2
+pipe2_grows g h =
+    either (Grows (length g.harts)) (not (a1 g h == 0 || a1 g h == 0x80000)) (unsupported g h) _ refl
+    (checked (not (is_writable (memory_of g) (a0 g h) 8)) bad_address h g _
+    (checked (not (can_make g.pipes)) too_many_files h g _
+    (answer_grows (pos 0) h (length g.harts) (with_stored (a0 g h) (number_bytes (made_numbers g.pipes)) (record g { pipes = made g.pipes })) refl)))
 
 read_count : (ps : List Piece) (g : Guest) → length (with_read ps g).harts ≡ length g.harts
 read_count [] g = refl
@@ -180,10 +227,11 @@ read_pieces_grows g h ps =
 readv_grows : (g : Guest) (h : ℕ) → Grows (length g.harts) (Calls.readv g h)
 unfolding Calls.readv
 readv_grows g h =
-    checked (not (is_input (a0 g h))) bad_file h g _
+    either (Grows (length g.harts)) (is_end (a0 g h) g) (unsupported g h) _ refl
+    (checked (not (is_input (a0 g h))) bad_file h g _
     (checked (not (are_few g h)) invalid_argument h g _
     (checked (not (is_named g h)) bad_address h g _
-    (read_pieces_grows g h (pieces_at (memory_of g) (a1 g h) (a2 g h)))))
+    (read_pieces_grows g h (pieces_at (memory_of g) (a1 g h) (a2 g h))))))
 
 write_pieces_grows : (g : Guest) (h : ℕ) (ps : List Piece) → Grows (length g.harts) (Calls.write_pieces g h ps)
 unfolding Calls.write_pieces
@@ -194,10 +242,11 @@ write_pieces_grows g h ps =
 writev_grows : (g : Guest) (h : ℕ) → Grows (length g.harts) (Calls.writev g h)
 unfolding Calls.writev
 writev_grows g h =
-    checked (not (is_output (a0 g h))) bad_file h g _
+    either (Grows (length g.harts)) (is_end (a0 g h) g) (unsupported g h) _ refl
+    (checked (not (is_output (a0 g h))) bad_file h g _
     (checked (not (are_few g h)) invalid_argument h g _
     (checked (not (is_named g h)) bad_address h g _
-    (write_pieces_grows g h (pieces_at (memory_of g) (a1 g h) (a2 g h)))))
+    (write_pieces_grows g h (pieces_at (memory_of g) (a1 g h) (a2 g h))))))
 
 exit_group_grows : (g : Guest) (h : ℕ) → Grows (length g.harts) (Calls.exit_group g h)
 unfolding Calls.exit_group
@@ -261,7 +310,7 @@ IsGrown g h v r = IsOrderly g → Grows (length g.harts) r
 
 all_rows : AreRows IsGrown calls
 all_rows =
-    ((λ g h v good. ioctl_grows g h), ((λ g h v good. lseek_grows g h), ((λ g h v good. read_grows g h), ((λ g h v good. write_grows g h), ((λ g h v good. readv_grows g h), ((λ g h v good. writev_grows g h), ((λ g h v good. exit_grows g h good), ((λ g h v good. exit_group_grows g h), ((λ g h v good. set_tid_address_grows g h), ((λ g h v good. futex_grows g h good), ((λ g h v good. nanosleep_grows g h v), ((λ g h v good. clock_gettime_grows g h v), ((λ g h v good. sched_yield_grows g h), ((λ g h v good. rt_sigprocmask_grows g h), ((λ g h v good. getpid_grows g h), ((λ g h v good. gettid_grows g h), ((λ g h v good. brk_grows g h), ((λ g h v good. munmap_grows g h), ((λ g h v good. mremap_grows g h), ((λ g h v good. clone_grows g h), ((λ g h v good. mmap_grows g h), ((λ g h v good. mprotect_grows g h), ((λ g h v good. madvise_grows g h), tt)))))))))))))))))))))))
+    ((λ g h v good. ioctl_grows g h), ((λ g h v good. close_grows g h good), ((λ g h v good. pipe2_grows g h), ((λ g h v good. lseek_grows g h), ((λ g h v good. read_grows g h good), ((λ g h v good. write_grows g h good), ((λ g h v good. readv_grows g h), ((λ g h v good. writev_grows g h), ((λ g h v good. exit_grows g h good), ((λ g h v good. exit_group_grows g h), ((λ g h v good. set_tid_address_grows g h), ((λ g h v good. futex_grows g h good), ((λ g h v good. nanosleep_grows g h v), ((λ g h v good. clock_gettime_grows g h v), ((λ g h v good. sched_yield_grows g h), ((λ g h v good. rt_sigprocmask_grows g h), ((λ g h v good. getpid_grows g h), ((λ g h v good. gettid_grows g h), ((λ g h v good. brk_grows g h), ((λ g h v good. munmap_grows g h), ((λ g h v good. mremap_grows g h), ((λ g h v good. clone_grows g h), ((λ g h v good. mmap_grows g h), ((λ g h v good. mprotect_grows g h), ((λ g h v good. madvise_grows g h), tt)))))))))))))))))))))))))
 
 call_grows : (g : Guest) (h v : ℕ) → IsOrderly g → Grows (length g.harts) (call_of g h v)
 call_grows g h v = call_has IsGrown all_rows g h v (λ good. refl)

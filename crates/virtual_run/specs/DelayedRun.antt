@@ -9,7 +9,7 @@ use Rattle.machines.specs.Guest.{Experiment}
 use Rattle.machines.specs.Delayed.{Account, Delayed, idle_hart, events, delayed}
 use Rattle.machines.specs.KeptVisits.{visit_as}
 use Rattle.machines.specs.Shortened.{shortened}
-use Rattle.machines.specs.Agreement.{Agrees}
+use Rattle.machines.specs.Agreement.{Agrees, LoadsAreTimed}
 use Rattle.machines.specs.Records.{Record, IsDelayed}
 use Rattle.machines.specs.Steps.{Steps, Passes}
 use Rattle.machines.specs.Standing.{standing}
@@ -75,9 +75,10 @@ Happens x (Woke turn) old new = Passes x old new × (new.ending ≡ None)
 Happens x (Retired retired) old new = Steps x old new
 
 -- before each move of the delayed run it agrees with the shortened one after as many
--- retirements and wakes
-abbrev pub AgreesThroughout : Experiment Guest → Type 0
-AgreesThroughout x = (moves : ℕ) → Agrees (delayed x moves) (shortened x (events (delayed x moves)))
+-- retirements and wakes, and until the run ends the harts with a load are those that run or sleep
+pub record AgreesThroughout (x : Experiment Guest) : Type 0 where
+  pub agrees : (moves : ℕ) → Agrees (delayed x moves) (shortened x (events (delayed x moves)))
+  pub timed : (moves : ℕ) → LoadsAreTimed x.guest (delayed x moves)
 
 -- the delayed run ends, and with one record alone
 abbrev pub EndsOnce : Experiment Guest → Type 0

@@ -1,5 +1,5 @@
 //! The engine that both machines stand on, and its moves.
-ghost use Rattle.std.specs.Prelude.{◌≡◌, true, ◌&&◌, ◌==◌, not, ◌+◌, ◌^◌, ◌≤◌, ◌<◌, ◌++◌, [], ◌∷◌, Some, length, nat_le, is_some, IfOk, All, if◌then◌else◌, IsTrue};
+ghost use Rattle.std.specs.Prelude.{◌≡◌, ℕ, map, true, ◌&&◌, ◌==◌, not, ◌+◌, ◌^◌, ◌≤◌, ◌<◌, ◌++◌, [], ◌∷◌, Some, length, nat_le, is_some, IfOk, All, if◌then◌else◌, IsTrue};
 ghost use Rattle.coz_types.specs.declared.TheConstants.{GREATEST_SPEEDUP, MOST_OUTPUT, MOST_VISITS_KEPT};
 ghost use Rattle.hart_schedule.specs.Keys.{key_of, without_key, IsEmpty, IsLeast};
 ghost use Rattle.machines.specs.Delayed.{is_any};
@@ -7,7 +7,7 @@ ghost use Rattle.machines.specs.Guest.{goes_on};
 ghost use Rattle.machines.specs.Shortened.{runs_any};
 ghost use Rattle.progress_points.specs.Points.{point_of};
 ghost use Rattle.guest_calls.specs.Calls.{retirement};
-ghost use Rattle.guest_calls.specs.Guest.{making, is_running, is_sleeping, IsMade};
+ghost use Rattle.guest_calls.specs.Guest.{making, is_running, is_sleeping, pc_of, IsMade};
 ghost use Rattle.guest_calls.specs.Retire.{retire};
 ghost use Rattle.virtual_run.specs.Begin.{started_by, keys_at_rest, many, AreIdle, AreBegun};
 ghost use Rattle.virtual_run.specs.Ending.{ending_of, runs_after};
@@ -363,8 +363,7 @@ impl<'a> Engine<'a> {
         }
     }
 
-    /// Makes this engine equal to another one whose guest was made with the same arguments,
-    /// and takes no memory.
+    /// Makes this engine equal to another one whose guest was made with the same arguments.
     pub fn copy_from(&mut self, other: &Engine<'a>)
         requires guest { making self.old.guest ≡ making other.now.guest }
         requires visits { self.old.visits.limit ≡ other.now.visits.limit }
@@ -420,6 +419,33 @@ impl<'a> Engine<'a> {
         ensures { result ≡ (not (is_some self.now.ending) && (self.now.starts == 0)) }
     {
         self.ending.is_none() && self.starts == 0
+    }
+
+    /// The address of the next instruction of the hart that is due first.
+    #[inline]
+    pub fn address_due(&self) -> Address
+        requires { IsSteady self.now }
+        ensures { (hart : ℕ) → IsLeast self.now.schedule hart
+            → result ≡ pc_of self.now.guest hart }
+    {
+        let turn = first_turn(&self.schedule);
+        self.guest.pc(turn.hart)
+    }
+
+    /// When a hart retires or wakes, in net ticks; None where it neither runs nor sleeps.
+    #[inline]
+    pub fn due(&self, hart: HartId) -> Option<Tick>
+        ensures { result ≡ key_of self.now.schedule hart.0 }
+    {
+        self.schedule.key(hart)
+    }
+
+    /// The harts that the last retirement made or woke, in order.
+    #[inline]
+    pub fn started(&self) -> &[HartId]
+        ensures { map (λ hart. hart.0) result.now ≡ self.now.started }
+    {
+        self.started.harts()
     }
 
     /// How the run has ended, if it has.

@@ -1,5 +1,6 @@
 //! The delayed machine: runs under virtual time with the delays of a selected line.
-ghost use Rattle.std.specs.Prelude.{◌≡◌, ◌+◌, ◌≤◌, ◌<◌, false, map, length, Some, None, IfOk, IfSome, IsSome, MatchOption, All, option_map};
+ghost use Rattle.std.specs.Prelude.{◌≡◌, ◌+◌, ◌-◌, ◌^◌, ◌≤◌, ◌<◌, false, map, length, Some, None, IfOk, IfSome, IsSome, MatchOption, All, option_map, is_some};
+ghost use Rattle.std.specs.List.Sorted.{IsNonDecreasingBy};
 ghost use Rattle.coz_types.specs.declared.TheConstants.{GREATEST_SPEEDUP, MOST_OUTPUT, MOST_VISITS_KEPT};
 ghost use Rattle.hart_schedule.specs.Keys.{key_of};
 ghost use Rattle.delay_credits.specs.Delays.{account_as};
@@ -49,7 +50,7 @@ impl<'a> Model for Machine<'a> {
 }
 
 impl<'a> Machine<'a> {
-    ghost use Rattle.machines.specs.Guest.{enough};
+    ghost use Rattle.machines.specs.Guest.{enough, is_timed};
     ghost use Rattle.machines.specs.Delayed.{events};
     ghost use Rattle.machines.specs.Shortened.{shortened};
     ghost use Rattle.machines.specs.Agreement.{Agrees};
@@ -249,16 +250,18 @@ impl<'a> Machine<'a> {
         self.moment = first.moment;
     }
 
-    /// The moment of the last event, in ticks.
+    /// The moment of the last event, in ticks, at most 10^17.
     pub fn now(&self) -> Tick
-        ensures { result ≡ self.now.state.now }
+        ensures moment { result ≡ self.now.state.now }
+        ensures small { result ≤ 10 ^ 17 }
     {
         self.moment
     }
 
-    /// The global delay, in ticks.
+    /// The global delay, in ticks, at most 10^16.
     pub fn raised(&self) -> Tick
-        ensures { result ≡ self.now.state.delay }
+        ensures delay { result ≡ self.now.state.delay }
+        ensures small { result ≤ 10 ^ 16 }
     {
         self.credits.raised()
     }
@@ -270,6 +273,9 @@ impl<'a> Machine<'a> {
         ensures shortened { self.now.state.ending ≡ None →
             result
             ≡ key_of (shortened (experiment_of self.now) (events self.now.state)).dues hart.0 }
+        ensures timed { self.now.state.ending ≡ None →
+            is_some result
+            ≡ is_timed (experiment_of self.now).guest self.now.state.guest hart.0 }
     {
         match self.engine.ending {
             Some(_) => None,
@@ -277,9 +283,12 @@ impl<'a> Machine<'a> {
         }
     }
 
-    /// A hart's account; None where it was never made.
+    /// A hart's account, whose three parts together are at most the global delay; None where
+    /// the hart was never made.
     pub fn account(&self, hart: HartId) -> Option<Account>
-        ensures { option_map account_as result ≡ account_in self.now.state hart.0 }
+        ensures account { option_map account_as result ≡ account_in self.now.state hart.0 }
+        ensures within { IfSome result (λ account.
+            account.own + account.paused + account.credited ≤ self.now.state.delay) }
     {
         if u32::from(hart.0) < self.engine.guest.harts() {
             Some(self.credits.account(hart, self.moment))
@@ -317,12 +326,17 @@ impl<'a> Machine<'a> {
     }
 
     /// The visits of progress points, in order, at most 1,048,576. None was before
-    /// its delay was raised.
+    /// its delay was raised. Their net times never fall, and once the run has ended none is over
+    /// its net time; before that the delay may be raised again behind the last visit.
     pub fn visits(&self) -> &[Visit]
         ensures visits { map visit_as result.now ≡ self.now.state.visits }
         ensures few { length result.now ≤ MOST_VISITS_KEPT }
         ensures harts { All (λ visit. visit.hart.0 < HARTS) result.now }
         ensures in_time { All (λ visit. visit.delay ≤ visit.time) result.now }
+        ensures rising { IsNonDecreasingBy (λ visit. visit.time - visit.delay) result.now }
+        ensures within { IsSome self.now.state.ending
+            → All (λ visit. visit.time - visit.delay ≤ self.now.state.now - self.now.state.delay)
+            result.now }
     {
         self.engine.visits.all()
     }

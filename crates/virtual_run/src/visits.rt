@@ -50,7 +50,7 @@ impl Visits {
         };
     }
 
-    /// Makes these visits the same as others of the same limit, and takes no memory.
+    /// Makes these visits the same as others of the same limit.
     pub fn copy_from(&mut self, other: &Visits)
         requires { self.old.limit ≡ other.now.limit }
         ensures { self.new ≡ other.now }

@@ -9,6 +9,7 @@ use Rattle.coz_words.specs.declared.request.Request.{Request}
 use Rattle.command_answers.specs.Experiment.{Runs, choice_of, runs_in}
 use Rattle.program_steps.specs.Selection.{line_named, lines_named}
 use Rattle.command_answers.specs.Verdict.{Verdict, asked_verdict, named_verdict, points_verdict}
+use Rattle.command_answers.proofs.Budgets.{few_budget}
 use Rattle.command_answers.proofs.Indexed.{experiment_is}
 use Rattle.command_answers.proofs.experiment.asked_of.Goals as goal
 
@@ -30,6 +31,9 @@ module _ (asked : Request) (print : Experiment Guest → Verdict) (lines : List 
 
   line_is : (line : Option Text) → line ≡ asked.line → of_line line ≡ asked_verdict asked print lines runs
   line_is line is = ap of_line is
+
+pub choice-choice-requires-clause-few : goal.choice-choice-requires-clause-few
+choice-choice-requires-clause-few c = few_budget c.args.request.now c.requires.fit
 
 pub returns-clause-settled : goal.returns-clause-settled
 returns-clause-settled c = λ other image input print.

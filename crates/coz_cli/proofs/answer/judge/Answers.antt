@@ -1,8 +1,8 @@
-use Rattle.std.proofs.Common.{◌≡◌, true, subst, sym, refl}
-use Rattle.coz_words.specs.Request.{has_option, size_name, workers_name}
+use Rattle.std.proofs.Common.{◌≡◌, ◌≤◌, true, ap, subst, sym, refl}
+use Rattle.coz_words.specs.Request.{greatest_budget, has_option, is_runner, size_name, workers_name}
 use Rattle.coz_words.specs.declared.command.Command.{Command}
 use Rattle.command_answers.specs.Verdict.{trial_verdict}
-use Rattle.coz_cli.proofs.Names.{named, version}
+use Rattle.coz_cli.proofs.Names.{named, some_line, version}
 use Rattle.coz_cli.proofs.Trials.{trial_no_read, trial_settled, trial_suits}
 use Rattle.coz_cli.proofs.answer.judge.Goals as goal
 
@@ -27,3 +27,9 @@ returns-in-Trial-clause-untold g c = λ read. absurd (trial_no_read (trial_verdi
 
 pub returns-in-Really-clause-settled : goal.returns-in-Really-clause-settled
 returns-in-Really-clause-settled g c = rw c.in-Really.is c.judge_experiment-in-Really.ensures.settled
+
+pub judge_path-requires-clause-some_budget : goal.judge_path-requires-clause-some_budget
+judge_path-requires-clause-some_budget g c = c.requires.some_budget (ap is_runner c.in-Path.is)
+
+pub judge_path-requires-clause-few : goal.judge_path-requires-clause-few
+judge_path-requires-clause-few g c = subst (λ (k : Command). c.args.request.now.budget ≤ greatest_budget k) c.in-Path.is c.requires.budget

@@ -13,3 +13,6 @@ returns-clause-usage c = clauses.usage (bytes_of c.args.words.now) c.request_in.
 
 pub returns-clause-fit : goal.returns-clause-fit
 returns-clause-fit c = clauses.fit (bytes_of c.args.words.now) c.request_in.result c.request_in.ensures
+
+pub returns-clause-law : goal.returns-clause-law
+returns-clause-law c = clauses.law

@@ -17,4 +17,4 @@ invariant_of-self c =
     let same : length c.self.inside.harts.items ≡ length c.args.self.now.harts = ap (λ (g : Guest). length g.harts) c.self.view_is in
     let few = c.requires in
     let below : length c.self.inside.harts.items < 256 = omega arith in
-    rw c.in-Ok.ensures.items (kept-append _ _ _ _ _ c.args.hart _ c.self.invariant below c.in-Ok.ensures.capacity)
+    rw c.in-Ok.ensures.items (kept-append _ _ _ _ _ _ c.args.hart _ c.self.invariant below c.in-Ok.ensures.capacity)

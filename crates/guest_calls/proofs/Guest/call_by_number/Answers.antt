@@ -1,5 +1,5 @@
 use Rattle.std.proofs.Common.{sym, ◌∙◌, refl, arith}
-use Rattle.guest_calls.specs.Calls.{at_any_time, ioctl, lseek, read, write, readv, writev, exit, exit_group, set_tid_address, futex, nanosleep, clock_gettime, sched_yield, rt_sigprocmask, getpid, gettid, brk, munmap, mremap, clone, mmap, mprotect, madvise}
+use Rattle.guest_calls.specs.Calls.{at_any_time, ioctl, close, pipe2, lseek, read, write, readv, writev, exit, exit_group, set_tid_address, futex, nanosleep, clock_gettime, sched_yield, rt_sigprocmask, getpid, gettid, brk, munmap, mremap, clone, mmap, mprotect, madvise}
 use Rattle.guest_calls.proofs.Rows.{call-known, call-unknown, unknown}
 use Rattle.guest_calls.proofs.Guest.call_by_number.Goals as goal
 
@@ -7,17 +7,25 @@ pub returns-in-29 : goal.returns-in-29
 returns-in-29 c =
     rw c.requires.started (c.ioctl.ensures ∙ call-known _ _ _ 29 (at_any_time ioctl) (sym c.in-29.is ∙ c.number.ensures) refl)
 
+pub returns-in-57 : goal.returns-in-57
+returns-in-57 c =
+    c.close.ensures ∙ call-known _ _ _ 57 (at_any_time close) (sym c.in-57.is ∙ c.number.ensures) refl
+
+pub returns-in-59 : goal.returns-in-59
+returns-in-59 c =
+    rw c.requires.started (c.pipe2.ensures ∙ call-known _ _ _ 59 (at_any_time pipe2) (sym c.in-59.is ∙ c.number.ensures) refl)
+
 pub returns-in-62 : goal.returns-in-62
 returns-in-62 c =
     rw c.requires.started (c.lseek.ensures ∙ call-known _ _ _ 62 (at_any_time lseek) (sym c.in-62.is ∙ c.number.ensures) refl)
 
 pub returns-in-63 : goal.returns-in-63
 returns-in-63 c =
-    rw c.requires.started (c.read.ensures ∙ call-known _ _ _ 63 (at_any_time read) (sym c.in-63.is ∙ c.number.ensures) refl)
+    c.read.ensures ∙ call-known _ _ _ 63 (at_any_time read) (sym c.in-63.is ∙ c.number.ensures) refl
 
 pub returns-in-64 : goal.returns-in-64
 returns-in-64 c =
-    rw c.requires.started (c.write.ensures ∙ call-known _ _ _ 64 (at_any_time write) (sym c.in-64.is ∙ c.number.ensures) refl)
+    c.write.ensures ∙ call-known _ _ _ 64 (at_any_time write) (sym c.in-64.is ∙ c.number.ensures) refl
 
 pub returns-in-65 : goal.returns-in-65
 returns-in-65 c =
@@ -100,4 +108,4 @@ returns-in_default c =
     rw c.requires.started
     (c.unsupported.ensures
     ∙ call-unknown _ _ _ c.number.result c.number.ensures
-    (unknown c.number.result (omega arith) (omega arith) (omega arith) (omega arith) (omega arith) (omega arith) (omega arith) (omega arith) (omega arith) (omega arith) (omega arith) (omega arith) (omega arith) (omega arith) (omega arith) (omega arith) (omega arith) (omega arith) (omega arith) (omega arith) (omega arith) (omega arith) (omega arith)))
+    (unknown c.number.result (omega arith) (omega arith) (omega arith) (omega arith) (omega arith) (omega arith) (omega arith) (omega arith) (omega arith) (omega arith) (omega arith) (omega arith) (omega arith) (omega arith) (omega arith) (omega arith) (omega arith) (omega arith) (omega arith) (omega arith) (omega arith) (omega arith) (omega arith) (omega arith) (omega arith)))

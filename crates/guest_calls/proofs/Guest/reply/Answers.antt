@@ -9,5 +9,5 @@ pub invariant_of-self : goal.invariant_of-self
 invariant_of-self c =
     let same : length c.self.inside.harts.items ≡ length c.args.self.now.harts = ap (λ (g : Guest). length g.harts) c.self.view_is in
     let below : c.args.hart.0 < length c.self.inside.harts.items = omega arith in
-    kept-set _ _ _ _ _ c.args.hart.0 c.answer.new.self c.self.invariant
+    kept-set _ _ _ _ _ _ c.args.hart.0 c.answer.new.self c.self.invariant
     (ap (λ (x : Hart). x.status) c.answer.ensures ∙ ap (λ (x : Hart). x.status) (get_or_read _ _ _ below c.index_mut.ensures.value no_hart))

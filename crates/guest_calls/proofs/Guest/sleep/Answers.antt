@@ -5,4 +5,4 @@ use Rattle.guest_calls.proofs.Guest.sleep.Goals as goal
 
 pub invariant_of-self : goal.invariant_of-self
 invariant_of-self c =
-    kept-changed _ _ _ _ _ c.args.hart.0 c.sleep.new.self c.self.invariant (ap (λ (g : Guest). is_running g c.args.hart.0) c.self.view_is ∙ c.requires)
+    kept-changed _ _ _ _ _ _ c.args.hart.0 c.sleep.new.self c.self.invariant (ap (λ (g : Guest). is_running g c.args.hart.0) c.self.view_is ∙ c.requires)

@@ -14,7 +14,7 @@ returns c =
     let below : c.args.hart.0 < length c.self.inside.harts.items = omega arith in
     let at : c.index_mut.result.now ≡ get_or c.self.inside.harts.items c.args.hart.0 no_hart = get_or_read _ _ _ below c.index_mut.ensures.value no_hart in
     let found : Some c.in-Some.instr ≡ instruction_of c.in-Ok.word = sym c.in-Some.is ∙ c.decode.ensures.table in
-    step-in_place c.self.inside.harts.items c.self.inside.areas c.self.inside.memory c.execute.new.memory c.self.inside.reservations c.execute.new.reservations c.self.inside.queue c.self.inside.input.now c.self.inside.whole_input.now c.self.inside.output c.args.self.now
+    step-in_place c.self.inside.harts.items c.self.inside.areas c.self.inside.memory c.execute.new.memory c.self.inside.reservations c.execute.new.reservations c.self.inside.queue c.self.inside.pipes c.self.inside.input.now c.self.inside.whole_input.now c.self.inside.output c.args.self.now
     c.args.hart.0 c.in-Ok.word c.in-Some.instr c.index_mut.result.now c.execute.new.hart c.execute.result
     c.self.view_is at c.in-Ok.ensures found c.execute.ensures.effect
 
@@ -31,7 +31,7 @@ invariant_of-self c =
     let same : length c.self.inside.harts.items ≡ length c.args.self.now.harts = ap (λ (g : Guest). length g.harts) c.self.view_is in
     let below : c.args.hart.0 < length c.self.inside.harts.items = omega arith in
     let at : c.index_mut.result.now ≡ get_or c.self.inside.harts.items c.args.hart.0 no_hart = get_or_read _ _ _ below c.index_mut.ensures.value no_hart in
-    let kept = kept-set _ _ _ _ _ c.args.hart.0 (record c.index_mut.result.now { state = c.execute.new.hart }) c.self.invariant (ap (λ (x : Hart). x.status) at) in
+    let kept = kept-set _ _ _ _ _ _ c.args.hart.0 (record c.index_mut.result.now { state = c.execute.new.hart }) c.self.invariant (ap (λ (x : Hart). x.status) at) in
     record {
       few = kept.few;
       room = kept.room;

@@ -1,10 +1,10 @@
-use Rattle.std.proofs.Common.{ap, ◌∙◌, is_some, Option}
+use Rattle.std.proofs.Common.{ap, ◌∙◌, is_some, Option, ℕ}
 use Rattle.coz_types.specs.declared.ending.Ending.{Ending}
 use Rattle.machines.specs.Delayed.{Delayed}
 use Rattle.guest_calls.specs.Guest.{Guest}
 use Rattle.virtual_run.specs.Seen.{Seen}
 use Rattle.virtual_run.specs.DelayedRun.{net_due_of}
-use Rattle.virtual_run.proofs.CreditedRun.{due_ended, due_goes, due_seen, not_over}
+use Rattle.virtual_run.proofs.CreditedRun.{due_ended, due_goes, due_seen, timed_seen, not_over}
 use Rattle.virtual_run.proofs.machine.Machine.net_due.Goals as goal
 
 pub returns-in-Some-clause-due : goal.returns-in-Some-clause-due
@@ -26,3 +26,13 @@ pub returns-in-None-clause-shortened : goal.returns-in-None-clause-shortened
 returns-in-None-clause-shortened c none =
     let m = c.self.inside in
     c.key.ensures ∙ due_seen m.image.now m.input.now m.setting m.engine m.credits m.moment c.self.invariant c.args.self.now c.args.hart.0 c.self.view_is
+
+pub returns-in-Some-clause-timed : goal.returns-in-Some-clause-timed
+returns-in-Some-clause-timed c none =
+    let m = c.self.inside in
+    absurd (not_over m.image.now m.input.now m.setting m.engine m.credits m.moment c.self.invariant c.args.self.now c.self.view_is (ap (λ (o : Option Ending). is_some o) c.in-Some.is) none)
+
+pub returns-in-None-clause-timed : goal.returns-in-None-clause-timed
+returns-in-None-clause-timed c none =
+    let m = c.self.inside in
+    ap (λ (o : Option ℕ). is_some o) c.key.ensures ∙ timed_seen m.image.now m.input.now m.setting m.engine m.credits m.moment c.self.invariant c.args.self.now c.args.hart.0 c.self.view_is none

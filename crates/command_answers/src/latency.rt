@@ -1,0 +1,262 @@
+//! The latencies that a request asks for.
+ghost use Rattle.std.specs.Prelude.{◌≡◌, ◌&&◌, ◌≤◌, ◌<◌, ◌++◌, ℕ, List, length, All, Some, IsSome, IfOk, if◌then◌else◌};
+ghost use Rattle.std.specs.List.{list_all};
+ghost use Rattle.coz_types.specs.declared.LineId.{LineId};
+ghost use Rattle.coz_types.specs.declared.TheConstants.{GREATEST_SPEEDUP, GREATEST_BUDGET};
+ghost use Rattle.progress_points.specs.Points.{IsPoints};
+ghost use Rattle.experiment_plan.specs.Selected.{ids};
+ghost use Rattle.latency_points.specs.Moments.{numbers_of};
+ghost use Rattle.virtual_run.specs.Run.{IsChoice};
+ghost use Rattle.virtual_run.specs.Lead.{arguments};
+ghost use Rattle.coz_words.specs.Request.{IsFit};
+ghost use Rattle.printed_texts.specs.LatencyText.{latency_text};
+ghost use Rattle.command_answers.specs.Experiment.{Runs, runs_in};
+ghost use Rattle.command_answers.specs.Latencies.{latency_printed, latency_verdict, marked_verdict, net_at_each};
+ghost use Rattle.command_answers.specs.Measured.{arguments_of, run_at};
+ghost use Rattle.command_answers.specs.Verdict.{Verdict, has_exited};
+ghost use Rattle.command_answers.specs.Answer.{verdict_of, verdict_after, IsMemory, IsRead};
+
+use crate::answer::Answer;
+use crate::measuring::latency_at;
+use coz_types::{Image, LineId, PointId};
+use coz_words::Request;
+use experiment_plan::{joined, places_among, rising_speedups};
+use line_index::LineIndex;
+use printed_texts::{Printed, Text, has_exited, push_latency};
+use profile_pool::choice;
+use program_steps::{Fault, bytes_of, line_named, listed_lines, points_of};
+use progress_points::Points;
+use std::alloc::{AllocError, Global};
+use virtual_run::{Choice, Lead, Machine};
+
+/// The points of two lists of lines, and which of them each list names.
+#[derive(Drop)]
+struct Marked {
+    points: Points,
+    arrive: Vec<PointId>,
+    depart: Vec<PointId>,
+}
+
+/// The points of the lines of both lists, if there are not too many.
+fn marked_points<'r>(
+    alloc: Global,
+    index: &LineIndex,
+    arrive: &[LineId],
+    depart: &[LineId],
+) -> Result<Marked, Fault<'r>>
+    requires arrive { All (λ (line : LineId). line.0 < length index.now.lines) arrive.now }
+    requires depart { All (λ (line : LineId). line.0 < length index.now.lines) depart.now }
+    ensures no_read { IsRead result → ⊥ }
+    ensures settled { (IsMemory result → ⊥)
+        → (next : List ℕ → List ℕ → List ℕ → Verdict) →
+        verdict_after result (λ marked. next marked.points.lines
+        (numbers_of marked.arrive.items) (numbers_of marked.depart.items))
+        ≡ marked_verdict (ids arrive.now) (ids depart.now) next }
+    ensures points { IfOk result (λ marked. IsPoints index.now marked.points.lines marked.points) }
+{
+    let lines = joined(alloc, arrive, depart)?;
+    let points = points_of(alloc, index, &lines)?;
+    let arrive = places_among(alloc, &lines, arrive)?;
+    let depart = places_among(alloc, &lines, depart)?;
+    Ok(Marked {
+        points,
+        arrive,
+        depart,
+    })
+}
+
+/// What latencies are measured with: the selected line, the points and the speedups, in percent.
+#[derive(Drop)]
+struct AskedLatency {
+    selected: LineId,
+    marked: Marked,
+    speedups: Vec<u8>,
+}
+
+/// What the latencies that a request asks for are measured with, if the program has the lines
+/// that are named. They are judged in the order `--line`, `--arrive`, `--depart`,
+/// and then the number of points is.
+fn asked_latency<'r>(
+    alloc: Global,
+    index: &LineIndex,
+    request: &'r Request,
+) -> Result<AskedLatency, Fault<'r>>
+    requires fit { IsFit request.now }
+    requires line { IsSome request.now.line }
+    ensures no_read { IsRead result → ⊥ }
+    ensures settled { (IsMemory result → ⊥) → (runs : Runs) →
+        verdict_after result (λ asked. latency_printed
+        (numbers_of asked.marked.arrive.items) (numbers_of asked.marked.depart.items)
+        (net_at_each runs (Some asked.selected.0) request.now.budget asked.marked.points.lines)
+        asked.speedups.items)
+        ≡ latency_verdict request.now index.now.lines runs }
+    ensures points { IfOk result (λ asked.
+        IsPoints index.now asked.marked.points.lines asked.marked.points) }
+    ensures small { IfOk result (λ asked.
+        All (λ speedup. speedup ≤ GREATEST_SPEEDUP) asked.speedups.items) }
+{
+    let line = line_named(index, bytes_of(&request.line))?;
+    let Some(selected) = line else { unreachable!() };
+    let arrive = listed_lines(alloc, index, bytes_of(&request.arrive))?;
+    let depart = listed_lines(alloc, index, bytes_of(&request.depart))?;
+    let marked = marked_points(alloc, index, &arrive, &depart)?;
+    let speedups = rising_speedups(alloc, request.speedups.as_slice())?;
+    Ok(AskedLatency {
+        selected,
+        marked,
+        speedups,
+    })
+}
+
+fn both(first: bool, second: bool) -> bool
+    ensures { result ≡ (first && second) }
+{
+    first && second
+}
+
+/// Appends the line of the run at each speedup, forked from a lead onto a machine, and gives
+/// whether each run exited. Err: out of memory.
+fn push_latencies<'a>(
+    text: &mut Vec<u8>,
+    lead: &Lead<'a>,
+    machine: &mut Machine<'a>,
+    speedups: &[u8],
+    arrive: &[PointId],
+    depart: &[PointId],
+) -> Result<bool, AllocError>
+    requires small { All (λ speedup. speedup ≤ GREATEST_SPEEDUP) speedups.now }
+    requires arguments { arguments machine.old ≡ arguments lead.now }
+    ensures text { IfOk result (λ _. text.new.items ≡ text.old.items
+        ++ latency_text (numbers_of arrive.now) (numbers_of depart.now)
+        (run_at lead.now) speedups.now) }
+    ensures exited { IfOk result (λ all. all
+        ≡ list_all (λ speedup. has_exited (run_at lead.now speedup).ending) speedups.now) }
+{
+    let mut all = true;
+    for speedup in speedups {
+        let measured = latency_at(lead, machine, *speedup, arrive, depart);
+        push_latency(
+            text,
+            *speedup,
+            measured.ending,
+            measured.net,
+            measured.latency,
+        )?;
+        all = both(all, has_exited(measured.ending));
+    }
+    Ok(all)
+}
+
+/// The status of runs: 0 where each exited.
+fn status_of(all_exited: bool) -> u8
+    ensures { result ≡ (if all_exited then 0 else 1) }
+{
+    if all_exited { 0 } else { 1 }
+}
+
+/// What is written of the runs of a lead's line, on a machine that was made with the same.
+fn leads_answer<'r, 'a>(
+    alloc: Global,
+    lead: &mut Lead<'a>,
+    machine: &mut Machine<'a>,
+    asked: &AskedLatency,
+) -> Answer<'r>
+    requires small { All (λ speedup. speedup ≤ GREATEST_SPEEDUP) asked.now.speedups.items }
+    requires arguments { arguments machine.old ≡ arguments lead.old }
+    ensures no_read { IsRead result → ⊥ }
+    ensures settled { (IsMemory result → ⊥) → verdict_of result ≡ latency_printed
+        (numbers_of asked.now.marked.arrive.items) (numbers_of asked.now.marked.depart.items)
+        (run_at lead.old) asked.now.speedups.items }
+{
+    lead.run();
+    let mut text = Vec::new(alloc);
+    let all = push_latencies(
+        &mut text,
+        lead,
+        machine,
+        &asked.speedups,
+        &asked.marked.arrive,
+        &asked.marked.depart,
+    )?;
+    Ok(Printed {
+        status: status_of(all),
+        text: Text::Bytes(text),
+    })
+}
+
+/// What is written of the runs of a lead's line, on a machine that is made for them.
+fn machine_answer<'r, 'a>(
+    alloc: Global,
+    image: &'a Image<'a>,
+    index: &'a LineIndex,
+    points: &'a Points,
+    input: &'a [u8],
+    choice: Choice,
+    lead: &mut Lead<'a>,
+    asked: &AskedLatency,
+) -> Answer<'r>
+    requires choice { IsChoice choice }
+    requires lead { arguments lead.old
+        ≡ arguments_of image.now index.now points.now input.now choice }
+    requires small { All (λ speedup. speedup ≤ GREATEST_SPEEDUP) asked.now.speedups.items }
+    ensures no_read { IsRead result → ⊥ }
+    ensures settled { (IsMemory result → ⊥) → verdict_of result ≡ latency_printed
+        (numbers_of asked.now.marked.arrive.items) (numbers_of asked.now.marked.depart.items)
+        (run_at lead.old) asked.now.speedups.items }
+{
+    let mut machine = Machine::new(alloc, image, index, points, input, choice)?;
+    let answer = leads_answer(alloc, lead, &mut machine, asked);
+    // By one call, since a drop in place is proved part by part.
+    drop(machine);
+    answer
+}
+
+/// What is written of the runs of a program at each speedup. Err: out of memory.
+fn runs_answer<'r>(
+    alloc: Global,
+    image: &Image,
+    index: &LineIndex,
+    input: &[u8],
+    budget: u64,
+    asked: &AskedLatency,
+) -> Answer<'r>
+    requires some_budget { 1 ≤ budget }
+    requires few { budget ≤ GREATEST_BUDGET }
+    requires points { IsPoints index.now asked.now.marked.points.lines asked.now.marked.points }
+    requires small { All (λ speedup. speedup ≤ GREATEST_SPEEDUP) asked.now.speedups.items }
+    ensures no_read { IsRead result → ⊥ }
+    ensures settled { (IsMemory result → ⊥) → verdict_of result ≡ latency_printed
+        (numbers_of asked.now.marked.arrive.items) (numbers_of asked.now.marked.depart.items)
+        (net_at_each (runs_in image.now index.now input.now) (Some asked.now.selected.0)
+        budget asked.now.marked.points.lines)
+        asked.now.speedups.items }
+{
+    let choice = choice(Some(asked.selected), 0, budget);
+    let points = &asked.marked.points;
+    let mut lead = Lead::new(alloc, image, index, points, input, choice)?;
+    let answer = machine_answer(alloc, image, index, points, input, choice, &mut lead, asked);
+    // By one call, since a drop in place is proved part by part.
+    drop(lead);
+    answer
+}
+
+/// What is written of the latencies of a program with these lines, if it has those
+/// that are named: of one lead and one machine, whatever the number of speedups.
+#[tactic(auto, using(crate::proofs::Budgets::few_budget))]
+pub fn latency_answer<'r>(
+    alloc: Global,
+    image: &Image,
+    index: &LineIndex,
+    input: &[u8],
+    request: &'r Request,
+) -> Answer<'r>
+    requires fit { IsFit request.now }
+    requires line { IsSome request.now.line }
+    requires some_budget { 1 ≤ request.now.budget }
+    ensures no_read { IsRead result → ⊥ }
+    ensures settled { (IsMemory result → ⊥) → verdict_of result ≡
+        latency_verdict request.now index.now.lines (runs_in image.now index.now input.now) }
+{
+    let asked = asked_latency(alloc, index, request)?;
+    runs_answer(alloc, image, index, input, request.budget, &asked)
+}

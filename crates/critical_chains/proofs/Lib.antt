@@ -1,0 +1,3 @@
+pub mod Heaviest
+pub mod Chains
+mod Examples

@@ -1,0 +1,13 @@
+use Rattle.std.proofs.Common.{◌≡◌, ◌<◌, ◌++◌, length, reverse}
+use Rattle.critical_chains.specs.Path.{event_at, chain_to, chain_of}
+use Rattle.critical_chains.proofs.chain.longest.Given as goal
+
+-- the numbers so far, from the last to the first, end the chain
+abbrev pub invariant-loop-number : goal.invariant-loop-number
+invariant-loop-number l =
+    (l.number < length l.events)
+    × (chain_of l.events
+    ≡ chain_to l.events (event_at l.events l.number).from l.number ++ reverse l.chain.items)
+
+abbrev pub decreases-loop-number : goal.decreases-loop-number
+decreases-loop-number l = l.number

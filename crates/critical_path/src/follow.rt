@@ -1,0 +1,127 @@
+//! What is known of each hart, brought up to a move of the engine.
+ghost use Rattle.std.specs.Prelude.{◌≡◌, ◌<◌, ◌++◌, [], ◌∷◌, ℕ, true, None, if◌then◌else◌, length, map, slice_set, OnOk, IfOk};
+ghost use Rattle.coz_types.specs.declared.TheConstants.{HARTS};
+ghost use Rattle.machines.specs.Places.{is_among};
+ghost use Rattle.machines.specs.Guest.{IsLater};
+ghost use Rattle.virtual_run.specs.Begin.{started_by};
+ghost use Rattle.critical_path.specs.Causes.{cause_at, started_with, woken_with, turned};
+ghost use Rattle.critical_path.specs.Follow.{ticks_from, IsBegun, CanFollow, IsFollowed};
+
+use crate::cause::{Cause, leave, start, wake_up};
+use coz_types::{Address, HARTS, HartId, Tick};
+use critical_chains::Event;
+use machines::Fate;
+use std::alloc::{AllocError, Global};
+use virtual_run::{Engine, Event as Move, Retired, Turn};
+
+/// The ticks for which a hart was begun at a moment.
+pub fn ticks_from(engine: &Engine, moment: Tick, hart: HartId) -> Tick
+    requires { IsBegun engine.now.schedule moment hart.0 }
+    ensures { result ≡ ticks_from engine.now.schedule moment hart.0 }
+{
+    match engine.due(hart) {
+        Some(due) => due - moment,
+        None => 0,
+    }
+}
+
+/// The hart that retired by this event is begun again, if it goes on.
+fn start_again(engine: &Engine, retired: Retired, causes: &mut [Cause], event: u32)
+    requires below { retired.hart.0 < length causes.old }
+    requires begun { (k : ℕ) → is_among k (started_by retired.hart.0 retired.fate []) ≡ true
+        → IsBegun engine.now.schedule engine.now.time k }
+    ensures { (k : ℕ) → cause_at causes.new k
+        ≡ (if is_among k (started_by retired.hart.0 retired.fate [])
+        then started_with (ticks_from engine.now.schedule engine.now.time k) event
+        (cause_at causes.old k) else cause_at causes.old k) }
+{
+    match retired.fate {
+        Fate::Goes => {
+            let ticks = ticks_from(engine, engine.time(), retired.hart);
+            start(causes, retired.hart, ticks, event);
+        }
+        _ => {}
+    }
+}
+
+/// The harts that this event started are begun.
+fn start_each(engine: &Engine, harts: &[HartId], causes: &mut [Cause], event: u32)
+    requires room { length causes.old ≡ HARTS }
+    requires begun { (k : ℕ) → is_among k (map (λ hart. hart.0) harts.now) ≡ true
+        → (k < HARTS) × IsBegun engine.now.schedule engine.now.time k }
+    ensures { (k : ℕ) → cause_at causes.new k
+        ≡ (if is_among k (map (λ hart. hart.0) harts.now)
+        then started_with (ticks_from engine.now.schedule engine.now.time k) event
+        (cause_at causes.old k) else cause_at causes.old k) }
+{
+    for hart in harts {
+        let ticks = ticks_from(engine, engine.time(), *hart);
+        start(causes, *hart, ticks, event);
+    }
+}
+
+/// A hart has retired by this event.
+fn follow_retired(engine: &Engine, retired: Retired, causes: &mut [Cause], event: u32)
+    requires room { length causes.old ≡ HARTS }
+    requires below { retired.hart.0 < HARTS }
+    requires later { IsLater engine.now.time retired.fate }
+    requires begun { (k : ℕ)
+        → is_among k (started_by retired.hart.0 retired.fate engine.now.started) ≡ true
+        → (k < HARTS) × IsBegun engine.now.schedule engine.now.time k }
+    ensures { (k : ℕ) → cause_at causes.new k
+        ≡ turned retired.hart.0 retired.fate engine.now.time event
+        (started_by retired.hart.0 retired.fate engine.now.started)
+        (ticks_from engine.now.schedule engine.now.time) k (cause_at causes.old k) }
+{
+    leave(causes, retired.hart, retired.fate, engine.time(), event);
+    start_again(engine, retired, causes, event);
+    start_each(engine, engine.started(), causes, event);
+}
+
+/// What is known of each hart, and the events so far.
+#[derive(Drop)]
+pub struct Walked {
+    pub causes: Vec<Cause>,
+    pub events: Vec<Event>,
+}
+
+/// Brings it up to the move that has led to this engine, where the hart was at that address
+/// before. Fails only when out of memory.
+pub fn follow(
+    engine: &Engine,
+    moved: Move,
+    address: Address,
+    walked: &mut Walked,
+) -> Result<(), AllocError>
+    requires { CanFollow engine.now moved walked.old.causes.items walked.old.events.items }
+    ensures follows { OnOk result (IsFollowed engine.now moved address
+        walked.old.causes.items walked.old.events.items
+        walked.new.causes.items walked.new.events.items) }
+    ensures room { OnOk result (length walked.new.causes.items
+        ≡ length walked.old.causes.items) }
+{
+    match moved {
+        Move::Woke(turn) => {
+            let ticks = ticks_from(engine, turn.due, turn.hart);
+            wake_up(&mut walked.causes, turn.hart, ticks);
+            Ok(())
+        }
+        Move::Retired(retired) => {
+            let number = walked.events.len() as u32;
+            let cause = walked.causes[usize::from(retired.hart.0)];
+            walked.events.push(Event {
+                hart: retired.hart,
+                address,
+                cost: cause.cost,
+                slept: cause.slept,
+                from: cause.from,
+                before: cause.before,
+                due: engine.time(),
+            })?;
+            if engine.ending().is_none() {
+                follow_retired(engine, retired, &mut walked.causes, number);
+            }
+            Ok(())
+        }
+    }
+}

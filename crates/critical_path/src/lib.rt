@@ -1,0 +1,9 @@
+//! The events of a run, which are its retirements: for each the event that started its hart for
+//! it, or began its sleep, and the hart's own event before.
+#![tactic(auto)]
+
+mod cause;
+mod follow;
+mod walked;
+
+pub use walked::walk;

@@ -1,0 +1,141 @@
+//! The events of a program's run.
+ghost use Rattle.std.specs.Prelude.{◌≡◌, ◌≤◌, ℕ, [], None, length, IfOk, if◌then◌else◌, ◌==◌};
+ghost use Rattle.coz_types.specs.declared.TheConstants.{HARTS};
+ghost use Rattle.machines.specs.Records.{shortened_record};
+ghost use Rattle.progress_points.specs.Points.{point_of};
+ghost use Rattle.guest_calls.specs.Guest.{pc_of};
+ghost use Rattle.virtual_run.specs.Run.{IsChoice};
+ghost use Rattle.critical_chains.specs.declared.TheConstants.{MOST_EVENTS};
+ghost use Rattle.critical_chains.specs.Path.{event_at, last_of, Linked};
+ghost use Rattle.critical_path.specs.Causes.{no_cause, cause_at};
+ghost use Rattle.critical_path.specs.Events.{events_of, AreBefores};
+ghost use Rattle.critical_path.specs.Follow.{ticks_from};
+ghost use Rattle.critical_path.specs.Walk.{plain_choice, plain, IsMadeOf};
+
+use crate::cause::Cause;
+use crate::follow::{Walked, follow, ticks_from};
+use coz_lists::Items;
+use coz_types::{Ending, HARTS, HartId, Image, MOST_VISITS_KEPT};
+use critical_chains::Trace;
+use dwarf_lines::LineTable;
+use guest_memory::Layout;
+use line_index::LineIndex;
+use progress_points::Points;
+use std::alloc::{AllocError, Global};
+use virtual_run::{Choice, Engine, Setting};
+
+/// An index of no lines.
+fn no_lines(alloc: Global, image: &Image) -> Result<LineIndex, AllocError> {
+    let table = LineTable {
+        files: Items::new(Vec::new(alloc)),
+        rows: Items::new(Vec::new(alloc)),
+        skipped: 0,
+    };
+    line_index::build(alloc, &table, image)
+}
+
+/// No points.
+fn no_points(alloc: Global, index: &LineIndex) -> Result<Points, AllocError>
+    ensures { IfOk result (λ points. (a : ℕ) → point_of points a ≡ None) }
+{
+    match Points::new(alloc, index, &[]) {
+        Ok(points) => Ok(points),
+        Err(_) => Err(AllocError),
+    }
+}
+
+/// What is known as a run begins.
+fn first_walked(alloc: Global, engine: &Engine) -> Result<Walked, AllocError>
+    ensures events { IfOk result (λ walked. walked.events.items ≡ []) }
+    ensures room { IfOk result (λ walked. length walked.causes.items ≡ HARTS) }
+    ensures causes { IfOk result (λ walked. (k : ℕ) → cause_at walked.causes.items k
+        ≡ (if k == 0 then record no_cause { cost = ticks_from engine.now.schedule 0 0 }
+        else no_cause)) }
+{
+    let none = Cause {
+        from: None,
+        before: None,
+        cost: 0,
+        slept: 0,
+    };
+    let mut causes = vec![in alloc; none; HARTS]?;
+    causes[0] = Cause {
+        cost: ticks_from(engine, 0, HartId(0)),
+        ..none
+    };
+    Ok(Walked {
+        causes,
+        events: Vec::new(alloc),
+    })
+}
+
+/// The trace of what is known as a run ends so.
+fn trace_of(
+    alloc: Global,
+    engine: &Engine,
+    walked: Walked,
+    ending: Ending,
+) -> Result<Trace, AllocError>
+    ensures { IfOk result (λ trace.
+        IsMadeOf trace ending walked.events.items engine.now.guest.output) }
+{
+    let output = Vec::from_slice(alloc, engine.output())?;
+    Ok(Trace {
+        events: Items::new(walked.events),
+        ending,
+        output: Items::new(output),
+    })
+}
+
+/// Runs a program with no selected line and no points, and gives its events, its ending and
+/// its output. Fails only when out of memory.
+pub fn walk<'a>(
+    alloc: Global,
+    image: &'a Image<'a>,
+    input: &'a [u8],
+    budget: u64,
+    output_limit: u64,
+    layout: Layout,
+) -> Result<Trace, AllocError>
+    requires choice { IsChoice (plain_choice budget output_limit layout) }
+    requires few { budget ≤ MOST_EVENTS }
+    ensures events { IfOk result (λ trace. trace.events
+        ≡ events_of (plain image.now input.now budget output_limit layout) pc_of) }
+    ensures ending { IfOk result (λ trace. trace.ending
+        ≡ (shortened_record (plain image.now input.now budget output_limit layout)).ending) }
+    ensures output { IfOk result (λ trace. trace.output
+        ≡ (shortened_record (plain image.now input.now budget output_limit layout)).output) }
+    ensures linked { IfOk result (λ trace. Linked trace.events) }
+    ensures many { IfOk result (λ trace. length trace.events
+        ≡ (shortened_record (plain image.now input.now budget output_limit layout)).retired) }
+    ensures whole { IfOk result (λ trace. (event_at trace.events (last_of trace.events)).due
+        ≡ (shortened_record (plain image.now input.now budget output_limit layout)).time) }
+    ensures befores { IfOk result (λ trace. AreBefores trace.events) }
+{
+    let index = no_lines(alloc, image)?;
+    let points = no_points(alloc, &index)?;
+    let choice = Choice {
+        selected: None,
+        speedup: 0,
+        budget,
+        output_limit,
+        visit_limit: MOST_VISITS_KEPT,
+        layout,
+    };
+    let setting = Setting {
+        index: &index,
+        points: &points,
+        choice,
+    };
+    let mut engine = Engine::new(alloc, image, input, &setting)?;
+    let mut walked = first_walked(alloc, &engine)?;
+    while engine.ending().is_none() {
+        let address = engine.address_due();
+        let moved = engine.advance(&setting, 0);
+        follow(&engine, moved, address, &mut walked)?;
+    }
+    let Some(ending) = engine.ending() else {
+        unreachable!()
+    };
+    trace_of(alloc, &engine, walked, ending)
+}

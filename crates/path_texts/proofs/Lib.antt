@@ -1,0 +1,2 @@
+pub mod PathSegments
+pub mod PathShares

@@ -1,0 +1,98 @@
+-- Segments of a path, one event after the other.
+use Rattle.std.proofs.Common.{◌≡◌, ℕ, ◌+◌, ◌<◌, ◌≤◌, ◌==◌, if◌then◌else◌, Bool, true, false, List, [], ◌∷◌, ◌++◌, length, get_or, drop, drop-cons, add-one, refl, sym, ap, ◌∙◌, arith, append_assoc, Option}
+use Rattle.std.specs.List.{flat_map}
+use Rattle.std.proofs.lemmas.List.{append-nil, drop_all}
+use Rattle.coz_types.specs.Labels.{Text}
+use Rattle.coz_files.specs.Gathered.{Gathers, Rest}
+use Rattle.critical_chains.specs.declared.event.Event.{Event}
+use Rattle.critical_chains.specs.Path.{event_at}
+use Rattle.path_texts.specs.declared.texts.Segment.{Segment}
+use Rattle.path_texts.specs.PathText.{first_segment, next_segment, segments_from, segments_of, segment_line, events_on}
+use Rattle.path_texts.specs.Segments.{after, closed}
+
+-- one more, where an event ends a segment
+abbrev pub ends : Segment → Event → ℕ
+ends s e = if e.hart.0 == s.hart.0 then 0 else 1
+
+count_by : (b : Bool) (s : Segment) (e : Event) (es : List Event)
+    → length (if b then segments_from (record s { end = e.due }) es else s ∷ segments_from (next_segment s e) es)
+    ≡ (if b then 0 else 1) + length (segments_from (if b then record s { end = e.due } else next_segment s e) es)
+count_by true s e es = omega arith
+count_by false s e es = omega arith
+
+text_by : (b : Bool) (s : Segment) (e : Event) (es : List Event)
+    → flat_map segment_line (if b then segments_from (record s { end = e.due }) es else s ∷ segments_from (next_segment s e) es)
+    ≡ (if b then [] else segment_line s) ++ flat_map segment_line (segments_from (if b then record s { end = e.due } else next_segment s e) es)
+text_by true s e es = refl
+text_by false s e es = refl
+
+count_step : (s : Segment) (e : Event) (es : List Event) → length (segments_from s (e ∷ es)) ≡ ends s e + length (segments_from (after s e) es)
+count_step s e es = count_by (e.hart.0 == s.hart.0) s e es
+
+text_step : (s : Segment) (e : Event) (es : List Event) → flat_map segment_line (segments_from s (e ∷ es)) ≡ closed s e ++ flat_map segment_line (segments_from (after s e) es)
+text_step s e es = text_by (e.hart.0 == s.hart.0) s e es
+
+-- the events from one place on
+on_from : (events : List Event) (chain : List ℕ) (i : ℕ) → i < length chain → events_on events (drop i chain) ≡ event_at events (get_or chain i 0) ∷ events_on events (drop (i + 1) chain)
+on_from events chain i below =
+    ap (events_on events) (drop-cons chain i 0 below ∙ ap (λ (j : ℕ). get_or chain i 0 ∷ drop j chain) (sym (add-one i)))
+
+-- one more event is counted
+pub counted : (events : List Event) (chain : List ℕ) (i : ℕ) (s : Segment) (e : Event) → i < length chain → e ≡ event_at events (get_or chain i 0)
+    → length (segments_from s (events_on events (drop i chain))) ≡ ends s e + length (segments_from (after s e) (events_on events (drop (i + 1) chain)))
+counted events chain i s e below is =
+    ap (λ (es : List Event). length (segments_from s es)) (on_from events chain i below ∙ ap (λ (f : Event). f ∷ events_on events (drop (i + 1) chain)) (sym is))
+    ∙ count_step s e (events_on events (drop (i + 1) chain))
+
+-- and written
+pub written : (events : List Event) (chain : List ℕ) (i : ℕ) (s : Segment) (e : Event) → i < length chain → e ≡ event_at events (get_or chain i 0)
+    → flat_map segment_line (segments_from s (events_on events (drop i chain))) ≡ closed s e ++ flat_map segment_line (segments_from (after s e) (events_on events (drop (i + 1) chain)))
+written events chain i s e below is =
+    ap (λ (es : List Event). flat_map segment_line (segments_from s es)) (on_from events chain i below ∙ ap (λ (f : Event). f ∷ events_on events (drop (i + 1) chain)) (sym is))
+    ∙ text_step s e (events_on events (drop (i + 1) chain))
+
+module _ (events : List Event) (chain : List ℕ) (i : ℕ) (s t : Segment) (e : Event) (below : i < length chain) (is : e ≡ event_at events (get_or chain i 0)) (next : t ≡ after s e) where
+  pub count_more : (count new total : ℕ) → new ≡ count + ends s e
+      → count + length (segments_from s (events_on events (drop i chain))) ≡ total
+      → new + length (segments_from t (events_on events (drop (i + 1) chain))) ≡ total
+  count_more count new total more so_far =
+      let step = counted events chain i s e below is in
+      let same = ap (λ (u : Segment). length (segments_from u (events_on events (drop (i + 1) chain)))) next in
+      omega (arith, step, same, more, so_far)
+
+  pub text_more : (done whole : Text)
+      → done ++ flat_map segment_line (segments_from s (events_on events (drop i chain))) ≡ whole
+      → (done ++ closed s e) ++ flat_map segment_line (segments_from t (events_on events (drop (i + 1) chain))) ≡ whole
+  text_more done whole so_far =
+      let rest : Text = flat_map segment_line (segments_from (after s e) (events_on events (drop (i + 1) chain))) in
+      ap (λ (u : Segment). (done ++ closed s e) ++ flat_map segment_line (segments_from u (events_on events (drop (i + 1) chain)))) next
+      ∙ append_assoc done (closed s e) rest
+      ∙ ap (λ (text : Text). done ++ text) (sym (written events chain i s e below is))
+      ∙ so_far
+
+-- the last segment ends with the last event
+pub count_last : (events : List Event) (chain : List ℕ) (i : ℕ) (s : Segment) (count total : ℕ) → length chain ≤ i
+    → count + length (segments_from s (events_on events (drop i chain))) ≡ total + 1 → count ≡ total
+count_last events chain i s count total all so_far =
+    let same = ap (λ (xs : List ℕ). length (segments_from s (events_on events xs))) (drop_all i chain all) in
+    omega (arith, same, so_far)
+
+pub text_last : (events : List Event) (chain : List ℕ) (i : ℕ) (s : Segment) (done whole : Text) → length chain ≤ i
+    → done ++ flat_map segment_line (segments_from s (events_on events (drop i chain))) ≡ whole → done ++ segment_line s ≡ whole
+text_last events chain i s done whole all so_far =
+    ap (λ (text : Text). done ++ text) (sym (append-nil (segment_line s)))
+    ∙ ap (λ (xs : List ℕ). done ++ flat_map segment_line (segments_from s (events_on events xs))) (sym (drop_all i chain all))
+    ∙ so_far
+
+-- the first segment begins with the first event
+pub begins : (events : List Event) (chain rest : List ℕ) (first : ℕ) (s : Segment) → chain ≡ first ∷ rest → s ≡ first_segment (event_at events first)
+    → segments_from s (events_on events (drop 0 rest)) ≡ segments_of (events_on events chain)
+begins events chain rest first s is at =
+    ap (λ (u : Segment). segments_from u (events_on events rest)) at
+    ∙ ap (λ (xs : List ℕ). segments_of (events_on events xs)) (sym is)
+
+-- what is put of a path, and that the segments that are left make the text whole
+pub record IsPut {S : Type 0} (holds : S → Option Text) (faults : S → ℕ) (old new : S) (rest left : Rest) (events : List Event) (s : Segment) (chain : List ℕ) (whole : Text) : Type 0 where
+  pub done : Text
+  pub gathers : Gathers holds faults old new rest left done
+  pub is : done ++ flat_map segment_line (segments_from s (events_on events chain)) ≡ whole

@@ -1,0 +1,3 @@
+pub mod PathText
+pub mod Segments
+pub mod Shares

@@ -1,0 +1,144 @@
+-- What `path` prints: the segments of a critical path, which are its maximal runs on one hart,
+-- how much of it each line has, and how long it slept.
+use Rattle.std.specs.Prelude.{ℕ, Bool, false, ◌==◌, nat_lt, List, [], ◌∷◌, ◌++◌, length, map, flat_map, get_or, sum_by, Option, Some, None, is_none, if◌then◌else◌, codes, decimal}
+use Rattle.std.specs.List.{filter, range_with_len}
+use Rattle.std.specs.Ordering.{is_lt, nat_cmp}
+use Rattle.coz_types.specs.Endings.{ending_text}
+use Rattle.coz_types.specs.Labels.{Text}
+use Rattle.coz_types.specs.declared.ending.Ending.{Ending}
+use Rattle.line_index.specs.Lines.{Line, label}
+use Rattle.line_index.specs.Index.{Index}
+use Rattle.causal_curves.specs.Curves.{sorted_by}
+use Rattle.critical_chains.specs.declared.event.Event.{Event}
+use Rattle.critical_chains.specs.Path.{event_at}
+use Rattle.path_texts.specs.declared.texts.CriticalPath.{CriticalPath}
+use Rattle.path_texts.specs.declared.texts.Segment.{Segment}
+use Rattle.path_texts.specs.declared.texts.Handover.{Handover}
+use Rattle.path_texts.specs.declared.texts.Handover.TheVariants.{Start, Clone, Wake}
+use Rattle.path_texts.specs.declared.shares.Share.{Share}
+
+-- ---- segments
+
+-- how a hart came to carry the path: its first event has none before it
+abbrev pub handover : Event → Handover
+handover e = if is_none e.before then Clone else Wake
+
+abbrev pub first_segment : Event → Segment
+first_segment e = record { hart = e.hart; start = 0; end = e.due; by = Start }
+
+abbrev pub next_segment : Segment → Event → Segment
+next_segment s e = record { hart = e.hart; start = s.end; end = e.due; by = handover e }
+
+-- a segment, which the events behind it may prolong, and those that follow
+abbrev pub segments_from : Segment → List Event → List Segment
+segments_from s [] = s ∷ []
+segments_from s (e ∷ es) =
+    if e.hart.0 == s.hart.0 then segments_from (record s { end = e.due }) es
+    else s ∷ segments_from (next_segment s e) es
+
+-- those of the events of a path
+abbrev pub segments_of : List Event → List Segment
+segments_of [] = []
+segments_of (e ∷ es) = segments_from (first_segment e) es
+
+-- ---- shares
+
+-- an address has the line at this position
+abbrev pub is_on : Option ℕ → ℕ → Bool
+is_on None line = false
+is_on (Some at) line = at == line
+
+-- the work of the events whose addresses have this line
+abbrev pub work_on : (ℕ → Option ℕ) → ℕ → List Event → ℕ
+work_on line_of line path = sum_by (λ e. if is_on (line_of e.address) line then e.cost else 0) path
+
+-- of those whose addresses have none
+abbrev pub work_elsewhere : (ℕ → Option ℕ) → List Event → ℕ
+work_elsewhere line_of path = sum_by (λ e. if is_none (line_of e.address) then e.cost else 0) path
+
+-- how long a path slept
+abbrev pub slept_on : List Event → ℕ
+slept_on path = sum_by (λ e. e.slept) path
+
+abbrev pub share_of : (ℕ → Option ℕ) → List Event → ℕ → Share
+share_of line_of path line = record { line = line; ticks = work_on line_of line path }
+
+abbrev pub has_some : Share → Bool
+has_some s = nat_lt 0 s.ticks
+
+abbrev pub has_more : Share → Share → Bool
+has_more s t = is_lt (nat_cmp t.ticks s.ticks)
+
+-- the shares of so many lines that have one, by falling ticks, and then in the order of the lines
+abbrev pub shares_of : (ℕ → Option ℕ) → ℕ → List Event → List Share
+shares_of line_of lines path =
+    sorted_by has_more (filter has_some (map (share_of line_of path) (range_with_len 0 lines)))
+
+-- ---- the text
+
+abbrev pub by_text : Handover → Text
+by_text Start = codes "start"
+by_text Clone = codes "clone"
+by_text Wake = codes "wake"
+
+-- a name and a number
+abbrev pub named : Text → ℕ → Text
+named name n = name ++ decimal n
+
+abbrev pub segment_line : Segment → Text
+segment_line s = named (codes "segment ") s.hart.0
+    ++ named (codes " from ") s.start
+    ++ named (codes " to ") s.end
+    ++ (codes " by " ++ by_text s.by) ++ codes "\n"
+
+-- of the line at a position
+abbrev pub name_at : List Line → ℕ → Text
+name_at lines k = get_or (map label lines) k []
+
+abbrev pub share_line : List Line → Share → Text
+share_line lines s =
+    (codes "share " ++ name_at lines s.line) ++ named (codes " ") s.ticks ++ codes "\n"
+
+-- a name and a number on a line
+abbrev pub number_line : Text → ℕ → Text
+number_line name n = named name n ++ codes "\n"
+
+-- the same, unless the number is 0
+abbrev pub amount_line : Text → ℕ → Text
+amount_line name n = if n == 0 then [] else number_line name n
+
+abbrev pub head_lines : Ending → ℕ → ℕ → ℕ → Text
+head_lines ending net retired segments = codes "end " ++ ending_text ending ++ codes "\n"
+    ++ number_line (codes "net ") net
+    ++ number_line (codes "retired ") retired
+    ++ number_line (codes "segments ") segments
+
+-- the shares of lines, of code without a line, and of sleep
+abbrev pub share_lines : List Line → List Share → ℕ → ℕ → Text
+share_lines lines shares none sleep = flat_map (share_line lines) shares
+    ++ amount_line (codes "share none ") none
+    ++ amount_line (codes "sleep ") sleep
+
+-- of a run that ended so after so many ticks and instructions, by the events of its path
+abbrev pub path_lines : Ending → ℕ → ℕ → List Event → List Line → List Share → ℕ → ℕ → Text
+path_lines ending net retired path lines shares none sleep =
+    head_lines ending net retired (length (segments_of path))
+    ++ flat_map segment_line (segments_of path)
+    ++ share_lines lines shares none sleep
+
+-- what `path` prints of it, where each address has its line among these
+unfoldable pub path_text : Ending → ℕ → ℕ → List Event → (ℕ → Option ℕ) → List Line → Text
+path_text ending net retired path line_of lines =
+    path_lines ending net retired path lines (shares_of line_of (length lines) path)
+    (work_elsewhere line_of path) (slept_on path)
+
+-- the events of a chain of numbers
+abbrev pub events_on : List Event → List ℕ → List Event
+events_on events chain = map (event_at events) chain
+
+-- of a critical path, whose shares are of the lines of an index
+abbrev pub written_path : CriticalPath → Index → Text
+written_path path index =
+    path_lines path.trace.ending path.net (length path.trace.events)
+    (events_on path.trace.events path.chain.items) index.lines
+    path.shares.lines path.shares.none path.shares.sleep

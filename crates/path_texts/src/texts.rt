@@ -1,0 +1,270 @@
+//! The text of a critical path, on its way to a sink.
+ghost use Rattle.std.specs.Prelude.{◌≡◌, ◌≤◌, length, flat_map, IfOk};
+ghost use Rattle.coz_files.specs.Gathered.{Gathers};
+ghost use Rattle.coz_files.specs.Puts.{Puts};
+ghost use Rattle.line_index.specs.Index.{position_at};
+ghost use Rattle.critical_chains.specs.Path.{event_at, last_of, chain_of, Linked};
+ghost use Rattle.path_texts.specs.PathText.{number_line};
+ghost use Rattle.path_texts.specs.PathText.{amount_line, by_text, events_on, first_segment, handover, head_lines, name_at, path_text, segment_line, segments_of, share_line, share_lines, written_path};
+ghost use Rattle.path_texts.specs.Segments.{after, closed};
+
+use crate::shares::{Share, Shares, event_of, shares_of_path};
+use coz_files::{PutAnswer, PutBuffer, Sink};
+use coz_types::{HartId, LineId, Tick};
+use critical_chains::{Event, Trace, longest};
+use line_index::LineIndex;
+use profile_book::{put_ending, put_field, put_number};
+use std::alloc::{AllocError, Global};
+
+/// How a hart came to carry a path.
+#[derive(Clone, Copy, Debug)]
+pub enum Handover {
+    /// The program began with it.
+    Start,
+    /// Another hart made it.
+    Clone,
+    /// Another hart woke it.
+    Wake,
+}
+
+/// A maximal run of a path on one hart.
+#[derive(Clone, Copy, Debug)]
+pub struct Segment {
+    /// The hart.
+    pub hart: HartId,
+    /// When the event ahead of its first was due, in net ticks, or 0.
+    pub start: Tick,
+    /// When its last event was due, in net ticks.
+    pub end: Tick,
+    /// How the hart came to carry the path.
+    pub by: Handover,
+}
+
+/// The critical path of a run.
+#[derive(Drop)]
+pub struct CriticalPath {
+    /// The run.
+    pub trace: Trace,
+    /// The numbers of the events of the path.
+    pub chain: Vec<u32>,
+    /// When the last event was due, in net ticks.
+    pub net: Tick,
+    /// How much of the path each line has.
+    pub shares: Shares,
+}
+
+/// The segment of the first event of a path.
+fn first_segment(event: &Event) -> Segment
+    ensures { result ≡ first_segment event.now }
+{
+    Segment {
+        hart: event.hart,
+        start: 0,
+        end: event.due,
+        by: Handover::Start,
+    }
+}
+
+/// How the hart of an event came to carry the path with it.
+fn taken_by(event: &Event) -> Handover
+    ensures { result ≡ handover event.now }
+{
+    match event.before {
+        Some(_) => Handover::Wake,
+        None => Handover::Clone,
+    }
+}
+
+/// The segment that an event is in, where the one ahead of it is in this one.
+fn after(segment: Segment, event: &Event) -> Segment
+    ensures { result ≡ after segment event.now }
+{
+    if event.hart.0 == segment.hart.0 {
+        return Segment {
+            end: event.due,
+            ..segment
+        };
+    }
+    Segment {
+        hart: event.hart,
+        start: segment.end,
+        end: event.due,
+        by: taken_by(event),
+    }
+}
+
+/// How many segments a path has.
+fn count_segments(events: &[Event], chain: &[u32]) -> u64
+    ensures { result ≡ length (segments_of (events_on events.now chain.now)) }
+{
+    let Some((first, rest)) = chain.split_first() else {
+        return 0;
+    };
+    let mut segment = first_segment(&event_of(events, *first));
+    let mut count = 1;
+    for number in rest {
+        let event = event_of(events, *number);
+        count += u64::from(event.hart.0 != segment.hart.0);
+        segment = after(segment, &event);
+    }
+    count
+}
+
+fn by_text(by: Handover) -> &'static [u8]
+    ensures { result.now ≡ by_text by }
+{
+    match by {
+        Handover::Start => b"start",
+        Handover::Clone => b"clone",
+        Handover::Wake => b"wake",
+    }
+}
+
+fn put_segment<O: Sink>(to: &mut PutBuffer, out: &mut O, segment: Segment)
+    ensures { Gathers O.holds O.faults out.old out.new to.old to.new (segment_line segment) }
+{
+    put_number(to, out, b"segment ", u64::from(segment.hart.0));
+    put_number(to, out, b" from ", segment.start);
+    put_number(to, out, b" to ", segment.end);
+    put_field(to, out, b" by ", by_text(segment.by));
+    to.push(out, b"\n");
+}
+
+/// The line of a segment, if an event behind it ends it.
+fn put_closed<O: Sink>(to: &mut PutBuffer, out: &mut O, segment: Segment, event: &Event)
+    ensures { Gathers O.holds O.faults out.old out.new to.old to.new (closed segment event.now) }
+{
+    if event.hart.0 != segment.hart.0 {
+        put_segment(to, out, segment);
+    }
+}
+
+/// The line of each segment of a path.
+fn put_segments<O: Sink>(to: &mut PutBuffer, out: &mut O, events: &[Event], chain: &[u32])
+    ensures { Gathers O.holds O.faults out.old out.new to.old to.new
+        (flat_map segment_line (segments_of (events_on events.now chain.now))) }
+{
+    let Some((first, rest)) = chain.split_first() else {
+        return;
+    };
+    let mut segment = first_segment(&event_of(events, *first));
+    for number in rest {
+        let event = event_of(events, *number);
+        put_closed(to, out, segment, &event);
+        segment = after(segment, &event);
+    }
+    put_segment(to, out, segment);
+}
+
+/// How the line at a position is written.
+fn name_at(index: &LineIndex, line: u32) -> &[u8]
+    ensures { result.now ≡ name_at index.now.lines line }
+{
+    if line < index.count() {
+        return index.label(LineId(line)).bytes();
+    }
+    b""
+}
+
+fn put_share<O: Sink>(to: &mut PutBuffer, out: &mut O, index: &LineIndex, share: Share)
+    ensures { Gathers O.holds O.faults out.old out.new to.old to.new
+        (share_line index.now.lines share) }
+{
+    put_field(to, out, b"share ", name_at(index, share.line));
+    put_number(to, out, b" ", share.ticks);
+    to.push(out, b"\n");
+}
+
+fn put_shares<O: Sink>(to: &mut PutBuffer, out: &mut O, index: &LineIndex, shares: &[Share])
+    ensures { Gathers O.holds O.faults out.old out.new to.old to.new
+        (flat_map (share_line index.now.lines) shares.now) }
+{
+    for share in shares {
+        put_share(to, out, index, *share);
+    }
+}
+
+/// A line of a name and a number, unless the number is 0.
+fn put_amount<O: Sink>(to: &mut PutBuffer, out: &mut O, name: &[u8], number: u64)
+    ensures { Gathers O.holds O.faults out.old out.new to.old to.new
+        (amount_line name.now number) }
+{
+    if number > 0 {
+        put_number(to, out, name, number);
+        to.push(out, b"\n");
+    }
+}
+
+/// A line of a name and a number.
+fn put_line<O: Sink>(to: &mut PutBuffer, out: &mut O, name: &[u8], number: u64)
+    ensures { Gathers O.holds O.faults out.old out.new to.old to.new
+        (number_line name.now number) }
+{
+    put_number(to, out, name, number);
+    to.push(out, b"\n");
+}
+
+/// The lines ahead of the segments, of which there are this many.
+fn put_head<O: Sink>(to: &mut PutBuffer, out: &mut O, path: &CriticalPath, segments: u64)
+    ensures { Gathers O.holds O.faults out.old out.new to.old to.new
+        (head_lines path.now.trace.ending path.now.net (length path.now.trace.events) segments) }
+{
+    to.push(out, b"end ");
+    put_ending(to, out, path.trace.ending);
+    to.push(out, b"\n");
+    put_line(to, out, b"net ", path.net);
+    put_line(to, out, b"retired ", path.trace.events.len() as u64);
+    put_line(to, out, b"segments ", segments);
+}
+
+/// The lines of the shares of a path.
+fn put_parts<O: Sink>(to: &mut PutBuffer, out: &mut O, shares: &Shares, index: &LineIndex)
+    ensures { Gathers O.holds O.faults out.old out.new to.old to.new
+        (share_lines index.now.lines shares.now.lines shares.now.none shares.now.sleep) }
+{
+    put_shares(to, out, index, shares.lines.as_slice());
+    put_amount(to, out, b"share none ", shares.none);
+    put_amount(to, out, b"sleep ", shares.sleep);
+}
+
+/// When the last event of a run was due, in net ticks.
+fn net_of(events: &[Event]) -> Tick
+    requires { 1 ≤ length events.now }
+    ensures { result ≡ (event_at events.now (last_of events.now)).due }
+{
+    events[events.len() - 1].due
+}
+
+/// The critical path of a run, whose addresses have the lines of an index.
+/// Fails only when out of memory.
+pub fn path_of(alloc: Global, index: &LineIndex, trace: Trace) -> Result<CriticalPath, AllocError>
+    requires { Linked trace.events }
+    ensures ending { IfOk result (λ path. path.trace.ending ≡ trace.ending) }
+    ensures text { IfOk result (λ path. written_path path index.now ≡ path_text trace.ending
+        (event_at trace.events (last_of trace.events)).due (length trace.events)
+        (events_on trace.events (chain_of trace.events)) (position_at index.now) index.now.lines) }
+{
+    let events = trace.events.as_slice();
+    let net = net_of(events);
+    let chain = longest(alloc, &trace)?;
+    let shares = shares_of_path(alloc, index, events, &chain)?;
+    Ok(CriticalPath {
+        trace,
+        chain,
+        net,
+        shares,
+    })
+}
+
+/// Puts the text of a critical path, whose shares are of the lines of an index.
+/// It takes no memory.
+pub fn write_path<O: Sink>(path: &CriticalPath, index: &LineIndex, out: &mut O) -> PutAnswer
+    ensures { Puts O.holds O.faults out.old out.new result (written_path path.now index.now) }
+{
+    let events = path.trace.events.as_slice();
+    let mut buffer = PutBuffer::new();
+    put_head(&mut buffer, out, path, count_segments(events, &path.chain));
+    put_segments(&mut buffer, out, events, &path.chain);
+    put_parts(&mut buffer, out, &path.shares, index);
+    buffer.finish(out)
+}
