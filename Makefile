@@ -1,7 +1,9 @@
 # make         proves and builds both programs, and leaves them as build/coz and build/coz-page
-# make test    runs the merge gate, and then renders the man pages
+# make test    runs the merge gate, and then checks the man pages, that machines take no memory,
+#              and the profile of an example, where build/coz stands
 # make try ARGS="run examples/one"    runs the program with no proof, in seconds
-# make guests  builds, with Debian's packages, what guests/coz-cc links programs with, and then the examples in C
+# make guests  builds, with Debian's packages, what guests/coz-cc links programs with
+# make examples    builds the examples in C as they stand, with a C library of their own
 # make page    the same of build/coz-page alone
 # make install PREFIX=DIR    puts the programs and their man pages below DIR; make uninstall takes them away
 
@@ -10,7 +12,7 @@ PREFIX ?= /usr/local
 
 EXAMPLES = longer ledger
 
-.PHONY: build page test try guests install uninstall clean
+.PHONY: build page test try guests examples install uninstall clean
 
 build: page
 	cd crates/coz && rt run -- run data/one > /dev/null
@@ -25,13 +27,18 @@ page:
 test:
 	bash .ci/run
 	tools/check-man
+	tools/check-memory
+	tools/check-examples
 
 try:
 	cd crates/coz && rt try $(foreach file,$(wildcard $(ARGS)),--data $(file)=$(abspath $(file))) -- $(ARGS)
 
 guests:
 	guests/build
-	for name in $(EXAMPLES); do guests/coz-cc -O1 -o examples/$$name examples/$$name.c || exit 1; done
+
+examples:
+	guests/build plain
+	for name in $(EXAMPLES); do COZ_LIBRARY=plain guests/coz-cc -O1 -o examples/$$name examples/$$name.c || exit 1; done
 
 install: build
 	install -D -m 755 build/coz $(DESTDIR)$(PREFIX)/bin/coz
