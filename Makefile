@@ -1,7 +1,7 @@
 # make         proves and builds both programs, and leaves them as build/coz and build/coz-page
 # make test    runs the merge gate, and then checks the man pages, that machines take no memory,
 #              and the profile of an example, where build/coz stands
-# make try ARGS="run examples/one"    runs the program with no proof, in seconds
+# make try ARGS="run examples/one"    runs the program with no proof, in some minutes
 # make guests  builds, with Debian's packages, what guests/coz-cc links programs with
 # make examples    builds the examples in C as they stand, with a C library of their own
 # make page    the same of build/coz-page alone
