@@ -1,4 +1,4 @@
--- The bytes of a token are passed, and a line's tokens go on behind it.
+-- The bytes of a token are passed, and a line's tokens go on after it.
 use Rattle.std.proofs.Common.{◌≡◌, ◌≤◌, ◌<◌, length, ℕ, zero, suc, ◌+◌, ◌-◌, List, [], ◌∷◌, ◌++◌, drop, refl, Ok, Err, ap, ap₂, ◌∙◌, sym, arith}
 use Rattle.std.proofs.lemmas.List.{drop-drop, append_assoc, length-drop}
 use Rattle.asm_tokens.specs.declared.AsmKind.TheVariants as kinds

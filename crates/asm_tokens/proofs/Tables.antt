@@ -1,4 +1,4 @@
--- Look-ups in a table that is one behind another, and in that of the atomics.
+-- Look-ups in a table that follows another, and in that of the atomics.
 use Rattle.std.proofs.Common.{◌≡◌, ℕ, suc, ◌+◌, ◌<◌, true, false, ◌&&◌, nat_eq, length, take, drop, get_or, map, List, [], ◌∷◌, ◌++◌, Option, Some, None, option_map, cond, bytes_eq, Bor, refl, sym, ap, ap₂, ◌∙◌, true≢false, eq-eqb, take-append-drop, drop-cons, add-one}
 use Rattle.std.proofs.lemmas.Slice.Eq.{bytes_eq-Decides}
 use Rattle.std.specs.List.{flat_map}
@@ -24,7 +24,7 @@ pub form_of-join : (name : List ℕ) (found : Option Form) → found ≡ look_up
 unfolding form_of rows
 form_of-join name found e = look_up-join name plain_rows atomic_rows ∙ ap (λ (o : Option Form). option_or o (look_up name atomic_rows)) (sym e)
 
--- ---- an atomic's words: what stands behind its own is looked up among the suffixes
+-- ---- an atomic's words: what stands after its own is looked up among the suffixes
 
 bytes_eq-behind : (word rest suffix : List ℕ) → bytes_eq (word ++ rest) (word ++ suffix) ≡ bytes_eq rest suffix
 bytes_eq-behind [] rest suffix = refl
@@ -39,7 +39,7 @@ bytes_eq-apart (w ∷ word) (n ∷ name) suffix apart =
     [ true ↦ bytes_eq-apart word name suffix | false ↦ λ e. refl ] apart
 
 module _ {A B : Type 0} (word : List ℕ) (view : A → B) where
-  -- behind the word, and read as this
+  -- after the word, and read as this
   abbrev behind : List (Named A) → List (Named B)
   behind suffixes = map (λ s. (word ++ s.0, view s.1)) suffixes
 
@@ -64,7 +64,7 @@ Atomic = Bor (List ℕ) × (AtomicOp × Width)
 pub ordered-apart : (atomic : Atomic) (name : List ℕ) → bytes_eq (take (length atomic.0.now) name) atomic.0.now ≡ false → look_up name (order_rows (entry_view atomic)) ≡ None
 ordered-apart atomic name apart = look_up-apart atomic.0.now (forms.Atomic atomic.1.0 atomic.1.1) name suffixes apart
 
--- and one that does, with this order behind it or none
+-- and one that does, with this order after it or none
 pub ordered-suffix : (atomic : Atomic) (name suffix : List ℕ) (order : Option Order) → bytes_eq (take (length atomic.0.now) name) atomic.0.now ≡ true → suffix ≡ drop (length atomic.0.now) name
     → order ≡ look_up suffix suffixes
     → look_up name (order_rows (entry_view atomic)) ≡ option_map (forms.Atomic atomic.1.0 atomic.1.1) order

@@ -147,7 +147,7 @@ atomics =
     ∷ with_name "amomaxu.d" (Amomaxu, Double)
     ∷ []
 
--- the orders, by what stands for them behind an atomic's word
+-- the orders, by their suffixes in the name of an atomic
 abbrev pub suffixes : List (Named Order)
 suffixes =
     with_name "" orders.Relaxed

@@ -97,14 +97,14 @@ pub record Placed : Type 0 where
   pub column : ℕ
   pub token : Token
 
--- what begins at the front of a line's rest; a token is of so many bytes
+-- what begins at the front of a line's rest; a token with the number of its bytes
 pub data Front : Type 0 where
   Blank : Front
   Comment : Front
   Begins : (token : Token) (bytes : ℕ) → Front
   Wrong : Front
 
--- what a byte behind a backslash stands for
+-- the byte that an escape, a backslash and this byte, denotes
 abbrev pub escapes : List (ℕ × ℕ)
 escapes =
     (byte "n", 10) ∷ (byte "t", 9) ∷ (byte "\\", byte "\\")
@@ -123,7 +123,7 @@ one_more t = (t.0, t.1 + 1)
 abbrev pub with_byte : ℕ → Spelling → Spelling
 with_byte b t = (b ∷ t.0, t.1 + 1)
 
--- the text up to its closing quote; the flag is true behind a backslash
+-- the text up to its closing quote; the flag is true after a backslash
 abbrev pub text : Bool → List ℕ → Option Spelling
 text behind [] = None
 text true (b ∷ bs) =
@@ -163,7 +163,7 @@ front (b ∷ bs) =
     else if is_of_name b then Begins (Name (word (b ∷ bs))) (length (word (b ∷ bs)))
     else Wrong
 
--- the tokens from a column on; so many bytes are still of the last one
+-- the tokens from a column on; the next `left` bytes belong to the last one
 abbrev pub tokens_from : ℕ → ℕ → List ℕ → Read (List Placed)
 tokens_from column left [] = Ok []
 tokens_from column (suc left) (b ∷ bs) = tokens_from (column + 1) left bs

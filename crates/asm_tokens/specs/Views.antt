@@ -34,7 +34,7 @@ front_of view ahead.Comment = Comment
 front_of view (ahead.Begins token bytes) = Begins (view token) bytes
 front_of view ahead.Wrong = Wrong
 
--- a token that was found has some of so many bytes
+-- a token that was found has at least one and at most n bytes
 abbrev pub IsWithin : Found → ℕ → Type 0
 IsWithin ahead.Blank n = Unit {0}
 IsWithin ahead.Comment n = Unit {0}
@@ -53,7 +53,7 @@ abbrev pub GivesLine : {X A : Type 0} → (X → A) → Result X LineError → R
 GivesLine view (Ok x) read = read ≡ Ok (view x)
 GivesLine view (Err e) read = FailsLine e read
 
--- behind these
+-- after these
 abbrev pub with_front : {A : Type 0} → List A → Read (List A) → Read (List A)
 with_front front read = read >>= λ more. Ok (front ++ more)
 

@@ -59,7 +59,7 @@ pub enum Size {
     Eight,
 }
 
-/// Which operands a statement has, and what it stands for.
+/// Which operands a statement has, and what it is assembled to.
 #[derive(Clone, Copy)]
 pub enum Form {
     /// rd, rs1, rs2.
@@ -80,7 +80,7 @@ pub enum Form {
     Jal,
     /// rd, and a number of 20 bits.
     Upper(UpperOp),
-    /// rd, rs2 but for `lr`, and a base.
+    /// rd, rs2 unless it is `lr`, and a base.
     Atomic(AtomicOp, Width, Order),
     /// No operands.
     Plain(Alone),

@@ -57,9 +57,9 @@ pub struct Placed<'a> {
     pub token: Token<'a>,
 }
 
-/// The bytes of a text behind its opening quote, and how many bytes spell them
+/// The bytes of a text after its opening quote, and how many bytes spell them
 /// with the closing one.
-/// None where no closing quote follows, or an escape is none. Err is want of memory.
+/// None if no closing quote follows or an escape is invalid. Fails only if it is out of memory.
 pub fn text(alloc: Global, bytes: &[u8]) -> Result<Option<(Vec<u8>, usize)>, AllocError>
     ensures within { IfOk result (λ found. IfSome found (λ t. t.1 ≤ length bytes.now)) }
     ensures value { GivesText (λ v. v.items) result (text false bytes.now) }
@@ -99,7 +99,7 @@ pub enum Found<'a> {
     Wrong,
 }
 
-/// The number that a word spells, of so many bytes with its sign.
+/// The number that a word of `bytes` bytes, its sign among them, spells.
 fn number<'a>(word: &[u8], is_negative: bool, bytes: usize) -> Found<'a>
     ensures { front_of token_of result ≡ number_front (spelled_number word.now)
         (if is_negative then (λ n. neg_ℤ (pos n)) else (λ n. pos n)) bytes }
@@ -117,7 +117,7 @@ fn number<'a>(word: &[u8], is_negative: bool, bytes: usize) -> Found<'a>
     }
 }
 
-/// What begins there. Only want of memory stands against it.
+/// What begins there.
 pub fn begins<'a>(alloc: Global, bytes: &'a [u8]) -> Result<Found<'a>, AllocError>
     ensures within { IfOk result (λ found. IsWithin found (length bytes.now)) }
     ensures value { IfOk result (λ found. front_of token_of found ≡ front bytes.now) }

@@ -189,7 +189,7 @@ const ATOMICS: [(&[u8], (AtomicOp, Width)); 22] = [
     (b"amomaxu.d", (AtomicOp::Amomaxu, Width::Double)),
 ];
 
-/// The orders by what stands for them behind an atomic's word.
+/// The orders by their suffixes in the name of an atomic.
 const SUFFIXES: [(&[u8], Order); 4] = [
     (b"", Order::Relaxed),
     (b".aq", Order::Acquire),

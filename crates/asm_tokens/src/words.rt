@@ -117,7 +117,7 @@ pub fn spelled(word: &[u8]) -> Option<u128>
     None
 }
 
-/// What an escape stands for. None where it is none.
+/// The byte that an escape denotes. None if it is not an escape.
 pub fn escaped(byte: u8) -> Option<u8>
     ensures { result ≡ escape_value byte }
 {

@@ -30,7 +30,7 @@ module _ {A : Type 0} (same : A → A → Bool) where
           or true e = (g, gs, joined y g gs e)
           or false e = ([], g ∷ gs, apart y g gs e)
 
-  -- so many elements behind the first are its group
+  -- n elements after the first are its group
   first_group : (n : ℕ) (x : A) (rest : List A) → n ≤ length rest → IsRun (suc n) (x ∷ rest) → Ends (suc n) (x ∷ rest) → groups_by same (x ∷ rest) ≡ (x ∷ take n rest) ∷ groups_by same (drop n rest)
   unfolding groups_by
   first_group zero x [] le run ends = refl
@@ -51,7 +51,7 @@ module _ {A : Type 0} (same : A → A → Bool) where
       let at : m ≡ suc n - 1 = omega (arith, e) in
       ap (λ (j : ℕ). same (get_or (x ∷ rest) j d) (get_or (x ∷ rest) (suc n) d)) at ∙ other d lt)
 
--- the element at a place, whatever is told elsewhere
+-- the element at a place, whatever the others are
 pub at_place : {A : Type 0} (xs : List A) (k : ℕ) (d x : A) → k < length xs → get_or xs k x ≡ x → get_or xs k d ≡ x
 at_place [] k d x lt is = absurd (omega (arith, lt))
 at_place (y ∷ xs) zero d x lt is = is

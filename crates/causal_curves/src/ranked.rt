@@ -48,7 +48,6 @@ fn all_curves(alloc: Global, profile: &Profile) -> Result<Vec<Curve>, AllocError
 }
 
 /// The curves of each progress point over each line, by rank.
-/// Only want of memory stands against it.
 pub fn curves(alloc: Global, profile: &Profile) -> Result<Items<Curve>, AllocError>
     requires points { length profile.now.points ≤ MOST_POINTS }
     requires summaries { AllByRecursion (IsSummary (length profile.now.points))

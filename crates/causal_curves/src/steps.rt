@@ -74,7 +74,7 @@ fn steps_of(
     Ok(steps)
 }
 
-/// The curve of a point over the summaries of one line. Only want of memory stands against it.
+/// The curve of a point over the summaries of one line.
 pub fn curve(alloc: Global, point: u32, group: &[Summary]) -> Result<Curve, AllocError>
     requires some { 0 < length group.now }
     requires group { All (IsMeasured point) group.now }

@@ -11,7 +11,7 @@ use profile_book::{put_field, put_number};
 /// The most marks of a bar.
 const LONGEST_BAR: usize = 40;
 
-/// What one mark stands for, in hundredths of a per cent.
+/// The value of one mark of a bar, in hundredths of a per cent.
 const STEP: u128 = 250;
 
 static GAINS: [u8; LONGEST_BAR] = [b'#'; LONGEST_BAR];

@@ -21,7 +21,7 @@ abbrev pub count_past : ℕ → List ℕ → ℕ
 count_past bound numbers = count_by (λ n. nat_le bound n) numbers
 
 -- Of some turns, spent or not: each claim that was drawn has its summaries, in the order
--- of drawing, and so many draws met the bound. It holds of a seat, and of seats that were joined.
+-- of drawing, and `stops` draws met the bound. It holds of a seat, and of seats that were joined.
 pub record Worked (f : ℕ → List Summary) (bound turns stops : ℕ) (h : Hand)
     (done : List Claimed) : Type 0 where
   pub all : h.turns + length h.numbers ≡ turns
@@ -40,6 +40,6 @@ kept_summaries c = c.summaries
 abbrev pub claim_of : Claimed → ℕ
 claim_of c = c.claim
 
--- the summaries are of runs with so many progress points
+-- the summaries are of runs with `points` progress points
 abbrev pub AreSummaries : ℕ → List Claimed → Type 0
 AreSummaries points done = All (λ (c : Claimed). All (IsSummary points) c.summaries) done

@@ -32,12 +32,12 @@ pub trait ClaimWork: Sync {
     fn count(&self) -> u32
         ensures { result ≡ bound self.now };
 
-    /// What a worker begins with. Only want of memory stands against it.
+    /// What a worker begins with.
     fn runner(&self, alloc: Global) -> Result<Self::Runner, AllocError>
         requires { is_ready self.now }
         ensures { IfOk result (is_for self.now) };
 
-    /// Does the work of a claim. Only want of memory stands against it.
+    /// Does the work of a claim.
     fn summaries(
         &self,
         alloc: Global,

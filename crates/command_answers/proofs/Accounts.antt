@@ -9,7 +9,7 @@ use Rattle.delay_credits.specs.Delays.{account_as}
 abbrev account_at : Hart → Account
 account_at hart = hart.account
 
--- the hart of a number, behind those below it
+-- the hart of a number, after those below it
 take_more : (harts : List Hart) (k : ℕ) (account : Account) → Some account ≡ option_map account_at (slice_get harts k) → map account_at (take (suc k) harts) ≡ map account_at (take k harts) ++ account ∷ []
 take_more [] k account is = let no : ⊥ = cc in absurd no
 take_more (hart ∷ harts) zero account is = let same : hart.account ≡ account = cc in ap (λ (a : Account). a ∷ []) same

@@ -1,4 +1,4 @@
--- The status of a fault, and which is want of memory.
+-- The status of a fault, and which is out of memory.
 use Rattle.std.proofs.Common.{◌≡◌, ◌≤◌, ℕ, List, refl, sym, ap, subst, arith, ◌⊎◌, inl, inr}
 use Rattle.program_steps.specs.declared.fault.Fault.{Fault}
 use Rattle.program_steps.specs.declared.fault.Fault.TheVariants.{Usage, Program, Lines, Read, Write, NoLine, ManyPoints, Long, ManyExperiments, Memory, Source, Profile}
@@ -20,7 +20,7 @@ told_high Memory = omega arith
 told_high (Source fault) = omega arith
 told_high (Profile fault) = omega arith
 
--- a fault is want of memory, or it isn't
+-- a fault is out of memory, or it isn't
 memory_or : (fault : Fault) → (fault ≡ Memory) ⊎ (IsMemoryFault fault → ⊥)
 memory_or Memory = inl refl
 memory_or Usage = inr (λ no. no)
@@ -44,7 +44,7 @@ memory_status fault memory = ap fault_status (memory_is fault memory)
 never : (fault : Fault) (text : List ℕ) → fault_verdict fault ≡ text_verdict text → ⊥
 never fault text is = let e : fault_status fault ≡ 0 = ap (λ (v : Verdict). v.status) is in omega (arith, e, told_high fault)
 
--- where the verdict is a text, a fault is want of memory
+-- where the verdict is a text, a fault is out of memory
 pub is_memory : (fault : Fault) (text : List ℕ) → ((IsMemoryFault fault → ⊥) → fault_verdict fault ≡ text_verdict text) → IsMemoryFault fault
 is_memory fault text settled =
     elim (memory_or fault) [ inl is ↦ subst IsMemoryFault (sym is) tt | inr other ↦ absurd (never fault text (settled other)) ]

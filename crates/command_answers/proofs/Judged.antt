@@ -33,7 +33,7 @@ use Rattle.command_answers.specs.Kind.{judgement_by, really_printed, run_printed
 use Rattle.command_answers.specs.Answer.{Answer, IsMemory, IsMemoryFault, IsRead, IsReadFault, Suits, verdict_of, fault_verdict}
 use Rattle.command_answers.specs.Verdict.{Verdict, asked_verdict, bytes_verdict, profiled_verdict, file_verdict, input_verdict, read_verdict, has_exited, loaded_verdict, named_verdict, plan_verdict, points_verdict, profile_verdict, table_verdict}
 
--- the status is a run's, or one of the refusals behind the reading, with a line
+-- the status is a run's, or one of the refusals after the reading, with a line
 pub record Refuses (v : Verdict) : Type 0 where
   high : 3 ≤ v.status
   no_read : v.status ≢ 5

@@ -39,14 +39,14 @@ next_is address line (l ∷ ls) = next_by (l == line) address line l ls (next_is
 abbrev picked : Bool → Row → ℕ → List Row → Option Row
 picked here row a later = if here then Some row else first_covering a later
 
--- the row covers what is before the rows behind it
+-- the row covers what is before the rows after it
 covers_now : (a at address line : ℕ) (later : List Row) → at ≤ a → a < address → IsNext address later → first_covering a (row_at 4 at line false ∷ later) ≡ Some (row_at 4 at line false)
 unfolding IsNext
 covers_now a at address line later low high (e, more, is) =
     ap (λ o. picked (elim o as (λ x. Bool) [ Some end ↦ nat_le at a && nat_lt a end | None ↦ false ]) (row_at 4 at line false) a later) is
     ∙ ap (λ here. picked here (row_at 4 at line false) a later) (and_from (nat_le at a) (nat_lt a e) (le-leb at a low) (lt-ltb a e (omega arith)))
 
--- and not what is at the row behind it or later
+-- and not what is at the row after it or later
 none_picked : (t : Bool) (row : Row) (a : ℕ) (later : List Row) → picked (t && false) row a later ≡ first_covering a later
 none_picked true row a later = refl
 none_picked false row a later = refl
@@ -80,7 +80,7 @@ later_word false ls at address line l a wanted before here more =
     let (b, is) = more address l (omega arith) in
     (b, passed a at address line l (rows_from 4 (address + 4) l ls) here ∙ is)
 
--- in rows behind one at an earlier address
+-- in rows after one at an earlier address
 word_line : (ls : List ℕ) (at address line k a : ℕ) → at < address → k < length ls → a ≡ address + 4 * k → HasLine a (get_or ls k 0) (row_at 4 at line false ∷ rows_from 4 address line ls)
 word_line [] at address line k a before few e = absurd (omega arith)
 word_line (l ∷ ls) at address line zero a before few e = first_word (l == line) ls at address line l a refl before (omega arith)

@@ -1,4 +1,4 @@
--- A trial comes to no fault but want of memory.
+-- A trial has no fault but out of memory.
 use Rattle.std.proofs.Common.{◌≡◌, ℕ, zero, suc, ◌+◌, ◌*◌, ◌/◌, ◌<◌, ◌≤◌, not, ◌==◌, Bool, true, false, cond, List, [], ◌∷◌, ◌++◌, length, map, filter, nat_lt, Option, Some, None, Result, Ok, Err, refl, sym, ap, ap₂, ◌∙◌, subst, arith, codes}
 use Rattle.std.specs.Prelude.{Contains, IsOk, option_map, slice_get, unwrap_or}
 use Rattle.std.specs.List.{AllByRecursion, range_with_len}
@@ -108,7 +108,7 @@ module _ (source : Source) (file : List ℕ) (is : IsTrialFile source file) wher
   pub program_is : (next : ImageParts → Table → Verdict) → program_verdict file next ≡ next (image_of p file) table
   program_is next = sym (whole_program file next (image_of p file) table loads (ap table_in same_file ∙ reads))
 
-  -- a fault of reading it is want of memory
+  -- a fault of reading it is out of memory
   pub read_memory : (fault : Fault) → ((IsMemoryFault fault → ⊥) → (next : ImageParts → Table → Verdict) → fault_verdict fault ≡ program_verdict file next) → IsMemoryFault fault
   read_memory fault settled = is_memory fault [] (λ other. settled other (λ image table. text_verdict []) ∙ program_is (λ image table. text_verdict []))
 

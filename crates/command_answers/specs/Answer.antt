@@ -13,7 +13,7 @@ use Rattle.command_answers.specs.Verdict.{Verdict}
 abbrev pub Answer : Type 0
 Answer = Result Printed Fault
 
--- the verdict that an answer stands for
+-- the verdict of an answer
 abbrev pub verdict_of : Answer → Verdict
 verdict_of answer = verdict_after answer printed_verdict
 
@@ -30,7 +30,7 @@ Suits asked (Err _) = Unit {0}
 abbrev pub Settles : Verdict → ℕ → ℕ → Answer → Type 0
 Settles verdict before now answer = SettlesThen printed_verdict verdict before now answer
 
--- an answer of a trial: its verdict's, or want of memory
+-- an answer of a trial: its verdict's, or out of memory
 pub record IsOfTrial (v : Verdict) (answer : Answer) : Type 0 where
   pub settled : IfOk answer (λ p. printed_verdict p ≡ v)
   pub low : IfOk answer (λ p. p.status ≤ 1)

@@ -27,7 +27,7 @@ measured_in arrive depart run = record {
 abbrev pub run_at : Seen (Before Guest) → ℕ → NetRecord
 run_at lead speedup = net (delayed_record (at_speedup speedup (experiment_of lead)))
 
--- what a run is made with, but for the selected line and the speedup
+-- what a run is made with, apart from the selected line and the speedup
 abbrev pub arguments_of : ImageParts → Index → Points → List ℕ → Choice → Seen (Unit {0})
 arguments_of image index points input choice = record {
   image = image;

@@ -20,7 +20,7 @@ use Rattle.printed_texts.specs.TrialText.{trial_lines}
 abbrev pub trial_name : Text
 trial_name = codes "trial.s"
 
--- what the source stands for
+-- the program that the source is assembled to
 unfoldable pub trial_program : Source → Result Program AsmFault
 trial_program source = assembled source.text
 
@@ -28,7 +28,7 @@ trial_program source = assembled source.text
 unfoldable pub trial_file : Program → List ℕ
 trial_file program = written_file program trial_name LEAST_VERSION
 
--- a file is that of the program that the source stands for, of which a word has the line
+-- a file is that of the assembled program, of which a word has the line
 -- of the progress point
 pub record IsTrialFile (source : Source) (file : List ℕ) : Type 0 where
   pub program : Program

@@ -120,12 +120,12 @@ book_verdict None p = text_verdict (plot_text p)
 abbrev pub plot_verdict : List ℕ → Verdict
 plot_verdict bytes = book_verdict (book_fault bytes) (told bytes)
 
--- of what a source stands for, under this name and with lines of this version
+-- of an assembled source, under this name and with a line table of this version
 abbrev pub source_verdict : List ℕ → ℕ → Result Program AsmFault → Verdict
 source_verdict name version (Err fault) = refusal 11 (source_line fault)
 source_verdict name version (Ok program) = text_verdict (written_file program name version)
 
--- of what a source stands for, if it stands for a program, and of what follows
+-- of the program that a source is assembled to, if it is, and of what follows
 abbrev pub assembled_verdict : Result Program AsmFault → (Program → Verdict) → Verdict
 assembled_verdict (Err fault) next = refusal 11 (source_line fault)
 assembled_verdict (Ok program) next = next program

@@ -1,4 +1,4 @@
-//! What a command comes to.
+//! The answer of a command.
 use printed_texts::Printed;
 use program_steps::Fault;
 

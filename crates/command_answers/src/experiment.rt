@@ -47,7 +47,7 @@ pub enum Kind {
 }
 
 /// What is written of a run of the program and the input that the request names.
-/// Err tells the first fault of the files, the program, the lines or the plan, or want of memory.
+/// Err is the first fault of the files, the program, the lines or the plan, or `Fault::Memory`.
 pub fn judge_experiment<'r, R: Threads + Sync, F: Files, G: Gate>(
     rt: &R,
     alloc: Global,
@@ -181,7 +181,7 @@ fn delayed_answer<'r>(
     run_answer(alloc, image, index, &asked.points, input, asked.choice)
 }
 
-/// The same of its shortened run.
+/// What is written of the program's shortened run.
 fn shortened_answer<'r>(
     alloc: Global,
     image: &Image,

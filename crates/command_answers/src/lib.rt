@@ -1,4 +1,4 @@
-//! What each command comes to: a text and its status, or a fault.
+//! The answer of each command: a text and its status, or a fault.
 #![tactic(auto)]
 
 mod answer;

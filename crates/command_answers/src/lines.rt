@@ -15,7 +15,7 @@ use program_steps::{read_file, read_program};
 use std::alloc::Global;
 
 /// What is written of the lines of the program that the request names.
-/// Err tells the first fault of the file, the program or its line table, or want of memory.
+/// Err is the first fault of the file, the program or its line table, or `Fault::Memory`.
 pub fn judge_lines<'r, F: Files>(alloc: Global, request: &'r Request, files: &mut F) -> Answer<'r>
     ensures same { F.held files.new ≡ F.held files.old }
     ensures suits { Suits request.now result }

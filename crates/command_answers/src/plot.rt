@@ -15,7 +15,7 @@ use program_steps::read_file;
 use std::alloc::Global;
 
 /// What is written of the profile that the request names.
-/// Err tells the first fault of the file or of its text, or want of memory.
+/// Err is the first fault of the file or of its text, or `Fault::Memory`.
 pub fn judge_plot<'r, F: Files>(alloc: Global, request: &'r Request, files: &mut F) -> Answer<'r>
     ensures same { F.held files.new ≡ F.held files.old }
     ensures suits { Suits request.now result }

@@ -79,7 +79,7 @@ fn machine_answer<'r>(alloc: Global, machine: &mut Machine) -> Answer<'r>
     Ok(printed_run(ending, text))
 }
 
-/// What is written of a program's delayed run. Err is want of memory.
+/// The text of a program's delayed run. Fails only if it is out of memory.
 pub fn run_answer<'r>(
     alloc: Global,
     image: &Image,
@@ -128,7 +128,7 @@ fn short_answer<'r>(alloc: Global, short: &mut Short) -> Answer<'r>
     Ok(printed_run(ending, text))
 }
 
-/// What is written of a program's shortened run. Err is want of memory.
+/// The text of a program's shortened run. Fails only if it is out of memory.
 pub fn really_answer<'r>(
     alloc: Global,
     image: &Image,

@@ -19,7 +19,7 @@ use rv_asm::assemble;
 use std::alloc::Global;
 
 /// What is written of the source that the request names.
-/// Err tells the first fault of the file or of the source, or want of memory.
+/// Err is the first fault of the file or of the source, or `Fault::Memory`.
 pub fn judge_source<'r, F: Files>(alloc: Global, request: &'r Request, files: &mut F) -> Answer<'r>
     requires named { IsName request.now.target }
     requires version { IsVersion request.now.dwarf }
@@ -36,7 +36,7 @@ pub fn judge_source<'r, F: Files>(alloc: Global, request: &'r Request, files: &m
     source_answer(alloc, &source, request.target.text(), request.dwarf)
 }
 
-/// The file of what a source stands for, with the source's name in it and a line
+/// The program file of an assembled source, with the source's name in it and a line
 /// table of this version.
 fn source_answer<'r>(alloc: Global, source: &[u8], name: &str, version: u8) -> Answer<'r>
     requires short { length source.now ≤ MAX_SOURCE }

@@ -47,7 +47,7 @@ static SPEEDUPS: [u8; 4] = [0, 25, 50, 75];
 /// What each run of a trial is let retire.
 const BUDGET: u64 = 100_000_000;
 
-/// The file of what a trial's source stands for.
+/// The program file of a trial's source.
 #[tactic(auto, unfolding(crate::specs::Trial::trial_program, crate::specs::Trial::trial_file))]
 fn trial_file<'r>(alloc: Global, source: &Generated) -> Result<Vec<u8>, Fault<'r>>
     requires accepted { IsAccepted (view source.now) }
@@ -60,7 +60,7 @@ fn trial_file<'r>(alloc: Global, source: &Generated) -> Result<Vec<u8>, Fault<'r
     Ok(file)
 }
 
-/// Each line whose position is a multiple of a tenth of so many, rounded up.
+/// Each line whose position is a multiple of a tenth of `count`, rounded up.
 #[tactic(auto, unfolding(crate::specs::Trial::tenths))]
 fn tenths(alloc: Global, count: u32) -> Result<Vec<LineId>, AllocError>
     ensures lines { IfOk result (λ lines. ids lines.items ≡ tenths count) }
@@ -250,7 +250,7 @@ fn file_answer<'r, R: Threads + Sync, G: Gate>(
     answer
 }
 
-/// What is written of the trial that a request asks for. Only want of memory stands against it.
+/// What is written of the trial that a request asks for.
 #[tactic(auto, unfolding(crate::specs::Verdict::trial_verdict))]
 pub fn judge_trial<'r, R: Threads + Sync, G: Gate>(
     rt: &R,

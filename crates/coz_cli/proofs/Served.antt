@@ -33,7 +33,7 @@ printed_run words held before after printed is gained low =
     (subst (λ (v : Verdict). v.status ≤ 1) (sym is) low)
     (subst (λ (v : Verdict). Appends before after v.text) (sym is) gained)
 
--- the status of a read is told of no other fault
+-- no other fault has the status of a read
 is_read : (fault : Fault) → fault_status fault ≡ 5 → IsReadFault fault
 is_read Usage five = absurd (omega (arith, five))
 is_read (Program fault) five = absurd (omega (arith, five))

@@ -26,7 +26,7 @@ no_write : (request : Option Request) → IsOf request Write → ⊥
 no_write None is = let no : ⊥ = cc in no
 no_write (Some asked) suits = suits
 
--- what is known of a fault that is told
+-- what is known of a fault that is reported
 pub record IsKnown (fault : Fault) (status : ℕ) (words : List (List ℕ)) (told : Option Held) (before now : ℕ) : Type 0 where
   pub status_is : status ≡ fault_status fault
   pub of_words : IsOf (request_of words) fault
@@ -34,7 +34,7 @@ pub record IsKnown (fault : Fault) (status : ℕ) (words : List (List ℕ)) (tol
   pub untold : IsReadFault fault → IfNone told (Rose before now)
 
 module _ (status : ℕ) (words : List (List ℕ)) (told : Option Held) (before now : ℕ) where
-  -- a fault that is neither of a read nor want of memory is the verdict's
+  -- a fault that is neither of a read nor out of memory is the verdict's
   of_verdict : (fault : Fault) (o : Option Held) → (IsReadFault fault → ⊥) → (IsMemoryFault fault → ⊥)
       → IfSome o (λ held. (IsMemoryFault fault → ⊥) → Settles (verdict words held) before now (Err fault)) → IfSome o (λ held. fault_line fault ≡ (verdict words held).line)
   of_verdict fault None no_read no_memory settled = tt

@@ -1,5 +1,12 @@
--- The headline: what is printed of a delayed run is that of the shortened run, and for any number
--- of workers the bytes are those of one.
+-- The main theorem. For every program, input, selected line and speedup:
+--     net (what is printed of the delayed run) = the record of the shortened run,
+-- where `net` subtracts from each time the global delay at that time, and the shortened run has a
+-- selected line that really costs less, and no delays. For any number of workers the printed bytes
+-- are those of one worker.
+-- Read machines/specs first: Delayed.antt and Shortened.antt (the two machines), then Records.antt
+-- (`net`, `IsDelayed`, `IsShortened`), then the records below, each of which is one command.
+-- `serve` of this crate has them as its clauses `headline` and `workers`.
+-- Nothing is claimed of real hardware: costs, schedule and a hart for each thread are definitions.
 use Rattle.std.specs.Prelude.{◌≡◌, List, ℕ, [], Option, None, Some, Ok, All, ◌≤◌, length}
 use Rattle.std.specs.Io.KnownBytes.{Appends}
 use Rattle.experiment_plan.specs.declared.experiment.TheConstants.{MOST_PAIRS}
@@ -56,7 +63,7 @@ pub record IsAsked (held : Held) (asked : Request) (x : Experiment Guest) : Type
   pub experiment : x
       ≡ experiment_by_table image table input (choice_of selected asked.speedup asked.budget) points
 
--- Behind what was held before there is now the text of the record that the delayed machine ends
+-- After what was held before there is now the text of the record that the delayed machine ends
 -- with, and the net part of that record (its end, output, counts, and each time less the global
 -- delay then) is what the shortened machine ends with, whose selected line really costs less
 -- and which knows no delays.
@@ -68,7 +75,7 @@ pub record PrintsRun (held : Held) (asked : Request) (before now : Option (List 
   pub delayed : IsDelayed experiment run
   pub shortened : IsShortened experiment (net run)
 
--- behind what was held before there is now the text of the record that
+-- after what was held before there is now the text of the record that
 -- the shortened machine ends with
 pub record PrintsReally (held : Held) (asked : Request)
     (before now : Option (List ℕ)) : Type 0 where
@@ -100,7 +107,7 @@ pub record IsPlanned (held : Held) (asked : Request) (runs : Runs) (lines : List
   pub planned : pairs ≡ pairs_of selected asked.speedups
   pub few_pairs : length pairs ≤ MOST_PAIRS
 
--- Behind what was held before there is now the text of a profile: of the budget,
+-- After what was held before there is now the text of a profile: of the budget,
 -- the points' labels, and of each pair of the plan, in its order, the summary of the record with
 -- which the delayed machine ends on the pair's experiment. The net part of each such record is what
 -- the shortened machine ends with, whose selected line really costs less and which knows no delays.
@@ -131,7 +138,7 @@ pub record IsPlain (held : Held) (asked : Request) (image : ImageParts) (table :
   pub lines : table_in file ≡ Ok table
   pub experiment : x ≡ plain_run (experiment_by_table image table input) asked.budget
 
--- Behind what was held before there is now the text of a critical path: of the record that
+-- After what was held before there is now the text of a critical path: of the record that
 -- the shortened machine ends with, and of a chain of the instructions that it retired. The chain
 -- is sound, so that it ends with the last of them; its weight is the run's net time; and no chain
 -- of these instructions is heavier.
@@ -177,7 +184,7 @@ pub record IsMeasured (held : Held) (asked : Request) (runs : ℕ → Experiment
   pub arrive_is : arrive ≡ places_among (lines_of_both arrivals departures) arrivals
   pub depart_is : depart ≡ places_among (lines_of_both arrivals departures) departures
 
--- Behind what was held before there is now a line for each speedup, as they rise and with 0 among
+-- After what was held before there is now a line for each speedup, as they rise and with 0 among
 -- them. At each the delayed machine ends with a record, and the net part of that is what
 -- the shortened machine ends with, whose selected line really costs less and which knows no delays.
 -- The line is that of the latency of the shortened run's visits up to its own end.
@@ -194,7 +201,7 @@ pub record PrintsLatency (held : Held) (asked : Request)
   pub printed : Appends before now
       (latency_text arrive depart (λ speedup. net (run speedup)) (speedups_of asked))
 
--- where the words ask for a run, a profile, latencies or a path, such are printed
+-- if the arguments ask for a run, a profile, latencies or a path, such are printed
 pub record PrintsShortened (words : List (List ℕ)) (held : Held)
     (before now : Option (List ℕ)) : Type 0 where
   pub runs : (asked : Request) → request_of words ≡ Some asked → asked.command ≡ Run
@@ -208,15 +215,15 @@ pub record PrintsShortened (words : List (List ℕ)) (held : Held)
   pub paths : (asked : Request) → request_of words ≡ Some asked → asked.command ≡ Path
       → PrintsPath held asked before now
 
--- words that ask for the same as others, but for the number of workers
+-- arguments that ask for the same as others, apart from the number of workers
 pub record AskAlike (words others : List (List ℕ)) : Type 0 where
   pub asked : Request
   pub workers : ℕ
   pub these : request_of words ≡ Some asked
   pub those : request_of others ≡ Some (record asked { workers = workers })
 
--- For any number of workers the bytes are the same: words that ask for the same,
--- but for that number, come to one verdict, in its status, its text and its line;
+-- For any number of workers the bytes are the same: arguments that ask for the same,
+-- apart from that number, have one verdict, with its status, its text and its line;
 -- and what is printed is the text of each of them.
 pub record PrintsForAnyWorkers (words : List (List ℕ)) (held : Held) (status : ℕ)
     (before now : Option (List ℕ)) : Type 0 where

@@ -1,4 +1,4 @@
-//! What a request comes to: a text and its status, or a fault.
+//! The answer of a request: a text and its status, or a fault.
 ghost use Rattle.std.specs.Prelude.{◌≡◌, IfErr, IfSome, IfNone};
 ghost use Rattle.coz_files.specs.Faults.{Rose};
 ghost use Rattle.coz_words.specs.Request.{IsFit};
@@ -14,7 +14,7 @@ use coz_words::{Command, Request};
 use std::alloc::Global;
 use std::thread::Threads;
 
-/// What a request comes to, and the files that it names. Err tells why nothing is printed.
+/// The answer of a request, over the files that it names. Err is why nothing is printed.
 pub fn judge<'r, R: Threads + Sync, F: Files, G: Gate>(
     rt: &R,
     alloc: Global,

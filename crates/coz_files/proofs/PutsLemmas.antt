@@ -11,14 +11,14 @@ pub appends_nothing : (known : Option (List ℕ)) → Appends known known []
 appends_nothing None = tt
 appends_nothing (Some xs) = sym (append-nil xs)
 
--- bytes behind bytes
+-- bytes after bytes
 pub appends_then : (old mid new : Option (List ℕ)) (xs ys : List ℕ) → Appends old mid xs → Appends mid new ys → Appends old new (xs ++ ys)
 appends_then None mid new xs ys first second = tt
 appends_then (Some a) None new xs ys first second = absurd first
 appends_then (Some a) (Some b) None xs ys first second = absurd second
 appends_then (Some a) (Some b) (Some c) xs ys first second = second ∙ ap (λ (text : List ℕ). text ++ ys) first ∙ append_assoc a xs ys
 
--- a prefix behind bytes
+-- a prefix after bytes
 pub prefix_then : (old mid new : Option (List ℕ)) (xs ys : List ℕ) → Appends old mid xs → AppendsPrefix mid new ys → AppendsPrefix old new (xs ++ ys)
 prefix_then old mid new xs ys first second = (
   length xs + second.0,

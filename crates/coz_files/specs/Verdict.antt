@@ -32,7 +32,7 @@ StepSettles fault_verdict IsReadFault next verdict before now step =
     (step_verdict fault_verdict step next ≡ verdict)
     ⊎ (IsErrAnd step IsReadFault × Rose before now)
 
--- a status that comes neither of a counted fault nor of want of memory
+-- a status whose cause is neither a counted fault nor a lack of memory
 pub record IsOfVerdict (status : ℕ) : Type 0 where
   pub no_read : status ≢ 5
   pub no_write : status ≢ 6

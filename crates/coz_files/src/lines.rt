@@ -13,7 +13,7 @@ pub fn put_number<S: Sink>(sink: &mut S, so_far: PutAnswer, n: u64) -> PutAnswer
     put_next(sink, so_far, buffer.format(n).as_bytes())
 }
 
-/// Puts three pieces, one behind the other.
+/// Puts three pieces, one after the other.
 pub fn put_three<S: Sink>(sink: &mut S, first: &[u8], second: &[u8], third: &[u8]) -> PutAnswer
     ensures { Puts S.holds S.faults sink.old sink.new result
         (first.now ++ second.now ++ third.now) }

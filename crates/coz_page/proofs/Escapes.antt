@@ -1,4 +1,4 @@
--- What stands for a byte of a label has no markup, nor what stands for a label.
+-- The escape of a byte of a label has no markup, nor has that of a label.
 use Rattle.std.proofs.Common.{◌≡◌, ℕ, Bool, true, false, ◌&&◌, ◌==◌, List, [], ◌∷◌, ◌++◌, codes, refl, ap₂, ◌∙◌, if◌then◌else◌}
 use Rattle.std.specs.List.{list_all}
 use Rattle.std.proofs.lemmas.List.Folds.{list_all-append}

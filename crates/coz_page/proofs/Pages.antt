@@ -13,7 +13,7 @@ use Rattle.coz_page.specs.Page.{by_point, point_text}
 abbrev pub parts : List Text → List Curve → Text
 parts points curves = flat_map (point_text points) (by_point curves)
 
--- what is put so far, with the parts of the rest behind it, is all the parts
+-- what is put so far, with the parts of the rest after it, is all the parts
 pub record SoFar {S : Type 0} (holds : S → Option Text) (faults : S → ℕ) (old new : S) (before left : Rest) (points : List Text) (curves rest : List Curve) : Type 0 where
   pub text : Text
   pub gathers : Gathers holds faults old new before left text

@@ -48,7 +48,7 @@ ranked_page r = curves_page r.profile.points r.curves
 abbrev pub ranked_verdict : Ranked → Verdict
 ranked_verdict r = text_verdict (ranked_page r)
 
--- the verdict that an answer stands for
+-- the verdict of an answer
 abbrev pub verdict_of : Answer → Verdict
 verdict_of answer = verdict_after answer ranked_verdict
 

@@ -4,7 +4,7 @@ use Rattle.coz_types.specs.Labels.{Text}
 
 -- ---- in per cent
 
--- so many hundredths of a per cent
+-- n hundredths of a per cent
 abbrev pub size_text : ℕ → Text
 size_text n =
     decimal (n / 100) ++ codes "." ++ decimal (n / 10 % 10) ++ decimal (n % 10) ++ codes "%"

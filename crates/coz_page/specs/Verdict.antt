@@ -25,7 +25,7 @@ abbrev pub profile_line : BookFault → Text
 profile_line fault =
     codes "coz-page: profile: " ++ item_name fault.field ++ codes " at " ++ decimal fault.place
 
--- of the profile that is told, if the text has no fault
+-- of the profile whose text it is, if the text has no fault
 abbrev pub book_verdict : Option BookFault → Book → Verdict
 book_verdict None p = text_verdict (page_text p)
 book_verdict (Some fault) p = refusal 12 (profile_line fault)

@@ -36,7 +36,7 @@ Its gain is its greatest value. A dot tells its value when it is pointed at.</p>
 pub const NOTHING: &[u8] =
     b"<p>This profile has no curves: it has no progress point, or no line was selected.</p>\n";
 
-/// What stands behind all.
+/// The end of the page.
 pub const FOOT: &[u8] = b"</body>\n</html>\n";
 
 /// A picture up to the number at the upper end of its axis of values: both axes, and the middle

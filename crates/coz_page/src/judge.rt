@@ -71,7 +71,7 @@ fn rank<'w>(alloc: Global, bytes: &[u8]) -> Answer<'w>
 }
 
 /// The profile that the words name, with its curves.
-/// Err tells the first fault of the words, the file or its text, or want of memory.
+/// Err is the first fault of the arguments, the file or its text, or `Fault::Memory`.
 pub fn judge<'w, F: Files>(alloc: Global, words: &'w [String], files: &mut F) -> Answer<'w>
     ensures same { F.held files.new ≡ F.held files.old }
     ensures suits { Suits (path_in (bytes_of words.now)) result }

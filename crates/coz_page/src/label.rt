@@ -27,7 +27,7 @@ fn put_bytes<O: Sink>(to: &mut PutBuffer, out: &mut O, bytes: &[u8])
     }
 }
 
-/// A piece, and a label behind it.
+/// A piece of text, and a label after it.
 pub fn put_label<O: Sink>(to: &mut PutBuffer, out: &mut O, before: &[u8], label: &[u8])
     ensures { Gathers O.holds O.faults out.old out.new to.old to.new
         (before.now ++ html label.now) }

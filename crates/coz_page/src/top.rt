@@ -27,8 +27,8 @@ pub fn serve<F: Files, O: Sink, E: Sink>(
     // No other status is answered.
     ensures known { result ≤ 12 }
 
-    // Where the files are told, the status is the verdict's, but for a counted fault
-    // and want of memory.
+    // If the files are known, the status is the verdict's, unless a fault is counted
+    // or it is out of memory.
     ensures verdict { IfSome (F.held files.old) (λ held.
         IsOfVerdict result → result ≡ (verdict (bytes_of words.now) held).status) }
 

@@ -20,7 +20,7 @@ one_area file area entry headers header_count is fits aligned entered = record {
   entered = (0, area, lit< tt, refl, entered);
 }
 
--- whether an area of text that is filled with so many bytes of a file may be all that is loaded of it
+-- whether an area of text that is filled with n bytes of a file may be all that is loaded of it
 abbrev pub is_text : ℕ → Area → ℕ → Bool
 is_text bytes area entry =
     (area.start % PAGE == 0) && ((area.size % PAGE == 0) && (nat_le area.size MOST_LOADED && (nat_le PAGE area.start && (nat_le (area_end area) LOAD_END

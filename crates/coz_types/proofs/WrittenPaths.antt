@@ -40,7 +40,7 @@ not_mark b e = by (b == 37) refl
     by true d = let same : b ≡ 37 = search (rules, d) in let never : true ≡ false = sym (ap is_escaped same) ∙ e in absurd cc
     by false d = refl
 
--- a scan is between two bytes again behind each byte that is written
+-- a scan is between two bytes again after each byte that is written
 pub byte_scans : (b : ℕ) (rest : Text) → b < 256 → is_scanned (Some None) (escape_of b ++ rest) ≡ is_scanned (Some None) rest
 byte_scans b rest lt = by (is_escaped b) refl
   where

@@ -35,19 +35,19 @@ escape_of b = if is_escaped b then 37 ∷ hex_digit (b / 16) ∷ hex_digit (b % 
 abbrev pub written : Text → Text
 written path = flat_map escape_of path
 
--- an upper-case hexadecimal digit, and what it stands for
+-- an upper-case hexadecimal digit, and its value
 abbrev pub is_hex_digit : ℕ → Bool
 is_hex_digit b = (nat_le 48 b && nat_le b 57) || (nat_le 65 b && nat_le b 70)
 
 abbrev pub hex_value : ℕ → ℕ
 hex_value b = if nat_lt b 65 then b - 48 else b - 55
 
--- where a scan of a path stands: between two bytes, behind a `%`, or behind a `%`
+-- the state of a scan of a path: between two bytes, after a `%`, or after a `%`
 -- and a digit of this value
 abbrev pub Scan : Type 0
 Scan = Option (Option ℕ)
 
--- where it stands behind this byte; an escape is a `%` and the two digits of a byte
+-- the state after this byte; an escape is a `%` and the two digits of a byte
 -- that has to be escaped
 abbrev pub scan_step : Scan → ℕ → Option Scan
 scan_step None b = if b == 37 then Some (Some None) else (if is_escaped b then None else Some None)
@@ -70,7 +70,7 @@ is_written path = is_scanned (Some None) path
 abbrev pub label_of : Text → ℕ → Text
 label_of path number = path ++ 58 ∷ decimal number
 
--- what stands before the last colon and what stands behind it, where there is one
+-- the bytes before the last colon and those after it, if there is one
 abbrev pub parts_of : Text → Option (Text × Text)
 parts_of [] = None
 parts_of (b ∷ rest) = elim (parts_of rest) [

@@ -27,7 +27,7 @@ pub record IsDigest (bytes : List ℕ) : Type 0 where
   pub size : length bytes ≡ 32
   pub bytes_fit : list_all (λ b. nat_lt b 256) bytes ≡ true
 
--- a summary of a run with so many progress points
+-- a summary of a run with `points` progress points
 pub record IsSummary (points : ℕ) (s : Summary) : Type 0 where
   pub selected : is_label s.selected ≡ true
   pub speedup : s.speedup ≤ GREATEST_SPEEDUP

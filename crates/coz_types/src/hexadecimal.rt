@@ -51,7 +51,7 @@ fn lower_digit(value: u8) -> u8
     }
 }
 
-// The digits stand at the end of the room, from the place that is told on.
+// The digits are at the end of the buffer, from this index on.
 fn fill(number: u64, room: &mut [u8; 16]) -> usize
     ensures within { result < 16 }
     ensures digits { drop result room.new ≡ digits 16 false number }

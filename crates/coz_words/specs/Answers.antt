@@ -11,7 +11,7 @@ use Rattle.coz_words.specs.declared.request.WordsError.TheVariants.{Usage, Memor
 abbrev pub bytes_of : List (String Global) → List Text
 bytes_of words = map string_bytes words
 
--- what is wanted is answered, or Usage where there is nothing; want of memory may come at any time
+-- the request that is wanted, or Usage if there is none; out of memory may come at any time
 abbrev pub Answers : {A : Type 0} → Option A → Result A WordsError → Type 0
 Answers wanted (Ok found) = wanted ≡ Some found
 Answers wanted (Err Usage) = wanted ≡ None

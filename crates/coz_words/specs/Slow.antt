@@ -16,7 +16,7 @@ after_dashes _ = None
 abbrev pub with_item : Item → Option (List Item) → Option (List Item)
 with_item item = option_map (λ items. item ∷ items)
 
--- the word behind its two hyphens
+-- the argument after its two hyphens
 abbrev pub name_in : Text → Text
 name_in rest = before_first (λ b. b == 61) rest
 

@@ -21,7 +21,7 @@ fn with_options<'a>(alloc: Global, names: &[&'a str]) -> Result<Command<'a>, All
     Ok(command)
 }
 
-/// The same with one positional, `target`.
+/// A simple command with one positional argument, `target`.
 fn command_with<'a>(alloc: Global, names: &[&'a str]) -> Result<Command<'a>, AllocError>
     ensures { IfOk result (λ c. app_of c ≡ words_app (map (λ s. s.now) names.now)) }
 {

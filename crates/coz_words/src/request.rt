@@ -69,7 +69,7 @@ pub struct Request {
 pub enum WordsError {
     /// The words make none.
     Usage,
-    /// For want of memory.
+    /// It is out of memory.
     Memory,
 }
 
@@ -306,9 +306,9 @@ fn request_in(alloc: Global, words: &[String]) -> Result<Request, WordsError>
 ///   which are all required, and `--input FILE`, `--speedups NUMBERS` and `--budget N` likewise;
 /// - `path`, the program's path, and `--input FILE` and `--budget N` likewise.
 ///
-/// A value may stand in the option's word behind a `=`; a word `--` ends the options.
+/// A value may follow a `=` in the option's own argument; an argument `--` ends the options.
 /// A number has 1 to 20 digits. A speedup is 0 to 95, and stands beside a line;
-/// a budget is 1 to 10^12, and 10^8 where none is given, but for `path` 1 to 4,000,000,
+/// a budget is 1 to 10^12, and 10^8 if none is given; for `path` it is 1 to 4,000,000,
 /// and 1,000,000 where none is given; there are 1 to 16 workers, 4 where none is given; a version is 4 or 5,
 /// and 4 where none is given; a size is 1 to 2,000, and 100 where none is given.
 /// A line is a path without a comma, `:` and a number from 1 to 2^32 - 1; a list is one line

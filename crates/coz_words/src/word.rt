@@ -18,7 +18,7 @@ impl Model for Word {
 }
 
 impl Word {
-    /// A word of this text, which is copied. Only want of memory stands against it.
+    /// A word of this text, which is copied.
     pub(crate) fn copy(alloc: Global, text: &str) -> Result<Word, AllocError>
         ensures { IfOk result (λ word. word ≡ text.now) }
     {
@@ -45,7 +45,7 @@ fn copied(alloc: Global, text: Option<&str>) -> Result<Option<Word>, AllocError>
     }
 }
 
-/// The same of two texts.
+/// Owned copies of two texts, where there are such.
 pub(crate) fn copied_pair(
     alloc: Global,
     first: Option<&str>,

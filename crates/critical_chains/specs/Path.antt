@@ -85,7 +85,7 @@ pub record Linked (events : List Event) : Type 0 where
   pub due : EachIndex events (λ i. IsDue events i (event_at events i).from)
   pub before : EachIndex events (λ i. ForSome (event_at events i).before (IsBehind events i))
 
--- back along `from` from an event, through at most so many
+-- back along `from` from an event, through at most n events
 abbrev pub chain_to : List Event → Option ℕ → ℕ → List ℕ
 chain_to events None n = []
 chain_to events (Some i) zero = []

@@ -78,7 +78,7 @@ module _ {G : Type 0} (x : Experiment G) (place : G → ℕ → ℕ) where
     events = [];
   }
 
-  -- beside the state of the shortened machine after so many moves
+  -- beside the state of the shortened machine after n moves
   unfoldable pub traced : ℕ → Traced
   traced zero = untraced
   traced (suc n) = follow (shortened x n) (traced n)

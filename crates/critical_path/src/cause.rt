@@ -19,7 +19,7 @@ pub struct Cause {
     pub slept: Tick,
 }
 
-/// A hart wakes, and is begun with so many ticks.
+/// A hart wakes, and its next instruction begins, which takes `ticks` ticks.
 pub fn wake_up(causes: &mut [Cause], hart: HartId, ticks: Tick)
     requires below { hart.0 < length causes.old }
     requires fits { (cause_at causes.old hart.0).slept + (cause_at causes.old hart.0).cost
@@ -65,7 +65,7 @@ pub fn leave(causes: &mut [Cause], hart: HartId, fate: Fate, due: Tick, event: u
     causes[usize::from(hart.0)] = at_rest(causes[usize::from(hart.0)], fate, due, event);
 }
 
-/// A hart was started by this event, and is begun with so many ticks.
+/// This event starts a hart, whose next instruction takes `ticks` ticks.
 pub fn start(causes: &mut [Cause], hart: HartId, ticks: Tick, event: u32)
     requires below { hart.0 < length causes.old }
     ensures { causes.new ≡ slice_set causes.old hart.0

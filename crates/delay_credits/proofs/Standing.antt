@@ -1,4 +1,4 @@
--- A seat stands for the hart of its account and pause at each moment from which it was looked at.
+-- A seat is the hart of its account and pause at each moment from which it was looked at.
 use Rattle.std.proofs.Common.{ℕ, zero, suc, ◌≡◌, ◌≤◌, ◌<◌, ◌+◌, ◌-◌, min, List, [], ◌∷◌, length, map, set, get_or, refl, ap, ap₂, ◌∙◌, arith, Option, Some, None}
 use Rattle.std.specs.Prelude.{All}
 use Rattle.coz_types.specs.declared.record.Account.{Account as GivenAccount}
@@ -12,7 +12,7 @@ use Rattle.delay_credits.specs.Ticks.{hart_after_ticks}
 use Rattle.delay_credits.proofs.TicksLemmas.{ticked_is}
 use Rattle.delay_credits.specs.Seats.{hart_of_seat, since_of, settled_seat, IsSound, IsUnpaused}
 
--- a hart as it is so many ticks later
+-- a hart as it is n ticks later
 pub standing-later : (latest now : ℕ) (seat : Seat) → since_of seat ≤ latest → latest ≤ now → sit_hart (now - latest) (hart_of_seat latest seat) ≡ hart_of_seat now seat
 standing-later latest now seat past later = go seat.account seat.pending past
   where

@@ -12,7 +12,7 @@ same_parts : (a : Account) (m n v w p q : ℕ) → m ≡ n → v ≡ w → p ≡
     → the_hart (record a { paused = m }) v p ≡ the_hart (record a { paused = n }) w q
 same_parts a m n v w p q paused work pause = cc
 
--- so many ticks at once
+-- n ticks at once
 pub without_work-sit : (k : ℕ) (hart : Hart) → without_work (sit_hart k hart) ≡ sit_hart k (without_work hart)
 without_work-sit k hart = go hart.account hart.load
   where
@@ -54,7 +54,7 @@ sit_one_more k hart = go hart.account hart.load
         let pause : l.pause - k - 1 ≡ l.pause - suc k = omega arith in
         cc
 
--- a tick more than so many at once
+-- a tick more than n at once
 one_more_by : (k : ℕ) (a : Account) (l : Load) (b : Bool) → (l.pause - k == 0) ≡ b
     → (if b
     then record { account = record a { paused = a.paused + min k l.pause }; load = Some (record { work = l.work - (k - l.pause) - 1; pause = l.pause - k }) }
@@ -91,7 +91,7 @@ no_tick hart = go hart.account hart.load
         let pause : l.pause ≡ l.pause - 0 = omega arith in
         same_parts a a.paused (a.paused + min 0 l.pause) l.work (l.work - (0 - l.pause)) l.pause (l.pause - 0) paused work pause
 
--- so many single ticks are as many at once
+-- n single ticks are as many at once
 pub ticked_is : (k : ℕ) (hart : Hart) → hart_after_ticks k hart ≡ sit_hart k hart
 ticked_is zero hart = no_tick hart
 ticked_is (suc k) hart = ap tick_hart (ticked_is k hart) ∙ one_more k hart
@@ -111,7 +111,7 @@ sit_none hart = go hart.account hart.load
         let pause : l.pause - 0 ≡ l.pause = omega arith in
         same_parts a (a.paused + min 0 l.pause) a.paused (0 - (0 - l.pause)) 0 (l.pause - 0) l.pause paused work pause
 
--- account and pause after so many single ticks are those of so many at once
+-- account and pause after n single ticks are those of n at once
 pub without_work-ticked : (k : ℕ) (hart : Hart) → without_work (hart_after_ticks k hart) ≡ sit_hart k (without_work hart)
 without_work-ticked zero hart = sym (sit_none hart)
 without_work-ticked (suc k) hart = without_work-tick (hart_after_ticks k hart) ∙ ap (sit_hart 1) (without_work-ticked k hart) ∙ sit_one_more k hart

@@ -55,6 +55,6 @@ with_credit woken waker d = record d {
   harts = change idle_hart woken (credit (total (hart_at d waker).account)) d.harts;
 }
 
--- so many harts before any moment was given
+-- `harts` harts before any moment was given
 abbrev pub none_raised : ℕ → Delays
 none_raised harts = record { latest = 0; raised = 0; harts = replicate harts idle_hart }

@@ -48,11 +48,11 @@ settled_seat now seat =
 abbrev pub IsUnpaused : Seat → Type 0
 IsUnpaused seat = (seat.pending ≡ None → ⊥) × (pause_owed seat ≡ 0)
 
--- the account of a seat and its pause are less than 2 ^ 64 together with so many ticks
+-- the account of a seat and its pause and `ticks` ticks together are less than 2 ^ 64
 abbrev pub Fits : ℕ → Seat → Type 0
 Fits ticks seat = total (account_as seat.account) + pause_owed seat + ticks < 2 ^ 64
 
--- a seat before and after a raise of so many ticks at a moment
+-- a seat before and after a raise of `ticks` ticks at a moment
 pub record IsRaised (ticks now raiser place : ℕ) (old new : Seat) : Type 0 where
   pub stands : hart_of_seat now new ≡ raise_hart ticks raiser place (hart_of_seat now old)
   pub past : since_of new ≤ now

@@ -9,7 +9,7 @@ without_work hart = elim (hart.load) [
   | Some l ↦ record hart { load = Some (record l { work = 0 }) }
 ]
 
--- a hart after so many single ticks
+-- a hart after n single ticks
 abbrev pub hart_after_ticks : ℕ → Hart → Hart
 hart_after_ticks zero hart = hart
 hart_after_ticks (suc k) hart = tick_hart (hart_after_ticks k hart)

@@ -178,7 +178,7 @@ impl Credits {
         settle(self.seats[usize::from(hart.0)], now).account
     }
 
-    /// Makes these credits the same as others of as many harts.
+    /// Makes these credits equal to others of as many harts.
     pub fn copy_from(&mut self, other: &Credits)
         requires { length self.old.harts ≡ length other.now.harts }
         ensures { self.new ≡ other.now }

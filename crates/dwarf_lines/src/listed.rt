@@ -162,7 +162,7 @@ pub fn read_listed<'a>(
     read_entries(alloc, count, strings, formats.as_slice(), cursor)
 }
 
-/// The paths of the directories. Only want of memory stands against it.
+/// The paths of the directories.
 pub fn paths<'a>(alloc: Global, entries: &[Entry<'a>]) -> Result<Vec<&'a [u8]>, AllocError>
     ensures { IfOk result (λ v. texts_view v.items ≡ paths (entries_view entries.now)) }
 {
@@ -173,7 +173,7 @@ pub fn paths<'a>(alloc: Global, entries: &[Entry<'a>]) -> Result<Vec<&'a [u8]>, 
     Ok(paths)
 }
 
-/// The files with the paths of their directories. Only want of memory stands against it.
+/// The files with the paths of their directories.
 pub fn files_of<'a>(
     alloc: Global,
     directories: &[&'a [u8]],

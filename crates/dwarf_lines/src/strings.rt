@@ -98,7 +98,7 @@ impl<'a> Sections<'a> {
         }
     }
 
-    /// Lends the gathered sections. Only want of memory stands against it.
+    /// Lends the gathered sections.
     pub fn lend(&mut self, alloc: Global) -> Result<Strings<'a>, AllocError>
         ensures lent { IfOk result (λ s. strings_view s ≡ sections_view self.old) }
         ensures kept { sections_view self.new ≡ sections_view self.old }

@@ -7,7 +7,7 @@ use Rattle.elf_load.specs.declared.tables.Segment.{Segment}
 use Rattle.elf_load.specs.Tables.{first_page, end_page, pages, share_page, is_area, is_load}
 use Rattle.elf_load.specs.Faults.{first_after}
 
--- the first so many, the last of them first
+-- the first n, the last of them first
 abbrev pub earlier : ℕ → List Segment → List Segment
 earlier n ss = reverse (take n ss)
 

@@ -51,11 +51,11 @@ shstrndx file = number w16 file 62
 abbrev pub has_bit : ℕ → ℕ → Bool
 has_bit i n = bit_at n i == 1
 
--- so many bytes from there run past the file: no bytes run past nothing
+-- `size` bytes from offset `from` on run past the end of the file; 0 bytes never do
 abbrev pub runs_past : List ℕ → ℕ → ℕ → Bool
 runs_past file from size = not (size == 0) && nat_lt (length file) (from + size)
 
--- the places of so many entries of one size
+-- the offsets of `count` entries of one size
 abbrev pub places : ℕ → ℕ → ℕ → List ℕ
 places from size zero = []
 places from size (suc count) = from ∷ places (from + size) size count

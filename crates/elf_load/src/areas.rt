@@ -50,7 +50,6 @@ fn area_of(file: &[u8], segment: &Segment) -> Area
 }
 
 /// The areas of the image, in the order of their program headers.
-/// Only want of memory stands against it.
 pub fn image_areas(alloc: Global, file: &[u8], areas: &[Segment]) -> Result<Vec<Area>, AllocError>
     requires { All (λ s. PAGE * end_page s ≤ LOAD_END) areas.now }
     ensures { IfOk result (λ made. made.items ≡ map (area_of file.now) areas.now) }

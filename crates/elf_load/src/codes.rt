@@ -47,7 +47,7 @@ pub const ELFDATA2LSB: u8 = 1;
 pub const ET_EXEC: u16 = 2;
 /// The machine RISC-V (RISC-V ELF psABI, "File Header").
 pub const EM_RISCV: u16 = 243;
-/// The e_phnum that stands for a greater number.
+/// The e_phnum of a file whose number of program headers does not fit (PN_XNUM).
 pub const PN_XNUM: u16 = 0xFFFF;
 
 // The places of fields in a program header (gABI, "Program Header").
@@ -96,7 +96,7 @@ pub const SH_SIZE: usize = 32;
 
 // The codes of its type, and a bit of its flags.
 
-/// The sh_type of a header that stands for no section.
+/// The sh_type of an unused section header (SHT_NULL).
 pub const SHT_NULL: u32 = 0;
 /// The sh_type of a section with no bytes in the file.
 pub const SHT_NOBITS: u32 = 8;

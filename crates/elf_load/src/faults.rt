@@ -176,7 +176,7 @@ fn entry_in_code(file: &[u8], segments: &[Segment]) -> Result<(), ElfFault>
 }
 
 /// No row on program headers and section headers holds.
-/// Err tells the first that does, or want of memory.
+/// Err is the first that does, or out of memory.
 pub fn check_tables(
     alloc: Global,
     file: &[u8],

@@ -33,7 +33,7 @@ pub fn double_at(file: &[u8], place: usize) -> u64
     LittleEndian::read_u64(&file[place..])
 }
 
-/// Whether so many bytes from there run past the file. No bytes run past nothing.
+/// Whether `size` bytes from offset `from` on run past the end of the file; 0 bytes never do.
 pub fn runs_past(file: &[u8], from: u64, size: u64) -> bool
     ensures { result ≡ runs_past file.now from size }
 {

@@ -27,7 +27,7 @@ fn has_page_of(spans: &BTreeMap<u64, u64>, area: &Segment) -> bool
     }
 }
 
-/// No area has a page of an earlier one. Err tells the first that has, or want of memory.
+/// Ok if no area shares a page with an earlier one. Err is the first that does, or out of memory.
 pub fn no_shared_page(alloc: Global, areas: &[Segment]) -> Result<(), LoadError>
     requires { All (λ s. is_area s ≡ true) areas.now }
     ensures { JudgesOrFails result (entry_row ElfKind.SharedPage

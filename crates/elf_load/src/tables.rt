@@ -178,7 +178,7 @@ fn nth_segment(file: &[u8], index: u16) -> Segment
     segment_at(file, first + PHDR_SIZE * index as usize)
 }
 
-/// The program headers, in their order. Only want of memory stands against it.
+/// The program headers, in their order.
 #[tactic(auto, using(crate::proofs::Rows::room))]
 pub fn read_segments(alloc: Global, file: &[u8]) -> Result<Vec<Segment>, AllocError>
     requires { HasHeaders file.now }
@@ -217,7 +217,7 @@ pub fn nth_section(file: &[u8], index: u16) -> Section
     section_at(file, first + SHDR_SIZE * index as usize)
 }
 
-/// The section headers, in their order. Only want of memory stands against it.
+/// The section headers, in their order.
 #[tactic(auto, using(crate::proofs::Rows::room))]
 pub fn read_sections(alloc: Global, file: &[u8]) -> Result<Vec<Section>, AllocError>
     requires { HasHeaders file.now }

@@ -12,7 +12,6 @@ use std::marker::Brand;
 impl Claims {
     /// Claims of the numbers below a bound, and the first seat, which has 2^40
     /// turns and no numbers.
-    /// Only want of memory stands against it.
     pub fn new(alloc: Global, bound: u32) -> Result<(Claims, ClaimSeat), AllocError>
         ensures seat { IfOk result (λ made. IsSeatOf made.0 made.1) }
         ensures hand { IfOk result (λ made. hand_of made.1 ≡ first_hand) }

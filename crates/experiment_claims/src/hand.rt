@@ -43,7 +43,7 @@ impl Part for Brand {
     ghost turns = { 0 };
 }
 
-/// A seat gives so many turns to a new one.
+/// A seat gives some of its turns to a new one.
 pub struct Give<P: Part> {
     part: PhantomData<P>,
 }

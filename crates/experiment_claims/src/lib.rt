@@ -1,4 +1,4 @@
-//! Numbers that threads draw: each number below a count comes to one seat, once.
+//! Numbers that threads draw: each number below a count is drawn by exactly one seat, once.
 #![tactic(auto)]
 
 mod claims;

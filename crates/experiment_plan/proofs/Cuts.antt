@@ -12,7 +12,7 @@ use Rattle.std.proofs.lemmas.Bool.{leb-true}
 use Rattle.experiment_plan.specs.Lists.{Text, is_colon, is_comma, is_number, is_path, number_in, is_line, pieces}
 use Rattle.experiment_plan.proofs.Bools.{both_true, not_not}
 
--- where a colon stands right before a place and none behind it, that is the place behind the last
+-- where a colon stands right before a place and none after it, that is the place after the last
 pub behind : (text : Text) (place : ℕ) → place ≤ length text → ((k : ℕ) → place ≤ k → k < length text → is_colon (get_or text k 0) ≡ false)
     → (0 < place → is_colon (get_or text (place - 1) 0) ≡ true) → suffix_len (λ b. not (is_colon b)) text ≡ length text - place
 behind text place within none there = suffix_len_is (λ b. not (is_colon b)) text place 0 within (λ k le lt. ap not (none k le lt)) (λ some. ap not (there some))

@@ -18,7 +18,7 @@ others : (one rest : Bool) → (one && rest) ≡ true → rest ≡ true
 others true rest both = both
 others false rest both = let no : false ≡ true = both in absurd cc
 
--- what is left of a list stands behind some bytes, which the pieces in front of it take
+-- what is left of a list stands after some bytes, which the pieces in front of it take
 abbrev pub Stands : List Line → Text → Option Text → Type 0
 Stands lines text None = Unit {0}
 Stands lines text (Some list) = (front : Text) × (text ≡ front ++ list) × (length front + bytes_before lines (pieces list) ≡ bytes_before lines (pieces text))
@@ -55,7 +55,7 @@ stands_with lines text list piece (Some rest) n there cut is stands =
     let more : bytes_before lines (pieces list) ≡ length piece + 1 + bytes_before lines (pieces rest) = ap (bytes_before lines) cut ∙ before_found lines piece (pieces rest) n there in
     (behind, same, omega (arith, size, more, stands.2))
 
--- the line of the next piece is put behind them
+-- the line of the next piece is put after them
 pub continues_with : (lines : List Line) (text list piece : Text) (rest : Option Text) (put new : List ℕ) (n : ℕ) → line_found lines piece ≡ Some n → new ≡ put ++ n ∷ [] → pieces list ≡ piece ∷ pieces_left rest → IsCut list piece rest
     → Continues lines text put (Some list) → Continues lines text new rest
 continues_with lines text list piece rest put new n there is cut part before =

@@ -16,7 +16,7 @@ by_line [] = []
 by_line (pair ∷ pairs) =
     if goes_on pair pairs then onto_first pair (by_line pairs) else (pair ∷ []) ∷ by_line pairs
 
--- all pairs of some lines, one behind the other
+-- all pairs of some lines, one line after the other
 abbrev pub all_pairs : List (List Experiment) → List Experiment
 all_pairs runs = flat_map (λ (run : List Experiment). run) runs
 

@@ -26,7 +26,7 @@ planned_pairs lines speedups = pairs_of lines (rising_numbers (0 ∷ speedups))
 abbrev pub pair_cmp : Experiment → Experiment → Ordering
 pair_cmp e f = ordering_then (nat_cmp e.line.0 f.line.0) (nat_cmp e.speedup f.speedup)
 
--- the pairs of a plan: lines that rise, each at so many speedups, none above the greatest speedup,
+-- the pairs of a plan: lines that rise, each at `count` speedups, none above the greatest speedup,
 -- and at most 100,000 pairs
 pub record ArePlanned (count : ℕ) (pairs : List Experiment) : Type 0 where
   pub lines : List LineId

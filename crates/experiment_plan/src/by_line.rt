@@ -7,7 +7,7 @@ ghost use Rattle.experiment_plan.specs.ByLine.{by_line, all_pairs, IsOfOneLine};
 use crate::experiment::{Experiment, Plan};
 
 impl Plan {
-    /// How many lines the plan has. The pairs of all of them, one behind the other, are the plan.
+    /// The number of lines of the plan. The plan is the pairs of all of them, in order.
     pub fn line_count(&self) -> u32
         ensures count { result ≡ length (by_line self.now) }
         ensures all { all_pairs (by_line self.now) ≡ self.now }

@@ -24,7 +24,7 @@ pub struct Experiment {
 /// Why there is no plan.
 #[derive(Clone, Copy, Debug, PartialEq, Eq)]
 pub enum PlanError {
-    /// There are so many pairs, more than `MOST_PAIRS`.
+    /// The number of pairs, which exceeds `MOST_PAIRS`.
     TooMany(u64),
     /// Memory was wanting.
     Memory,

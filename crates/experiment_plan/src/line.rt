@@ -7,7 +7,7 @@ ghost use Rattle.experiment_plan.specs.Lists.{is_comma, is_colon, is_path, is_li
 use crate::number::{number_in, value_of};
 use coz_types::GREATEST_LINE;
 
-/// The place behind the last `:`, which is 0 where there is none.
+/// The index after the last `:`, or 0 if there is none.
 fn behind_last_colon(text: &[u8]) -> usize
     ensures within { result ≤ length text.now }
     ensures place { suffix_len (λ b. not (is_colon b)) text.now ≡ length text.now - result }
@@ -19,7 +19,7 @@ fn behind_last_colon(text: &[u8]) -> usize
     place
 }
 
-/// What stands before the last `:`, and what stands behind it.
+/// The bytes before the last `:`, and the bytes after it.
 fn cut_at_last_colon<'a>(text: &'a [u8]) -> (&'a [u8], &'a [u8])
     ensures before { result.0.now ≡ before_last is_colon text.now }
     ensures after { result.1.now ≡ after_last is_colon text.now }
@@ -72,7 +72,7 @@ fn first_comma(text: &[u8]) -> usize
     place
 }
 
-/// The first piece of a list, and what stands behind its comma, if there is one.
+/// The first piece of a list, and the bytes after its comma, if there is one.
 pub fn first_piece<'a>(text: &'a [u8]) -> (&'a [u8], Option<&'a [u8]>)
     ensures pieces { pieces text.now ≡ result.0.now ∷ pieces_left (option_copied result.1) }
     ensures cut { IsCut text.now result.0.now (option_copied result.1) }

@@ -24,7 +24,7 @@ pub fn rising_speedups(alloc: Global, speedups: &[u8]) -> Result<Vec<u8>, AllocE
     Ok(rises)
 }
 
-/// Puts a line at each speedup behind other pairs.
+/// Appends the pairs of a line with each speedup.
 fn push_line(pairs: &mut Vec<Experiment>, line: LineId, speedups: &[u8]) -> Result<(), AllocError>
     ensures { OnOk result
         (pairs.new.items ≡ pairs.old.items ++ map (at_speedup line) speedups.now) }
@@ -71,7 +71,7 @@ fn pair_count(lines: &[LineId], speedups: &[u8]) -> u64
 }
 
 /// Each line at 0 and at each of the speedups: by line, then by speedup. Their number is judged
-/// before a pair is made. Err tells that there are more than 100,000, or want of memory.
+/// before a pair is made. Err says that there are more than 100,000, or that it is out of memory.
 pub fn plan(alloc: Global, lines: &[LineId], speedups: &[u8]) -> Result<Plan, PlanError>
     requires rising { IsStrictlySortedBy nat_cmp (ids lines.now) }
     requires speedups { All (λ speedup. speedup ≤ GREATEST_SPEEDUP) speedups.now }

@@ -1,4 +1,4 @@
-//! Why something isn't made: its first fault, or want of memory.
+//! Why something could not be made: its first fault, or out of memory.
 #![tactic(auto)]
 
 ghost use Rattle.std.specs.Prelude.{◌≡◌};

@@ -27,7 +27,7 @@ impl Pieces {
         }
     }
 
-    /// At most so many of the bytes that come next, and never more than three.
+    /// At most `most` of the next bytes, and never more than three.
     fn piece(&mut self, most: usize) -> &'static [u8]
         ensures { length result.now ≤ most }
     {

@@ -268,7 +268,7 @@ static CASES: [(Made, Wanted); 88] = [
         Made::Names(&[1, 1, 8, 2, 46, 0, 100, 0, 2, 1, 8, 2, 11, 1, 97, 0, 2]),
         Wanted::Table(&[(b"", b"a")], &[], 0),
     ),
-    // A place past a section of texts, at its end, without a zero byte behind it,
+    // A place past a section of texts, at its end, without a zero byte after it,
     // and in the other section.
     (
         Made::Names(&[0, 0, 1, 1, 31, 1, 3, 0, 0, 0]),
@@ -349,7 +349,7 @@ static CASES: [(Made, Wanted); 88] = [
             0,
         ),
     ),
-    // A unit of version 5 behind one of version 4 and before one of version 6.
+    // A unit of version 5 after one of version 4 and before one of version 6.
     (
         Made::Between,
         Wanted::Table(

@@ -80,7 +80,7 @@ letter : load (first_space image usual).memory 0x3FFFFFFFE0 1 ≡ Some 0x70
 unfolding with_entry with_numbers
 letter = refl
 
--- the count of the program headers stands behind its key
+-- the count of the program headers stands after its key
 headers : load (first_space image usual).memory (stack_pointer + 72) 8 ≡ Some 2
 unfolding with_entry with_numbers
 headers = refl

@@ -6,7 +6,7 @@ use Rattle.guest_areas.specs.Marks.{marked_pages}
 use Rattle.guest_areas.specs.Space.{RegionMap, is_in_run, is_free_run, run}
 use Rattle.guest_areas.proofs.MarkLemmas.{list_any-marked_at, list_any-marked_none, in_run}
 
--- the search from a page on, where so many are left of the region
+-- the search from a page on, where n are left of the region
 abbrev pub free_run_from : RegionMap → ℕ → ℕ → ℕ → Option ℕ
 free_run_from r count zero page = None
 free_run_from r count (suc left) page =

@@ -54,16 +54,16 @@ rights_of protection = record {
 abbrev pub is_page_start : ℕ → Bool
 is_page_start address = address % page_size == 0
 
--- the page is one of so many from one on
+-- `page` is one of the `count` pages from `first` on
 abbrev pub is_in_run : ℕ → ℕ → ℕ → Bool
 is_in_run first count page = nat_le first page && nat_lt page (first + count)
 
--- so many pages from one on
+-- the `count` pages from `first` on
 abbrev pub run : ℕ → ℕ → List ℕ
 run first zero = []
 run first (suc count) = first ∷ run (first + 1) count
 
--- each of so many pages from one on passes the test
+-- each of the `count` pages from `first` on passes the test
 abbrev pub is_each : (ℕ → Bool) → ℕ → ℕ → Bool
 is_each test first zero = true
 is_each test first (suc count) = elim (test first) [
@@ -74,11 +74,11 @@ is_each test first (suc count) = elim (test first) [
 abbrev pub is_free_run : RegionMap → ℕ → ℕ → Bool
 is_free_run r first count = not (list_any (is_in_run first count) r.mapped)
 
--- the pages from which so many lie in the map region, rising
+-- the pages from which `count` pages lie in the map region, rising
 abbrev pub starts : RegionMap → ℕ → List ℕ
 starts r count = run (page_of map_base) (page_of r.layout.map + 1 - count)
 
--- the least page from which so many pages of the map region are free
+-- the least page from which `count` pages of the map region are free
 abbrev pub free_run : RegionMap → ℕ → Option ℕ
 free_run r count = find (λ page. is_free_run r page count) (starts r count)
 
@@ -116,7 +116,7 @@ with_run first count protection s =
     })
     (with_zeros first count (with_rights_from first count (rights_of protection) s.memory))
 
--- mmap of so many bytes
+-- mmap of `length` bytes
 unfoldable pub map : ℕ → ℕ → Space → Answered
 map length protection s =
     if length == 0 then refused_answer invalid_argument s
@@ -129,7 +129,7 @@ map length protection s =
       }
     ]
 
--- so many bytes from an address on, in whole pages, are in the map region
+-- `length` bytes from an address on, in whole pages, are in the map region
 abbrev pub is_in_map : Layout → ℕ → ℕ → Bool
 is_in_map layout address length =
     nat_le map_base address && nat_le (address + pages_for length * page_size) (map_end layout)
@@ -140,14 +140,14 @@ without_run first count s =
     (record s.regions { mapped = filter (λ p. not (is_in_run first count p)) s.regions.mapped })
     (with_rights_from first count no_rights s.memory)
 
--- munmap of so many bytes from an address on
+-- munmap of `length` bytes from an address on
 unfoldable pub unmap : ℕ → ℕ → Space → Answered
 unmap address length s =
     if not (is_page_start address) || length == 0 || not (is_in_map s.regions.layout address length)
     then refused_answer invalid_argument s
     else record { answer = pos 0; space = without_run (page_of address) (pages_for length) s }
 
--- mprotect of so many bytes from an address on
+-- mprotect of `length` bytes from an address on
 unfoldable pub protect : ℕ → ℕ → ℕ → Space → Answered
 protect address length protection s =
     if not (is_page_start address) then refused_answer invalid_argument s

@@ -54,7 +54,7 @@ const READ_AND_WRITE: Rights = Rights {
 pub struct Areas {
     /// In the image's order.
     areas: Vec<Area>,
-    /// The same by their addresses.
+    /// The same areas, sorted by address.
     sorted: Vec<Area>,
     layout: Layout,
     /// The break.
@@ -130,7 +130,7 @@ impl Areas {
         to
     }
 
-    /// Maps so many bytes as zeros, at the lowest free run of pages that is long enough,
+    /// Maps `length` bytes of zeros, at the lowest free run of pages that is long enough,
     /// and answers with its address. Refused are no bytes, execution, and more
     /// than are free (Linux: mmap(2)).
     pub fn map(&mut self, memory: &mut Memory, length: u64, protection: u64) -> i64
@@ -158,7 +158,7 @@ impl Areas {
         }
     }
 
-    /// Unmaps so many bytes from an address on, in whole pages: they lose their rights,
+    /// Unmaps `length` bytes from an address on, in whole pages: they lose their rights,
     /// mapped or not. Refused are an address that starts no page, no bytes, and pages outside
     /// of the map region (Linux: munmap(2)).
     pub fn unmap(&mut self, memory: &mut Memory, address: Address, length: u64) -> i64
@@ -183,7 +183,7 @@ impl Areas {
         0
     }
 
-    /// Gives so many bytes from an address on, in whole pages, the rights of a protection,
+    /// Gives `length` bytes from an address on, in whole pages, the rights of a protection,
     /// and never execution. Refused are an address that starts no page, execution,
     /// and a page that the program doesn't have (Linux: mprotect(2)).
     pub fn protect(
@@ -229,7 +229,7 @@ impl Areas {
         self.mapped.copy_from_slice(&other.mapped);
     }
 
-    /// The place in the map region of the lowest run of so many free pages.
+    /// The index in the map region of the lowest run of `count` free pages.
     fn free_run(&self, count: u64) -> Option<usize>
         requires { 0 < count }
         ensures page { option_map (λ place. page_of map_base + place) result
@@ -246,7 +246,7 @@ impl Areas {
         None
     }
 
-    /// Whether the program has each of so many pages from one on.
+    /// Whether the program has each of `count` pages from `first` on.
     fn has_each(&self, first: u64, count: u64) -> bool
         requires { first + count < 2 ^ 64 }
         ensures { result ≡ is_each (is_known self.now) first count }

@@ -14,7 +14,7 @@ const WRITE: u64 = 2;
 /// PROT_EXEC.
 const EXECUTE: u64 = 4;
 
-/// The pages that hold so many bytes.
+/// The number of pages that hold `length` bytes.
 pub fn pages_for(length: u64) -> u64
     ensures value { result ≡ pages_for length }
     ensures low { result ≤ 2 ^ 52 }
@@ -41,7 +41,7 @@ pub fn rights_of(protection: u64) -> Rights
     }
 }
 
-/// Whether a page is one of so many from one on.
+/// Whether `page` is one of the `count` pages from `first` on.
 pub fn is_in_run(first: u64, count: u64, page: u64) -> bool
     ensures { result ≡ is_in_run first count page }
 {

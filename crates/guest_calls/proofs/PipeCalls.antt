@@ -1,4 +1,4 @@
--- What a call on a pipe comes to.
+-- The effect of a call on a pipe.
 use Rattle.std.proofs.Common.{ℕ, ◌≡◌, ◌≤◌, Bool, true, false, not, if◌then◌else◌, List, [], ◌++◌, Some, pos, length, refl, ap, ◌∙◌}
 use Rattle.machines.specs.declared.Fate.{Fate}
 use Rattle.machines.specs.Guest.{Retirement}

@@ -121,7 +121,7 @@ pub retire-fault : (g after : Guest) (h v : ℕ) (s : Step) (cause : TrapCause) 
 unfolding retire
 retire-fault g after h v s cause e is = ap (λ (x : Step). retirement_after h v (step_result after x)) (sym is) ∙ ap (retirement_after h v) e
 
--- what is asked of a call holds after the step that comes to it
+-- what is asked of a call holds after the step that reaches it
 pub call-same : (g after : Guest) (h : ℕ) (s : Step) → step_result after s ≡ step g h → s ≡ Call → IsCall g h (step_result after s) (next_of g h)
 call-same g after h s e is =
     let p : (step g h).step ≡ Call = ap (λ (x : Stepped). x.step) (sym e) ∙ is in

@@ -84,7 +84,7 @@ written-next m ps i old new below e =
 pub total-next : (ps : List Piece) (i : ℕ) → i < length ps → total (drop i ps) ≡ (get_or ps i no_piece).length + total (drop (i + 1) ps)
 total-next ps i below = ap total (next-piece ps i below)
 
--- what is left after so many bytes of a piece were filled
+-- what is left after n bytes of a piece were filled
 pub writable-next : (m : MemoryMap) (ps : List Piece) (i left taken : ℕ) → i < length ps → taken ≡ min (get_or ps i no_piece).length left
     → is_each_writable m (filled_parts (drop i ps) left) ≡ (is_writable m (get_or ps i no_piece).address taken && is_each_writable m (filled_parts (drop (i + 1) ps) (left - taken)))
 writable-next m ps i left taken below e =

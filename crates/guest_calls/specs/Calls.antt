@@ -43,7 +43,7 @@ abbrev pub pieces_at : MemoryMap → ℕ → ℕ → List Piece
 pieces_at m address zero = []
 pieces_at m address (suc count) = piece_at m address ∷ pieces_at m (address + 16) count
 
--- what so many bytes fill of each piece, in order
+-- the part of each piece that n bytes fill, in order
 abbrev pub filled_parts : List Piece → ℕ → List Piece
 filled_parts [] n = []
 filled_parts (p ∷ ps) n =
@@ -63,7 +63,7 @@ abbrev pub bytes_of : MemoryMap → List Piece → List ℕ
 bytes_of m [] = []
 bytes_of m (p ∷ ps) = bytes_at m p.address p.length ++ bytes_of m ps
 
--- so many bytes of the input that is left are stored from an address on
+-- the next `count` bytes of the input are stored from an address on
 abbrev pub with_filled : ℕ → ℕ → Guest → Guest
 with_filled address count g =
     with_stored address (take count g.input) (record g { input = drop count g.input })
@@ -135,7 +135,7 @@ abbrev pub with_word : ℕ → ℕ → Guest → Guest
 with_word address n g =
     if is_writable (memory_of g) address 4 then with_stored address (to_le_bytes w32 n) g else g
 
--- the eldest harts that wait for an address run, at most so many
+-- the oldest harts that wait for an address run, at most `count`
 abbrev pub with_woken : ℕ → ℕ → Guest → Guest
 with_woken address count g =
     with_running (woken_harts address g.waiters count)
@@ -236,7 +236,7 @@ module _ (g : Guest) (h : ℕ) where
       with_hart h (record (hart_at g h) { status = Waiting })
       (record g { pipes = waiting a0 h g.pipes })
 
-  -- so many bytes are taken from the pipe, and all that wait for its room are woken
+  -- n bytes are taken from the pipe, and all that wait for its room are woken
   abbrev pub with_taken : ℕ → Guest
   with_taken n =
       with_pipes (taken a0 n g.pipes) (woken_for Writing a0 g.pipes)
@@ -267,7 +267,7 @@ module _ (g : Guest) (h : ℕ) where
       if not (is_readable (memory_of g) a1 a2) then answer bad_address
       else with_answer (pos a2) h (with_written (bytes_at (memory_of g) a1 a2) g)
 
-  -- so many bytes are put into the pipe, and all that wait for its bytes are woken
+  -- n bytes are put into the pipe, and all that wait for its bytes are woken
   abbrev pub with_put : ℕ → Guest
   with_put n =
       with_pipes (put a0 (bytes_at (memory_of g) a1 n) g.pipes) (woken_for Reading a0 g.pipes) g
@@ -355,11 +355,11 @@ module _ (g : Guest) (h : ℕ) where
   abbrev pub is_cleared : Bool
   is_cleared = not (clear_address == 0) && is_writable (memory_of g) clear_address 4
 
-  -- the eldest hart that waits for the clear address
+  -- the oldest hart that waits for the clear address
   abbrev pub woken_at_exit : List ℕ
   woken_at_exit = woken_harts clear_address g.waiters 1
 
-  -- the clear address has 0, and its eldest waiter is woken
+  -- the clear address has 0, and its oldest waiter is woken
   abbrev pub cleared : Guest
   cleared = with_woken clear_address 1 (with_stored clear_address (replicate 4 0) g)
 
@@ -439,7 +439,7 @@ module _ (g : Guest) (h : ℕ) where
   abbrev pub child_tls : HartState → HartState
   child_tls state = if has_power a0 set_tls then with_register 4 a3 state else state
 
-  -- it goes on behind the call, with 0 as its answer
+  -- it goes on after the call, whose result is 0
   abbrev pub child_hart : Hart
   child_hart =
       hart_from (child_tls (child_stack (with_result 0 (state_of g h))))

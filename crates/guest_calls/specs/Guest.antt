@@ -20,7 +20,7 @@ pub record Guest : Type 0 where
   pub harts : List Hart
   pub space : Space
   pub reservations : Reservations
-  -- the eldest first
+  -- the oldest first
   pub waiters : List Waiter
   pub pipes : PipeMap
   -- the input that is left, and all of it

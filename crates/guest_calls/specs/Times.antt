@@ -6,7 +6,7 @@ use Rattle.guest_memory.specs.Memory.{MemoryMap, number_at}
 use Rattle.guest_calls.specs.declared.times.TheConstants.{SECOND, NANOSECOND}
 use Rattle.guest_calls.specs.declared.times.Span.{Span}
 
--- the span of so many seconds and nanoseconds, if both are in their ranges
+-- the span of these seconds and nanoseconds, if both are in their ranges
 abbrev pub span_of : ℤ → ℤ → Option Span
 span_of (pos seconds) (pos nanoseconds) =
     if nat_lt nanoseconds SECOND

@@ -240,7 +240,7 @@ impl<'a> Guest<'a> {
         self.answer_count(hart, thread_id(hart))
     }
 
-    /// Stores so many bytes of the input that is left; nothing is done where some byte
+    /// Stores the next `count` bytes of the input; does nothing if some byte
     /// may not be written.
     fn fill(&mut self, address: Address, count: u64) -> Result<(), Access>
         requires { count ≤ length self.old.input }

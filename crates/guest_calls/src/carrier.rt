@@ -62,7 +62,7 @@ impl Carrier {
     }
 
     /// Puts bytes of the memory, which may be read, into a pipe that has room for them. All harts
-    /// that wait for its bytes are appended to a list, the eldest first.
+    /// that wait for its bytes are appended to a list, the oldest first.
     pub fn send(
         &mut self,
         memory: &Memory,

@@ -65,14 +65,14 @@ impl Hart {
         matches!(self.status, HartStatus::Sleeping)
     }
 
-    /// Moves the pc behind the call.
+    /// Moves the pc to the instruction after the call.
     pub fn proceed(&mut self)
         ensures { self.new ≡ record self.old { state = after_call self.old.state } }
     {
         self.state.pc = self.state.pc.wrapping_add(4);
     }
 
-    /// Gives the call's answer to the hart, which goes on behind the call.
+    /// Gives the call's result to the hart, which goes on after the call.
     pub fn answer(&mut self, value: u64)
         ensures { self.new ≡ record self.old { state = with_result value self.old.state } }
     {
@@ -80,7 +80,7 @@ impl Hart {
         self.state.registers[A0] = value;
     }
 
-    /// The hart waits, behind the call, whose answer is 0.
+    /// The hart waits after the call, whose result is 0.
     pub fn wait(&mut self)
         ensures { self.new
             ≡ record self.old { state = with_result 0 self.old.state; status = Waiting } }
@@ -89,7 +89,7 @@ impl Hart {
         self.status = HartStatus::Waiting;
     }
 
-    /// The hart sleeps, behind the call, whose answer is 0.
+    /// The hart sleeps after the call, whose result is 0.
     pub fn sleep(&mut self)
         ensures { self.new
             ≡ record self.old { state = with_result 0 self.old.state; status = Sleeping } }
@@ -98,7 +98,7 @@ impl Hart {
         self.status = HartStatus::Sleeping;
     }
 
-    /// The hart is gone, behind the call.
+    /// The hart leaves after the call.
     pub fn leave(&mut self)
         ensures { self.new ≡ record self.old { state = after_call self.old.state; status = Gone } }
     {

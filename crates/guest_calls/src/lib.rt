@@ -70,7 +70,7 @@ impl<'a> Model for Guest<'a> {
 
 impl<'a> Guest<'a> {
     /// The guest that begins to run an image, with its first hart at the entry.
-    /// The output's limit is from 1 to 67,108,864 bytes. Only want of memory stands against it.
+    /// The output's limit is from 1 to 67,108,864 bytes.
     pub fn new(
         alloc: Global,
         image: &'a Image<'a>,

@@ -86,7 +86,7 @@ pub const CLONE_CHILD_SETTID: u64 = 0x1000000;
 
 /// Waits while the word has a value.
 pub const FUTEX_WAIT: u64 = 0;
-/// Wakes so many waiters of the word.
+/// Wakes at most a given number of waiters of the word.
 pub const FUTEX_WAKE: u64 = 1;
 /// FUTEX_WAIT with FUTEX_PRIVATE_FLAG.
 pub const FUTEX_WAIT_PRIVATE: u64 = 128;

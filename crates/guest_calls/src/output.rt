@@ -43,8 +43,7 @@ fn copy_front(into: &mut [u8], from: &[u8], count: usize)
 }
 
 impl Output {
-    /// Nothing is written yet, and there is room for so many bytes.
-    /// Only want of memory stands against it.
+    /// An empty output with room for `limit` bytes.
     pub fn new(alloc: Global, limit: usize) -> Result<Output, AllocError>
         requires { limit ≤ MOST_OUTPUT }
         ensures { IfOk result (λ output. output ≡ record { bytes = []; limit = limit }) }

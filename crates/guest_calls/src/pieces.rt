@@ -43,7 +43,7 @@ fn piece_at(memory: &Memory, address: Address) -> Piece
     }
 }
 
-/// The pieces that so many pairs at an address name, each an address and a length of 8 bytes.
+/// The pieces of the `count` pairs at an address, each pair an address and a length of 8 bytes.
 pub fn pieces_at(memory: &Memory, address: Address, count: u64) -> ArrayVec<Piece, PIECES>
     requires few { count ≤ PIECES }
     requires named { IsTrue (is_readable memory.now address (16 * count)) }
@@ -66,7 +66,7 @@ pub fn are_readable(memory: &Memory, pieces: &[Piece]) -> bool
         .all(|piece| memory.readable(piece.address, piece.length))
 }
 
-/// Whether so many bytes may fill the pieces in order.
+/// Whether the first `count` bytes of the pieces, in order, may be written.
 pub fn are_writable(memory: &Memory, pieces: &[Piece], count: u64) -> bool
     ensures { result ≡ is_each_writable memory.now (filled_parts pieces.now count) }
 {

@@ -72,7 +72,7 @@ impl<'a> Guest<'a> {
         }
     }
 
-    /// Reads so many bytes, which a pipe has.
+    /// Reads `count` bytes, which the pipe has.
     #[tactic(auto, unfolding(crate::specs::Calls::read_now))]
     fn read_now(&mut self, hart: HartId, count: u32, started: &mut HartList) -> Fate
         requires running { IsTrue (is_running self.old hart.0) }
@@ -141,7 +141,7 @@ impl<'a> Guest<'a> {
         }
     }
 
-    /// Writes so many bytes, for which a pipe has room.
+    /// Writes `count` bytes, for which the pipe has room.
     #[tactic(auto, unfolding(crate::specs::Calls::write_now))]
     fn write_now(&mut self, hart: HartId, count: u32, started: &mut HartList) -> Fate
         requires running { IsTrue (is_running self.old hart.0) }

@@ -77,7 +77,7 @@ impl<'a> Guest<'a> {
         self.leave(hart)
     }
 
-    /// Stores 0 at the hart's clear address and wakes the eldest hart that waits for it;
+    /// Stores 0 at the hart's clear address and wakes the oldest hart that waits for it;
     /// where it has none, or it may not be written, nothing is done.
     fn clear(&mut self, hart: HartId, started: &mut HartList)
         requires made { IsMade self.old hart.0 }
@@ -197,7 +197,7 @@ impl<'a> Guest<'a> {
         self.answer_count(hart, started.harts().len() as u64)
     }
 
-    /// The eldest harts that wait for an address run, at most so many; `started`
+    /// The oldest harts that wait for an address run, at most `count`; `started`
     /// gets them in order.
     fn rouse(&mut self, address: Address, count: u32, started: &mut HartList)
         requires { started.old ≡ [] }

@@ -7,7 +7,7 @@ use Rattle.guest_futex.specs.Apart.{AreApart}
 use Rattle.guest_futex.specs.Held.{waiter_of, waiters_of}
 use Rattle.guest_futex.proofs.Left.{left_by, woken-here, woken-elsewhere, left-here, left-elsewhere, left_by-left}
 
--- after i places, of which some are kept, with so many still wanted
+-- after i places, of which some are kept, with n still wanted
 pub record Passed (address : ℕ) (old : List Place) (count : ℕ) (before : List ℕ) (i kept wanted : ℕ) (places : List Place) (into : List ℕ) : Type 0 where
   pub within : kept ≤ i
   pub same : length places ≡ length old

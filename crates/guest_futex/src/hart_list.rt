@@ -49,7 +49,7 @@ impl HartList {
         &self.places[..self.count]
     }
 
-    /// Makes the list the same as another one.
+    /// Makes the list equal to another one.
     pub fn copy_from(&mut self, other: &HartList)
         ensures { self.new ≡ other.now }
     {

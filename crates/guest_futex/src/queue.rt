@@ -1,4 +1,4 @@
-//! The harts that wait at addresses, the eldest first.
+//! The harts that wait at addresses, the oldest first.
 ghost use Rattle.std.specs.Prelude.{◌≡◌, ◌≢◌, ◌+◌, ◌<◌, ◌≤◌, [], ◌++◌, length, take, All, IfOk};
 ghost use Rattle.guest_futex.specs.Waiters.{with_waiter, woken_harts, waiters_left};
 ghost use Rattle.guest_futex.specs.Apart.{AreApart};
@@ -18,10 +18,10 @@ struct Place {
 
 /// Up to `HARTS` harts that each wait for one address.
 ///
-/// Contracts see the list of the waiters, the eldest first. `new` alone can be out of memory.
+/// Contracts see the list of the waiters, the oldest first. `new` alone can be out of memory.
 #[derive(Drop)]
 pub struct Queue {
-    // The eldest first.
+    // The oldest first.
     places: Vec<Place>,
 }
 
@@ -41,7 +41,7 @@ impl Model for Queue {
         AreApart (waiters_of q.places.items) × (HARTS ≤ vec_capacity q.places) };
 }
 
-/// Appends the harts of the eldest waiters for an address to a list, at most `count`,
+/// Appends the harts of the oldest waiters for an address to a list, at most `count`,
 /// and moves those that are left to the front. Returns how many are left.
 fn take_eldest(places: &mut [Place], address: Address, count: u32, into: &mut HartList) -> usize
     requires apart { AreApart (waiters_of places.old) }
@@ -67,7 +67,7 @@ fn take_eldest(places: &mut [Place], address: Address, count: u32, into: &mut Ha
 }
 
 impl Queue {
-    /// No waiters, with room for `HARTS` of them. An error is want of memory,
+    /// No waiters, with room for `HARTS` of them. An error is out of memory,
     /// and no clause says when that comes.
     pub fn new(alloc: Global) -> Result<Queue, AllocError>
         ensures { IfOk result (λ queue. queue ≡ []) }
@@ -88,7 +88,7 @@ impl Queue {
         };
     }
 
-    /// Takes the eldest waiters for an address, at most `count`, and appends them to a list.
+    /// Takes the oldest waiters for an address, at most `count`, and appends them to a list.
     pub fn wake(&mut self, address: Address, count: u32, into: &mut HartList)
         requires { length into.old + length (woken_harts address self.old count) ≤ HARTS }
         ensures woken { into.new ≡ into.old ++ woken_harts address self.old count }
@@ -98,7 +98,7 @@ impl Queue {
         self.places.truncate(kept);
     }
 
-    /// Makes these waiters the same as others.
+    /// Makes these waiters equal to others.
     pub fn copy_from(&mut self, other: &Queue)
         ensures { self.new ≡ other.now }
     {

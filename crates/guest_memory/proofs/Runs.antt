@@ -1,4 +1,4 @@
--- So many bytes from an address on.
+-- n bytes from an address on.
 use Rattle.std.proofs.Common.{ℕ, zero, suc, ◌≡◌, ◌+◌, ◌-◌, ◌*◌, ◌/◌, ◌%◌, ◌^◌, ◌≤◌, ◌<◌, Bool, true, false, List, [], ◌∷◌, length, get_or, arith, refl, sym, ap, ◌∙◌, ⊎_elim, Some, None}
 use Rattle.std.specs.Int.{byte_at as byte_of, bytes_low_first}
 use Rattle.std.proofs.Math.Nat.{pow-succ', div-div-eq-div-mul}
@@ -40,7 +40,7 @@ refused_from right m a (suc n) (suc j) below h =
     (λ (e : right (rights_at m a) ≡ false). ap (λ (b : Bool). elim b as (λ _. Bool) [ true ↦ is_allowed right m (a + 1) n | false ↦ false ]) e)
     (cases_Bool (right (rights_at m a)))
 
--- the run of pages that so many bytes meet
+-- the run of pages that n bytes meet
 pub allowed_pages : (right : Rights → Bool) (m : MemoryMap) (a n last : ℕ) → last + 1 ≡ a + n → ((q : ℕ) → a / 4096 ≤ q → q ≤ last / 4096 → right (value_or no_rights m.rights q) ≡ true) → is_allowed right m a n ≡ true
 allowed_pages right m a n last e h = allowed_from right m a n (λ j below. h ((a + j) / 4096) (omega arith) (omega arith))
 

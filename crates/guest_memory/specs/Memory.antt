@@ -42,7 +42,7 @@ with_byte a b m = record m { bytes = with_kept is_any_byte a b m.bytes }
 abbrev pub with_rights : ℕ → Rights → MemoryMap → MemoryMap
 with_rights page r m = record m { rights = with_kept is_any_right page r m.rights }
 
--- so many bytes from an address on have the right
+-- n bytes from an address on have the right
 abbrev pub is_allowed : (Rights → Bool) → MemoryMap → ℕ → ℕ → Bool
 is_allowed right m a zero = true
 is_allowed right m a (suc n) = elim (right (rights_at m a)) [
@@ -59,7 +59,7 @@ is_writable m a n = is_allowed (λ r. r.write) m a n
 abbrev pub is_executable : MemoryMap → ℕ → ℕ → Bool
 is_executable m a n = is_allowed (λ r. r.execute) m a n
 
--- the number that so many bytes write, the lowest first
+-- the number that n bytes write, the lowest first
 abbrev pub number_at : MemoryMap → ℕ → ℕ → ℕ
 number_at m a zero = 0
 number_at m a (suc n) = byte_at m a + 256 * number_at m (a + 1) n
@@ -72,7 +72,7 @@ abbrev pub with_bytes : ℕ → List ℕ → MemoryMap → MemoryMap
 with_bytes a [] m = m
 with_bytes a (b ∷ bs) m = with_bytes (a + 1) bs (with_byte a b m)
 
--- so many of a number's bytes from an address on, the lowest first
+-- the n lowest bytes of a number from an address on, the lowest first
 abbrev pub with_number : ℕ → ℕ → ℕ → MemoryMap → MemoryMap
 with_number a n value m = with_bytes a (bytes_low_first 0 n value) m
 
@@ -94,12 +94,12 @@ store a size value m = if is_writable m a size then Some (with_number a size val
 abbrev pub fetch : MemoryMap → ℕ → Option ℕ
 fetch m a = if is_executable m a 4 then Some (number_at m a 4) else None
 
--- so many pages from one on have these rights
+-- n pages from `page` on have these rights
 abbrev pub with_rights_from : ℕ → ℕ → Rights → MemoryMap → MemoryMap
 with_rights_from page zero r m = m
 with_rights_from page (suc n) r m = with_rights_from (page + 1) n r (with_rights page r m)
 
--- so many pages from one on are zeros
+-- n pages from `page` on are zeros
 abbrev pub with_zeros : ℕ → ℕ → MemoryMap → MemoryMap
 with_zeros page n m = record m {
   bytes = entries_without (λ a. nat_le page (page_of a) && nat_lt (page_of a) (page + n)) m.bytes;

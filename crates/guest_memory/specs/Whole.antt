@@ -6,7 +6,7 @@ use Rattle.guest_memory.specs.declared.Span.{Span}
 use Rattle.guest_memory.specs.Regions.{page_of, brk_base, map_base, stack_base, IsKnown}
 use Rattle.guest_memory.specs.Spans.{IsLaid, numbers, IsPresent}
 
--- the pages of so many bytes from an address on, before they have a place
+-- the pages of `size` bytes from an address on, before they have an index
 abbrev pub span_of : ℕ → ℕ → Span
 span_of start size = record { first = page_of start; count = page_of size; at = 0 }
 
@@ -24,7 +24,7 @@ region_spans layout =
 abbrev pub known_spans : List Area → Layout → List Span
 known_spans areas layout = map area_span areas ++ region_spans layout
 
--- the spans have so many pages, which are exactly the known ones
+-- the spans have `total` pages, which are exactly the known ones
 pub record AreWhole (areas : List Area) (layout : Layout) (total : ℕ) (spans : List Span)
     : Type 0 where
   pub laid : IsLaid 0 0 spans

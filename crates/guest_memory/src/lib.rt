@@ -211,7 +211,7 @@ impl<'a> Memory<'a> {
         }
     }
 
-    /// Gives so many pages in a row these rights, and makes them zeros if asked for.
+    /// Gives `pages` pages from `page` on these rights, and clears them if `zero` is true.
     /// `page` is the address of the first one.
     pub fn give(&mut self, page: Address, pages: u64, rights: Rights, zero: bool)
         requires known { (q : ℕ) → page_of page ≤ q → q < page_of page + pages
@@ -365,7 +365,7 @@ impl<'a> Memory<'a> {
         }
     }
 
-    /// The same by its bytes: also across pages.
+    /// A load that is made byte by byte, since it may cross pages.
     #[inline(never)]
     fn read_across(&self, address: Address, size: u8, right: Right) -> Result<u64, Access>
         requires { IsSize size }
@@ -381,7 +381,7 @@ impl<'a> Memory<'a> {
         Ok(number_of(&bytes, 0, size))
     }
 
-    /// Whether so many bytes from an address on may be read.
+    /// Whether `count` bytes from an address on may be read.
     pub fn readable(&self, address: Address, count: u64) -> bool
         ensures answer { result ≡ is_readable self.now address count }
         ensures low { IsTrue result → address + count ≤ 2 ^ 64 }
@@ -389,7 +389,7 @@ impl<'a> Memory<'a> {
         self.all_have(address, count, Right::Read)
     }
 
-    /// Whether so many bytes from an address on may be written.
+    /// Whether `count` bytes from an address on may be written.
     pub fn writable(&self, address: Address, count: u64) -> bool
         ensures answer { result ≡ is_writable self.now address count }
         ensures low { IsTrue result → address + count ≤ 2 ^ 64 }
@@ -462,7 +462,7 @@ impl<'a> Memory<'a> {
         }
     }
 
-    /// The same by its bytes: also across pages, and for a page's first store.
+    /// A store that is made byte by byte, since it may cross pages or be the first to its page.
     #[inline(never)]
     fn store_by_bytes(&mut self, address: Address, size: u8, value: u64) -> Result<(), Access>
         requires { IsSize size }

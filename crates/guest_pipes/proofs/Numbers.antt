@@ -2,7 +2,7 @@
 use Rattle.std.proofs.Common.{◌≡◌, ℕ, ◌*◌, ◌^◌, refl}
 use Rattle.guest_pipes.specs.declared.TheConstants.{FIRST_NUMBER, NUMBERS, PIPES, PIPE_BYTES, ATOMIC_BYTES}
 
--- behind the input and both outputs (stdio(3))
+-- after the input and both outputs (stdio(3))
 first_number : FIRST_NUMBER ≡ 3
 first_number = refl
 

@@ -50,7 +50,7 @@ writes : (readiness 4 70000 one ≡ Now 65536) × (readiness 4 1 (closed 3 one) 
 unfolding on_literals one
 writes = (refl, refl)
 
--- those that wait are woken by what they wait for, the eldest first
+-- those that wait are woken by what they wait for, the oldest first
 waited : PipeMap
 waited = waiting 3 7 (waiting 4 5 (waiting 3 2 one))
 

@@ -13,9 +13,9 @@ use Rattle.guest_pipes.specs.declared.Ready.TheVariants.{Now, Closed, Wait}
 pub record PipeMap : Type 0 where
   -- the open ends, by their numbers from the first one on
   pub ends : List (Option End)
-  -- what each pipe holds, the eldest byte first
+  -- what each pipe holds, the oldest byte first
   pub bytes : List (List ℕ)
-  -- at a reading end for bytes and at a writing one for room, the eldest first
+  -- at a reading end for bytes and at a writing one for room, the oldest first
   pub waiters : List PipeWaiter
 
 unfoldable pub no_pipes : PipeMap
@@ -102,7 +102,7 @@ made_numbers p = (FIRST_NUMBER + free_place p.ends, FIRST_NUMBER + free_place (h
 abbrev pub made : PipeMap → PipeMap
 made p = record p { ends = with_end (end_of (free_pipe p.ends) Writing) (half_made p.ends) }
 
--- what a read of so many bytes, not 0, finds
+-- what a read of `count` bytes, not 0, finds
 abbrev pub read_readiness : ℕ → ℕ → PipeMap → Ready
 read_readiness number count p =
     if not (length (held number p) == 0) then Now (min count (length (held number p)))
@@ -112,7 +112,7 @@ read_readiness number count p =
 abbrev pub room : ℕ → PipeMap → ℕ
 room number p = PIPE_BYTES - length (held number p)
 
--- what a write of so many bytes, not 0, finds
+-- what a write of `count` bytes, not 0, finds
 abbrev pub write_readiness : ℕ → ℕ → PipeMap → Ready
 write_readiness number count p =
     if not (is_open (end_of (this_end number p).pipe Reading) p.ends) then Closed
@@ -150,7 +150,7 @@ without_waiters e p = record p { waiters = left_at e p.waiters }
 abbrev pub woken_for : PipeEnd → ℕ → PipeMap → List ℕ
 woken_for kind number p = woken_at (end_of (this_end number p).pipe kind) p.waiters
 
--- so many bytes are taken from the front, and none waits for room
+-- `count` bytes are taken from the front, and none waits for room
 abbrev pub taken : ℕ → ℕ → PipeMap → PipeMap
 taken number count p =
     without_waiters (end_of (this_end number p).pipe Writing)

@@ -12,8 +12,8 @@ use std::marker::Model;
 
 /// What one pipe holds, up to `PIPE_BYTES`.
 ///
-/// Contracts see the list of the bytes, the eldest first. `new` alone can be out of memory,
-/// and a call with so many bytes takes the time of so many.
+/// Contracts see the list of the bytes, the oldest first. `new` alone can be out of memory,
+/// and a call with n bytes takes time proportional to n.
 #[derive(Drop)]
 pub struct Held {
     ring: HeapCircularBuffer<u8>,
@@ -56,7 +56,7 @@ impl Held {
         self.ring.fill_from_slice(bytes);
     }
 
-    /// Takes so many bytes from the front.
+    /// Takes `count` bytes from the front.
     pub fn take(&mut self, count: usize)
         requires { count ≤ length self.old }
         ensures { self.new ≡ drop count self.old }
@@ -91,7 +91,7 @@ impl Held {
     }
 }
 
-/// Copies the first bytes of two slices that stand behind one another.
+/// Copies the first bytes of two slices, taken as one after the other.
 fn copy_first(front: &[u8], back: &[u8], into: &mut [u8])
     requires { length into.old ≤ length front.now + length back.now }
     ensures { into.new ≡ take (length into.old) (front.now ++ back.now) }

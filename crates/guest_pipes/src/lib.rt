@@ -83,7 +83,7 @@ impl Pipes {
         })
     }
 
-    /// Makes these pipes the same as others. Of what they hold only that is copied.
+    /// Makes these pipes equal to others. Copies only the bytes that they hold.
     pub fn copy_from(&mut self, other: &Pipes)
         ensures { self.new ≡ other.now }
     {
@@ -169,7 +169,7 @@ impl Pipes {
         end
     }
 
-    /// What a read or a write of so many bytes finds.
+    /// What a read or a write of `count` bytes finds.
     pub fn ready(&self, number: u32, count: u64) -> Ready
         requires open { IsSome (end_at number self.now) }
         requires some { 1 ≤ count }
@@ -224,7 +224,7 @@ impl Pipes {
     }
 
     /// Takes the first bytes of a reading end. All harts that wait for the pipe's room are
-    /// appended to a list, the eldest first.
+    /// appended to a list, the oldest first.
     pub fn take(&mut self, number: u32, count: u32, woken: &mut HartList)
         requires reads { kind_at number self.old ≡ Some Reading }
         requires few { count ≤ length (held number self.old) }
@@ -245,7 +245,7 @@ impl Pipes {
     }
 
     /// Puts bytes at a writing end. All harts that wait for the pipe's bytes are appended
-    /// to a list, the eldest first.
+    /// to a list, the oldest first.
     pub fn put(&mut self, number: u32, bytes: &[u8], woken: &mut HartList)
         requires writes { kind_at number self.old ≡ Some Writing }
         requires few { length bytes.now ≤ room number self.old }
@@ -282,7 +282,7 @@ impl Pipes {
     }
 
     /// Closes an end. All harts that wait for the pipe's bytes and then all that wait for its room
-    /// are appended to a list, the eldest first.
+    /// are appended to a list, the oldest first.
     pub fn close(&mut self, number: u32, woken: &mut HartList)
         requires open { IsSome (end_at number self.old) }
         requires room { length woken.old + length (woken_for Reading number self.old

@@ -87,7 +87,7 @@ impl Schedule {
         }
     }
 
-    /// The same hart, with its key. None exactly where the schedule is empty.
+    /// The hart that is due first, with its key. None exactly if the schedule is empty.
     #[inline]
     pub fn first(&self) -> Option<Contender>
         ensures { MatchOption result (IsEmpty self.now) (λ first.
@@ -155,7 +155,7 @@ impl Schedule {
         }
     }
 
-    /// Makes this schedule the same as another of as many harts.
+    /// Makes this schedule equal to another of as many harts.
     pub fn copy_from(&mut self, other: &Schedule)
         requires { length self.old ≡ length other.now }
         ensures { self.new ≡ other.now }

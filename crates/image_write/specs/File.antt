@@ -7,7 +7,7 @@ use Rattle.rv_asm.specs.declared.state.TheConstants.{MOST_BYTES}
 use Rattle.rv_asm.specs.Assembled.{Program, up_to_multiple}
 use Rattle.image_write.specs.Unit.{half, word, double, unit}
 
--- with zeros behind it up to this length
+-- followed by zeros up to this length
 abbrev pub filled_up : ℕ → List ℕ → List ℕ
 filled_up n bytes = bytes ++ replicate (n - length bytes) 0
 

@@ -18,7 +18,7 @@ text_area p = record {
   filled = length p.text;
 }
 
--- the data is read and written, on the pages behind it
+-- the data is read and written, on the pages after it
 abbrev pub data_area : Program → Area
 data_area p = record {
   start = TEXT_START + whole_pages p;

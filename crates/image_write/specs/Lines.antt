@@ -26,7 +26,7 @@ row_at version address line ends = record {
   ends = ends;
 }
 
--- from the word at this address on, behind a word of this line: a row where the line changes,
+-- from the word at this address on, after a word of this line: a row where the line changes,
 -- and one that ends the text
 abbrev pub rows_from : ℕ → ℕ → ℕ → List ℕ → List Row
 rows_from version address line [] = row_at version address line true ∷ []

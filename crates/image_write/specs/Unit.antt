@@ -17,7 +17,7 @@ double n = to_le_bytes w64 n
 
 -- ---- LEB128 in the shortest form
 
--- so many bytes of seven bits, the lowest first; all but the last have the upper bit
+-- a number of groups of seven bits, the lowest first; all but the last have the upper bit
 abbrev pub groups : ℕ → ℕ → List ℕ
 groups zero n = []
 groups (suc zero) n = n % 128 ∷ []
@@ -44,18 +44,18 @@ set_address a = 0 ∷ 9 ∷ 2 ∷ [] ++ double a
 abbrev pub end_sequence : List ℕ
 end_sequence = 0 ∷ 1 ∷ 1 ∷ []
 
--- by so many words
+-- by `words` words
 abbrev pub advance_pc : ℕ → List ℕ
 advance_pc words = if words == 0 then [] else 2 ∷ uleb words
 
 abbrev pub advance_line : ℕ → ℕ → List ℕ
 advance_line old new = if old == new then [] else 3 ∷ sleb (pos new -ℤ pos old)
 
--- a row so many words after the last one
+-- a row `words` words after the last one
 abbrev pub row : ℕ → ℕ → ℕ → List ℕ
 row words old new = advance_pc words ++ advance_line old new ++ 1 ∷ []
 
--- what follows a row of this line, so many words ago
+-- what follows a row of this line, `words` words ago
 abbrev pub rows : ℕ → ℕ → List ℕ → List ℕ
 rows words line [] = advance_pc words ++ end_sequence
 rows words line (l ∷ more) =
@@ -92,11 +92,11 @@ counted_files name =
 abbrev pub files : ℕ → List ℕ → List ℕ
 files version name = if version == 5 then counted_files name else ended_files name
 
--- the bytes behind their own count in four bytes
+-- the bytes, after their count in four bytes
 abbrev pub with_count : List ℕ → List ℕ
 with_count bytes = word (length bytes) ++ bytes
 
--- the version, the header behind its length, and the program
+-- the version, the header after its length, and the program
 abbrev pub unit_body : List ℕ → List ℕ → ℕ → List ℕ
 unit_body lines name version =
     half version ++ sizes version ++ with_count (numbers ++ files version name)

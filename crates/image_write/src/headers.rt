@@ -10,7 +10,7 @@ use elf_load::codes::{EHDR_SIZE, EM_RISCV, ET_EXEC, PHDR_SIZE, PT_LOAD, SHDR_SIZ
 use rv_asm::{Assembled, TEXT_START};
 use std::alloc::{AllocError, Global};
 
-/// The names of the sections, each with a zero behind it.
+/// The names of the sections, each followed by a zero.
 pub const NAMES: [u8; 35] = *b"\0.text\0.data\0.debug_line\0.shstrtab\0";
 
 // The places of the names.
@@ -149,7 +149,6 @@ pub fn segment_count(assembled: &Assembled) -> u16
 
 /// The header of the file: its entry, the place of the section headers,
 /// and how many segments there are.
-/// Only want of memory stands against it.
 #[tactic(auto, unfolding(crate::specs::File::file_header))]
 pub fn file_header(
     alloc: Global,
@@ -201,7 +200,6 @@ fn segment(
 }
 
 /// The headers of the segments: the text, and the data if there is any.
-/// Only want of memory stands against it.
 #[tactic(auto, unfolding(crate::specs::File::segments))]
 pub fn segments(alloc: Global, assembled: &Assembled) -> Result<Vec<u8>, AllocError>
     requires { IsWritable (view assembled.now) }
@@ -250,7 +248,7 @@ fn section(
     Ok(out)
 }
 
-/// The headers of the sections. Only want of memory stands against it.
+/// The headers of the sections.
 #[tactic(auto, unfolding(crate::specs::File::sections))]
 pub fn sections(alloc: Global, assembled: &Assembled, unit: &[u8]) -> Result<Vec<u8>, AllocError>
     requires writable { IsWritable (view assembled.now) }

@@ -24,7 +24,7 @@ use rv_asm::Assembled;
 use std::alloc::{AllocError, Global};
 use unit::unit;
 
-/// The bytes with zeros behind them up to this length.
+/// The bytes, followed by zeros up to this length.
 fn push_filled_up(out: &mut Vec<u8>, room: u32, bytes: &[u8]) -> Result<(), AllocError>
     requires { length bytes.now ≤ room }
     ensures { IfOk result (λ _. out.new.items ≡ out.old.items ++ filled_up room bytes.now) }
@@ -82,7 +82,7 @@ fn file_with(alloc: Global, assembled: &Assembled, unit: &[u8]) -> Result<Vec<u8
 }
 
 /// The file that loads as what was assembled, with its line table of version 4 or 5:
-/// `name` is the name of the source in it. Only want of memory stands against it.
+/// `name` is the name of the source in it.
 #[tactic(auto, unfolding(crate::specs::File::written_file))]
 pub fn write_elf(
     alloc: Global,

@@ -7,7 +7,7 @@ ghost use Rattle.image_write.specs.Unit.{half, word, double, groups, fewest, ule
 use byteorder::{ByteOrder, LittleEndian};
 use std::alloc::AllocError;
 
-/// A number of two bytes. Only want of memory stands against it.
+/// A number of two bytes.
 #[tactic(auto, unfolding(crate::specs::Unit::half))]
 pub fn push_half(out: &mut Vec<u8>, n: u16) -> Result<(), AllocError>
     ensures { IfOk result (λ _. out.new.items ≡ out.old.items ++ half n) }
@@ -17,7 +17,7 @@ pub fn push_half(out: &mut Vec<u8>, n: u16) -> Result<(), AllocError>
     out.extend_from_slice(&bytes)
 }
 
-/// A number of four bytes. Only want of memory stands against it.
+/// A number of four bytes.
 #[tactic(auto, unfolding(crate::specs::Unit::word))]
 pub fn push_word(out: &mut Vec<u8>, n: u32) -> Result<(), AllocError>
     ensures { IfOk result (λ _. out.new.items ≡ out.old.items ++ word n) }
@@ -27,7 +27,7 @@ pub fn push_word(out: &mut Vec<u8>, n: u32) -> Result<(), AllocError>
     out.extend_from_slice(&bytes)
 }
 
-/// A number of eight bytes. Only want of memory stands against it.
+/// A number of eight bytes.
 #[tactic(auto, unfolding(crate::specs::Unit::double))]
 pub fn push_double(out: &mut Vec<u8>, n: u64) -> Result<(), AllocError>
     ensures { IfOk result (λ _. out.new.items ≡ out.old.items ++ double n) }
@@ -37,7 +37,7 @@ pub fn push_double(out: &mut Vec<u8>, n: u64) -> Result<(), AllocError>
     out.extend_from_slice(&bytes)
 }
 
-/// So many zeros. Only want of memory stands against it.
+/// So many zeros.
 pub fn push_zeros(out: &mut Vec<u8>, count: u32) -> Result<(), AllocError>
     ensures { IfOk result (λ _. out.new.items ≡ out.old.items ++ replicate count 0) }
 {
@@ -75,7 +75,7 @@ fn unsigned_groups(n: u64) -> u32
     }
 }
 
-/// A number without sign in as few bytes as hold it. Only want of memory stands against it.
+/// A number without sign in as few bytes as hold it.
 pub fn push_uleb(out: &mut Vec<u8>, n: u64) -> Result<(), AllocError>
     requires { n < 2 ^ 21 }
     ensures { IfOk result (λ _. out.new.items ≡ out.old.items ++ uleb n) }
@@ -91,7 +91,7 @@ fn low_bits(value: i64, bits: u32) -> u64
     value.rem_euclid(1 << bits) as u64
 }
 
-/// Whether a number is written by so many groups with its sign.
+/// Whether `count` groups of 7 bits hold the number with its sign.
 fn fits_groups(n: i64, count: u32) -> bool
     requires some { 1 ≤ count }
     requires few { count ≤ 5 }
@@ -123,7 +123,7 @@ fn signed_groups(n: i64) -> u32
     }
 }
 
-/// A number with a sign in as few bytes as hold it. Only want of memory stands against it.
+/// A number with a sign in as few bytes as hold it.
 pub fn push_sleb(out: &mut Vec<u8>, n: i64) -> Result<(), AllocError>
     requires low { neg_ℤ (pos (2 ^ 33)) ≤ℤ n }
     requires high { n ≤ℤ pos (2 ^ 33 - 1) }

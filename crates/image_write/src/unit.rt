@@ -29,7 +29,7 @@ const END_SEQUENCE: [u8; 3] = [0, 1, DW_LNE_END_SEQUENCE];
 /// The head of the extended opcode of 9 bytes that sets the address.
 const SET_ADDRESS: [u8; 3] = [0, 9, DW_LNE_SET_ADDRESS];
 
-/// The address moves on by so many words.
+/// Advances the address by `words` words.
 fn push_advance_pc(out: &mut Vec<u8>, words: u32) -> Result<(), AllocError>
     requires { words < 2 ^ 21 }
     ensures { IfOk result (λ _. out.new.items ≡ out.old.items ++ advance_pc words) }
@@ -52,7 +52,7 @@ fn push_advance_line(out: &mut Vec<u8>, old: u32, new: u32) -> Result<(), AllocE
     push_sleb(out, i64::from(new) - i64::from(old))
 }
 
-/// A row so many words after the last one.
+/// A row `words` words after the last one.
 fn push_row(out: &mut Vec<u8>, words: u32, old: u32, new: u32) -> Result<(), AllocError>
     requires { words < 2 ^ 21 }
     ensures { IfOk result (λ _. out.new.items ≡ out.old.items ++ row words old new) }
@@ -137,7 +137,7 @@ fn push_ended_files(out: &mut Vec<u8>, name: &[u8]) -> Result<(), AllocError>
     Ok(())
 }
 
-/// The bytes behind their own count.
+/// The bytes, after their count.
 fn counted(alloc: Global, bytes: &[u8]) -> Result<Vec<u8>, AllocError>
     requires { length bytes.now < 2 ^ 32 }
     ensures { IfOk result (λ v. v.items ≡ with_count bytes.now) }
@@ -148,7 +148,7 @@ fn counted(alloc: Global, bytes: &[u8]) -> Result<Vec<u8>, AllocError>
     Ok(out)
 }
 
-/// The unit behind its length.
+/// The unit, after its length.
 fn unit_body(alloc: Global, lines: &[u32], name: &[u8], version: u8) -> Result<Vec<u8>, AllocError>
     requires lines { length lines.now < 2 ^ 20 }
     requires name { length name.now < 2 ^ 20 }
@@ -166,7 +166,7 @@ fn unit_body(alloc: Global, lines: &[u32], name: &[u8], version: u8) -> Result<V
     Ok(out)
 }
 
-/// The line unit. Only want of memory stands against it.
+/// The line unit.
 #[tactic(auto, unfolding(crate::specs::Unit::unit))]
 pub fn unit(alloc: Global, lines: &[u32], name: &[u8], version: u8) -> Result<Vec<u8>, AllocError>
     requires lines { length lines.now < 2 ^ 20 }

@@ -20,7 +20,7 @@ abbrev pub ◌>>=◌ : {A B E : Type 0} → Result A E → (A → Result B E) �
 (Ok x) >>= f = f x
 (Err e) >>= f = Err e
 
--- past so many bytes
+-- past n bytes
 abbrev pub ahead_past : ℕ → Ahead → Ahead
 ahead_past n a = record { place = a.place + n; bytes = drop n a.bytes }
 
@@ -28,16 +28,16 @@ ahead_past n a = record { place = a.place + n; bytes = drop n a.bytes }
 abbrev pub short_at : Ahead → Short
 short_at a = record { place = a.place }
 
--- the next so many bytes
+-- the next n bytes
 abbrev pub bytes_at : ℕ → Ahead → Reading (List ℕ) Short
 bytes_at n a =
     if nat_le n (length a.bytes) then Ok (take n a.bytes, ahead_past n a) else Err (short_at a)
 
--- past the next so many bytes
+-- past the next n bytes
 abbrev pub pass_at : ℕ → Ahead → Reading (Unit {0}) Short
 pass_at n a = if nat_le n (length a.bytes) then Ok (tt, ahead_past n a) else Err (short_at a)
 
--- the next so many bytes, as what is ahead on its own
+-- the next n bytes, as a cursor of their own
 abbrev pub part_at : ℕ → Ahead → Reading Ahead Short
 part_at n a =
     if nat_le n (length a.bytes)

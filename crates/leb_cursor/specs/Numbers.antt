@@ -13,7 +13,7 @@ abbrev pub low_bits : List ℕ → ℕ
 low_bits [] = 0
 low_bits (b ∷ bs) = b % 128 + 128 * low_bits bs
 
--- the number of so many bits, as two's complement has it
+-- the number of `bits` bits, in two's complement
 abbrev pub signed_number : ℕ → ℕ → ℤ
 signed_number bits n = if nat_lt (2 * n) (2 ^ bits) then pos n else pos n -ℤ pos (2 ^ bits)
 

@@ -66,7 +66,7 @@ impl<'a> Cursor<'a> {
         self.bytes.len() as u64
     }
 
-    /// The next so many bytes; `Short` where fewer are left. After a fault a cursor
+    /// The next `count` bytes; `Short` if fewer are left. After a fault a cursor
     /// stands where it stood.
     pub fn take(&mut self, count: u64) -> Result<&'a [u8], Short>
         ensures { Reads (λ x. x.now) result self.old self.new (bytes_at count self.old) }
@@ -128,7 +128,7 @@ impl<'a> Cursor<'a> {
         }
     }
 
-    /// Passes so many bytes; `Short` where fewer are left.
+    /// Skips `count` bytes; `Short` if fewer are left.
     pub fn skip(&mut self, count: u64) -> Result<(), Short>
         ensures { Reads (λ x. x) result self.old self.new (pass_at count self.old) }
     {
@@ -136,7 +136,7 @@ impl<'a> Cursor<'a> {
         Ok(())
     }
 
-    /// The next so many bytes, as a cursor of their own that goes on counting places; `Short`
+    /// The next `count` bytes, as a cursor of their own that continues to count offsets; `Short`
     /// where fewer are left.
     pub fn part(&mut self, count: u64) -> Result<Cursor<'a>, Short>
         ensures { Reads (λ x. x) result self.old self.new (part_at count self.old) }

@@ -164,7 +164,7 @@ module _ {G : Type 0} (x : Experiment G) (Good : G → Type 0) (law : IsLawful x
   pub begins_apart : (n : ℕ) → AllApart (before x n).harts
   begins_apart n = let b = beside x Good law n in subst AllApart (sym b.harts) b.apart
 
-  -- a hart that began last is due so many ticks after some moment as its instruction costs
+  -- a hart that began last is due n ticks after some moment as its instruction costs
   pub begun_due : (n k : ℕ) → is_among k (before x n).harts ≡ true
       → (v : ℕ) × (get_or (shortened x n).dues k None ≡ Some (v + cost x (before x n).state.guest k - cut x (before x n).state.guest k))
   unfolding short.begin
@@ -183,7 +183,7 @@ module _ {G : Type 0} (x : Experiment G) (Good : G → Type 0) (q n : ℕ) (law 
   unfolding short.begin
   else_all hs v s = refl
 
-  -- but for the moments the states of the shortened machine are equal too
+  -- apart from the moments the states of the shortened machine are equal too
   pub rest_forked : shortened (at_speedup q x) n ≡ record (shortened (at_speedup 0 x) n) { dues = (shortened (at_speedup q x) n).dues }
   rest_forked =
       let c : BeforeShort G = dues.before (at_speedup 0 x) n in

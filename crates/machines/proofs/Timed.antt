@@ -25,6 +25,6 @@ module _ {G : Type 0} (x : Experiment G) (Good : G → Type 0) (law : IsLawful x
   loads_timed n goes = let b : Both x Good law (delayed x n) = both x Good law n in
       timed_beside (delayed x n) (shortened x (events (delayed x n))) b.agrees (b.lives goes)
 
-  -- and after so many moves those of the shortened one
+  -- and after n moves those of the shortened one
   pub dues_timed : (n : ℕ) → (shortened x n).ending ≡ None → (k : ℕ) → is_timed x.guest (shortened x n).guest k ≡ is_some (get_or (shortened x n).dues k None)
   dues_timed n goes = (goes_on_at x Good law n goes).lives.running

@@ -114,7 +114,7 @@ module _ {G : Type 0} (x : Experiment G) (p q : G → ℕ → Bool) where
       same_move before.starts (after one n d)
       ∙ ap (λ d. uncounted (move other (counting before.starts d))) (same_after k n d)
 
-  -- the same of the states after so many retirements and wakes
+  -- the same of the states after n retirements and wakes
   pub unselected_standing : (n : ℕ) → uncounted (standing (at_speedup 0 (selecting p x)) n) ≡ uncounted (standing (at_speedup 0 (selecting q x)) n)
   unfolding standing next
   unselected_standing zero = unselected 0

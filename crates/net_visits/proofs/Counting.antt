@@ -17,7 +17,7 @@ use Rattle.net_visits.proofs.Hashing.{visit_at}
 abbrev is_at : ℕ → Visit → Bool
 is_at point visit = visit.point.0 == point
 
--- so many counts, each of its own point's visits
+-- n counts, each of its own point's visits
 pub record AreCounts (points : ℕ) (visits : List Visit) (counts : List ℕ) : Type 0 where
   pub size : length counts ≡ points
   pub each : (point : ℕ) → point < points → get_or counts point 0 ≡ count_by (is_at point) visits
@@ -58,7 +58,7 @@ counted points visits counts i at n are within is below read = record {
       ∙ sym (at_point visits i point (at == point) within (ap (λ (k : ℕ). k == point) (sym is)));
 }
 
--- a visit of a point that isn't one of so many
+-- a visit of a point that isn't one of n
 pub passed : (points : ℕ) (visits : List Visit) (counts : List ℕ) (i at : ℕ) → AreCounts points (take i visits) counts
     → i < length visits → at ≡ point_at visits i → points ≤ at → AreCounts points (take (i + 1) visits) counts
 passed points visits counts i at are within is past = record {

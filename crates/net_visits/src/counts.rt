@@ -7,7 +7,7 @@ ghost use Rattle.net_visits.specs.Kept.{counts_of};
 use coz_types::Visit;
 use std::alloc::{AllocError, Global};
 
-/// How often each of so many points was visited. Only want of memory stands against it.
+/// The number of visits of each of `points` points.
 pub fn counts_of_visits(
     alloc: Global,
     points: u32,

@@ -29,7 +29,7 @@ first_segment e = record { hart = e.hart; start = 0; end = e.due; by = Start }
 abbrev pub next_segment : Segment → Event → Segment
 next_segment s e = record { hart = e.hart; start = s.end; end = e.due; by = handover e }
 
--- a segment, which the events behind it may prolong, and those that follow
+-- a segment, which the events after it may prolong, and those that follow
 abbrev pub segments_from : Segment → List Event → List Segment
 segments_from s [] = s ∷ []
 segments_from s (e ∷ es) =
@@ -69,7 +69,7 @@ has_some s = nat_lt 0 s.ticks
 abbrev pub has_more : Share → Share → Bool
 has_more s t = is_lt (nat_cmp t.ticks s.ticks)
 
--- the shares of so many lines that have one, by falling ticks, and then in the order of the lines
+-- the shares of the lines that have one, by falling ticks, and then in the order of the lines
 abbrev pub shares_of : (ℕ → Option ℕ) → ℕ → List Event → List Share
 shares_of line_of lines path =
     sorted_by has_more (filter has_some (map (share_of line_of path) (range_with_len 0 lines)))
@@ -119,7 +119,7 @@ share_lines lines shares none sleep = flat_map (share_line lines) shares
     ++ amount_line (codes "share none ") none
     ++ amount_line (codes "sleep ") sleep
 
--- of a run that ended so after so many ticks and instructions, by the events of its path
+-- of a run with this ending, net time and number of instructions, by the events of its path
 abbrev pub path_lines : Ending → ℕ → ℕ → List Event → List Line → List Share → ℕ → ℕ → Text
 path_lines ending net retired path lines shares none sleep =
     head_lines ending net retired (length (segments_of path))

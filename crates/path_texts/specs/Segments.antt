@@ -9,6 +9,6 @@ use Rattle.path_texts.specs.PathText.{next_segment, segment_line}
 abbrev pub after : Segment → Event → Segment
 after s e = if e.hart.0 == s.hart.0 then record s { end = e.due } else next_segment s e
 
--- the line of a segment, where an event behind it ends it
+-- the line of a segment, if the event after it ends it
 abbrev pub closed : Segment → Event → Text
 closed s e = if e.hart.0 == s.hart.0 then [] else segment_line s

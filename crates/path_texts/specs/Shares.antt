@@ -5,7 +5,7 @@ use Rattle.path_texts.specs.declared.shares.Share.{Share}
 use Rattle.path_texts.specs.declared.shares.Sums.{Sums}
 use Rattle.path_texts.specs.PathText.{work_on, work_elsewhere, slept_on}
 
--- the sums are those of the events of a path, over so many lines
+-- the sums are those of the events of a path, over `count` lines
 pub record IsCounted (line_of : ℕ → Option ℕ) (count : ℕ) (path : List Event)
     (sums : Sums) : Type 0 where
   pub room : length sums.lines.items ≡ count

@@ -130,7 +130,7 @@ fn put_segment<O: Sink>(to: &mut PutBuffer, out: &mut O, segment: Segment)
     to.push(out, b"\n");
 }
 
-/// The line of a segment, if an event behind it ends it.
+/// The line of a segment, if the event after it ends it.
 fn put_closed<O: Sink>(to: &mut PutBuffer, out: &mut O, segment: Segment, event: &Event)
     ensures { Gathers O.holds O.faults out.old out.new to.old to.new (closed segment event.now) }
 {

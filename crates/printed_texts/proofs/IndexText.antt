@@ -22,7 +22,7 @@ listed table areas index is =
     ap (λ (text : List ℕ). number_line (codes "skipped ") table.skipped ++ text)
     (ap₂ each_text (lines_are is) (entries_are is) ∙ sides (entries_in table areas) (lines_in table areas))
 
--- the lines from a position on are the one there and those behind it
+-- the lines from a position on are the one there and those after it
 each_step : (lines : List Line) (entries : List (List ℕ)) (k : ℕ) (l : Line) (es : List ℕ) → slice_get lines k ≡ Some l → slice_get entries k ≡ Some es
     → each_text (drop k lines) (drop k entries) ≡ line_text l es ++ each_text (drop (suc k) lines) (drop (suc k) entries)
 each_step [] entries k l es is are = let no : ⊥ = cc in absurd no

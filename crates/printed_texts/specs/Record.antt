@@ -1,4 +1,4 @@
--- What the code has of a run, as the record that it stands for.
+-- The record of a run, as the code has it.
 use Rattle.std.specs.Prelude.{map}
 use Rattle.machines.specs.Records.{Record, NetRecord}
 use Rattle.delay_credits.specs.Delays.{account_as}

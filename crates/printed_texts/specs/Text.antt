@@ -78,7 +78,7 @@ really_text r = net_outcome_text r ++ net_visits_text r.visits ++ output_text r.
 
 -- ---- of a program's lines
 
--- each address behind a comma
+-- each address after a comma
 unfoldable pub more_addresses : List ℕ → List ℕ
 more_addresses [] = []
 more_addresses (a ∷ more) = codes "," ++ address_text a ++ more_addresses more

@@ -26,7 +26,7 @@ abbrev pub best_line : List Curve → Text
 best_line [] = codes "best none\n"
 best_line (curve ∷ curves) = gain_line curve.selected curve.gain
 
--- what `trial` prints of a source, the lines of its program, and a profile of so many runs
+-- what `trial` prints of a source, the lines of its program, and a profile of this number of runs
 unfoldable pub trial_lines : Source → List Line → ℕ → Profile → Text
 trial_lines source lines experiments profile =
     digest_line (codes "source ") source.text

@@ -8,7 +8,7 @@ use coz_types::{Address, LineId};
 use line_index::LineIndex;
 use std::alloc::{AllocError, Global};
 
-/// Pushes each address behind a comma.
+/// Pushes each address after a comma.
 #[tactic(auto, unfolding(crate::specs::Text::more_addresses))]
 fn push_more(text: &mut Vec<u8>, addresses: &[Address]) -> Result<(), AllocError>
     ensures { OnOk result (text.new.items ≡ text.old.items ++ more_addresses addresses.now) }
@@ -52,8 +52,7 @@ fn push_index_line(text: &mut Vec<u8>, index: &LineIndex, line: LineId) -> Resul
     push_labelled(text, label.bytes(), index.entries(line))
 }
 
-/// What `lines` prints of an index, where so many units were passed over.
-/// Only want of memory stands against it.
+/// What `lines` prints of an index whose table had `skipped` units of another version.
 pub fn lines_text(alloc: Global, skipped: u32, index: &LineIndex) -> Result<Vec<u8>, AllocError>
     ensures { IfOk result (λ text. text.items ≡ index_text skipped index.now) }
 {

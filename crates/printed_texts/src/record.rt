@@ -1,7 +1,7 @@
 //! What a run leaves, as the texts are made of it.
 use coz_types::{Account, Ending, Outcome, Tick, Visit};
 
-/// What a delayed run comes to.
+/// The record of a delayed run.
 #[derive(Clone, Copy)]
 pub struct RunRecord<'a> {
     /// How it came out.
@@ -14,7 +14,7 @@ pub struct RunRecord<'a> {
     pub output: &'a [u8],
 }
 
-/// What a shortened run comes to.
+/// The record of a shortened run.
 #[derive(Clone, Copy)]
 pub struct ShortRecord<'a> {
     /// How it ended.

@@ -45,7 +45,7 @@ fn push_visits(text: &mut Vec<u8>, visits: &[Visit]) -> Result<(), AllocError>
     Ok(())
 }
 
-/// What `really` prints. Only want of memory stands against it.
+/// What `really` prints.
 #[tactic(auto, unfolding(crate::specs::Text::really_text))]
 pub fn really_text<'a>(alloc: Global, run: ShortRecord<'a>) -> Result<Vec<u8>, AllocError>
     requires { All (λ (v : Visit). v.delay ≤ v.time) run.visits.now }

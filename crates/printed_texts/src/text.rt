@@ -13,7 +13,7 @@ use coz_types::{Account, Ending, HexDigits, Trap, Visit};
 use itoa::Buffer;
 use std::alloc::{AllocError, Global};
 
-/// Appends a number in decimal. Only want of memory stands against it.
+/// Appends a number in decimal.
 fn push_number(text: &mut Vec<u8>, n: u64) -> Result<(), AllocError>
     ensures { OnOk result (text.new.items ≡ text.old.items ++ decimal n) }
 {
@@ -21,7 +21,7 @@ fn push_number(text: &mut Vec<u8>, n: u64) -> Result<(), AllocError>
     text.extend_from_slice(buffer.format(n).as_bytes())
 }
 
-/// Appends a name and a number in decimal. Only want of memory stands against it.
+/// Appends a name and a number in decimal.
 pub fn push_named(text: &mut Vec<u8>, name: &[u8], n: u64) -> Result<(), AllocError>
     ensures { OnOk result (text.new.items ≡ text.old.items ++ (name.now ++ decimal n)) }
 {
@@ -29,7 +29,7 @@ pub fn push_named(text: &mut Vec<u8>, name: &[u8], n: u64) -> Result<(), AllocEr
     push_number(text, n)
 }
 
-/// Appends a line of a name and a number. Only want of memory stands against it.
+/// Appends a line of a name and a number.
 pub fn push_line(text: &mut Vec<u8>, name: &[u8], n: u64) -> Result<(), AllocError>
     ensures { OnOk result (text.new.items ≡ text.old.items ++ number_line name.now n) }
 {
@@ -37,7 +37,7 @@ pub fn push_line(text: &mut Vec<u8>, name: &[u8], n: u64) -> Result<(), AllocErr
     text.extend_from_slice(b"\n")
 }
 
-/// Appends an address in hexadecimal. Only want of memory stands against it.
+/// Appends an address in hexadecimal.
 pub fn push_address(text: &mut Vec<u8>, address: u64) -> Result<(), AllocError>
     ensures { OnOk result (text.new.items ≡ text.old.items ++ address_text address) }
 {
@@ -45,7 +45,7 @@ pub fn push_address(text: &mut Vec<u8>, address: u64) -> Result<(), AllocError>
     text.extend_from_slice(HexDigits::new(address).bytes())
 }
 
-/// Appends what a trap is of. Only want of memory stands against it.
+/// Appends what a trap is of.
 fn push_trap(text: &mut Vec<u8>, trap: Trap) -> Result<(), AllocError>
     ensures { OnOk result (text.new.items ≡ text.old.items ++ ending_text (Trapped trap)) }
 {
@@ -56,7 +56,7 @@ fn push_trap(text: &mut Vec<u8>, trap: Trap) -> Result<(), AllocError>
     push_address(text, trap.pc)
 }
 
-/// Appends how a run ended. Only want of memory stands against it.
+/// Appends how a run ended.
 pub fn push_ending(text: &mut Vec<u8>, ending: Ending) -> Result<(), AllocError>
     ensures { OnOk result (text.new.items ≡ text.old.items ++ ending_text ending) }
 {
@@ -134,7 +134,7 @@ fn push_visits(text: &mut Vec<u8>, visits: &[Visit]) -> Result<(), AllocError>
     Ok(())
 }
 
-/// Appends the output and its length. Only want of memory stands against it.
+/// Appends the output and its length.
 #[tactic(auto, unfolding(crate::specs::Text::output_text))]
 pub fn push_output(text: &mut Vec<u8>, output: &[u8]) -> Result<(), AllocError>
     ensures { OnOk result (text.new.items ≡ text.old.items ++ output_text output.now) }
@@ -144,7 +144,7 @@ pub fn push_output(text: &mut Vec<u8>, output: &[u8]) -> Result<(), AllocError>
     text.extend_from_slice(b"\n")
 }
 
-/// What `run` prints. Only want of memory stands against it.
+/// What `run` prints.
 #[tactic(auto, unfolding(crate::specs::Text::run_text))]
 pub fn run_text<'a>(alloc: Global, run: RunRecord<'a>) -> Result<Vec<u8>, AllocError>
     requires net { run.outcome.delay ≤ run.outcome.time }

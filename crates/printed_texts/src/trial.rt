@@ -82,7 +82,7 @@ fn push_best_of(alloc: Global, text: &mut Vec<u8>, profile: &Profile) -> Result<
     push_best(text, curves.as_slice())
 }
 
-/// What `trial` prints. Only want of memory stands against it.
+/// What `trial` prints.
 #[tactic(auto, unfolding(crate::specs::TrialText::trial_lines))]
 pub fn trial_text(
     alloc: Global,

@@ -4,7 +4,7 @@ ghost use Rattle.std.specs.Prelude.{◌≡◌, [], Some};
 use coz_files::{PutAnswer, Sink};
 use std::alloc::Global;
 
-/// Keeps all that it is put. A put fails only for want of memory, and takes nothing then.
+/// Keeps all that is put. A put fails only if it is out of memory, and then keeps nothing of it.
 #[derive(Drop)]
 pub struct TextSink {
     /// What it was put so far.

@@ -20,8 +20,7 @@ pub fn write_profile<O: Sink>(profile: &Profile, out: &mut O) -> PutAnswer
     buffer.finish(out)
 }
 
-/// The text of a profile, the very bytes that `write_profile` puts. Only want of memory
-/// stands against it.
+/// The text of a profile, the very bytes that `write_profile` puts.
 pub fn profile_text(alloc: Global, profile: &Profile) -> Result<Vec<u8>, AllocError>
     ensures { IfOk result (λ text. text.items ≡ profile_text profile.now) }
 {

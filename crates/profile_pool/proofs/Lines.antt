@@ -46,7 +46,7 @@ line_by_line s runs =
     ∙ flat_map-map (λ (line : List Summary). line) (map s) runs
     ∙ map_joined s runs
 
--- the summaries of a plan's lines, one behind the other, are those of its pairs
+-- the summaries of a plan's lines, one after the other, are those of its pairs
 pub plan_by_line : (s : Experiment → Summary) (plan : List Experiment)
     → flat_map (λ i. map s (get_or (by_line plan) i [])) (range_with_len 0 (length (by_line plan))) ≡ map s plan
 plan_by_line s plan = line_by_line s (by_line plan) ∙ ap (map s) (joined_again plan)

@@ -24,7 +24,7 @@ outcome_in r = record {
   starts = r.starts;
 }
 
--- of a run with so many points, whose selected line has that label
+-- of a run with `points` points, whose selected line has that label
 unfoldable pub summary_of : List ℕ → ℕ → ℕ → Record → Summary
 summary_of label speedup points r = record {
   selected = label;

@@ -18,8 +18,8 @@ use std::thread::Threads;
 use virtual_run::Lead;
 
 /// The summary of the run of each pair of a plan, in the plan's order, whatever the number
-/// of workers and the gate. Only want of memory stands against it, after which the workers
-/// that are left work to their end.
+/// of workers and the gate. It fails only if it is out of memory, and then the other
+/// workers finish their claims.
 pub fn run_plan<R: Threads + Sync, G: Gate>(
     rt: &R,
     alloc: Global,

@@ -18,7 +18,6 @@ use virtual_run::Machine;
 
 /// What a profile keeps of a run that has ended, of a machine that was made with these points:
 /// its outcome, its output and visits as digests, and how often each point was visited.
-/// Only want of memory stands against it.
 pub fn summarise(
     alloc: Global,
     machine: &Machine,

@@ -69,7 +69,7 @@ pub word_again : (kind : BookField) (text : Text) → ReadsOn (λ a. word_at kin
 unfolding word_at
 word_again kind text = item_again kind (λ item. bytes_eq item text) (λ item. tt) text tt (same_is text) refl
 
--- the value of a field of this kind is what stands behind its name
+-- the value of a field of this kind is what stands after its name
 abbrev pub HasValues : BookField → Type 0
 HasValues kind = (v : Text) → value_in kind (field (field_name kind) v) ≡ v
 

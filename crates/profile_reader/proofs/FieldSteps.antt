@@ -64,7 +64,7 @@ label_step kind passes {before = before} {a = a} e same goes place =
           (same_bytes _ _ h.0, record { form = k.0; order = k.1 });
     }) (λ _. goes) place
 
--- a speedup that may stand behind this label
+-- a speedup that may stand after this label
 pub record IsSpeedupThat (last : Option Text) (least : ℕ) (label : Text) (n : ℕ) : Type 0 where
   pub range : n ≤ 95
   pub order : goes_on last least label n ≡ true
@@ -100,7 +100,7 @@ below (suc n) p all b lt = by (b == n) refl (both (p n) (all_below n p) all).0 (
     by true e here low = let same : b ≡ n = search (rules, e) in ap p same ∙ here
     by false e here low = low (grind (arith, e, lt))
 
--- a digit, and what it stands for
+-- a digit, and its value
 abbrev tells_digit : ℕ → Bool
 tells_digit b = not (is_lower_hex b) || (nat_lt (lower_value b) 16 && bytes_eq (digits 16 false (lower_value b)) (b ∷ []))
 

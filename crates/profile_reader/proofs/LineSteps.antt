@@ -44,7 +44,7 @@ head_line start =
 abbrev pub name_before : ℕ → Text → Before → Before
 name_before index name before = (Newline, codes "\n") ∷ (Name, field (codes "name") name) ∷ (Index, number_field (codes "index") index) ∷ (Point, codes "point") ∷ before
 
--- where a name may come, after so many of them all
+-- where a name may come, after n of them all
 pub record AtName (all index : ℕ) (last : Option Text) (before : Before) : Type 0 where
   pub kind : expected_field before ≡ (if nat_lt index all then Point else Experiment)
   pub names : names_in before ≡ index
@@ -80,7 +80,7 @@ name_leads {all = all} {index = index} {before = before} name at = record {
   speedup = at.speedup;
 }
 
--- the items of the names from this index on, behind those before
+-- the items of the names from this index on, after those before
 abbrev pub names_before : ℕ → List Text → Before → Before
 names_before index [] before = before
 names_before index (name ∷ names) before = names_before (suc index) names (name_before index name before)
@@ -222,7 +222,7 @@ output_part at place =
 abbrev pub count_before : ℕ → ℕ → Before → Before
 count_before index n before = (Newline, codes "\n") ∷ (Delta, number_field (codes "delta") n) ∷ (Index, number_field (codes "index") index) ∷ (Throughput, codes "throughput-point") ∷ before
 
--- where a count may come, after so many of them all, in a block with this label and speedup
+-- where a count may come, after n of them all, in a block with this label and speedup
 pub record AtCount (all index : ℕ) (label : Text) (speedup : ℕ) (before : Before) : Type 0 where
   pub kind : expected_field before ≡ (if nat_lt index all then Throughput else Visits)
   pub counts : counts_in before ≡ index

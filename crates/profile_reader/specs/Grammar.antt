@@ -114,7 +114,7 @@ abbrev pub count_or_visits : Before → BookField
 count_or_visits before =
     if nat_lt (counts_in before) (point_count before) then Throughput else Visits
 
--- behind a newline, by the item before it and the items before that
+-- after a newline, by the item before it and the items before that
 abbrev pub line_after : BookField → Before → BookField
 line_after Starts before = Output
 line_after Delta before = count_or_visits before
@@ -186,7 +186,7 @@ abbrev pub has_label : BookField → (Text → Bool) → Text → Bool
 has_label kind passes item =
     is_field kind item && (is_label (value_in kind item) && passes (value_in kind item))
 
--- the speedup, behind the block's label, after the blocks before
+-- the speedup that follows the block's label, after the blocks before
 abbrev pub has_speedup : Before → Text → Bool
 has_speedup [] item = false
 has_speedup (label ∷ before) item =

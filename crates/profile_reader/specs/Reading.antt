@@ -68,7 +68,7 @@ number_at kind top a = item_at kind (has_number kind top) (number_in kind) a
 unfoldable pub label_at : BookField → (Text → Bool) → Ahead → Result (Text × Ahead) BookFault
 label_at kind passes a = item_at kind (has_label kind passes) (value_in kind) a
 
--- the speedup of a block with this label, behind a block with that label and speedup
+-- the speedup of a block with this label, after a block with that label and speedup
 abbrev pub is_speedup : Option Text → ℕ → Text → Text → Bool
 is_speedup last least label item =
     has_number Speedup GREATEST_SPEEDUP item && goes_on last least label (number_in Speedup item)
@@ -140,7 +140,7 @@ name_at index last a = do
   end ← word_at Newline (codes "\n") name.1
   Ok (name.0, end.1)
 
--- so many names, from this index on
+-- the names that are left, from this index on
 unfoldable pub names_at : ℕ → ℕ → Option Text → Ahead → Result (List Text × Ahead) BookFault
 names_at zero index last a = Ok ([], a)
 names_at (suc left) index last a = do
@@ -237,7 +237,7 @@ abbrev pub is_done : List Text → Bool
 is_done [] = true
 is_done (item ∷ items) = false
 
--- the blocks up to the end, of which there are at most so many
+-- the blocks up to the end, of which there are at most `most`
 unfoldable pub blocks_at : ℕ → ℕ → Option Summary → Ahead → Result (List Summary) BookFault
 blocks_at zero points last a = Ok []
 blocks_at (suc most) points last a = elim (is_done a.items) [

@@ -12,7 +12,7 @@ const MOST_CODE: u64 = 255;
 /// The greatest number of a hart.
 const MOST_HART: u64 = HARTS as u64 - 1;
 
-/// What stands before the first colon, and what stands behind it, if there is one.
+/// The bytes before the first colon, and those after it, if there is one.
 fn cut(text: &[u8]) -> (&[u8], Option<&[u8]>)
     ensures { parts text.now ≡ result.0.now ∷ parts_behind (option_copied result.1) }
 {

@@ -12,7 +12,7 @@ use coz_lists::Items;
 use coz_types::{Label, Summary};
 use std::alloc::Global;
 
-/// How often each point was visited, by point. Err tells the first wrong item, or want of memory.
+/// The number of visits of each point. Err is the first wrong item, or out of memory.
 pub fn counts<'a>(
     alloc: Global,
     all: u64,
@@ -30,7 +30,7 @@ pub fn counts<'a>(
     Ok((counts, rest))
 }
 
-/// The names of the points. Err tells the first wrong item, or want of memory.
+/// The names of the points. Err is the first wrong item, or out of memory.
 pub fn names<'a>(
     alloc: Global,
     all: u64,
@@ -48,7 +48,7 @@ pub fn names<'a>(
     Ok((names, rest))
 }
 
-/// A block, after the last one. Err tells the first wrong item, or want of memory.
+/// A block, after the last one. Err is the first wrong item, or out of memory.
 #[tactic(auto, unfolding(crate::specs::Reading::block_at, crate::specs::Reading::bind))]
 pub fn block<'a>(
     alloc: Global,
@@ -78,8 +78,8 @@ pub fn block<'a>(
     Ok((summary, at))
 }
 
-/// The blocks up to the end of the text, of which there are at most so many.
-/// Err tells the first wrong item, or want of memory.
+/// The blocks up to the end of the text, of which there are at most `most`.
+/// Err is the first wrong item, or out of memory.
 pub fn blocks(
     alloc: Global,
     most: usize,

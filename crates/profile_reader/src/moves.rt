@@ -27,7 +27,7 @@ pub fn is_done(at: Cursor<'_>) -> bool
     at.rest.is_empty()
 }
 
-/// The next item, which is empty at the end of the text, and where the reader stands behind it.
+/// The next item, which is empty at the end of the text, and the cursor after it.
 pub fn item<'a>(at: Cursor<'a>) -> (&'a [u8], Cursor<'a>)
     ensures item { result.0.now ≡ next (items_of at.entry.rest.now) }
     ensures behind { ahead result.1 ≡ items_past (ahead at.entry) }

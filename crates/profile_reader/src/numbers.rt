@@ -29,7 +29,7 @@ pub fn decimal(text: &[u8], most: u64) -> Option<u64>
     Some(number)
 }
 
-// What stands behind `0x`.
+// The digits after `0x`.
 fn behind_mark(text: &[u8]) -> Option<&[u8]>
     ensures { Tells (λ digits. digits.now) (bytes_eq (take 2 text.now) (codes "0x"))
         (drop 2 text.now) result }

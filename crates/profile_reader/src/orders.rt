@@ -26,7 +26,7 @@ pub fn not_before(last: Option<&Summary>, label: &[u8]) -> bool
     }
 }
 
-/// Whether a speedup may stand behind this label, after the last block.
+/// Whether a block of this label and speedup may follow the last block.
 pub fn goes_on(last: Option<&Summary>, label: &[u8], speedup: u64) -> bool
     ensures { result
         ≡ goes_on (selected_of (option_copied last.entry)) (speedup_of (option_copied last.entry))

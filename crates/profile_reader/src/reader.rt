@@ -35,9 +35,9 @@ fn all(alloc: Global, bytes: &[u8]) -> Result<Profile, BookError>
 }
 
 /// The profile of which the bytes are the text.
-/// Err tells their first wrong item where they are no profile's, or want of memory.
+/// Err is the first wrong item if they are not a profile's, or out of memory.
 pub fn read_profile(alloc: Global, bytes: &[u8]) -> Result<Profile, BookError>
-    // A fault is told exactly where there is one: that of the definition.
+    // A fault is reported exactly if there is one, and it is the definition's.
     ensures exact { IsJudged result (book_fault bytes.now) }
     // What is read is within the ranges and orders, and the bytes are its text.
     ensures found { IfOk result (λ p. IsTextOf p bytes.now) }
@@ -57,7 +57,7 @@ pub fn texts_tell_their_profile()
     ensures { (bytes : List ℕ) (p : Profile) → IsTextOf p bytes → told bytes ≡ p }
 {}
 
-/// A label that isn't right behind the one before it falls: it comes before that one.
+/// A label that may not follow the one before it is less than that one.
 pub fn labels_rise_or_fall()
     ensures { (last label : List ℕ) → is_label last ≡ true → is_label label ≡ true →
         not_before (Some last) label ≡ not (label_before label last) }

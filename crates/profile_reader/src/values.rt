@@ -35,7 +35,7 @@ fn prefix(kind: BookField) -> &'static [u8]
     }
 }
 
-/// What stands behind the field's name, if the item is such a field. None where it isn't.
+/// The bytes after the field's name, or None if the item is not such a field.
 pub fn value(item: &[u8], kind: BookField) -> Option<&[u8]>
     ensures { Tells (λ text. text.now) (is_field kind item.now) (value_in kind item.now) result }
 {

@@ -29,7 +29,7 @@ named_twice : lines_named three [] (Some (codes "b.s:1,a.s:1,d/b.s:1")) ≡ Ok (
 unfolding line_parts pieces
 named_twice = refl
 
--- the first piece that is not found is told
+-- the first piece that is not found is reported
 first_unfound : lines_named three [] (Some (codes "a.s:1,c.s:1,e.s:1")) ≡ Err (codes "c.s:1")
 unfolding line_parts pieces
 first_unfound = refl

@@ -37,7 +37,7 @@ points_verdict points next =
     if nat_lt MOST_POINTS (length points) then refusal 7 (points_line (length points))
     else next points
 
--- of a path's file that may have so many bytes, and of what follows where it is
+-- of a path's file that may have at most `most` bytes, and of what follows if it does
 -- there and has no more
 abbrev pub read_verdict : ℕ → List ℕ → Option (List ℕ) → (List ℕ → Verdict) → Verdict
 read_verdict most path None next = refusal 5 (codes "coz: read: " ++ path)

@@ -26,11 +26,11 @@ pub enum Fault<'a> {
     Write,
     /// A line that is named is none of the program's.
     NoLine(&'a [u8]),
-    /// There are so many progress points, more than 64.
+    /// The number of progress points, which exceeds 64.
     ManyPoints(u64),
     /// The file of this path is longer than such a file may be.
     Long(&'a str),
-    /// There are so many runs in the plan, more than 100,000.
+    /// The number of runs of the plan, which exceeds 100,000.
     ManyExperiments(u64),
     /// Memory was wanting.
     Memory,

@@ -25,7 +25,7 @@ fn bytes_in<'a>(image: &Image<'a>, name: &[u8]) -> &'a [u8]
 }
 
 /// The line table of a program, read with the two sections of its texts.
-/// Err tells the table's first fault, or want of memory.
+/// Err is the table's first fault, or out of memory.
 #[tactic(auto, unfolding(crate::specs::LineTable::table_in))]
 pub fn read_table<'a>(alloc: Global, image: &Image<'a>) -> Result<LineTable<'a>, LineError>
     requires right { fault image.now.file ≡ None }

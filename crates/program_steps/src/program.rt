@@ -20,8 +20,8 @@ use elf_load::load;
 use line_index::{LineIndex, build};
 use std::alloc::Global;
 
-/// The bytes of a path's file, where they are so many at most.
-/// Err tells that it can't be read or is longer, or want of memory.
+/// The bytes of a path's file, if they are at most `most`.
+/// Err says that it can't be read or is longer, or that it is out of memory.
 pub fn read_file<'a, F: Files>(
     alloc: Global,
     files: &mut F,

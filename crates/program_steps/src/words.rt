@@ -7,7 +7,7 @@ ghost use Rattle.program_steps.specs.Words.{bytes_of, request_of};
 use coz_words::{Request, WordsError, read_words};
 use std::alloc::Global;
 
-/// What the words ask for, where they are right. Err tells that they aren't, or want of memory.
+/// The request that the arguments stand for. Err is usage if they are none, or out of memory.
 pub fn request(alloc: Global, words: &[String]) -> Result<Request, WordsError>
     ensures asked { Answers (request_of (bytes_of words.now)) result }
     ensures fit { IfOk result IsFit }

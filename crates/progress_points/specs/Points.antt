@@ -46,7 +46,7 @@ pub record IsPoints (index : Index) (chosen : List ℕ) (points : Points) : Type
 abbrev pub ids : List LineId → List ℕ
 ids lines = map (λ (line : LineId). line.0) lines
 
--- so many lines are too many, or there was no memory for so few
+-- `count` lines are too many, or it was out of memory for so few
 abbrev pub IsFault : ℕ → PointsError → Type 0
 IsFault count (TooMany n) = (MOST_POINTS < count) × (n ≡ count)
 IsFault count Memory = count ≤ MOST_POINTS

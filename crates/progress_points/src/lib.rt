@@ -18,7 +18,7 @@ use std::marker::Model;
 /// Why there are no points.
 #[derive(Clone, Copy, Debug, PartialEq, Eq)]
 pub enum PointsError {
-    /// There are so many lines, more than `MOST_POINTS`.
+    /// The number of lines, which exceeds `MOST_POINTS`.
     TooMany(u64),
     /// Memory was wanting.
     Memory,
@@ -65,7 +65,7 @@ impl Model for Points {
 
 impl Points {
     /// The points of these lines. An address that is an entry of several of them has the point
-    /// of the first. Err tells that there are more than 64, or want of memory.
+    /// of the first. Err says that there are more than 64, or that it is out of memory.
     pub fn new(alloc: Global, index: &LineIndex, lines: &[LineId]) -> Result<Points, PointsError>
         requires { All (λ (line : LineId). line.0 < length index.now.lines) lines.now }
         ensures { MatchResult result (IsPoints index.now (ids lines.now))

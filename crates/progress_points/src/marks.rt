@@ -20,7 +20,7 @@ pub struct Mark {
     pub point: u16,
 }
 
-/// A mark at each of these addresses behind those that there are.
+/// Appends a mark at each of these addresses.
 fn add_marks(marks: &mut Vec<Mark>, addresses: &[Address], point: u16) -> Result<(), AllocError>
     ensures { OnOk result (marks.new.items ≡ marks.old.items ++ marks_at point addresses.now) }
 {
@@ -52,7 +52,7 @@ fn marks_by_line(
 }
 
 /// The marks of these lines in the order of their addresses, and those of one address in the order
-/// of the lines. Only want of memory stands against it.
+/// of the lines.
 pub fn marks_of(alloc: Global, index: &LineIndex, lines: &[LineId]) -> Result<Vec<Mark>, AllocError>
     requires below { All (λ (line : LineId). line.0 < length index.now.lines) lines.now }
     requires few { length lines.now ≤ MOST_POINTS }

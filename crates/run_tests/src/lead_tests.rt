@@ -86,7 +86,7 @@ static ROWS: [Row; 14] = [
     (Guest::Join, 5, 100, None, 2),
     (Guest::Join, 10, 100, None, 1),
     (Guest::Write, 5, 100, None, 1),
-    // No hart comes to the line.
+    // No hart reaches the line.
     (Guest::Write, 9, 100, Some(Ending::Exited(0)), 0),
 ];
 
@@ -187,7 +187,7 @@ fn run_of<'a>(
 }
 
 /// Whether both forks of a lead at a speedup come out as a machine that is made for it,
-/// with so many starts.
+/// with `starts` starts.
 fn forks_at<'a>(
     alloc: Global,
     program: &Program<'a>,
@@ -208,7 +208,7 @@ fn forks_at<'a>(
     Ok(right)
 }
 
-/// The same at each speedup.
+/// A fork at each speedup, compared with the run from its start.
 fn forks_at_each<'a>(
     alloc: Global,
     program: &Program<'a>,
@@ -356,7 +356,7 @@ fn leads_so<'a>(
     right
 }
 
-/// The choice of another line than the row's, if the row can be run on a program of so many lines.
+/// The choice of another line than the row's, if the row can be run on a program of `count` lines.
 fn choice_of(count: u32, row: &Row) -> Option<Choice>
     ensures choice { IfSome result IsChoice }
     ensures selected { IfSome result (λ choice. IsSome choice.selected) }

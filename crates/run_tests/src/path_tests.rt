@@ -22,7 +22,7 @@ enum Change {
     NoFirst,
     /// Its last event comes twice.
     Twice,
-    /// An event comes behind it that there isn't.
+    /// An event that does not exist follows.
     PastEnd,
     /// Nothing is left.
     Empty,

@@ -1,4 +1,4 @@
--- The first line of some bytes, and the lines behind it.
+-- The first line of some bytes, and the lines after it.
 use Rattle.std.proofs.Common.{◌≡◌, ◌≤◌, length, ℕ, suc, ◌+◌, Bool, true, false, List, [], ◌∷◌, drop, take, refl, ap, ap₂, ◌∙◌, sym, arith, if◌then◌else◌, cond}
 use Rattle.std.specs.Prelude.{not, ◌==◌}
 use Rattle.std.specs.Str.{byte}
@@ -6,7 +6,7 @@ use Rattle.std.specs.List.{prefix_len}
 use Rattle.std.proofs.lemmas.List.Folds.{length-prefix_len}
 use Rattle.asm_tokens.specs.Tokens.{lines, with_byte_before}
 
--- so many bytes are before the first newline
+-- n bytes are before the first newline
 abbrev pub line_bytes : List ℕ → ℕ
 line_bytes bs = prefix_len (λ b. not (b == byte "\n")) bs
 

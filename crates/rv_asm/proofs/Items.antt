@@ -1,4 +1,4 @@
--- The numbers and labels behind `.word` and its kin, one by one.
+-- The numbers and labels after `.word` and its kin, one by one.
 use Rattle.std.proofs.Common.{◌≡◌, ℕ, Bool, true, false, List, [], ◌∷◌, ◌++◌, refl, Result, Ok, Err, ap, ◌∙◌, sym, if◌then◌else◌, is_err}
 use Rattle.std.specs.Prelude.{◌==◌}
 use Rattle.std.specs.Str.{byte}

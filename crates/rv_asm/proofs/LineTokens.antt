@@ -1,4 +1,4 @@
--- The labels of a line, one by one, and the statement behind them.
+-- The labels of a line, one by one, and the statement after them.
 use Rattle.std.proofs.Common.{◌≡◌, ◌≤◌, length, ℕ, List, [], ◌∷◌, drop, refl, Option, Some, None, option_map, Ok, ap, ◌∙◌, arith}
 use Rattle.asm_tokens.specs.declared.line.LineError.{LineError}
 use Rattle.asm_tokens.specs.declared.line.LineError.TheVariants as errors

@@ -1,4 +1,4 @@
--- What a source without a fault stands for is a program.
+-- A source without a fault is assembled to a program.
 use Rattle.std.proofs.Common.{◌≡◌, ℕ, zero, suc, ◌+◌, ◌*◌, ◌/◌, ◌%◌, ◌≤◌, ◌<◌, ◌==◌, Bool, true, false, List, [], ◌∷◌, ◌++◌, length, replicate, Option, Some, None, refl, sym, subst, ◌∙◌, arith, length-append, Result, Ok, Err, nat_lt, if◌then◌else◌}
 use Rattle.std.specs.Prelude.{IfOk, codes}
 use Rattle.std.specs.List.{AllByRecursion}
@@ -125,6 +125,6 @@ is_program source =
     then_ok (AreFilled s.puts) IsProgram (filled_pieces s s.puts) _ (all_fill s s.puts right.puts_right) (λ fs parts.
     not_empty (s.text == 0) s fs refl right parts))
 
--- what a call gave, if it is what the source stands for
+-- the result of a call, if the source is assembled to it
 pub given : (source : List ℕ) (p : Program) → assembled source ≡ Ok p → IsProgram p
 given source p e = subst (λ r. IfOk r IsProgram) e (is_program source)

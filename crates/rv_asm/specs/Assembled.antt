@@ -1,4 +1,4 @@
--- What a source stands for, or its first fault.
+-- The program that a source is assembled to, or its first fault.
 use Rattle.std.specs.Prelude.{◌≡◌, ℕ, ◌+◌, ◌-◌, ◌*◌, ◌/◌, ◌%◌, ◌^◌, ◌<◌, ◌≤◌, All, Bool, true, false, not, ◌&&◌, List, [], ◌∷◌, ◌++◌, length, filter, is_some, flat_map, replicate, position, ℤ, pos, ◌-ℤ◌, Option, Some, None, Result, Ok, Err, nat_lt, nat_le, ◌==◌, if◌then◌else◌, bytes_eq, codes}
 use Rattle.std.specs.Map.{update}
 use Rattle.std.specs.Str.{byte}
@@ -177,7 +177,7 @@ address_in s column (Some p) = Ok (address s p)
 abbrev pub target : State → Use → Read ℕ
 target s label = address_in s label.column (s.labels label.name)
 
--- how far a label is from an address, if so many bits and an even number reach it
+-- how far a label is from an address, if an even signed number of `bits` bits reaches it
 abbrev pub reach : State → ℕ → Use → ℕ → Read ℤ
 reach s bits label from = do
   a ← target s label
@@ -265,7 +265,7 @@ program s fs = record {
   entry = entry s;
 }
 
--- what every source without a fault stands for: some words, each with its line,
+-- what every source without a fault is assembled to: some words, each with its line,
 -- and the entry at one of them
 pub record IsProgram (p : Program) : Type 0 where
   pub some : 0 < length p.text

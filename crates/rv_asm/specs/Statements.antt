@@ -93,7 +93,7 @@ is_release orders.Acquire = false
 is_release orders.Release = true
 is_release orders.Both = true
 
--- the instructions without operands; a fence is of all accesses, before and behind it
+-- the instructions without operands; a fence is of all accesses, before and after it
 abbrev pub instruction_alone : Alone → Instr
 instruction_alone alone.Ecall = instr.Ecall
 instruction_alone alone.Ebreak = instr.Ebreak
@@ -187,7 +187,7 @@ module _ (end : ℕ) where
   abbrev pub immediate : List Placed → Taking ℤ
   immediate ts = number (neg_ℤ (pos 2048)) (pos 2047) ts
 
-  -- the same behind a comma
+  -- the same after a comma
   abbrev pub then_name : List Placed → Taking Use
   then_name ts = mark (byte ",") ts >>= λ rest. name rest
 
@@ -253,7 +253,7 @@ module _ (end : ℕ) where
   item_operand size [] = no_operand []
   item_operand size (t ∷ ts) = item size t >>= λ p. Ok (p, ts)
 
-  -- the same behind a comma
+  -- the same after a comma
   abbrev pub then_item : Size → List Placed → Taking Piece
   then_item size ts = mark (byte ",") ts >>= λ rest. item_operand size rest
 
@@ -267,7 +267,7 @@ module _ (end : ℕ) where
     ps ← items size ts
     Ok (p ∷ ps)
 
-  -- ---- the forms: what the tokens behind a statement's first word stand for
+  -- ---- the forms: what the tokens after a statement's first word are assembled to
 
   unfoldable pub statement : Form → List Placed → Read Statement
   statement (forms.Register op) ts = do

@@ -163,7 +163,7 @@ all_parts read =
       lines = lines_of fs;
     })
 
--- behind these parts
+-- after these parts
 abbrev pub with_all : Parts → Result (List Filled) AsmFault → Result Parts AsmFault
 with_all parts read =
     read >>= λ fs.

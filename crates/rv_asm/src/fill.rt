@@ -134,7 +134,7 @@ fn far_upper(rd: u8, far: i128) -> Instr
     }
 }
 
-/// The second of the two.
+/// The second instruction of a far address: its low 12 bits.
 fn far_lower(rd: u8, far: i128) -> Instr
     requires { rd < 32 }
     ensures value { result ≡ instr.Imm Addi rd rd (lower far) }
@@ -207,7 +207,7 @@ fn write_piece(out: &mut Vec<u8>, state: &State, from: u64, piece: &Piece) -> Re
     }
 }
 
-/// The line of each word, so many words of one line.
+/// Appends a line number once for each of its words.
 fn push_lines(lines: &mut Vec<u32>, line: u32, words: usize) -> Result<(), AllocError>
     ensures { IfOk result (λ _. lines.new.items ≡ lines.old.items ++ replicate words line) }
 {
@@ -243,7 +243,7 @@ fn fill_one(parts: &mut Filled, state: &State, put: &Put) -> Result<(), AsmError
 }
 
 /// The bytes of all pieces in the order of the source.
-/// Err tells the first label that is missing or too far, or want of memory.
+/// Err is the first label that is missing or too far, or out of memory.
 pub fn fill(alloc: Global, state: &State) -> Result<Filled, AsmError>
     ensures { Gives parts_of result
         (all_parts (filled_pieces (state_of state.now) (state_of state.now).puts)) }

@@ -542,7 +542,7 @@ fn next_item<'s>(
     item(alloc, operands.end(), size, first)
 }
 
-/// The next item behind a comma.
+/// The next item after a comma.
 fn then_item<'s>(
     alloc: Global,
     size: Size,
@@ -586,7 +586,7 @@ fn numbers_form<'s>(
 }
 
 /// The statement of this form whose operands these are.
-/// Err tells the first wrong operand, or want of memory.
+/// Err is the first wrong operand, or out of memory.
 pub fn statement<'s>(
     alloc: Global,
     end: u32,

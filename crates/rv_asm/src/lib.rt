@@ -38,7 +38,7 @@ pub struct AsmFault {
 /// Why a source isn't assembled.
 pub type AsmError = Failure<AsmFault>;
 
-/// What a source stands for.
+/// What a source is assembled to.
 #[derive(Drop)]
 pub struct Assembled {
     /// The bytes of the instructions, four for each.
@@ -51,7 +51,7 @@ pub struct Assembled {
     pub entry: u64,
 }
 
-/// What a source of at most 4,194,304 bytes stands for, or its first fault.
+/// Assembles a source of at most 4,194,304 bytes, or returns its first fault.
 #[tactic(auto, unfolding(crate::specs::Assembled::assembled))]
 pub fn assemble(alloc: Global, source: &[u8]) -> Result<Assembled, AsmError>
     requires { length source.now ≤ MAX_SOURCE }

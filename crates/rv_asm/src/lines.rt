@@ -235,7 +235,7 @@ pub fn error_at(line: u32, error: LineError) -> AsmError
     }
 }
 
-/// The lines of a source. Err tells the first fault of a line, or want of memory.
+/// The lines of a source. Err is the first fault of a line, or out of memory.
 pub fn take_lines<'s>(alloc: Global, source: &'s [u8]) -> Result<State<'s>, AsmError>
     requires { length source.now ≤ MAX_SOURCE }
     ensures { Gives state_of result (take_lines 1 (lines source.now) start) }

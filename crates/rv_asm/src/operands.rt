@@ -64,7 +64,7 @@ impl<'t, 's> Operands<'t, 's> {
         }
     }
 
-    /// The column behind the line's bytes.
+    /// The column after the line's bytes.
     pub fn end(&self) -> u32
         ensures { result ≡ self.now.end }
     {
@@ -175,7 +175,7 @@ impl<'t, 's> Operands<'t, 's> {
         Ok(found as i32)
     }
 
-    /// A name behind a comma.
+    /// A name after a comma.
     pub fn then_name(&mut self) -> Result<NameUse<'s>, LineError>
         ensures { Takes use_of result self.old self.new
             (then_name self.old.end (tokens_left self.old)) }
@@ -184,7 +184,7 @@ impl<'t, 's> Operands<'t, 's> {
         self.name()
     }
 
-    /// A register behind a comma.
+    /// A register after a comma.
     pub fn then_register(&mut self) -> Result<Register, LineError>
         ensures { Takes number_of result self.old self.new
             (then_register self.old.end (tokens_left self.old)) }
@@ -193,7 +193,7 @@ impl<'t, 's> Operands<'t, 's> {
         self.register()
     }
 
-    /// A number of 12 bits with a sign behind a comma.
+    /// A signed number of 12 bits after a comma.
     pub fn then_immediate(&mut self) -> Result<i32, LineError>
         ensures value { Takes (λ n. n) result self.old self.new
             (then_immediate self.old.end (tokens_left self.old)) }
@@ -203,7 +203,7 @@ impl<'t, 's> Operands<'t, 's> {
         self.immediate()
     }
 
-    /// A number from 0 to `high` behind a comma.
+    /// A number from 0 to `high` after a comma.
     pub fn then_up_to(&mut self, high: u32) -> Result<u32, LineError>
         ensures value { Takes (λ n. n) result self.old self.new
             (then_up_to self.old.end high (tokens_left self.old)) }
@@ -224,7 +224,7 @@ impl<'t, 's> Operands<'t, 's> {
         Ok(found)
     }
 
-    /// A register in parentheses behind a comma.
+    /// A register in parentheses after a comma.
     pub fn then_base(&mut self) -> Result<Register, LineError>
         ensures { Takes number_of result self.old self.new
             (then_base self.old.end (tokens_left self.old)) }
@@ -233,7 +233,7 @@ impl<'t, 's> Operands<'t, 's> {
         self.base()
     }
 
-    /// The register that an atomic stores or combines, behind a comma; `lr` has none.
+    /// The register that an atomic stores or combines, after a comma; `lr` has none.
     pub fn then_second(&mut self, op: AtomicOp) -> Result<Register, LineError>
         ensures value { Takes number_of result self.old self.new
             (then_second self.old.end op (tokens_left self.old)) }

@@ -106,7 +106,7 @@ impl<'s> State<'s> {
     }
 
     /// A label where the next piece goes.
-    /// Err where there is one of that name, or for want of memory.
+    /// Err if there is one of that name, or if it is out of memory.
     pub fn add_label(&mut self, name: &'s [u8], column: u32) -> Result<(), LineError>
         ensures { Steps result (state_of self.new)
             (with_label name.now column (state_of self.old)) }
@@ -155,7 +155,7 @@ impl<'s> State<'s> {
     }
 
     /// What a statement does.
-    /// Err where its section may not have it or would be too long, or for want of memory.
+    /// Err if its section may not have it or would be too long, or if it is out of memory.
     pub fn perform(&mut self, line: u32, column: u32, what: Statement<'s>) -> Result<(), LineError>
         requires { AlignsWithin what }
         ensures { Steps result (state_of self.new)

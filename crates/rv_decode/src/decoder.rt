@@ -159,7 +159,7 @@ fn registers(word: u32) -> Option<Instr>
     })
 }
 
-/// The same on 32 bits.
+/// The register operations on 32 bits.
 fn word_registers(word: u32) -> Option<Instr>
     ensures { result ≡ register_of 0x3B word }
 {

@@ -133,7 +133,7 @@ load_to op rd address s =
       | Some n ↦ with_rd rd (load_value op n) s
     ]
 
--- with the memory after a store of so many bytes at an address
+-- with the memory after a store of `size` bytes at an address
 abbrev pub with_store : ℕ → ℕ → MemoryMap → Setting → Setting
 with_store address size memory s = record s {
   memory = memory;
@@ -176,7 +176,7 @@ exchange op wide rd address n s =
       ]
     ]
 
--- an atomic of so many bytes at an address that is a multiple of them
+-- an atomic at an address that is a multiple of its size
 abbrev pub aligned_effect : ℕ → Bool → (Setting → Executed) → Setting → Executed
 aligned_effect address wide effect s =
     if address % atomic_size wide == 0 then effect s else fault s Misaligned

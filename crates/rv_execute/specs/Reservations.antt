@@ -3,7 +3,7 @@
 use Rattle.std.specs.Prelude.{ℕ, ◌+◌, ◌*◌, ◌/◌, Bool, not, ◌&&◌, nat_lt, ◌==◌, min, max, filter, List, [], ◌∷◌, ◌++◌}
 use Rattle.std.specs.List.{list_any}
 
--- of each hart that has a reservation, its number and the start of its 8 bytes, the eldest first
+-- of each hart that has a reservation, its number and the start of its 8 bytes, the oldest first
 abbrev pub Reservations : Type 0
 Reservations = List (ℕ × ℕ)
 
@@ -19,7 +19,7 @@ without_own hart r = filter (λ e. not (e.0 == hart)) r
 abbrev pub with_reservation : ℕ → ℕ → Reservations → Reservations
 with_reservation hart address r = without_own hart r ++ (hart, eight_at address) ∷ []
 
--- the 8 bytes at start have one of so many bytes from an address on
+-- the 8 bytes at `start` have one of the `count` bytes from an address on
 abbrev pub is_touched : ℕ → ℕ → ℕ → Bool
 is_touched address count start = nat_lt (max address start) (min (address + count) (start + 8))
 

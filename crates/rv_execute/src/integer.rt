@@ -33,7 +33,7 @@ pub fn upper(hart: &mut HartState, op: UpperOp, rd: u8, value: u32) -> Step
     hart.put(rd, result)
 }
 
-/// A jump, with the address behind it kept in a register.
+/// `jal`: jumps, and keeps the address of the next instruction in rd.
 #[inline]
 pub fn jal(hart: &mut HartState, rd: u8, offset: i32) -> Step
     requires { rd < 32 }
@@ -43,7 +43,7 @@ pub fn jal(hart: &mut HartState, rd: u8, offset: i32) -> Step
     hart.jump(rd, target)
 }
 
-/// The same, to the address of a register and an offset.
+/// `jalr`: jumps to a register plus an offset, and keeps the address of the next instruction in rd.
 #[inline]
 pub fn jalr(hart: &mut HartState, rd: u8, rs1: u8, offset: i32) -> Step
     requires rd { rd < 32 }

@@ -73,7 +73,7 @@ pub fn load(hart: &mut HartState, memory: &Memory, op: LoadOp, rd: u8, rs1: u8, 
     }
 }
 
-/// Stores a number of so many bytes and moves the pc on.
+/// Stores a number of `size` bytes and moves the pc on.
 #[inline]
 fn store_at(
     hart: &mut HartState,

@@ -97,7 +97,7 @@ impl Reservations {
             .any(|place| place.0 == hart.0 && place.1 == start)
     }
 
-    /// Makes these reservations the same as others.
+    /// Makes these reservations equal to others.
     pub fn copy_from(&mut self, other: &Reservations)
         ensures { self.new ≡ other.now }
     {

@@ -46,7 +46,7 @@ impl<'a> Short<'a> {
     ghost use Rattle.machines.specs.Records.{net_record_of, IsShortened, shortened_record};
     ghost use Rattle.virtual_run.specs.Run.{IsChoice};
 
-    /// A run that is about to begin. Only want of memory stands against it.
+    /// A run that is about to begin.
     pub fn new(
         alloc: Global,
         image: &'a Image<'a>,

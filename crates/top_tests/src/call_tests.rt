@@ -8,14 +8,14 @@ use std::thread::Threads;
 /// What a program reads.
 static INPUT: [u8; 11] = *b"first hello";
 
-/// Does what the rows behind it say. A row has the number of a hart, what the hart does, the number
+/// Does what the rows after it say. A row has the number of a hart, what the hart does, the number
 /// of the call, a0 to a4, and a0 as it is to be after. Where it is another, the run ends with
 /// the number of the row, from 1 on, as its code.
 ///
 /// Each hart spins until the next row is its own. It yields, for the 40 cycles that the call
 /// of the row before takes, and moves on to the next row before its own call, since it may wait
 /// there. Behind the call the letter of its row, from `A` on, is kept, so that `kept` tells
-/// in which order the calls came back. A child goes on behind the clone, with the number
+/// in which order the calls came back. A child goes on after the clone, with the number
 /// that its parent's answer is to name.
 ///
 /// `pipes` makes pipes until one isn't made or has other numbers than it is to have: those of the
@@ -280,7 +280,7 @@ const AGES: &str = "
 .dword 0, call, 94, 0, 0, 0, 0, 0, 0
 ";
 
-/// The calls of pipes. A hart that waits has its letter behind what wakes it.
+/// The calls of pipes. A hart that waits has its letter after what wakes it.
 const PIPES: &str = "
 # pipe2: its 8 bytes, which end a reservation. No number is gone where it is refused
 .dword 0, call, 59, text, 0, 0, 0, 0, -14
@@ -394,7 +394,7 @@ static ANSWERS: [(&str, &str); 7] = [
     (HALVES, "4\nfirh\n"),
 ];
 
-/// What some words come to about the program of a text and the rows behind it.
+/// The answer of some arguments about the program of a text and the rows after it.
 fn served<R: Threads + Sync + AllocGlobal>(
     rt: &R,
     words: &[&str],
@@ -574,7 +574,7 @@ const EARLY: &str = "\
 ";
 
 /// The program as it is; with its first line, of two cycles, or its third, of one, made cheaper
-/// by so many per cent.
+/// by this speedup.
 const PLAIN: [&str; 2] = ["run", "guest"];
 
 const TWO_BY_50: [&str; 4] = ["run", "guest", "--line=guest.s:1", "--speedup=50"];
@@ -592,7 +592,7 @@ const CALL_BY_93: [&str; 4] = ["run", "guest", "--line=guest.s:3", "--speedup=93
 
 const CALL_BY_95: [&str; 4] = ["run", "guest", "--line=guest.s:3", "--speedup=95"];
 
-/// Programs, what stands behind them, words, and how the run ends.
+/// Programs, the text after them, arguments, and how the run ends.
 static PROGRAMS: [(&str, &str, &[&str], &str); 14] = [
     (MOST, "", &PLAIN, "end exited:0"),
     // seconds and nanoseconds are rounded down

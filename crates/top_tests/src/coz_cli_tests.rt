@@ -98,7 +98,7 @@ fn files(alloc: Global, fails: &[u64], length: usize) -> Result<MemoryFiles, All
     Ok(MemoryFiles::new(held_files, fails.to_vec(alloc)?))
 }
 
-/// What is called, over which faults, and what it comes to.
+/// What is called, with which faults, and the expected answer.
 #[derive(Drop)]
 struct Case<'a> {
     words: &'a [&'a str],
@@ -125,7 +125,7 @@ fn plain_case<'a>(words: &'a [&'a str], status: u8, out: &'a [u8], err: &'a [u8]
     }
 }
 
-/// Whether the call comes to what the case says.
+/// Whether the call's answer is that of the case.
 fn comes_out<R: Threads + Sync + AllocGlobal>(rt: &R, case: &Case) -> Result<bool, AllocError> {
     let alloc = rt.alloc();
     let mut words = Vec::new(alloc);

@@ -42,7 +42,7 @@ const STALLED: &[u8] =
 const FULL: &[u8] =
     b"latency speedup 0 end visits-full net 209715200 arrivals 1048576 departures 1048576 stray 0 open 0 area 0 mean 0\n";
 
-/// The words behind `latency`, and what they come to: the status, the output and the line
+/// The arguments after `latency`, and the expected answer: the status, the output and the line
 /// of the fault. The numbers were computed from the visits that another program printed.
 static LATENCIES: [(&[&str], u8, &[u8], &[u8]); 16] = [
     (

@@ -1,4 +1,4 @@
-//! The critical paths of programs, and what stands against one.
+//! The critical paths of programs, and the faults of `path`.
 use crate::calls::{ONE_SOURCE, Outside, assembled, call, call_over, copies, one_file};
 use coz_files::FreeGate;
 use std::test::Fail;

@@ -5,7 +5,7 @@ use std::alloc::{AllocError, Global};
 use std::test::Fail;
 use std::thread::Threads;
 
-/// What is done to the text of the profile of `one.s` with two speedups: so many bytes at a place
+/// What is done to the text of the profile of `one.s` with two speedups: the bytes at an offset
 /// give way to others. Beside it are the status and the line of the fault that `plot` tells then.
 static DAMAGES: [(usize, usize, &[u8], u8, &[u8]); 20] = [
     (0, 558, b"", 12, b"coz: profile: Head at 0\n"),

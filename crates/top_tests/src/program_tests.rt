@@ -345,7 +345,7 @@ fn lines_are_named(rt: HostRuntime) -> Result<(), Fail> {
     }
     Ok(())
 }
-/// A source of so many instructions, one a line, and the list of its lines.
+/// A source of `count` instructions, one a line, and the list of its lines.
 fn long_source(alloc: Global, count: u32) -> Result<(Vec<u8>, String), AllocError> {
     let mut source = Vec::new(alloc);
     let mut list = String::new(alloc);

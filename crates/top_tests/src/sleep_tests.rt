@@ -103,7 +103,7 @@ static SLEEPS: [(&[&str], u8, &[u8], &[u8]); 11] = [
         b"end exited:0\ntime 12800\ndelay 50\nnet 12750\nretired 36\nstarts 1\nhart 0 own 50 paused 0 credited 0\nhart 1 own 0 paused 50 credited 0\nvisit 0 hart 1 time 8750 delay 50 net 8700\noutput 0\n\n",
         b"end exited:0\nnet 12750\nretired 36\nstarts 1\nvisit 0 hart 1 net 8700\noutput 0\n\n",
     ),
-    // The wake of hart 1 goes behind the visit of hart 0.
+    // Hart 1 wakes after the visit of hart 0.
     (
         &[
             "second",

@@ -36,7 +36,7 @@ pub record IsLeft (setting : Setting) (engine : Engine) (left : Keys) (h due del
   pub keeps : now ≡ record engine.visits { kept = engine.visits.kept ++ visits_of (point_of setting.points.now address) h (due + delay) delay }
   pub ends : e ≡ ending_of fate (nat_le setting.choice.output_limit (length after.output)) (nat_le setting.choice.visit_limit (length now.kept)) (runs_after fate others left) (engine.retired + 1) setting.choice.budget
 
--- so many visits are not full
+-- n visits are not full
 below_limit : (limit count : ℕ) → nat_le limit count ≡ false → count < limit
 below_limit limit count e = grind (arith, nat_tests)
 

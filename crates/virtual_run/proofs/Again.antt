@@ -59,7 +59,7 @@ module _ (x : Experiment Guest) (whole : x.speedup ≡ 0) where
   abbrev ready : Delayed Guest
   ready = record { now = 0; delay = 0; guest = x.first; harts = change_each idle_hart (0 ∷ []) (λ h. run_from (cost x x.first h)) []; visits = []; retired = 0; wakes = 0; starts = 0; ending = None }
 
-  -- its first state but for the starts
+  -- its first state apart from the starts
   first_is : (n : ℕ) × (standing x 0 ≡ record ready { starts = n })
   unfolding begin unbegun
   first_is =

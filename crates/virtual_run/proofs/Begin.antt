@@ -78,7 +78,7 @@ one_by false h = omega arith
 pub one_at_most : (p : ℕ → Bool) (h : ℕ) → length (filter p (h ∷ [])) ≤ 1
 one_at_most p h = one_by (p h) h
 
--- the harts that are left are to begin, and what then has begun are all of them, with the chosen ones of all of them behind those before
+-- the harts that are left are to begin, and what then has begun are all of them, with the chosen ones of all of them after those before
 pub record IsBeginning (g : Guest) (ticks : ℕ → ℕ) (p : ℕ → Bool) (m : ℕ) (all : List ℕ) (old : Keys) (before : List ℕ) (left : List ℕ) (now : Keys) (chosen : List ℕ) : Type 0 where
   pub idle : AreIdle g now left
   pub room : length now ≡ 256

@@ -35,7 +35,7 @@ use Rattle.guest_pipes.specs.declared.ends.PipeEnd.TheVariants.{Reading, Writing
 use Rattle.guest_pipes.specs.Pipes.{end_of, this_end, can_make, made, made_numbers, readiness, woken_for, closed}
 use Rattle.virtual_run.proofs.CreditedPlaces.{places, places_kept}
 
--- so many harts were made before
+-- n harts were made before
 abbrev pub Grows : ℕ → Retirement Guest → Type 0
 Grows n r = length r.guest.harts ≡ places r.others n
 

@@ -42,7 +42,7 @@ taken h fate dues = change None h (λ _. short.rest fate) dues
 abbrev net_visits : Option ℕ → ℕ → ℕ → List NetVisit
 net_visits point h due = option_to_list (option_map (λ p. record { point = p; hart = h; time = due }) point)
 
--- what a move comes to with a retirement, after which the hart has this moment and there are these visits
+-- the effect of a move with a retirement, after which the hart has this moment and there are these visits
 abbrev pub moved_by : Experiment Guest → ℕ → Retirement Guest → Option ℕ → ℕ → ℕ → ℕ → List (Option ℕ) → List NetVisit → ℕ → ℕ → Shortened Guest
 moved_by x h r moment due wakes starts dues visits retired count =
     let left : Shortened Guest = state due r.guest (change None h (λ _. moment) dues) visits (retired + 1) wakes starts None in

@@ -59,7 +59,7 @@ trial image budget = experiment image (λ _. None) (λ _. None) [] (plain budget
 shortened_end : ImageParts → ℕ → ℕ → Option NetRecord
 shortened_end image budget moves = net_outcome (trial image budget) (short.shortened (trial image budget) moves)
 
--- within so many moves the shortened run has ended so, at this moment and after so many retirements, with no output
+-- within n moves the shortened run has ended so, at this moment and after n retirements, with no output
 abbrev Ends : ImageParts → ℕ → ℕ → Ending → ℕ → ℕ → Type 0
 Ends image budget moves ending time retired =
     shortened_end image budget moves ≡ Some (record { ending = ending; time = time; retired = retired; starts = 0; output = []; visits = [] })

@@ -9,7 +9,7 @@ use Rattle.virtual_run.specs.Lead.{sooner_by, with_sooner}
 use Rattle.virtual_run.proofs.Keys.{has_place, with_key_at, without_key_at}
 use Rattle.virtual_run.proofs.Many.{many_with, many_without}
 
--- so many ticks sooner, if it is due
+-- n ticks sooner, if it is due
 abbrev pub less : ℕ → Option ℕ → Option ℕ
 less ticks o = option_map (λ u. u - ticks) o
 

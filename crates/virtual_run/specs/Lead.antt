@@ -9,7 +9,7 @@ use Rattle.guest_calls.specs.Guest.{Guest}
 use Rattle.virtual_run.specs.Seen.{Seen, experiment_of}
 use Rattle.virtual_run.specs.Run.{IsChoice}
 
--- what a run was made with, but for the selected line and the speedup
+-- what a run was made with, apart from the selected line and the speedup
 abbrev pub arguments : {State : Type 0} → Seen State → Seen (Unit {0})
 arguments seen = record {
   image = seen.image;
@@ -35,14 +35,14 @@ pub record Stands (x : Experiment Guest) (b : Before Guest) : Type 0 where
   pub is : b ≡ before x events
   pub none : b.state.starts ≡ 0
 
--- it stands so at every speedup, and each state that the delayed machine comes to with no start
--- counted is one that it comes to at every speedup
+-- it stands so at every speedup, and each state that the delayed machine reaches with no start
+-- counted is one that it reaches at every speedup
 pub record IsShared (x : Experiment Guest) (b : Before Guest) : Type 0 where
   pub stands : (speedup : ℕ) → Stands (at_speedup speedup x) b
   pub states : (speedup moves : ℕ) → (delayed x moves).starts ≡ 0
       → delayed x moves ≡ delayed (at_speedup speedup x) moves
 
--- a hart that is due is due so many ticks sooner
+-- a hart that is due becomes due `ticks` ticks sooner
 abbrev pub sooner_by : Option ℕ → ℕ → ℕ → Keys → Keys
 sooner_by None ticks h keys = keys
 sooner_by (Some due) ticks h keys = with_key h (due - ticks) (without_key h keys)

@@ -218,7 +218,7 @@ impl<'a> Engine<'a> {
     ghost use Rattle.virtual_run.specs.Engine.{IsSteady, IsFirst};
     ghost use Rattle.virtual_run.specs.Advance.{CanSettle, IsAdvance, IsRetired, IsSettled, IsWoken};
 
-    /// A run that is about to begin. Only want of memory stands against it.
+    /// A run that is about to begin.
     pub fn new(
         alloc: Global,
         image: &'a Image<'a>,
@@ -339,7 +339,7 @@ impl<'a> Engine<'a> {
         }
     }
 
-    /// The same, apart from the way of most retirements.
+    /// `end_or_begin` of a hart that does not go on, apart from the common case.
     #[inline(never)]
     fn end_or_begin_apart(&mut self, setting: &Setting, hart: HartId, fate: Fate)
         requires { CanSettle setting.now self.old hart.0 fate }

@@ -51,7 +51,6 @@ impl<'a> Lead<'a> {
     ghost use Rattle.virtual_run.specs.Run.{IsChoice};
 
     /// Before the first beginning, that of hart 0. The speedup isn't read.
-    /// Only want of memory stands against it.
     pub fn new(
         alloc: Global,
         image: &'a Image<'a>,
@@ -93,7 +92,7 @@ impl<'a> Lead<'a> {
         self.machine.lead()
     }
 
-    /// Makes this lead the same as one that stands where it was made, with another line selected.
+    /// Makes this lead equal to one that has just been made, with another line selected.
     pub fn again(&mut self, first: &Lead<'a>, line: LineId)
         requires arguments { arguments self.old ≡ arguments first.now }
         requires unbegun { first.now.state

@@ -60,7 +60,7 @@ impl<'a> Machine<'a> {
     ghost use Rattle.machines.specs.Records.{net, record_of, IsDelayed, IsShortened, shortened_record};
     ghost use Rattle.virtual_run.specs.Run.{IsChoice};
 
-    /// A run that is about to begin. Only want of memory stands against it.
+    /// A run that is about to begin.
     pub fn new(
         alloc: Global,
         image: &'a Image<'a>,
@@ -327,7 +327,7 @@ impl<'a> Machine<'a> {
 
     /// The visits of progress points, in order, at most 1,048,576. None was before
     /// its delay was raised. Their net times never fall, and once the run has ended none is over
-    /// its net time; before that the delay may be raised again behind the last visit.
+    /// its net time; before that the delay may be raised again after the last visit.
     pub fn visits(&self) -> &[Visit]
         ensures visits { map visit_as result.now ≡ self.now.state.visits }
         ensures few { length result.now ≤ MOST_VISITS_KEPT }

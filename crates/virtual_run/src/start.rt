@@ -165,7 +165,7 @@ pub fn begin_each(
     }
 }
 
-/// A hart that is due is due so many ticks sooner.
+/// A hart that is due becomes due `ticks` ticks sooner.
 fn hasten(schedule: &mut Schedule, hart: HartId, ticks: Tick)
     ensures { schedule.new ≡ sooner_by (key_of schedule.old hart.0) ticks hart.0 schedule.old }
 {

@@ -30,7 +30,7 @@ impl Model for Visits {
 }
 
 impl Visits {
-    /// No visits, with room for so many. Only want of memory stands against it.
+    /// No visits, with room for `limit`.
     pub fn new(alloc: Global, limit: u64) -> Result<Visits, AllocError>
         requires { limit ≤ MOST_VISITS_KEPT }
         ensures { IfOk result (λ visits. visits ≡ record { kept = []; limit = limit }) }
@@ -50,7 +50,7 @@ impl Visits {
         };
     }
 
-    /// Makes these visits the same as others of the same limit.
+    /// Makes these visits equal to others of the same limit.
     pub fn copy_from(&mut self, other: &Visits)
         requires { self.old.limit ≡ other.now.limit }
         ensures { self.new ≡ other.now }

@@ -6,7 +6,7 @@ use Rattle.work_gen.specs.declared.kinds.Kind.{Kind}
 use Rattle.work_gen.specs.Text.{Line, text_of_lines, statements, turning_lines, locking_lines, next, draw_of, of_kind, block}
 use Rattle.work_gen.specs.Drawn.{block_text, IsDrawn}
 
--- the lines of a block behind a lock: up to its first branch, up to its jump, and behind its work
+-- the lines of a block under a lock: up to its first branch, up to its jump, and after its work
 abbrev pub begins : List String
 begins = "li t0, 1" ∷ "amoswap.w.aq t1, t0, (a4)" ∷ []
 
@@ -16,7 +16,7 @@ sleeps = "mv a0, a4" ∷ "li a1, 0" ∷ "li a2, 1" ∷ "li a7, 98" ∷ "ecall" �
 abbrev pub adds : List String
 adds = "ld t2, 0(a5)" ∷ "addi t2, t2, 1" ∷ "sd t2, 0(a5)" ∷ "amoswap.w.rl t1, x0, (a4)" ∷ "mv a0, a4" ∷ "li a1, 1" ∷ "li a2, 1" ∷ "li a7, 98" ∷ "ecall" ∷ []
 
--- a number behind which a line ends
+-- a number after which a line ends
 ended : (ds rest more : List ℕ) → rest ≡ more → (ds ++ codes "\n") ++ rest ≡ ds ++ (codes "\n" ++ more)
 ended ds rest more e = append_assoc ds (codes "\n") rest ∙ ap (λ t. ds ++ (codes "\n" ++ t)) e
 

@@ -50,7 +50,7 @@ work:
 /// How many lines the opening has.
 const OPENING_LINES: u32 = 17;
 
-/// What stands behind the blocks. Its third line is the progress point, and the last hart ends the
+/// The text after the blocks. Its third line is the progress point, and the last hart ends the
 /// program.
 static ENDING: &[u8] = b"    la a0, ended
     li a1, 1
@@ -75,7 +75,6 @@ ended:
 ";
 
 /// The text that a seed and 1 to 2,000 blocks make, of at most 2 MiB. The assembler accepts each.
-/// Only want of memory stands against it.
 pub fn source(alloc: Global, seed: u64, size: u32) -> Result<Generated, AllocError>
     requires least { 1 ≤ size }
     requires most { size ≤ GREATEST_SIZE }

@@ -20,7 +20,7 @@ fn filled<'b>(piece: &Piece, block: &Block, number: u32, buffer: &'b mut Buffer)
     }
 }
 
-/// The block of this number. Only want of memory stands against it.
+/// The block of this number.
 fn put_block(text: &mut Vec<u8>, block: &Block, number: u32) -> Result<(), AllocError>
     ensures { OnOk result (text.new.items ≡ text.old.items ++ block_text block.now number) }
 {
@@ -31,8 +31,7 @@ fn put_block(text: &mut Vec<u8>, block: &Block, number: u32) -> Result<(), Alloc
     Ok(())
 }
 
-/// The blocks, from number 0 on, and how many lines they have. Only want of memory stands against
-/// it.
+/// The blocks, from number 0 on, and how many lines they have.
 pub fn put_blocks(text: &mut Vec<u8>, size: u32, seed: u64) -> Result<u32, AllocError>
     requires { size ≤ GREATEST_SIZE }
     ensures text { OnOk result

@@ -10,7 +10,7 @@ use Rattle.work_gen.proofs.source.Goals as goal
 abbrev middle : List Line
 middle = statements ("la a0, ended" ∷ "li a1, 1" ∷ [])
 
--- lines behind lines
+-- lines after lines
 more_lines : {a b : List ℕ} (ls ms : List Line) → a ≡ text_of_lines ls → b ≡ a ++ text_of_lines ms → b ≡ text_of_lines (ls ++ ms)
 more_lines ls ms first more = more ∙ ap (λ t. t ++ text_of_lines ms) first ∙ sym (flat_map-append (λ line. line ++ codes "\n") ls ms)
 

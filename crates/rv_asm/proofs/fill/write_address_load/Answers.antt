@@ -10,7 +10,7 @@ use Rattle.rv_asm.specs.Views.{Steps}
 use Rattle.rv_asm.proofs.Filling.{two_words}
 use Rattle.rv_asm.proofs.fill.write_address_load.Goals as goal
 
--- an instruction's word behind these bytes
+-- an instruction's word after these bytes
 abbrev behind : List ℕ → Instr → Read (List ℕ)
 behind out i = Ok (out ++ word i)
 
