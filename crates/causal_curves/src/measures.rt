@@ -1,7 +1,7 @@
 //! What a visit takes, against the run without a speedup.
 ghost use Rattle.std.specs.Prelude.{◌≡◌, ◌*◌, ◌≤◌, pos, ◌-ℤ◌, ◌*ℤ◌, ◌<ℤ◌, ◌≤ℤ◌};
 ghost use Rattle.std.specs.Int.{int_div_euclid};
-ghost use Rattle.coz_types.specs.declared.TheConstants.{GREATEST_NUMBER, GREATEST_COUNT};
+ghost use Rattle.coz_types.specs.declared.TheConstants.{MAX_NUMBER, MAX_COUNT};
 ghost use Rattle.causal_curves.specs.Curves.{net, visits, value_over};
 ghost use Rattle.causal_curves.specs.Measured.{IsMeasured, most_product};
 
@@ -17,14 +17,14 @@ fn net(summary: &Summary) -> u64
 fn visits(summary: &Summary, point: usize) -> u64
     requires { IsMeasured point summary.now }
     ensures count { result ≡ visits point summary.now }
-    ensures within { result ≤ GREATEST_COUNT }
+    ensures within { result ≤ MAX_COUNT }
 {
     summary.counts.as_slice()[point]
 }
 
 fn product(net: u64, visits: u64) -> i128
-    requires net { net ≤ GREATEST_NUMBER }
-    requires visits { visits ≤ GREATEST_COUNT }
+    requires net { net ≤ MAX_NUMBER }
+    requires visits { visits ≤ MAX_COUNT }
     ensures { result ≡ pos (net * visits) }
 {
     net as i128 * visits as i128

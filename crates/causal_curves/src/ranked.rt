@@ -1,7 +1,7 @@
 //! The curves of a profile, by rank.
 ghost use Rattle.std.specs.Prelude.{◌≡◌, ◌≤◌, ◌++◌, map, length, IfOk, OnOk};
 ghost use Rattle.std.specs.List.{All, AllByRecursion};
-ghost use Rattle.coz_types.specs.declared.TheConstants.{MOST_POINTS};
+ghost use Rattle.coz_types.specs.declared.TheConstants.{MAX_POINTS};
 ghost use Rattle.coz_types.specs.Ranges.{IsSummary};
 ghost use Rattle.causal_curves.specs.Curves.{groups, curve_of, curves_at, curves_of, ranked_curves, IsRanking};
 ghost use Rattle.causal_curves.specs.Measured.{IsMeasured};
@@ -34,7 +34,7 @@ fn push_curves(
 }
 
 fn all_curves(alloc: Global, profile: &Profile) -> Result<Vec<Curve>, AllocError>
-    requires points { length profile.now.points ≤ MOST_POINTS }
+    requires points { length profile.now.points ≤ MAX_POINTS }
     requires summaries { AllByRecursion (IsSummary (length profile.now.points))
         profile.now.summaries }
     ensures { IfOk result (λ curves. curves.items ≡ curves_of profile.now) }
@@ -49,7 +49,7 @@ fn all_curves(alloc: Global, profile: &Profile) -> Result<Vec<Curve>, AllocError
 
 /// The curves of each progress point over each line, by rank.
 pub fn curves(alloc: Global, profile: &Profile) -> Result<Items<Curve>, AllocError>
-    requires points { length profile.now.points ≤ MOST_POINTS }
+    requires points { length profile.now.points ≤ MAX_POINTS }
     requires summaries { AllByRecursion (IsSummary (length profile.now.points))
         profile.now.summaries }
     ensures ranking { IfOk result (IsRanking (curves_of profile.now)) }

@@ -1,7 +1,7 @@
 //! Workers that draw claims from one word, and what all of them give.
 ghost use Rattle.std.specs.Prelude.{◌≡◌, ◌+◌, ◌*◌, ◌≤◌, [], IfOk, All, vec_len};
 ghost use Rattle.std.specs.List.{flat_map, range_with_len};
-ghost use Rattle.coz_types.specs.declared.TheConstants.{MOST_WORKERS};
+ghost use Rattle.coz_types.specs.declared.TheConstants.{MAX_WORKERS};
 ghost use Rattle.coz_types.specs.Ranges.{IsSummary};
 ghost use Rattle.experiment_claims.specs.Drawn.{all_turns, first_hand};
 ghost use Rattle.experiment_claims.specs.Seats.{hand_of, IsSeatOf, bound_of};
@@ -32,7 +32,7 @@ fn deal<W: ClaimWork>(
     requires work { W.is_ready work.now }
     requires seat { IsSeatOf claims.now first × (hand_of first ≡ first_hand) }
     requires bound { bound ≡ bound_of claims.now }
-    requires workers { workers ≤ MOST_WORKERS }
+    requires workers { workers ≤ MAX_WORKERS }
     ensures rest { IfOk result (λ dealt.
         IsSeatOf claims.now dealt.0 × ((hand_of dealt.0).numbers ≡ [])) }
     ensures turns { IfOk result (λ dealt.
@@ -96,7 +96,7 @@ pub fn run_claims<R: Threads + Sync, W: ClaimWork, G: Gate>(
 ) -> Result<Vec<Summary>, AllocError>
     requires work { W.is_ready work.now }
     requires some_workers { 1 ≤ workers }
-    requires few_workers { workers ≤ MOST_WORKERS }
+    requires few_workers { workers ≤ MAX_WORKERS }
     ensures summaries { IfOk result (λ summaries. summaries.items
         ≡ flat_map (W.summaries_of_claim work.now) (range_with_len 0 (W.bound work.now))) }
     ensures ranges { IfOk result (λ summaries.

@@ -9,7 +9,7 @@ use Rattle.image_write.specs.File.{written_file}
 use Rattle.line_index.specs.Lines.{Line, position_named}
 use Rattle.experiment_plan.specs.declared.experiment.Experiment.{Experiment as Pair}
 use Rattle.profile_book.specs.declared.profile.Profile.{Profile}
-use Rattle.coz_types.specs.declared.TheConstants.{LEAST_VERSION}
+use Rattle.coz_types.specs.declared.TheConstants.{MIN_VERSION}
 use Rattle.command_answers.specs.declared.trial.TheConstants.{BUDGET, SELECTED}
 use Rattle.coz_words.specs.Said.{Text}
 use Rattle.command_answers.specs.Experiment.{Runs}
@@ -26,7 +26,7 @@ trial_program source = assembled source.text
 
 -- its file
 unfoldable pub trial_file : Program → List ℕ
-trial_file program = written_file program trial_name LEAST_VERSION
+trial_file program = written_file program trial_name MIN_VERSION
 
 -- a file is that of the assembled program, of which a word has the line
 -- of the progress point

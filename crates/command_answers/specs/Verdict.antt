@@ -4,7 +4,7 @@ use Rattle.std.specs.Prelude.{ℕ, List, [], length, nat_lt, Option, None, Some,
 use Rattle.std.specs.List.{list_all}
 use Rattle.command_answers.specs.declared.experiment.TheConstants.{MAX_INPUT}
 use Rattle.asm_tokens.specs.declared.TheConstants.{MAX_SOURCE}
-use Rattle.experiment_plan.specs.declared.experiment.TheConstants.{MOST_PAIRS}
+use Rattle.experiment_plan.specs.declared.experiment.TheConstants.{MAX_PAIRS}
 use Rattle.coz_types.specs.declared.TheConstants.{MAX_PROGRAM}
 use Rattle.coz_types.specs.declared.record.Summary.{Summary}
 use Rattle.coz_files.specs.Held.{Held, file_at}
@@ -70,7 +70,7 @@ asked_verdict asked print lines runs =
 -- of a plan, if there are at most 100,000 pairs, and of what follows
 abbrev pub plan_verdict : List Pair → (List Pair → Verdict) → Verdict
 plan_verdict pairs next =
-    if nat_lt MOST_PAIRS (length pairs) then refusal 9 (plan_line (length pairs)) else next pairs
+    if nat_lt MAX_PAIRS (length pairs) then refusal 9 (plan_line (length pairs)) else next pairs
 
 -- of the profile that a request asks for
 unfoldable pub profiled_verdict : Request → Judging

@@ -2,7 +2,7 @@
 ghost use Rattle.std.specs.Prelude.{◌≡◌, ◌&&◌, ◌≤◌, ◌<◌, ◌++◌, ℕ, List, length, All, Some, IsSome, IfOk, if◌then◌else◌};
 ghost use Rattle.std.specs.List.{list_all};
 ghost use Rattle.coz_types.specs.declared.LineId.{LineId};
-ghost use Rattle.coz_types.specs.declared.TheConstants.{GREATEST_SPEEDUP, GREATEST_BUDGET};
+ghost use Rattle.coz_types.specs.declared.TheConstants.{MAX_SPEEDUP, MAX_BUDGET};
 ghost use Rattle.progress_points.specs.Points.{IsPoints};
 ghost use Rattle.experiment_plan.specs.Selected.{ids};
 ghost use Rattle.latency_points.specs.Moments.{numbers_of};
@@ -93,7 +93,7 @@ fn asked_latency<'r>(
     ensures points { IfOk result (λ asked.
         IsPoints index.now asked.marked.points.lines asked.marked.points) }
     ensures small { IfOk result (λ asked.
-        All (λ speedup. speedup ≤ GREATEST_SPEEDUP) asked.speedups.items) }
+        All (λ speedup. speedup ≤ MAX_SPEEDUP) asked.speedups.items) }
 {
     let line = line_named(index, bytes_of(&request.line))?;
     let Some(selected) = line else { unreachable!() };
@@ -124,7 +124,7 @@ fn push_latencies<'a>(
     arrive: &[PointId],
     depart: &[PointId],
 ) -> Result<bool, AllocError>
-    requires small { All (λ speedup. speedup ≤ GREATEST_SPEEDUP) speedups.now }
+    requires small { All (λ speedup. speedup ≤ MAX_SPEEDUP) speedups.now }
     requires arguments { arguments machine.old ≡ arguments lead.now }
     ensures text { IfOk result (λ _. text.new.items ≡ text.old.items
         ++ latency_text (numbers_of arrive.now) (numbers_of depart.now)
@@ -161,7 +161,7 @@ fn leads_answer<'r, 'a>(
     machine: &mut Machine<'a>,
     asked: &AskedLatency,
 ) -> Answer<'r>
-    requires small { All (λ speedup. speedup ≤ GREATEST_SPEEDUP) asked.now.speedups.items }
+    requires small { All (λ speedup. speedup ≤ MAX_SPEEDUP) asked.now.speedups.items }
     requires arguments { arguments machine.old ≡ arguments lead.old }
     ensures no_read { IsRead result → ⊥ }
     ensures settled { (IsMemory result → ⊥) → verdict_of result ≡ latency_printed
@@ -198,7 +198,7 @@ fn machine_answer<'r, 'a>(
     requires choice { IsChoice choice }
     requires lead { arguments lead.old
         ≡ arguments_of image.now index.now points.now input.now choice }
-    requires small { All (λ speedup. speedup ≤ GREATEST_SPEEDUP) asked.now.speedups.items }
+    requires small { All (λ speedup. speedup ≤ MAX_SPEEDUP) asked.now.speedups.items }
     ensures no_read { IsRead result → ⊥ }
     ensures settled { (IsMemory result → ⊥) → verdict_of result ≡ latency_printed
         (numbers_of asked.now.marked.arrive.items) (numbers_of asked.now.marked.depart.items)
@@ -221,9 +221,9 @@ fn runs_answer<'r>(
     asked: &AskedLatency,
 ) -> Answer<'r>
     requires some_budget { 1 ≤ budget }
-    requires few { budget ≤ GREATEST_BUDGET }
+    requires few { budget ≤ MAX_BUDGET }
     requires points { IsPoints index.now asked.now.marked.points.lines asked.now.marked.points }
-    requires small { All (λ speedup. speedup ≤ GREATEST_SPEEDUP) asked.now.speedups.items }
+    requires small { All (λ speedup. speedup ≤ MAX_SPEEDUP) asked.now.speedups.items }
     ensures no_read { IsRead result → ⊥ }
     ensures settled { (IsMemory result → ⊥) → verdict_of result ≡ latency_printed
         (numbers_of asked.now.marked.arrive.items) (numbers_of asked.now.marked.depart.items)

@@ -1,6 +1,6 @@
 //! The latency of a run at a speedup, forked from a lead.
 ghost use Rattle.std.specs.Prelude.{◌≡◌, ◌-◌, ◌≤◌, Some, IsSome};
-ghost use Rattle.coz_types.specs.declared.TheConstants.{GREATEST_SPEEDUP};
+ghost use Rattle.coz_types.specs.declared.TheConstants.{MAX_SPEEDUP};
 ghost use Rattle.coz_types.specs.declared.ending.Ending.{Ending};
 ghost use Rattle.machines.specs.Records.{net, record_of};
 ghost use Rattle.machines.specs.Standing.{delayed_record};
@@ -71,7 +71,7 @@ pub fn latency_at<'a>(
     arrive: &[PointId],
     depart: &[PointId],
 ) -> RunLatency
-    requires small { speedup ≤ GREATEST_SPEEDUP }
+    requires small { speedup ≤ MAX_SPEEDUP }
     requires arguments { arguments machine.old ≡ arguments lead.now }
     ensures arguments { arguments machine.new ≡ arguments lead.now }
     ensures measured { result ≡ measured_in arrive.now depart.now

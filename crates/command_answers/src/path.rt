@@ -3,7 +3,7 @@ ghost use Rattle.std.specs.Prelude.{◌≡◌, ◌≤◌, length, IfOk, IfSome, 
 ghost use Rattle.coz_types.specs.declared.TheConstants.{MAX_PROGRAM};
 ghost use Rattle.coz_files.specs.Faults.{Rose};
 ghost use Rattle.line_index.specs.Index.{position_at};
-ghost use Rattle.critical_chains.specs.declared.TheConstants.{MOST_EVENTS};
+ghost use Rattle.critical_chains.specs.declared.TheConstants.{MAX_EVENTS};
 ghost use Rattle.path_texts.specs.PathText.{written_path};
 ghost use Rattle.command_answers.specs.Experiment.{runs_in};
 ghost use Rattle.command_answers.specs.CriticalPath.{path_on, path_printed, plain_run};
@@ -27,7 +27,7 @@ use std::alloc::{AllocError, Global};
 /// Err tells the first fault of the files, the program or its line table, or of memory.
 pub fn judge_path<'r, F: Files>(alloc: Global, request: &'r Request, files: &mut F) -> Answer<'r>
     requires some_budget { 1 ≤ request.now.budget }
-    requires few { request.now.budget ≤ MOST_EVENTS }
+    requires few { request.now.budget ≤ MAX_EVENTS }
     ensures same { F.held files.new ≡ F.held files.old }
     ensures suits { Suits request.now result }
     ensures settled { IfSome (F.held files.old) (λ held. (IsMemory result → ⊥) →
@@ -49,7 +49,7 @@ pub fn judge_path<'r, F: Files>(alloc: Global, request: &'r Request, files: &mut
 fn file_answer<'r>(alloc: Global, file: &[u8], input: &[u8], budget: u64) -> Answer<'r>
     requires short { length file.now ≤ MAX_PROGRAM }
     requires some_budget { 1 ≤ budget }
-    requires few { budget ≤ MOST_EVENTS }
+    requires few { budget ≤ MAX_EVENTS }
     ensures no_read { IsRead result → ⊥ }
     ensures settled { (IsMemory result → ⊥)
         → verdict_of result ≡ path_on budget file.now input.now }
@@ -86,7 +86,7 @@ fn found_path(
     budget: u64,
 ) -> Result<CriticalPath, AllocError>
     requires some_budget { 1 ≤ budget }
-    requires few { budget ≤ MOST_EVENTS }
+    requires few { budget ≤ MAX_EVENTS }
     ensures { IfOk result (λ path.
         ended_verdict path.trace.ending (written_path path index.now)
         ≡ path_printed (plain_run (runs_in image.now index.now input.now) budget)

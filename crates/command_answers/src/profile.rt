@@ -4,7 +4,7 @@ ghost use Rattle.std.specs.List.{list_all};
 ghost use Rattle.std.specs.List.Sorted.{IsStrictlySortedBy};
 ghost use Rattle.std.specs.Ordering.{nat_cmp};
 ghost use Rattle.coz_types.specs.declared.LineId.{LineId};
-ghost use Rattle.coz_types.specs.declared.TheConstants.{GREATEST_SPEEDUP, MOST_POINTS};
+ghost use Rattle.coz_types.specs.declared.TheConstants.{MAX_SPEEDUP, MAX_POINTS};
 ghost use Rattle.coz_types.specs.declared.record.Summary.{Summary};
 ghost use Rattle.progress_points.specs.Points.{IsPoints};
 ghost use Rattle.experiment_plan.specs.declared.experiment.Experiment.{Experiment};
@@ -36,7 +36,7 @@ fn point_labels(
     index: &LineIndex,
     points: &Points,
 ) -> Result<Items<Label>, AllocError>
-    requires few { length points.now.lines ≤ MOST_POINTS }
+    requires few { length points.now.lines ≤ MAX_POINTS }
     requires below { All (λ line. line < length index.now.lines) points.now.lines }
     ensures { IfOk result (λ labels. labels ≡ map (label_at index.now.lines) points.now.lines) }
 {
@@ -82,7 +82,7 @@ fn printed_profile(profile: Profile) -> Printed
 /// The plan of these lines and speedups, if it isn't too large.
 fn planned<'r>(alloc: Global, lines: &[LineId], speedups: &[u8]) -> Result<Plan, Fault<'r>>
     requires rising { IsStrictlySortedBy nat_cmp (ids lines.now) }
-    requires small { All (λ speedup. speedup ≤ GREATEST_SPEEDUP) speedups.now }
+    requires small { All (λ speedup. speedup ≤ MAX_SPEEDUP) speedups.now }
     ensures no_read { IsRead result → ⊥ }
     ensures settled { (IsMemory result → ⊥) → (next : List Experiment → Verdict) →
         verdict_after result next ≡ plan_verdict (pairs_of (ids lines.now) speedups.now) next }
@@ -114,7 +114,7 @@ fn asked_plan<'r>(
         (profile_of runs index.now.lines request.now.budget asked.points.lines asked.plan))
         ≡ profiled_verdict request.now index.now.lines runs }
     ensures points { IfOk result (λ asked. IsPoints index.now asked.points.lines asked.points) }
-    ensures few { IfOk result (λ asked. length asked.points.lines ≤ MOST_POINTS) }
+    ensures few { IfOk result (λ asked. length asked.points.lines ≤ MAX_POINTS) }
     ensures below { IfOk result (λ asked.
         All (λ line. line < length index.now.lines) asked.points.lines) }
     ensures lines { IfOk result (λ asked.
@@ -143,7 +143,7 @@ fn plan_answer<'r, R: Threads + Sync, G: Gate>(
     requires some_budget { 1 ≤ request.now.budget }
     requires some_workers { 1 ≤ request.now.workers }
     requires points { IsPoints index.now points.now.lines points.now }
-    requires few { length points.now.lines ≤ MOST_POINTS }
+    requires few { length points.now.lines ≤ MAX_POINTS }
     requires below { All (λ line. line < length index.now.lines) points.now.lines }
     requires lines { All (λ (pair : Experiment). pair.line.0 < length index.now.lines) plan.now }
     ensures no_read { IsRead result → ⊥ }

@@ -3,10 +3,10 @@ ghost use Rattle.std.specs.Prelude.{◌≡◌, ◌<◌, ◌≤◌, [], ◌∷◌
 ghost use Rattle.std.specs.List.{AllByRecursion};
 ghost use Rattle.std.specs.List.Sorted.{IsStrictlySortedBy};
 ghost use Rattle.std.specs.Ordering.{nat_cmp};
-ghost use Rattle.coz_types.specs.declared.TheConstants.{MOST_POINTS, MOST_WORKERS, GREATEST_SIZE};
+ghost use Rattle.coz_types.specs.declared.TheConstants.{MAX_POINTS, MAX_WORKERS, MAX_SIZE};
 ghost use Rattle.coz_types.specs.Ranges.{IsSummary};
 ghost use Rattle.coz_types.specs.declared.LineId.{LineId};
-ghost use Rattle.work_gen.specs.declared.TheConstants.{MOST_TEXT};
+ghost use Rattle.work_gen.specs.declared.TheConstants.{MAX_TEXT};
 ghost use Rattle.work_gen.specs.Text.{view};
 ghost use Rattle.work_gen.specs.Accepted.{IsAccepted};
 ghost use Rattle.experiment_plan.specs.Selected.{ids};
@@ -22,7 +22,7 @@ use crate::answer::Answer;
 use crate::profile::profile_status;
 use coz_files::Gate;
 use coz_lists::Items;
-use coz_types::{Image, LEAST_VERSION, Label, LineId, Summary};
+use coz_types::{Image, Label, LineId, MIN_VERSION, Summary};
 use coz_words::Request;
 use experiment_plan::{Plan, plan};
 use image_write::write_elf;
@@ -51,12 +51,12 @@ const BUDGET: u64 = 100_000_000;
 #[tactic(auto, unfolding(crate::specs::Trial::trial_program, crate::specs::Trial::trial_file))]
 fn trial_file<'r>(alloc: Global, source: &Generated) -> Result<Vec<u8>, Fault<'r>>
     requires accepted { IsAccepted (view source.now) }
-    requires short { length source.now.text ≤ MOST_TEXT }
+    requires short { length source.now.text ≤ MAX_TEXT }
     ensures file { IfOk result (λ file. IsTrialFile (view source.now) file.items) }
     ensures memory { IfErr result IsMemoryFault }
 {
     let assembled = assemble(alloc, source.text.as_slice())?;
-    let file = write_elf(alloc, &assembled, NAME, LEAST_VERSION)?;
+    let file = write_elf(alloc, &assembled, NAME, MIN_VERSION)?;
     Ok(file)
 }
 
@@ -125,7 +125,7 @@ fn trial_summaries<'r, R: Threads + Sync, G: Gate>(
 ) -> Result<Items<Summary>, Fault<'r>>
     requires point { point.0 < length index.now.lines }
     requires some_workers { 1 ≤ workers }
-    requires few_workers { workers ≤ MOST_WORKERS }
+    requires few_workers { workers ≤ MAX_WORKERS }
     ensures summaries { IfOk result (λ summaries. summaries ≡
         (trial_profile (runs_in image.now index.now []) index.now.lines point.0).summaries) }
     ensures ranges { IfOk result (AllByRecursion (IsSummary 1)) }
@@ -160,7 +160,7 @@ fn trial_profile<'r, R: Threads + Sync, G: Gate>(
 ) -> Result<Profile, Fault<'r>>
     requires point { point.0 < length index.now.lines }
     requires some_workers { 1 ≤ workers }
-    requires few_workers { workers ≤ MOST_WORKERS }
+    requires few_workers { workers ≤ MAX_WORKERS }
     ensures profile { IfOk result (λ profile.
         profile ≡ trial_profile (runs_in image.now index.now []) index.now.lines point.0) }
     ensures points { IfOk result (λ profile. length profile.points ≡ 1) }
@@ -185,7 +185,7 @@ fn printed_trial<'r>(
     index: &LineIndex,
     profile: &Profile,
 ) -> Answer<'r>
-    requires points { length profile.now.points ≤ MOST_POINTS }
+    requires points { length profile.now.points ≤ MAX_POINTS }
     requires ranges { AllByRecursion (IsSummary (length profile.now.points)) profile.now.summaries }
     requires whole { length profile.now.summaries ≡ length (trial_plan index.now.lines) }
     ensures { IsOfTrial (trial_printed (view source.now) index.now.lines profile.now) result }
@@ -209,7 +209,7 @@ fn index_answer<'r, R: Threads + Sync, G: Gate>(
 ) -> Answer<'r>
     requires point { IsOk (trial_point source.now.point index.now.lines) }
     requires some_workers { 1 ≤ workers }
-    requires few_workers { workers ≤ MOST_WORKERS }
+    requires few_workers { workers ≤ MAX_WORKERS }
     ensures { IsOfTrial (trial_judging (view source.now)
         index.now.lines (runs_in image.now index.now [])) result }
 {
@@ -232,7 +232,7 @@ fn file_answer<'r, R: Threads + Sync, G: Gate>(
 ) -> Answer<'r>
     requires file { IsTrialFile (view source.now) file.now }
     requires some_workers { 1 ≤ workers }
-    requires few_workers { workers ≤ MOST_WORKERS }
+    requires few_workers { workers ≤ MAX_WORKERS }
     ensures { IsOfTrial (file_verdict (trial_judging (view source.now)) file.now []) result }
 {
     let program = read_program(alloc, file)?;
@@ -259,9 +259,9 @@ pub fn judge_trial<'r, R: Threads + Sync, G: Gate>(
     gate: &G,
 ) -> Answer<'r>
     requires least { 1 ≤ request.now.size }
-    requires most { request.now.size ≤ GREATEST_SIZE }
+    requires most { request.now.size ≤ MAX_SIZE }
     requires some_workers { 1 ≤ request.now.workers }
-    requires few_workers { request.now.workers ≤ MOST_WORKERS }
+    requires few_workers { request.now.workers ≤ MAX_WORKERS }
     ensures { IsOfTrial (trial_verdict request.now.seed request.now.size) result }
 {
     let source = source(alloc, request.seed, request.size)?;

@@ -9,8 +9,8 @@
 -- Nothing is claimed of real hardware: costs, schedule and a hart for each thread are definitions.
 use Rattle.std.specs.Prelude.{◌≡◌, List, ℕ, [], Option, None, Some, Ok, All, ◌≤◌, length}
 use Rattle.std.specs.Io.KnownBytes.{Appends}
-use Rattle.experiment_plan.specs.declared.experiment.TheConstants.{MOST_PAIRS}
-use Rattle.coz_types.specs.declared.TheConstants.{MOST_POINTS}
+use Rattle.experiment_plan.specs.declared.experiment.TheConstants.{MAX_PAIRS}
+use Rattle.coz_types.specs.declared.TheConstants.{MAX_POINTS}
 use Rattle.coz_types.specs.Image.{ImageParts}
 use Rattle.coz_files.specs.Held.{Held, file_at}
 use Rattle.elf_load.specs.Loaded.{load_answer}
@@ -59,7 +59,7 @@ pub record IsAsked (held : Held) (asked : Request) (x : Experiment Guest) : Type
   pub lines : table_in file ≡ Ok table
   pub line_is : line_named (lines_in table image.areas) asked.line ≡ Ok selected
   pub points_are : lines_named (lines_in table image.areas) [] asked.progress ≡ Ok points
-  pub few : length points ≤ MOST_POINTS
+  pub few : length points ≤ MAX_POINTS
   pub experiment : x
       ≡ experiment_by_table image table input (choice_of selected asked.speedup asked.budget) points
 
@@ -103,9 +103,9 @@ pub record IsPlanned (held : Held) (asked : Request) (runs : Runs) (lines : List
   pub lines_are : lines ≡ lines_in table image.areas
   pub selected_are : lines_named lines (all_lines lines) asked.lines ≡ Ok selected
   pub points_are : lines_named lines [] asked.progress ≡ Ok points
-  pub few_points : length points ≤ MOST_POINTS
+  pub few_points : length points ≤ MAX_POINTS
   pub planned : pairs ≡ pairs_of selected asked.speedups
-  pub few_pairs : length pairs ≤ MOST_PAIRS
+  pub few_pairs : length pairs ≤ MAX_PAIRS
 
 -- After what was held before there is now the text of a profile: of the budget,
 -- the points' labels, and of each pair of the plan, in its order, the summary of the record with
@@ -178,7 +178,7 @@ pub record IsMeasured (held : Held) (asked : Request) (runs : ℕ → Experiment
   pub line_is : line_named (lines_in table image.areas) asked.line ≡ Ok selected
   pub arrivals_are : lines_named (lines_in table image.areas) [] asked.arrive ≡ Ok arrivals
   pub departures_are : lines_named (lines_in table image.areas) [] asked.depart ≡ Ok departures
-  pub few : length (lines_of_both arrivals departures) ≤ MOST_POINTS
+  pub few : length (lines_of_both arrivals departures) ≤ MAX_POINTS
   pub runs_are : runs ≡ at_each (experiment_by_table image table input) selected asked.budget
       (lines_of_both arrivals departures)
   pub arrive_is : arrive ≡ places_among (lines_of_both arrivals departures) arrivals

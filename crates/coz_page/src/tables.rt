@@ -13,7 +13,7 @@ use coz_types::Label;
 use profile_book::put_number;
 
 /// How many lines are shown of each point.
-const MOST_SHOWN: usize = 20;
+const MAX_SHOWN: usize = 20;
 
 fn put_row<O: Sink>(to: &mut PutBuffer, out: &mut O, curve: &Curve)
     ensures { Gathers O.holds O.faults out.old out.new to.old to.new (row_text curve.now) }
@@ -58,7 +58,7 @@ fn put_figures<O: Sink>(to: &mut PutBuffer, out: &mut O, top: u64, curves: &[Cur
 fn put_count<O: Sink>(to: &mut PutBuffer, out: &mut O, lines: u64)
     ensures { Gathers O.holds O.faults out.old out.new to.old to.new (count_text lines) }
 {
-    let shown = lines.min(MOST_SHOWN as u64);
+    let shown = lines.min(MAX_SHOWN as u64);
     put_number(to, out, b"</table>\n<p>Lines: ", lines);
     put_number(to, out, b". Shown, the best first: ", shown);
     put_number(to, out, b". Not shown: ", lines - shown);
@@ -101,7 +101,7 @@ pub fn put_point<O: Sink>(to: &mut PutBuffer, out: &mut O, points: &[Label], cur
     ensures { Gathers O.holds O.faults out.old out.new to.old to.new
         (point_text points.now curves.now) }
 {
-    let count = MOST_SHOWN.min(curves.len());
+    let count = MAX_SHOWN.min(curves.len());
     let shown = &curves[..count];
     let name = point_name(points, curves);
     put_label(

@@ -4,12 +4,12 @@ use Rattle.std.specs.Prelude.{◌&&◌, not}
 use Rattle.std.proofs.lemmas.Bool.{and_parts}
 use Rattle.std.proofs.lemmas.List.Elements.{All-from_recursion}
 use Rattle.std.proofs.lemmas.List.Kept.{AllPairs-cons}
-use Rattle.coz_types.specs.declared.TheConstants.{PAGE, LOAD_END, MOST_LOADED}
+use Rattle.coz_types.specs.declared.TheConstants.{PAGE, LOAD_END, MAX_LOADED}
 use Rattle.coz_types.specs.declared.image.Area.{Area}
 use Rattle.coz_types.specs.Image.{IsAreaOf, IsImage, IsExecutableAt, AreApart, area_end}
 
 one_area : (file : List ℕ) (area : Area) (entry headers header_count : ℕ)
-    → IsAreaOf file area → area.size ≤ MOST_LOADED → entry % 4 ≡ 0 → IsExecutableAt entry area
+    → IsAreaOf file area → area.size ≤ MAX_LOADED → entry % 4 ≡ 0 → IsExecutableAt entry area
     → IsImage (record { file = file; areas = area ∷ []; entry = entry; headers = headers; header_count = header_count })
 one_area file area entry headers header_count is fits aligned entered = record {
   each = All-from_recursion (IsAreaOf file) (area ∷ []) (is, tt);
@@ -23,7 +23,7 @@ one_area file area entry headers header_count is fits aligned entered = record {
 -- whether an area of text that is filled with n bytes of a file may be all that is loaded of it
 abbrev pub is_text : ℕ → Area → ℕ → Bool
 is_text bytes area entry =
-    (area.start % PAGE == 0) && ((area.size % PAGE == 0) && (nat_le area.size MOST_LOADED && (nat_le PAGE area.start && (nat_le (area_end area) LOAD_END
+    (area.start % PAGE == 0) && ((area.size % PAGE == 0) && (nat_le area.size MAX_LOADED && (nat_le PAGE area.start && (nat_le (area_end area) LOAD_END
     && (nat_le area.start area.vaddr && (nat_lt area.vaddr (area_end area) && (nat_le (area.vaddr + area.filled) (area_end area) && (nat_le (area.offset + area.filled) bytes
     && (not area.rights.write && (area.rights.execute && ((entry % 4 == 0) && (nat_le area.start entry && nat_lt entry (area_end area)))))))))))))
 
@@ -33,7 +33,7 @@ pub one_text : (file : List ℕ) (area : Area) (entry headers header_count bytes
 one_text file area entry headers header_count bytes has e =
     let p1 = and_parts (area.start % PAGE == 0) _ e in
     let p2 = and_parts (area.size % PAGE == 0) _ p1.1 in
-    let p3 = and_parts (nat_le area.size MOST_LOADED) _ p2.1 in
+    let p3 = and_parts (nat_le area.size MAX_LOADED) _ p2.1 in
     let p4 = and_parts (nat_le PAGE area.start) _ p3.1 in
     let p5 = and_parts (nat_le (area_end area) LOAD_END) _ p4.1 in
     let p6 = and_parts (nat_le area.start area.vaddr) _ p5.1 in

@@ -4,7 +4,7 @@ use Rattle.std.specs.Str.{bytes_eq}
 use Rattle.std.specs.Str.Parse.{digits_value}
 use Rattle.std.specs.Cmp.Lexicographic.{slice_cmp}
 use Rattle.std.specs.Ordering.{is_lt, nat_cmp, ordering_then}
-use Rattle.coz_types.specs.declared.TheConstants.{GREATEST_LINE}
+use Rattle.coz_types.specs.declared.TheConstants.{MAX_LINE}
 
 abbrev pub Text : Type 0
 Text = List ℕ
@@ -80,7 +80,7 @@ parts_of (b ∷ rest) = elim (parts_of rest) [
 
 -- the number of a line, or 0 where the text is no spelling of one
 abbrev pub line_number : Text → ℕ
-line_number text = if is_decimal GREATEST_LINE text then digits_value 10 text else 0
+line_number text = if is_decimal MAX_LINE text then digits_value 10 text else 0
 
 -- the written path and the number of a label
 abbrev pub path_of : Text → Text

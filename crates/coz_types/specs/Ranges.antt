@@ -1,7 +1,7 @@
 -- The ranges of what a profile says of one run.
 use Rattle.std.specs.Prelude.{◌≡◌, ◌≤◌, ℕ, ◌-◌, Bool, ◌&&◌, nat_lt, nat_le, true, List, length}
 use Rattle.std.specs.List.{list_all}
-use Rattle.coz_types.specs.declared.TheConstants.{GREATEST_SPEEDUP, GREATEST_NUMBER, GREATEST_COUNT, HARTS}
+use Rattle.coz_types.specs.declared.TheConstants.{MAX_SPEEDUP, MAX_NUMBER, MAX_COUNT, HARTS}
 use Rattle.coz_types.specs.Labels.{is_label}
 use Rattle.coz_types.specs.declared.ending.Ending.{Ending}
 use Rattle.coz_types.specs.declared.ending.Ending.TheVariants.{Exited, Trapped, Unsupported, Clock, OutputFull, VisitsFull, Stalled, Spent}
@@ -30,14 +30,14 @@ pub record IsDigest (bytes : List ℕ) : Type 0 where
 -- a summary of a run with `points` progress points
 pub record IsSummary (points : ℕ) (s : Summary) : Type 0 where
   pub selected : is_label s.selected ≡ true
-  pub speedup : s.speedup ≤ GREATEST_SPEEDUP
+  pub speedup : s.speedup ≤ MAX_SPEEDUP
   pub ending : is_ending s.outcome.ending ≡ true
-  pub time : s.outcome.time ≤ GREATEST_NUMBER
+  pub time : s.outcome.time ≤ MAX_NUMBER
   pub delay : s.outcome.delay ≤ s.outcome.time
-  pub retired : s.outcome.retired ≤ GREATEST_NUMBER
-  pub starts : s.outcome.starts ≤ GREATEST_NUMBER
-  pub size : s.length ≤ GREATEST_NUMBER
+  pub retired : s.outcome.retired ≤ MAX_NUMBER
+  pub starts : s.outcome.starts ≤ MAX_NUMBER
+  pub size : s.length ≤ MAX_NUMBER
   pub output : IsDigest s.output.bytes
   pub visits : IsDigest s.visits.bytes
   pub counts : length s.counts ≡ points
-  pub deltas : list_all (λ n. nat_le n GREATEST_COUNT) s.counts ≡ true
+  pub deltas : list_all (λ n. nat_le n MAX_COUNT) s.counts ≡ true

@@ -2,7 +2,7 @@
 use Rattle.std.specs.Prelude.{◌≡◌, ℕ, ◌≤◌, Bool, not, ◌&&◌, ◌==◌, ◌^◌, nat_lt, nat_le, true, false, List, [], ◌∷◌, length, codes, Option, Some, None, IfSome, is_some, if◌then◌else◌, option_and_then, find}
 use Rattle.std.specs.List.{list_all, list_any}
 use Rattle.std.specs.Str.{bytes_eq}
-use Rattle.coz_types.specs.declared.TheConstants.{GREATEST_SPEEDUP, MOST_WORKERS, GREATEST_SIZE, LEAST_VERSION, GREATEST_VERSION, MAX_WORD}
+use Rattle.coz_types.specs.declared.TheConstants.{MAX_SPEEDUP, MAX_WORKERS, MAX_SIZE, MIN_VERSION, MAX_VERSION, MAX_WORD}
 use Rattle.coz_types.specs.Ranges.{last_word}
 use Rattle.coz_words.specs.Said.{Text, Item, option, target, SaysAll}
 use Rattle.experiment_plan.specs.Lists.{number_in, is_line, is_list, pieces}
@@ -188,7 +188,7 @@ number_or c name usual least most (Some number) = number_in least most number
 abbrev pub speedup_in : Option Text → Option Text → Option ℕ
 speedup_in line None = Some 0
 speedup_in None (Some number) = None
-speedup_in (Some line) (Some number) = number_in 0 GREATEST_SPEEDUP number
+speedup_in (Some line) (Some number) = number_in 0 MAX_SPEEDUP number
 
 -- what a source is made from is the positional of `trial`, a number; other commands make none
 abbrev pub seed_in : Command → Text → Option ℕ
@@ -216,7 +216,7 @@ all_speedups =
 -- the speedups, as they were given
 abbrev pub speedups_in : Command → Option Text → Option (List ℕ)
 speedups_in c None = Some (if has_option c speedups_name then all_speedups else [])
-speedups_in c (Some numbers) = numbers_in 0 GREATEST_SPEEDUP (pieces numbers)
+speedups_in c (Some numbers) = numbers_in 0 MAX_SPEEDUP (pieces numbers)
 
 -- ---- the request
 
@@ -225,9 +225,9 @@ speedups_in c (Some numbers) = numbers_in 0 GREATEST_SPEEDUP (pieces numbers)
 abbrev pub counts_with : Command → Text → (Text → Option Text) → Option Counts
 counts_with c text value =
     number_or c budget_name (usual_budget c) 1 (greatest_budget c) (value budget_name) >>= λ budget.
-    number_or c workers_name USUAL_WORKERS 1 MOST_WORKERS (value workers_name) >>= λ workers.
-    number_or c size_name USUAL_SIZE 1 GREATEST_SIZE (value size_name) >>= λ size.
-    number_or c dwarf_name LEAST_VERSION LEAST_VERSION GREATEST_VERSION (value dwarf_name)
+    number_or c workers_name USUAL_WORKERS 1 MAX_WORKERS (value workers_name) >>= λ workers.
+    number_or c size_name USUAL_SIZE 1 MAX_SIZE (value size_name) >>= λ size.
+    number_or c dwarf_name MIN_VERSION MIN_VERSION MAX_VERSION (value dwarf_name)
     >>= λ dwarf.
     seed_in c text >>= λ seed.
     Some (record { budget = budget; workers = workers; size = size; dwarf = dwarf; seed = seed })
@@ -283,7 +283,7 @@ pub record IsFit (request : Request) : Type 0 where
   pub some : nat_lt 0 (length request.target) ≡ true
   pub word : is_word request.target ≡ true
   pub line : IfSome request.line (λ text. is_line text ≡ true)
-  pub speedup : request.speedup ≤ GREATEST_SPEEDUP
+  pub speedup : request.speedup ≤ MAX_SPEEDUP
   -- a speedup is of a line
   pub no_speedup : request.line ≡ None → request.speedup ≡ 0
   pub lines : IfSome request.lines (λ text. is_list text ≡ true)
@@ -291,18 +291,18 @@ pub record IsFit (request : Request) : Type 0 where
   pub arrive : IfSome request.arrive (λ text. is_list text ≡ true)
   pub depart : IfSome request.depart (λ text. is_list text ≡ true)
   pub needed : has_needed request.command request.line request.arrive request.depart ≡ true
-  pub speedups : list_all (λ p. nat_le p GREATEST_SPEEDUP) request.speedups ≡ true
+  pub speedups : list_all (λ p. nat_le p MAX_SPEEDUP) request.speedups ≡ true
   pub some_budget : is_runner request.command ≡ true → 1 ≤ request.budget
   pub budget : request.budget ≤ greatest_budget request.command
   pub some_workers : has_option request.command workers_name ≡ true → 1 ≤ request.workers
-  pub workers : request.workers ≤ MOST_WORKERS
+  pub workers : request.workers ≤ MAX_WORKERS
   pub some_size : has_option request.command size_name ≡ true → 1 ≤ request.size
-  pub size : request.size ≤ GREATEST_SIZE
+  pub size : request.size ≤ MAX_SIZE
   -- what a trial is made from is its positional
   pub seed : seed_in request.command request.target ≡ Some request.seed
   -- 4 or 5 where the command has a version
-  pub some_dwarf : has_option request.command dwarf_name ≡ true → LEAST_VERSION ≤ request.dwarf
-  pub dwarf : request.dwarf ≤ GREATEST_VERSION
+  pub some_dwarf : has_option request.command dwarf_name ≡ true → MIN_VERSION ≤ request.dwarf
+  pub dwarf : request.dwarf ≤ MAX_VERSION
 
 -- the words make this request: a command, and items that are right for it
 pub record Requests (words : List Text) (request : Request) : Type 0 where

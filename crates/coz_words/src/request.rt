@@ -20,7 +20,7 @@ use crate::value::{
 use crate::word::{Word, copied_pair};
 use clap::ArgMatches;
 use coz_lists::Items;
-use coz_types::{GREATEST_SIZE, MOST_WORKERS};
+use coz_types::{MAX_SIZE, MAX_WORKERS};
 use std::alloc::{AllocError, AllocFailed, Global};
 
 /// The workers where the words name none.
@@ -129,7 +129,7 @@ fn counts_of(command: Command, matches: &ArgMatches, target: &str) -> Result<Cou
         "workers",
         USUAL_WORKERS,
         1,
-        MOST_WORKERS,
+        MAX_WORKERS,
         text_of(command, matches, "workers"),
     )?;
     let size = number_or(
@@ -137,7 +137,7 @@ fn counts_of(command: Command, matches: &ArgMatches, target: &str) -> Result<Cou
         "size",
         USUAL_SIZE,
         1,
-        GREATEST_SIZE,
+        MAX_SIZE,
         text_of(command, matches, "size"),
     )?;
     let dwarf = version_of(command, text_of(command, matches, "dwarf"))?;

@@ -1,7 +1,7 @@
 //! What the values of options mean.
 ghost use Rattle.std.specs.Prelude.{◌≡◌, ◌&&◌};
 ghost use Rattle.std.specs.Option.{option_copied};
-ghost use Rattle.coz_types.specs.declared.TheConstants.{LEAST_VERSION, GREATEST_VERSION};
+ghost use Rattle.coz_types.specs.declared.TheConstants.{MIN_VERSION, MAX_VERSION};
 ghost use Rattle.experiment_plan.specs.Lists.{is_line, is_list, number_in, pieces};
 ghost use Rattle.coz_words.specs.Answers.{Answers};
 ghost use Rattle.coz_words.specs.Request.{dwarf_name, greatest_budget, has_needed, none_or, number_or, numbers_in, seed_in, speedup_in, speedups_in, usual_budget};
@@ -9,7 +9,7 @@ ghost use Rattle.coz_words.specs.Request.{dwarf_name, greatest_budget, has_neede
 use crate::command::{Command, has_option};
 use crate::request::WordsError;
 use coz_lists::Items;
-use coz_types::{GREATEST_BUDGET, GREATEST_SPEEDUP, GREATEST_VERSION, LEAST_VERSION};
+use coz_types::{MAX_BUDGET, MAX_SPEEDUP, MAX_VERSION, MIN_VERSION};
 use experiment_plan::{first_piece, is_line, is_list, number_in};
 use std::alloc::Global;
 
@@ -18,7 +18,7 @@ const USUAL_BUDGET: u64 = 100_000_000;
 /// The budget of a run whose critical path is asked for, where the words give none.
 const USUAL_PATH_BUDGET: u64 = 1_000_000;
 /// The greatest budget of such a run: each instruction takes up to 80 bytes.
-const GREATEST_PATH_BUDGET: u64 = 4_000_000;
+const MAX_PATH_BUDGET: u64 = 4_000_000;
 
 /// The speedups, in percent, where the words give none.
 static ALL_SPEEDUPS: [u8; 20] = [
@@ -71,8 +71,8 @@ pub fn greatest_budget(command: Command) -> u64
     ensures { result ≡ greatest_budget command }
 {
     match command {
-        Command::Path => GREATEST_PATH_BUDGET,
-        _ => GREATEST_BUDGET,
+        Command::Path => MAX_PATH_BUDGET,
+        _ => MAX_BUDGET,
     }
 }
 
@@ -108,9 +108,9 @@ pub fn speedup_of(line: Option<&str>, text: Option<&str>) -> Result<u8, WordsErr
 }
 
 fn speedup_in(text: &[u8]) -> Result<u8, WordsError>
-    ensures { Answers (number_in 0 GREATEST_SPEEDUP text.now) result }
+    ensures { Answers (number_in 0 MAX_SPEEDUP text.now) result }
 {
-    match number_in(text, 0, GREATEST_SPEEDUP) {
+    match number_in(text, 0, MAX_SPEEDUP) {
         Some(speedup) => Ok(speedup as u8),
         None => Err(WordsError::Usage),
     }
@@ -119,13 +119,13 @@ fn speedup_in(text: &[u8]) -> Result<u8, WordsError>
 /// The version of a line table. Where no text is given, it is the least,
 /// or 0 where the command lacks the option.
 pub fn version_of(command: Command, text: Option<&str>) -> Result<u8, WordsError>
-    ensures { Answers (number_or command dwarf_name LEAST_VERSION LEAST_VERSION GREATEST_VERSION
+    ensures { Answers (number_or command dwarf_name MIN_VERSION MIN_VERSION MAX_VERSION
         (option_copied text.entry)) result }
 {
     match text {
         Some(number) => version_in(number.as_bytes()),
         None => Ok(if has_option(command, "dwarf") {
-            LEAST_VERSION
+            MIN_VERSION
         } else {
             0
         }),
@@ -133,9 +133,9 @@ pub fn version_of(command: Command, text: Option<&str>) -> Result<u8, WordsError
 }
 
 fn version_in(text: &[u8]) -> Result<u8, WordsError>
-    ensures { Answers (number_in LEAST_VERSION GREATEST_VERSION text.now) result }
+    ensures { Answers (number_in MIN_VERSION MAX_VERSION text.now) result }
 {
-    match number_in(text, u64::from(LEAST_VERSION), u64::from(GREATEST_VERSION)) {
+    match number_in(text, u64::from(MIN_VERSION), u64::from(MAX_VERSION)) {
         Some(version) => Ok(version as u8),
         None => Err(WordsError::Usage),
     }
@@ -153,7 +153,7 @@ pub fn seed_of(command: Command, target: &str) -> Result<u64, WordsError>
 
 /// The speedups of a list with a comma between, in percent, as they were given.
 fn speedups_in(alloc: Global, text: &[u8]) -> Result<Items<u8>, WordsError>
-    ensures { Answers (numbers_in 0 GREATEST_SPEEDUP (pieces text.now)) result }
+    ensures { Answers (numbers_in 0 MAX_SPEEDUP (pieces text.now)) result }
 {
     let mut speedups = Vec::new(alloc);
     let mut left = Some(text);

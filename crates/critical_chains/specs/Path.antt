@@ -1,7 +1,7 @@
 -- Chains of events, when a chain shows how long a run was, and the chain that is shown of a run.
 use Rattle.std.specs.Prelude.{◌≡◌, ℕ, zero, suc, ◌+◌, ◌-◌, ◌≤◌, ◌<◌, ◌⊎◌, ◌++◌, List, [], ◌∷◌, length, sum_by, All, slice_get, slice_index_or, EachIndex, Option, Some, None}
 use Rattle.std.specs.Option.{ForSome}
-use Rattle.critical_chains.specs.declared.TheConstants.{MOST_EVENTS}
+use Rattle.critical_chains.specs.declared.TheConstants.{MAX_EVENTS}
 use Rattle.critical_chains.specs.declared.event.Event.{Event}
 
 -- stands where there is no event
@@ -79,7 +79,7 @@ IsDue events i (Some p) =
 -- the events of a run hang together
 pub record Linked (events : List Event) : Type 0 where
   pub some : 1 ≤ length events
-  pub few : length events ≤ MOST_EVENTS
+  pub few : length events ≤ MAX_EVENTS
   pub rising : (i j : ℕ) → i ≤ j → j < length events
       → (event_at events i).due ≤ (event_at events j).due
   pub due : EachIndex events (λ i. IsDue events i (event_at events i).from)

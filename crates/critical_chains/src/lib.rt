@@ -12,4 +12,4 @@ pub use checked::check;
 pub use event::{Event, Trace};
 
 /// The most events of a run whose critical path is asked for.
-pub const MOST_EVENTS: u64 = 4_000_000;
+pub const MAX_EVENTS: u64 = 4_000_000;

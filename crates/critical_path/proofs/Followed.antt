@@ -11,7 +11,7 @@ use Rattle.machines.proofs.Harts.{cut_le}
 use Rattle.machines.proofs.Turns.{turn_has}
 use Rattle.machines.proofs.Short.{Lives, turn_runs, move_is, move_over, retire_counts, wake_counts, come_by}
 use Rattle.machines.proofs.Ends.{GoesOn, HasEnded, goes_or_ended, next_is, turn_by, within_budget}
-use Rattle.critical_chains.specs.declared.TheConstants.{MOST_EVENTS}
+use Rattle.critical_chains.specs.declared.TheConstants.{MAX_EVENTS}
 use Rattle.critical_chains.specs.declared.event.Event.{Event}
 use Rattle.critical_chains.specs.Path.{event_at, last_of, Linked}
 use Rattle.critical_path.specs.Causes.{no_cause, after_own, at_rest, started_with, woken_with}
@@ -280,7 +280,7 @@ module _ {G : Type 0} (x : Experiment G) (Good : G → Type 0) (law : IsLawful x
   unfolding events_of
   last_due some = (stands_at (enough x)).whole (some_events some)
 
-  pub linked : 1 ≤ x.budget → x.budget ≤ MOST_EVENTS → Linked (events_of x place)
+  pub linked : 1 ≤ x.budget → x.budget ≤ MAX_EVENTS → Linked (events_of x place)
   unfolding events_of
   linked some few =
       let stands = stands_at (enough x) in

@@ -33,7 +33,7 @@ use Rattle.virtual_run.specs.Seen.{experiment_with}
 use Rattle.virtual_run.specs.Visits.{Visits}
 use Rattle.virtual_run.proofs.Keys.{has_place, next_is}
 use Rattle.virtual_run.proofs.Law.{lawful_run, reached_next, reached_woken, steady, events_below, ended_now, within_enough, recorded_now}
-use Rattle.critical_chains.specs.declared.TheConstants.{MOST_EVENTS}
+use Rattle.critical_chains.specs.declared.TheConstants.{MAX_EVENTS}
 use Rattle.critical_path.specs.declared.cause.Cause.{Cause}
 use Rattle.critical_chains.specs.declared.event.Event.{Event}
 use Rattle.critical_chains.specs.declared.event.Trace.{Trace}
@@ -54,7 +54,7 @@ module _ (image : ImageParts) (input : List ℕ) (setting : Setting) where
   -- so far, beside the engine
   pub record IsWalked (engine : Engine) (causes : List Cause) (events : List Event) : Type 0 where
     pub valid : IsChoice setting.choice
-    pub few : setting.choice.budget ≤ MOST_EVENTS
+    pub few : setting.choice.budget ≤ MAX_EVENTS
     pub reached : IsReached x engine
     pub room : length causes ≡ HARTS
     pub events_are : events ≡ (traced x pc_of (events_of engine)).events
@@ -222,7 +222,7 @@ module _ (image : ImageParts) (input : List ℕ) (setting : Setting) where
     count_on moved did = count_after moved did ∙ sym (add-one n)
 
   -- as a run begins
-  pub first_is : (engine : Engine) (causes : List Cause) (events : List Event) → IsChoice setting.choice → setting.choice.budget ≤ MOST_EVENTS → IsFirst setting image input engine → events ≡ [] → length causes ≡ HARTS
+  pub first_is : (engine : Engine) (causes : List Cause) (events : List Event) → IsChoice setting.choice → setting.choice.budget ≤ MAX_EVENTS → IsFirst setting image input engine → events ≡ [] → length causes ≡ HARTS
       → ((k : ℕ) → cause_at causes k ≡ (if k == 0 then record no_cause { cost = ticks_from engine.schedule 0 0 } else no_cause)) → IsWalked engine causes events
   first_is engine causes events valid few first none room begun =
       let lawful = lawful_run image (position_at setting.index.now) (point_of setting.points.now) input setting.choice valid.speedup in

@@ -1,7 +1,7 @@
 -- The run whose events are walked: no line is selected, and there are no progress points.
 use Rattle.std.specs.Prelude.{◌≡◌, ℕ, List, None}
 use Rattle.coz_types.specs.declared.ending.Ending.{Ending}
-use Rattle.coz_types.specs.declared.TheConstants.{MOST_VISITS_KEPT}
+use Rattle.coz_types.specs.declared.TheConstants.{MAX_VISITS}
 use Rattle.coz_types.specs.Image.{ImageParts}
 use Rattle.machines.specs.Guest.{Experiment}
 use Rattle.guest_memory.specs.declared.Layout.{Layout}
@@ -18,7 +18,7 @@ plain_choice budget output_limit layout = record {
   speedup = 0;
   budget = budget;
   output_limit = output_limit;
-  visit_limit = MOST_VISITS_KEPT;
+  visit_limit = MAX_VISITS;
   layout = layout;
 }
 

@@ -5,7 +5,7 @@ ghost use Rattle.machines.specs.Records.{shortened_record};
 ghost use Rattle.progress_points.specs.Points.{point_of};
 ghost use Rattle.guest_calls.specs.Guest.{pc_of};
 ghost use Rattle.virtual_run.specs.Run.{IsChoice};
-ghost use Rattle.critical_chains.specs.declared.TheConstants.{MOST_EVENTS};
+ghost use Rattle.critical_chains.specs.declared.TheConstants.{MAX_EVENTS};
 ghost use Rattle.critical_chains.specs.Path.{event_at, last_of, Linked};
 ghost use Rattle.critical_path.specs.Causes.{no_cause, cause_at};
 ghost use Rattle.critical_path.specs.Events.{events_of, AreBefores};
@@ -15,7 +15,7 @@ ghost use Rattle.critical_path.specs.Walk.{plain_choice, plain, IsMadeOf};
 use crate::cause::Cause;
 use crate::follow::{Walked, follow, ticks_from};
 use coz_lists::Items;
-use coz_types::{Ending, HARTS, HartId, Image, MOST_VISITS_KEPT};
+use coz_types::{Ending, HARTS, HartId, Image, MAX_VISITS};
 use critical_chains::Trace;
 use dwarf_lines::LineTable;
 use guest_memory::Layout;
@@ -98,7 +98,7 @@ pub fn walk<'a>(
     layout: Layout,
 ) -> Result<Trace, AllocError>
     requires choice { IsChoice (plain_choice budget output_limit layout) }
-    requires few { budget ≤ MOST_EVENTS }
+    requires few { budget ≤ MAX_EVENTS }
     ensures events { IfOk result (λ trace. trace.events
         ≡ events_of (plain image.now input.now budget output_limit layout) pc_of) }
     ensures ending { IfOk result (λ trace. trace.ending
@@ -119,7 +119,7 @@ pub fn walk<'a>(
         speedup: 0,
         budget,
         output_limit,
-        visit_limit: MOST_VISITS_KEPT,
+        visit_limit: MAX_VISITS,
         layout,
     };
     let setting = Setting {

@@ -1,7 +1,7 @@
 -- The table of faults: the first row that holds of the file tells its fault.
 use Rattle.std.specs.Prelude.{◌≡◌, ℕ, ◌*◌, ◌%◌, Bool, not, ◌&&◌, ◌||◌, List, [], ◌∷◌, ◌++◌, length, take, sum_by, slice_index, Option, Some, None, Result, Ok, Err, option_map, find, nat_lt, nat_le, ◌==◌, if◌then◌else◌, bytes_eq}
 use Rattle.std.specs.List.{list_any}
-use Rattle.coz_types.specs.declared.TheConstants.{PAGE, LOAD_END, MOST_LOADED}
+use Rattle.coz_types.specs.declared.TheConstants.{PAGE, LOAD_END, MAX_LOADED}
 use Rattle.elf_load.specs.declared.codes.TheConstants.{EHDR_SIZE, PHDR_SIZE, SHDR_SIZE, PN_XNUM}
 use Rattle.elf_load.specs.declared.ElfKind.{ElfKind}
 use Rattle.elf_load.specs.declared.ElfKind.TheVariants.{NotElf, NotClass64, NotLittle, NotExec, NotRiscv, Compressed, HeaderOut, PackedLines, Interp, SizeOrder, AddressOut, WritableCode, SharedPage, TooMuch, EntryOut}
@@ -78,7 +78,7 @@ rows_on file segments sections areas =
     (first_segment (λ s. is_load s && is_writable s && is_executable s) segments)
     ∷ entry_row SharedPage (first_area (λ earlier s. list_any (share_page s) earlier) areas)
     ∷ entry_row TooMuch
-    (first_area (λ earlier s. nat_lt MOST_LOADED (PAGE * sum_by pages (s ∷ earlier))) areas)
+    (first_area (λ earlier s. nat_lt MAX_LOADED (PAGE * sum_by pages (s ∷ earlier))) areas)
     ∷ row EntryOut (not (entry file % 4 == 0
     && list_any (λ s. is_load s && is_executable s && has_address (entry file) s) segments)) 24
     ∷ []

@@ -4,14 +4,14 @@ ghost use Rattle.std.specs.Prelude.{◌≡◌, ◌↔◌, ◌*◌, IsTrue, All, 
 ghost use Rattle.std.specs.BTreeMap.{get};
 ghost use Rattle.std.specs.Ordering.{nat_cmp};
 ghost use Rattle.std.specs.List.{list_any};
-ghost use Rattle.coz_types.specs.declared.TheConstants.{PAGE, MOST_LOADED};
+ghost use Rattle.coz_types.specs.declared.TheConstants.{PAGE, MAX_LOADED};
 ghost use Rattle.elf_load.specs.Tables.{is_area, pages, share_page};
 ghost use Rattle.elf_load.specs.Faults.{Judges, JudgesOrFails, entry_row, first_area};
 ghost use Rattle.elf_load.specs.Pages.{AreSpans, HasPageOf};
 
 use crate::tables::Segment;
 use crate::{ElfFault, ElfKind, LoadError};
-use coz_types::{MOST_LOADED, PAGE};
+use coz_types::{MAX_LOADED, PAGE};
 use std::alloc::Global;
 use std::collections::BTreeMap;
 
@@ -49,12 +49,12 @@ pub fn no_shared_page(alloc: Global, areas: &[Segment]) -> Result<(), LoadError>
 /// All areas have at most 64 MiB together. Err tells the area with which they have more.
 pub fn not_too_much(areas: &[Segment]) -> Result<(), ElfFault>
     ensures { Judges result (entry_row ElfKind.TooMuch (first_area (λ earlier s.
-        nat_lt MOST_LOADED (PAGE * sum_by pages (s ∷ earlier))) areas.now)) }
+        nat_lt MAX_LOADED (PAGE * sum_by pages (s ∷ earlier))) areas.now)) }
 {
     let mut pages: u64 = 0;
     for area in areas {
         pages += area.end_page() - area.first_page();
-        if pages > MOST_LOADED / PAGE {
+        if pages > MAX_LOADED / PAGE {
             return Err(ElfFault {
                 kind: ElfKind::TooMuch,
                 place: area.place,

@@ -2,7 +2,7 @@
 use Rattle.std.specs.Prelude.{◌≡◌, ℕ, ◌+◌, Bool, not, ◌&&◌, ◌==◌, nat_lt, nat_le, List, [], ◌∷◌, ◌++◌, length, Option, Some, None, if◌then◌else◌, is_some}
 use Rattle.std.specs.List.{list_all, before_last, after_last, slice_split}
 use Rattle.std.specs.Str.Parse.{digits_value}
-use Rattle.coz_types.specs.declared.TheConstants.{GREATEST_LINE}
+use Rattle.coz_types.specs.declared.TheConstants.{MAX_LINE}
 
 abbrev pub Text : Type 0
 Text = List ℕ
@@ -36,7 +36,7 @@ is_path path = nat_lt 0 (length path) && list_all (λ b. not (is_comma b)) path
 unfoldable pub is_line : Text → Bool
 is_line text =
     is_path (before_last is_colon text)
-    && is_some (number_in 1 GREATEST_LINE (after_last is_colon text))
+    && is_some (number_in 1 MAX_LINE (after_last is_colon text))
 
 -- the path of a line, and its number
 unfoldable pub line_parts : Text → Text × ℕ

@@ -3,9 +3,9 @@ use Rattle.std.specs.Prelude.{◌≡◌, ℕ, ◌≤◌, ◌<◌, List, ◌∷�
 use Rattle.std.specs.declared.cmp.Ordering.{Ordering}
 use Rattle.std.specs.Ordering.{nat_cmp, ordering_then}
 use Rattle.std.specs.List.Sorted.{IsStrictlySortedBy}
-use Rattle.experiment_plan.specs.declared.experiment.TheConstants.{MOST_PAIRS}
+use Rattle.experiment_plan.specs.declared.experiment.TheConstants.{MAX_PAIRS}
 use Rattle.coz_types.specs.declared.LineId.{LineId}
-use Rattle.coz_types.specs.declared.TheConstants.{GREATEST_SPEEDUP}
+use Rattle.coz_types.specs.declared.TheConstants.{MAX_SPEEDUP}
 use Rattle.experiment_plan.specs.declared.experiment.Experiment.{Experiment}
 use Rattle.experiment_plan.specs.declared.experiment.PlanError.{PlanError}
 use Rattle.experiment_plan.specs.declared.experiment.PlanError.TheVariants.{TooMany, Memory}
@@ -35,12 +35,12 @@ pub record ArePlanned (count : ℕ) (pairs : List Experiment) : Type 0 where
   pub all : pairs ≡ pairs_of lines speedups
   pub as_many : count ≡ length speedups
   pub some : 0 < count
-  pub slow : All (λ (pair : Experiment). pair.speedup ≤ GREATEST_SPEEDUP) pairs
-  pub few : length pairs ≤ MOST_PAIRS
+  pub slow : All (λ (pair : Experiment). pair.speedup ≤ MAX_SPEEDUP) pairs
+  pub few : length pairs ≤ MAX_PAIRS
 
 -- all pairs, or how many they are, which is above 100,000
 abbrev pub IsPlan : List LineId → List ℕ → Result (List Experiment) PlanError → Type 0
-IsPlan lines speedups (Ok plan) = (plan ≡ planned_pairs lines speedups) × (length plan ≤ MOST_PAIRS)
+IsPlan lines speedups (Ok plan) = (plan ≡ planned_pairs lines speedups) × (length plan ≤ MAX_PAIRS)
 IsPlan lines speedups (Err (TooMany count)) =
-    (count ≡ length (planned_pairs lines speedups)) × (MOST_PAIRS < count)
+    (count ≡ length (planned_pairs lines speedups)) × (MAX_PAIRS < count)
 IsPlan lines speedups (Err Memory) = Unit {0}

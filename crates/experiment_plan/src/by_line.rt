@@ -1,6 +1,6 @@
 //! A plan, line by line.
 ghost use Rattle.std.specs.Prelude.{◌≡◌, ◌<◌, ◌≤◌, Some, length, slice_get, All};
-ghost use Rattle.coz_types.specs.declared.TheConstants.{GREATEST_SPEEDUP};
+ghost use Rattle.coz_types.specs.declared.TheConstants.{MAX_SPEEDUP};
 ghost use Rattle.experiment_plan.specs.declared.experiment.Experiment.{Experiment};
 ghost use Rattle.experiment_plan.specs.ByLine.{by_line, all_pairs, IsOfOneLine};
 
@@ -20,7 +20,7 @@ impl Plan {
         requires claim { claim < length (by_line self.now) }
         ensures pairs { slice_get (by_line self.now) claim ≡ Some result.now }
         ensures one_line { IsOfOneLine result.now }
-        ensures speedups { All (λ (pair : Experiment). pair.speedup ≤ GREATEST_SPEEDUP) result.now }
+        ensures speedups { All (λ (pair : Experiment). pair.speedup ≤ MAX_SPEEDUP) result.now }
     {
         let start = claim as usize * self.speedups;
         &self.pairs[start..start + self.speedups]

@@ -1,7 +1,7 @@
 //! The experiments of a profile, and why there are none.
 ghost use Rattle.std.specs.Prelude.{◌≡◌, ◌≤◌, length, All};
-ghost use Rattle.experiment_plan.specs.declared.experiment.TheConstants.{MOST_PAIRS};
-ghost use Rattle.coz_types.specs.declared.TheConstants.{GREATEST_SPEEDUP};
+ghost use Rattle.experiment_plan.specs.declared.experiment.TheConstants.{MAX_PAIRS};
+ghost use Rattle.coz_types.specs.declared.TheConstants.{MAX_SPEEDUP};
 ghost use Rattle.experiment_plan.specs.declared.experiment.Experiment.{Experiment};
 ghost use Rattle.experiment_plan.specs.declared.experiment.PlanError.TheVariants.{Memory};
 
@@ -10,9 +10,9 @@ use std::alloc::{AllocError, AllocFailed};
 use std::marker::Model;
 
 /// The most experiments of a plan.
-pub const MOST_PAIRS: u64 = 100_000;
+pub const MAX_PAIRS: u64 = 100_000;
 
-/// A line and how many per cent faster it is to be, 0 to `GREATEST_SPEEDUP`.
+/// A line and how many per cent faster it is to be, 0 to `MAX_SPEEDUP`.
 #[derive(Clone, Copy, Debug, PartialEq, Eq)]
 pub struct Experiment {
     /// The selected line.
@@ -24,7 +24,7 @@ pub struct Experiment {
 /// Why there is no plan.
 #[derive(Clone, Copy, Debug, PartialEq, Eq)]
 pub enum PlanError {
-    /// The number of pairs, which exceeds `MOST_PAIRS`.
+    /// The number of pairs, which exceeds `MAX_PAIRS`.
     TooMany(u64),
     /// Memory was wanting.
     Memory,
@@ -64,8 +64,8 @@ impl Plan {
     /// The experiments, by line and then by speedup.
     pub fn pairs(&self) -> &[Experiment]
         ensures pairs { result.now ≡ self.now }
-        ensures few { length result.now ≤ MOST_PAIRS }
-        ensures speedups { All (λ (pair : Experiment). pair.speedup ≤ GREATEST_SPEEDUP) result.now }
+        ensures few { length result.now ≤ MAX_PAIRS }
+        ensures speedups { All (λ (pair : Experiment). pair.speedup ≤ MAX_SPEEDUP) result.now }
     {
         &self.pairs
     }

@@ -1,6 +1,6 @@
 //! The lines of two lists together.
 ghost use Rattle.std.specs.Prelude.{◌≡◌, ◌≤◌, ◌<◌, ℕ, ◌++◌, map, length, All, IfOk};
-ghost use Rattle.coz_types.specs.declared.TheConstants.{MOST_POINTS};
+ghost use Rattle.coz_types.specs.declared.TheConstants.{MAX_POINTS};
 ghost use Rattle.coz_types.specs.declared.LineId.{LineId};
 ghost use Rattle.coz_types.specs.declared.PointId.{PointId};
 ghost use Rattle.experiment_plan.specs.Selected.{ids, rising_numbers, places_among};
@@ -30,7 +30,7 @@ pub fn places_among(
     lines: &[LineId],
     list: &[LineId],
 ) -> Result<Vec<PointId>, AllocError>
-    requires { length lines.now ≤ MOST_POINTS }
+    requires { length lines.now ≤ MAX_POINTS }
     ensures { IfOk result (λ places.
         map (λ (place : PointId). place.0) places.items
         ≡ places_among (ids lines.now) (ids list.now)) }

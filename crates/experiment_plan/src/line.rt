@@ -5,7 +5,7 @@ ghost use Rattle.std.specs.Option.{option_copied};
 ghost use Rattle.experiment_plan.specs.Lists.{is_comma, is_colon, is_path, is_line, line_parts, pieces, pieces_left, is_list, IsCut};
 
 use crate::number::{number_in, value_of};
-use coz_types::GREATEST_LINE;
+use coz_types::MAX_LINE;
 
 /// The index after the last `:`, or 0 if there is none.
 fn behind_last_colon(text: &[u8]) -> usize
@@ -47,7 +47,7 @@ pub fn is_line(text: &[u8]) -> bool
     ensures { result ≡ is_line text.now }
 {
     let (path, number) = cut_at_last_colon(text);
-    is_path(path) && number_in(number, 1, GREATEST_LINE).is_some()
+    is_path(path) && number_in(number, 1, MAX_LINE).is_some()
 }
 
 /// The path of a line, and its number.

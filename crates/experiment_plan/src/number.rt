@@ -5,7 +5,7 @@ ghost use Rattle.std.specs.Str.Parse.{digits_value};
 ghost use Rattle.experiment_plan.specs.Lists.{is_digit, is_number, number_in};
 
 /// The most digits of a number.
-const MOST_DIGITS: usize = 20;
+const MAX_DIGITS: usize = 20;
 
 fn are_digits(text: &[u8]) -> bool
     ensures { result ≡ list_all is_digit text.now }
@@ -16,7 +16,7 @@ fn are_digits(text: &[u8]) -> bool
 fn is_number(text: &[u8]) -> bool
     ensures { result ≡ is_number text.now }
 {
-    !text.is_empty() && text.len() <= MOST_DIGITS && are_digits(text)
+    !text.is_empty() && text.len() <= MAX_DIGITS && are_digits(text)
 }
 
 /// The value of the digits. 20 of them can pass 64 bits.

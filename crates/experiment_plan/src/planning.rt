@@ -3,12 +3,12 @@ ghost use Rattle.std.specs.Prelude.{◌≡◌, ◌≤◌, ◌<◌, ◌∷◌, �
 ghost use Rattle.std.specs.Ordering.{nat_cmp};
 ghost use Rattle.std.specs.List.Sorted.{IsStrictlySortedBy};
 ghost use Rattle.coz_types.specs.declared.LineId.{LineId};
-ghost use Rattle.coz_types.specs.declared.TheConstants.{GREATEST_SPEEDUP};
+ghost use Rattle.coz_types.specs.declared.TheConstants.{MAX_SPEEDUP};
 ghost use Rattle.experiment_plan.specs.declared.experiment.Experiment.{Experiment};
 ghost use Rattle.experiment_plan.specs.Selected.{ids, rising_numbers};
 ghost use Rattle.experiment_plan.specs.Pairs.{at_speedup, pairs_of, pair_cmp, IsPlan};
 
-use crate::experiment::{Experiment, MOST_PAIRS, Plan, PlanError};
+use crate::experiment::{Experiment, MAX_PAIRS, Plan, PlanError};
 use coz_types::LineId;
 use std::alloc::{AllocError, Global};
 
@@ -59,7 +59,7 @@ fn number_of(line: LineId) -> u64
 /// How many pairs there are.
 fn pair_count(lines: &[LineId], speedups: &[u8]) -> u64
     requires rising { IsStrictlySortedBy nat_cmp (ids lines.now) }
-    requires few { length speedups.now ≤ GREATEST_SPEEDUP + 1 }
+    requires few { length speedups.now ≤ MAX_SPEEDUP + 1 }
     ensures { result ≡ length lines.now * length speedups.now }
 {
     let Some(last) = lines.last() else {
@@ -74,16 +74,16 @@ fn pair_count(lines: &[LineId], speedups: &[u8]) -> u64
 /// before a pair is made. Err says that there are more than 100,000, or that it is out of memory.
 pub fn plan(alloc: Global, lines: &[LineId], speedups: &[u8]) -> Result<Plan, PlanError>
     requires rising { IsStrictlySortedBy nat_cmp (ids lines.now) }
-    requires speedups { All (λ speedup. speedup ≤ GREATEST_SPEEDUP) speedups.now }
+    requires speedups { All (λ speedup. speedup ≤ MAX_SPEEDUP) speedups.now }
     ensures plan { IsPlan lines.now speedups.now result }
     ensures in_order { IfOk result (IsStrictlySortedBy pair_cmp) }
     ensures below { (count : ℕ) → All (λ (line : LineId). line.0 < count) lines.now →
         IfOk result (All (λ (pair : Experiment). pair.line.0 < count)) }
-    ensures speedups { IfOk result (All (λ (pair : Experiment). pair.speedup ≤ GREATEST_SPEEDUP)) }
+    ensures speedups { IfOk result (All (λ (pair : Experiment). pair.speedup ≤ MAX_SPEEDUP)) }
 {
     let speedups = rising_speedups(alloc, speedups)?;
     let count = pair_count(lines, &speedups);
-    if count > MOST_PAIRS {
+    if count > MAX_PAIRS {
         return Err(PlanError::TooMany(count));
     }
     let pairs = pairs_of(alloc, lines, &speedups)?;

@@ -13,8 +13,8 @@ mod times;
 
 ghost use Rattle.std.specs.Prelude.{◌≡◌, ◌≤◌, [], length, IfOk, IsTrue};
 ghost use Rattle.std.specs.Result.{result_ok};
-ghost use Rattle.coz_types.specs.declared.TheConstants.{MOST_OUTPUT};
-ghost use Rattle.cost_table.specs.declared.TheConstants.{MOST_CYCLES};
+ghost use Rattle.coz_types.specs.declared.TheConstants.{MAX_OUTPUT};
+ghost use Rattle.cost_table.specs.declared.TheConstants.{MAX_CYCLES};
 ghost use Rattle.cost_table.specs.Costs.{cycles_of};
 ghost use Rattle.guest_memory.specs.Regions.{IsLayout};
 ghost use Rattle.guest_calls.specs.Guest.{IsMade, is_running, is_sleeping, with_wake, making, pc_of, hart_at, first_guest};
@@ -79,7 +79,7 @@ impl<'a> Guest<'a> {
         layout: Layout,
     ) -> Result<Guest<'a>, AllocError>
         requires some_output { 1 ≤ output_limit }
-        requires output { output_limit ≤ MOST_OUTPUT }
+        requires output { output_limit ≤ MAX_OUTPUT }
         requires layout { IsLayout layout }
         ensures { IfOk result (λ guest.
             guest ≡ first_guest image.now input.now output_limit layout) }
@@ -126,7 +126,7 @@ impl<'a> Guest<'a> {
     pub fn next_cycles(&self, hart: HartId) -> u64
         requires { IsMade self.now hart.0 }
         ensures cycles { result ≡ cycles_of (next_of self.now hart.0) }
-        ensures few { result ≤ MOST_CYCLES }
+        ensures few { result ≤ MAX_CYCLES }
     {
         match self.word(hart) {
             Ok(word) => word_cycles(word),
@@ -153,7 +153,7 @@ impl<'a> Guest<'a> {
     /// The bytes that were written so far.
     pub fn output(&self) -> &[u8]
         ensures bytes { result.now ≡ self.now.output }
-        ensures few { length result.now ≤ MOST_OUTPUT }
+        ensures few { length result.now ≤ MAX_OUTPUT }
     {
         self.output.bytes()
     }

@@ -1,6 +1,6 @@
 //! The output of a guest, up to its limit.
 ghost use Rattle.std.specs.Prelude.{◌≡◌, ◌≤◌, ◌%◌, ◌^◌, [], length, take, IfOk, IsTrue};
-ghost use Rattle.coz_types.specs.declared.TheConstants.{MOST_OUTPUT};
+ghost use Rattle.coz_types.specs.declared.TheConstants.{MAX_OUTPUT};
 ghost use Rattle.guest_memory.specs.Memory.{is_readable, bytes_at};
 ghost use Rattle.guest_calls.specs.Output.{with_bytes_written};
 ghost use Rattle.guest_calls.specs.Calls.{is_each_readable, bytes_of, total};
@@ -20,7 +20,7 @@ pub struct Output {
 
 impl Model for Output {
     ghost use Rattle.std.specs.Prelude.{◌≤◌, length, take};
-    ghost use Rattle.coz_types.specs.declared.TheConstants.{MOST_OUTPUT};
+    ghost use Rattle.coz_types.specs.declared.TheConstants.{MAX_OUTPUT};
     ghost use Rattle.guest_calls.specs.Output.{Written};
 
     ghost Value = { Written };
@@ -29,7 +29,7 @@ impl Model for Output {
         record { bytes = take o.written o.places.items; limit = length o.places.items } };
 
     ghost invariant = { λ o.
-        (o.written ≤ length o.places.items) × (length o.places.items ≤ MOST_OUTPUT) };
+        (o.written ≤ length o.places.items) × (length o.places.items ≤ MAX_OUTPUT) };
 }
 
 /// Copies the first bytes of a list over those of another one of the same length.
@@ -45,7 +45,7 @@ fn copy_front(into: &mut [u8], from: &[u8], count: usize)
 impl Output {
     /// An empty output with room for `limit` bytes.
     pub fn new(alloc: Global, limit: usize) -> Result<Output, AllocError>
-        requires { limit ≤ MOST_OUTPUT }
+        requires { limit ≤ MAX_OUTPUT }
         ensures { IfOk result (λ output. output ≡ record { bytes = []; limit = limit }) }
     {
         let places = vec![in alloc; 0u8; limit]?;
@@ -55,7 +55,7 @@ impl Output {
     /// The bytes that were written.
     pub fn bytes(&self) -> &[u8]
         ensures bytes { result.now ≡ self.now.bytes }
-        ensures few { length result.now ≤ MOST_OUTPUT }
+        ensures few { length result.now ≤ MAX_OUTPUT }
     {
         &self.places[..self.written]
     }

@@ -1,9 +1,9 @@
 -- The bytes of a written file.
 use Rattle.std.specs.Prelude.{◌≡◌, ℕ, ◌+◌, ◌-◌, ◌*◌, ◌<◌, ◌≤◌, Bool, List, [], ◌∷◌, ◌++◌, length, replicate, nat_lt, not, ◌==◌, if◌then◌else◌, codes}
 use Rattle.std.specs.List.{AllPass}
-use Rattle.coz_types.specs.declared.TheConstants.{LEAST_VERSION, GREATEST_VERSION, MAX_WORD, PAGE}
+use Rattle.coz_types.specs.declared.TheConstants.{MIN_VERSION, MAX_VERSION, MAX_WORD, PAGE}
 use Rattle.rv_asm.specs.declared.TheConstants.{TEXT_START}
-use Rattle.rv_asm.specs.declared.state.TheConstants.{MOST_BYTES}
+use Rattle.rv_asm.specs.declared.state.TheConstants.{MAX_SECTION}
 use Rattle.rv_asm.specs.Assembled.{Program, up_to_multiple}
 use Rattle.image_write.specs.Unit.{half, word, double, unit}
 
@@ -136,9 +136,9 @@ abbrev pub IsName : List ℕ → Type 0
 IsName name = (0 < length name) × (length name ≤ MAX_WORD) × AllPass (λ b. not (b == 0)) name
 
 abbrev pub IsVersion : ℕ → Type 0
-IsVersion version = (LEAST_VERSION ≤ version) × (version ≤ GREATEST_VERSION)
+IsVersion version = (MIN_VERSION ≤ version) × (version ≤ MAX_VERSION)
 
 abbrev pub IsWritable : Program → Type 0
 IsWritable p =
-    (length p.text ≤ MOST_BYTES) × (length p.content ≤ MOST_BYTES)
+    (length p.text ≤ MAX_SECTION) × (length p.content ≤ MAX_SECTION)
     × (length p.text ≡ 4 * length p.lines)

@@ -7,7 +7,7 @@ use Rattle.std.proofs.lemmas.List.{length-set, length-take, get_or-set_same, get
 use Rattle.std.proofs.lemmas.List.Folds.{fold-map, list_all-map}
 use Rattle.std.proofs.lemmas.List.FromFn.{fill_by_all}
 use Rattle.std.proofs.lemmas.List.Sums.{count_by-le-length, count_by_more_yes, count_by_more_no}
-use Rattle.coz_types.specs.declared.TheConstants.{GREATEST_COUNT}
+use Rattle.coz_types.specs.declared.TheConstants.{MAX_COUNT}
 use Rattle.coz_types.specs.declared.record.Visit.{Visit}
 use Rattle.machines.specs.Shortened.{NetVisit}
 use Rattle.machines.specs.KeptVisits.{net_of}
@@ -77,8 +77,8 @@ all_pass p each [] = refl
 all_pass p each (n ∷ ns) = ap₂ (λ (a b : Bool). a && b) (each n) (all_pass p each ns)
 
 -- so few visits have small counts
-pub counts_within : (points : ℕ) (visits : List NetVisit) → length visits ≤ 1048576 → list_all (λ (n : ℕ). nat_le n GREATEST_COUNT) (counts_of points visits) ≡ true
+pub counts_within : (points : ℕ) (visits : List NetVisit) → length visits ≤ 1048576 → list_all (λ (n : ℕ). nat_le n MAX_COUNT) (counts_of points visits) ≡ true
 counts_within points visits few =
     let at : ℕ → ℕ = λ point. count_by (λ (visit : NetVisit). visit.point == point) visits in
-    list_all-map (λ (n : ℕ). nat_le n GREATEST_COUNT) at (range_with_len 0 points)
-    ∙ all_pass (λ (point : ℕ). nat_le (at point) GREATEST_COUNT) (λ point. le-leb _ _ (omega (arith, count_by-le-length (λ (visit : NetVisit). visit.point == point) visits))) (range_with_len 0 points)
+    list_all-map (λ (n : ℕ). nat_le n MAX_COUNT) at (range_with_len 0 points)
+    ∙ all_pass (λ (point : ℕ). nat_le (at point) MAX_COUNT) (λ point. le-leb _ _ (omega (arith, count_by-le-length (λ (visit : NetVisit). visit.point == point) visits))) (range_with_len 0 points)

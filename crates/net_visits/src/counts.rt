@@ -1,6 +1,6 @@
 //! How often each progress point was visited.
 ghost use Rattle.std.specs.Prelude.{◌≡◌, ◌≤◌, length, map, IfOk};
-ghost use Rattle.coz_types.specs.declared.TheConstants.{MOST_VISITS_KEPT};
+ghost use Rattle.coz_types.specs.declared.TheConstants.{MAX_VISITS};
 ghost use Rattle.machines.specs.KeptVisits.{net_of};
 ghost use Rattle.net_visits.specs.Kept.{counts_of};
 
@@ -13,7 +13,7 @@ pub fn counts_of_visits(
     points: u32,
     visits: &[Visit],
 ) -> Result<Vec<u64>, AllocError>
-    requires few { length visits.now ≤ MOST_VISITS_KEPT }
+    requires few { length visits.now ≤ MAX_VISITS }
     ensures { IfOk result (λ counts. counts.items ≡ counts_of points (map net_of visits.now)) }
 {
     let mut counts = vec![in alloc; 0u64; points as usize]?;

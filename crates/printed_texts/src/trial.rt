@@ -1,7 +1,7 @@
 //! The five lines of a trial.
 ghost use Rattle.std.specs.Prelude.{◌≡◌, ◌++◌, ◌≤◌, codes, length, map, IfOk, OnOk};
 ghost use Rattle.std.specs.List.{AllByRecursion};
-ghost use Rattle.coz_types.specs.declared.TheConstants.{MOST_POINTS};
+ghost use Rattle.coz_types.specs.declared.TheConstants.{MAX_POINTS};
 ghost use Rattle.coz_types.specs.Ranges.{IsSummary};
 ghost use Rattle.work_gen.specs.Text.{view};
 ghost use Rattle.profile_book.specs.Profile.{hex_text, profile_text};
@@ -73,7 +73,7 @@ fn push_profile(alloc: Global, text: &mut Vec<u8>, profile: &Profile) -> Result<
 
 /// The first of a profile's curves by rank, if it has a gain.
 fn push_best_of(alloc: Global, text: &mut Vec<u8>, profile: &Profile) -> Result<(), AllocError>
-    requires points { length profile.now.points ≤ MOST_POINTS }
+    requires points { length profile.now.points ≤ MAX_POINTS }
     requires ranges { AllByRecursion (IsSummary (length profile.now.points)) profile.now.summaries }
     ensures { OnOk result (text.new.items
         ≡ text.old.items ++ best_line (ranked_curves (curves_of profile.now))) }
@@ -90,7 +90,7 @@ pub fn trial_text(
     index: &LineIndex,
     profile: &Profile,
 ) -> Result<Vec<u8>, AllocError>
-    requires points { length profile.now.points ≤ MOST_POINTS }
+    requires points { length profile.now.points ≤ MAX_POINTS }
     requires ranges { AllByRecursion (IsSummary (length profile.now.points)) profile.now.summaries }
     ensures { IfOk result (λ text.
         text.items ≡ trial_lines (view source.now) index.now.lines

@@ -3,7 +3,7 @@ use Rattle.std.specs.Prelude.{◌≡◌, ◌≤◌, ℕ, ◌/◌, ◌%◌, Bool,
 use Rattle.std.specs.List.{enumerate_from, list_all, AllByRecursion}
 use Rattle.std.specs.Str.{bytes_eq}
 use Rattle.std.specs.Fmt.{digits}
-use Rattle.coz_types.specs.declared.TheConstants.{MOST_POINTS, GREATEST_NUMBER}
+use Rattle.coz_types.specs.declared.TheConstants.{MAX_POINTS, MAX_NUMBER}
 use Rattle.coz_types.specs.Labels.{Text, is_label, label_before}
 use Rattle.coz_types.specs.Endings.{ending_text}
 use Rattle.coz_types.specs.Ranges.{IsSummary}
@@ -82,8 +82,8 @@ summary_before s t =
 
 -- the budget and the points, the summaries within their ranges, and all in their orders
 pub record IsProfile (p : Profile) : Type 0 where
-  pub budget : p.budget ≤ GREATEST_NUMBER
-  pub points : length p.points ≤ MOST_POINTS
+  pub budget : p.budget ≤ MAX_NUMBER
+  pub points : length p.points ≤ MAX_POINTS
   pub names : list_all is_label p.points ≡ true
   pub names_rise : is_rising label_before p.points ≡ true
   pub summaries : AllByRecursion (IsSummary (length p.points)) p.summaries

@@ -1,7 +1,7 @@
 -- What the work of a claim is: the runs of a line of a plan.
 use Rattle.std.specs.Prelude.{◌≡◌, ℕ, ◌<◌, ◌≤◌, List, [], ◌∷◌, Some, length, map, All}
 use Rattle.std.specs.List.{slice_index_or}
-use Rattle.coz_types.specs.declared.TheConstants.{GREATEST_BUDGET}
+use Rattle.coz_types.specs.declared.TheConstants.{MAX_BUDGET}
 use Rattle.coz_types.specs.declared.record.Summary.{Summary}
 use Rattle.experiment_plan.specs.declared.experiment.Experiment.{Experiment}
 use Rattle.experiment_plan.specs.ByLine.{by_line}
@@ -25,7 +25,7 @@ work_at work claim = map (summary_of_pair work) (slice_index_or (by_line work.pl
 pub record IsWork (work : Work) : Type 0 where
   pub lines : All (λ (pair : Experiment). pair.line.0 < length work.index.now.lines) work.plan.now
   pub some_budget : 1 ≤ work.budget
-  pub few : work.budget ≤ GREATEST_BUDGET
+  pub few : work.budget ≤ MAX_BUDGET
   pub first : parts_made work.first.now ≡ made_for work (Some 0) 0
   pub unbegun : work.first.now.state
       ≡ record { state = unbegun (experiment_of work.first.now); harts = 0 ∷ [] }

@@ -1,6 +1,6 @@
 //! The work of a claim: the runs of all pairs of a line.
 ghost use Rattle.std.specs.Prelude.{◌≡◌, ◌<◌, ◌≤◌, [], Some, length, map, All, IfOk};
-ghost use Rattle.coz_types.specs.declared.TheConstants.{GREATEST_SPEEDUP};
+ghost use Rattle.coz_types.specs.declared.TheConstants.{MAX_SPEEDUP};
 ghost use Rattle.coz_types.specs.Ranges.{IsSummary};
 ghost use Rattle.experiment_plan.specs.ByLine.{by_line};
 ghost use Rattle.experiment_plan.specs.declared.experiment.Experiment.{Experiment};
@@ -36,7 +36,7 @@ fn run_pair<'a>(
     pair: Experiment,
 ) -> Result<Summary, AllocError>
     requires line { pair.line.0 < length work.now.index.now.lines }
-    requires speedup { pair.speedup ≤ GREATEST_SPEEDUP }
+    requires speedup { pair.speedup ≤ MAX_SPEEDUP }
     requires lead { parts_made lead.now ≡ made_for work.now (Some pair.line.0) 0 }
     requires machine { IsFor work.now machine.old }
     ensures machine { IsFor work.now machine.new }
@@ -65,7 +65,7 @@ fn run_pairs<'a>(
 ) -> Result<(), AllocError>
     requires lines { All (λ (pair : Experiment).
         pair.line.0 < length work.now.index.now.lines) pairs.now }
-    requires speedups { All (λ (pair : Experiment). pair.speedup ≤ GREATEST_SPEEDUP) pairs.now }
+    requires speedups { All (λ (pair : Experiment). pair.speedup ≤ MAX_SPEEDUP) pairs.now }
     requires lead { All (λ (pair : Experiment).
         parts_made lead.now ≡ made_for work.now (Some pair.line.0) 0) pairs.now }
     requires machine { IsFor work.now machine.old }

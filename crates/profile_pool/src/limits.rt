@@ -1,22 +1,22 @@
 //! The limits of the commands.
 ghost use Rattle.std.specs.Prelude.{◌≡◌, ◌≤◌, ◌^◌, option_map};
 ghost use Rattle.coz_types.specs.declared.LineId.{LineId};
-ghost use Rattle.coz_types.specs.declared.TheConstants.{GREATEST_SPEEDUP, GREATEST_BUDGET};
+ghost use Rattle.coz_types.specs.declared.TheConstants.{MAX_SPEEDUP, MAX_BUDGET};
 ghost use Rattle.virtual_run.specs.Run.{IsChoice};
 ghost use Rattle.profile_pool.specs.Choices.{choice_of};
 
-use coz_types::{LineId, MOST_VISITS_KEPT};
+use coz_types::{LineId, MAX_VISITS};
 use guest_memory::Layout;
 use virtual_run::Choice;
 
 /// The most bytes that a run of a command writes.
-pub const OUTPUT_LIMIT: u64 = 0x40_0000;
+pub const MAX_RUN_OUTPUT: u64 = 0x40_0000;
 
 /// What is chosen for a run, with the limits of the commands.
 pub fn choice(selected: Option<LineId>, speedup: u8, budget: u64) -> Choice
-    requires speedup { speedup ≤ GREATEST_SPEEDUP }
+    requires speedup { speedup ≤ MAX_SPEEDUP }
     requires some_budget { 1 ≤ budget }
-    requires few { budget ≤ GREATEST_BUDGET }
+    requires few { budget ≤ MAX_BUDGET }
     ensures choice { result
         ≡ choice_of (option_map (λ (line : LineId). line.0) selected) speedup budget }
     ensures within { IsChoice result }
@@ -25,8 +25,8 @@ pub fn choice(selected: Option<LineId>, speedup: u8, budget: u64) -> Choice
         selected,
         speedup,
         budget,
-        output_limit: OUTPUT_LIMIT,
-        visit_limit: MOST_VISITS_KEPT,
+        output_limit: MAX_RUN_OUTPUT,
+        visit_limit: MAX_VISITS,
         layout: Layout::usual(),
     }
 }

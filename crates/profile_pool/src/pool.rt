@@ -1,6 +1,6 @@
 //! The runs of a plan, by workers.
 ghost use Rattle.std.specs.Prelude.{◌≡◌, ◌<◌, ◌≤◌, IfOk, length, All};
-ghost use Rattle.coz_types.specs.declared.TheConstants.{GREATEST_BUDGET, MOST_WORKERS};
+ghost use Rattle.coz_types.specs.declared.TheConstants.{MAX_BUDGET, MAX_WORKERS};
 ghost use Rattle.coz_types.specs.Ranges.{IsSummary};
 ghost use Rattle.experiment_plan.specs.declared.experiment.Experiment.{Experiment};
 ghost use Rattle.profile_pool.specs.Summaries.{summaries_of};
@@ -34,9 +34,9 @@ pub fn run_plan<R: Threads + Sync, G: Gate>(
 ) -> Result<Vec<Summary>, AllocError>
     requires lines { All (λ (pair : Experiment). pair.line.0 < length index.now.lines) plan.now }
     requires some_budget { 1 ≤ budget }
-    requires few { budget ≤ GREATEST_BUDGET }
+    requires few { budget ≤ MAX_BUDGET }
     requires some_workers { 1 ≤ workers }
-    requires few_workers { workers ≤ MOST_WORKERS }
+    requires few_workers { workers ≤ MAX_WORKERS }
     ensures summaries { IfOk result (λ summaries.
         summaries.items ≡ summaries_of image.now index.now points.now input.now budget plan.now) }
     ensures ranges { IfOk result (λ summaries.

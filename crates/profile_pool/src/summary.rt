@@ -1,6 +1,6 @@
 //! What a profile keeps of a run.
 ghost use Rattle.std.specs.Prelude.{◌≡◌, ◌≤◌, true, length, IfOk, IsSome, Some};
-ghost use Rattle.coz_types.specs.declared.TheConstants.{GREATEST_SPEEDUP};
+ghost use Rattle.coz_types.specs.declared.TheConstants.{MAX_SPEEDUP};
 ghost use Rattle.coz_types.specs.declared.ending.Ending.{Ending};
 ghost use Rattle.coz_types.specs.Labels.{is_label};
 ghost use Rattle.coz_types.specs.Ranges.{IsSummary};
@@ -31,7 +31,7 @@ pub fn summarise(
         → IfOk result (λ summary. summary ≡
         summary_of label.now speedup (length points.now.lines)
         (record_of (experiment_of machine.now) machine.now.state ending)) }
-    ensures ranges { is_label label.now ≡ true → speedup ≤ GREATEST_SPEEDUP
+    ensures ranges { is_label label.now ≡ true → speedup ≤ MAX_SPEEDUP
         → IfOk result (IsSummary (length points.now.lines)) }
 {
     let visits = machine.visits();

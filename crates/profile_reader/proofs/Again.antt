@@ -7,7 +7,7 @@ use Rattle.std.specs.Fmt.{digits}
 use Rattle.std.proofs.lemmas.Slice.Eq.{bytes_eq-Decides}
 use Rattle.std.proofs.lemmas.Bool.{leb-true, ltb-true}
 use Rattle.coz_types.specs.Labels.{Text, is_label, label_before, is_decimal}
-use Rattle.coz_types.specs.declared.TheConstants.{GREATEST_NUMBER}
+use Rattle.coz_types.specs.declared.TheConstants.{MAX_NUMBER}
 use Rattle.coz_types.specs.declared.record.Summary.{Summary}
 use Rattle.profile_reader.specs.declared.fault.BookField.{BookField}
 use Rattle.profile_reader.specs.declared.fault.BookField.TheVariants.{Head, Version, Budget, Points, Point, Index, Name, Experiment, Selected, Speedup, Output, Length, Digest, Throughput, Delta, Visits, Newline}
@@ -163,7 +163,7 @@ head_items h = codes "coz-ticks" ∷ codes "\tversion=1" ∷ number_field (codes
 pub head_again : (h : ℕ × ℕ) → IsHead h → ReadsOn head_at (head_items h) h
 unfolding head_at
 head_again h is =
-    and_then _ (word_again Head (codes "coz-ticks")) (and_then _ (word_again Version (codes "\tversion=1")) (and_then _ (number_again Budget GREATEST_NUMBER h.0 (λ _. refl) (omega arith) is.budget)
+    and_then _ (word_again Head (codes "coz-ticks")) (and_then _ (word_again Version (codes "\tversion=1")) (and_then _ (number_again Budget MAX_NUMBER h.0 (λ _. refl) (omega arith) is.budget)
     (and_then _ (number_again Points 64 h.1 (λ _. refl) (omega arith) is.points) (and_then _ (word_again Newline (codes "\n")) reads_end))))
 
 abbrev pub name_items : ℕ → Text → List Text
@@ -223,7 +223,7 @@ output_items x = codes "output" ∷ number_field (codes "length") x.0 ∷ field 
 pub output_again : (x : ℕ × List ℕ) → IsOutput x → ReadsOn output_at (output_items x) x
 unfolding output_at
 output_again x is =
-    and_then _ (word_again Output (codes "output")) (and_then _ (number_again Length GREATEST_NUMBER x.0 (λ _. refl) (omega arith) is.size) (and_then _ (digest_again x.1 is.digest) (and_then _ (word_again Newline (codes "\n")) reads_end)))
+    and_then _ (word_again Output (codes "output")) (and_then _ (number_again Length MAX_NUMBER x.0 (λ _. refl) (omega arith) is.size) (and_then _ (digest_again x.1 is.digest) (and_then _ (word_again Newline (codes "\n")) reads_end)))
 
 abbrev pub visits_items : List ℕ → List Text
 visits_items bytes = codes "visits" ∷ field (codes "sha256") (hex_text bytes) ∷ codes "\n" ∷ []

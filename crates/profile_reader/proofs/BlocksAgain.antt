@@ -4,7 +4,7 @@ use Rattle.std.specs.List.{AllByRecursion}
 use Rattle.std.specs.Str.{bytes_eq}
 use Rattle.coz_types.specs.Labels.{Text, label_before}
 use Rattle.coz_types.specs.Endings.{ending_text}
-use Rattle.coz_types.specs.declared.TheConstants.{GREATEST_NUMBER}
+use Rattle.coz_types.specs.declared.TheConstants.{MAX_NUMBER}
 use Rattle.coz_types.specs.Ranges.{is_ending}
 use Rattle.profile_reader.specs.EndingSpellings.{is_ending_text}
 use Rattle.coz_types.specs.declared.ending.Ending.{Ending}
@@ -36,8 +36,8 @@ outcome_again : (o : Outcome) → IsOutcome o → ReadsOn outcome_at (outcome_it
 unfolding outcome_at
 outcome_again o is =
     let le = is.time in
-    and_then _ (ending_again o.ending is.ending) (and_then _ (number_again Time GREATEST_NUMBER o.time (λ _. refl) (omega arith) is.time) (and_then _ (number_again Delay o.time o.delay (λ _. refl) (omega arith) is.delay)
-    (and_then _ (number_again Retired GREATEST_NUMBER o.retired (λ _. refl) (omega arith) is.retired) (and_then _ (number_again Starts GREATEST_NUMBER o.starts (λ _. refl) (omega arith) is.starts) (and_then _ (word_again Newline (codes "\n")) reads_end)))))
+    and_then _ (ending_again o.ending is.ending) (and_then _ (number_again Time MAX_NUMBER o.time (λ _. refl) (omega arith) is.time) (and_then _ (number_again Delay o.time o.delay (λ _. refl) (omega arith) is.delay)
+    (and_then _ (number_again Retired MAX_NUMBER o.retired (λ _. refl) (omega arith) is.retired) (and_then _ (number_again Starts MAX_NUMBER o.starts (λ _. refl) (omega arith) is.starts) (and_then _ (word_again Newline (codes "\n")) reads_end)))))
 
 abbrev pub block_items : Summary → List Text
 block_items s = selection_items (s.selected, s.speedup) ++ (outcome_items s.outcome ++ (output_items (s.length, s.output.bytes) ++ (counts_items 0 s.counts ++ visits_items s.visits.bytes)))

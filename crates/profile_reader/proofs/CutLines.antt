@@ -9,7 +9,7 @@ use Rattle.std.proofs.lemmas.Bool.{leb-true}
 use Rattle.std.proofs.lemmas.List.{append-nil}
 use Rattle.coz_types.specs.Labels.{Text, Scan, is_scanned, scan_step, parts_of, line_number, is_decimal, is_label, is_empty, is_written}
 use Rattle.coz_types.specs.Endings.{ending_text, address_text, cause_text}
-use Rattle.coz_types.specs.declared.TheConstants.{GREATEST_NUMBER}
+use Rattle.coz_types.specs.declared.TheConstants.{MAX_NUMBER}
 use Rattle.coz_types.specs.Ranges.{is_ending, last_word}
 use Rattle.coz_types.specs.declared.ending.Ending.{Ending}
 use Rattle.coz_types.specs.declared.ending.Ending.TheVariants.{Exited, Trapped, Unsupported, Clock, OutputFull, VisitsFull, Stalled, Spent}
@@ -216,7 +216,7 @@ ending_plain (Trapped trap) e =
 
 -- ---- the lines
 
-head_cut : (h : ℕ × ℕ) → h.0 ≤ GREATEST_NUMBER → h.1 ≤ 64 → AreCut (head_items h)
+head_cut : (h : ℕ × ℕ) → h.0 ≤ MAX_NUMBER → h.1 ≤ 64 → AreCut (head_items h)
 head_cut h budget points = line_cut (codes "coz-ticks") (codes "version=1" ∷ (codes "budget" ++ 61 ∷ decimal h.0) ∷ (codes "points" ++ 61 ∷ decimal h.1) ∷ []) refl (refl, (decimal_plain h.0 (omega arith), (decimal_plain h.1 (omega arith), tt)))
 
 names_cut : (names : List Text) (index : ℕ) → length names + index ≤ 64 → list_all is_label names ≡ true → AreCut (names_items index names)

@@ -7,7 +7,7 @@ use Rattle.std.proofs.lemmas.Fmt.{decimal_is_IsNumeral}
 use Rattle.std.proofs.lemmas.Bool.{le-leb}
 use Rattle.coz_types.specs.Labels.{Text, is_label, label_before}
 use Rattle.coz_types.specs.Endings.{ending_text}
-use Rattle.coz_types.specs.declared.TheConstants.{GREATEST_NUMBER}
+use Rattle.coz_types.specs.declared.TheConstants.{MAX_NUMBER}
 use Rattle.coz_types.specs.Ranges.{is_ending}
 use Rattle.coz_types.specs.declared.record.Outcome.{Outcome}
 use Rattle.coz_types.specs.declared.record.Summary.{Summary}
@@ -26,7 +26,7 @@ abbrev pub head_before : ℕ × ℕ → Before
 head_before h = (Newline, codes "\n") ∷ (Points, number_field (codes "points") h.1) ∷ (Budget, number_field (codes "budget") h.0) ∷ (Version, codes "\tversion=1") ∷ (Head, codes "coz-ticks") ∷ []
 
 pub record IsHead (h : ℕ × ℕ) : Type 0 where
-  pub budget : h.0 ≤ GREATEST_NUMBER
+  pub budget : h.0 ≤ MAX_NUMBER
   pub points : h.1 ≤ 64
 
 pub head_line : {a : Ahead} → a.place ≡ 0 → Explains head_before IsHead [] a (head_at a)
@@ -34,7 +34,7 @@ unfolding head_at
 head_line start =
     follow _ (word_step Head (codes "coz-ticks") refl (λ _. refl) refl (λ _. refl) start) (λ _ _ g1 _.
     follow _ (word_step Version (codes "\tversion=1") refl (λ _. refl) refl (λ _. refl) g1.place) (λ _ _ g2 _.
-    follow _ (number_step Budget GREATEST_NUMBER refl (λ _. refl) refl g2.place) (λ _ _ g3 budget.
+    follow _ (number_step Budget MAX_NUMBER refl (λ _. refl) refl g2.place) (λ _ _ g3 budget.
     follow _ (number_step Points 64 refl (λ _. refl) refl g3.place) (λ _ _ g4 points.
     follow _ (word_step Newline (codes "\n") refl (λ _. refl) refl (λ _. refl) g4.place) (λ _ _ g5 _.
     stays refl g5.place (record { budget = budget; points = points }))))))
@@ -181,20 +181,20 @@ outcome_before o before =
 
 pub record IsOutcome (o : Outcome) : Type 0 where
   pub ending : is_ending o.ending ≡ true
-  pub time : o.time ≤ GREATEST_NUMBER
+  pub time : o.time ≤ MAX_NUMBER
   pub delay : o.delay ≤ o.time
-  pub retired : o.retired ≤ GREATEST_NUMBER
-  pub starts : o.starts ≤ GREATEST_NUMBER
+  pub retired : o.retired ≤ MAX_NUMBER
+  pub starts : o.starts ≤ MAX_NUMBER
 
 pub outcome_part : {before : Before} {a : Ahead} → expected_field before ≡ End → a.place ≡ size before
     → Explains (λ (o : Outcome). outcome_before o before) IsOutcome before a (outcome_at a)
 unfolding outcome_at
 outcome_part at place =
     follow _ (ending_step at place) (λ _ _ g1 ending.
-    follow _ (number_step Time GREATEST_NUMBER refl (λ _. refl) refl g1.place) (λ time _ g2 le.
+    follow _ (number_step Time MAX_NUMBER refl (λ _. refl) refl g1.place) (λ time _ g2 le.
     follow _ (number_step Delay time refl (λ item. ap (λ (n : ℕ). has_number Delay n item) (value_again time (omega arith))) refl g2.place) (λ _ _ g3 delay.
-    follow _ (number_step Retired GREATEST_NUMBER refl (λ _. refl) refl g3.place) (λ _ _ g4 retired.
-    follow _ (number_step Starts GREATEST_NUMBER refl (λ _. refl) refl g4.place) (λ _ _ g5 starts.
+    follow _ (number_step Retired MAX_NUMBER refl (λ _. refl) refl g3.place) (λ _ _ g4 retired.
+    follow _ (number_step Starts MAX_NUMBER refl (λ _. refl) refl g4.place) (λ _ _ g5 starts.
     follow _ (word_step Newline (codes "\n") refl (λ _. refl) refl (λ _. refl) g5.place) (λ _ _ g6 _.
     stays refl g6.place (record { ending = ending; time = le; delay = delay; retired = retired; starts = starts })))))))
 
@@ -204,7 +204,7 @@ abbrev pub output_before : ℕ × List ℕ → Before → Before
 output_before x before = (Newline, codes "\n") ∷ (Digest, field (codes "sha256") (hex_text x.1)) ∷ (Length, number_field (codes "length") x.0) ∷ (Output, codes "output") ∷ before
 
 pub record IsOutput (x : ℕ × List ℕ) : Type 0 where
-  pub size : x.0 ≤ GREATEST_NUMBER
+  pub size : x.0 ≤ MAX_NUMBER
   pub digest : IsDigest x.1
 
 pub output_part : {before : Before} {a : Ahead} → expected_field before ≡ Output → a.place ≡ size before
@@ -212,7 +212,7 @@ pub output_part : {before : Before} {a : Ahead} → expected_field before ≡ Ou
 unfolding output_at
 output_part at place =
     follow _ (word_step Output (codes "output") at (λ _. refl) refl (λ _. refl) place) (λ _ _ g1 _.
-    follow _ (number_step Length GREATEST_NUMBER refl (λ _. refl) refl g1.place) (λ _ _ g2 le.
+    follow _ (number_step Length MAX_NUMBER refl (λ _. refl) refl g1.place) (λ _ _ g2 le.
     follow _ (digest_step refl g2.place) (λ _ _ g3 digest.
     follow _ (word_step Newline (codes "\n") refl (λ _. refl) refl (λ _. refl) g3.place) (λ _ _ g4 _.
     stays refl g4.place (record { size = le; digest = digest })))))

@@ -4,7 +4,7 @@ use Rattle.std.specs.List.{list_all}
 use Rattle.std.specs.Str.{bytes_eq}
 use Rattle.std.specs.Str.Parse.{digits_value}
 use Rattle.coz_types.specs.Labels.{Text, is_decimal, is_label, label_before}
-use Rattle.coz_types.specs.declared.TheConstants.{GREATEST_SPEEDUP, MOST_POINTS, GREATEST_NUMBER, GREATEST_COUNT}
+use Rattle.coz_types.specs.declared.TheConstants.{MAX_SPEEDUP, MAX_POINTS, MAX_NUMBER, MAX_COUNT}
 use Rattle.profile_reader.specs.EndingSpellings.{is_ending_text}
 use Rattle.profile_book.specs.Profile.{field, number_field}
 use Rattle.profile_reader.specs.Items.{items_of}
@@ -190,7 +190,7 @@ has_label kind passes item =
 abbrev pub has_speedup : Before → Text → Bool
 has_speedup [] item = false
 has_speedup (label ∷ before) item =
-    has_number Speedup GREATEST_SPEEDUP item
+    has_number Speedup MAX_SPEEDUP item
     && goes_on (latest Selected before) (latest_number Speedup before) (value_in Selected label.1)
     (number_in Speedup item)
 
@@ -198,8 +198,8 @@ has_speedup (label ∷ before) item =
 abbrev pub is_right : BookField → Before → Text → Bool
 is_right Head before item = bytes_eq item (codes "coz-ticks")
 is_right Version before item = bytes_eq item (field (codes "version") (codes "1"))
-is_right Budget before item = has_number Budget GREATEST_NUMBER item
-is_right Points before item = has_number Points MOST_POINTS item
+is_right Budget before item = has_number Budget MAX_NUMBER item
+is_right Points before item = has_number Points MAX_POINTS item
 is_right Point before item = bytes_eq item (codes "point")
 is_right Index before item = bytes_eq item (number_field (codes "index") (index_at before))
 is_right Name before item = has_label Name (comes_after (latest Name before)) item
@@ -207,15 +207,15 @@ is_right Experiment before item = bytes_eq item (codes "experiment")
 is_right Selected before item = has_label Selected (not_before (latest Selected before)) item
 is_right Speedup before item = has_speedup before item
 is_right End before item = is_field End item && is_ending_text (value_in End item)
-is_right Time before item = has_number Time GREATEST_NUMBER item
+is_right Time before item = has_number Time MAX_NUMBER item
 is_right Delay before item = has_number Delay (latest_number Time before) item
-is_right Retired before item = has_number Retired GREATEST_NUMBER item
-is_right Starts before item = has_number Starts GREATEST_NUMBER item
+is_right Retired before item = has_number Retired MAX_NUMBER item
+is_right Starts before item = has_number Starts MAX_NUMBER item
 is_right Output before item = bytes_eq item (codes "output")
-is_right Length before item = has_number Length GREATEST_NUMBER item
+is_right Length before item = has_number Length MAX_NUMBER item
 is_right Digest before item = is_field Digest item && is_digest (value_in Digest item)
 is_right Throughput before item = bytes_eq item (codes "throughput-point")
-is_right Delta before item = has_number Delta GREATEST_COUNT item
+is_right Delta before item = has_number Delta MAX_COUNT item
 is_right Visits before item = bytes_eq item (codes "visits")
 is_right Newline before item = bytes_eq item (codes "\n")
 

@@ -5,7 +5,7 @@ use Rattle.std.specs.Str.{bytes_eq}
 use Rattle.std.specs.Str.Parse.{digits_value}
 use Rattle.std.specs.List.{slice_split}
 use Rattle.coz_types.specs.Labels.{Text}
-use Rattle.coz_types.specs.declared.TheConstants.{GREATEST_SPEEDUP, MOST_POINTS, GREATEST_NUMBER, GREATEST_COUNT}
+use Rattle.coz_types.specs.declared.TheConstants.{MAX_SPEEDUP, MAX_POINTS, MAX_NUMBER, MAX_COUNT}
 use Rattle.profile_reader.specs.EndingSpellings.{is_ending_text}
 use Rattle.coz_types.specs.declared.record.Summary.{Summary}
 use Rattle.coz_types.specs.declared.record.Outcome.{Outcome}
@@ -71,7 +71,7 @@ label_at kind passes a = item_at kind (has_label kind passes) (value_in kind) a
 -- the speedup of a block with this label, after a block with that label and speedup
 abbrev pub is_speedup : Option Text → ℕ → Text → Text → Bool
 is_speedup last least label item =
-    has_number Speedup GREATEST_SPEEDUP item && goes_on last least label (number_in Speedup item)
+    has_number Speedup MAX_SPEEDUP item && goes_on last least label (number_in Speedup item)
 
 unfoldable pub speedup_at : Option Text → ℕ → Text → Ahead → Result (ℕ × Ahead) BookFault
 speedup_at last least label a = item_at Speedup (is_speedup last least label) (number_in Speedup) a
@@ -127,8 +127,8 @@ unfoldable pub head_at : Ahead → Result ((ℕ × ℕ) × Ahead) BookFault
 head_at a = do
   head ← word_at Head (codes "coz-ticks") a
   version ← word_at Version (codes "\tversion=1") head.1
-  budget ← number_at Budget GREATEST_NUMBER version.1
-  points ← number_at Points MOST_POINTS budget.1
+  budget ← number_at Budget MAX_NUMBER version.1
+  points ← number_at Points MAX_POINTS budget.1
   end ← word_at Newline (codes "\n") points.1
   Ok ((budget.0, points.0), end.1)
 
@@ -152,7 +152,7 @@ unfoldable pub count_at : ℕ → Ahead → Result (ℕ × Ahead) BookFault
 count_at index a = do
   point ← word_at Throughput (codes "throughput-point") a
   number ← word_at Index (number_field (codes "index") index) point.1
-  count ← number_at Delta GREATEST_COUNT number.1
+  count ← number_at Delta MAX_COUNT number.1
   end ← word_at Newline (codes "\n") count.1
   Ok (count.0, end.1)
 
@@ -173,10 +173,10 @@ speedup_of last = unwrap_or (option_map (λ (s : Summary). s.speedup) last) 0
 unfoldable pub outcome_at : Ahead → Result (Outcome × Ahead) BookFault
 outcome_at a = do
   ending ← ending_at a
-  time ← number_at Time GREATEST_NUMBER ending.1
+  time ← number_at Time MAX_NUMBER ending.1
   delay ← number_at Delay time.0 time.1
-  retired ← number_at Retired GREATEST_NUMBER delay.1
-  starts ← number_at Starts GREATEST_NUMBER retired.1
+  retired ← number_at Retired MAX_NUMBER delay.1
+  starts ← number_at Starts MAX_NUMBER retired.1
   end ← word_at Newline (codes "\n") starts.1
   Ok (
     record {
@@ -199,7 +199,7 @@ selection_at last a = do
 unfoldable pub output_at : Ahead → Result ((ℕ × List ℕ) × Ahead) BookFault
 output_at a = do
   output ← word_at Output (codes "output") a
-  size ← number_at Length GREATEST_NUMBER output.1
+  size ← number_at Length MAX_NUMBER output.1
   digest ← digest_at size.1
   end ← word_at Newline (codes "\n") digest.1
   Ok ((size.0, digest.0), end.1)

@@ -8,9 +8,9 @@ use crate::numbers::{address, decimal};
 use coz_types::{Ending, HARTS, HartId, Trap, TrapCause};
 
 /// The greatest code of an exit.
-const MOST_CODE: u64 = 255;
+const MAX_CODE: u64 = 255;
 /// The greatest number of a hart.
-const MOST_HART: u64 = HARTS as u64 - 1;
+const MAX_HART: u64 = HARTS as u64 - 1;
 
 /// The bytes before the first colon, and those after it, if there is one.
 fn cut(text: &[u8]) -> (&[u8], Option<&[u8]>)
@@ -48,7 +48,7 @@ fn numbered(word: &[u8], number: &[u8]) -> Option<Ending>
         (ending_in_parts (word.now ∷ number.now ∷ [])) result }
 {
     if word == b"exited".as_slice() {
-        let code = decimal(number, MOST_CODE)?;
+        let code = decimal(number, MAX_CODE)?;
         return Some(Ending::Exited(code as u8));
     }
     if word == b"unsupported".as_slice() {
@@ -84,7 +84,7 @@ fn trapped(word: &[u8], name: &[u8], hart: &[u8], pc: &[u8]) -> Option<Ending>
         return None;
     }
     let cause = cause(name)?;
-    let hart = decimal(hart, MOST_HART)?;
+    let hart = decimal(hart, MAX_HART)?;
     let pc = address(pc)?;
     let hart = HartId(hart as u16);
     Some(Ending::Trapped(Trap { cause, hart, pc }))

@@ -15,7 +15,7 @@ use crate::labels::is_label;
 use crate::moves::{fault, item};
 use crate::orders::{comes_after, goes_on, not_before};
 use crate::values::{number_of, value};
-use coz_types::{Digest, Ending, GREATEST_SPEEDUP, Label, Summary};
+use coz_types::{Digest, Ending, Label, MAX_SPEEDUP, Summary};
 
 /// The item that is these bytes. Err where another item stands there, or none.
 #[tactic(auto, unfolding(crate::specs::Reading::word_at))]
@@ -97,7 +97,7 @@ pub fn speedup<'a>(
         (ahead at.entry)) }
 {
     let (word, next) = item(at);
-    match number_of(word, BookField::Speedup, GREATEST_SPEEDUP) {
+    match number_of(word, BookField::Speedup, MAX_SPEEDUP) {
         Some(speedup) if goes_on(last, label, speedup) => Ok((speedup as u8, next)),
         _ => Err(fault(at, BookField::Speedup)),
     }

@@ -4,7 +4,7 @@ ghost use Rattle.coz_types.specs.Labels.{is_hex_digit, hex_value, is_escaped, sc
 ghost use Rattle.profile_reader.specs.Scanning.{small_digit, small_next};
 
 use crate::numbers::decimal;
-use coz_types::GREATEST_LINE;
+use coz_types::MAX_LINE;
 
 fn is_hex_digit(byte: u8) -> bool
     ensures { result ≡ is_hex_digit byte }
@@ -91,7 +91,7 @@ fn last_colon(label: &[u8]) -> Option<usize>
 fn line_number(text: &[u8]) -> u64
     ensures { result ≡ line_number text.now }
 {
-    decimal(text, GREATEST_LINE).unwrap_or(0)
+    decimal(text, MAX_LINE).unwrap_or(0)
 }
 
 fn number_of(label: &[u8]) -> u64

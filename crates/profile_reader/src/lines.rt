@@ -7,7 +7,7 @@ ghost use Rattle.profile_reader.specs.Standing.{ahead};
 use crate::cursor::Cursor;
 use crate::fault::{BookError, BookField};
 use crate::fields::{digest, ending, index, name, number, selected, speedup, word};
-use coz_types::{Digest, GREATEST_COUNT, GREATEST_NUMBER, Label, MOST_POINTS, Outcome, Summary};
+use coz_types::{Digest, Label, MAX_COUNT, MAX_NUMBER, MAX_POINTS, Outcome, Summary};
 
 /// The budget and the number of points. Err tells the first wrong item.
 #[tactic(auto, unfolding(crate::specs::Reading::head_at, crate::specs::Reading::bind))]
@@ -16,8 +16,8 @@ pub fn head<'a>(at: Cursor<'a>) -> Result<((u64, u64), Cursor<'a>), BookError>
 {
     let at = word(at, BookField::Head, b"coz-ticks")?;
     let at = word(at, BookField::Version, b"\tversion=1")?;
-    let (budget, at) = number(at, BookField::Budget, GREATEST_NUMBER)?;
-    let (points, at) = number(at, BookField::Points, MOST_POINTS as u64)?;
+    let (budget, at) = number(at, BookField::Budget, MAX_NUMBER)?;
+    let (points, at) = number(at, BookField::Points, MAX_POINTS as u64)?;
     let at = word(at, BookField::Newline, b"\n")?;
     Ok(((budget, points), at))
 }
@@ -46,7 +46,7 @@ pub fn count_line<'a>(at: Cursor<'a>, place: u64) -> Result<(u64, Cursor<'a>), B
 {
     let at = word(at, BookField::Throughput, b"throughput-point")?;
     let at = index(at, place)?;
-    let (count, at) = number(at, BookField::Delta, GREATEST_COUNT)?;
+    let (count, at) = number(at, BookField::Delta, MAX_COUNT)?;
     let at = word(at, BookField::Newline, b"\n")?;
     Ok((count, at))
 }
@@ -57,10 +57,10 @@ pub fn outcome<'a>(at: Cursor<'a>) -> Result<(Outcome, Cursor<'a>), BookError>
     ensures { Gives (λ x. (x.0, ahead x.1)) result (outcome_at (ahead at.entry)) }
 {
     let (ending, at) = ending(at)?;
-    let (time, at) = number(at, BookField::Time, GREATEST_NUMBER)?;
+    let (time, at) = number(at, BookField::Time, MAX_NUMBER)?;
     let (delay, at) = number(at, BookField::Delay, time)?;
-    let (retired, at) = number(at, BookField::Retired, GREATEST_NUMBER)?;
-    let (starts, at) = number(at, BookField::Starts, GREATEST_NUMBER)?;
+    let (retired, at) = number(at, BookField::Retired, MAX_NUMBER)?;
+    let (starts, at) = number(at, BookField::Starts, MAX_NUMBER)?;
     let at = word(at, BookField::Newline, b"\n")?;
     let outcome = Outcome {
         ending,
@@ -93,7 +93,7 @@ pub fn output<'a>(at: Cursor<'a>) -> Result<((u64, Digest), Cursor<'a>), BookErr
     ensures { Gives (λ x. ((x.0.0, x.0.1.bytes), ahead x.1)) result (output_at (ahead at.entry)) }
 {
     let at = word(at, BookField::Output, b"output")?;
-    let (length, at) = number(at, BookField::Length, GREATEST_NUMBER)?;
+    let (length, at) = number(at, BookField::Length, MAX_NUMBER)?;
     let (digest, at) = digest(at)?;
     let at = word(at, BookField::Newline, b"\n")?;
     Ok(((length, digest), at))

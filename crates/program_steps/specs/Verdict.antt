@@ -1,6 +1,6 @@
 -- What the steps that commands share come to, and what follows each.
 use Rattle.std.specs.Prelude.{ℕ, List, ◌++◌, length, nat_lt, codes, Option, None, Some, Result, Ok, Err, if◌then◌else◌}
-use Rattle.coz_types.specs.declared.TheConstants.{MOST_POINTS}
+use Rattle.coz_types.specs.declared.TheConstants.{MAX_POINTS}
 use Rattle.coz_types.specs.Image.{ImageParts}
 pub use Rattle.coz_files.specs.Verdict.{Verdict, refusal, text_verdict}
 use Rattle.coz_words.specs.Said.{Text}
@@ -34,7 +34,7 @@ named_verdict (Ok named) next = next named
 -- of progress points, if there are at most 64, and of what follows
 abbrev pub points_verdict : List ℕ → (List ℕ → Verdict) → Verdict
 points_verdict points next =
-    if nat_lt MOST_POINTS (length points) then refusal 7 (points_line (length points))
+    if nat_lt MAX_POINTS (length points) then refusal 7 (points_line (length points))
     else next points
 
 -- of a path's file that may have at most `most` bytes, and of what follows if it does

@@ -1,7 +1,7 @@
 -- Progress points: lines whose entry addresses are counted.
 use Rattle.std.specs.Prelude.{◌≡◌, ◌≤◌, ◌<◌, ℕ, Bool, ◌==◌, List, [], length, map, get_or, Option, option_map, find, position}
 use Rattle.std.specs.List.{list_any}
-use Rattle.coz_types.specs.declared.TheConstants.{MOST_POINTS}
+use Rattle.coz_types.specs.declared.TheConstants.{MAX_POINTS}
 use Rattle.coz_types.specs.declared.LineId.{LineId}
 use Rattle.line_index.specs.Index.{Index}
 pub use Rattle.progress_points.specs.declared.marks.Mark.{Mark}
@@ -39,7 +39,7 @@ point_in entries lines a = position (has_entry entries a) lines
 
 -- these are the points of the lines
 pub record IsPoints (index : Index) (chosen : List ℕ) (points : Points) : Type 0 where
-  pub few : length chosen ≤ MOST_POINTS
+  pub few : length chosen ≤ MAX_POINTS
   pub lines : points.lines ≡ chosen
   pub each : (a : ℕ) → point_of points a ≡ point_in index.entries chosen a
 
@@ -48,5 +48,5 @@ ids lines = map (λ (line : LineId). line.0) lines
 
 -- `count` lines are too many, or it was out of memory for so few
 abbrev pub IsFault : ℕ → PointsError → Type 0
-IsFault count (TooMany n) = (MOST_POINTS < count) × (n ≡ count)
-IsFault count Memory = count ≤ MOST_POINTS
+IsFault count (TooMany n) = (MAX_POINTS < count) × (n ≡ count)
+IsFault count Memory = count ≤ MAX_POINTS

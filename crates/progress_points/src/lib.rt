@@ -10,7 +10,7 @@ ghost use Rattle.progress_points.specs.declared.PointsError.TheVariants.{Memory}
 ghost use Rattle.progress_points.specs.Points.{Points, IsPoints, IsFault, point_of, ids};
 
 use crate::marks::{Mark, first_mark, marks_of};
-use coz_types::{Address, LineId, MOST_POINTS, PointId};
+use coz_types::{Address, LineId, MAX_POINTS, PointId};
 use line_index::LineIndex;
 use std::alloc::{AllocError, AllocFailed, Global};
 use std::marker::Model;
@@ -18,7 +18,7 @@ use std::marker::Model;
 /// Why there are no points.
 #[derive(Clone, Copy, Debug, PartialEq, Eq)]
 pub enum PointsError {
-    /// The number of lines, which exceeds `MOST_POINTS`.
+    /// The number of lines, which exceeds `MAX_POINTS`.
     TooMany(u64),
     /// Memory was wanting.
     Memory,
@@ -71,7 +71,7 @@ impl Points {
         ensures { MatchResult result (IsPoints index.now (ids lines.now))
             (IsFault (length lines.now)) }
     {
-        if lines.len() > MOST_POINTS {
+        if lines.len() > MAX_POINTS {
             return Err(PointsError::TooMany(lines.len() as u64));
         }
         Ok(Points {

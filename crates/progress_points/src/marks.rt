@@ -2,7 +2,7 @@
 
 ghost use Rattle.std.specs.Prelude.{◌≡◌, ◌≤◌, ◌<◌, ◌++◌, ℕ, length, All, IfOk, OnOk, find};
 ghost use Rattle.std.specs.List.Sorted.{IsNonDecreasingBy, IsPartitionPoint};
-ghost use Rattle.coz_types.specs.declared.TheConstants.{MOST_POINTS};
+ghost use Rattle.coz_types.specs.declared.TheConstants.{MAX_POINTS};
 ghost use Rattle.coz_types.specs.declared.LineId.{LineId};
 ghost use Rattle.progress_points.specs.declared.marks.Mark.{Mark};
 ghost use Rattle.progress_points.specs.Points.{marks_at, is_at, first_point, point_in, ids};
@@ -40,7 +40,7 @@ fn marks_by_line(
     lines: &[LineId],
 ) -> Result<Vec<Mark>, AllocError>
     requires below { All (λ (line : LineId). line.0 < length index.now.lines) lines.now }
-    requires few { length lines.now ≤ MOST_POINTS }
+    requires few { length lines.now ≤ MAX_POINTS }
     ensures { IfOk result (λ marks.
         (a : ℕ) → first_point a marks.items ≡ point_in index.now.entries (ids lines.now) a) }
 {
@@ -55,7 +55,7 @@ fn marks_by_line(
 /// of the lines.
 pub fn marks_of(alloc: Global, index: &LineIndex, lines: &[LineId]) -> Result<Vec<Mark>, AllocError>
     requires below { All (λ (line : LineId). line.0 < length index.now.lines) lines.now }
-    requires few { length lines.now ≤ MOST_POINTS }
+    requires few { length lines.now ≤ MAX_POINTS }
     ensures in_order { IfOk result (λ marks.
         IsNonDecreasingBy (λ (mark : Mark). mark.address) marks.items) }
     ensures points { IfOk result (λ marks.

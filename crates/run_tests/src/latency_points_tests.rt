@@ -10,7 +10,7 @@ use std::test::Fail;
 const EDGE: Tick = 100_000_000_000_000_000;
 
 /// The most calls of a case.
-const MOST_CALLS: u64 = 8;
+const MAX_CALLS: u64 = 8;
 
 /// Whether something arrives, or else departs, at each moment; the end, and the latency.
 static CALLS: [(&[(bool, Tick)], Tick, Latency); 3] = [
@@ -55,7 +55,7 @@ static CALLS: [(&[(bool, Tick)], Tick, Latency); 3] = [
 fn give(flow: &mut Flow, arrives: bool, net: Tick)
     requires later { flow.old.latest ≤ net }
     requires soon { net ≤ EDGE }
-    requires few { counted flow.old < MOST_CALLS }
+    requires few { counted flow.old < MAX_CALLS }
     ensures latest { flow.new.latest ≡ net }
     ensures counted { counted flow.new ≡ counted flow.old + 1 }
 {
@@ -69,7 +69,7 @@ fn give(flow: &mut Flow, arrives: bool, net: Tick)
 /// The latency of some calls. None where their moments fall, or are over the edge,
 /// or where there are too many.
 fn latency_of(calls: &[(bool, Tick)], end: Tick) -> Option<Latency> {
-    if calls.len() as u64 > MOST_CALLS {
+    if calls.len() as u64 > MAX_CALLS {
         return None;
     }
     let mut flow = Flow::new();

@@ -8,8 +8,8 @@ use Rattle.asm_tokens.specs.declared.AsmKind.TheVariants as kinds
 use Rattle.asm_tokens.specs.declared.form.Form.{Form}
 use Rattle.asm_tokens.specs.declared.form.Section.{Section}
 use Rattle.asm_tokens.specs.declared.form.Section.TheVariants as sections
-use Rattle.rv_asm.specs.declared.lines.TheConstants.{MOST_LINES}
-use Rattle.rv_asm.specs.declared.state.TheConstants.{MOST_BYTES}
+use Rattle.rv_asm.specs.declared.lines.TheConstants.{MAX_LINES}
+use Rattle.rv_asm.specs.declared.state.TheConstants.{MAX_SECTION}
 use Rattle.rv_asm.specs.declared.state.Place.{Place}
 use Rattle.asm_tokens.specs.Tokens.{Read, wrong, ◌>>=◌, Placed, tokens, is_allowed}
 use Rattle.rv_asm.specs.Statements.{Piece, Zeros, Statement, Puts, Aligns, Enters, size, section_of, statement}
@@ -31,7 +31,7 @@ total_more f [] p = omega arith
 total_more f (q ∷ ps) p = omega (arith, total_more f ps p)
 
 abbrev pub IsLine : ℕ → Type 0
-IsLine line = (1 ≤ line) × (line ≤ MOST_LINES)
+IsLine line = (1 ≤ line) × (line ≤ MAX_LINES)
 
 abbrev pub IsPut : Put → Type 0
 IsPut p = (p.place.section ≡ sections.Text → IsWhole p.piece) × IsLine p.line
@@ -42,8 +42,8 @@ all_more (q ∷ ps) p all is = (all.0, all_more ps p all.1 is)
 
 pub record IsRight (s : State) : Type 0 where
   pub text_whole : s.text % 4 ≡ 0
-  pub text_fits : s.text ≤ MOST_BYTES
-  pub content_fits : s.content ≤ MOST_BYTES
+  pub text_fits : s.text ≤ MAX_SECTION
+  pub content_fits : s.content ≤ MAX_SECTION
   pub labels_whole : (name : List ℕ) (p : Place) → s.labels name ≡ Some p → p.section ≡ sections.Text → p.offset % 4 ≡ 0
   pub text_total : total text_size s.puts ≡ s.text
   pub content_total : total content_size s.puts ≡ s.content
@@ -67,7 +67,7 @@ abbrev Keeps : Section → State → Type 0
 Keeps section s = IsRight s × (s.section ≡ section)
 
 with_more_right : (section : Section) (s : State) (line : ℕ) (piece : Piece) → IsLine line → IsRight s → (section ≡ sections.Text → IsWhole piece)
-    → section_length (record s { section = section }) + size piece ≤ MOST_BYTES
+    → section_length (record s { section = section }) + size piece ≤ MAX_SECTION
     → Keeps section (with_more (size piece) (record s { section = section; puts = s.puts ++ record { line = line; place = next_place (record s { section = section }); piece = piece } ∷ [] }))
 with_more_right sections.Text s line piece is right whole room =
     let p : Put = record { line = line; place = record { section = sections.Text; offset = s.text }; piece = piece } in
@@ -98,13 +98,13 @@ with_more_right sections.Data s line piece is right whole room =
       refl,
     )
 
-placed_by : (much : Bool) (line column : ℕ) (piece : Piece) (s : State) → nat_lt MOST_BYTES (section_length s + size piece) ≡ much → IsLine line → IsRight s → (s.section ≡ sections.Text → IsWhole piece)
+placed_by : (much : Bool) (line column : ℕ) (piece : Piece) (s : State) → nat_lt MAX_SECTION (section_length s + size piece) ≡ much → IsLine line → IsRight s → (s.section ≡ sections.Text → IsWhole piece)
     → IfOk (if much then wrong kinds.Much column else Ok (with_more (size piece) (record s { puts = s.puts ++ record { line = line; place = next_place s; piece = piece } ∷ [] }))) (Keeps s.section)
 placed_by true line column piece s e is right whole = tt
 placed_by false line column piece s e is right whole = with_more_right s.section s line piece is right whole (ltb-false _ _ e)
 
 piece_right : (line column : ℕ) (piece : Piece) (s : State) → IsLine line → IsRight s → (s.section ≡ sections.Text → IsWhole piece) → IfOk (with_piece line column piece s) (Keeps s.section)
-piece_right line column piece s is right whole = placed_by (nat_lt MOST_BYTES (section_length s + size piece)) line column piece s refl is right whole
+piece_right line column piece s is right whole = placed_by (nat_lt MAX_SECTION (section_length s + size piece)) line column piece s refl is right whole
 
 pieces_right : (line column : ℕ) (pieces : List Piece) (s : State) → IsLine line → IsRight s → (s.section ≡ sections.Text → AllByRecursion IsWhole pieces) → IfOk (with_pieces line column pieces s) IsRight
 unfolding with_pieces
@@ -205,13 +205,13 @@ tokens_right line end (t ∷ c ∷ ts) s is right =
       | None ↦ with_statement_right line end t (c ∷ ts) s is right
     ]
 
-few_by : (few : Bool) (n : ℕ) → nat_le n MOST_LINES ≡ few → IfOk (check few kinds.Lines 1) (λ b. n ≤ MOST_LINES)
+few_by : (few : Bool) (n : ℕ) → nat_le n MAX_LINES ≡ few → IfOk (check few kinds.Lines 1) (λ b. n ≤ MAX_LINES)
 few_by true n e = leb-true _ _ e
 few_by false n e = tt
 
 line_right : (n : ℕ) (line : List ℕ) (s : State) → 1 ≤ n → IsRight s → IfOk (take_line n line s) IsRight
 line_right n line s some right =
-    then_ok (λ b. n ≤ MOST_LINES) IsRight (check (nat_le n MOST_LINES) kinds.Lines 1) _ (few_by (nat_le n MOST_LINES) n refl) (λ b few.
+    then_ok (λ b. n ≤ MAX_LINES) IsRight (check (nat_le n MAX_LINES) kinds.Lines 1) _ (few_by (nat_le n MAX_LINES) n refl) (λ b few.
     and_ok IsRight (byte_check (position (λ b. not (is_allowed b)) line)) _ (λ allowed.
     and_ok IsRight (tokens line) _ (λ ts. tokens_right n _ ts s (some, few) right)))
 

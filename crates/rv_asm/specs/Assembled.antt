@@ -13,8 +13,8 @@ use Rattle.rv_decode.specs.Instructions.{word_of}
 use Rattle.asm_tokens.specs.declared.AsmKind.{AsmKind}
 use Rattle.asm_tokens.specs.declared.AsmKind.TheVariants as kinds
 use Rattle.rv_asm.specs.declared.TheConstants.{TEXT_START}
-use Rattle.rv_asm.specs.declared.lines.TheConstants.{MOST_LINES}
-use Rattle.rv_asm.specs.declared.state.TheConstants.{MOST_BYTES}
+use Rattle.rv_asm.specs.declared.lines.TheConstants.{MAX_LINES}
+use Rattle.rv_asm.specs.declared.state.TheConstants.{MAX_SECTION}
 use Rattle.rv_asm.specs.declared.AsmFault.{AsmFault}
 use Rattle.rv_asm.specs.declared.Assembled.{Assembled}
 use Rattle.rv_asm.specs.declared.state.Place.{Place}
@@ -67,7 +67,7 @@ with_more n s = elim (s.section) [
 
 abbrev pub with_piece : ℕ → ℕ → Piece → State → Read State
 with_piece line column piece s =
-    if nat_lt MOST_BYTES (section_length s + size piece) then wrong kinds.Much column
+    if nat_lt MAX_SECTION (section_length s + size piece) then wrong kinds.Much column
     else Ok (with_more (size piece) (record s {
       puts = s.puts ++ record { line = line; place = next_place s; piece = piece } ∷ [];
     }))
@@ -148,7 +148,7 @@ byte_check (Some k) = wrong kinds.Byte (k + 1)
 
 abbrev pub take_line : ℕ → List ℕ → State → Read State
 take_line n line s = do
-  few ← check (nat_le n MOST_LINES) kinds.Lines 1
+  few ← check (nat_le n MAX_LINES) kinds.Lines 1
   allowed ← byte_check (position (λ b. not (is_allowed b)) line)
   ts ← tokens line
   take_tokens n (length line + 1) ts s
@@ -269,10 +269,10 @@ program s fs = record {
 -- and the entry at one of them
 pub record IsProgram (p : Program) : Type 0 where
   pub some : 0 < length p.text
-  pub text_fits : length p.text ≤ MOST_BYTES
-  pub content_fits : length p.content ≤ MOST_BYTES
+  pub text_fits : length p.text ≤ MAX_SECTION
+  pub content_fits : length p.content ≤ MAX_SECTION
   pub whole : length p.text ≡ 4 * length p.lines
-  pub lines_fit : All (λ line. (1 ≤ line) × (line ≤ MOST_LINES)) p.lines
+  pub lines_fit : All (λ line. (1 ≤ line) × (line ≤ MAX_LINES)) p.lines
   pub entry_whole : p.entry % 4 ≡ 0
   pub entry_starts : TEXT_START ≤ p.entry
   pub entry_within : p.entry < TEXT_START + length p.text

@@ -26,7 +26,7 @@ use Rattle.asm_tokens.specs.declared.form.Alone.{Alone}
 use Rattle.asm_tokens.specs.declared.form.Alone.TheVariants as alone
 use Rattle.asm_tokens.specs.Tokens.{Read, wrong, ◌>>=◌, Name, Number, Text, Mark, Placed}
 use Rattle.asm_tokens.specs.Table.{register_of}
-use Rattle.rv_asm.specs.declared.state.TheConstants.{MOST_BYTES}
+use Rattle.rv_asm.specs.declared.state.TheConstants.{MAX_SECTION}
 
 -- a label where it is used
 pub record Use : Type 0 where
@@ -345,7 +345,7 @@ module _ (end : ℕ) where
     bytes ← text_operand ts
     puts (Bytes bytes.0 ∷ []) bytes.1
   statement forms.Zeros ts = do
-    n ← number_up_to MOST_BYTES ts
+    n ← number_up_to MAX_SECTION ts
     puts (Zeros n.0 ∷ []) n.1
   statement forms.Align ts = do
     n ← number_up_to 12 ts

@@ -16,7 +16,7 @@ ghost use Rattle.asm_tokens.specs.declared.form.Form.TheVariants as forms;
 use crate::AsmKind;
 use crate::operands::{NameUse, Operands, operand_fault};
 use crate::pieces::{Piece, Statement, low_bits, lower, upper};
-use crate::state::MOST_BYTES;
+use crate::state::MAX_SECTION;
 use asm_tokens::{
     Alone, Form, LineError, Order, Placed, Register, Section, Size, Token, Width, number_of,
 };
@@ -451,7 +451,7 @@ fn zeros_form<'s>(alloc: Global, mut operands: Operands<'_, 's>) -> Result<State
     ensures value { Reads forms.Zeros result operands.entry }
     ensures within { IfOk result AlignsWithin }
 {
-    let count = operands.number_up_to(MOST_BYTES)?;
+    let count = operands.number_up_to(MAX_SECTION)?;
     puts(alloc, operands, Piece::Zeros(count))
 }
 

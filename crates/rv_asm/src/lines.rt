@@ -19,7 +19,7 @@ use asm_tokens::{Form, LineError, Placed, Section, Token, form_of, is_blank, tok
 use std::alloc::Global;
 
 /// The most lines of a source.
-const MOST_LINES: u32 = 65_536;
+const MAX_LINES: u32 = 65_536;
 
 /// Whether a byte may stand in a line.
 fn is_allowed(byte: u8) -> bool
@@ -178,7 +178,7 @@ fn take_line<'s>(
     ensures value { Steps result (state_of state.new)
         (take_line number line.now (state_of state.old)) }
 {
-    if number > MOST_LINES {
+    if number > MAX_LINES {
         return Err(LineError::Fault {
             kind: AsmKind::Lines,
             column: 1,

@@ -12,7 +12,7 @@ use std::alloc::Global;
 use std::collections::BTreeMap;
 
 /// The most bytes of a section.
-pub const MOST_BYTES: u32 = 1_048_576;
+pub const MAX_SECTION: u32 = 1_048_576;
 
 /// A place in a section.
 #[derive(Clone, Copy)]
@@ -127,7 +127,7 @@ impl<'s> State<'s> {
             (with_piece line column (piece_of piece.entry) (state_of self.old)) }
     {
         let end = (self.section_length() as usize).saturating_add(size(&piece));
-        if end > MOST_BYTES as usize {
+        if end > MAX_SECTION as usize {
             return Err(LineError::Fault {
                 kind: AsmKind::Much,
                 column,

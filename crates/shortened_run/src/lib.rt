@@ -2,7 +2,7 @@
 #![tactic(auto)]
 
 ghost use Rattle.std.specs.Prelude.{◌≡◌, ◌≤◌, ◌<◌, Some, IfOk, All, length, map};
-ghost use Rattle.coz_types.specs.declared.TheConstants.{HARTS, MOST_OUTPUT, MOST_VISITS_KEPT};
+ghost use Rattle.coz_types.specs.declared.TheConstants.{HARTS, MAX_OUTPUT, MAX_VISITS};
 ghost use Rattle.machines.specs.KeptVisits.{net_of};
 ghost use Rattle.virtual_run.specs.Seen.{machine_view, experiment_of};
 ghost use Rattle.shortened_run.specs.ShortenedRun.{AreUndelayed};
@@ -116,7 +116,7 @@ impl<'a> Short<'a> {
     /// The visits of progress points, at most 1,048,576, in order, each with a delay of 0.
     pub fn visits(&self) -> &[Visit]
         ensures visits { map net_of result.now ≡ self.now.state.visits }
-        ensures few { length result.now ≤ MOST_VISITS_KEPT }
+        ensures few { length result.now ≤ MAX_VISITS }
         ensures harts { All (λ visit. visit.hart.0 < HARTS) result.now }
         ensures undelayed { AreUndelayed result.now }
     {
@@ -126,7 +126,7 @@ impl<'a> Short<'a> {
     /// What was written, at most 67,108,864 bytes.
     pub fn output(&self) -> &[u8]
         ensures bytes { result.now ≡ self.now.state.guest.output }
-        ensures few { length result.now ≤ MOST_OUTPUT }
+        ensures few { length result.now ≤ MAX_OUTPUT }
     {
         self.engine.output()
     }

@@ -1,7 +1,7 @@
 -- One move of the engine of both machines.
 use Rattle.std.specs.Prelude.{◌≡◌, ℕ, ◌+◌, ◌^◌, ◌≤◌, ◌<◌, ◌++◌, Bool, true, false, List, [], ◌∷◌, length, nat_le, Option, Some, None, IsSome}
-use Rattle.coz_types.specs.declared.TheConstants.{GREATEST_SPEEDUP, HARTS}
-use Rattle.cost_table.specs.declared.TheConstants.{MOST_TICKS}
+use Rattle.coz_types.specs.declared.TheConstants.{MAX_SPEEDUP, HARTS}
+use Rattle.cost_table.specs.declared.TheConstants.{MAX_TICKS}
 use Rattle.coz_types.specs.declared.ending.Ending.{Ending}
 use Rattle.hart_schedule.specs.Keys.{Keys, key_of, IsLeast}
 use Rattle.machines.specs.declared.Fate.{Fate}
@@ -51,7 +51,7 @@ pub record IsRetired (setting : Setting) (engine : Engine) (hart : ℕ) (fate : 
   pub few : new.starts ≤ events_of new + many new.schedule
   -- no wake is later than at 10^16
   pub within : (moment : ℕ) → 10 ^ 16 ≤ moment → AreWithin moment engine.schedule
-      → AreWithin (moment + MOST_TICKS) new.schedule
+      → AreWithin (moment + MAX_TICKS) new.schedule
 
 -- how its run ends with a retirement to this fate, where those are the keys of the harts
 -- that stay in the schedule
@@ -72,7 +72,7 @@ pub record CanSettle (setting : Setting) (engine : Engine) (hart : ℕ) (fate : 
       → AreIdle engine.guest (keys_at_rest hart fate engine.schedule)
       (started_by hart fate engine.started)
   pub moment : engine.time ≤ 2 ^ 60
-  pub speedup : setting.choice.speedup ≤ GREATEST_SPEEDUP
+  pub speedup : setting.choice.speedup ≤ MAX_SPEEDUP
   pub room : length engine.schedule ≡ HARTS
   pub selected : engine.selected ≡ []
   pub few : engine.starts ≤ 2 ^ 62
@@ -117,7 +117,7 @@ pub record IsWoken (setting : Setting) (engine : Engine) (hart moment : ℕ)
   pub room : length new.schedule ≡ HARTS
   pub few : new.starts ≤ events_of new + many new.schedule
   pub within : (moment : ℕ) → AreWithin moment engine.schedule
-      → AreWithin (moment + MOST_TICKS) new.schedule
+      → AreWithin (moment + MAX_TICKS) new.schedule
   -- nothing is visited, nor retired, nor ended
   pub rest : new ≡ record engine {
     guest = new.guest;

@@ -1,7 +1,7 @@
 -- The accounts and pauses of a delayed state, as credits hold them.
 use Rattle.std.specs.Prelude.{◌≡◌, ℕ, ◌+◌, ◌*◌, ◌^◌, ◌≤◌, ◌<◌, true, false, if◌then◌else◌, List, [], ◌∷◌, length, slice_index_or, Option, Some, None}
 use Rattle.coz_types.specs.declared.ending.Ending.{Ending}
-use Rattle.cost_table.specs.declared.TheConstants.{MOST_RAISE}
+use Rattle.cost_table.specs.declared.TheConstants.{MAX_RAISE}
 use Rattle.cost_table.specs.Costs.{cycles_of, raise_of}
 use Rattle.machines.specs.declared.Fate.{Fate}
 use Rattle.machines.specs.Guest.{goes_on, is_sleeper}
@@ -106,7 +106,7 @@ pub record CanBegin (c : Delays) (g : Guest) (hart : ℕ) (fate : Fate)
   pub selected : (k : ℕ) → is_among k raisers ≡ true
       → is_among k (started_by hart fate others) ≡ true
   pub made : AllMade g raisers
-  pub few : c.raised + MOST_RAISE * length raisers ≤ 10 ^ 17
+  pub few : c.raised + MAX_RAISE * length raisers ≤ 10 ^ 17
 
 -- the run goes on, and so does the hart that retired, with no other made or woken
 pub record IsAlone (ending : Option Ending) (fate : Fate) (others : List ℕ) : Type 0 where
@@ -120,7 +120,7 @@ pub record CanWake (c : Delays) (engine : Engine) (hart now : ℕ) : Type 0 wher
   pub later : c.latest ≤ now
   pub runs : AllRun (with_starts (hart ∷ []) (at now c)) engine.selected
   pub made : AllMade engine.guest engine.selected
-  pub few : c.raised + MOST_RAISE * length engine.selected ≤ 10 ^ 17
+  pub few : c.raised + MAX_RAISE * length engine.selected ≤ 10 ^ 17
 
 -- and for one to have retired
 pub record CanSettle (c : Delays) (engine : Engine) (hart : ℕ) (fate : Fate)

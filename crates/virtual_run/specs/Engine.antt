@@ -2,7 +2,7 @@
 -- and what holds between its moves.
 use Rattle.std.specs.Prelude.{◌≡◌, ℕ, ◌+◌, ◌*◌, ◌^◌, ◌≤◌, ◌<◌, List, [], ◌∷◌, map, length, get_or, Option, Some, None, is_some}
 use Rattle.coz_types.specs.declared.TheConstants.{HARTS}
-use Rattle.cost_table.specs.declared.TheConstants.{MOST_TICKS}
+use Rattle.cost_table.specs.declared.TheConstants.{MAX_TICKS}
 use Rattle.coz_types.specs.Image.{ImageParts}
 use Rattle.hart_schedule.specs.Keys.{Keys, key_of, IsEmpty}
 use Rattle.machines.specs.Guest.{Experiment}
@@ -68,7 +68,7 @@ pub record IsReached (x : Experiment Guest) (engine : Engine) : Type 0 where
   pub retired : engine.retired ≤ x.budget
   pub few : engine.starts ≤ events_of engine + many engine.schedule
   -- a hart sleeps to a moment of at most 10^16, and each event takes at most an instruction's ticks
-  pub within : AreWithin (10 ^ 16 + MOST_TICKS * (events_of engine + 1)) engine.schedule
+  pub within : AreWithin (10 ^ 16 + MAX_TICKS * (events_of engine + 1)) engine.schedule
 
 -- as it begins the run of an image on an input
 pub record IsFirst (setting : Setting) (image : ImageParts) (input : List ℕ)

@@ -1,6 +1,6 @@
 -- The run of a program: the machines over its guest, with a selected line and progress points.
 use Rattle.std.specs.Prelude.{ℕ, ◌≤◌, Bool, false, List, filter, Option, Some, None, option_map}
-use Rattle.coz_types.specs.declared.TheConstants.{GREATEST_SPEEDUP, GREATEST_BUDGET, MOST_OUTPUT, MOST_VISITS_KEPT}
+use Rattle.coz_types.specs.declared.TheConstants.{MAX_SPEEDUP, MAX_BUDGET, MAX_OUTPUT, MAX_VISITS}
 use Rattle.coz_types.specs.Image.{ImageParts}
 use Rattle.machines.specs.Guest.{Experiment}
 use Rattle.line_index.specs.Index.{position_at}
@@ -15,13 +15,13 @@ use Rattle.virtual_run.specs.Begin.{ticks_of}
 
 -- within the limits
 pub record IsChoice (c : Choice) : Type 0 where
-  pub speedup : c.speedup ≤ GREATEST_SPEEDUP
+  pub speedup : c.speedup ≤ MAX_SPEEDUP
   pub some_budget : 1 ≤ c.budget
-  pub few : c.budget ≤ GREATEST_BUDGET
+  pub few : c.budget ≤ MAX_BUDGET
   pub some_output : 1 ≤ c.output_limit
-  pub output : c.output_limit ≤ MOST_OUTPUT
+  pub output : c.output_limit ≤ MAX_OUTPUT
   pub some_visits : 1 ≤ c.visit_limit
-  pub visits : c.visit_limit ≤ MOST_VISITS_KEPT
+  pub visits : c.visit_limit ≤ MAX_VISITS
   pub layout : IsLayout c.layout
 
 -- the number of the selected line

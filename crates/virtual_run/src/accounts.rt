@@ -1,8 +1,8 @@
 //! The accounts and pauses of the harts that a retirement starts.
 
 ghost use Rattle.std.specs.Prelude.{◌≡◌, ◌+◌, ◌*◌, ◌^◌, ◌≤◌, ◌<◌, [], ◌∷◌, length, map, None, if◌then◌else◌, IsTrue};
-ghost use Rattle.coz_types.specs.declared.TheConstants.{GREATEST_SPEEDUP};
-ghost use Rattle.cost_table.specs.declared.TheConstants.{MOST_RAISE};
+ghost use Rattle.coz_types.specs.declared.TheConstants.{MAX_SPEEDUP};
+ghost use Rattle.cost_table.specs.declared.TheConstants.{MAX_RAISE};
 ghost use Rattle.machines.specs.Delayed.{is_running, total};
 ghost use Rattle.machines.specs.Guest.{goes_on};
 ghost use Rattle.delay_credits.specs.Delays.{hart_at, pause_of, at, with_stop};
@@ -56,9 +56,9 @@ fn start_each(credits: &mut Credits, harts: &[HartId], now: Tick)
 /// at a speedup in per cent.
 pub fn raised_by(guest: &Guest, hart: HartId, speedup: u8) -> Tick
     requires made { IsMade guest.now hart.0 }
-    requires speedup { speedup ≤ GREATEST_SPEEDUP }
+    requires speedup { speedup ≤ MAX_SPEEDUP }
     ensures ticks { result ≡ raise_ticks guest.now speedup hart.0 }
-    ensures few { result ≤ MOST_RAISE }
+    ensures few { result ≤ MAX_RAISE }
 {
     raise(guest.next_cycles(hart), speedup)
 }
@@ -68,9 +68,9 @@ pub fn raised_by(guest: &Guest, hart: HartId, speedup: u8) -> Tick
 pub fn raise_harts(credits: &mut Credits, guest: &Guest, harts: &[HartId], speedup: u8, now: Tick)
     requires run { AllRun credits.old (map (λ hart. hart.0) harts.now) }
     requires made { AllMade guest.now (map (λ hart. hart.0) harts.now) }
-    requires speedup { speedup ≤ GREATEST_SPEEDUP }
+    requires speedup { speedup ≤ MAX_SPEEDUP }
     requires now { credits.old.latest ≡ now }
-    requires few { credits.old.raised + MOST_RAISE * length (map (λ hart. hart.0) harts.now)
+    requires few { credits.old.raised + MAX_RAISE * length (map (λ hart. hart.0) harts.now)
         ≤ 10 ^ 17 }
     ensures { credits.new
         ≡ with_raises (raise_ticks guest.now speedup) (map (λ hart. hart.0) harts.now) credits.old }
@@ -84,9 +84,9 @@ pub fn raise_harts(credits: &mut Credits, guest: &Guest, harts: &[HartId], speed
 pub fn raise_selected(credits: &mut Credits, engine: &Engine, speedup: u8, now: Tick)
     requires run { AllRun credits.old engine.now.selected }
     requires made { AllMade engine.now.guest engine.now.selected }
-    requires speedup { speedup ≤ GREATEST_SPEEDUP }
+    requires speedup { speedup ≤ MAX_SPEEDUP }
     requires now { credits.old.latest ≡ now }
-    requires few { credits.old.raised + MOST_RAISE * length engine.now.selected ≤ 10 ^ 17 }
+    requires few { credits.old.raised + MAX_RAISE * length engine.now.selected ≤ 10 ^ 17 }
     ensures { credits.new
         ≡ with_raises (raise_ticks engine.now.guest speedup) engine.now.selected credits.old }
 {
@@ -101,7 +101,7 @@ pub fn raise_selected(credits: &mut Credits, engine: &Engine, speedup: u8, now: 
 fn credit_started(credits: &mut Credits, engine: &Engine, retired: Retired, speedup: u8, now: Tick)
     requires can { CanBegin credits.old engine.now.guest retired.hart.0 retired.fate
         engine.now.started engine.now.selected }
-    requires speedup { speedup ≤ GREATEST_SPEEDUP }
+    requires speedup { speedup ≤ MAX_SPEEDUP }
     requires now { credits.old.latest ≡ now }
     ensures { credits.new ≡ with_begun (raise_ticks engine.now.guest speedup)
         retired.hart.0 retired.fate engine.now.started engine.now.selected credits.old }
@@ -135,7 +135,7 @@ fn go_on(credits: &mut Credits, engine: &Engine, hart: HartId, speedup: u8, now:
     requires later { credits.old.latest ≤ now }
     requires can { CanBegin (with_rest hart.0 Fate.Goes now credits.old)
         engine.now.guest hart.0 Fate.Goes engine.now.started engine.now.selected }
-    requires speedup { speedup ≤ GREATEST_SPEEDUP }
+    requires speedup { speedup ≤ MAX_SPEEDUP }
     ensures { credits.new ≡ with_begun (raise_ticks engine.now.guest speedup)
         hart.0 Fate.Goes engine.now.started engine.now.selected
         (with_rest hart.0 Fate.Goes now credits.old) }
@@ -171,8 +171,8 @@ fn wake_up(credits: &mut Credits, engine: &Engine, hart: HartId, speedup: u8, no
     requires later { credits.old.latest ≤ now }
     requires run { AllRun (with_starts (hart.0 ∷ []) (at now credits.old)) engine.now.selected }
     requires made { AllMade engine.now.guest engine.now.selected }
-    requires speedup { speedup ≤ GREATEST_SPEEDUP }
-    requires few { credits.old.raised + MOST_RAISE * length engine.now.selected ≤ 10 ^ 17 }
+    requires speedup { speedup ≤ MAX_SPEEDUP }
+    requires few { credits.old.raised + MAX_RAISE * length engine.now.selected ≤ 10 ^ 17 }
     ensures { credits.new ≡ with_wake (raise_ticks engine.now.guest speedup)
         hart.0 engine.now.selected (at now credits.old) }
 {
@@ -197,7 +197,7 @@ fn account_retirement(
     requires can { engine.now.ending ≡ None →
         CanBegin (with_rest retired.hart.0 retired.fate now credits.old)
         engine.now.guest retired.hart.0 retired.fate engine.now.started engine.now.selected }
-    requires speedup { speedup ≤ GREATEST_SPEEDUP }
+    requires speedup { speedup ≤ MAX_SPEEDUP }
     ensures { credits.new ≡ credits_after engine.now.ending (raise_ticks engine.now.guest speedup)
         retired.hart.0 retired.fate engine.now.started engine.now.selected
         (with_rest retired.hart.0 retired.fate now credits.old) }
@@ -219,7 +219,7 @@ fn account_plain(credits: &mut Credits, engine: &Engine, hart: HartId, speedup: 
     requires can { engine.now.ending ≡ None →
         CanBegin (with_rest hart.0 Fate.Goes now credits.old)
         engine.now.guest hart.0 Fate.Goes engine.now.started engine.now.selected }
-    requires speedup { speedup ≤ GREATEST_SPEEDUP }
+    requires speedup { speedup ≤ MAX_SPEEDUP }
     ensures { credits.new ≡ credits_after engine.now.ending (raise_ticks engine.now.guest speedup)
         hart.0 Fate.Goes engine.now.started engine.now.selected
         (with_rest hart.0 Fate.Goes now credits.old) }
@@ -247,7 +247,7 @@ pub fn follow(
 ) -> Tick
     requires can { CanFollow event credits.old engine.now (moment_of event engine.now + raised) }
     requires few { moment_of event engine.now + raised ≤ 10 ^ 17 }
-    requires speedup { speedup ≤ GREATEST_SPEEDUP }
+    requires speedup { speedup ≤ MAX_SPEEDUP }
     ensures moment { result ≡ moment_of event engine.now + raised }
     ensures credits { credits.new ≡ credited_by event engine.now
         (raise_ticks engine.now.guest speedup) (moment_of event engine.now + raised) credits.old }

@@ -13,7 +13,7 @@ use progress_points::Points;
 pub struct Choice {
     /// The line whose instructions are to cost less.
     pub selected: Option<LineId>,
-    /// By how many per cent they are to cost less, at most `GREATEST_SPEEDUP`.
+    /// By how many per cent they are to cost less, at most `MAX_SPEEDUP`.
     pub speedup: u8,
     /// So many instructions are retired at most, from 1 to 10^12.
     pub budget: u64,

@@ -1,6 +1,6 @@
 //! The engine that both machines stand on, and its moves.
 ghost use Rattle.std.specs.Prelude.{◌≡◌, ℕ, map, true, ◌&&◌, ◌==◌, not, ◌+◌, ◌^◌, ◌≤◌, ◌<◌, ◌++◌, [], ◌∷◌, Some, length, nat_le, is_some, IfOk, All, if◌then◌else◌, IsTrue};
-ghost use Rattle.coz_types.specs.declared.TheConstants.{GREATEST_SPEEDUP, MOST_OUTPUT, MOST_VISITS_KEPT};
+ghost use Rattle.coz_types.specs.declared.TheConstants.{MAX_SPEEDUP, MAX_OUTPUT, MAX_VISITS};
 ghost use Rattle.hart_schedule.specs.Keys.{key_of, without_key, IsEmpty, IsLeast};
 ghost use Rattle.machines.specs.Delayed.{is_any};
 ghost use Rattle.machines.specs.Guest.{goes_on};
@@ -254,7 +254,7 @@ impl<'a> Engine<'a> {
     #[inline(always)]
     pub fn advance(&mut self, setting: &Setting, delay: Tick) -> Event
         requires steady { IsSteady self.old }
-        requires speedup { setting.now.choice.speedup ≤ GREATEST_SPEEDUP }
+        requires speedup { setting.now.choice.speedup ≤ MAX_SPEEDUP }
         requires delay { delay ≤ 10 ^ 17 }
         ensures { IsAdvance setting.now self.old result delay self.new }
     {
@@ -271,7 +271,7 @@ impl<'a> Engine<'a> {
     #[inline(never)]
     fn wake(&mut self, setting: &Setting, turn: Turn)
         requires steady { IsSteady self.old }
-        requires speedup { setting.now.choice.speedup ≤ GREATEST_SPEEDUP }
+        requires speedup { setting.now.choice.speedup ≤ MAX_SPEEDUP }
         requires turn { key_of self.old.schedule turn.hart.0 ≡ Some turn.due }
         requires first { IsLeast self.old.schedule turn.hart.0 }
         requires asleep { is_sleeping self.old.guest turn.hart.0 ≡ true }
@@ -297,7 +297,7 @@ impl<'a> Engine<'a> {
     #[inline(always)]
     fn retire(&mut self, setting: &Setting, turn: Turn, delay: Tick) -> Retired
         requires steady { IsSteady self.old }
-        requires speedup { setting.now.choice.speedup ≤ GREATEST_SPEEDUP }
+        requires speedup { setting.now.choice.speedup ≤ MAX_SPEEDUP }
         requires delay { delay ≤ 10 ^ 17 }
         requires turn { key_of self.old.schedule turn.hart.0 ≡ Some turn.due }
         requires first { IsLeast self.old.schedule turn.hart.0 }
@@ -400,7 +400,7 @@ impl<'a> Engine<'a> {
     /// off their next instructions.
     pub(crate) fn hasten(&mut self, speedup: u8)
         requires made { AllMade self.old.guest self.old.selected }
-        requires speedup { speedup ≤ GREATEST_SPEEDUP }
+        requires speedup { speedup ≤ MAX_SPEEDUP }
         ensures { self.new ≡ record self.old {
           schedule = with_sooner (raise_ticks self.old.guest speedup)
               self.old.selected self.old.schedule;
@@ -479,7 +479,7 @@ impl<'a> Engine<'a> {
     /// The visits so far, at most 1,048,576, in order.
     pub fn visits(&self) -> &[Visit]
         ensures kept { result.now ≡ self.now.visits.kept }
-        ensures few { length result.now ≤ MOST_VISITS_KEPT }
+        ensures few { length result.now ≤ MAX_VISITS }
         ensures harts { All (λ visit. visit.hart.0 < HARTS) result.now }
     {
         self.visits.all()
@@ -488,7 +488,7 @@ impl<'a> Engine<'a> {
     /// What was written so far, at most 67,108,864 bytes.
     pub fn output(&self) -> &[u8]
         ensures bytes { result.now ≡ self.now.guest.output }
-        ensures few { length result.now ≤ MOST_OUTPUT }
+        ensures few { length result.now ≤ MAX_OUTPUT }
     {
         self.guest.output()
     }
@@ -552,7 +552,7 @@ impl<'a> Engine<'a> {
             (if goes_on fate then without_key hart.0 self.old.schedule else self.old.schedule)
             (started_by hart.0 fate self.old.started) }
         requires moment { self.old.time ≤ 2 ^ 60 }
-        requires speedup { setting.now.choice.speedup ≤ GREATEST_SPEEDUP }
+        requires speedup { setting.now.choice.speedup ≤ MAX_SPEEDUP }
         requires room { length self.old.schedule ≡ HARTS }
         requires selected { self.old.selected ≡ [] }
         requires few { self.old.starts ≤ 2 ^ 62 }

@@ -1,6 +1,6 @@
 //! Leads: what the runs of a line have in common, whatever the speedup.
 ghost use Rattle.std.specs.Prelude.{◌≡◌, ◌≤◌, [], ◌∷◌, Some, not, is_some, IfOk, IsSome, IsTrue};
-ghost use Rattle.coz_types.specs.declared.TheConstants.{GREATEST_SPEEDUP};
+ghost use Rattle.coz_types.specs.declared.TheConstants.{MAX_SPEEDUP};
 ghost use Rattle.virtual_run.specs.Seen.{machine_view, experiment_of};
 ghost use Rattle.virtual_run.specs.Lead.{arguments, starts_next, Stands, IsShared};
 
@@ -107,7 +107,7 @@ impl<'a> Lead<'a> {
     /// Makes a machine the run of this lead's line at a speedup, after the beginning
     /// that comes next. Where the lead has ended, none comes, and the machine has ended likewise.
     pub fn fork(&self, machine: &mut Machine<'a>, speedup: u8)
-        requires speedup { speedup ≤ GREATEST_SPEEDUP }
+        requires speedup { speedup ≤ MAX_SPEEDUP }
         requires arguments { arguments machine.old ≡ arguments self.now }
         ensures forked { machine.new ≡ record machine.old {
           choice = record self.now.choice { speedup = speedup };

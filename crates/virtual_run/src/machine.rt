@@ -1,7 +1,7 @@
 //! The delayed machine: runs under virtual time with the delays of a selected line.
 ghost use Rattle.std.specs.Prelude.{◌≡◌, ◌+◌, ◌-◌, ◌^◌, ◌≤◌, ◌<◌, false, map, length, Some, None, IfOk, IfSome, IsSome, MatchOption, All, option_map, is_some};
 ghost use Rattle.std.specs.List.Sorted.{IsNonDecreasingBy};
-ghost use Rattle.coz_types.specs.declared.TheConstants.{GREATEST_SPEEDUP, MOST_OUTPUT, MOST_VISITS_KEPT};
+ghost use Rattle.coz_types.specs.declared.TheConstants.{MAX_SPEEDUP, MAX_OUTPUT, MAX_VISITS};
 ghost use Rattle.hart_schedule.specs.Keys.{key_of};
 ghost use Rattle.delay_credits.specs.Delays.{account_as};
 ghost use Rattle.virtual_run.specs.Seen.{machine_view, experiment_of};
@@ -209,7 +209,7 @@ impl<'a> Machine<'a> {
     /// before its last beginning. So the selected harts that began last raise the delay now,
     /// and are due sooner by as much.
     pub(crate) fn fork_from(&mut self, lead: &Machine<'a>, speedup: u8)
-        requires small { speedup ≤ GREATEST_SPEEDUP }
+        requires small { speedup ≤ MAX_SPEEDUP }
         requires arguments { arguments self.old ≡ arguments lead.now }
         requires whole { lead.now.choice.speedup ≡ 0 }
         requires none { (before (experiment_of lead.now) (events lead.now.state)).state.starts ≡ 0 }
@@ -330,7 +330,7 @@ impl<'a> Machine<'a> {
     /// its net time; before that the delay may be raised again after the last visit.
     pub fn visits(&self) -> &[Visit]
         ensures visits { map visit_as result.now ≡ self.now.state.visits }
-        ensures few { length result.now ≤ MOST_VISITS_KEPT }
+        ensures few { length result.now ≤ MAX_VISITS }
         ensures harts { All (λ visit. visit.hart.0 < HARTS) result.now }
         ensures in_time { All (λ visit. visit.delay ≤ visit.time) result.now }
         ensures rising { IsNonDecreasingBy (λ visit. visit.time - visit.delay) result.now }
@@ -344,7 +344,7 @@ impl<'a> Machine<'a> {
     /// What was written, at most 67,108,864 bytes.
     pub fn output(&self) -> &[u8]
         ensures bytes { result.now ≡ self.now.state.guest.output }
-        ensures few { length result.now ≤ MOST_OUTPUT }
+        ensures few { length result.now ≤ MAX_OUTPUT }
     {
         self.engine.guest.output()
     }

@@ -1,8 +1,8 @@
 //! How harts begin their next instructions.
 
 ghost use Rattle.std.specs.Prelude.{◌≡◌, ◌+◌, ◌^◌, ◌≤◌, ◌<◌, ◌++◌, [], ◌∷◌, length, map, if◌then◌else◌, IsTrue};
-ghost use Rattle.coz_types.specs.declared.TheConstants.{GREATEST_SPEEDUP, HARTS};
-ghost use Rattle.cost_table.specs.declared.TheConstants.{MOST_TICKS};
+ghost use Rattle.coz_types.specs.declared.TheConstants.{MAX_SPEEDUP, HARTS};
+ghost use Rattle.cost_table.specs.declared.TheConstants.{MAX_TICKS};
 ghost use Rattle.hart_schedule.specs.Keys.{key_of, with_key, without_key};
 ghost use Rattle.machines.specs.Guest.{goes_on};
 ghost use Rattle.guest_calls.specs.Guest.{IsMade, pc_of};
@@ -30,10 +30,10 @@ struct Cost {
 #[inline(always)]
 fn cost_of(setting: &Setting, guest: &Guest, hart: HartId) -> Cost
     requires made { IsMade guest.now hart.0 }
-    requires speedup { setting.now.choice.speedup ≤ GREATEST_SPEEDUP }
+    requires speedup { setting.now.choice.speedup ≤ MAX_SPEEDUP }
     ensures ticks { result.ticks ≡ ticks_in setting.now guest.now hart.0 }
     ensures selected { result.selected ≡ is_selecting setting.now (pc_of guest.now hart.0) }
-    ensures few { result.ticks ≤ MOST_TICKS }
+    ensures few { result.ticks ≤ MAX_TICKS }
 {
     let cycles = guest.next_cycles(hart);
     if setting.has_selected(guest.pc(hart)) {
@@ -73,7 +73,7 @@ pub fn begin(
 )
     requires idle { IsIdle guest.now schedule.old hart.0 }
     requires moment { moment ≤ 2 ^ 60 }
-    requires speedup { setting.now.choice.speedup ≤ GREATEST_SPEEDUP }
+    requires speedup { setting.now.choice.speedup ≤ MAX_SPEEDUP }
     requires few { length selected.old < HARTS }
     ensures due { schedule.new
         ≡ with_key hart.0 (moment + ticks_in setting.now guest.now hart.0) schedule.old }
@@ -98,7 +98,7 @@ pub fn begin_next(
 )
     requires idle { IsIdle guest.now (without_key hart.0 schedule.old) hart.0 }
     requires moment { moment ≤ 2 ^ 60 }
-    requires speedup { setting.now.choice.speedup ≤ GREATEST_SPEEDUP }
+    requires speedup { setting.now.choice.speedup ≤ MAX_SPEEDUP }
     requires few { length selected.old < HARTS }
     ensures due { schedule.new ≡ with_key hart.0 (moment + ticks_in setting.now guest.now hart.0)
         (without_key hart.0 schedule.old) }
@@ -124,7 +124,7 @@ pub fn begin_again(
     requires idle { IsTrue (goes_on fate)
         → IsIdle guest.now (without_key hart.0 schedule.old) hart.0 }
     requires moment { moment ≤ 2 ^ 60 }
-    requires speedup { setting.now.choice.speedup ≤ GREATEST_SPEEDUP }
+    requires speedup { setting.now.choice.speedup ≤ MAX_SPEEDUP }
     requires selected { selected.old ≡ [] }
     ensures due { schedule.new
         ≡ (if goes_on fate then with_key hart.0 (moment + ticks_in setting.now guest.now hart.0)
@@ -149,7 +149,7 @@ pub fn begin_each(
 )
     requires idle { AreIdle guest.now schedule.old (map (λ hart. hart.0) harts.now) }
     requires moment { moment ≤ 2 ^ 60 }
-    requires speedup { setting.now.choice.speedup ≤ GREATEST_SPEEDUP }
+    requires speedup { setting.now.choice.speedup ≤ MAX_SPEEDUP }
     requires room { length schedule.old ≡ HARTS }
     requires few { length selected.old ≤ many schedule.old }
     ensures begun { AreBegun (ticks_in setting.now guest.now) moment
@@ -177,7 +177,7 @@ fn hasten(schedule: &mut Schedule, hart: HartId, ticks: Tick)
 /// Each of these harts is due sooner, by what a speedup in per cent takes off its next instruction.
 pub fn hasten_each(schedule: &mut Schedule, guest: &Guest, harts: &[HartId], speedup: u8)
     requires made { AllMade guest.now (map (λ hart. hart.0) harts.now) }
-    requires speedup { speedup ≤ GREATEST_SPEEDUP }
+    requires speedup { speedup ≤ MAX_SPEEDUP }
     ensures { schedule.new ≡ with_sooner (raise_ticks guest.now speedup)
         (map (λ hart. hart.0) harts.now) schedule.old }
 {

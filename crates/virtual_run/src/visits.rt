@@ -1,6 +1,6 @@
 //! The visits of a run, up to a limit.
 ghost use Rattle.std.specs.Prelude.{◌≡◌, ◌≤◌, ◌<◌, ◌++◌, [], ◌∷◌, length, IfOk, All};
-ghost use Rattle.coz_types.specs.declared.TheConstants.{HARTS, MOST_VISITS_KEPT};
+ghost use Rattle.coz_types.specs.declared.TheConstants.{HARTS, MAX_VISITS};
 
 use coz_types::Visit;
 use std::alloc::{AllocError, Global};
@@ -16,7 +16,7 @@ pub struct Visits {
 impl Model for Visits {
     ghost use Rattle.std.specs.Prelude.{◌≤◌, ◌<◌, length, All};
     ghost use Rattle.std.specs.Vec.{vec_capacity};
-    ghost use Rattle.coz_types.specs.declared.TheConstants.{HARTS, MOST_VISITS_KEPT};
+    ghost use Rattle.coz_types.specs.declared.TheConstants.{HARTS, MAX_VISITS};
     ghost use Rattle.virtual_run.specs.Visits.{Visits};
 
     ghost Value = { Visits };
@@ -24,7 +24,7 @@ impl Model for Visits {
     ghost view = { λ v. record { kept = v.kept.items; limit = v.limit } };
 
     ghost invariant = { λ v.
-        (v.limit ≤ vec_capacity v.kept) × (v.limit ≤ MOST_VISITS_KEPT)
+        (v.limit ≤ vec_capacity v.kept) × (v.limit ≤ MAX_VISITS)
         × (length v.kept.items ≤ v.limit)
         × All (λ visit. visit.hart.0 < HARTS) v.kept.items };
 }
@@ -32,7 +32,7 @@ impl Model for Visits {
 impl Visits {
     /// No visits, with room for `limit`.
     pub fn new(alloc: Global, limit: u64) -> Result<Visits, AllocError>
-        requires { limit ≤ MOST_VISITS_KEPT }
+        requires { limit ≤ MAX_VISITS }
         ensures { IfOk result (λ visits. visits ≡ record { kept = []; limit = limit }) }
     {
         let kept = Vec::with_capacity(alloc, limit as usize)?;
@@ -64,7 +64,7 @@ impl Visits {
     /// The visits, the first of them first.
     pub fn all(&self) -> &[Visit]
         ensures kept { result.now ≡ self.now.kept }
-        ensures few { length result.now ≤ MOST_VISITS_KEPT }
+        ensures few { length result.now ≤ MAX_VISITS }
         ensures harts { All (λ visit. visit.hart.0 < HARTS) result.now }
     {
         &self.kept

@@ -6,8 +6,8 @@ mod kinds;
 mod text;
 
 ghost use Rattle.std.specs.Prelude.{◌≡◌, ◌≤◌, length, IfOk};
-ghost use Rattle.coz_types.specs.declared.TheConstants.{GREATEST_SIZE};
-ghost use Rattle.work_gen.specs.declared.TheConstants.{MOST_TEXT};
+ghost use Rattle.coz_types.specs.declared.TheConstants.{MAX_SIZE};
+ghost use Rattle.work_gen.specs.declared.TheConstants.{MAX_TEXT};
 ghost use Rattle.work_gen.specs.Text.{generated, view};
 ghost use Rattle.work_gen.specs.Accepted.{IsAccepted};
 
@@ -16,7 +16,7 @@ use coz_lists::Items;
 use std::alloc::{AllocError, Global};
 
 /// The most bytes of a source's text.
-pub const MOST_TEXT: usize = 0x20_0000;
+pub const MAX_TEXT: usize = 0x20_0000;
 
 /// A source, and the line of its progress point.
 #[derive(Drop)]
@@ -77,10 +77,10 @@ ended:
 /// The text that a seed and 1 to 2,000 blocks make, of at most 2 MiB. The assembler accepts each.
 pub fn source(alloc: Global, seed: u64, size: u32) -> Result<Generated, AllocError>
     requires least { 1 ≤ size }
-    requires most { size ≤ GREATEST_SIZE }
+    requires most { size ≤ MAX_SIZE }
     ensures text { IfOk result (λ g. view g ≡ generated seed size) }
     ensures accepted { IfOk result (λ g. IsAccepted (view g)) }
-    ensures short { IfOk result (λ g. length g.text ≤ MOST_TEXT) }
+    ensures short { IfOk result (λ g. length g.text ≤ MAX_TEXT) }
 {
     let mut text = Vec::from_slice(alloc, OPENING)?;
     let lines = put_blocks(&mut text, size, seed)?;

@@ -1,6 +1,6 @@
 //! The text of blocks.
 ghost use Rattle.std.specs.Prelude.{◌≡◌, ◌*◌, ◌≤◌, ◌++◌, length, OnOk, IfOk};
-ghost use Rattle.coz_types.specs.declared.TheConstants.{GREATEST_SIZE};
+ghost use Rattle.coz_types.specs.declared.TheConstants.{MAX_SIZE};
 ghost use Rattle.work_gen.specs.Text.{blocks, text_of_lines};
 ghost use Rattle.work_gen.specs.Drawn.{block_text, piece_text};
 
@@ -33,7 +33,7 @@ fn put_block(text: &mut Vec<u8>, block: &Block, number: u32) -> Result<(), Alloc
 
 /// The blocks, from number 0 on, and how many lines they have.
 pub fn put_blocks(text: &mut Vec<u8>, size: u32, seed: u64) -> Result<u32, AllocError>
-    requires { size ≤ GREATEST_SIZE }
+    requires { size ≤ MAX_SIZE }
     ensures text { OnOk result
         (text.new.items ≡ text.old.items ++ text_of_lines (blocks 0 size seed)) }
     ensures lines { IfOk result (λ lines. lines ≡ length (blocks 0 size seed)) }

@@ -10,8 +10,8 @@ use Rattle.experiment_plan.proofs.planning.plan.Goals as goal
 pub pair_count-count-requires-clause-few : goal.pair_count-count-requires-clause-few
 pair_count-count-requires-clause-few c = subst (λ (ps : List ℕ). length ps ≤ 96) (sym (c.deref.ensures.value ∙ c.in_ok-speedups.ensures)) (few_speedups c.args.speedups.now c.requires.speedups)
 
-pub returns-then-count-gt-MOST_PAIRS-clause-plan : goal.returns-then-count-gt-MOST_PAIRS-clause-plan
-returns-then-count-gt-MOST_PAIRS-clause-plan c = (
+pub returns-then-count-gt-MAX_PAIRS-clause-plan : goal.returns-then-count-gt-MAX_PAIRS-clause-plan
+returns-then-count-gt-MAX_PAIRS-clause-plan c = (
   plan_length c.args.lines.now c.args.speedups.now _ _ _ c.pair_count-count.ensures c.deref.ensures.value c.in_ok-speedups.ensures,
   search rules,
 )
