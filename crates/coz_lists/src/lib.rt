@@ -1,4 +1,10 @@
 //! The list of a public struct: a vector that contracts see as the list of its items.
+//!
+//! ```text
+//! let items = Items::new(vec);
+//! items.as_slice();  // the items of the vector
+//! items.into_vec();  // the vector itself
+//! ```
 #![tactic(auto)]
 
 ghost use Rattle.std.specs.Prelude.{◌≡◌, List, length};

@@ -1,5 +1,11 @@
 //! Reads an ELF64 file of a static RISC-V program: its image, or the first thing
 //! that is wrong with it.
+//!
+//! ```text
+//! let image = load(alloc, &file)?;
+//! image.entry();                   // the address of the first instruction
+//! section(&image, b".debug_line"); // Some(bytes), or None
+//! ```
 #![tactic(auto)]
 
 mod areas;

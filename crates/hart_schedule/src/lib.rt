@@ -1,4 +1,12 @@
 //! The schedule: which hart is due first.
+//!
+//! ```text
+//! let mut schedule = Schedule::new(alloc, 2)?;
+//! schedule.put(HartId(0), 300);
+//! schedule.put(HartId(1), 200);
+//! schedule.least();          // Some(HartId(1))
+//! schedule.take(HartId(1));  // Some(200)
+//! ```
 #![tactic(auto)]
 
 mod heap;

@@ -1,5 +1,12 @@
 //! A cursor over bytes: numbers of fixed width, texts, and the LEB128 numbers of DWARF
 //! (DWARF 4, section 7.6).
+//!
+//! ```text
+//! let mut cursor = Cursor::new(&[0x02, 0x01, 0xE5, 0x8E, 0x26]);
+//! cursor.half();  // Ok(0x0102); the place is now 2
+//! cursor.uleb();  // Ok(624485); the place is now 5
+//! cursor.byte();  // Err(Short { place: 5 })
+//! ```
 #![tactic(auto)]
 
 ghost use Rattle.std.specs.Prelude.{◌≡◌, ◌+◌, ◌-◌, ◌%◌, ◌<◌, ◌≤◌, ◌^◌, length, slice_index, IfSome, nat_lt, nat_le, position, ◌==◌, Some, None, if◌then◌else◌};

@@ -3,6 +3,12 @@
 //! The RISC-V unprivileged manual has them in its chapters RV32I ("Integer Computational
 //! Instructions", "Conditional Branches"), RV64I, M and A. A register holds 64 bits,
 //! and no operation traps.
+//!
+//! ```text
+//! register(RegOp::Div, 7, 0);         // u64::MAX, as the manual has it for division by zero
+//! immediate(ImmOp::Addi, 5, -1);      // 4
+//! taken(BranchOp::Bltu, 1, u64::MAX); // true
+//! ```
 #![tactic(auto)]
 
 ghost use Rattle.std.specs.Prelude.{◌≡◌, ◌^◌, ◌<◌, IsTrue};

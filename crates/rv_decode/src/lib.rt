@@ -4,6 +4,13 @@
 //! form. `encode` gives the word of an instruction, `decode` the instruction
 //! of a word, each exactly.
 //!
+//! ```text
+//! let addi = Instr::Imm { op: ImmOp::Addi, rd: 10, rs1: 10, value: 1 };
+//! encode(addi);         // 0x00150513
+//! decode(0x0015_0513);  // Some(addi)
+//! decode(0);            // None
+//! ```
+//!
 //! Source: The RISC-V Instruction Set Manual, Volume I, its chapters on RV32I, RV64I,
 //! M and A and its listings of instructions.
 #![tactic(auto)]
