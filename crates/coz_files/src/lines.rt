@@ -23,7 +23,7 @@ pub fn put_three<S: Sink>(sink: &mut S, first: &[u8], second: &[u8], third: &[u8
     put_next(sink, answer, third)
 }
 
-/// Puts the line of a fault: what it is of, its kind and its place.
+/// Puts the line of a fault: what it is of, its kind and its offset.
 pub fn put_at<S: Sink>(sink: &mut S, before: &[u8], kind: &[u8], place: u64) -> PutAnswer
     ensures { Puts S.holds S.faults sink.old sink.new result
         (before.now ++ kind.now ++ codes " at " ++ decimal place ++ codes "\n") }

@@ -20,9 +20,9 @@ pub const E_TYPE: usize = 16;
 pub const E_MACHINE: usize = 18;
 /// e_entry, the address of the first instruction, eight bytes.
 pub const E_ENTRY: usize = 24;
-/// e_phoff, the place of the program headers, eight bytes.
+/// e_phoff, the offset of the program headers, eight bytes.
 pub const E_PHOFF: usize = 32;
-/// e_shoff, the place of the section headers, eight bytes.
+/// e_shoff, the offset of the section headers, eight bytes.
 pub const E_SHOFF: usize = 40;
 /// e_flags, the machine's flags, four bytes.
 pub const E_FLAGS: usize = 48;
@@ -56,7 +56,7 @@ pub const PN_XNUM: u16 = 0xFFFF;
 pub const P_TYPE: usize = 0;
 /// p_flags, the rights, four bytes.
 pub const P_FLAGS: usize = 4;
-/// p_offset, the place of its bytes in the file, eight bytes.
+/// p_offset, the offset of its bytes in the file, eight bytes.
 pub const P_OFFSET: usize = 8;
 /// p_vaddr, their address in memory, eight bytes.
 pub const P_VADDR: usize = 16;
@@ -83,13 +83,13 @@ pub const PF_R: u32 = 2;
 
 // The places of fields in a section header (gABI, "Sections").
 
-/// sh_name, the place of the name among the names, four bytes.
+/// sh_name, the offset of the name among the names, four bytes.
 pub const SH_NAME: usize = 0;
 /// sh_type, what the section holds, four bytes.
 pub const SH_TYPE: usize = 4;
 /// sh_flags, eight bytes.
 pub const SH_FLAGS: usize = 8;
-/// sh_offset, the place of its bytes in the file, eight bytes.
+/// sh_offset, the offset of its bytes in the file, eight bytes.
 pub const SH_OFFSET: usize = 24;
 /// sh_size, how many bytes it has, eight bytes.
 pub const SH_SIZE: usize = 32;

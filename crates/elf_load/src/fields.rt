@@ -6,7 +6,7 @@ ghost use Rattle.elf_load.specs.Tables.{number, runs_past};
 
 use byteorder::{ByteOrder, LittleEndian};
 
-/// The number in the 2 bytes at a place, the lowest first.
+/// The number in the 2 bytes at an offset, the lowest byte first.
 #[tactic(auto, unfolding(crate::specs::Tables::number))]
 pub fn half_at(file: &[u8], place: usize) -> u16
     requires { place + 2 ≤ length file.now }
@@ -15,7 +15,7 @@ pub fn half_at(file: &[u8], place: usize) -> u16
     LittleEndian::read_u16(&file[place..])
 }
 
-/// The number in the 4 bytes at a place, the lowest first.
+/// The number in the 4 bytes at an offset, the lowest byte first.
 #[tactic(auto, unfolding(crate::specs::Tables::number))]
 pub fn word_at(file: &[u8], place: usize) -> u32
     requires { place + 4 ≤ length file.now }
@@ -24,7 +24,7 @@ pub fn word_at(file: &[u8], place: usize) -> u32
     LittleEndian::read_u32(&file[place..])
 }
 
-/// The number in the 8 bytes at a place, the lowest first.
+/// The number in the 8 bytes at an offset, the lowest byte first.
 #[tactic(auto, unfolding(crate::specs::Tables::number))]
 pub fn double_at(file: &[u8], place: usize) -> u64
     requires { place + 8 ≤ length file.now }

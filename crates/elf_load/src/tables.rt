@@ -14,7 +14,7 @@ use crate::fields::{double_at, half_at, word_at};
 use coz_types::PAGE;
 use std::alloc::{AllocError, Global};
 
-/// A program header, and its place in the file.
+/// A program header, and its offset in the file.
 #[derive(Clone, Copy)]
 pub struct Segment {
     /// The offset of the header in the file.
@@ -33,7 +33,7 @@ pub struct Segment {
     pub memsz: u64,
 }
 
-/// A section header, and its place in the file.
+/// A section header, and its offset in the file.
 #[derive(Clone, Copy)]
 pub struct Section {
     /// The offset of the header in the file.
@@ -125,7 +125,7 @@ impl Segment {
         self.vaddr <= address && address - self.vaddr < self.memsz
     }
 
-    /// Whether its bytes in the file have the place.
+    /// Whether its bytes in the file include the offset.
     pub fn has_place(&self, place: u64) -> bool
         ensures { result ≡ has_place place self.now }
     {

@@ -23,7 +23,7 @@ pub fn joined(alloc: Global, first: &[LineId], second: &[LineId]) -> Result<Vec<
     Ok(lines)
 }
 
-/// The places, from 0, at which the lines of a list stand among some lines, as they rise.
+/// The indices of the lines of a list among some lines, in rising order.
 /// Err: out of memory.
 pub fn places_among(
     alloc: Global,

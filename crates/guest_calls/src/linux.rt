@@ -130,7 +130,7 @@ pub const EINVAL: i64 = 22;
 pub const EMFILE: i64 = 24;
 /// The file is no such device.
 pub const ENOTTY: i64 = 25;
-/// The file has no place to move to.
+/// The file is not seekable.
 pub const ESPIPE: i64 = 29;
 /// No end reads what is written.
 pub const EPIPE: i64 = 32;

@@ -102,7 +102,7 @@ fn copy_first(front: &[u8], back: &[u8], into: &mut [u8])
     into[first..].copy_from_slice(&back[..rest]);
 }
 
-/// Makes each of these hold the same bytes as the other one in its place.
+/// Makes each of these hold the same bytes as the other one of its index.
 pub fn copy_each(held: &mut [Held], others: &[Held])
     requires { length held.old ≡ length others.now }
     ensures { held.new ≡ others.now }

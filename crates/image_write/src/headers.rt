@@ -147,7 +147,7 @@ pub fn segment_count(assembled: &Assembled) -> u16
     if has_content(assembled) { 2 } else { 1 }
 }
 
-/// The header of the file: its entry, the place of the section headers,
+/// The header of the file: its entry, the offset of the section headers,
 /// and how many segments there are.
 #[tactic(auto, unfolding(crate::specs::File::file_header))]
 pub fn file_header(

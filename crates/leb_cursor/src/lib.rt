@@ -3,8 +3,8 @@
 //!
 //! ```text
 //! let mut cursor = Cursor::new(&[0x02, 0x01, 0xE5, 0x8E, 0x26]);
-//! cursor.half();  // Ok(0x0102); the place is now 2
-//! cursor.uleb();  // Ok(624485); the place is now 5
+//! cursor.half();  // Ok(0x0102); the offset is now 2
+//! cursor.uleb();  // Ok(624485); the offset is now 5
 //! cursor.byte();  // Err(Short { place: 5 })
 //! ```
 #![tactic(auto)]
@@ -17,7 +17,7 @@ ghost use Rattle.leb_cursor.specs.Numbers.{low_bits, signed_low_bits};
 use byteorder::{ByteOrder, LittleEndian};
 use std::marker::Model;
 
-/// A field that runs past the end, by the place of its first byte.
+/// A field that runs past the end, by the offset of its first byte.
 #[derive(Clone, Copy, Debug, PartialEq, Eq)]
 pub struct Short {
     /// The field's first byte, from 0 at the start of the bytes.
@@ -33,7 +33,7 @@ pub enum LebFault {
     Wide { place: u64 },
 }
 
-/// A place in some bytes, and the bytes from there on.
+/// An offset in some bytes, and the bytes from there on.
 #[derive(Drop)]
 pub struct Cursor<'a> {
     place: u64,
@@ -52,14 +52,14 @@ impl<'a> Model for Cursor<'a> {
 }
 
 impl<'a> Cursor<'a> {
-    /// A cursor at the first of these bytes, whose place is 0.
+    /// A cursor at the first of these bytes, whose offset is 0.
     pub fn new(bytes: &'a [u8]) -> Cursor<'a>
         ensures { result ≡ record { place = 0; bytes = bytes.now } }
     {
         Cursor { place: 0, bytes }
     }
 
-    /// The place of the next byte.
+    /// The offset of the next byte.
     pub fn place(&self) -> u64
         ensures { result ≡ self.now.place }
     {
