@@ -20,7 +20,7 @@ section = 67 ∷ 0 ∷ 0 ∷ 0 ∷ 4 ∷ 0 ∷ 27 ∷ 0 ∷ 0 ∷ 0 ∷ 4 ∷ 1 
     ∷ 170 ∷ 187 ∷ 2 ∷ 2 ∷ 0 ∷ 1 ∷ 1
     ∷ []
 
--- cut to so many bytes, the first byte too
+-- cut to n bytes, the first byte too
 abbrev cut : ℕ → List ℕ
 cut n = (n - 4) ∷ drop 1 (take n section)
 

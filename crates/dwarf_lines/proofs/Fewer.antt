@@ -8,7 +8,7 @@ use Rattle.dwarf_lines.specs.declared.LineFault.{LineFault}
 use Rattle.dwarf_lines.specs.declared.LineKind.{LineKind}
 use Rattle.dwarf_lines.specs.declared.LineKind.TheVariants as kinds
 use Rattle.dwarf_lines.specs.declared.forms.Form.{Form}
-use Rattle.dwarf_lines.specs.declared.forms.Form.TheVariants.{Own, General, Line, Byte, Half, Leb, Four, Eight, Sixteen, Block}
+use Rattle.dwarf_lines.specs.declared.forms.Form.TheVariants.{String, Strp, LineStrp, Data1, Data2, Udata, Data4, Data8, Data16, Block}
 use Rattle.dwarf_lines.specs.declared.forms.Format.{Format}
 use Rattle.dwarf_lines.specs.Registers.{Header, File}
 use Rattle.dwarf_lines.specs.Names.{Strings, Value, Text, Number, Other, Entry, form_for, paths, files_of, directory_of}
@@ -53,15 +53,15 @@ block_less a c x e =
     omega (arith, unsigned_less a size.0.1 size.0.0 size.1, bytes_left size.0.0 size.0.1 c x (field_ok (bytes_at size.0.0 size.0.1) (x, c) size.2))
 
 value_less : (strings : Strings) (form : Form) (a b : Ahead) (v : Value) → value strings form a ≡ Ok (v, b) → IsLess a b
-value_less strings Own a b v e = own_less a b v e
-value_less strings General a b v e = place_less strings.general a b v e
-value_less strings Line a b v e = place_less strings.line a b v e
-value_less strings Byte a b v e = number_less (byte a) a b v (λ n c f. omega (arith, byte_left a c n f)) e
-value_less strings Half a b v e = number_less (half_field a) a b v (λ n c f. omega (arith, number_left w16 a c n f)) e
-value_less strings Leb a b v e = number_less (unsigned_field a) a b v (λ n c f. unsigned_less a c n f) e
-value_less strings Four a b v e = other_less (field (bytes_at 4 a)) a b v (λ x c f. fixed_less 4 a c x (omega arith) f) e
-value_less strings Eight a b v e = other_less (field (bytes_at 8 a)) a b v (λ x c f. fixed_less 8 a c x (omega arith) f) e
-value_less strings Sixteen a b v e = other_less (field (bytes_at 16 a)) a b v (λ x c f. fixed_less 16 a c x (omega arith) f) e
+value_less strings String a b v e = own_less a b v e
+value_less strings Strp a b v e = place_less strings.general a b v e
+value_less strings LineStrp a b v e = place_less strings.line a b v e
+value_less strings Data1 a b v e = number_less (byte a) a b v (λ n c f. omega (arith, byte_left a c n f)) e
+value_less strings Data2 a b v e = number_less (half_field a) a b v (λ n c f. omega (arith, number_left w16 a c n f)) e
+value_less strings Udata a b v e = number_less (unsigned_field a) a b v (λ n c f. unsigned_less a c n f) e
+value_less strings Data4 a b v e = other_less (field (bytes_at 4 a)) a b v (λ x c f. fixed_less 4 a c x (omega arith) f) e
+value_less strings Data8 a b v e = other_less (field (bytes_at 8 a)) a b v (λ x c f. fixed_less 8 a c x (omega arith) f) e
+value_less strings Data16 a b v e = other_less (field (bytes_at 16 a)) a b v (λ x c f. fixed_less 16 a c x (omega arith) f) e
 value_less strings Block a b v e = other_less (block a) a b v (λ x c f. block_less a c x f) e
 
 -- ---- entries
@@ -89,7 +89,7 @@ entry_less strings fs a b x some e =
     let vs = bind_ok (values strings fs a) _ (x, b) e in
     subst (IsLess a) (second _ x vs.0.1 b vs.2) (values_less strings fs a vs.0.1 vs.0.0 some vs.1)
 
--- so many, and the bytes behind them
+-- n, and the bytes after them
 abbrev Fit : {A : Type 0} → List A → Ahead → Ahead → Type 0
 Fit xs a b = length xs + length b.bytes ≤ length a.bytes
 
@@ -207,7 +207,7 @@ along n f x0 x1 x2 x3 x4 x5 x6 x7 c0 c1 c2 c3 c4 c5 c6 c7 = omega arith
 header_is : (x y : Header) → (let done : Header → Result Header LineFault = λ z. Ok z in done x ≡ done y) → x ≡ y
 header_is x y e = cc
 
--- a header with at most so many files, or a fault
+-- a header with at most n files, or a fault
 record HasFew (n : ℕ) (r : Result Header LineFault) : Type 0 where
   few : (h : Header) → r ≡ Ok h → length h.files ≤ n
 

@@ -42,7 +42,7 @@ not_numbers : map (λ form. one_field 2 form []) (0x08 ∷ 0x0e ∷ 0x1f ∷ 0x0
 unfolding reading units unit unit_body header texts files operation ahead_of_numbers program formats entries entry_list values form_for
 not_numbers = refl
 
--- a place at the section's end, one without a zero byte behind it, one past the end, and one of a field that is passed
+-- a place at the section's end, one without a zero byte after it, one past the end, and one of a field that is passed
 texts_out : one_field 1 0x1f (2 ∷ 0 ∷ 0 ∷ 0 ∷ []) ∷ one_field 1 0x0e (3 ∷ 0 ∷ 0 ∷ 0 ∷ []) ∷ one_field 1 0x0e (9 ∷ 0 ∷ 0 ∷ 0 ∷ []) ∷ one_field 5 0x0e (3 ∷ 0 ∷ 0 ∷ 0 ∷ []) ∷ []
     ≡ replicate 4 (Err (fault kinds.TextOut 24))
 unfolding reading units unit unit_body header texts files operation ahead_of_numbers program formats entries entry_list values form_for

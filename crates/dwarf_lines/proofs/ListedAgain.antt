@@ -10,7 +10,7 @@ use Rattle.leb_cursor.proofs.Again.{bytes_again, half_again, word_again, text_ag
 use Rattle.dwarf_lines.specs.declared.LineFault.{LineFault}
 use Rattle.dwarf_lines.specs.declared.LineKind.TheVariants as kinds
 use Rattle.dwarf_lines.specs.declared.forms.Form.{Form}
-use Rattle.dwarf_lines.specs.declared.forms.Form.TheVariants.{Own, General, Line, Byte, Half, Leb, Four, Eight, Sixteen, Block}
+use Rattle.dwarf_lines.specs.declared.forms.Form.TheVariants.{String, Strp, LineStrp, Data1, Data2, Udata, Data4, Data8, Data16, Block}
 use Rattle.dwarf_lines.specs.declared.forms.Format.{Format}
 use Rattle.dwarf_lines.specs.Names.{Strings, form_for, Value, Text, Number, Other, Entry, paths, files_of}
 use Rattle.dwarf_lines.specs.Spelling.{IsUleb, SpellsAll, SpellsPlace, SpellsValue, SpellsFormat, SpellsValues, SpellsEntry, SpellsListed}
@@ -20,7 +20,7 @@ use Rattle.dwarf_lines.proofs.HeadersAgain.{bind_through, ReadsTo, byte_back, wa
 
 -- ---- values
 
-own_back : (v : Value) (strings : Strings) (place : ℕ) (code rest : List ℕ) → SpellsValue strings Own v code → ReadsTo (own_text (ahead place (code ++ rest))) v rest
+own_back : (v : Value) (strings : Strings) (place : ℕ) (code rest : List ℕ) → SpellsValue strings String v code → ReadsTo (own_text (ahead place (code ++ rest))) v rest
 own_back v strings place code rest (text, (all, whole), is) = (
   place + suc (length text),
   ap (λ (z : List ℕ). own_text (ahead place (z ++ rest))) whole
@@ -67,15 +67,15 @@ half_read : (n place : ℕ) (code rest : List ℕ) → code ≡ to_le_bytes w16 
 half_read n place code rest whole small = (place + 2, ap (λ (z : List ℕ). half_field (ahead place (z ++ rest))) whole ∙ ap field (half_again n place rest small))
 
 pub value_back : (strings : Strings) (form : Form) (v : Value) (place : ℕ) (code rest : List ℕ) → SpellsValue strings form v code → ReadsTo (value strings form (ahead place (code ++ rest))) v rest
-value_back strings Own v place code rest is = own_back v strings place code rest is
-value_back strings General v place code rest is = place_back strings.general v place code rest is
-value_back strings Line v place code rest is = place_back strings.line v place code rest is
-value_back strings Byte v place code rest (n, whole, is) = number_back (byte (ahead place (code ++ rest))) n v rest (byte_read n place code rest whole) is
-value_back strings Half v place code rest (n, whole, small, is) = number_back (half_field (ahead place (code ++ rest))) n v rest (half_read n place code rest whole small) is
-value_back strings Leb v place code rest (n, u, is) = number_back (unsigned_field (ahead place (code ++ rest))) n v rest (place + length code, unsigned_back n place code rest u) is
-value_back strings Four v place code rest (len, is) = other_back (field (bytes_at 4 (ahead place (code ++ rest)))) code v rest (sized_back 4 place code rest len) is
-value_back strings Eight v place code rest (len, is) = other_back (field (bytes_at 8 (ahead place (code ++ rest)))) code v rest (sized_back 8 place code rest len) is
-value_back strings Sixteen v place code rest (len, is) = other_back (field (bytes_at 16 (ahead place (code ++ rest)))) code v rest (sized_back 16 place code rest len) is
+value_back strings String v place code rest is = own_back v strings place code rest is
+value_back strings Strp v place code rest is = place_back strings.general v place code rest is
+value_back strings LineStrp v place code rest is = place_back strings.line v place code rest is
+value_back strings Data1 v place code rest (n, whole, is) = number_back (byte (ahead place (code ++ rest))) n v rest (byte_read n place code rest whole) is
+value_back strings Data2 v place code rest (n, whole, small, is) = number_back (half_field (ahead place (code ++ rest))) n v rest (half_read n place code rest whole small) is
+value_back strings Udata v place code rest (n, u, is) = number_back (unsigned_field (ahead place (code ++ rest))) n v rest (place + length code, unsigned_back n place code rest u) is
+value_back strings Data4 v place code rest (len, is) = other_back (field (bytes_at 4 (ahead place (code ++ rest)))) code v rest (sized_back 4 place code rest len) is
+value_back strings Data8 v place code rest (len, is) = other_back (field (bytes_at 8 (ahead place (code ++ rest)))) code v rest (sized_back 8 place code rest len) is
+value_back strings Data16 v place code rest (len, is) = other_back (field (bytes_at 16 (ahead place (code ++ rest)))) code v rest (sized_back 16 place code rest len) is
 value_back strings Block v place code rest (size, x, whole, u, is) = other_back (block (ahead place (code ++ rest))) x v rest (block_back place size x code rest whole u) is
 
 -- ---- formats

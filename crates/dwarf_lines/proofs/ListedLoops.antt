@@ -73,7 +73,7 @@ made fs e vs = Ok (entry_of fs vs.0 e, vs.1)
 abbrev led : Value → List Value × Ahead → Reading (List Value) LineFault
 led v more = Ok (v ∷ more.0, more.1)
 
--- the fields that are left, behind the entry so far
+-- the fields that are left, after the entry so far
 abbrev pub rest_of : Strings → List Format → Entry → Ahead → Reading Entry LineFault
 rest_of strings fs e a = values strings fs a >>= made fs e
 

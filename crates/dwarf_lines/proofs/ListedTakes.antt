@@ -7,7 +7,7 @@ use Rattle.leb_cursor.proofs.Exact.{IsBytes, Consumes, mapped_to, bytes_takes, h
 use Rattle.dwarf_lines.specs.declared.LineFault.{LineFault}
 use Rattle.dwarf_lines.specs.declared.LineKind.TheVariants as kinds
 use Rattle.dwarf_lines.specs.declared.forms.Form.{Form}
-use Rattle.dwarf_lines.specs.declared.forms.Form.TheVariants.{Own, General, Line, Byte, Half, Leb, Four, Eight, Sixteen, Block}
+use Rattle.dwarf_lines.specs.declared.forms.Form.TheVariants.{String, Strp, LineStrp, Data1, Data2, Udata, Data4, Data8, Data16, Block}
 use Rattle.dwarf_lines.specs.declared.forms.Format.{Format}
 use Rattle.dwarf_lines.specs.Names.{Strings, form_for, Value, Text, Number, Other, Entry, empty_entry, entry_of, paths, files_of}
 use Rattle.dwarf_lines.specs.Spelling.{IsUleb, SpellsAll, SpellsPlace, SpellsValue, SpellsFormat, SpellsValues, SpellsEntry, SpellsListed, SpellsNames}
@@ -18,12 +18,12 @@ use Rattle.dwarf_lines.proofs.Headers.{field_ok, ok_is, one_takes, stays}
 
 -- ---- values
 
-own_takes : (strings : Strings) (a : Ahead) (y : Value × Ahead) → IsBytes a.bytes → own_text a ≡ Ok y → Consumes (SpellsValue strings Own y.0) a y.1
+own_takes : (strings : Strings) (a : Ahead) (y : Value × Ahead) → IsBytes a.bytes → own_text a ≡ Ok y → Consumes (SpellsValue strings String y.0) a y.1
 own_takes strings a y fits e =
     let x = bind_ok (field (text_at a)) _ y e in
     let c = text_takes a x.0.1 x.0.0 fits (field_ok (text_at a) x.0 x.1) in
-    subst (λ (z : Value × Ahead). Consumes (SpellsValue strings Own z.0) a z.1) (ok_is (Text x.0.0, x.0.1) y x.2)
-    (mapped_to (IsEnded x.0.0) (SpellsValue strings Own (Text x.0.0)) a x.0.1 (λ code is. (x.0.0, is, refl)) c)
+    subst (λ (z : Value × Ahead). Consumes (SpellsValue strings String z.0) a z.1) (ok_is (Text x.0.0, x.0.1) y x.2)
+    (mapped_to (IsEnded x.0.0) (SpellsValue strings String (Text x.0.0)) a x.0.1 (λ code is. (x.0.0, is, refl)) c)
 
 found_takes : (texts : List ℕ) (n : ℕ) (a c : Ahead) (o : Option ℕ) (y : Value × Ahead) → position (λ b. b == 0) (drop n texts) ≡ o → Consumes (IsNumber w32 (2 ^ 32) n) a c
     → up_to {X = Reading Value LineFault} o a (λ k. Ok (Text (take k (drop n texts)), c)) (Err (fault kinds.TextOut a.place)) ≡ Ok y → Consumes (SpellsPlace texts y.0) a y.1
@@ -73,15 +73,15 @@ block_takes a x b fits e =
     (λ front rest u is. (front, rest, refl, subst (λ (k : ℕ). IsUleb k front) (sym (long size.0.0 x rest is)) u)) c (sized size.0.0 size.0.1 x b c.rest size.2)
 
 pub value_takes : (strings : Strings) (form : Form) (a : Ahead) (y : Value × Ahead) → IsBytes a.bytes → value strings form a ≡ Ok y → Consumes (SpellsValue strings form y.0) a y.1
-value_takes strings Own a y fits e = own_takes strings a y fits e
-value_takes strings General a y fits e = place_takes strings.general a y fits e
-value_takes strings Line a y fits e = place_takes strings.line a y fits e
-value_takes strings Byte a y fits e = numbered (λ n code. code ≡ n ∷ []) (SpellsValue strings Byte) (byte a) a y (λ n b r. one_takes a b n fits r) (λ n code is. (n, is, refl)) e
-value_takes strings Half a y fits e = numbered (IsNumber w16 (2 ^ 16)) (SpellsValue strings Half) (half_field a) a y (λ n b r. half_takes a b n fits (field_ok _ _ r)) (λ n code is. (n, is.0, is.1, refl)) e
-value_takes strings Leb a y fits e = numbered IsUleb (SpellsValue strings Leb) (unsigned_field a) a y (λ n b r. unsigned_takes a b n fits r) (λ n code is. (n, is, refl)) e
-value_takes strings Four a y fits e = othered (AreBytes 4) (SpellsValue strings Four) (field (bytes_at 4 a)) a y (λ x b r. sized 4 a x b fits r) (λ x code is. (long 4 x code is, refl)) e
-value_takes strings Eight a y fits e = othered (AreBytes 8) (SpellsValue strings Eight) (field (bytes_at 8 a)) a y (λ x b r. sized 8 a x b fits r) (λ x code is. (long 8 x code is, refl)) e
-value_takes strings Sixteen a y fits e = othered (AreBytes 16) (SpellsValue strings Sixteen) (field (bytes_at 16 a)) a y (λ x b r. sized 16 a x b fits r) (λ x code is. (long 16 x code is, refl)) e
+value_takes strings String a y fits e = own_takes strings a y fits e
+value_takes strings Strp a y fits e = place_takes strings.general a y fits e
+value_takes strings LineStrp a y fits e = place_takes strings.line a y fits e
+value_takes strings Data1 a y fits e = numbered (λ n code. code ≡ n ∷ []) (SpellsValue strings Data1) (byte a) a y (λ n b r. one_takes a b n fits r) (λ n code is. (n, is, refl)) e
+value_takes strings Data2 a y fits e = numbered (IsNumber w16 (2 ^ 16)) (SpellsValue strings Data2) (half_field a) a y (λ n b r. half_takes a b n fits (field_ok _ _ r)) (λ n code is. (n, is.0, is.1, refl)) e
+value_takes strings Udata a y fits e = numbered IsUleb (SpellsValue strings Udata) (unsigned_field a) a y (λ n b r. unsigned_takes a b n fits r) (λ n code is. (n, is, refl)) e
+value_takes strings Data4 a y fits e = othered (AreBytes 4) (SpellsValue strings Data4) (field (bytes_at 4 a)) a y (λ x b r. sized 4 a x b fits r) (λ x code is. (long 4 x code is, refl)) e
+value_takes strings Data8 a y fits e = othered (AreBytes 8) (SpellsValue strings Data8) (field (bytes_at 8 a)) a y (λ x b r. sized 8 a x b fits r) (λ x code is. (long 8 x code is, refl)) e
+value_takes strings Data16 a y fits e = othered (AreBytes 16) (SpellsValue strings Data16) (field (bytes_at 16 a)) a y (λ x b r. sized 16 a x b fits r) (λ x code is. (long 16 x code is, refl)) e
 value_takes strings Block a y fits e = othered IsBlock (SpellsValue strings Block) (block a) a y (λ x b r. block_takes a x b fits r) (λ x code is. (is.0, is.1, is.2, is.3, refl)) e
 
 -- ---- formats
@@ -102,7 +102,7 @@ format_takes a y fits e =
     subst (λ (z : Format × Ahead). Consumes (SpellsFormat z.0) a z.1) (ok_is (made, code.0.1) y form.2)
     (Consumes-then (IsUleb content.0.0) (IsUleb code.0.0) (SpellsFormat made) a content.0.1 code.0.1 (λ front rest u v. (front, rest, code.0.0, refl, u, v, fine)) c d)
 
--- so many, one after the other
+-- n, one after the other
 abbrev AreAll : {A : Type 0} → (A → List ℕ → Type 0) → ℕ → List A → List ℕ → Type 0
 AreAll Is n xs code = SpellsAll Is xs code × (length xs ≡ n)
 

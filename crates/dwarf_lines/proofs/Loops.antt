@@ -214,7 +214,7 @@ program_closed h s a total none closed so_far =
     let end = sym so_far ∙ program_end h s a none in
     ap finished_table end ∙ ap (λ (b : Bool). finished_table (check (not b) kinds.Unended a.place s)) closed
 
--- an operation that can't be done ends the program with its fault, or with want of memory
+-- an operation that can't be done ends the program with its fault, or by running out of memory
 pub apply_fault : (h : Header) (s : State) (a b : Ahead) (op : Operation) (e : Failure LineFault) (total : Result State LineFault) → 0 < length a.bytes → operation h a ≡ Ok (op, b) → Fails e (check (has_line h op s) kinds.LineOut a.place (state_after h op s))
     → program (suc (length a.bytes)) h s a ≡ total → Fails e (finished_table total)
 apply_fault h s a b op errors.Memory total some read fails so_far = tt

@@ -59,7 +59,7 @@ part_ok false place n a x e = absurd cc
 announced_takes : (place n : ℕ) (a : Ahead) (x : Ahead × Ahead) → IsBytes a.bytes → announced_bytes place n a ≡ Ok x → Consumes (IsPart n a x.0) a x.1
 announced_takes place n a x fits e = part_takes n a x.0 x.1 fits (part_ok (nat_le n (length a.bytes)) place n a x e)
 
--- a number, so many bytes, and the rest
+-- a number, n bytes, and the rest
 three : (w : List ℕ) (n : ℕ) (number body rest whole mid x : List ℕ) → whole ≡ number ++ mid → number ≡ w → mid ≡ body ++ rest → body ≡ x → whole ≡ w ++ x ++ rest
 three w n number body rest whole mid x e is f same = e ∙ ap (λ (z : List ℕ). number ++ z) f ∙ sym (append_assoc number body rest) ∙ ap (λ (z : List ℕ). z ++ body ++ rest) is ∙ ap (λ (z : List ℕ). w ++ z ++ rest) same
 

@@ -13,7 +13,7 @@ use Rattle.failures.specs.Answers.{Fails, Gives}
 use Rattle.dwarf_lines.proofs.UnitsAgain.{reading_again}
 use Rattle.dwarf_lines.proofs.Loops.{units_fault, units_end}
 
--- a unit that can't be read ends the section with its fault, or with want of memory
+-- a unit that can't be read ends the section with its fault, or by running out of memory
 pub unit_fails : (strings : Strings) (t : Table) (a : Ahead) (e : Failure LineFault) (total : Result Table LineFault) → 0 < length a.bytes → Fails e (unit strings t a) → units (suc (length a.bytes)) strings t a ≡ total → Fails e total
 unit_fails strings t a errors.Memory total some fails so_far = tt
 unit_fails strings t a (errors.Fault f) total some fails so_far = sym so_far ∙ units_fault strings t a f some fails

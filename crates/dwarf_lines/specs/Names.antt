@@ -1,7 +1,7 @@
 -- Directories and files of version 5: entries, each a value for each format.
 use Rattle.std.specs.Prelude.{ℕ, zero, suc, Bool, true, false, ◌&&◌, ◌==◌, List, [], ◌∷◌, map, get_or, find, option_map, Option, Some, None, if◌then◌else◌}
 use Rattle.dwarf_lines.specs.declared.forms.Form.{Form}
-use Rattle.dwarf_lines.specs.declared.forms.Form.TheVariants.{Own, General, Line, Byte, Half, Leb, Four, Eight, Sixteen, Block}
+use Rattle.dwarf_lines.specs.declared.forms.Form.TheVariants.{String, Strp, LineStrp, Data1, Data2, Udata, Data4, Data8, Data16, Block}
 use Rattle.dwarf_lines.specs.declared.forms.Format.{Format}
 use Rattle.dwarf_lines.specs.Registers.{File}
 
@@ -30,15 +30,15 @@ line code path directory form = record {
 
 abbrev pub forms : List FormLine
 forms =
-    line 0x08 true false Own
-    ∷ line 0x0e true false General
-    ∷ line 0x1f true false Line
-    ∷ line 0x0b false true Byte
-    ∷ line 0x05 false true Half
-    ∷ line 0x06 false false Four
-    ∷ line 0x07 false false Eight
-    ∷ line 0x1e false false Sixteen
-    ∷ line 0x0f false true Leb
+    line 0x08 true false String
+    ∷ line 0x0e true false Strp
+    ∷ line 0x1f true false LineStrp
+    ∷ line 0x0b false true Data1
+    ∷ line 0x05 false true Data2
+    ∷ line 0x06 false false Data4
+    ∷ line 0x07 false false Data8
+    ∷ line 0x1e false false Data16
+    ∷ line 0x0f false true Udata
     ∷ line 0x09 false false Block
     ∷ []
 

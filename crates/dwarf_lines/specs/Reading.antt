@@ -12,7 +12,7 @@ use Rattle.failures.specs.declared.Failure.{Failure}
 use Rattle.failures.specs.Answers.{Fails}
 use Rattle.dwarf_lines.specs.Registers.{File, Table, Header, Operation, Copy, AdvancePc, AdvanceLine, SetFile, SetColumn, NegateStmt, ConstAddPc, FixedAdvancePc, Special, EndSequence, SetAddress, DefineFile, Pass, State, empty_table, state_after, has_line, first_state, is_open, directory}
 use Rattle.dwarf_lines.specs.declared.forms.Form.{Form}
-use Rattle.dwarf_lines.specs.declared.forms.Form.TheVariants.{Own, General, Line, Byte, Half, Leb, Four, Eight, Sixteen, Block}
+use Rattle.dwarf_lines.specs.declared.forms.Form.TheVariants.{String, Strp, LineStrp, Data1, Data2, Udata, Data4, Data8, Data16, Block}
 use Rattle.dwarf_lines.specs.declared.forms.Format.{Format}
 use Rattle.dwarf_lines.specs.Names.{Strings, form_for, Value, Text, Number, Other, Entry, empty_entry, entry_of, paths, files_of}
 
@@ -55,12 +55,12 @@ byte_that test kind a = do
   b ← byte a
   check (test b.0) kind a.place b
 
--- the next so many bytes on their own; if there are fewer, Short at this place
+-- the next n bytes on their own; if there are fewer, Short at this offset
 abbrev pub announced_bytes : ℕ → ℕ → Ahead → Reading Ahead LineFault
 announced_bytes place n a =
     if nat_le n (length a.bytes) then field (part_at n a) else Err (fault kinds.Short place)
 
--- so many unsigned numbers, of whatever value
+-- n unsigned numbers, of whatever value
 unfoldable pub ahead_of_numbers : ℕ → Ahead → Result Ahead LineFault
 ahead_of_numbers zero a = Ok a
 ahead_of_numbers (suc n) a = do
@@ -133,15 +133,15 @@ block a = do
   field (bytes_at size.0 size.1)
 
 abbrev pub value : Strings → Form → Ahead → Reading Value LineFault
-value strings Own a = own_text a
-value strings General a = text_in strings.general a
-value strings Line a = text_in strings.line a
-value strings Byte a = number (byte a)
-value strings Half a = number (half_field a)
-value strings Leb a = number (unsigned_field a)
-value strings Four a = other_value (field (bytes_at 4 a))
-value strings Eight a = other_value (field (bytes_at 8 a))
-value strings Sixteen a = other_value (field (bytes_at 16 a))
+value strings String a = own_text a
+value strings Strp a = text_in strings.general a
+value strings LineStrp a = text_in strings.line a
+value strings Data1 a = number (byte a)
+value strings Data2 a = number (half_field a)
+value strings Udata a = number (unsigned_field a)
+value strings Data4 a = other_value (field (bytes_at 4 a))
+value strings Data8 a = other_value (field (bytes_at 8 a))
+value strings Data16 a = other_value (field (bytes_at 16 a))
 value strings Block a = other_value (block a)
 
 -- the form that is there, else FormOut at this place
@@ -348,7 +348,7 @@ operation h a = do
     | false ↦ Ok (Special o.0, o.1)
   ]
 
--- the opcodes up to the end of the bytes, of which there are at most so many
+-- the opcodes up to the end of the bytes, of which there are at most n
 unfoldable pub program : ℕ → Header → State → Ahead → Result State LineFault
 program zero h s a = Ok s
 program (suc n) h s a =

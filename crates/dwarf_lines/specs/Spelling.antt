@@ -7,7 +7,7 @@ use Rattle.leb_cursor.specs.Numbers.{SpellsUnsigned, SpellsSigned}
 use Rattle.leb_cursor.specs.Ahead.{fits_64_signed}
 use Rattle.dwarf_lines.specs.Registers.{File, Table, Header, Operation, Copy, AdvancePc, AdvanceLine, SetFile, SetColumn, NegateStmt, ConstAddPc, FixedAdvancePc, Special, EndSequence, SetAddress, DefineFile, Pass, State, empty_table, state_after, has_line, first_state, is_open, directory}
 use Rattle.dwarf_lines.specs.declared.forms.Form.{Form}
-use Rattle.dwarf_lines.specs.declared.forms.Form.TheVariants.{Own, General, Line, Byte, Half, Leb, Four, Eight, Sixteen, Block}
+use Rattle.dwarf_lines.specs.declared.forms.Form.TheVariants.{String, Strp, LineStrp, Data1, Data2, Udata, Data4, Data8, Data16, Block}
 use Rattle.dwarf_lines.specs.declared.forms.Format.{Format}
 use Rattle.dwarf_lines.specs.Names.{Strings, form_for, Value, Text, Number, Other, Entry, empty_entry, entry_of, paths, files_of}
 
@@ -51,7 +51,7 @@ IsNothing operands = operands ≡ []
 abbrev pub IsSleb : ℤ → List ℕ → Type 0
 IsSleb z bytes = SpellsSigned z bytes × (fits_64_signed z ≡ true)
 
--- so many unsigned ones, of whatever value
+-- `count` unsigned ones, of whatever value
 abbrev pub AreUlebs : ℕ → List ℕ → Type 0
 AreUlebs count bytes = (ns : List ℕ) × (length ns ≡ count) × SpellsAll IsUleb ns bytes
 
@@ -114,16 +114,16 @@ SpellsPlace texts v bytes =
     × IsTextAt texts n text × (v ≡ Text text)
 
 abbrev pub SpellsValue : Strings → Form → Value → List ℕ → Type 0
-SpellsValue strings Own v bytes = (text : List ℕ) × SpellsText text bytes × (v ≡ Text text)
-SpellsValue strings General v bytes = SpellsPlace strings.general v bytes
-SpellsValue strings Line v bytes = SpellsPlace strings.line v bytes
-SpellsValue strings Byte v bytes = (n : ℕ) × (bytes ≡ n ∷ []) × (v ≡ Number n)
-SpellsValue strings Half v bytes =
+SpellsValue strings String v bytes = (text : List ℕ) × SpellsText text bytes × (v ≡ Text text)
+SpellsValue strings Strp v bytes = SpellsPlace strings.general v bytes
+SpellsValue strings LineStrp v bytes = SpellsPlace strings.line v bytes
+SpellsValue strings Data1 v bytes = (n : ℕ) × (bytes ≡ n ∷ []) × (v ≡ Number n)
+SpellsValue strings Data2 v bytes =
     (n : ℕ) × (bytes ≡ to_le_bytes w16 n) × (n < 2 ^ 16) × (v ≡ Number n)
-SpellsValue strings Leb v bytes = (n : ℕ) × IsUleb n bytes × (v ≡ Number n)
-SpellsValue strings Four v bytes = (length bytes ≡ 4) × (v ≡ Other)
-SpellsValue strings Eight v bytes = (length bytes ≡ 8) × (v ≡ Other)
-SpellsValue strings Sixteen v bytes = (length bytes ≡ 16) × (v ≡ Other)
+SpellsValue strings Udata v bytes = (n : ℕ) × IsUleb n bytes × (v ≡ Number n)
+SpellsValue strings Data4 v bytes = (length bytes ≡ 4) × (v ≡ Other)
+SpellsValue strings Data8 v bytes = (length bytes ≡ 8) × (v ≡ Other)
+SpellsValue strings Data16 v bytes = (length bytes ≡ 16) × (v ≡ Other)
 SpellsValue strings Block v bytes =
     (size : List ℕ) × (block : List ℕ) × (bytes ≡ size ++ block)
     × IsUleb (length block) size × (v ≡ Other)

@@ -61,7 +61,7 @@ impl<'a> Draft<'a> {
     }
 
     /// Reads the next unit, or passes over it and counts it.
-    /// Err tells the unit's first fault, or want of memory.
+    /// Err is the unit's first fault, or out of memory.
     #[tactic(auto, unfolding(crate::specs::Reading::unit))]
     pub fn read_unit(
         &mut self,

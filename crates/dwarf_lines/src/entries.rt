@@ -10,7 +10,7 @@ use leb_cursor::Cursor;
 use std::alloc::Global;
 
 /// Texts up to an empty one.
-/// Err tells the first field that runs past the header, or want of memory.
+/// Err is the first field that runs past the header, or out of memory.
 pub fn read_directories<'a>(
     alloc: Global,
     cursor: &mut Cursor<'a>,
@@ -28,7 +28,7 @@ pub fn read_directories<'a>(
     }
 }
 
-/// Files up to an empty name. Err tells the first wrong field, or want of memory.
+/// Files up to an empty name. Err is the first wrong field, or out of memory.
 pub fn read_files<'a>(
     alloc: Global,
     directories: &[&'a [u8]],

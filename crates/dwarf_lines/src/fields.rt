@@ -125,7 +125,7 @@ fn front<'a>(count: u64, cursor: &mut Cursor<'a>) -> Result<Cursor<'a>, LineFaul
     Ok(cursor.part(count)?)
 }
 
-/// The next bytes as a list. Err where fewer are left, or for want of memory.
+/// The next bytes as a list. Err if fewer are left, or if it is out of memory.
 pub fn bytes(alloc: Global, count: u8, cursor: &mut Cursor) -> Result<Vec<u8>, LineError>
     ensures { WalksOver (λ v. v.items) result cursor.new (field (bytes_at count cursor.old)) }
 {
@@ -137,7 +137,7 @@ pub fn bytes(alloc: Global, count: u8, cursor: &mut Cursor) -> Result<Vec<u8>, L
     Ok(items)
 }
 
-/// Passes so many unsigned numbers. Err tells the first that isn't one.
+/// Skips `count` unsigned LEB128 numbers. Err is the first fault among them.
 #[tactic(auto, unfolding(crate::specs::Reading::ahead_of_numbers))]
 pub fn pass(count: u8, cursor: &mut Cursor) -> Result<(), LineFault>
     ensures { WalksOn result cursor.new (ahead_of_numbers count cursor.old) }

@@ -28,44 +28,44 @@ const DW_FORM_STRING: u64 = 0x08;
 const DW_FORM_BLOCK: u64 = 0x09;
 /// A number of one byte.
 const DW_FORM_DATA1: u64 = 0x0B;
-/// The place of a text in `.debug_str`.
+/// The offset of a text in `.debug_str`.
 const DW_FORM_STRP: u64 = 0x0E;
 /// A number in unsigned LEB128.
 const DW_FORM_UDATA: u64 = 0x0F;
 /// Sixteen bytes.
 const DW_FORM_DATA16: u64 = 0x1E;
-/// The place of a text in `.debug_line_str`.
+/// The offset of a text in `.debug_line_str`.
 const DW_FORM_LINE_STRP: u64 = 0x1F;
 
 /// How a value is written (DWARF 5, 7.5.6).
 #[derive(Clone, Copy)]
 pub enum Form {
-    /// A text in the entry.
-    Own,
-    /// The place of a text in the general section.
-    General,
-    /// The place of a text in the section of lines.
-    Line,
+    /// A text in the entry itself, ended by a zero.
+    String,
+    /// The offset of a text in `.debug_str`, 4 bytes.
+    Strp,
+    /// The offset of a text in `.debug_line_str`, 4 bytes.
+    LineStrp,
     /// A number of one byte.
-    Byte,
+    Data1,
     /// A number of two bytes.
-    Half,
-    /// A number in LEB128.
-    Leb,
-    /// Four bytes that nothing is made of.
-    Four,
-    /// Eight bytes that nothing is made of.
-    Eight,
-    /// Sixteen bytes that nothing is made of.
-    Sixteen,
-    /// A length in LEB128, and as many bytes.
+    Data2,
+    /// A number in unsigned LEB128.
+    Udata,
+    /// 4 bytes, skipped.
+    Data4,
+    /// 8 bytes, skipped.
+    Data8,
+    /// 16 bytes, skipped.
+    Data16,
+    /// A length in unsigned LEB128 and that many bytes, skipped.
     Block,
 }
 
 /// A field of each entry.
 #[derive(Clone, Copy)]
 pub struct Format {
-    /// What the field tells: 1 is the path, 2 the number of the directory.
+    /// DW_LNCT_path (1), DW_LNCT_directory_index (2), or another content, which is skipped.
     pub content: u64,
     /// How it is written.
     pub form: Form,
@@ -77,15 +77,15 @@ fn form_for(content: u64, code: u64) -> Option<Form>
     ensures { result ≡ form_for content code }
 {
     let (form, is_path, is_directory) = match code {
-        DW_FORM_STRING => (Form::Own, true, false),
-        DW_FORM_STRP => (Form::General, true, false),
-        DW_FORM_LINE_STRP => (Form::Line, true, false),
-        DW_FORM_DATA1 => (Form::Byte, false, true),
-        DW_FORM_DATA2 => (Form::Half, false, true),
-        DW_FORM_DATA4 => (Form::Four, false, false),
-        DW_FORM_DATA8 => (Form::Eight, false, false),
-        DW_FORM_DATA16 => (Form::Sixteen, false, false),
-        DW_FORM_UDATA => (Form::Leb, false, true),
+        DW_FORM_STRING => (Form::String, true, false),
+        DW_FORM_STRP => (Form::Strp, true, false),
+        DW_FORM_LINE_STRP => (Form::LineStrp, true, false),
+        DW_FORM_DATA1 => (Form::Data1, false, true),
+        DW_FORM_DATA2 => (Form::Data2, false, true),
+        DW_FORM_DATA4 => (Form::Data4, false, false),
+        DW_FORM_DATA8 => (Form::Data8, false, false),
+        DW_FORM_DATA16 => (Form::Data16, false, false),
+        DW_FORM_UDATA => (Form::Udata, false, true),
         DW_FORM_BLOCK => (Form::Block, false, false),
         _ => return None,
     };
@@ -113,7 +113,7 @@ fn read_format(cursor: &mut Cursor) -> Result<Format, LineFault>
     }
 }
 
-/// So many formats. Err tells the first wrong field, or want of memory.
+/// The next `count` formats. Err is the first wrong field, or out of memory.
 pub fn read_formats(alloc: Global, count: u8, cursor: &mut Cursor) -> Result<Vec<Format>, LineError>
     ensures { WalksOver (λ v. v.items) result cursor.new (formats count cursor.old) }
 {

@@ -49,8 +49,8 @@ impl<'a> Header<'a> {
     ghost use Rattle.failures.specs.Answers.{Gives};
     ghost use Rattle.dwarf_lines.specs.Views.{header_view, sections_view};
 
-    /// The header from minimum_instruction_length on. What is left behind its files is passed.
-    /// Err tells its first wrong field, or want of memory.
+    /// The header from minimum_instruction_length on. What is left after its files is skipped.
+    /// Err is its first wrong field, or out of memory.
     #[tactic(auto, unfolding(crate::specs::Reading::header))]
     pub fn read(
         alloc: Global,

@@ -34,7 +34,7 @@ pub struct Entry<'a> {
     pub directory: Option<u64>,
 }
 
-/// So many bytes that nothing is made of.
+/// Skips `count` bytes.
 fn other<'a>(count: u64, cursor: &mut Cursor<'a>) -> Result<Value<'a>, LineFault>
     ensures { Walks value_view result cursor.new (other_value (field (bytes_at count cursor.old))) }
 {
@@ -67,15 +67,15 @@ fn read_value<'a>(
         (value (strings_view strings.now) form cursor.old) }
 {
     match form {
-        Form::Own => Ok(Value::Text(text(cursor)?)),
-        Form::General => text_in(&strings.general, cursor),
-        Form::Line => text_in(&strings.line, cursor),
-        Form::Byte => Ok(Value::Number(cursor.byte()? as u64)),
-        Form::Half => Ok(Value::Number(cursor.half()? as u64)),
-        Form::Leb => Ok(Value::Number(unsigned(cursor)?)),
-        Form::Four => other(4, cursor),
-        Form::Eight => other(8, cursor),
-        Form::Sixteen => other(16, cursor),
+        Form::String => Ok(Value::Text(text(cursor)?)),
+        Form::Strp => text_in(&strings.general, cursor),
+        Form::LineStrp => text_in(&strings.line, cursor),
+        Form::Data1 => Ok(Value::Number(cursor.byte()? as u64)),
+        Form::Data2 => Ok(Value::Number(cursor.half()? as u64)),
+        Form::Udata => Ok(Value::Number(unsigned(cursor)?)),
+        Form::Data4 => other(4, cursor),
+        Form::Data8 => other(8, cursor),
+        Form::Data16 => other(16, cursor),
         Form::Block => {
             let size = unsigned(cursor)?;
             other(size, cursor)
@@ -119,7 +119,7 @@ fn read_entry<'a>(
     Ok(entry)
 }
 
-/// So many entries.
+/// The next `count` entries.
 fn read_entries<'a>(
     alloc: Global,
     count: u64,
@@ -139,7 +139,7 @@ fn read_entries<'a>(
 }
 
 /// Formats with their count, and entries with theirs.
-/// Err tells the first wrong field, or want of memory.
+/// Err is the first wrong field, or out of memory.
 #[tactic(auto, unfolding(crate::specs::Reading::entry_list))]
 pub fn read_listed<'a>(
     alloc: Global,

@@ -17,7 +17,7 @@ use leb_cursor::Cursor;
 pub enum Operation<'a> {
     /// Appends a row.
     Copy,
-    /// Advances the address by so many steps.
+    /// Advances the address by this many instructions (`minimum_instruction_length` bytes each).
     AdvancePc(u64),
     /// Advances the line.
     AdvanceLine(i64),
@@ -29,7 +29,7 @@ pub enum Operation<'a> {
     NegateStmt,
     /// Advances the address as special opcode 255 does.
     ConstAddPc,
-    /// Advances the address by so many bytes.
+    /// Advances the address by this many bytes.
     FixedAdvancePc(u16),
     /// A special opcode: advances the address and the line, and appends a row.
     Special(u8),

@@ -74,7 +74,7 @@ pub struct Strings<'a> {
     pub line: Texts<'a>,
 }
 
-/// The same sections, gathered when a unit of version 5 is first met.
+/// Both sections of texts, gathered when a unit of version 5 is first met.
 #[derive(Drop)]
 pub struct Sections<'a> {
     general: &'a [u8],

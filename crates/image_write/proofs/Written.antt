@@ -11,7 +11,7 @@ use Rattle.dwarf_lines.specs.Registers.{Table, File, empty_table}
 use Rattle.dwarf_lines.specs.Names.{Strings, strings, form_for, Text, Number, Entry}
 use Rattle.dwarf_lines.specs.Spelling.{IsUleb, SpellsHeader, SpellsNames, SpellsListed, SpellsEntry, SpellsFormat, SpellsFile, ReadsUnit, TakesUnit, IsTable}
 use Rattle.dwarf_lines.specs.Spelling as spelled
-use Rattle.dwarf_lines.specs.declared.forms.Form.TheVariants.{Own, Byte}
+use Rattle.dwarf_lines.specs.declared.forms.Form.TheVariants.{String, Data1}
 use Rattle.dwarf_lines.specs.declared.forms.Format.{Format}
 use Rattle.dwarf_lines.specs.Reading.{reading}
 use Rattle.dwarf_lines.proofs.UnitsAgain.{reading_again}
@@ -49,10 +49,10 @@ spelled_file name full = (name ++ 0 ∷ [], 0 ∷ [], 0 ∷ [], 0 ∷ [], 0, 0, 
 -- ---- directories and files of version 5
 
 abbrev path_format : Format
-path_format = record { content = 1; form = Own }
+path_format = record { content = 1; form = String }
 
 abbrev directory_format : Format
-directory_format = record { content = 2; form = Byte }
+directory_format = record { content = 2; form = Data1 }
 
 spelled_format : (f : Format) (code : ℕ) → IsUleb f.content (f.content ∷ []) → IsUleb code (code ∷ []) → form_for f.content code ≡ Some f.form → SpellsFormat f (f.content ∷ code ∷ [])
 spelled_format f code content form is = (f.content ∷ [], code ∷ [], code, refl, content, form, is)
@@ -63,11 +63,11 @@ one = ((lit< tt, refl), lit< tt)
 two : IsUleb 2 (2 ∷ [])
 two = ((lit< tt, refl), lit< tt)
 
-path_is_own : form_for 1 8 ≡ Some Own
+path_is_own : form_for 1 8 ≡ Some String
 unfolding form_for
 path_is_own = refl
 
-directory_is_byte : form_for 2 11 ≡ Some Byte
+directory_is_byte : form_for 2 11 ≡ Some Data1
 unfolding form_for
 directory_is_byte = refl
 

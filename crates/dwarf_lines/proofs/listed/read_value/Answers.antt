@@ -1,4 +1,4 @@
 use Rattle.dwarf_lines.proofs.listed.read_value.Goals as goal
 
-pub returns-in-Line : goal.returns-in-Line
-returns-in-Line c = rw c.in-Line.is c.text_in-in-Line.ensures
+pub returns-in-LineStrp : goal.returns-in-LineStrp
+returns-in-LineStrp c = rw c.in-LineStrp.is c.text_in-in-LineStrp.ensures
