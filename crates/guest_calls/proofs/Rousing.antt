@@ -3,11 +3,11 @@ use Rattle.std.proofs.Common.{ℕ, zero, suc, ◌≡◌, ◌<◌, ◌≤◌, ◌
 use Rattle.std.specs.Prelude.{slice_index}
 use Rattle.std.specs.Int.{w32, to_le_bytes}
 use Rattle.coz_types.specs.declared.HartId.{HartId}
-use Rattle.guest_memory.specs.Memory.{MemoryMap, is_writable, with_bytes}
+use Rattle.guest_memory.specs.Memory.{MemoryMap, is_writable}
 use Rattle.guest_areas.specs.Space.{RegionMap, has_power}
 use Rattle.guest_futex.specs.Waiters.{Waiter, woken_harts, waiters_left}
 use Rattle.guest_pipes.specs.Pipes.{PipeMap}
-use Rattle.rv_execute.specs.Reservations.{Reservations, without_touched}
+use Rattle.rv_execute.specs.Reservations.{Reservations}
 use Rattle.guest_calls.specs.declared.hart.Hart.{Hart}
 use Rattle.guest_calls.specs.declared.hart.HartStatus.TheVariants.{Running}
 use Rattle.guest_calls.specs.Output.{Written}
@@ -163,19 +163,6 @@ piped items after regions m rs ws ps new input whole output g f woken view run c
     ap (λ (x : List Hart). guest_of x regions m rs ws new input whole output) run
     ∙ ap (λ (x : PipeMap). guest_of (with_running_each (woken (guest_of items regions m rs ws ps input whole output)) items) regions m rs ws x input whole output) change
     ∙ ap (λ (x : Guest). with_pipes (f x) (woken x) x) view
-
--- the same, and bytes are stored
-pub piped_stored : (items after : List Hart) (regions : RegionMap) (m m' : MemoryMap) (rs rs' : Reservations) (ws : List Waiter) (ps new : PipeMap) (input whole : List ℕ) (output : Written) (g : Guest) (address n : ℕ) (b : Guest → List ℕ) (f : Guest → PipeMap) (woken : Guest → List ℕ)
-    → guest_of items regions m rs ws ps input whole output ≡ g → after ≡ with_running_each (woken (guest_of items regions m rs ws ps input whole output)) items → new ≡ f (guest_of items regions m rs ws ps input whole output)
-    → m' ≡ with_bytes address (b (guest_of items regions m rs ws ps input whole output)) m → rs' ≡ without_touched address n rs → n ≡ length (b (guest_of items regions m rs ws ps input whole output))
-    → guest_of after regions m' rs' ws new input whole output ≡ with_pipes (f g) (woken g) (with_stored address (b g) g)
-piped_stored items after regions m m' rs rs' ws ps new input whole output g address n b f woken view run change stored freed size =
-    let old : Guest = guest_of items regions m rs ws ps input whole output in
-    ap (λ (x : List Hart). guest_of x regions m' rs' ws new input whole output) run
-    ∙ ap (λ (x : PipeMap). guest_of (with_running_each (woken old) items) regions m' rs' ws x input whole output) change
-    ∙ ap (λ (x : MemoryMap). guest_of (with_running_each (woken old) items) regions x rs' ws (f old) input whole output) stored
-    ∙ ap (λ (x : Reservations). guest_of (with_running_each (woken old) items) regions (with_bytes address (b old) m) x ws (f old) input whole output) (freed ∙ ap (λ (k : ℕ). without_touched address k rs) size)
-    ∙ ap (λ (x : Guest). with_pipes (f x) (woken x) (with_stored address (b x) x)) view
 
 -- a hart that runs goes on as others are woken
 pub still-piped : (g : Guest) (pipes : PipeMap) (woken : List ℕ) (h : ℕ) → is_running g h ≡ true → is_running (with_pipes pipes woken g) h ≡ true

@@ -1,5 +1,5 @@
 //! Bytes on their way between the memory and a pipe.
-ghost use Rattle.std.specs.Prelude.{◌≡◌, ◌≤◌, ◌+◌, ◌++◌, length, take, Some, IsTrue};
+ghost use Rattle.std.specs.Prelude.{◌≡◌, ◌≤◌, ◌+◌, ◌++◌, length, take, false, Some, IsTrue, MatchResult};
 ghost use Rattle.coz_types.specs.declared.TheConstants.{HARTS};
 ghost use Rattle.guest_memory.specs.Memory.{is_readable, is_writable, with_bytes, bytes_at};
 ghost use Rattle.guest_pipes.specs.declared.TheConstants.{PIPE_BYTES};
@@ -8,7 +8,7 @@ ghost use Rattle.guest_pipes.specs.Pipes.{kind_at, held, room, woken_for, put};
 
 use coz_types::Address;
 use guest_futex::HartList;
-use guest_memory::Memory;
+use guest_memory::{Access, Memory};
 use guest_pipes::{PIPE_BYTES, Pipes};
 use std::alloc::{AllocError, Global};
 use std::marker::Model;
@@ -38,7 +38,8 @@ impl Carrier {
         })
     }
 
-    /// Copies the first bytes of a pipe into the memory, where they may be written.
+    /// Copies the first bytes of a pipe into the memory; nothing is copied where some byte may not
+    /// be written. Err is just that.
     pub fn deliver(
         &mut self,
         pipes: &Pipes,
@@ -46,19 +47,19 @@ impl Carrier {
         count: u32,
         memory: &mut Memory,
         address: Address,
-    )
+    ) -> Result<(), Access>
         requires reads { kind_at number pipes.now ≡ Some Reading }
         requires few { count ≤ length (held number pipes.now) }
         requires most { count ≤ PIPE_BYTES }
-        requires writable { IsTrue (is_writable memory.old address count) }
-        ensures { memory.new
-            ≡ with_bytes address (take count (held number pipes.now)) memory.old }
+        ensures { MatchResult result
+            (λ _. IsTrue (is_writable memory.old address count)
+            × (memory.new ≡ with_bytes address (take count (held number pipes.now)) memory.old))
+            (λ _. (is_writable memory.old address count ≡ false)
+            × (memory.new ≡ memory.old)) }
     {
         let bytes = &mut self.bytes[..count as usize];
         pipes.peek(number, bytes);
-        let Ok(()) = memory.copy_in(address, bytes) else {
-            unreachable!()
-        };
+        memory.copy_in(address, bytes)
     }
 
     /// Puts bytes of the memory, which may be read, into a pipe that has room for them. All harts

@@ -1,5 +1,5 @@
 //! The calls of pipes: they are made, read, written and closed (Linux on riscv64).
-ghost use Rattle.std.specs.Prelude.{◌≡◌, ◌≢◌, ◌≤◌, ◌++◌, [], length, take, Some, None, IsTrue, pos};
+ghost use Rattle.std.specs.Prelude.{◌≡◌, ◌≢◌, ◌≤◌, ◌++◌, [], length, take, false, Some, None, IsTrue, MatchResult, OnOk, OnErr, pos};
 ghost use Rattle.guest_memory.specs.Memory.{is_readable, is_writable, bytes_at};
 ghost use Rattle.machines.specs.declared.Fate.TheVariants.{Waits};
 ghost use Rattle.guest_pipes.specs.declared.TheConstants.{PIPE_BYTES};
@@ -14,6 +14,7 @@ use crate::threads::run_each;
 use crate::{Fate, Guest, HartStatus};
 use coz_types::{Address, HartId};
 use guest_futex::HartList;
+use guest_memory::Access;
 use guest_pipes::Ready;
 
 fn is_pipe_flags(flags: u64) -> bool
@@ -84,28 +85,67 @@ impl<'a> Guest<'a> {
     {
         let number = self.end_number(hart);
         let address = self.argument(hart, 1);
-        if !self.memory.writable(address, u64::from(count)) {
-            return self.answer(hart, -EFAULT);
+        match self.read_bytes(number, count, address, started) {
+            Ok(()) => self.answer_count(hart, u64::from(count)),
+            Err(_) => self.answer(hart, -EFAULT),
         }
-        self.take_bytes(number, count, address, started);
-        self.answer_count(hart, u64::from(count))
     }
 
-    /// Takes bytes from a pipe, stores them, and wakes those that wait for its room.
-    fn take_bytes(&mut self, number: u32, count: u32, address: Address, started: &mut HartList)
+    /// Stores bytes of a pipe, takes them from it, and wakes those that wait for its room; nothing
+    /// is done where some byte may not be written. Err is just that.
+    fn read_bytes(
+        &mut self,
+        number: u32,
+        count: u32,
+        address: Address,
+        started: &mut HartList,
+    ) -> Result<(), Access>
         requires started { started.old ≡ [] }
         requires reads { kind_at number self.old.pipes ≡ Some Reading }
         requires few { count ≤ length (held number self.old.pipes) }
         requires most { count ≤ PIPE_BYTES }
-        requires writable { IsTrue (is_writable (memory_of self.old) address count) }
-        ensures woken { started.new ≡ woken_for Writing number self.old.pipes }
-        ensures taken { self.new
-            ≡ with_pipes (taken number count self.old.pipes) (woken_for Writing number self.old.pipes)
-            (with_stored address (take count (held number self.old.pipes)) self.old) }
+        ensures woken { OnOk result (started.new ≡ woken_for Writing number self.old.pipes) }
+        ensures taken { MatchResult result
+            (λ _. IsTrue (is_writable (memory_of self.old) address count)
+            × (self.new ≡ with_pipes (taken number count self.old.pipes)
+            (woken_for Writing number self.old.pipes)
+            (with_stored address (take count (held number self.old.pipes)) self.old)))
+            (λ _. (is_writable (memory_of self.old) address count ≡ false)
+            × (self.new ≡ self.old)) }
+        ensures nobody { OnErr result (started.new ≡ []) }
+    {
+        self.store_bytes(number, count, address)?;
+        self.take_bytes(number, count, started);
+        Ok(())
+    }
+
+    /// Stores the first bytes of a pipe, which keeps them; nothing is stored where some byte may not
+    /// be written. Err is just that.
+    fn store_bytes(&mut self, number: u32, count: u32, address: Address) -> Result<(), Access>
+        requires reads { kind_at number self.old.pipes ≡ Some Reading }
+        requires few { count ≤ length (held number self.old.pipes) }
+        requires most { count ≤ PIPE_BYTES }
+        ensures { MatchResult result
+            (λ _. IsTrue (is_writable (memory_of self.old) address count)
+            × (self.new ≡ with_stored address (take count (held number self.old.pipes)) self.old))
+            (λ _. (is_writable (memory_of self.old) address count ≡ false)
+            × (self.new ≡ self.old)) }
     {
         self.carrier
-            .deliver(&self.pipes, number, count, &mut self.memory, address);
+            .deliver(&self.pipes, number, count, &mut self.memory, address)?;
         self.reservations.end_at(address, u64::from(count));
+        Ok(())
+    }
+
+    /// Takes bytes from a pipe, and wakes those that wait for its room.
+    fn take_bytes(&mut self, number: u32, count: u32, started: &mut HartList)
+        requires started { started.old ≡ [] }
+        requires reads { kind_at number self.old.pipes ≡ Some Reading }
+        requires few { count ≤ length (held number self.old.pipes) }
+        ensures woken { started.new ≡ woken_for Writing number self.old.pipes }
+        ensures taken { self.new ≡ with_pipes (taken number count self.old.pipes)
+            (woken_for Writing number self.old.pipes) self.old }
+    {
         self.pipes.take(number, count, started);
         run_each(&mut self.harts, started.harts());
     }

@@ -8,5 +8,5 @@ use Rattle.guest_calls.proofs.Guest.read_now.Goals as goal
 
 pub answer_count-requires : goal.answer_count-requires
 answer_count-requires c =
-    running-made c.take_bytes.new.self c.args.hart.0
-    (ap (λ (g : Guest). is_running g c.args.hart.0) c.take_bytes.ensures.taken ∙ still-piped (with_stored c.argument-address.result (take c.args.count (held c.end_number-number.result c.args.self.now.pipes)) c.args.self.now) (taken c.end_number-number.result c.args.count c.args.self.now.pipes) (woken_for Writing c.end_number-number.result c.args.self.now.pipes) c.args.hart.0 c.requires.running)
+    running-made c.read_bytes.new.self c.args.hart.0
+    (ap (λ (g : Guest). is_running g c.args.hart.0) c.in-Ok.ensures.taken.1 ∙ still-piped (with_stored c.argument-address.result (take c.args.count (held c.end_number-number.result c.args.self.now.pipes)) c.args.self.now) (taken c.end_number-number.result c.args.count c.args.self.now.pipes) (woken_for Writing c.end_number-number.result c.args.self.now.pipes) c.args.hart.0 c.requires.running)

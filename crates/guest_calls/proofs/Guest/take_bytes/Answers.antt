@@ -1,14 +1,12 @@
-use Rattle.std.proofs.Common.{ℕ, ◌≡◌, ◌≤◌, ◌∙◌, List, ◌++◌, take, length, length-take, ap, arith}
+use Rattle.std.proofs.Common.{ℕ, ◌≡◌, ◌≤◌, ◌∙◌, List, ◌++◌, length, ap, arith}
 use Rattle.guest_pipes.specs.declared.ends.PipeEnd.TheVariants.{Writing}
 use Rattle.guest_pipes.specs.declared.waiters.PipeWaiter.{PipeWaiter}
-use Rattle.guest_pipes.specs.Pipes.{end_of, this_end, held, woken_at, woken_for, left_at, taken}
-use Rattle.rv_execute.specs.Reservations.{without_touched}
+use Rattle.guest_pipes.specs.Pipes.{end_of, this_end, woken_at, woken_for, left_at, taken}
 use Rattle.guest_calls.specs.Guest.{Guest}
 use Rattle.guest_calls.specs.Orderly.{waiting_harts}
 use Rattle.guest_calls.proofs.Waiting.{end_woken}
 use Rattle.guest_calls.proofs.Keeping.{few-roused, roused-made, kept-roused}
-use Rattle.guest_calls.proofs.Rows.{shares-stored}
-use Rattle.guest_calls.proofs.Rousing.{put_back, piped_stored}
+use Rattle.guest_calls.proofs.Rousing.{put_back, piped}
 use Rattle.guest_calls.proofs.Guest.take_bytes.Goals as goal
 
 pub take-requires-clause-room : goal.take-requires-clause-room
@@ -35,7 +33,7 @@ invariant_of-self c =
     let pipe : ℕ = (this_end c.args.number c.self.inside.pipes).pipe in
     let ran = put_back c.self.inside.harts.items c.deref_mut.result.now c.run_each.new.harts c.self.inside.harts.len _ c.args.started.now (woken_at (end_of pipe Writing) ps) c.run_each.auto.harts c.deref_mut.ensures.value c.self.inside.harts.ok.0 c.run_each.ensures (c.harts.ensures ∙ c.take.ensures.woken) c.requires.started in
     rw (ran, c.take.ensures.state)
-    (kept-roused _ _ _ _ _ _ (woken_at (end_of pipe Writing) ps) ws (left_at (end_of pipe Writing) ps) c.deliver.new.memory c.self.invariant (end_woken ws ps (end_of pipe Writing) c.self.invariant.apart) (shares-stored _ _ _ c.args.address (take c.args.count (held c.args.number c.self.inside.pipes)) c.self.invariant.shared c.deliver.ensures))
+    (kept-roused _ _ _ _ _ _ (woken_at (end_of pipe Writing) ps) ws (left_at (end_of pipe Writing) ps) c.self.inside.memory c.self.invariant (end_woken ws ps (end_of pipe Writing) c.self.invariant.apart) (c.self.invariant.shared))
 
 pub returns : goal.returns
 returns c =
@@ -46,8 +44,7 @@ returns c =
     record {
       woken = c.take.ensures.woken ∙ ap (λ (hs : List ℕ). hs ++ (woken_at (end_of pipe Writing) ps)) c.requires.started ∙ ap (λ (g : Guest). woken_for Writing c.args.number g.pipes) c.self.view_is;
       taken =
-          piped_stored c.self.inside.harts.items _ c.self.inside.areas c.self.inside.memory c.deliver.new.memory c.self.inside.reservations c.end_at.new.self c.self.inside.queue c.self.inside.pipes c.take.new.self c.self.inside.input.now c.self.inside.whole_input.now c.self.inside.output c.args.self.now
-          c.args.address c.args.count (λ g. take c.args.count (held c.args.number g.pipes)) (λ g. taken c.args.number c.args.count g.pipes) (λ g. woken_for Writing c.args.number g.pipes)
-          c.self.view_is ran c.take.ensures.state c.deliver.ensures (c.end_at.ensures ∙ ap (λ (k : ℕ). without_touched c.args.address k c.self.inside.reservations) c.from.ensures)
-          (let l = length-take c.args.count (held c.args.number c.self.inside.pipes) in let fits : length (held c.args.number c.self.inside.pipes) ≡ length (held c.args.number c.args.self.now.pipes) = ap (λ (g : Guest). length (held c.args.number g.pipes)) c.self.view_is in let few = c.requires.few in omega arith);
+          piped c.self.inside.harts.items _ c.self.inside.areas c.self.inside.memory c.self.inside.reservations c.self.inside.queue c.self.inside.pipes c.take.new.self c.self.inside.input.now c.self.inside.whole_input.now c.self.inside.output c.args.self.now
+          (λ g. taken c.args.number c.args.count g.pipes) (λ g. woken_for Writing c.args.number g.pipes)
+          c.self.view_is ran c.take.ensures.state;
     }
