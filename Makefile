@@ -1,6 +1,6 @@
 # make         proves and builds both programs, and leaves them as build/coz and build/coz-page
-# make test    runs the merge gate, and then checks the man pages, that machines take no memory,
-#              and the profile of an example, where build/coz stands
+# make test    runs the merge gate, and then checks the man pages and that machines take no memory and,
+#              if both programs are built, the outputs that README and TUTORIAL show and an example's profile
 # make try ARGS="run examples/one"    runs the program with no proof, in some minutes
 # make guests  builds, with Debian's packages, what guests/coz-cc links programs with
 # make examples    builds the examples in C as they stand, with a C library of their own
@@ -27,6 +27,7 @@ page:
 test:
 	bash .ci/run
 	tools/check-man
+	tools/check-docs
 	tools/check-memory
 	tools/check-examples
 
