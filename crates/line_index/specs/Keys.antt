@@ -121,3 +121,7 @@ entry_cmp entry other =
 -- how many bytes a file's name and that of its directory have
 abbrev pub name_size : FileName → ℕ
 name_size file = length file.directory.now + length file.name.now
+
+-- how many bytes the label of a line has at most: its path, a colon and ten digits
+abbrev pub label_size : List (List ℕ) → Key → ℕ
+label_size paths key = length (get_or paths key.path []) + 11
