@@ -70,9 +70,9 @@ one_further list start at line d le lt so_far =
     (λ p h. (h.0, h.1, omega (arith, h.2), h.3))
     (λ p e. (at, le, omega arith, read ∙ e))
     (λ p h. ⊎_elim
-        (λ less. inl (h.0, h.1, less, h.3))
-        (λ ge. let same : h.0 ≡ at = omega (arith, ge, h.2) in inr (sym read ∙ ap (λ k. get_or (lines_of list) k 0) (sym same) ∙ h.3))
-        (cases_lt h.0 at))
+    (λ less. inl (h.0, h.1, less, h.3))
+    (λ ge. let same : h.0 ≡ at = omega (arith, ge, h.2) in inr (sym read ∙ ap (λ k. get_or (lines_of list) k 0) (sym same) ∙ h.3))
+    (cases_lt h.0 at))
 
 -- with some more places
 pub some_further : (list : List Ending) (start at end : ℕ) (line first : Option ℕ) → start ≤ at → at ≤ end → IsLeast (IsBetween list start at) line → IsLeast (IsBetween list at end) first → IsLeast (IsBetween list start end) (least line first)
@@ -140,6 +140,7 @@ blocks_more list firsts n first many each here block lt =
     in_front [] block first lt = absurd (omega arith)
     in_front (x ∷ firsts) zero first lt = refl
     in_front (x ∷ firsts) (suc block) first lt = in_front firsts block first (omega arith)
+
     at_last : (firsts : List (Option ℕ)) (n : ℕ) (first : Option ℕ) → length firsts ≡ n → get_or (firsts ++ first ∷ []) n None ≡ first
     at_last [] zero first e = refl
     at_last [] (suc n) first e = absurd (omega (arith, e))

@@ -1,5 +1,5 @@
 -- Lines by number and by the rank of their paths, and the first of those whose paths end alike.
-use Rattle.std.proofs.Common.{◌≡◌, ℕ, ◌+◌, ◌<◌, ◌≤◌, ◌⊎◌, inl, inr, ⊎_elim, true, false, List, [], ◌∷◌, ◌++◌, length, map, take, get_or, set, Option, Some, Ordering, All, Contains, nat_lt, ◌&&◌, ◌==◌, refl, sym, ap, ◌∙◌, subst, arith}
+use Rattle.std.proofs.Common.{◌≡◌, ℕ, ◌+◌, ◌<◌, ◌≤◌, ◌⊎◌, inl, inr, ⊎_elim, true, false, List, [], ◌∷◌, ◌++◌, length, map, take, get_or, set, Option, Ordering, All, Contains, nat_lt, ◌&&◌, ◌==◌, refl, sym, ap, ◌∙◌, subst, arith}
 use Rattle.std.specs.declared.cmp.Ordering.TheVariants.{Less, Equal, Greater}
 use Rattle.std.specs.Ordering.{nat_cmp, ordering_then, is_lt}
 use Rattle.std.specs.Cmp.{IsTotalOrder, nat_cmp_total, on_total, then_total}
@@ -19,7 +19,7 @@ use Rattle.line_index.specs.Keys.{with_path}
 use Rattle.line_index.specs.Backwards.{IsStretch}
 use Rattle.line_index.specs.Index.{line_at}
 use Rattle.line_index.specs.Endings.{AreRanks, HoldsLines, IsBetween, IsEnding, IsLeast, IsRanked, ending_order, is_before, key_of, lines_of}
-use Rattle.line_index.proofs.Firsts.{IsFirst, IsOf, first_is}
+use Rattle.line_index.proofs.Firsts.{IsOf, first_is}
 use Rattle.line_index.proofs.Pieces.{Among, to_among}
 
 -- ---- ranks
@@ -166,6 +166,7 @@ within_both number start end one not before = by (from_before number end one bef
   where
     never : Before number start one → ⊥
     never h = let no : true ≡ false = sym (to_before number start one h) ∙ not in cc
+
     by : Before number end one → (one.number ≡ number) × (start ≤ one.rank) × (one.rank < end)
     by (inl lt) = absurd (never (inl lt))
     by (inr h) = (h.0, ⊎_elim (λ less. absurd (never (inr (h.0, less)))) (λ le. le) (cases_lt one.rank start), h.1)
@@ -217,8 +218,10 @@ to_between paths keys text number endings start end first last holds stretch fro
     early : (one : Ending) → one.number ≡ number → start ≤ one.rank → Before number start one → ⊥
     early one same le (inl lt) = omega (arith, same)
     early one same le (inr h) = omega (arith, h.1)
+
     too_early : (one : Ending) → one.number ≡ number → start ≤ one.rank → is_before number start one ≡ true → ⊥
     too_early one same le e = early one same le (from_before number start one e)
+
     too_late : (one : Ending) → one.number ≡ number → one.rank < end → is_before number end one ≡ false → ⊥
     too_late one same lt e = let no : true ≡ false = sym (to_before number end one (inr (same, lt))) ∙ e in cc
 

@@ -9,8 +9,8 @@ ghost use Rattle.line_index.specs.Index.{line_at};
 ghost use Rattle.line_index.specs.Endings.{HoldsLines, IsSearchable};
 
 use crate::backwards::stretch_of;
-use crate::endings::{Endings, start_of};
 use crate::blocks::first_between;
+use crate::endings::{Endings, start_of};
 use crate::lines::Key;
 
 /// The line of the path at this position, and of this number.

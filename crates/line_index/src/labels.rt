@@ -15,12 +15,7 @@ use itoa::Buffer;
 use std::alloc::{AllocError, Global};
 
 /// A written path, a colon and a number. The text is a buffer, whose bytes are replaced.
-fn label(
-    alloc: Global,
-    text: &mut Vec<u8>,
-    path: &[u8],
-    number: u32,
-) -> Result<Label, AllocError>
+fn label(alloc: Global, text: &mut Vec<u8>, path: &[u8], number: u32) -> Result<Label, AllocError>
     ensures { IfOk result (λ label. label ≡ label_of path.now number) }
 {
     text.clear();

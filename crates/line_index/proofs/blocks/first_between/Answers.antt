@@ -1,4 +1,4 @@
-use Rattle.std.proofs.Common.{◌≡◌, ℕ, ◌+◌, ◌*◌, ◌/◌, ◌<◌, ◌≤◌, List, length, get_or, Option, None, sym, subst, arith}
+use Rattle.std.proofs.Common.{◌≡◌, ℕ, ◌+◌, ◌*◌, ◌/◌, List, length, get_or, Option, None, sym, subst, arith}
 use Rattle.line_index.specs.declared.endings.Ending.{Ending}
 use Rattle.line_index.specs.Endings.{IsBetween, IsLeast}
 use Rattle.line_index.proofs.Least.{Reached, one_reached, block_reached}
