@@ -1,7 +1,7 @@
-//! The summaries of one line.
+//! The blocks of one label.
 ghost use Rattle.std.specs.Prelude.{◌≡◌, ◌<◌, ◌≤◌, ◌∷◌, length, take, drop};
 ghost use Rattle.std.specs.Str.{bytes_eq};
-ghost use Rattle.causal_curves.specs.Curves.{groups};
+ghost use Rattle.profile_lists.specs.Groups.{groups};
 
 use coz_types::Summary;
 
@@ -11,7 +11,7 @@ fn have_one_label(a: &Summary, b: &Summary) -> bool
     a.selected.bytes() == b.selected.bytes()
 }
 
-/// How many of the summaries, from the first on, are of the first one's line.
+/// Returns how many blocks, from the first one on, have the label of the first one.
 pub fn group_length(summaries: &[Summary]) -> usize
     requires { 0 < length summaries.now }
     ensures some { 0 < result }

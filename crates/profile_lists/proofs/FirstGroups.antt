@@ -1,6 +1,6 @@
 -- The first group of a list that is cut where its elements change.
 use Rattle.std.proofs.Common.{◌≡◌, ℕ, zero, suc, ◌-◌, ◌<◌, ◌≤◌, Bool, true, false, List, [], ◌∷◌, length, take, drop, get_or, refl, sym, ap, ◌∙◌, arith}
-use Rattle.causal_curves.specs.Groups.{groups_by, goes_with, join}
+use Rattle.profile_lists.specs.Groups.{groups_by, goes_with, join}
 
 module _ {A : Type 0} (same : A → A → Bool) where
   -- from the second to before this place each is the same as the one before it
@@ -11,10 +11,10 @@ module _ {A : Type 0} (same : A → A → Bool) where
   abbrev Ends : ℕ → List A → Type 0
   Ends n xs = (m : ℕ) (d : A) → suc m ≡ n → n < length xs → same (get_or xs m d) (get_or xs n d) ≡ false
 
-  joined : (x : A) (group : List A) (rest : List (List A)) → goes_with same x group ≡ true → join same x (group ∷ rest) ≡ (x ∷ group) ∷ rest
+  pub joined : (x : A) (group : List A) (rest : List (List A)) → goes_with same x group ≡ true → join same x (group ∷ rest) ≡ (x ∷ group) ∷ rest
   joined x group rest e = ap (λ (b : Bool). elim b [ true ↦ (x ∷ group) ∷ rest | false ↦ (x ∷ []) ∷ group ∷ rest ]) e
 
-  apart : (x : A) (group : List A) (rest : List (List A)) → goes_with same x group ≡ false → join same x (group ∷ rest) ≡ (x ∷ []) ∷ group ∷ rest
+  pub apart : (x : A) (group : List A) (rest : List (List A)) → goes_with same x group ≡ false → join same x (group ∷ rest) ≡ (x ∷ []) ∷ group ∷ rest
   apart x group rest e = ap (λ (b : Bool). elim b [ true ↦ (x ∷ group) ∷ rest | false ↦ (x ∷ []) ∷ group ∷ rest ]) e
 
   -- the first group begins with the first element

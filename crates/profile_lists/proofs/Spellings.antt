@@ -6,12 +6,11 @@ use Rattle.std.proofs.lemmas.Fmt.{decimal_is_IsNumeral, IsAscii-decimal}
 use Rattle.std.proofs.lemmas.Str.{IsUtf8-from_ascii}
 use Rattle.std.proofs.lemmas.Str.Parse.{digit_at}
 use Rattle.std.proofs.lemmas.Slice.Eq.{bytes_eq-Decides}
-use Rattle.std.proofs.lemmas.Bool.{leb-true, le-leb}
+use Rattle.std.proofs.lemmas.Bool.{and_parts, leb-true, le-leb}
 use Rattle.coz_types.specs.Labels.{Text, is_decimal}
-use Rattle.profile_reader.proofs.FieldSteps.{both, same_bytes}
 
 pub spelled : (most : ℕ) (text : Text) → is_decimal most text ≡ true → (text ≡ decimal (digits_value 10 text)) × (digits_value 10 text ≤ most)
-spelled most text e = let h = both (bytes_eq text (decimal (digits_value 10 text))) (nat_le (digits_value 10 text) most) e in (same_bytes _ _ h.0, leb-true _ _ h.1)
+spelled most text e = let h = and_parts (bytes_eq text (decimal (digits_value 10 text))) (nat_le (digits_value 10 text) most) e in ((bytes_eq-Decides _ _).0 h.0, leb-true _ _ h.1)
 
 pub not_so : (b : Bool) → (b ≡ true → ⊥) → b ≡ false
 not_so true never = absurd (never refl)

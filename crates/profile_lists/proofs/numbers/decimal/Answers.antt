@@ -1,6 +1,6 @@
 use Rattle.std.proofs.Common.{◌∙◌, sym, arith}
-use Rattle.profile_reader.proofs.Spellings.{not_utf8, not_numeral, not_written, is_written, differ, agree}
-use Rattle.profile_reader.proofs.numbers.decimal.Goals as goal
+use Rattle.profile_lists.proofs.Spellings.{not_utf8, not_numeral, not_written, is_written, differ, agree}
+use Rattle.profile_lists.proofs.numbers.decimal.Goals as goal
 
 pub returns-in_default-clause-value : goal.returns-in_default-clause-value
 returns-in_default-clause-value c = not_utf8 _ _ (omega arith) c.in_default.ensures.cases.0

@@ -1,7 +1,7 @@
 use Rattle.std.proofs.Common.{rules, ◌≡◌, ◌-◌, false, length, get_or, sym, ap₂, ◌∙◌, arith}
-use Rattle.causal_curves.specs.Curves.{have_one_label}
-use Rattle.causal_curves.proofs.FirstGroups.{group_at, at_place}
-use Rattle.causal_curves.proofs.groups.group_length.Goals as goal
+use Rattle.profile_lists.specs.Groups.{have_one_label}
+use Rattle.profile_lists.proofs.FirstGroups.{group_at, at_place}
+use Rattle.profile_lists.proofs.groups.group_length.Goals as goal
 
 pub returns-then-not-have_one_label-clause-group : goal.returns-then-not-have_one_label-clause-group
 returns-then-not-have_one_label-clause-group c =

@@ -1,10 +1,12 @@
-//! Labels in a profile's text.
+//! The spelling and the order of labels.
 ghost use Rattle.std.specs.Prelude.{◌≡◌, ◌<◌, ◌+◌, ◌*◌, true, Some, None, take, drop, length, MatchOption};
 ghost use Rattle.coz_types.specs.Labels.{is_hex_digit, hex_value, is_escaped, scan_step, is_written, parts_of, line_number, path_of, number_of, is_label, label_before};
-ghost use Rattle.profile_reader.specs.Scanning.{small_digit, small_next};
+ghost use Rattle.profile_lists.specs.LabelOrder.{label_cmp};
+ghost use Rattle.profile_lists.specs.Scanning.{small_digit, small_next};
 
 use crate::numbers::decimal;
 use coz_types::GREATEST_LINE;
+use std::cmp::Ordering;
 
 fn is_hex_digit(byte: u8) -> bool
     ensures { result ≡ is_hex_digit byte }
@@ -112,7 +114,7 @@ fn path_of(label: &[u8]) -> &[u8]
     }
 }
 
-/// Whether the bytes are a label in its one spelling.
+/// Returns whether the bytes are a label in its one spelling.
 pub fn is_label(label: &[u8]) -> bool
     ensures { result ≡ is_label label.now }
 {
@@ -123,12 +125,18 @@ pub fn is_label(label: &[u8]) -> bool
     !path.is_empty() && (is_written(path) && 0 < line_number(&label[colon + 1..]))
 }
 
-/// Whether a label comes before another, by its path and then by its number.
-pub fn is_before(a: &[u8], b: &[u8]) -> bool
-    ensures { result ≡ label_before a.now b.now }
+/// Returns the order of two labels: by path, then by number.
+pub fn label_order(a: &[u8], b: &[u8]) -> Ordering
+    ensures { result ≡ label_cmp a.now b.now }
 {
     path_of(a)
         .cmp(path_of(b))
         .then(number_of(a).cmp(&number_of(b)))
-        .is_lt()
+}
+
+/// Returns whether a label comes before another, by path and then by number.
+pub fn is_before(a: &[u8], b: &[u8]) -> bool
+    ensures { result ≡ label_before a.now b.now }
+{
+    label_order(a, b).is_lt()
 }
