@@ -1,9 +1,9 @@
-use Rattle.std.proofs.Common.{◌≡◌, ℕ, ◌<◌, ◌∙◌, ◌==◌, if◌then◌else◌, true, List, length, ap, subst, arith}
+use Rattle.std.proofs.Common.{◌≡◌, ℕ, ◌∙◌, if◌then◌else◌, true, List, ap, subst}
 use Rattle.machines.specs.Places.{is_among}
 use Rattle.critical_path.specs.declared.cause.Cause.{Cause}
-use Rattle.critical_path.specs.Causes.{cause_at, started_with, at_rest, after_own}
+use Rattle.critical_path.specs.Causes.{cause_at, started_with}
 use Rattle.critical_path.specs.Follow.{ticks_from}
-use Rattle.critical_path.proofs.Begun.{set_at, all_turned, other_started, self_started}
+use Rattle.critical_path.proofs.Begun.{all_turned, other_started, self_started}
 use Rattle.critical_path.proofs.follow.follow_retired.Goals as goal
 
 pub go_on_or_leave-requires-clause-begun : goal.go_on_or_leave-requires-clause-begun
