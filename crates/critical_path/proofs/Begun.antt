@@ -72,17 +72,35 @@ own_by R causes h k (inr n) = rw (ne_eqb k h n) refl
 pub own_is : (R : Cause → Cause) (causes : List Cause) (h k : ℕ) → (if k == h then R (cause_at causes h) else cause_at causes k) ≡ (if k == h then R (cause_at causes k) else cause_at causes k)
 own_is R causes h k = own_by R causes h k (cases_eq k h)
 
--- a retirement's three steps
-pub all_turned : (ticks : ℕ → ℕ) (h : ℕ) (fate : Fate) (due e : ℕ) (others : List ℕ) (k : ℕ) (old one two three : List Cause)
-    → cause_at one k ≡ (if k == h then at_rest fate due e (after_own e (cause_at old h)) else cause_at old k)
-    → cause_at two k ≡ (if is_among k (started_by h fate []) then started_with (ticks k) e (cause_at one k) else cause_at one k)
-    → cause_at three k ≡ (if is_among k others then started_with (ticks k) e (cause_at two k) else cause_at two k)
-    → cause_at three k ≡ turned h fate due e (started_by h fate others) ticks k (cause_at old k)
-all_turned ticks h fate due e others k old one two three left again each =
+gone_by : (ticks : ℕ → ℕ) (h due e k : ℕ) (old : List Cause) → (k ≡ h) ⊎ (k ≡ h → ⊥)
+    → (if k == h then started_with (ticks h) e (after_own e (cause_at old h)) else cause_at old k) ≡ turned h Goes due e (h ∷ []) ticks k (cause_at old k)
+gone_by ticks h due e k old (inl same) = rw (eq-eqb k h same) (ap (λ (j : ℕ). started_with (ticks j) e (after_own e (cause_at old j))) (sym same))
+gone_by ticks h due e k old (inr n) = rw (ne_eqb k h n) refl
+
+-- a hart that goes on is begun again
+pub gone_on : (ticks : ℕ → ℕ) (h due e k : ℕ) (old : List Cause) → h < length old
+    → cause_at (set old h (started_with (ticks h) e (after_own e (cause_at old h)))) k ≡ turned h Goes due e (h ∷ []) ticks k (cause_at old k)
+gone_on ticks h due e k old below = set_at old h k (started_with (ticks h) e (after_own e (cause_at old h))) below ∙ gone_by ticks h due e k old (cases_eq k h)
+
+-- one that doesn't is left to its fate
+pub left_to : (ticks : ℕ → ℕ) (h : ℕ) (fate : Fate) (due e k : ℕ) (old : List Cause) → h < length old → (fate ≡ Goes → ⊥)
+    → cause_at (set old h (at_rest fate due e (after_own e (cause_at old h)))) k ≡ turned h fate due e (started_by h fate []) ticks k (cause_at old k)
+left_to ticks h Goes due e k old below other = absurd (other refl)
+left_to ticks h Waits due e k old below other = set_at old h k (after_own e (cause_at old h)) below ∙ own_is (after_own e) old h k
+left_to ticks h Leaves due e k old below other = set_at old h k (after_own e (cause_at old h)) below ∙ own_is (after_own e) old h k
+left_to ticks h (Sleeps moment) due e k old below other =
+    set_at old h k (at_rest (Sleeps moment) due e (after_own e (cause_at old h))) below ∙ own_is (λ c. at_rest (Sleeps moment) due e (after_own e c)) old h k
+left_to ticks h (Ends ending) due e k old below other = set_at old h k (after_own e (cause_at old h)) below ∙ own_is (after_own e) old h k
+
+-- a retirement's two steps
+pub all_turned : (ticks : ℕ → ℕ) (h : ℕ) (fate : Fate) (due e : ℕ) (others : List ℕ) (k : ℕ) (c d three : Cause)
+    → d ≡ turned h fate due e (started_by h fate []) ticks k c
+    → three ≡ (if is_among k others then started_with (ticks k) e d else d)
+    → three ≡ turned h fate due e (started_by h fate others) ticks k c
+all_turned ticks h fate due e others k c d three own each =
     each
-    ∙ ap (λ (d : Cause). if is_among k others then started_with (ticks k) e d else d)
-    (again ∙ ap (λ (d : Cause). if is_among k (started_by h fate []) then started_with (ticks k) e d else d) (left ∙ own_is (λ c. at_rest fate due e (after_own e c)) old h k))
-    ∙ both_begun ticks e h fate others k (if k == h then at_rest fate due e (after_own e (cause_at old k)) else cause_at old k)
+    ∙ ap (λ (b : Cause). if is_among k others then started_with (ticks k) e b else b) own
+    ∙ both_begun ticks e h fate others k (if k == h then at_rest fate due e (after_own e c) else c)
 
 among_rest : (b a : Bool) → a ≡ true → (if b then true else a) ≡ true
 among_rest true a is = refl

@@ -130,13 +130,20 @@ fn put_segment<O: Sink>(to: &mut PutBuffer, out: &mut O, segment: Segment)
     to.push(out, b"\n");
 }
 
-/// The line of a segment, if the event after it ends it.
-fn put_closed<O: Sink>(to: &mut PutBuffer, out: &mut O, segment: Segment, event: &Event)
-    ensures { Gathers O.holds O.faults out.old out.new to.old to.new (closed segment event.now) }
+/// Replaces a segment that holds the event before this one by the segment that holds this event.
+/// Writes the line of the old segment if this event ends it.
+#[inline]
+fn pass<O: Sink>(to: &mut PutBuffer, out: &mut O, segment: &mut Segment, event: &Event)
+    ensures segment { segment.new ≡ after segment.old event.now }
+    ensures text { Gathers O.holds O.faults out.old out.new to.old to.new
+        (closed segment.old event.now) }
 {
-    if event.hart.0 != segment.hart.0 {
-        put_segment(to, out, segment);
+    if event.hart.0 == segment.hart.0 {
+        segment.end = event.due;
+        return;
     }
+    put_segment(to, out, *segment);
+    *segment = after(*segment, event);
 }
 
 /// The line of each segment of a path.
@@ -150,8 +157,7 @@ fn put_segments<O: Sink>(to: &mut PutBuffer, out: &mut O, events: &[Event], chai
     let mut segment = first_segment(&event_of(events, *first));
     for number in rest {
         let event = event_of(events, *number);
-        put_closed(to, out, segment, &event);
-        segment = after(segment, &event);
+        pass(to, out, &mut segment, &event);
     }
     put_segment(to, out, segment);
 }
