@@ -65,7 +65,7 @@ pub fn leave(causes: &mut [Cause], hart: HartId, fate: Fate, due: Tick, event: u
     causes[usize::from(hart.0)] = at_rest(causes[usize::from(hart.0)], fate, due, event);
 }
 
-/// A hart that retired with this event goes on. Its next instruction takes `ticks` ticks.
+/// A hart has retired by this event and goes on, and its next instruction takes `ticks` ticks.
 pub fn go_on(causes: &mut [Cause], hart: HartId, ticks: Tick, event: u32)
     requires below { hart.0 < length causes.old }
     ensures { causes.new ≡ slice_set causes.old hart.0

@@ -65,6 +65,16 @@ fn first_segment(event: &Event) -> Segment
     }
 }
 
+/// The segment of the first event of a path, where it goes on to this last one.
+fn whole_segment(first: &Event, last: &Event) -> Segment
+    ensures { result ≡ record (first_segment first.now) { end = last.now.due } }
+{
+    Segment {
+        end: last.due,
+        ..first_segment(first)
+    }
+}
+
 /// How the hart of an event came to carry the path with it.
 fn taken_by(event: &Event) -> Handover
     ensures { result ≡ handover event.now }
@@ -130,8 +140,7 @@ fn put_segment<O: Sink>(to: &mut PutBuffer, out: &mut O, segment: Segment)
     to.push(out, b"\n");
 }
 
-/// Replaces a segment that holds the event before this one by the segment that holds this event.
-/// Writes the line of the old segment if this event ends it.
+/// Extends the segment of the event before this one, or puts its line and begins the next one.
 #[inline]
 fn pass<O: Sink>(to: &mut PutBuffer, out: &mut O, segment: &mut Segment, event: &Event)
     ensures segment { segment.new ≡ after segment.old event.now }
@@ -160,6 +169,39 @@ fn put_segments<O: Sink>(to: &mut PutBuffer, out: &mut O, events: &[Event], chai
         pass(to, out, &mut segment, &event);
     }
     put_segment(to, out, segment);
+}
+
+/// The line of a path that is one segment. Of its events only the first and the last are read.
+fn put_whole<O: Sink>(to: &mut PutBuffer, out: &mut O, events: &[Event], chain: &[u32])
+    requires { length (segments_of (events_on events.now chain.now)) ≡ 1 }
+    ensures { Gathers O.holds O.faults out.old out.new to.old to.new
+        (flat_map segment_line (segments_of (events_on events.now chain.now))) }
+{
+    let Some((first, rest)) = chain.split_first() else {
+        return;
+    };
+    let last = event_of(events, chain[rest.len()]);
+    let segment = whole_segment(&event_of(events, *first), &last);
+    put_segment(to, out, segment);
+}
+
+/// The line of each segment of a path, of which there are this many.
+fn put_each<O: Sink>(
+    to: &mut PutBuffer,
+    out: &mut O,
+    events: &[Event],
+    chain: &[u32],
+    segments: u64,
+)
+    requires { segments ≡ length (segments_of (events_on events.now chain.now)) }
+    ensures { Gathers O.holds O.faults out.old out.new to.old to.new
+        (flat_map segment_line (segments_of (events_on events.now chain.now))) }
+{
+    if segments == 1 {
+        put_whole(to, out, events, chain);
+    } else {
+        put_segments(to, out, events, chain);
+    }
 }
 
 /// How the line at a position is written.
@@ -269,8 +311,9 @@ pub fn write_path<O: Sink>(path: &CriticalPath, index: &LineIndex, out: &mut O) 
 {
     let events = path.trace.events.as_slice();
     let mut buffer = PutBuffer::new();
-    put_head(&mut buffer, out, path, count_segments(events, &path.chain));
-    put_segments(&mut buffer, out, events, &path.chain);
+    let segments = count_segments(events, &path.chain);
+    put_head(&mut buffer, out, path, segments);
+    put_each(&mut buffer, out, events, &path.chain, segments);
     put_parts(&mut buffer, out, &path.shares, index);
     buffer.finish(out)
 }
