@@ -11,8 +11,8 @@ use crate::cause::{Cause, go_on, leave, start, wake_up};
 use coz_types::{Address, HARTS, HartId, Tick};
 use critical_chains::Event;
 use machines::Fate;
-use std::alloc::{AllocError, Global};
 use run_engine::{Engine, Event as Move, Retired, Turn};
+use std::alloc::{AllocError, Global};
 
 /// The ticks for which a hart was begun at a moment.
 pub fn ticks_from(engine: &Engine, moment: Tick, hart: HartId) -> Tick

@@ -21,8 +21,8 @@ use dwarf_lines::LineTable;
 use guest_memory::Layout;
 use line_index::LineIndex;
 use progress_points::Points;
-use std::alloc::{AllocError, Global};
 use run_engine::{Choice, Engine, Setting};
+use std::alloc::{AllocError, Global};
 
 /// An index of no lines.
 fn no_lines(alloc: Global, image: &Image) -> Result<LineIndex, AllocError> {

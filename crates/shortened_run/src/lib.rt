@@ -10,10 +10,10 @@ ghost use Rattle.shortened_run.specs.ShortenedRun.{AreUndelayed};
 use coz_types::{Ending, Image, Tick, Visit};
 use line_index::LineIndex;
 use progress_points::Points;
-use std::alloc::{AllocError, Global};
-use std::marker::Model;
 pub use run_engine::Choice;
 use run_engine::{Engine, Setting};
+use std::alloc::{AllocError, Global};
+use std::marker::Model;
 
 /// The run of a program in which the instructions of its selected line cost less.
 #[derive(Drop)]
