@@ -30,8 +30,7 @@ line_there : (p : Program) (name file : List ℕ) (number : ℕ) → IsProgram p
     → (a : ℕ) × (line_of (table_of p.lines name 4) (image_of p file).areas a ≡ Some (line_in name number))
 line_there p name file number is named same (k, few, e) =
     let at : get_or p.lines k 0 ≡ number = same_at p.lines k 0 number few ∙ e in
-    let some : (1 ≤ number) × (number ≤ 65536) = All-contains (λ line. (1 ≤ line) × (line ≤ 65536)) p.lines number is.lines_fit (k, few, e) in
-    (
+    let some : (1 ≤ number) × (number ≤ 65536) = All-contains (λ line. (1 ≤ line) × (line ≤ 65536)) p.lines number is.lines_fit (k, few, e) in (
       0x10000 + 4 * k,
       word_has_line 4 p.lines name (image_of p file).areas k named few (omega (arith, some.0, at)) (text_runs p file k (omega (arith, is.whole)))
           ∙ ap (λ path. Some (line_in path (get_or p.lines k 0))) same

@@ -89,6 +89,7 @@ fn trace_of(
 
 /// Runs a program with no selected line and no points, and gives its events, its ending and
 /// its output. Fails only when out of memory.
+#[inline(never)]
 pub fn walk<'a>(
     alloc: Global,
     image: &'a Image<'a>,

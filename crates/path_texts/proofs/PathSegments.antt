@@ -128,7 +128,7 @@ whole_is events chain rest first s is at one =
     let last : get_or chain (length rest) 0 ≡ get_or (first ∷ rest) (length rest) 0 = ap (λ (xs : List ℕ). get_or xs (length rest) 0) is in
     let same : segments_of (events_on events chain) ≡ segments_from from (events_on events rest) = ap (λ (xs : List ℕ). segments_of (events_on events xs)) is in
     let only : segments_from from (events_on events rest) ≡ record from { end = (event_at events (get_or (first ∷ rest) (length rest) 0)).due } ∷ [] =
-        one_left from (events_on events rest) (sym (ap length same) ∙ one) ∙ ap (λ (t : Segment). t ∷ []) (ends_at events from first rest refl) in
+    one_left from (events_on events rest) (sym (ap length same) ∙ one) ∙ ap (λ (t : Segment). t ∷ []) (ends_at events from first rest refl) in
     ap segment_line (at ∙ ap (λ (i : ℕ). record from { end = (event_at events i).due }) last)
     ∙ sym (append-nil (segment_line (record from { end = (event_at events (get_or (first ∷ rest) (length rest) 0)).due })))
     ∙ sym (ap (flat_map segment_line) (same ∙ only))

@@ -104,6 +104,7 @@ fn after(segment: Segment, event: &Event) -> Segment
 }
 
 /// How many segments a path has.
+#[inline(never)]
 fn count_segments(events: &[Event], chain: &[u32]) -> u64
     ensures { result ≡ length (segments_of (events_on events.now chain.now)) }
 {

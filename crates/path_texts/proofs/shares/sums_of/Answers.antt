@@ -17,7 +17,7 @@ loop-number-preserved c =
     let added = c.add_event.ensures in
     let found = c.line_of-line.ensures in (
       counts_more c.args.events.now c.args.chain.now c.loop-number.number-index c.event_of-event.result (search rules) (search rules) c.requires (position_at c.args.index.now) (length c.args.index.now.lines) c.loop-number.sums c.add_event.new.sums c.line_of-line.result found.line
-      c.loop-number.invariant.0 added.none added.sleep added.room added.each,
+          c.loop-number.invariant.0 added.none added.sleep added.room added.each,
       (found.room, found.right),
     )
 
