@@ -6,7 +6,7 @@ use Rattle.coz_types.specs.declared.HartId.{HartId}
 use Rattle.machines.specs.declared.Fate.{Fate}
 use Rattle.machines.specs.declared.Fate.TheVariants.{Goes, Waits, Leaves, Sleeps, Ends}
 use Rattle.machines.specs.Places.{is_among}
-use Rattle.virtual_run.specs.Begin.{started_by}
+use Rattle.run_engine.specs.Begin.{started_by}
 use Rattle.critical_path.specs.declared.cause.Cause.{Cause}
 use Rattle.critical_path.specs.Causes.{no_cause, cause_at, after_own, at_rest, started_with, turned}
 

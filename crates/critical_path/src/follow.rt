@@ -3,7 +3,7 @@ ghost use Rattle.std.specs.Prelude.{◌≡◌, ◌<◌, ◌++◌, [], ◌∷◌,
 ghost use Rattle.coz_types.specs.declared.TheConstants.{HARTS};
 ghost use Rattle.machines.specs.Places.{is_among};
 ghost use Rattle.machines.specs.Guest.{IsLater};
-ghost use Rattle.virtual_run.specs.Begin.{started_by};
+ghost use Rattle.run_engine.specs.Begin.{started_by};
 ghost use Rattle.critical_path.specs.Causes.{cause_at, started_with, woken_with, turned};
 ghost use Rattle.critical_path.specs.Follow.{ticks_from, IsBegun, CanFollow, IsFollowed};
 
@@ -11,8 +11,8 @@ use crate::cause::{Cause, go_on, leave, start, wake_up};
 use coz_types::{Address, HARTS, HartId, Tick};
 use critical_chains::Event;
 use machines::Fate;
+use run_engine::{Engine, Event as Move, Retired, Turn};
 use std::alloc::{AllocError, Global};
-use virtual_run::{Engine, Event as Move, Retired, Turn};
 
 /// The ticks for which a hart was begun at a moment.
 pub fn ticks_from(engine: &Engine, moment: Tick, hart: HartId) -> Tick

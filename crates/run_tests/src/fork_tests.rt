@@ -2,7 +2,7 @@
 ghost use Rattle.std.specs.Prelude.{◌≡◌, ◌≤◌, None, IsSome, IfSome};
 ghost use Rattle.elf_load.specs.Faults.{fault};
 ghost use Rattle.virtual_run.specs.Lead.{arguments};
-ghost use Rattle.virtual_run.specs.Run.{IsChoice};
+ghost use Rattle.run_engine.specs.Run.{IsChoice};
 
 use crate::lead_tests::{Guest, Program, file_of, index_of, run_of, source_of};
 use crate::shortened_run_tests::SMALL;

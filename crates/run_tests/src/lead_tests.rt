@@ -3,8 +3,8 @@ ghost use Rattle.std.specs.Prelude.{◌≡◌, ◌≤◌, [], ◌∷◌, None, I
 ghost use Rattle.elf_load.specs.Faults.{fault};
 ghost use Rattle.machines.specs.Delayed.{unbegun};
 ghost use Rattle.virtual_run.specs.Lead.{arguments};
-ghost use Rattle.virtual_run.specs.Run.{IsChoice};
-ghost use Rattle.virtual_run.specs.Seen.{experiment_of};
+ghost use Rattle.run_engine.specs.Run.{IsChoice};
+ghost use Rattle.run_engine.specs.Seen.{experiment_of};
 
 use crate::shortened_run_tests::SMALL;
 use coz_types::{Ending, HartId, Image, LineId};

@@ -1,7 +1,7 @@
 //! Machines with other budgets, output limits and layouts than those of the commands.
 ghost use Rattle.std.specs.Prelude.{◌≡◌, None, IfSome};
 ghost use Rattle.elf_load.specs.Faults.{fault};
-ghost use Rattle.virtual_run.specs.Run.{IsChoice};
+ghost use Rattle.run_engine.specs.Run.{IsChoice};
 
 use crate::lead_tests::{file_of, index_of};
 use coz_types::{Ending, Image};
