@@ -1,4 +1,3 @@
-pub mod FirstGroups
 pub mod Gains
 pub mod Ranks
 pub mod Rankings

@@ -13,8 +13,8 @@ use Rattle.std.specs.Ordering.{nat_cmp, int_cmp, ordering_then}
 use Rattle.std.specs.Option.{option_cmp}
 use Rattle.std.specs.declared.cmp.Ordering.{Ordering}
 use Rattle.std.specs.declared.cmp.Reverse.{Reverse}
-use Rattle.causal_curves.specs.Groups.{groups_by}
-use Rattle.causal_curves.specs.Curves.{groups, curve_of, curves_at, IsRanking}
+use Rattle.profile_lists.specs.Groups.{groups_by, groups}
+use Rattle.causal_curves.specs.Curves.{curve_of, curves_at, IsRanking}
 use Rattle.causal_curves.specs.Measured.{IsMeasured}
 use Rattle.causal_curves.specs.declared.curve.Curve.{Curve}
 

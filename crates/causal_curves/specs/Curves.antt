@@ -5,11 +5,11 @@ use Rattle.std.specs.List.{enumerate_from}
 use Rattle.std.specs.List.Sorted.{IsPermutation, IsSortedBy, IsStableBy}
 use Rattle.std.specs.Ordering.{is_lt, nat_cmp, int_cmp, ordering_then}
 use Rattle.std.specs.Option.{option_cmp}
-use Rattle.std.specs.Str.{bytes_eq}
 use Rattle.coz_types.specs.Labels.{Text}
 use Rattle.coz_types.specs.declared.record.Summary.{Summary}
 use Rattle.profile_book.specs.declared.profile.Profile.{Profile}
-use Rattle.causal_curves.specs.Groups.{groups_by}
+use Rattle.profile_lists.specs.Groups.{groups}
+use Rattle.profile_lists.specs.Sorted.{sorted_by}
 use Rattle.causal_curves.specs.declared.curve.Curve.{Curve}
 use Rattle.causal_curves.specs.declared.curve.CurveStep.{CurveStep}
 
@@ -39,13 +39,6 @@ value point None s = None
 value point (Some base) s = value_over point base s
 
 -- ---- curves
-
-abbrev pub have_one_label : Summary → Summary → Bool
-have_one_label s t = bytes_eq s.selected t.selected
-
--- the summaries, cut where the label changes
-abbrev pub groups : List Summary → List (List Summary)
-groups summaries = groups_by have_one_label summaries
 
 -- the summary at speedup 0
 abbrev pub base_of : List Summary → Option Summary
@@ -97,16 +90,6 @@ pub record IsRanking (curves ranked_curves : List Curve) : Type 0 where
   pub all : IsPermutation curves ranked_curves
   pub sorted : IsSortedBy ranks_before ranked_curves
   pub stable : IsStableBy ranks_before curves ranked_curves
-
--- an element among others, before the first that it isn't behind
-abbrev pub put_by : {X : Type 0} → (X → X → Bool) → X → List X → List X
-put_by lt x [] = x ∷ []
-put_by lt x (y ∷ ys) = elim (lt y x) [ true ↦ y ∷ put_by lt x ys | false ↦ x ∷ y ∷ ys ]
-
--- the elements in order, those that tie as they stood
-unfoldable pub sorted_by : {X : Type 0} → (X → X → Bool) → List X → List X
-sorted_by lt [] = []
-sorted_by lt (x ∷ xs) = put_by lt x (sorted_by lt xs)
 
 -- the curves by rank: the one list that is their ranking
 abbrev pub ranked_curves : List Curve → List Curve

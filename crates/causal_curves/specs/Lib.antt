@@ -1,4 +1,3 @@
-pub mod Groups
 pub mod Curves
 pub mod Texts
 pub mod Measured

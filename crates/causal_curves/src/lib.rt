@@ -3,7 +3,6 @@
 #![tactic(auto)]
 
 mod curve;
-mod groups;
 mod measures;
 mod ranked;
 mod steps;

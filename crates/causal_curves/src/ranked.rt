@@ -3,15 +3,15 @@ ghost use Rattle.std.specs.Prelude.{◌≡◌, ◌≤◌, ◌++◌, map, length,
 ghost use Rattle.std.specs.List.{All, AllByRecursion};
 ghost use Rattle.coz_types.specs.declared.TheConstants.{MAX_POINTS};
 ghost use Rattle.coz_types.specs.Ranges.{IsSummary};
-ghost use Rattle.causal_curves.specs.Curves.{groups, curve_of, curves_at, curves_of, ranked_curves, IsRanking};
+ghost use Rattle.causal_curves.specs.Curves.{curve_of, curves_at, curves_of, ranked_curves, IsRanking};
 ghost use Rattle.causal_curves.specs.Measured.{IsMeasured};
 
 use crate::curve::Curve;
-use crate::groups::group_length;
 use crate::steps::curve;
 use coz_lists::Items;
 use coz_types::Summary;
 use profile_book::Profile;
+use profile_lists::group_length;
 use std::alloc::{AllocError, Global};
 use std::cmp::Reverse;
 

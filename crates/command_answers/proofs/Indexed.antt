@@ -7,8 +7,8 @@ use Rattle.line_index.specs.Index.{Index, IsIndex, position_at}
 use Rattle.line_index.specs.Listed.{lines_in, position_in}
 use Rattle.line_index.proofs.Listed.{lines_are, entries_are, positions_are}
 use Rattle.progress_points.specs.Points.{Points, IsPoints, point_of, point_in}
-use Rattle.virtual_run.specs.Run.{experiment}
-use Rattle.virtual_run.specs.declared.choice.Choice.{Choice}
+use Rattle.run_engine.specs.Run.{experiment}
+use Rattle.run_engine.specs.declared.choice.Choice.{Choice}
 use Rattle.command_answers.specs.Experiment.{Runs, entries_of, experiment_by_table, runs_in}
 use Rattle.command_answers.specs.Verdict.{Judging}
 

@@ -18,9 +18,9 @@ use Rattle.machines.specs.Records.{NetRecord, net}
 use Rattle.machines.specs.Standing.{delayed_record}
 use Rattle.guest_calls.specs.Guest.{Guest}
 use Rattle.profile_pool.specs.Choices.{choice_of}
-use Rattle.virtual_run.specs.Run.{experiment}
-use Rattle.virtual_run.specs.Seen.{Seen, experiment_of}
-use Rattle.virtual_run.specs.declared.choice.Choice.{Choice}
+use Rattle.run_engine.specs.Run.{experiment}
+use Rattle.run_engine.specs.Seen.{Seen, experiment_of}
+use Rattle.run_engine.specs.declared.choice.Choice.{Choice}
 use Rattle.coz_words.specs.Said.{Text}
 use Rattle.coz_words.specs.declared.request.Request.{Request}
 use Rattle.program_steps.specs.Selection.{line_named, lines_named}

@@ -8,7 +8,7 @@ use Rattle.machines.specs.Guest.{Experiment}
 use Rattle.machines.specs.Records.{shortened_record}
 use Rattle.line_index.specs.Index.{Index, position_at}
 use Rattle.progress_points.specs.Points.{point_in}
-use Rattle.virtual_run.specs.declared.choice.Choice.{Choice}
+use Rattle.run_engine.specs.declared.choice.Choice.{Choice}
 use Rattle.critical_chains.specs.declared.event.Event.{Event}
 use Rattle.critical_chains.specs.declared.event.Trace.{Trace}
 use Rattle.critical_chains.specs.Path.{chain_of, event_at, last_of}

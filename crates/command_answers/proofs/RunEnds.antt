@@ -10,7 +10,7 @@ use Rattle.machines.specs.KeptVisits.{net_of, visit_as}
 use Rattle.machines.specs.Records.{net, net_visit, record_of}
 use Rattle.guest_calls.specs.Guest.{Guest}
 use Rattle.virtual_run.specs.DelayedRun.{outcome_of}
-use Rattle.virtual_run.specs.Seen.{Seen, experiment_of}
+use Rattle.run_engine.specs.Seen.{Seen, experiment_of}
 use Rattle.latency_points.specs.declared.latency.Latency.{Latency}
 use Rattle.latency_points.specs.Latency.{latency_of}
 use Rattle.latency_points.specs.Moments.{numbers_of, moments_of}

@@ -7,8 +7,8 @@ use Rattle.line_index.specs.Listed.{lines_in, entries_in, position_in}
 use Rattle.progress_points.specs.Points.{point_in}
 use Rattle.machines.specs.Guest.{Experiment}
 use Rattle.guest_calls.specs.Guest.{Guest}
-use Rattle.virtual_run.specs.declared.choice.Choice.{Choice}
-use Rattle.virtual_run.specs.Run.{experiment}
+use Rattle.run_engine.specs.declared.choice.Choice.{Choice}
+use Rattle.run_engine.specs.Run.{experiment}
 pub use Rattle.profile_pool.specs.Choices.{choice_of}
 
 -- the runs of a program on an input: the experiment of a choice, with the lines at these

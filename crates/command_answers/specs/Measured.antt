@@ -8,8 +8,8 @@ use Rattle.machines.specs.Lead.{Before, at_speedup}
 use Rattle.machines.specs.Records.{NetRecord, net}
 use Rattle.machines.specs.Standing.{delayed_record}
 use Rattle.guest_calls.specs.Guest.{Guest}
-use Rattle.virtual_run.specs.declared.choice.Choice.{Choice}
-use Rattle.virtual_run.specs.Seen.{Seen, experiment_of}
+use Rattle.run_engine.specs.declared.choice.Choice.{Choice}
+use Rattle.run_engine.specs.Seen.{Seen, experiment_of}
 use Rattle.latency_points.specs.Latency.{latency_of}
 use Rattle.latency_points.specs.Moments.{numbers_of, moments_of}
 use Rattle.command_answers.specs.declared.measuring.RunLatency.{RunLatency}

@@ -7,7 +7,7 @@ ghost use Rattle.line_index.specs.Index.{position_at};
 ghost use Rattle.progress_points.specs.Points.{point_of};
 ghost use Rattle.machines.specs.Guest.{Experiment};
 ghost use Rattle.guest_calls.specs.Guest.{Guest};
-ghost use Rattle.virtual_run.specs.Run.{IsChoice, experiment};
+ghost use Rattle.run_engine.specs.Run.{IsChoice, experiment};
 ghost use Rattle.coz_words.specs.Request.{IsFit};
 ghost use Rattle.command_answers.specs.Experiment.{runs_in};
 ghost use Rattle.command_answers.specs.declared.experiment.Kind.TheVariants.{Profiled, Measured};

@@ -6,7 +6,7 @@ ghost use Rattle.coz_types.specs.declared.TheConstants.{MAX_SPEEDUP, MAX_BUDGET}
 ghost use Rattle.progress_points.specs.Points.{IsPoints};
 ghost use Rattle.experiment_plan.specs.Selected.{ids};
 ghost use Rattle.latency_points.specs.Moments.{numbers_of};
-ghost use Rattle.virtual_run.specs.Run.{IsChoice};
+ghost use Rattle.run_engine.specs.Run.{IsChoice};
 ghost use Rattle.virtual_run.specs.Lead.{arguments};
 ghost use Rattle.coz_words.specs.Request.{IsFit};
 ghost use Rattle.printed_texts.specs.LatencyText.{latency_text};

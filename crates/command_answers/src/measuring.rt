@@ -5,7 +5,7 @@ ghost use Rattle.coz_types.specs.declared.ending.Ending.{Ending};
 ghost use Rattle.machines.specs.Records.{net, record_of};
 ghost use Rattle.machines.specs.Standing.{delayed_record};
 ghost use Rattle.machines.specs.Lead.{at_speedup};
-ghost use Rattle.virtual_run.specs.Seen.{experiment_of};
+ghost use Rattle.run_engine.specs.Seen.{experiment_of};
 ghost use Rattle.virtual_run.specs.Lead.{arguments};
 ghost use Rattle.virtual_run.specs.DelayedRun.{outcome_of, IsSmall};
 ghost use Rattle.command_answers.specs.Measured.{measured_in};

@@ -21,7 +21,7 @@ use Rattle.guest_memory.specs.Regions.{usual}
 use Rattle.guest_calls.specs.Guest.{Guest}
 use Rattle.guest_calls.specs.Orderly.{IsOrderly}
 use Rattle.guest_calls.proofs.Law.{lawful}
-use Rattle.virtual_run.specs.Run.{selected_line, has_selected}
+use Rattle.run_engine.specs.Run.{selected_line, has_selected}
 use Rattle.coz_words.specs.Request.{IsFit, is_runner}
 use Rattle.coz_words.specs.Said.{Text}
 use Rattle.coz_words.specs.declared.request.Request.{Request}

@@ -11,8 +11,8 @@ use Rattle.std.specs.declared.cmp.Ordering.{Ordering}
 use Rattle.std.proofs.lemmas.Cmp.{nat_cmp_total, int_cmp_total, on_total, then_total}
 use Rattle.std.proofs.lemmas.List.{drop_all}
 use Rattle.std.proofs.lemmas.List.Sorted.{ranks_by}
-use Rattle.causal_curves.specs.Curves.{sorted_by}
-use Rattle.causal_curves.proofs.Rankings.{stable_is_one}
+use Rattle.profile_lists.specs.Sorted.{sorted_by}
+use Rattle.profile_lists.proofs.Sorting.{stable_is_one}
 use Rattle.causal_curves.specs.declared.curve.Curve.{Curve}
 use Rattle.causal_curves.specs.declared.curve.CurveStep.{CurveStep}
 use Rattle.coz_page.specs.Harm.{lesser, worst_of, harms_before}

@@ -5,3 +5,4 @@ pub mod Pages
 pub mod Pieces
 pub mod Ranking
 pub mod Served
+mod Numbers

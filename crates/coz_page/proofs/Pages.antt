@@ -7,7 +7,7 @@ use Rattle.coz_files.specs.Gathered.{Rest, Gathers}
 use Rattle.coz_files.proofs.GatheredLemmas.{gathers_nothing, gathers_then}
 use Rattle.profile_book.proofs.Gathering.{gathers_as}
 use Rattle.causal_curves.specs.declared.curve.Curve.{Curve}
-use Rattle.causal_curves.specs.Groups.{groups_by}
+use Rattle.profile_lists.specs.Groups.{groups_by}
 use Rattle.coz_page.specs.Page.{by_point}
 
 -- the text of one group

@@ -5,21 +5,8 @@ ghost use Rattle.critical_chains.specs.Path.{weight, chain_of, IsChain, Sound, L
 use crate::{Event, Trace};
 use std::alloc::{AllocError, Global};
 
-/// How many events the chain has.
-fn count(events: &[Event]) -> usize
-    requires { Linked events.now }
-{
-    let mut number = events.len() - 1;
-    let mut count = 1;
-    while let Some(from) = events[number].from {
-        number = from as usize;
-        count += 1;
-    }
-    count
-}
-
 /// The chain of a run, back along `from` from its last event, and so one of its heaviest.
-/// Fails only when out of memory.
+/// It asks for room for as many numbers as there are events. Fails only when out of memory.
 pub fn longest(alloc: Global, trace: &Trace) -> Result<Vec<u32>, AllocError>
     requires { Linked trace.now.events }
     ensures chain { IfOk result (λ chain. chain.items ≡ chain_of trace.now.events) }
@@ -28,7 +15,7 @@ pub fn longest(alloc: Global, trace: &Trace) -> Result<Vec<u32>, AllocError>
         → weight trace.now.events other ≤ weight trace.now.events chain.items) }
 {
     let events = trace.events.as_slice();
-    let mut chain = Vec::with_capacity(alloc, count(events))?;
+    let mut chain = Vec::with_capacity(alloc, events.len())?;
     let mut number = events.len() as u32 - 1;
     chain.push(number)?;
     while let Some(from) = events[number as usize].from {

@@ -6,7 +6,7 @@ use Rattle.coz_types.specs.declared.HartId.{HartId}
 use Rattle.machines.specs.declared.Fate.{Fate}
 use Rattle.machines.specs.declared.Fate.TheVariants.{Goes, Waits, Leaves, Sleeps, Ends}
 use Rattle.machines.specs.Places.{is_among}
-use Rattle.virtual_run.specs.Begin.{started_by}
+use Rattle.run_engine.specs.Begin.{started_by}
 use Rattle.critical_path.specs.declared.cause.Cause.{Cause}
 use Rattle.critical_path.specs.Causes.{no_cause, cause_at, after_own, at_rest, started_with, turned}
 
@@ -65,24 +65,15 @@ pub same_turned_by : (among own : Bool) (fate : Fate) (due e f : ℕ) (m n : ℕ
 same_turned_by true own fate due e f m n c d rested ticks event cause = rw (ticks refl, event, cause)
 same_turned_by false own fate due e f m n c d rested ticks event cause = rw (event, cause)
 
-own_by : (R : Cause → Cause) (causes : List Cause) (h k : ℕ) → (k ≡ h) ⊎ (k ≡ h → ⊥) → (if k == h then R (cause_at causes h) else cause_at causes k) ≡ (if k == h then R (cause_at causes k) else cause_at causes k)
-own_by R causes h k (inl same) = ap (λ (j : ℕ). if k == h then R (cause_at causes j) else cause_at causes k) (sym same)
-own_by R causes h k (inr n) = rw (ne_eqb k h n) refl
-
-pub own_is : (R : Cause → Cause) (causes : List Cause) (h k : ℕ) → (if k == h then R (cause_at causes h) else cause_at causes k) ≡ (if k == h then R (cause_at causes k) else cause_at causes k)
-own_is R causes h k = own_by R causes h k (cases_eq k h)
-
--- a retirement's three steps
-pub all_turned : (ticks : ℕ → ℕ) (h : ℕ) (fate : Fate) (due e : ℕ) (others : List ℕ) (k : ℕ) (old one two three : List Cause)
-    → cause_at one k ≡ (if k == h then at_rest fate due e (after_own e (cause_at old h)) else cause_at old k)
-    → cause_at two k ≡ (if is_among k (started_by h fate []) then started_with (ticks k) e (cause_at one k) else cause_at one k)
-    → cause_at three k ≡ (if is_among k others then started_with (ticks k) e (cause_at two k) else cause_at two k)
-    → cause_at three k ≡ turned h fate due e (started_by h fate others) ticks k (cause_at old k)
-all_turned ticks h fate due e others k old one two three left again each =
+-- a retirement's two steps
+pub all_turned : (ticks : ℕ → ℕ) (h : ℕ) (fate : Fate) (due e : ℕ) (others : List ℕ) (k : ℕ) (c d three : Cause)
+    → d ≡ turned h fate due e (started_by h fate []) ticks k c
+    → three ≡ (if is_among k others then started_with (ticks k) e d else d)
+    → three ≡ turned h fate due e (started_by h fate others) ticks k c
+all_turned ticks h fate due e others k c d three own each =
     each
-    ∙ ap (λ (d : Cause). if is_among k others then started_with (ticks k) e d else d)
-    (again ∙ ap (λ (d : Cause). if is_among k (started_by h fate []) then started_with (ticks k) e d else d) (left ∙ own_is (λ c. at_rest fate due e (after_own e c)) old h k))
-    ∙ both_begun ticks e h fate others k (if k == h then at_rest fate due e (after_own e (cause_at old k)) else cause_at old k)
+    ∙ ap (λ (b : Cause). if is_among k others then started_with (ticks k) e b else b) own
+    ∙ both_begun ticks e h fate others k (if k == h then at_rest fate due e (after_own e c) else c)
 
 among_rest : (b a : Bool) → a ≡ true → (if b then true else a) ≡ true
 among_rest true a is = refl

@@ -19,20 +19,20 @@ use Rattle.guest_calls.specs.Guest.{Guest, pc_of, is_sleeping, with_wake, first_
 use Rattle.guest_calls.specs.Orderly.{IsOrderly}
 use Rattle.guest_calls.specs.Retire.{retire}
 use Rattle.guest_calls.proofs.Law.{running_awake}
-use Rattle.virtual_run.specs.declared.choice.Setting.{Setting}
-use Rattle.virtual_run.specs.declared.engine.Engine.{Engine}
-use Rattle.virtual_run.specs.declared.engine.Event as moves
-use Rattle.virtual_run.specs.declared.engine.Retired as retirements
-use Rattle.virtual_run.specs.declared.engine.Turn as turns
-use Rattle.virtual_run.specs.declared.engine.Event.TheVariants.{Woke, Retired}
-use Rattle.virtual_run.specs.Advance.{IsAdvance}
-use Rattle.virtual_run.specs.Begin.{started_by}
-use Rattle.virtual_run.specs.Engine.{events_of, IsReached, IsFirst, IsSteady}
-use Rattle.virtual_run.specs.Run.{IsChoice, experiment}
-use Rattle.virtual_run.specs.Seen.{experiment_with}
-use Rattle.virtual_run.specs.Visits.{Visits}
-use Rattle.virtual_run.proofs.Keys.{has_place, next_is}
-use Rattle.virtual_run.proofs.Law.{lawful_run, reached_next, reached_woken, steady, events_below, ended_now, within_enough, recorded_now}
+use Rattle.run_engine.specs.declared.choice.Setting.{Setting}
+use Rattle.run_engine.specs.declared.engine.Engine.{Engine}
+use Rattle.run_engine.specs.declared.engine.Event as moves
+use Rattle.run_engine.specs.declared.engine.Retired as retirements
+use Rattle.run_engine.specs.declared.engine.Turn as turns
+use Rattle.run_engine.specs.declared.engine.Event.TheVariants.{Woke, Retired}
+use Rattle.run_engine.specs.Advance.{IsAdvance}
+use Rattle.run_engine.specs.Begin.{started_by}
+use Rattle.run_engine.specs.Engine.{events_of, IsReached, IsFirst, IsSteady}
+use Rattle.run_engine.specs.Run.{IsChoice, experiment}
+use Rattle.run_engine.specs.Seen.{experiment_with}
+use Rattle.run_engine.specs.Visits.{Visits}
+use Rattle.run_engine.proofs.Keys.{has_place, next_is}
+use Rattle.run_engine.proofs.Law.{lawful_run, reached_next, reached_woken, steady, events_below, ended_now, within_enough, recorded_now}
 use Rattle.critical_chains.specs.declared.TheConstants.{MAX_EVENTS}
 use Rattle.critical_path.specs.declared.cause.Cause.{Cause}
 use Rattle.critical_chains.specs.declared.event.Event.{Event}

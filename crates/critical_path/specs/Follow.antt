@@ -5,10 +5,10 @@ use Rattle.coz_types.specs.declared.TheConstants.{HARTS}
 use Rattle.hart_schedule.specs.Keys.{Keys, key_of}
 use Rattle.machines.specs.Places.{is_among}
 use Rattle.machines.specs.Guest.{IsLater}
-use Rattle.virtual_run.specs.declared.engine.Engine.{Engine}
-use Rattle.virtual_run.specs.declared.engine.Event as moves
-use Rattle.virtual_run.specs.declared.engine.Event.TheVariants.{Woke, Retired}
-use Rattle.virtual_run.specs.Begin.{started_by}
+use Rattle.run_engine.specs.declared.engine.Engine.{Engine}
+use Rattle.run_engine.specs.declared.engine.Event as moves
+use Rattle.run_engine.specs.declared.engine.Event.TheVariants.{Woke, Retired}
+use Rattle.run_engine.specs.Begin.{started_by}
 use Rattle.critical_path.specs.declared.cause.Cause.{Cause}
 use Rattle.critical_chains.specs.declared.event.Event.{Event}
 use Rattle.critical_path.specs.Causes.{cause_at, woken_with, turned}

@@ -6,8 +6,8 @@ use Rattle.coz_types.specs.Image.{ImageParts}
 use Rattle.machines.specs.Guest.{Experiment}
 use Rattle.guest_memory.specs.declared.Layout.{Layout}
 use Rattle.guest_calls.specs.Guest.{Guest}
-use Rattle.virtual_run.specs.declared.choice.Choice.{Choice}
-use Rattle.virtual_run.specs.Run.{experiment}
+use Rattle.run_engine.specs.declared.choice.Choice.{Choice}
+use Rattle.run_engine.specs.Run.{experiment}
 use Rattle.critical_chains.specs.declared.event.Event.{Event}
 use Rattle.critical_chains.specs.declared.event.Trace.{Trace}
 

@@ -65,6 +65,20 @@ pub fn leave(causes: &mut [Cause], hart: HartId, fate: Fate, due: Tick, event: u
     causes[usize::from(hart.0)] = at_rest(causes[usize::from(hart.0)], fate, due, event);
 }
 
+/// A hart has retired by this event and goes on, and its next instruction takes `ticks` ticks.
+pub fn go_on(causes: &mut [Cause], hart: HartId, ticks: Tick, event: u32)
+    requires below { hart.0 < length causes.old }
+    ensures { causes.new ≡ slice_set causes.old hart.0
+        (started_with ticks event (after_own event (cause_at causes.old hart.0))) }
+{
+    causes[usize::from(hart.0)] = Cause {
+        from: Some(event),
+        before: Some(event),
+        cost: ticks,
+        slept: 0,
+    };
+}
+
 /// This event starts a hart, whose next instruction takes `ticks` ticks.
 pub fn start(causes: &mut [Cause], hart: HartId, ticks: Tick, event: u32)
     requires below { hart.0 < length causes.old }

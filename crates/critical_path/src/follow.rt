@@ -3,16 +3,16 @@ ghost use Rattle.std.specs.Prelude.{◌≡◌, ◌<◌, ◌++◌, [], ◌∷◌,
 ghost use Rattle.coz_types.specs.declared.TheConstants.{HARTS};
 ghost use Rattle.machines.specs.Places.{is_among};
 ghost use Rattle.machines.specs.Guest.{IsLater};
-ghost use Rattle.virtual_run.specs.Begin.{started_by};
+ghost use Rattle.run_engine.specs.Begin.{started_by};
 ghost use Rattle.critical_path.specs.Causes.{cause_at, started_with, woken_with, turned};
 ghost use Rattle.critical_path.specs.Follow.{ticks_from, IsBegun, CanFollow, IsFollowed};
 
-use crate::cause::{Cause, leave, start, wake_up};
+use crate::cause::{Cause, go_on, leave, start, wake_up};
 use coz_types::{Address, HARTS, HartId, Tick};
 use critical_chains::Event;
 use machines::Fate;
+use run_engine::{Engine, Event as Move, Retired, Turn};
 use std::alloc::{AllocError, Global};
-use virtual_run::{Engine, Event as Move, Retired, Turn};
 
 /// The ticks for which a hart was begun at a moment.
 pub fn ticks_from(engine: &Engine, moment: Tick, hart: HartId) -> Tick
@@ -25,22 +25,23 @@ pub fn ticks_from(engine: &Engine, moment: Tick, hart: HartId) -> Tick
     }
 }
 
-/// The hart that retired by this event is begun again, if it goes on.
-fn start_again(engine: &Engine, retired: Retired, causes: &mut [Cause], event: u32)
+/// The hart that retired by this event is begun again if it goes on, and else left to its fate.
+fn go_on_or_leave(engine: &Engine, retired: Retired, causes: &mut [Cause], event: u32)
     requires below { retired.hart.0 < length causes.old }
+    requires later { IsLater engine.now.time retired.fate }
     requires begun { (k : ℕ) → is_among k (started_by retired.hart.0 retired.fate []) ≡ true
         → IsBegun engine.now.schedule engine.now.time k }
     ensures { (k : ℕ) → cause_at causes.new k
-        ≡ (if is_among k (started_by retired.hart.0 retired.fate [])
-        then started_with (ticks_from engine.now.schedule engine.now.time k) event
-        (cause_at causes.old k) else cause_at causes.old k) }
+        ≡ turned retired.hart.0 retired.fate engine.now.time event
+        (started_by retired.hart.0 retired.fate [])
+        (ticks_from engine.now.schedule engine.now.time) k (cause_at causes.old k) }
 {
     match retired.fate {
         Fate::Goes => {
             let ticks = ticks_from(engine, engine.time(), retired.hart);
-            start(causes, retired.hart, ticks, event);
+            go_on(causes, retired.hart, ticks, event);
         }
-        _ => {}
+        fate => leave(causes, retired.hart, fate, engine.time(), event),
     }
 }
 
@@ -73,8 +74,7 @@ fn follow_retired(engine: &Engine, retired: Retired, causes: &mut [Cause], event
         (started_by retired.hart.0 retired.fate engine.now.started)
         (ticks_from engine.now.schedule engine.now.time) k (cause_at causes.old k) }
 {
-    leave(causes, retired.hart, retired.fate, engine.time(), event);
-    start_again(engine, retired, causes, event);
+    go_on_or_leave(engine, retired, causes, event);
     start_each(engine, engine.started(), causes, event);
 }
 

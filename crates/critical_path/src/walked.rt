@@ -4,7 +4,7 @@ ghost use Rattle.coz_types.specs.declared.TheConstants.{HARTS};
 ghost use Rattle.machines.specs.Records.{shortened_record};
 ghost use Rattle.progress_points.specs.Points.{point_of};
 ghost use Rattle.guest_calls.specs.Guest.{pc_of};
-ghost use Rattle.virtual_run.specs.Run.{IsChoice};
+ghost use Rattle.run_engine.specs.Run.{IsChoice};
 ghost use Rattle.critical_chains.specs.declared.TheConstants.{MAX_EVENTS};
 ghost use Rattle.critical_chains.specs.Path.{event_at, last_of, Linked};
 ghost use Rattle.critical_path.specs.Causes.{no_cause, cause_at};
@@ -21,8 +21,8 @@ use dwarf_lines::LineTable;
 use guest_memory::Layout;
 use line_index::LineIndex;
 use progress_points::Points;
+use run_engine::{Choice, Engine, Setting};
 use std::alloc::{AllocError, Global};
-use virtual_run::{Choice, Engine, Setting};
 
 /// An index of no lines.
 fn no_lines(alloc: Global, image: &Image) -> Result<LineIndex, AllocError> {
@@ -89,6 +89,7 @@ fn trace_of(
 
 /// Runs a program with no selected line and no points, and gives its events, its ending and
 /// its output. Fails only when out of memory.
+#[inline(never)]
 pub fn walk<'a>(
     alloc: Global,
     image: &'a Image<'a>,

@@ -7,4 +7,5 @@ pub mod Loading
 pub mod LineSection
 mod Program
 pub mod Written
+pub mod WordLines
 mod Files

@@ -230,7 +230,7 @@ unit_is_read p name version is named right =
     let takes = takes_unit version p.lines name right full named.0 all (omega (arith, is.whole, is.text_fits)) (omega (arith, named.1)) in
     reading_again none (unit p.lines name version) (table_of p.lines name version) (is_table version p.lines name takes)
 
-lines_found : (p : Program) (name : List ℕ) (version : ℕ) → IsProgram p → IsName name → IsVersion version → option_map (reading none) (loading.section (written_file p name version) (codes ".debug_line")) ≡ Some (Ok (table_of p.lines name version))
+pub lines_found : (p : Program) (name : List ℕ) (version : ℕ) → IsProgram p → IsName name → IsVersion version → option_map (reading none) (loading.section (written_file p name version) (codes ".debug_line")) ≡ Some (Ok (table_of p.lines name version))
 lines_found p name version is named right = ap (λ (o : Option (List ℕ)). option_map (reading none) o) (unit_found p name version is named) ∙ ap (λ (r : Result Table LineFault). Some r) (unit_is_read p name version is named right)
 
 -- what a call wrote, if it is the written file

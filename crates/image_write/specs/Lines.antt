@@ -1,8 +1,18 @@
--- The line table of a written file.
-use Rattle.std.specs.Prelude.{ℕ, ◌+◌, ◌==◌, Bool, true, false, List, [], ◌∷◌, Some, if◌then◌else◌}
+-- The line table of a written file, and the lines of its words.
+use Rattle.std.specs.Prelude.{◌≡◌, ℕ, ◌+◌, ◌*◌, ◌<◌, ◌==◌, Bool, true, false, List, [], ◌∷◌, length, get_or, Option, None, Some, option_map, Result, Ok, Err, codes, if◌then◌else◌}
+use Rattle.coz_types.specs.declared.image.Area.{Area}
+use Rattle.coz_types.specs.Image.{ImageParts}
+use Rattle.coz_types.specs.Labels.{written}
+use Rattle.elf_load.specs.declared.ElfFault.{ElfFault}
+use Rattle.elf_load.specs.Loaded.{load_answer, section}
+use Rattle.dwarf_lines.specs.declared.LineFault.{LineFault}
 use Rattle.dwarf_lines.specs.declared.Row.{Row}
+use Rattle.dwarf_lines.specs.Names.{strings}
 use Rattle.dwarf_lines.specs.Registers.{File, Table}
+use Rattle.dwarf_lines.specs.Reading.{reading}
+use Rattle.line_index.specs.Lines.{Line, line_of}
 use Rattle.rv_asm.specs.declared.TheConstants.{TEXT_START}
+use Rattle.rv_asm.specs.Assembled.{Program}
 
 -- the source, twice in version 5
 abbrev pub files_of : ℕ → List ℕ → List File
@@ -48,3 +58,29 @@ table_of lines name version = record {
   rows = rows_of version lines;
   skipped = 0;
 }
+
+-- ---- the lines of a file's words
+
+-- what the section of lines is read as, where all texts are in that section
+abbrev pub read_table : List ℕ → Option (Result Table LineFault)
+read_table file = option_map (reading (strings [] [])) (section file (codes ".debug_line"))
+
+abbrev pub line_by : Option (Result Table LineFault) → List Area → ℕ → Option Line
+line_by (Some (Ok table)) areas a = line_of table areas a
+line_by _ areas a = None
+
+abbrev pub line_where : Result ImageParts ElfFault → Option (Result Table LineFault) → ℕ
+    → Option Line
+line_where (Ok image) table a = line_by table image.areas a
+line_where (Err fault) table a = None
+
+-- the line of an address of a file, by its table and the areas that it loads as
+unfoldable pub line_in : List ℕ → ℕ → Option Line
+line_in file a = line_where (load_answer file) (read_table file) a
+
+-- each word has the line of its statement, in the source of this name
+abbrev pub HasLines : Program → List ℕ → List ℕ → Type 0
+HasLines p name file =
+    (k : ℕ) → k < length p.lines
+    → line_in file (TEXT_START + 4 * k)
+    ≡ Some (record { path = written name; number = get_or p.lines k 0 })

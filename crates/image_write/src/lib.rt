@@ -5,15 +5,13 @@ mod headers;
 mod numbers;
 mod unit;
 
-ghost use Rattle.std.specs.Prelude.{◌≡◌, ◌<◌, ◌≤◌, ◌-◌, ◌^◌, ◌++◌, [], length, replicate, nat_lt, option_map, IfOk, Ok, Some, codes};
+ghost use Rattle.std.specs.Prelude.{◌≡◌, ◌<◌, ◌≤◌, ◌-◌, ◌^◌, ◌++◌, length, replicate, nat_lt, IfOk, Ok, Some, codes};
 ghost use Rattle.elf_load.specs.Loaded.{load_answer, section};
-ghost use Rattle.dwarf_lines.specs.Names.{strings};
-ghost use Rattle.dwarf_lines.specs.Reading.{reading};
 ghost use Rattle.rv_asm.specs.Assembled.{IsProgram, view};
 ghost use Rattle.image_write.specs.File.{IsWritable, IsName, IsVersion, filled_up, file_header, segments, headers_place, segment_count, front, file_with, written_file};
 ghost use Rattle.image_write.specs.Image.{image_of};
 ghost use Rattle.image_write.specs.Unit.{unit};
-ghost use Rattle.image_write.specs.Lines.{table_of};
+ghost use Rattle.image_write.specs.Lines.{HasLines, read_table, table_of};
 
 use coz_types::PAGE;
 use headers::{
@@ -81,8 +79,9 @@ fn file_with(alloc: Global, assembled: &Assembled, unit: &[u8]) -> Result<Vec<u8
     Ok(out)
 }
 
-/// The file that loads as what was assembled, with its line table of version 4 or 5:
-/// `name` is the name of the source in it.
+/// Returns the ELF file that loads as what was assembled, with a line table of DWARF version 4
+/// or 5 (`version`) in its section `.debug_line`. By this table each word of the text has the
+/// line of its statement, in the source called `name`. Fails only if memory runs out.
 #[tactic(auto, unfolding(crate::specs::File::written_file))]
 pub fn write_elf(
     alloc: Global,
@@ -100,9 +99,10 @@ pub fn write_elf(
     ensures line_unit { IsProgram (view assembled.now)
         → IfOk result (λ v. section v.items (codes ".debug_line")
         ≡ Some (unit (view assembled.now).lines name.now version)) }
-    ensures lines { IsProgram (view assembled.now) → IfOk result (λ v.
-        option_map (reading (strings [] [])) (section v.items (codes ".debug_line"))
-        ≡ Some (Ok (table_of (view assembled.now).lines name.now version))) }
+    ensures table { IsProgram (view assembled.now) → IfOk result (λ v.
+        read_table v.items ≡ Some (Ok (table_of (view assembled.now).lines name.now version))) }
+    ensures lines { IsProgram (view assembled.now)
+        → IfOk result (λ v. HasLines (view assembled.now) name.now v.items) }
 {
     let unit = unit(alloc, assembled.lines.as_slice(), name, version)?;
     file_with(alloc, assembled, unit.as_slice())

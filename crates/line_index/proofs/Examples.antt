@@ -111,7 +111,7 @@ label_of_line : label (record { path = 97 ∷ 37 ∷ 50 ∷ 48 ∷ []; number = 
 unfolding digits
 label_of_line = refl
 
--- `a b.s` stands before `a!b.s`, and as they are written behind it
+-- `a b.s` comes before `a!b.s`, and as they are written after it
 in_written_order : lines_in (table (record { directory = []; name = 97 ∷ 33 ∷ 98 ∷ [] } ∷ record { directory = []; name = 97 ∷ 32 ∷ 98 ∷ [] } ∷ []) (row 0 0x10000 (Some 1) 1 ∷ row 0 0x10004 (Some 0) 1 ∷ last 0 0x10008 ∷ [])) (code ∷ [])
     ≡ record { path = 97 ∷ 33 ∷ 98 ∷ []; number = 1 } ∷ record { path = 97 ∷ 37 ∷ 50 ∷ 48 ∷ 98 ∷ []; number = 1 } ∷ []
 unfolding lines_in line_of

@@ -23,6 +23,7 @@ pub mod Kept
 pub mod Righted
 pub mod Needed
 pub mod Placing
-pub mod Endings
 pub mod Firsts
-pub mod Stretch
+pub mod Least
+pub mod Reversed
+pub mod Ranking

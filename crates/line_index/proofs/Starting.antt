@@ -79,7 +79,7 @@ nothing_ahead (c ∷ cs) (suc i) le = nothing_ahead cs i (omega arith)
 pub line_change_at : (cs : List LineChange) (i : ℕ) (d : LineChange) → i < length cs → get_or (changes_of cs) i (change_of d) ≡ change_of (get_or cs i d)
 line_change_at cs i d lt = get_or-map change_of cs i d (change_of d) lt
 
--- the line of each change is one of so many
+-- the line of each change is below a bound
 pub line_within : (count : ℕ) (cs : List LineChange) (lists : List (Vec ℕ)) (i : ℕ) (d : LineChange) → i < length cs → All (IsBelow count) (changes_of cs) → length (texts lists) ≡ count → IsBelow (length lists) (change_of (get_or cs i d))
 line_within count cs lists i d lt all many =
     subst (λ n. IsBelow n (change_of (get_or cs i d))) (sym many ∙ length-map lists (λ (v : Vec ℕ). v.items))

@@ -19,7 +19,7 @@ scans_over : (text rest : Text) → AllByRecursion (λ (byte : ℕ). byte < 256)
 scans_over [] rest all = refl
 scans_over (b ∷ text) rest all = ap (is_scanned (Some None)) (append_assoc (escape_of b) (written text) rest) ∙ byte_scans b (written text ++ rest) all.0 ∙ scans_over text rest all.1
 
--- the scan of a text behind this one begins anew
+-- the scan of a text after this one begins anew
 abbrev pub IsWhole : Text → Type 0
 IsWhole front = (rest : Text) → is_scanned (Some None) (front ++ rest) ≡ is_scanned (Some None) rest
 

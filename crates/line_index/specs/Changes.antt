@@ -54,12 +54,12 @@ least None second = second
 least (Some x) None = Some x
 least (Some x) (Some y) = if nat_le x y then Some x else Some y
 
--- what stands behind an address, where the next change is not before it
+-- the changes after an address, where the next change is not before it
 abbrev pub position_after : ℕ → Option ℕ → List Change → Option ℕ
 position_after a before [] = before
 position_after a before (c ∷ cs) = if c.address == a then c.position else before
 
--- the changes behind it
+-- the changes after it
 abbrev pub ahead_after : ℕ → List Change → List Change
 ahead_after a [] = []
 ahead_after a (c ∷ cs) = if c.address == a then cs else c ∷ cs

@@ -77,7 +77,7 @@ key_change rows ranks c = (c.address, option_map Some (key_at rows ranks c.posit
 abbrev pub line_change : List Key → Change → ℕ × Option (Option Key)
 line_change keys c = (c.address, option_map (slice_get keys) c.position)
 
--- it is one of so many
+-- it is below a bound
 abbrev pub IsBelow : ℕ → Change → Type 0
 IsBelow count c = IfSome c.position (λ k. k < count)
 
@@ -121,3 +121,7 @@ entry_cmp entry other =
 -- how many bytes a file's name and that of its directory have
 abbrev pub name_size : FileName → ℕ
 name_size file = length file.directory.now + length file.name.now
+
+-- how many bytes the label of a line has at most: its path, a colon and ten digits
+abbrev pub label_size : List (List ℕ) → Key → ℕ
+label_size paths key = length (get_or paths key.path []) + 11

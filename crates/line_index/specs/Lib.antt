@@ -5,5 +5,6 @@ pub mod Keys
 pub mod Turns
 pub mod Index
 pub mod Backwards
+pub mod Endings
 pub mod Listed
 pub mod View

@@ -20,7 +20,7 @@ abbrev pub is_rooted : List ℕ → Bool
 is_rooted [] = false
 is_rooted (b ∷ bs) = b == 47
 
--- its name, behind its directory and a slash where it has one and doesn't begin at the root itself
+-- its name, after its directory and a slash if it has one and doesn't begin at the root itself
 abbrev pub full_name : File → List ℕ
 full_name file =
     if is_empty file.directory || is_rooted file.name then file.name

@@ -19,7 +19,7 @@ turns k before (c ∷ cs) =
     (if is_different (is_at k before) (is_at k c.position) then c.address ∷ [] else [])
     ++ turns k c.position cs
 
--- behind a beginning and before the end that follows: the first turn is passed,
+-- after a beginning and before the end that follows: the first turn is passed,
 -- and it is not so of the others
 abbrev pub is_within : ℕ → List ℕ → Bool
 is_within a [] = false

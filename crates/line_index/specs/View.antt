@@ -5,7 +5,7 @@ use Rattle.line_index.specs.declared.LineIndex.TheInside.{Inside}
 use Rattle.line_index.specs.Changes.{IsRising, changes_of}
 use Rattle.line_index.specs.Lines.{IsRight, label}
 use Rattle.line_index.specs.Keys.{HasPath, key_cmp, path_cmp, texts}
-use Rattle.line_index.specs.Backwards.{AreBackwards}
+use Rattle.line_index.specs.Endings.{HoldsLines, IsSearchable}
 use Rattle.line_index.specs.Turns.{turns}
 use Rattle.line_index.specs.Index.{Index, line_at}
 
@@ -20,7 +20,8 @@ pub record IsWhole (inside : Inside) : Type 0 where
   pub few : length inside.lines.items < 2 ^ 32
   pub few_paths : length inside.paths.items < 2 ^ 32
   pub paths_rise : IsStrictlySortedBy path_cmp inside.paths.items
-  pub backwards : AreBackwards (texts inside.paths.items) inside.backwards.items
+  pub searchable : IsSearchable (texts inside.paths.items) inside.endings
+  pub endings : HoldsLines inside.lines.items inside.endings
   pub keys_rise : IsStrictlySortedBy key_cmp inside.lines.items
   pub have_paths : All (HasPath (texts inside.paths.items)) inside.lines.items
   pub right : All IsRight (map (line_at (texts inside.paths.items)) inside.lines.items)

@@ -1,90 +1,113 @@
-//! The written paths by their bytes from the last to the first, where those that end alike stand
-//! side by side.
+//! The written paths in the order of their bytes from the last to the first, in which those that
+//! end alike stand side by side. They are compared where they lie: no path is copied.
 
-ghost use Rattle.std.specs.Prelude.{◌≡◌, ◌≤◌, ◌<◌, ◌^◌, ℕ, true, false, length, reverse, IfOk, All, Contains};
-ghost use Rattle.std.specs.List.Sorted.{IsSorted, IsPartitionPoint};
-ghost use Rattle.std.specs.Ordering.{is_lt};
-ghost use Rattle.line_index.specs.declared.backwards.Backward.{Backward};
+ghost use Rattle.std.specs.Prelude.{◌≡◌, ◌<◌, ◌^◌, ℕ, [], length, get_or, IfOk, All, Contains};
 ghost use Rattle.line_index.specs.Keys.{texts};
-ghost use Rattle.line_index.specs.Backwards.{AreBackwards, IsBackward, backward_cmp, ending, places, start_cmp};
+ghost use Rattle.line_index.specs.Backwards.{AreBackwards, IsStretch, backward, backward_cmp, ending, start_cmp};
 
 use std::alloc::{AllocError, Global};
+use std::cmp::Ordering;
 
-/// A path's bytes from the last to the first, and its position in the order of paths.
-#[derive(PartialEq, Eq, PartialOrd, Ord, Drop)]
-pub struct Backward {
-    /// The path's bytes, the last one first.
-    pub bytes: Vec<u8>,
-    /// Its position in the order of paths.
-    pub place: u32,
-}
-
-fn reversed(alloc: Global, path: &[u8], place: u32) -> Result<Backward, AllocError>
-    ensures place { IfOk result (λ one. one.place ≡ place) }
-    ensures bytes { IfOk result (λ one. one.bytes.items ≡ reverse path.now) }
+/// The path at a position; empty where there is none.
+pub fn path_at(paths: &[Vec<u8>], position: u32) -> &[u8]
+    ensures { result.now ≡ get_or (texts paths.now) position [] }
 {
-    let mut bytes = Vec::from_slice(alloc, path)?;
-    bytes.reverse();
-    Ok(Backward { bytes, place })
-}
-
-fn each_backward(alloc: Global, paths: &[Vec<u8>]) -> Result<Vec<Backward>, AllocError>
-    requires { length paths.now < 2 ^ 32 }
-    ensures own { IfOk result (λ list. All (IsBackward (texts paths.now)) list.items) }
-    ensures each { IfOk result (λ list.
-        (k : ℕ) → k < length (texts paths.now) → Contains (places list.items) k) }
-{
-    let mut list = Vec::with_capacity(alloc, paths.len())?;
-    for (place, path) in paths.iter().enumerate() {
-        list.push(reversed(alloc, path, place as u32)?)?;
+    let place = position as usize;
+    if place < paths.len() {
+        &paths[place]
+    } else {
+        &[]
     }
-    Ok(list)
 }
 
-/// The paths in the order of their bytes from the last to the first.
-/// Only want of memory stands against it.
-pub fn backwards(alloc: Global, paths: &[Vec<u8>]) -> Result<Vec<Backward>, AllocError>
-    requires { length paths.now < 2 ^ 32 }
-    ensures { IfOk result (λ list. AreBackwards (texts paths.now) list.items) }
+/// The order of the paths at two positions, by their bytes from the last to the first.
+fn backward_cmp(paths: &[Vec<u8>], one: u32, other: u32) -> Ordering
+    ensures { result ≡ backward_cmp (texts paths.now) one other }
 {
-    let mut list = each_backward(alloc, paths)?;
-    list.sort()?;
-    Ok(list)
-}
-
-/// The bytes stand before those that begin with the text from its last byte to its first and a
-/// slash.
-fn stands_before(bytes: &[u8], text: &[u8]) -> bool
-    ensures { result ≡ is_lt (start_cmp (ending text.now) bytes.now) }
-{
-    let mut ahead = bytes;
-    let mut left = text;
+    let mut ahead = path_at(paths, one);
+    let mut left = path_at(paths, other);
     while let Some((last, front)) = left.split_last() {
-        match ahead.split_first() {
-            Some((first, rest)) => {
-                if first != last {
-                    return first < last;
+        match ahead.split_last() {
+            Some((byte, rest)) => {
+                if byte != last {
+                    return byte.cmp(last);
                 }
                 ahead = rest;
                 left = front;
             }
-            None => return true,
+            None => return Ordering::Less,
         }
     }
-    match ahead.split_first() {
-        Some((first, _)) => *first < b'/',
-        None => true,
+    match ahead.split_last() {
+        Some(_) => Ordering::Greater,
+        None => Ordering::Equal,
     }
 }
 
-/// Where those begin that end with a slash and the text.
-pub fn first_ending(backwards: &[Backward], text: &[u8]) -> usize
-    requires { IsSorted backward_cmp backwards.now }
-    ensures bound { result ≤ length backwards.now }
-    ensures parted { IsPartitionPoint
-        (λ (one : Backward). is_lt (start_cmp (ending text.now) one.bytes.items) ≡ true)
-        (λ (one : Backward). is_lt (start_cmp (ending text.now) one.bytes.items) ≡ false)
-        backwards.now result }
+fn all_positions(alloc: Global, count: usize) -> Result<Vec<u32>, AllocError>
+    requires { count < 2 ^ 32 }
+    ensures as_many { IfOk result (λ list. length list.items ≡ count) }
+    ensures own { IfOk result (λ list. All (λ position. position < count) list.items) }
+    ensures each { IfOk result (λ list. (k : ℕ) → k < count → Contains list.items k) }
 {
-    backwards.partition_point(|one| stands_before(&one.bytes, text))
+    let mut list = Vec::with_capacity(alloc, count)?;
+    for position in 0..count {
+        list.push(position as u32)?;
+    }
+    Ok(list)
+}
+
+/// The positions of the paths in the order of their bytes from the last to the first.
+/// Fails only if it is out of memory.
+pub fn backwards(alloc: Global, paths: &[Vec<u8>]) -> Result<Vec<u32>, AllocError>
+    requires { length paths.now < 2 ^ 32 }
+    ensures { IfOk result (λ list. AreBackwards (texts paths.now) list.items) }
+{
+    let mut list = all_positions(alloc, paths.len())?;
+    list.sort_by(|one, other| backward_cmp(paths, *one, *other))?;
+    Ok(list)
+}
+
+/// Whether in that order the path at a position stands before those that end with a slash and
+/// the text, is one of them, or stands after them.
+fn ending_cmp(paths: &[Vec<u8>], position: u32, text: &[u8]) -> Ordering
+    ensures { result ≡ start_cmp (ending text.now) (backward (texts paths.now) position) }
+{
+    let mut ahead = path_at(paths, position);
+    let mut left = text;
+    while let Some((last, front)) = left.split_last() {
+        match ahead.split_last() {
+            Some((byte, rest)) => {
+                if byte != last {
+                    return byte.cmp(last);
+                }
+                ahead = rest;
+                left = front;
+            }
+            None => return Ordering::Less,
+        }
+    }
+    match ahead.split_last() {
+        Some((byte, _)) => byte.cmp(&b'/'),
+        None => Ordering::Less,
+    }
+}
+
+/// Some of the paths in that order, which stand side by side.
+#[derive(Clone, Copy)]
+pub struct Stretch {
+    /// The rank of the first of them.
+    pub start: usize,
+    /// The rank after the last of them.
+    pub end: usize,
+}
+
+/// The paths that end with a slash and the text.
+pub fn stretch_of(paths: &[Vec<u8>], backwards: &[u32], text: &[u8]) -> Stretch
+    requires { AreBackwards (texts paths.now) backwards.now }
+    ensures { IsStretch (texts paths.now) backwards.now text.now result.start result.end }
+{
+    let start = backwards.partition_point(|one| ending_cmp(paths, *one, text).is_lt());
+    let end = backwards.partition_point(|one| ending_cmp(paths, *one, text).is_le());
+    Stretch { start, end }
 }

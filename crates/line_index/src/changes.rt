@@ -87,7 +87,7 @@ fn least(first: Option<Address>, second: Option<Address>) -> Option<Address>
     }
 }
 
-/// Two lists of changes as one. Only want of memory stands against it.
+/// Two lists of changes as one.
 pub fn merged(
     alloc: Global,
     join: Join,

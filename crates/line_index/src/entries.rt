@@ -8,7 +8,7 @@ use crate::changes::LineChange;
 use coz_types::{Address, LineId};
 use std::alloc::{AllocError, Global};
 
-/// So many empty lists. Only want of memory stands against it.
+/// `count` empty lists.
 pub fn empty_lists(alloc: Global, count: usize) -> Result<Vec<Vec<Address>>, AllocError>
     ensures as_many { IfOk result (λ lists. length lists.items ≡ count) }
     ensures empty { IfOk result (λ lists. All (λ (list : List ℕ). list ≡ []) (texts lists.items)) }
@@ -51,7 +51,7 @@ fn add_start(
     }
 }
 
-/// The addresses at which each line begins. Only want of memory stands against it.
+/// The addresses at which each line begins.
 pub fn entries(
     alloc: Global,
     changes: &[LineChange],

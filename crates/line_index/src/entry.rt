@@ -41,7 +41,6 @@ fn all_entries<'a>(alloc: Global, files: &[FileName<'a>]) -> Result<Vec<Entry<'a
 }
 
 /// The files in order, each once, if there is room for their paths.
-/// Only want of memory stands against it.
 pub fn sorted_entries<'a>(
     alloc: Global,
     files: &[FileName<'a>],
@@ -73,7 +72,6 @@ fn position_of(entries: &[Entry], positions: &[Option<u32>], file: &FileName) ->
 }
 
 /// The position of each file's path, by those of the entries.
-/// Only want of memory stands against it.
 pub fn file_positions(
     alloc: Global,
     entries: &[Entry],

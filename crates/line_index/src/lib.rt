@@ -3,7 +3,9 @@
 #![tactic(auto)]
 
 mod backwards;
+mod blocks;
 mod changes;
+mod endings;
 mod entries;
 mod entry;
 mod find;
@@ -26,8 +28,8 @@ ghost use Rattle.line_index.specs.Lines.{label, position_named};
 ghost use Rattle.line_index.specs.Index.{Index, IsIndex, has_line, position_at};
 ghost use Rattle.line_index.specs.Listed.{IsListed};
 
-use crate::backwards::Backward;
 use crate::changes::{LineChange, line_at};
+use crate::endings::Endings;
 use crate::lines::{Key, lines_of};
 use crate::named::named_files;
 use crate::parts::parts_of;
@@ -43,7 +45,7 @@ use std::marker::Model;
 #[derive(Drop)]
 pub struct LineIndex {
     paths: Vec<Vec<u8>>,
-    backwards: Vec<Backward>,
+    endings: Endings,
     lines: Vec<Key>,
     labels: Vec<Label>,
     entries: Vec<Vec<Address>>,
@@ -115,11 +117,11 @@ impl LineIndex {
         ensures { result
             ≡ option_map (λ k. record { 0 = k }) (position_named path.now number self.now.lines) }
     {
-        find::find(&self.paths, &self.backwards, &self.lines, path, number).map(LineId)
+        find::find(&self.paths, &self.endings, &self.lines, path, number).map(LineId)
     }
 }
 
-/// The index of a program's line table. Only want of memory stands against it.
+/// The index of a program's line table.
 pub fn build(alloc: Global, table: &LineTable, image: &Image) -> Result<LineIndex, AllocError>
     requires few_rows { length table.now.rows ≤ MAX_PROGRAM }
     requires few_files { length table.now.files ≤ MAX_PROGRAM }
@@ -135,7 +137,7 @@ pub fn build(alloc: Global, table: &LineTable, image: &Image) -> Result<LineInde
     let parts = parts_of(alloc, &places.paths, &lines.keys, &lines.changes)?;
     Ok(LineIndex {
         paths: places.paths,
-        backwards: parts.backwards,
+        endings: parts.endings,
         lines: lines.keys,
         labels: parts.labels,
         entries: parts.entries,

@@ -91,7 +91,7 @@ fn change_keys(
     Ok(keys)
 }
 
-/// Those lines in order, each once. Only want of memory stands against it.
+/// Those lines in order, each once.
 fn sorted_keys(
     alloc: Global,
     rows: &[Row],
@@ -126,7 +126,7 @@ fn key_line(keys: &[Key], key: Option<Key>) -> Option<LineId>
     }
 }
 
-/// The changes with lines in place of rows. Only want of memory stands against it.
+/// The changes with lines in place of rows.
 fn line_changes(
     alloc: Global,
     rows: &[Row],
@@ -153,7 +153,6 @@ fn line_changes(
 }
 
 /// The lines of the rows that changes name, and the changes with them in place of the rows.
-/// Only want of memory stands against it.
 pub fn lines_of(
     alloc: Global,
     rows: &[Row],

@@ -50,7 +50,7 @@ fn give_name<'a>(named: &mut Vec<FileName<'a>>, files: &[FileName<'a>], file: Op
 
 /// The files in their places, of which those have their names that some row names which is the
 /// first to cover an address. A path is made of no other one: a table may hold a long directory
-/// and millions of files in it. Only want of memory stands against it.
+/// and millions of files in it.
 pub fn named_files<'a>(
     alloc: Global,
     rows: &[Row],

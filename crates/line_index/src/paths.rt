@@ -49,7 +49,7 @@ fn written_paths(alloc: Global, entries: &[Entry]) -> Result<Vec<Vec<u8>>, Alloc
     Ok(paths)
 }
 
-/// The written paths in order, each once. Only want of memory stands against it.
+/// The written paths in order, each once.
 pub fn sorted_paths(alloc: Global, entries: &[Entry]) -> Result<Vec<Vec<u8>>, AllocError>
     ensures in_order { IfOk result (λ paths. IsStrictlySortedBy path_cmp paths.items) }
     ensures each { IfOk result (λ paths.
@@ -83,7 +83,7 @@ fn path_position(alloc: Global, paths: &[Vec<u8>], entry: &Entry) -> Result<Opti
     }
 }
 
-/// The position of each file's path. Only want of memory stands against it.
+/// The position of each file's path.
 pub fn path_positions(
     alloc: Global,
     paths: &[Vec<u8>],

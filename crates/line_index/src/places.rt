@@ -21,7 +21,7 @@ pub struct Places {
     pub positions: Vec<Option<u32>>,
 }
 
-/// The paths of files. Only want of memory stands against it.
+/// The paths of files.
 pub fn places_of(alloc: Global, files: &[FileName]) -> Result<Places, AllocError>
     requires { length files.now < 2 ^ 32 }
     ensures in_order { IfOk result (λ places. IsStrictlySortedBy path_cmp places.paths.items) }

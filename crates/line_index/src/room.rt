@@ -1,12 +1,24 @@
-//! Room for the paths of a table, which is asked for before the first of them is compared or made.
+//! Room that is asked for before the first path of a table is compared or made, and before the
+//! first label is.
 
 ghost use Rattle.std.specs.Prelude.{◌≡◌, ◌≤◌, ◌*◌, ◌-◌, ◌^◌, min, IfOk};
 ghost use Rattle.std.specs.List.{sum_by};
 ghost use Rattle.std.specs.Vec.{vec_capacity};
-ghost use Rattle.line_index.specs.Keys.{name_size};
+ghost use Rattle.line_index.specs.declared.room.TheConstants.{MOST_NAMED};
+ghost use Rattle.line_index.specs.Keys.{label_size, name_size, texts};
 
+use crate::backwards::path_at;
+use crate::lines::Key;
 use dwarf_lines::FileName;
 use std::alloc::{AllocError, Global};
+
+/// The most bytes that the names of files and of their directories have together, 128 MiB: four
+/// times those of the largest file of a program. Only entries that share a text have more, and
+/// to compare them takes as long as to read each of them whole.
+const MOST_NAMED: usize = 0x800_0000;
+
+/// The most bytes of a colon and a number.
+const MOST_NUMBER: usize = 11;
 
 /// How many bytes the names of the files and of their directories have.
 fn named_bytes(files: &[FileName]) -> usize
@@ -21,13 +33,40 @@ fn named_bytes(files: &[FileName]) -> usize
     total
 }
 
-/// Room for each file's path thrice, as itself, from its last byte to its first,
-/// and in a label. The files of a table may be millions that all have one long name:
-/// no more is compared and written than there is memory for. Nothing is written into the room,
-/// so it isn't to be inlined: it would be left out.
+/// Room for each file's path, in which a byte that is escaped takes three. Out of memory too
+/// where the names have more bytes than `MOST_NAMED`. Nothing is written into the room, so it
+/// isn't to be inlined: it would be left out.
 #[inline(never)]
 pub fn room(alloc: Global, files: &[FileName]) -> Result<Vec<u8>, AllocError>
-    ensures { IfOk result (λ room. 3 * sum_by name_size files.now ≤ vec_capacity room) }
+    ensures room { IfOk result (λ room. 3 * sum_by name_size files.now ≤ vec_capacity room) }
+    ensures bounded { IfOk result (λ room. sum_by name_size files.now ≤ MOST_NAMED) }
 {
-    Vec::with_capacity(alloc, named_bytes(files).saturating_mul(3))
+    let bytes = named_bytes(files);
+    if MOST_NAMED < bytes {
+        return Err(AllocError);
+    }
+    Vec::with_capacity(alloc, bytes * 3)
+}
+
+/// How many bytes the labels of the lines have at most.
+fn label_bytes(paths: &[Vec<u8>], keys: &[Key]) -> usize
+    ensures { result ≡ min (sum_by (label_size (texts paths.now)) keys.now) (2 ^ 64 - 1) }
+{
+    let mut total: usize = 0;
+    for key in keys {
+        total = total
+            .saturating_add(path_at(paths, key.path).len())
+            .saturating_add(MOST_NUMBER);
+    }
+    total
+}
+
+/// Room for the label of each line, in one request. A table of few bytes may give a long path to
+/// very many lines: it then fails before the first of their labels is made.
+#[inline(never)]
+pub fn label_room(alloc: Global, paths: &[Vec<u8>], keys: &[Key]) -> Result<Vec<u8>, AllocError>
+    ensures { IfOk result (λ room.
+        sum_by (label_size (texts paths.now)) keys.now ≤ vec_capacity room) }
+{
+    Vec::with_capacity(alloc, label_bytes(paths, keys))
 }

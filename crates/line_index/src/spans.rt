@@ -19,12 +19,11 @@ use std::collections::BTreeMap;
 pub struct Span {
     /// The first address.
     pub start: Address,
-    /// The address behind the last one.
+    /// The address after the last one.
     pub end: Address,
 }
 
 /// The addresses that each row covers, up to the next row of its sequence (DWARF 4, 6.2.2).
-/// Only want of memory stands against it.
 pub fn row_spans(alloc: Global, rows: &[Row]) -> Result<Vec<Span>, AllocError>
     ensures spans { IfOk result (λ spans. spans.items ≡ row_spans rows.now) }
     ensures as_many { IfOk result (λ spans. length spans.items ≡ length rows.now) }
@@ -47,7 +46,7 @@ pub fn row_spans(alloc: Global, rows: &[Row]) -> Result<Vec<Span>, AllocError>
     Ok(spans)
 }
 
-/// The addresses of each executable area. Only want of memory stands against it.
+/// The addresses of each executable area.
 pub fn code_spans(alloc: Global, areas: &[Area]) -> Result<Vec<Span>, AllocError>
     requires { All (λ (area : Area). area_end area < 2 ^ 64) areas.now }
     ensures spans { IfOk result (λ spans. spans.items ≡ code_spans areas.now) }
@@ -66,7 +65,6 @@ pub fn code_spans(alloc: Global, areas: &[Area]) -> Result<Vec<Span>, AllocError
 }
 
 /// The first span that holds an address, at each address. Positions count from `first`.
-/// Only want of memory stands against it.
 pub fn first_spans(alloc: Global, spans: &[Span], first: u32) -> Result<Vec<Change>, AllocError>
     requires { first + length spans.now < 2 ^ 32 }
     ensures values { IfOk result (λ changes.
@@ -108,7 +106,6 @@ fn span_changes(alloc: Global, span: Span, position: u32) -> Result<Vec<Change>,
 }
 
 /// The first row that covers an address, at each address of an executable area.
-/// Only want of memory stands against it.
 pub fn covering_rows(alloc: Global, rows: &[Row], areas: &[Area]) -> Result<Vec<Change>, AllocError>
     requires within { All (λ (area : Area). area_end area < 2 ^ 64) areas.now }
     requires few_rows { length rows.now < 2 ^ 32 }

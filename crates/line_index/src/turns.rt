@@ -51,7 +51,6 @@ fn add_turns(
 }
 
 /// The addresses at which each line begins and, in turn with these, ends.
-/// Only want of memory stands against it.
 pub fn turns(
     alloc: Global,
     changes: &[LineChange],
@@ -70,7 +69,7 @@ pub fn turns(
     Ok(lists)
 }
 
-/// An address lies behind a beginning and before the end that follows: it has passed
+/// An address lies after a beginning and before the end that follows: it has passed
 /// an odd number of turns.
 #[inline]
 pub fn is_within(turns: &[Address], address: Address) -> bool

@@ -37,7 +37,7 @@ fn push_escaped(text: &mut Vec<u8>, byte: u8) -> Result<(), AllocError>
     Ok(())
 }
 
-/// The bytes of a part of a path, as they are written. Only want of memory stands against it.
+/// The bytes of a part of a path, as they are written.
 pub fn write_escaped(text: &mut Vec<u8>, bytes: &[u8]) -> Result<(), AllocError>
     ensures text { OnOk result (text.new.items ≡ text.old.items ++ written bytes.now) }
     ensures bytes { All (λ (byte : ℕ). byte < 256) bytes.now }

@@ -91,6 +91,48 @@ begins events chain rest first s is at =
     ap (λ (u : Segment). segments_from u (events_on events rest)) at
     ∙ ap (λ (xs : List ℕ). segments_of (events_on events xs)) (sym is)
 
+-- ---- a path that is one segment
+
+some_left : (s : Segment) (es : List Event) → 1 ≤ length (segments_from s es)
+some_left s [] = omega arith
+some_left s (e ∷ es) = omega (arith, count_step s e es, some_left (after s e) es)
+
+-- a segment that goes on to the last of these events
+abbrev end_on : Segment → List Event → Segment
+end_on s [] = s
+end_on s (e ∷ es) = end_on (record s { end = e.due }) es
+
+one_by : (b : Bool) (s : Segment) (e : Event) (es : List Event)
+    → (length (segments_from (record s { end = e.due }) es) ≡ 1 → segments_from (record s { end = e.due }) es ≡ end_on (record s { end = e.due }) es ∷ [])
+    → length (if b then segments_from (record s { end = e.due }) es else s ∷ segments_from (next_segment s e) es) ≡ 1
+    → (if b then segments_from (record s { end = e.due }) es else s ∷ segments_from (next_segment s e) es) ≡ end_on (record s { end = e.due }) es ∷ []
+one_by true s e es on one = on one
+one_by false s e es on one = absurd (omega (arith, some_left (next_segment s e) es, one))
+
+one_left : (s : Segment) (es : List Event) → length (segments_from s es) ≡ 1 → segments_from s es ≡ end_on s es ∷ []
+one_left s [] one = refl
+one_left s (e ∷ es) one = one_by (e.hart.0 == s.hart.0) s e es (one_left (record s { end = e.due }) es) one
+
+ends_at : (events : List Event) (s : Segment) (x : ℕ) (xs : List ℕ) → s.end ≡ (event_at events x).due
+    → end_on s (events_on events xs) ≡ record s { end = (event_at events (get_or (x ∷ xs) (length xs) 0)).due }
+ends_at events s x [] is = ap (λ (d : ℕ). record s { end = d }) is
+ends_at events s x (y ∷ ys) is = ends_at events (record s { end = (event_at events y).due }) y ys refl
+
+-- it goes from the first event to the last
+pub whole_is : (events : List Event) (chain rest : List ℕ) (first : ℕ) (s : Segment) → chain ≡ first ∷ rest
+    → s ≡ record (first_segment (event_at events first)) { end = (event_at events (get_or chain (length rest) 0)).due }
+    → length (segments_of (events_on events chain)) ≡ 1
+    → segment_line s ≡ flat_map segment_line (segments_of (events_on events chain))
+whole_is events chain rest first s is at one =
+    let from : Segment = first_segment (event_at events first) in
+    let last : get_or chain (length rest) 0 ≡ get_or (first ∷ rest) (length rest) 0 = ap (λ (xs : List ℕ). get_or xs (length rest) 0) is in
+    let same : segments_of (events_on events chain) ≡ segments_from from (events_on events rest) = ap (λ (xs : List ℕ). segments_of (events_on events xs)) is in
+    let only : segments_from from (events_on events rest) ≡ record from { end = (event_at events (get_or (first ∷ rest) (length rest) 0)).due } ∷ [] =
+    one_left from (events_on events rest) (sym (ap length same) ∙ one) ∙ ap (λ (t : Segment). t ∷ []) (ends_at events from first rest refl) in
+    ap segment_line (at ∙ ap (λ (i : ℕ). record from { end = (event_at events i).due }) last)
+    ∙ sym (append-nil (segment_line (record from { end = (event_at events (get_or (first ∷ rest) (length rest) 0)).due })))
+    ∙ sym (ap (flat_map segment_line) (same ∙ only))
+
 -- what is put of a path, and that the segments that are left make the text whole
 pub record IsPut {S : Type 0} (holds : S → Option Text) (faults : S → ℕ) (old new : S) (rest left : Rest) (events : List Event) (s : Segment) (chain : List ℕ) (whole : Text) : Type 0 where
   pub done : Text

@@ -12,8 +12,8 @@ use Rattle.std.proofs.lemmas.Cmp.{nat_cmp_total, on_total, back_total}
 use Rattle.std.proofs.lemmas.List.Sorted.{ranks_by}
 use Rattle.std.proofs.lemmas.List.Sums.{sum_by-cons, sum_by_push, sum_by_more, sum_by-take-le}
 use Rattle.std.proofs.lemmas.List.{take_more, take_all}
-use Rattle.causal_curves.specs.Curves.{sorted_by}
-use Rattle.causal_curves.proofs.Rankings.{stable_is_one}
+use Rattle.profile_lists.specs.Sorted.{sorted_by}
+use Rattle.profile_lists.proofs.Sorting.{stable_is_one}
 use Rattle.critical_chains.specs.declared.event.Event.{Event}
 use Rattle.critical_chains.specs.Path.{chain_of, event_at, ticks, weight}
 use Rattle.coz_types.specs.Labels.{Text}

@@ -8,7 +8,7 @@ use Rattle.coz_types.specs.Labels.{Text}
 use Rattle.coz_types.specs.declared.ending.Ending.{Ending}
 use Rattle.line_index.specs.Lines.{Line, label}
 use Rattle.line_index.specs.Index.{Index}
-use Rattle.causal_curves.specs.Curves.{sorted_by}
+use Rattle.profile_lists.specs.Sorted.{sorted_by}
 use Rattle.critical_chains.specs.declared.event.Event.{Event}
 use Rattle.critical_chains.specs.Path.{event_at}
 use Rattle.path_texts.specs.declared.texts.CriticalPath.{CriticalPath}

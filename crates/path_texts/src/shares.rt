@@ -1,10 +1,11 @@
 //! How much of a critical path each line has.
-ghost use Rattle.std.specs.Prelude.{◌≡◌, ◌+◌, ◌^◌, ◌<◌, ◌≤◌, ◌++◌, [], ◌∷◌, ℕ, Some, map, length, get_or, is_none, if◌then◌else◌, IfOk, OnOk};
+ghost use Rattle.std.specs.Prelude.{◌≡◌, ◌+◌, ◌^◌, ◌<◌, ◌≤◌, ◌++◌, [], ◌∷◌, ℕ, Some, All, map, length, get_or, is_none, if◌then◌else◌, IfOk, OnOk};
 ghost use Rattle.std.specs.List.{filter, range_with_len};
 ghost use Rattle.line_index.specs.Index.{position_at};
 ghost use Rattle.critical_chains.specs.Path.{event_at, weight};
+ghost use Rattle.path_texts.specs.declared.shares.TheConstants.{KEPT_ADDRESSES};
 ghost use Rattle.path_texts.specs.PathText.{events_on, is_on, has_some, shares_of, slept_on, work_elsewhere};
-ghost use Rattle.path_texts.specs.Shares.{share_in, IsCounted};
+ghost use Rattle.path_texts.specs.Shares.{share_in, IsCounted, IsFound};
 
 use coz_lists::Items;
 use coz_types::{Address, HartId, Tick};
@@ -75,6 +76,41 @@ fn position_of(index: &LineIndex, address: Address) -> Option<u32>
     }
 }
 
+/// How many addresses are kept with their lines.
+const KEPT_ADDRESSES: u64 = 1024;
+
+/// An address, and the position of its line.
+#[derive(Clone, Copy)]
+pub struct Found {
+    address: Address,
+    line: Option<u32>,
+}
+
+/// The place of an address among those that are kept: instructions are four bytes apart.
+fn place_of(address: Address) -> usize
+    ensures { result < KEPT_ADDRESSES }
+{
+    (address / 4 % KEPT_ADDRESSES) as usize
+}
+
+/// The position of the line of an address, which is looked up in the index only where another
+/// address stands at its place.
+fn line_of(index: &LineIndex, found: &mut Vec<Found>, address: Address) -> Option<u32>
+    requires room { length found.old.items ≡ KEPT_ADDRESSES }
+    requires right { All (IsFound (position_at index.now)) found.old.items }
+    ensures line { result ≡ position_at index.now address }
+    ensures room { length found.new.items ≡ KEPT_ADDRESSES }
+    ensures right { All (IsFound (position_at index.now)) found.new.items }
+{
+    let place = place_of(address);
+    if found[place].address == address {
+        return found[place].line;
+    }
+    let line = position_of(index, address);
+    found[place] = Found { address, line };
+    line
+}
+
 /// Adds the work of an event to its line.
 fn add_work(lines: &mut Vec<Tick>, line: u32, cost: Tick)
     requires { (k : ℕ) → k < length lines.old.items → get_or lines.old.items k 0 + cost < 2 ^ 64 }
@@ -124,9 +160,15 @@ fn sums_of(
         none: 0,
         sleep: 0,
     };
+    let first = Found {
+        address: 0,
+        line: position_of(index, 0),
+    };
+    let mut found = vec![in alloc; first; KEPT_ADDRESSES as usize]?;
     for number in chain {
         let event = event_of(events, *number);
-        add_event(&mut sums, position_of(index, event.address), &event);
+        let line = line_of(index, &mut found, event.address);
+        add_event(&mut sums, line, &event);
     }
     Ok(sums)
 }

@@ -65,6 +65,16 @@ fn first_segment(event: &Event) -> Segment
     }
 }
 
+/// The segment of the first event of a path, where it goes on to this last one.
+fn whole_segment(first: &Event, last: &Event) -> Segment
+    ensures { result ≡ record (first_segment first.now) { end = last.now.due } }
+{
+    Segment {
+        end: last.due,
+        ..first_segment(first)
+    }
+}
+
 /// How the hart of an event came to carry the path with it.
 fn taken_by(event: &Event) -> Handover
     ensures { result ≡ handover event.now }
@@ -94,6 +104,7 @@ fn after(segment: Segment, event: &Event) -> Segment
 }
 
 /// How many segments a path has.
+#[inline(never)]
 fn count_segments(events: &[Event], chain: &[u32]) -> u64
     ensures { result ≡ length (segments_of (events_on events.now chain.now)) }
 {
@@ -130,13 +141,19 @@ fn put_segment<O: Sink>(to: &mut PutBuffer, out: &mut O, segment: Segment)
     to.push(out, b"\n");
 }
 
-/// The line of a segment, if the event after it ends it.
-fn put_closed<O: Sink>(to: &mut PutBuffer, out: &mut O, segment: Segment, event: &Event)
-    ensures { Gathers O.holds O.faults out.old out.new to.old to.new (closed segment event.now) }
+/// Extends the segment of the event before this one, or puts its line and begins the next one.
+#[inline]
+fn pass<O: Sink>(to: &mut PutBuffer, out: &mut O, segment: &mut Segment, event: &Event)
+    ensures segment { segment.new ≡ after segment.old event.now }
+    ensures text { Gathers O.holds O.faults out.old out.new to.old to.new
+        (closed segment.old event.now) }
 {
-    if event.hart.0 != segment.hart.0 {
-        put_segment(to, out, segment);
+    if event.hart.0 == segment.hart.0 {
+        segment.end = event.due;
+        return;
     }
+    put_segment(to, out, *segment);
+    *segment = after(*segment, event);
 }
 
 /// The line of each segment of a path.
@@ -150,10 +167,42 @@ fn put_segments<O: Sink>(to: &mut PutBuffer, out: &mut O, events: &[Event], chai
     let mut segment = first_segment(&event_of(events, *first));
     for number in rest {
         let event = event_of(events, *number);
-        put_closed(to, out, segment, &event);
-        segment = after(segment, &event);
+        pass(to, out, &mut segment, &event);
     }
     put_segment(to, out, segment);
+}
+
+/// The line of a path that is one segment. Of its events only the first and the last are read.
+fn put_whole<O: Sink>(to: &mut PutBuffer, out: &mut O, events: &[Event], chain: &[u32])
+    requires { length (segments_of (events_on events.now chain.now)) ≡ 1 }
+    ensures { Gathers O.holds O.faults out.old out.new to.old to.new
+        (flat_map segment_line (segments_of (events_on events.now chain.now))) }
+{
+    let Some((first, rest)) = chain.split_first() else {
+        return;
+    };
+    let last = event_of(events, chain[rest.len()]);
+    let segment = whole_segment(&event_of(events, *first), &last);
+    put_segment(to, out, segment);
+}
+
+/// The line of each segment of a path, of which there are this many.
+fn put_each<O: Sink>(
+    to: &mut PutBuffer,
+    out: &mut O,
+    events: &[Event],
+    chain: &[u32],
+    segments: u64,
+)
+    requires { segments ≡ length (segments_of (events_on events.now chain.now)) }
+    ensures { Gathers O.holds O.faults out.old out.new to.old to.new
+        (flat_map segment_line (segments_of (events_on events.now chain.now))) }
+{
+    if segments == 1 {
+        put_whole(to, out, events, chain);
+    } else {
+        put_segments(to, out, events, chain);
+    }
 }
 
 /// How the line at a position is written.
@@ -263,8 +312,9 @@ pub fn write_path<O: Sink>(path: &CriticalPath, index: &LineIndex, out: &mut O) 
 {
     let events = path.trace.events.as_slice();
     let mut buffer = PutBuffer::new();
-    put_head(&mut buffer, out, path, count_segments(events, &path.chain));
-    put_segments(&mut buffer, out, events, &path.chain);
+    let segments = count_segments(events, &path.chain);
+    put_head(&mut buffer, out, path, segments);
+    put_each(&mut buffer, out, events, &path.chain, segments);
     put_parts(&mut buffer, out, &path.shares, index);
     buffer.finish(out)
 }

@@ -6,9 +6,9 @@ use Rattle.machines.specs.Lead.{Before}
 use Rattle.guest_calls.specs.Guest.{Guest}
 use Rattle.line_index.specs.Index.{position_at}
 use Rattle.progress_points.specs.Points.{point_of}
-use Rattle.virtual_run.specs.declared.choice.Choice.{Choice}
-use Rattle.virtual_run.specs.Run.{experiment}
-use Rattle.virtual_run.specs.Seen.{Seen, experiment_of}
+use Rattle.run_engine.specs.declared.choice.Choice.{Choice}
+use Rattle.run_engine.specs.Run.{experiment}
+use Rattle.run_engine.specs.Seen.{Seen, experiment_of}
 use Rattle.virtual_run.specs.Lead.{arguments}
 use Rattle.experiment_plan.specs.declared.experiment.Experiment.{Experiment}
 use Rattle.profile_pool.specs.declared.work.Work.{Work}

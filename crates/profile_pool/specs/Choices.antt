@@ -2,7 +2,7 @@
 use Rattle.std.specs.Prelude.{ℕ, Option, option_map}
 use Rattle.coz_types.specs.declared.TheConstants.{MAX_VISITS}
 use Rattle.guest_memory.specs.Regions.{usual}
-use Rattle.virtual_run.specs.declared.choice.Choice.{Choice}
+use Rattle.run_engine.specs.declared.choice.Choice.{Choice}
 use Rattle.profile_pool.specs.declared.limits.TheConstants.{MAX_RUN_OUTPUT}
 
 -- the position of the selected line, if there is one, its speedup and a budget,

@@ -1,6 +1,6 @@
 -- What leads and machines were made with, and that they were made for the runs of a plan.
 use Rattle.std.specs.Prelude.{◌≡◌, ℕ, Option, None}
-use Rattle.virtual_run.specs.Seen.{Seen}
+use Rattle.run_engine.specs.Seen.{Seen}
 use Rattle.virtual_run.specs.Lead.{arguments}
 use Rattle.profile_pool.specs.declared.work.Runner.{Runner}
 use Rattle.profile_pool.specs.declared.work.Work.{Work}

@@ -9,7 +9,7 @@ use Rattle.experiment_plan.specs.declared.experiment.Experiment.{Experiment}
 use Rattle.line_index.specs.Lines.{label}
 use Rattle.line_index.specs.Index.{Index, position_at}
 use Rattle.progress_points.specs.Points.{Points, point_of}
-use Rattle.virtual_run.specs.Run.{experiment}
+use Rattle.run_engine.specs.Run.{experiment}
 use Rattle.sha2.specs.Sha256.{sha256}
 use Rattle.net_visits.specs.Kept.{visits_bytes, counts_of}
 use Rattle.profile_pool.specs.Choices.{choice_of}

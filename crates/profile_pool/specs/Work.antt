@@ -7,7 +7,7 @@ use Rattle.experiment_plan.specs.declared.experiment.Experiment.{Experiment}
 use Rattle.experiment_plan.specs.ByLine.{by_line}
 use Rattle.profile_pool.specs.declared.work.Work.{Work}
 use Rattle.machines.specs.Delayed.{unbegun}
-use Rattle.virtual_run.specs.Seen.{experiment_of}
+use Rattle.run_engine.specs.Seen.{experiment_of}
 use Rattle.profile_pool.specs.Summaries.{summary_in}
 use Rattle.profile_pool.specs.Made.{parts_made, made_for}
 

@@ -2,7 +2,7 @@
 ghost use Rattle.std.specs.Prelude.{◌≡◌, ◌≤◌, ◌^◌, option_map};
 ghost use Rattle.coz_types.specs.declared.LineId.{LineId};
 ghost use Rattle.coz_types.specs.declared.TheConstants.{MAX_SPEEDUP, MAX_BUDGET};
-ghost use Rattle.virtual_run.specs.Run.{IsChoice};
+ghost use Rattle.run_engine.specs.Run.{IsChoice};
 ghost use Rattle.profile_pool.specs.Choices.{choice_of};
 
 use coz_types::{LineId, MAX_VISITS};

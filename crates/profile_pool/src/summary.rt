@@ -5,7 +5,7 @@ ghost use Rattle.coz_types.specs.declared.ending.Ending.{Ending};
 ghost use Rattle.coz_types.specs.Labels.{is_label};
 ghost use Rattle.coz_types.specs.Ranges.{IsSummary};
 ghost use Rattle.machines.specs.Records.{record_of};
-ghost use Rattle.virtual_run.specs.Seen.{experiment_of};
+ghost use Rattle.run_engine.specs.Seen.{experiment_of};
 ghost use Rattle.profile_pool.specs.Summaries.{summary_of};
 
 use crate::outcomes::outcome;

@@ -6,7 +6,6 @@ pub mod Whole
 pub mod Cuts
 pub mod Texts
 pub mod Ends
-pub mod Spellings
 pub mod Scans
 pub mod Colons
 pub mod Addresses

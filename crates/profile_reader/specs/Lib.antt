@@ -5,6 +5,5 @@ pub mod Judging
 pub mod Reading
 pub mod Told
 pub mod Standing
-pub mod Scanning
 pub mod Parts
 pub mod ItemNames

@@ -4,8 +4,9 @@ ghost use Rattle.profile_reader.specs.EndingSpellings.{is_one_of, causes, ending
 ghost use Rattle.profile_reader.specs.Parts.{parts, parts_behind};
 ghost use Rattle.profile_reader.specs.Reading.{Tells, cause_in, ending_in_parts, ending_in};
 
-use crate::numbers::{address, decimal};
+use crate::numbers::address;
 use coz_types::{Ending, HARTS, HartId, Trap, TrapCause};
+use profile_lists::decimal;
 
 /// The greatest code of an exit.
 const MAX_CODE: u64 = 255;

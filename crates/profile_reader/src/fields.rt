@@ -11,11 +11,11 @@ use crate::cursor::Cursor;
 use crate::digests::digest_of;
 use crate::endings::ending_of;
 use crate::fault::{BookError, BookField};
-use crate::labels::is_label;
 use crate::moves::{fault, item};
 use crate::orders::{comes_after, goes_on, not_before};
 use crate::values::{number_of, value};
 use coz_types::{Digest, Ending, Label, MAX_SPEEDUP, Summary};
+use profile_lists::is_label;
 
 /// The item that is these bytes. Err where another item stands there, or none.
 #[tactic(auto, unfolding(crate::specs::Reading::word_at))]

@@ -7,7 +7,6 @@ mod endings;
 mod fault;
 mod fields;
 mod item;
-mod labels;
 mod lines;
 mod loops;
 mod moves;

@@ -1,33 +1,10 @@
-//! Numbers in a profile's text.
-ghost use Rattle.std.specs.Prelude.{◌≤◌, IfSome, take, drop, codes, bytes_eq};
+//! Addresses in a profile's text.
+ghost use Rattle.std.specs.Prelude.{take, drop, codes, bytes_eq};
 ghost use Rattle.std.specs.Str.Parse.{digits_value};
-ghost use Rattle.coz_types.specs.Labels.{is_decimal};
 ghost use Rattle.profile_reader.specs.EndingSpellings.{is_address};
 ghost use Rattle.profile_reader.specs.Reading.{Tells};
 
 use coz_types::{Address, HexDigits};
-
-/// The number of which the text is the spelling, if it is at most so much.
-pub fn decimal(text: &[u8], most: u64) -> Option<u64>
-    ensures value { Tells (λ n. n) (is_decimal most text.now) (digits_value 10 text.now) result }
-    ensures within { IfSome result (λ n. n ≤ most) }
-{
-    let Ok(word) = str::from_utf8(text) else {
-        return None;
-    };
-    let Ok(number) = word.parse::<u64>() else {
-        return None;
-    };
-    if number > most {
-        return None;
-    }
-    let mut buffer = itoa::Buffer::new();
-    let written = buffer.format(number);
-    if text != written.as_bytes() {
-        return None;
-    }
-    Some(number)
-}
 
 // The digits after `0x`.
 fn behind_mark(text: &[u8]) -> Option<&[u8]>

@@ -3,8 +3,8 @@ ghost use Rattle.std.specs.Prelude.{◌≡◌, ◌≤◌, [], ◌∷◌, None, I
 ghost use Rattle.elf_load.specs.Faults.{fault};
 ghost use Rattle.machines.specs.Delayed.{unbegun};
 ghost use Rattle.virtual_run.specs.Lead.{arguments};
-ghost use Rattle.virtual_run.specs.Run.{IsChoice};
-ghost use Rattle.virtual_run.specs.Seen.{experiment_of};
+ghost use Rattle.run_engine.specs.Run.{IsChoice};
+ghost use Rattle.run_engine.specs.Seen.{experiment_of};
 
 use crate::shortened_run_tests::SMALL;
 use coz_types::{Ending, HartId, Image, LineId};
@@ -31,6 +31,8 @@ pub(crate) enum Guest {
     Join,
     /// Writes three bytes and exits. Its last line never starts.
     Write,
+    /// Hart 0 sleeps for 50 nanoseconds, while hart 1 divides three times and exits.
+    Sleep,
 }
 
 pub(crate) fn source_of(guest: Guest) -> &'static [u8] {
@@ -61,6 +63,12 @@ pub(crate) fn source_of(guest: Guest) -> &'static [u8] {
             li a0, 0\nli a7, 93\necall\nnop\n\
             .data\ntext: .byte 97\n.byte 98\n.byte 99\n"
         }
+        Guest::Sleep => {
+            b"li a0, 69376\nli a7, 220\necall\nbeq a0, x0, child\n\
+            la a0, span\nli a7, 101\necall\nli a7, 94\necall\n\
+            child: div t0, t0, t0\ndiv t0, t0, t0\ndiv t0, t0, t0\nli a7, 93\necall\n\
+            .data\nspan: .dword 0, 50\n"
+        }
     }
 }
 
@@ -68,7 +76,7 @@ pub(crate) fn source_of(guest: Guest) -> &'static [u8] {
 /// and how many starts a run counts.
 type Row = (Guest, u32, u64, Option<Ending>, u64);
 
-static ROWS: [Row; 14] = [
+static ROWS: [Row; 16] = [
     // Hart 0 begins with the line.
     (Guest::One, 1, 100, None, 1),
     (Guest::One, 3, 100, None, 1),
@@ -88,6 +96,9 @@ static ROWS: [Row; 14] = [
     (Guest::Write, 5, 100, None, 1),
     // No hart reaches the line.
     (Guest::Write, 9, 100, Some(Ending::Exited(0)), 0),
+    // Hart 0 begins it as it wakes from its sleep, and hart 1 while hart 0 sleeps.
+    (Guest::Sleep, 8, 100, None, 1),
+    (Guest::Sleep, 13, 100, None, 1),
 ];
 
 /// The file of a source.
@@ -111,7 +122,7 @@ fn table_of<'a>(alloc: Global, image: &Image<'a>) -> Option<LineTable<'a>>
     read_lines(alloc, lines, b"", b"").ok()
 }
 
-fn index_of(alloc: Global, image: &Image) -> Option<LineIndex>
+pub(crate) fn index_of(alloc: Global, image: &Image) -> Option<LineIndex>
     requires { fault image.now.file ≡ None }
 {
     let table = table_of(alloc, image)?;
@@ -156,14 +167,14 @@ fn forks_as<'a>(lead: &Lead<'a>, machine: &mut Machine<'a>, made: &Machine<'a>, 
 
 /// What is run.
 #[derive(Drop)]
-struct Program<'a> {
-    image: &'a Image<'a>,
-    index: &'a LineIndex,
-    points: &'a Points,
+pub(crate) struct Program<'a> {
+    pub(crate) image: &'a Image<'a>,
+    pub(crate) index: &'a LineIndex,
+    pub(crate) points: &'a Points,
 }
 
 /// The run of a choice.
-fn run_of<'a>(
+pub(crate) fn run_of<'a>(
     alloc: Global,
     program: &Program<'a>,
     choice: Choice,

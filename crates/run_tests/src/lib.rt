@@ -6,11 +6,15 @@ mod delay_credits_tests;
 #[cfg(test)]
 mod experiment_claims_tests;
 #[cfg(test)]
+mod fork_tests;
+#[cfg(test)]
 mod hart_schedule_tests;
 #[cfg(test)]
 mod latency_points_tests;
 #[cfg(test)]
 mod lead_tests;
+#[cfg(test)]
+mod machine_tests;
 #[cfg(test)]
 mod path_tests;
 #[cfg(test)]

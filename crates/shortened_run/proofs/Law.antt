@@ -10,16 +10,16 @@ use Rattle.machines.specs.Records.{net_record_of, IsShortened, shortened_record}
 use Rattle.line_index.specs.Index.{Index, position_at}
 use Rattle.progress_points.specs.Points.{Points, point_of}
 use Rattle.guest_calls.specs.Guest.{Guest, first_guest, pc_of}
-use Rattle.virtual_run.specs.declared.choice.Choice.{Choice}
-use Rattle.virtual_run.specs.declared.choice.Setting.{Setting}
-use Rattle.virtual_run.specs.declared.engine.Event.{Event}
-use Rattle.virtual_run.specs.declared.engine.Event.TheVariants.{Woke, Retired}
-use Rattle.virtual_run.specs.declared.engine.Engine.{Engine}
-use Rattle.virtual_run.specs.Advance.{IsAdvance}
-use Rattle.virtual_run.specs.Engine.{events_of}
-use Rattle.virtual_run.specs.Visits.{Visits, visits_of}
-use Rattle.virtual_run.specs.Seen.{machine_view, experiment_with}
-use Rattle.virtual_run.proofs.Law.{reached_next, reached_woken, events_below, recorded_now, last_now, shortened_is}
+use Rattle.run_engine.specs.declared.choice.Choice.{Choice}
+use Rattle.run_engine.specs.declared.choice.Setting.{Setting}
+use Rattle.run_engine.specs.declared.engine.Event.{Event}
+use Rattle.run_engine.specs.declared.engine.Event.TheVariants.{Woke, Retired}
+use Rattle.run_engine.specs.declared.engine.Engine.{Engine}
+use Rattle.run_engine.specs.Advance.{IsAdvance}
+use Rattle.run_engine.specs.Engine.{events_of}
+use Rattle.run_engine.specs.Visits.{Visits, visits_of}
+use Rattle.run_engine.specs.Seen.{machine_view, experiment_with}
+use Rattle.run_engine.proofs.Law.{reached_next, reached_woken, events_below, recorded_now, last_now, shortened_is}
 use Rattle.shortened_run.specs.ShortenedRun.{AreUndelayed, IsShort}
 
 pub none_undelayed : AreUndelayed []

@@ -2,11 +2,11 @@
 use Rattle.std.specs.Prelude.{◌≡◌, ℕ, List, All}
 use Rattle.coz_types.specs.Image.{ImageParts}
 use Rattle.coz_types.specs.declared.record.Visit.{Visit}
-use Rattle.virtual_run.specs.declared.choice.Setting.{Setting}
-use Rattle.virtual_run.specs.declared.engine.Engine.{Engine}
-use Rattle.virtual_run.specs.Run.{IsChoice}
-use Rattle.virtual_run.specs.Engine.{IsReached}
-use Rattle.virtual_run.specs.Seen.{experiment_with}
+use Rattle.run_engine.specs.declared.choice.Setting.{Setting}
+use Rattle.run_engine.specs.declared.engine.Engine.{Engine}
+use Rattle.run_engine.specs.Run.{IsChoice}
+use Rattle.run_engine.specs.Engine.{IsReached}
+use Rattle.run_engine.specs.Seen.{experiment_with}
 
 -- each was kept with no delay
 abbrev pub AreUndelayed : List Visit → Type 0

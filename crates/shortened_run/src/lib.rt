@@ -4,16 +4,16 @@
 ghost use Rattle.std.specs.Prelude.{◌≡◌, ◌≤◌, ◌<◌, Some, IfOk, All, length, map};
 ghost use Rattle.coz_types.specs.declared.TheConstants.{HARTS, MAX_OUTPUT, MAX_VISITS};
 ghost use Rattle.machines.specs.KeptVisits.{net_of};
-ghost use Rattle.virtual_run.specs.Seen.{machine_view, experiment_of};
+ghost use Rattle.run_engine.specs.Seen.{machine_view, experiment_of};
 ghost use Rattle.shortened_run.specs.ShortenedRun.{AreUndelayed};
 
 use coz_types::{Ending, Image, Tick, Visit};
 use line_index::LineIndex;
 use progress_points::Points;
+pub use run_engine::Choice;
+use run_engine::{Engine, Setting};
 use std::alloc::{AllocError, Global};
 use std::marker::Model;
-pub use virtual_run::Choice;
-use virtual_run::{Engine, Setting};
 
 /// The run of a program in which the instructions of its selected line cost less.
 #[derive(Drop)]
@@ -27,8 +27,8 @@ pub struct Short<'a> {
 impl<'a> Model for Short<'a> {
     ghost use Rattle.machines.specs.Shortened.{Shortened, shortened};
     ghost use Rattle.guest_calls.specs.Guest.{Guest};
-    ghost use Rattle.virtual_run.specs.Engine.{events_of};
-    ghost use Rattle.virtual_run.specs.Seen.{Seen, view_in};
+    ghost use Rattle.run_engine.specs.Engine.{events_of};
+    ghost use Rattle.run_engine.specs.Seen.{Seen, view_in};
     ghost use Rattle.shortened_run.specs.ShortenedRun.{IsShort};
 
     ghost Value = { Seen (Shortened Guest) };
@@ -44,7 +44,7 @@ impl<'a> Short<'a> {
     ghost use Rattle.machines.specs.Guest.{enough};
     ghost use Rattle.machines.specs.Shortened.{shortened};
     ghost use Rattle.machines.specs.Records.{net_record_of, IsShortened, shortened_record};
-    ghost use Rattle.virtual_run.specs.Run.{IsChoice};
+    ghost use Rattle.run_engine.specs.Run.{IsChoice};
 
     /// A run that is about to begin.
     pub fn new(

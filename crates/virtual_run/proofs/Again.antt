@@ -13,17 +13,17 @@ use Rattle.machines.specs.Lead.{at_speedup, before}
 use Rattle.machines.proofs.Lead.{all_count}
 use Rattle.delay_credits.specs.Delays.{Delays}
 use Rattle.guest_calls.specs.Guest.{Guest, IsMade, pc_of}
-use Rattle.virtual_run.specs.declared.choice.Setting.{Setting}
-use Rattle.virtual_run.specs.declared.engine.Engine.{Engine}
-use Rattle.virtual_run.specs.Begin.{many}
-use Rattle.virtual_run.specs.Run.{IsChoice, is_selecting, selected_of}
-use Rattle.virtual_run.specs.Engine.{events_of, IsReached, state_of}
+use Rattle.run_engine.specs.declared.choice.Setting.{Setting}
+use Rattle.run_engine.specs.declared.engine.Engine.{Engine}
+use Rattle.run_engine.specs.Begin.{many}
+use Rattle.run_engine.specs.Run.{IsChoice, is_selecting, selected_of}
+use Rattle.run_engine.specs.Engine.{events_of, IsReached, state_of}
 use Rattle.virtual_run.specs.Credited.{Holds}
-use Rattle.virtual_run.specs.Seen.{experiment_with}
+use Rattle.run_engine.specs.Seen.{experiment_with}
 use Rattle.virtual_run.specs.DelayedRun.{IsPaced}
-use Rattle.virtual_run.proofs.Choices.{valid_with}
-use Rattle.virtual_run.proofs.Begin.{one_at_most}
-use Rattle.virtual_run.proofs.Law.{first_made}
+use Rattle.run_engine.proofs.Choices.{valid_with}
+use Rattle.run_engine.proofs.Begin.{one_at_most}
+use Rattle.run_engine.proofs.Law.{first_made}
 
 -- some hart is due
 some_many : (keys : Keys) (k v : ℕ) → key_of keys k ≡ Some v → 1 ≤ many keys

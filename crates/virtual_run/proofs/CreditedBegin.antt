@@ -8,12 +8,12 @@ use Rattle.machines.specs.Places.{change, is_among}
 use Rattle.machines.specs.Delayed.{Hart, idle_hart, is_any, run, stop, credit}
 use Rattle.delay_credits.specs.Delays.{Delays, at, with_start}
 use Rattle.guest_calls.specs.Guest.{Guest}
-use Rattle.virtual_run.specs.declared.engine.Event.{Event}
-use Rattle.virtual_run.specs.declared.engine.Event.TheVariants.{Woke, Retired}
-use Rattle.virtual_run.specs.declared.engine.Turn.{Turn}
-use Rattle.virtual_run.specs.declared.engine.Retired.{Retired as RetiredHart}
-use Rattle.virtual_run.specs.declared.engine.Engine.{Engine}
-use Rattle.virtual_run.specs.Begin.{started_by}
+use Rattle.run_engine.specs.declared.engine.Event.{Event}
+use Rattle.run_engine.specs.declared.engine.Event.TheVariants.{Woke, Retired}
+use Rattle.run_engine.specs.declared.engine.Turn.{Turn}
+use Rattle.run_engine.specs.declared.engine.Retired.{Retired as RetiredHart}
+use Rattle.run_engine.specs.declared.engine.Engine.{Engine}
+use Rattle.run_engine.specs.Begin.{started_by}
 use Rattle.virtual_run.specs.Credited.{with_credits, with_starts, with_rest, with_begun, moment_of, AllBelow, AllRun, CanBegin, CanWake, CanSettle, CanFollow, IsAlone}
 use Rattle.virtual_run.proofs.CreditedLists.{among_rest, credits_length, raises_length, starts_run}
 

@@ -40,26 +40,26 @@ use Rattle.guest_calls.specs.Guest.{Guest, making, IsMade, pc_of, with_wake, fir
 use Rattle.guest_calls.specs.Orderly.{IsOrderly}
 use Rattle.guest_calls.specs.Retire.{next_of, retire}
 use Rattle.guest_calls.proofs.Law.{retire-made, running_low, timed_low, running_awake, others_idle, own_trap}
-use Rattle.virtual_run.specs.declared.choice.Setting.{Setting}
-use Rattle.virtual_run.specs.declared.engine.Event.{Event}
-use Rattle.virtual_run.specs.declared.engine.Event.TheVariants.{Woke, Retired}
-use Rattle.virtual_run.specs.declared.engine.Engine.{Engine}
-use Rattle.virtual_run.specs.Begin.{started_by, keys_at_rest, many, AreIdle}
-use Rattle.virtual_run.specs.Ending.{ending_of}
-use Rattle.virtual_run.specs.Visits.{Visits, visits_of}
-use Rattle.virtual_run.specs.Run.{IsChoice}
-use Rattle.virtual_run.specs.Engine.{events_of, IsReached, IsSteady, IsFirst}
-use Rattle.virtual_run.specs.Advance.{IsRetired, IsWoken, IsAdvance}
+use Rattle.run_engine.specs.declared.choice.Setting.{Setting}
+use Rattle.run_engine.specs.declared.engine.Event.{Event}
+use Rattle.run_engine.specs.declared.engine.Event.TheVariants.{Woke, Retired}
+use Rattle.run_engine.specs.declared.engine.Engine.{Engine}
+use Rattle.run_engine.specs.Begin.{started_by, keys_at_rest, many, AreIdle}
+use Rattle.run_engine.specs.Ending.{ending_of}
+use Rattle.run_engine.specs.Visits.{Visits, visits_of}
+use Rattle.run_engine.specs.Run.{IsChoice}
+use Rattle.run_engine.specs.Engine.{events_of, IsReached, IsSteady, IsFirst}
+use Rattle.run_engine.specs.Advance.{IsRetired, IsWoken, IsAdvance}
 use Rattle.virtual_run.specs.Credited.{raise_ticks, with_credits, with_starts, with_raises, with_rest, with_begun, credits_after, moment_of, credited_by, Runs, AllRun, AllBelow, Holds, CanBegin, CanWake, CanSettle, CanFollow}
 use Rattle.virtual_run.specs.Credited as credited
-use Rattle.virtual_run.specs.Seen.{Seen, view_in, experiment_with, experiment_of}
+use Rattle.run_engine.specs.Seen.{Seen, view_in, experiment_with, experiment_of}
 use Rattle.virtual_run.specs.DelayedRun.{net_due_of, account_in, outcome_of, IsOfAHart, IsSmall, Happens, AgreesThroughout, EndsOnce, IsPaced}
 use Rattle.machines.specs.KeptVisits.{visit_as}
-use Rattle.virtual_run.proofs.Keys.{has_place, rested_length, next_is}
-use Rattle.virtual_run.proofs.Many.{many_few}
+use Rattle.run_engine.proofs.Keys.{has_place, rested_length, next_is}
+use Rattle.run_engine.proofs.Many.{many_few}
 use Rattle.cost_table.proofs.ByOpcode.{few_cycles}
-use Rattle.virtual_run.proofs.Begin.{one_at_most}
-use Rattle.virtual_run.proofs.Law.{lawful_run, followed_by, steady, reached_next, reached_woken, IsTurn, started_idle, none_own}
+use Rattle.run_engine.proofs.Begin.{one_at_most}
+use Rattle.run_engine.proofs.Law.{lawful_run, followed_by, steady, reached_next, reached_woken, IsTurn, started_idle, none_own}
 use Rattle.virtual_run.proofs.Credited.{among_filter, rest_of, with_rest_is, holds_begin}
 use Rattle.virtual_run.proofs.CreditedLists.{at_latest, change_length, raises_length, raises_latest, start_is, starts_run}
 use Rattle.virtual_run.proofs.CreditedBegin.{others_among, begun_places}

@@ -20,18 +20,18 @@ use Rattle.guest_calls.specs.Guest.{Guest}
 use Rattle.guest_calls.specs.Orderly.{IsOrderly}
 use Rattle.guest_calls.specs.Retire.{next_of}
 use Rattle.guest_calls.proofs.Law.{timed_low}
-use Rattle.virtual_run.specs.declared.choice.Choice.{Choice}
-use Rattle.virtual_run.specs.declared.choice.Setting.{Setting}
-use Rattle.virtual_run.specs.declared.engine.Engine.{Engine}
-use Rattle.virtual_run.specs.Begin.{many}
-use Rattle.virtual_run.specs.Run.{IsChoice}
-use Rattle.virtual_run.specs.Engine.{events_of, IsReached, IsSteady}
+use Rattle.run_engine.specs.declared.choice.Choice.{Choice}
+use Rattle.run_engine.specs.declared.choice.Setting.{Setting}
+use Rattle.run_engine.specs.declared.engine.Engine.{Engine}
+use Rattle.run_engine.specs.Begin.{many}
+use Rattle.run_engine.specs.Run.{IsChoice}
+use Rattle.run_engine.specs.Engine.{events_of, IsReached, IsSteady}
 use Rattle.virtual_run.specs.Credited.{raise_ticks, with_one_raise, with_raises, Holds, AllRun, AllMade}
-use Rattle.virtual_run.specs.Seen.{experiment_with}
+use Rattle.run_engine.specs.Seen.{experiment_with}
 use Rattle.virtual_run.specs.DelayedRun.{IsPaced}
 use Rattle.virtual_run.specs.Lead.{with_sooner}
-use Rattle.virtual_run.proofs.Choices.{valid_at}
-use Rattle.virtual_run.proofs.Keys.{has_place}
+use Rattle.run_engine.proofs.Choices.{valid_at}
+use Rattle.run_engine.proofs.Keys.{has_place}
 use Rattle.virtual_run.proofs.Credited.{among_filter, among_more, held_raise}
 use Rattle.virtual_run.proofs.CreditedLists.{raises_length}
 use Rattle.virtual_run.proofs.CreditedSteps.{runs_held}

@@ -13,14 +13,14 @@ use Rattle.machines.proofs.Fork.{same_lead}
 use Rattle.machines.proofs.Lead.{standing_begins, begin_starts, before_starts, same_before}
 use Rattle.machines.proofs.LeadForks.{before_ending, before_retired, before_wakes, ended_begins}
 use Rattle.guest_calls.specs.Guest.{Guest}
-use Rattle.virtual_run.specs.declared.choice.Choice.{Choice}
-use Rattle.virtual_run.specs.declared.choice.Setting.{Setting}
-use Rattle.virtual_run.specs.declared.engine.Engine.{Engine}
+use Rattle.run_engine.specs.declared.choice.Choice.{Choice}
+use Rattle.run_engine.specs.declared.choice.Setting.{Setting}
+use Rattle.run_engine.specs.declared.engine.Engine.{Engine}
 use Rattle.virtual_run.specs.DelayedRun.{IsPaced}
-use Rattle.virtual_run.specs.Seen.{Seen, experiment_with, experiment_of}
-use Rattle.virtual_run.specs.Run.{IsChoice}
-use Rattle.virtual_run.proofs.Choices.{valid_at, valid_with}
-use Rattle.virtual_run.specs.Engine.{events_of}
+use Rattle.run_engine.specs.Seen.{Seen, experiment_with, experiment_of}
+use Rattle.run_engine.specs.Run.{IsChoice}
+use Rattle.run_engine.proofs.Choices.{valid_at, valid_with}
+use Rattle.run_engine.specs.Engine.{events_of}
 use Rattle.virtual_run.specs.Lead.{arguments, is_unstarted, starts_next, Stands, IsShared, IsLead}
 use Rattle.virtual_run.proofs.CreditedRun.{seen_of, ending_now, events_now, starts_now, IsAt, at_next, at_smaller, going_first}
 use Rattle.virtual_run.proofs.Forks.{sped_setting}

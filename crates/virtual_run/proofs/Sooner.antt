@@ -4,10 +4,10 @@ use Rattle.std.proofs.lemmas.Bool.{cases_eq}
 use Rattle.std.proofs.lemmas.List.{length-set}
 use Rattle.hart_schedule.specs.Keys.{Keys, key_of, with_key, without_key}
 use Rattle.machines.specs.Places.{is_among, AllApart}
-use Rattle.virtual_run.specs.Begin.{many}
+use Rattle.run_engine.specs.Begin.{many}
 use Rattle.virtual_run.specs.Lead.{sooner_by, with_sooner}
-use Rattle.virtual_run.proofs.Keys.{has_place, with_key_at, without_key_at}
-use Rattle.virtual_run.proofs.Many.{many_with, many_without}
+use Rattle.run_engine.proofs.Keys.{has_place, with_key_at, without_key_at}
+use Rattle.run_engine.proofs.Many.{many_with, many_without}
 
 -- n ticks sooner, if it is due
 abbrev pub less : ℕ → Option ℕ → Option ℕ

@@ -7,11 +7,11 @@ use Rattle.machines.specs.Steps.{Steps, Passes}
 use Rattle.machines.specs.Standing.{standing}
 use Rattle.machines.proofs.Stepping.{passes_none, passes_then, wakes_then}
 use Rattle.guest_calls.specs.Guest.{Guest}
-use Rattle.virtual_run.specs.declared.engine.Event.{Event}
-use Rattle.virtual_run.specs.declared.engine.Event.TheVariants.{Woke, Retired}
-use Rattle.virtual_run.specs.Advance.{is_wake}
+use Rattle.run_engine.specs.declared.engine.Event.{Event}
+use Rattle.run_engine.specs.declared.engine.Event.TheVariants.{Woke, Retired}
+use Rattle.run_engine.specs.Advance.{is_wake}
 use Rattle.virtual_run.specs.DelayedRun.{Happens}
-use Rattle.virtual_run.specs.Seen.{Seen, experiment_of}
+use Rattle.run_engine.specs.Seen.{Seen, experiment_of}
 use Rattle.virtual_run.proofs.CreditedRun.{IsAt, at_next, at_smaller}
 
 -- wakes so far, or a retirement after them, or nothing, as the run had ended

@@ -11,10 +11,10 @@ use Rattle.delay_credits.specs.Delays.{Delays, hart_at, pause_of, at, with_start
 use Rattle.delay_credits.specs.Ticks.{without_work}
 use Rattle.guest_calls.specs.Guest.{Guest, IsMade}
 use Rattle.guest_calls.specs.Retire.{next_of}
-use Rattle.virtual_run.specs.declared.engine.Event.{Event}
-use Rattle.virtual_run.specs.declared.engine.Event.TheVariants.{Woke, Retired}
-use Rattle.virtual_run.specs.declared.engine.Engine.{Engine}
-use Rattle.virtual_run.specs.Begin.{started_by}
+use Rattle.run_engine.specs.declared.engine.Event.{Event}
+use Rattle.run_engine.specs.declared.engine.Event.TheVariants.{Woke, Retired}
+use Rattle.run_engine.specs.declared.engine.Engine.{Engine}
+use Rattle.run_engine.specs.Begin.{started_by}
 
 -- each of these harts is held without its work
 abbrev pub AreHeld : List Hart → List Hart → Type 0

@@ -16,13 +16,13 @@ use Rattle.machines.specs.Standing.{standing}
 use Rattle.machines.specs.Lead.{before}
 use Rattle.delay_credits.specs.Delays.{Delays}
 use Rattle.guest_calls.specs.Guest.{Guest, making}
-use Rattle.virtual_run.specs.declared.choice.Setting.{Setting}
-use Rattle.virtual_run.specs.declared.engine.Event.{Event}
-use Rattle.virtual_run.specs.declared.engine.Event.TheVariants.{Woke, Retired}
-use Rattle.virtual_run.specs.declared.engine.Engine.{Engine}
-use Rattle.virtual_run.specs.Run.{IsChoice}
-use Rattle.virtual_run.specs.Engine.{events_of, IsReached}
-use Rattle.virtual_run.specs.Seen.{experiment_with}
+use Rattle.run_engine.specs.declared.choice.Setting.{Setting}
+use Rattle.run_engine.specs.declared.engine.Event.{Event}
+use Rattle.run_engine.specs.declared.engine.Event.TheVariants.{Woke, Retired}
+use Rattle.run_engine.specs.declared.engine.Engine.{Engine}
+use Rattle.run_engine.specs.Run.{IsChoice}
+use Rattle.run_engine.specs.Engine.{events_of, IsReached}
+use Rattle.run_engine.specs.Seen.{experiment_with}
 use Rattle.virtual_run.specs.Credited.{Holds}
 
 -- the net moment at which a hart of a run that goes on retires: as many ticks from now on as it

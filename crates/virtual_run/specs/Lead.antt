@@ -6,8 +6,8 @@ use Rattle.machines.specs.Delayed.{Delayed, is_any, events, delayed}
 use Rattle.machines.specs.Standing.{standing}
 use Rattle.machines.specs.Lead.{Before, at_speedup, before}
 use Rattle.guest_calls.specs.Guest.{Guest}
-use Rattle.virtual_run.specs.Seen.{Seen, experiment_of}
-use Rattle.virtual_run.specs.Run.{IsChoice}
+use Rattle.run_engine.specs.Seen.{Seen, experiment_of}
+use Rattle.run_engine.specs.Run.{IsChoice}
 
 -- what a run was made with, apart from the selected line and the speedup
 abbrev pub arguments : {State : Type 0} → Seen State → Seen (Unit {0})

@@ -1,10 +1,3 @@
-pub mod Begin
-pub mod Ending
-pub mod Run
-pub mod Engine
-pub mod Advance
-pub mod Seen
-pub mod Visits
 pub mod Credited
 pub mod DelayedRun
 pub mod Lead

@@ -9,12 +9,11 @@ ghost use Rattle.delay_credits.specs.Delays.{hart_at, pause_of, at, with_stop};
 ghost use Rattle.guest_calls.specs.Guest.{IsMade};
 ghost use Rattle.virtual_run.specs.Credited.{raise_ticks, with_credits, with_starts, with_raises, with_begun, with_rest, with_wake, credits_after, moment_of, credited_by, CanFollow, AllRest, AllBelow, AllRun, AllMade, CanBegin, IsAlone};
 
-use crate::engine::has_any;
-use crate::{Engine, Event, Retired};
 use cost_table::raise;
 use coz_types::{HartId, Tick};
 use delay_credits::Credits;
 use guest_calls::{Fate, Guest};
+use run_engine::{Engine, Event, Retired, has_any};
 
 /// Each of these harts is credited with what its total lacks of its waker's,
 /// which is all that was raised.

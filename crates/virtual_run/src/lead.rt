@@ -1,13 +1,14 @@
 //! Leads: what the runs of a line have in common, whatever the speedup.
 ghost use Rattle.std.specs.Prelude.{◌≡◌, ◌≤◌, [], ◌∷◌, Some, not, is_some, IfOk, IsSome, IsTrue};
 ghost use Rattle.coz_types.specs.declared.TheConstants.{MAX_SPEEDUP};
-ghost use Rattle.virtual_run.specs.Seen.{machine_view, experiment_of};
+ghost use Rattle.run_engine.specs.Seen.{machine_view, experiment_of};
 ghost use Rattle.virtual_run.specs.Lead.{arguments, starts_next, Stands, IsShared};
 
-use crate::{Choice, Machine};
+use crate::Machine;
 use coz_types::{Ending, Image, LineId};
 use line_index::LineIndex;
 use progress_points::Points;
+use run_engine::Choice;
 use std::alloc::{AllocError, Global};
 use std::marker::Model;
 
@@ -27,7 +28,7 @@ impl<'a> Model for Lead<'a> {
     ghost use Rattle.machines.specs.Delayed.{events};
     ghost use Rattle.machines.specs.Lead.{Before, before};
     ghost use Rattle.guest_calls.specs.Guest.{Guest};
-    ghost use Rattle.virtual_run.specs.Seen.{Seen, experiment_of};
+    ghost use Rattle.run_engine.specs.Seen.{Seen, experiment_of};
     ghost use Rattle.virtual_run.specs.Lead.{IsLead};
 
     ghost Value = { Seen (Before Guest) };
@@ -48,7 +49,7 @@ impl<'a> Lead<'a> {
     ghost use Rattle.machines.specs.Delayed.{unbegun, begin, events};
     ghost use Rattle.machines.specs.Standing.{standing};
     ghost use Rattle.machines.specs.Lead.{at_speedup};
-    ghost use Rattle.virtual_run.specs.Run.{IsChoice};
+    ghost use Rattle.run_engine.specs.Run.{IsChoice};
 
     /// Before the first beginning, that of hart 0. The speedup isn't read.
     pub fn new(

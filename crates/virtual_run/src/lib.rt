@@ -6,15 +6,10 @@
 #![tactic(auto)]
 
 mod accounts;
-mod choice;
-mod engine;
+mod hasten;
 mod lead;
 mod machine;
-mod start;
-mod visits;
 
-pub use choice::{Choice, Setting};
-pub use engine::{Engine, Event, Retired, Turn};
 pub use lead::Lead;
 pub use machine::Machine;
-pub use visits::Visits;
+pub use run_engine::Choice;

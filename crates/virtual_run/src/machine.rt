@@ -1,23 +1,30 @@
 //! The delayed machine: runs under virtual time with the delays of a selected line.
-ghost use Rattle.std.specs.Prelude.{◌≡◌, ◌+◌, ◌-◌, ◌^◌, ◌≤◌, ◌<◌, false, map, length, Some, None, IfOk, IfSome, IsSome, MatchOption, All, option_map, is_some};
+ghost use Rattle.std.specs.Prelude.{◌≡◌, ◌+◌, ◌-◌, ◌^◌, ◌≤◌, ◌<◌, false, map, length, Some, None, IfOk, IfSome, IsSome, MatchOption, All, option_map, is_some, not, ◌&&◌, ◌==◌};
 ghost use Rattle.std.specs.List.Sorted.{IsNonDecreasingBy};
 ghost use Rattle.coz_types.specs.declared.TheConstants.{MAX_SPEEDUP, MAX_OUTPUT, MAX_VISITS};
 ghost use Rattle.hart_schedule.specs.Keys.{key_of};
 ghost use Rattle.delay_credits.specs.Delays.{account_as};
-ghost use Rattle.virtual_run.specs.Seen.{machine_view, experiment_of};
+ghost use Rattle.run_engine.specs.Seen.{machine_view, experiment_of};
 ghost use Rattle.virtual_run.specs.Lead.{arguments, is_unstarted};
 ghost use Rattle.virtual_run.specs.DelayedRun.{net_due_of, account_in, outcome_of, IsSmall, Happens, AgreesThroughout, EndsOnce};
 ghost use Rattle.machines.specs.KeptVisits.{visit_as};
 
 use crate::accounts::{follow, raise_harts, raise_selected};
-use crate::engine::{FIRST, is_wake};
-use crate::{Choice, Engine, Event, Setting};
+use crate::hasten::hasten_selected;
 use coz_types::{Account, Ending, HARTS, HartId, Image, LineId, Outcome, Tick, Visit};
 use delay_credits::Credits;
 use line_index::LineIndex;
 use progress_points::Points;
+use run_engine::{Choice, Engine, Event, FIRST, Setting, is_wake};
 use std::alloc::{AllocError, Global};
 use std::marker::Model;
+
+/// Whether the run of an engine has not ended and has counted no start.
+fn is_unstarted(engine: &Engine) -> bool
+    ensures { result ≡ (not (is_some engine.now.ending) && (engine.now.starts == 0)) }
+{
+    engine.ending.is_none() && engine.starts == 0
+}
 
 /// The delayed run of a program: as an instruction of the selected line starts, every other hart
 /// that runs or sleeps is made to pause for what that instruction is to be spared.
@@ -36,8 +43,8 @@ impl<'a> Model for Machine<'a> {
     ghost use Rattle.machines.specs.Delayed.{Delayed};
     ghost use Rattle.machines.specs.Standing.{standing};
     ghost use Rattle.guest_calls.specs.Guest.{Guest};
-    ghost use Rattle.virtual_run.specs.Seen.{Seen, view_in};
-    ghost use Rattle.virtual_run.specs.Engine.{events_of};
+    ghost use Rattle.run_engine.specs.Seen.{Seen, view_in};
+    ghost use Rattle.run_engine.specs.Engine.{events_of};
     ghost use Rattle.virtual_run.specs.DelayedRun.{IsPaced};
 
     ghost Value = { Seen (Delayed Guest) };
@@ -58,7 +65,7 @@ impl<'a> Machine<'a> {
     ghost use Rattle.machines.specs.Standing.{standing, delayed_record};
     ghost use Rattle.machines.specs.Lead.{at_speedup, before};
     ghost use Rattle.machines.specs.Records.{net, record_of, IsDelayed, IsShortened, shortened_record};
-    ghost use Rattle.virtual_run.specs.Run.{IsChoice};
+    ghost use Rattle.run_engine.specs.Run.{IsChoice};
 
     /// A run that is about to begin.
     pub fn new(
@@ -175,7 +182,7 @@ impl<'a> Machine<'a> {
     fn is_unstarted(&self) -> bool
         ensures { result ≡ is_unstarted self.now.state }
     {
-        self.engine.is_unstarted()
+        is_unstarted(&self.engine)
     }
 
     /// How the run has ended, if it has.
@@ -197,7 +204,7 @@ impl<'a> Machine<'a> {
         ensures stays { is_unstarted self.old.state ≡ false → self.new ≡ self.old }
         ensures rest { self.new ≡ record self.old { state = self.new.state } }
     {
-        let mut going = self.engine.is_unstarted();
+        let mut going = is_unstarted(&self.engine);
         while going {
             self.event();
             going = self.is_unstarted();
@@ -226,7 +233,7 @@ impl<'a> Machine<'a> {
         self.credits.copy_from(&lead.credits);
         self.moment = lead.moment;
         raise_selected(&mut self.credits, &self.engine, speedup, self.moment);
-        self.engine.hasten(speedup);
+        hasten_selected(&mut self.engine, speedup);
     }
 
     /// Makes this machine another one at speedup 0 that stands where it was made,

@@ -2,7 +2,7 @@ use Rattle.std.proofs.Common.{ℕ, ◌∙◌, ap}
 use Rattle.machines.specs.Lead.{Before}
 use Rattle.machines.specs.Records.{NetRecord}
 use Rattle.guest_calls.specs.Guest.{Guest}
-use Rattle.virtual_run.specs.Seen.{Seen, experiment_of}
+use Rattle.run_engine.specs.Seen.{Seen, experiment_of}
 use Rattle.virtual_run.specs.Lead.{arguments}
 use Rattle.latency_points.specs.Moments.{numbers_of}
 use Rattle.command_answers.specs.Latencies.{latency_printed}

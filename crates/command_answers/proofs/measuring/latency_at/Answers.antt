@@ -6,8 +6,8 @@ use Rattle.machines.specs.Delayed.{Delayed}
 use Rattle.machines.specs.Records.{Record, net, record_of}
 use Rattle.machines.specs.Standing.{delayed_record}
 use Rattle.guest_calls.specs.Guest.{Guest}
-use Rattle.virtual_run.specs.Run.{experiment}
-use Rattle.virtual_run.specs.Seen.{Seen, experiment_of}
+use Rattle.run_engine.specs.Run.{experiment}
+use Rattle.run_engine.specs.Seen.{Seen, experiment_of}
 use Rattle.virtual_run.specs.Lead.{arguments}
 use Rattle.command_answers.specs.Measured.{measured_in}
 use Rattle.command_answers.proofs.measuring.latency_at.Goals as goal

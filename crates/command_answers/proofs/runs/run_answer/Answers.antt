@@ -1,6 +1,6 @@
 use Rattle.std.proofs.Common.{◌∙◌, ap}
 use Rattle.machines.specs.Standing.{delayed_record}
-use Rattle.virtual_run.specs.Seen.{experiment_of}
+use Rattle.run_engine.specs.Seen.{experiment_of}
 use Rattle.command_answers.specs.Verdict.{run_verdict}
 use Rattle.command_answers.proofs.runs.run_answer.Goals as goal
 

@@ -1,6 +1,6 @@
 use Rattle.std.proofs.Common.{rules, ◌≡◌, ◌-◌, false, length, get_or, sym, ap₂, ◌∙◌, arith}
 use Rattle.coz_page.specs.Page.{have_one_point}
-use Rattle.causal_curves.proofs.FirstGroups.{group_at, at_place}
+use Rattle.profile_lists.proofs.FirstGroups.{group_at, at_place}
 use Rattle.coz_page.proofs.groups.group_length.Goals as goal
 
 pub returns-then-not-have_one_point-clause-group : goal.returns-then-not-have_one_point-clause-group

@@ -1,5 +1,5 @@
 use Rattle.coz_page.specs.Page.{have_one_point}
-use Rattle.causal_curves.proofs.FirstGroups.{IsRun}
+use Rattle.profile_lists.proofs.FirstGroups.{IsRun}
 use Rattle.coz_page.proofs.groups.group_length.Given as goal
 
 abbrev pub invariant-loop-i : goal.invariant-loop-i

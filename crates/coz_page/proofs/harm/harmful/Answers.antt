@@ -1,7 +1,7 @@
 use Rattle.std.proofs.Common.{rules, tests, ◌≡◌, ap, ◌∙◌}
 use Rattle.std.specs.List.{filter}
 use Rattle.std.proofs.lemmas.Fn.{filter_same}
-use Rattle.causal_curves.specs.Curves.{sorted_by}
+use Rattle.profile_lists.specs.Sorted.{sorted_by}
 use Rattle.coz_page.specs.Harm.{hurts, harms_before}
 use Rattle.coz_page.proofs.Harms.{harms_sorted}
 use Rattle.coz_page.proofs.harm.harmful.Goals as goal

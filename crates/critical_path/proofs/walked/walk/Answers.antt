@@ -4,7 +4,7 @@ use Rattle.machines.specs.Guest.{Experiment}
 use Rattle.line_index.specs.Index.{position_at}
 use Rattle.progress_points.specs.Points.{point_of}
 use Rattle.guest_calls.specs.Guest.{Guest, pc_of}
-use Rattle.virtual_run.proofs.Law.{none_is}
+use Rattle.run_engine.proofs.Law.{none_is}
 use Rattle.critical_chains.specs.declared.event.Event.{Event}
 use Rattle.critical_chains.specs.declared.event.Trace.{Trace}
 use Rattle.critical_chains.specs.Path.{event_at, last_of, Linked}

@@ -1,7 +1,7 @@
 use Rattle.std.proofs.Common.{rules, ◌∙◌, ℕ, List, length, ap, map}
 use Rattle.std.specs.List.{filter, range_with_len}
 use Rattle.line_index.specs.Index.{position_at}
-use Rattle.causal_curves.specs.Curves.{sorted_by}
+use Rattle.profile_lists.specs.Sorted.{sorted_by}
 use Rattle.path_texts.specs.PathText.{events_on, has_more, has_some}
 use Rattle.path_texts.specs.Shares.{share_in}
 use Rattle.path_texts.proofs.PathShares.{shares_are, sharing}

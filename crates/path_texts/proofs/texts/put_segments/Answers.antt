@@ -19,9 +19,9 @@ loop-number-preserved g c =
     let known = c.loop-number.invariant in
     record {
       done = known.done ++ closed c.loop-number.segment c.event_of-event.result;
-      gathers = gathers_then known.gathers c.put_closed.ensures;
+      gathers = gathers_then known.gathers c.pass.ensures.text;
       is =
-          text_more c.args.events.now c.in-Some.rest.now c.loop-number.number-index c.loop-number.segment c.after-segment.result c.event_of-event.result (search rules) (search rules) c.after-segment.ensures known.done _ known.is;
+          text_more c.args.events.now c.in-Some.rest.now c.loop-number.number-index c.loop-number.segment c.pass.new.segment c.event_of-event.result (search rules) (search rules) c.pass.ensures.segment known.done _ known.is;
     }
 
 pub returns : goal.returns

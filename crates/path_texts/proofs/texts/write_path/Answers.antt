@@ -11,8 +11,8 @@ pub returns : goal.returns
 returns g c =
     let path = c.args.path.now in
     let same = c.as_slice-events.ensures in
-    let count = c.count_segments.ensures ∙ ap₂ (λ (es : List Event) (is : List ℕ). length (segments_of (events_on es is))) same c.deref.ensures.value in
-    let head = subst (λ (r : Rest). Gathers g.O.Sink.holds g.O.Sink.faults c.args.out.now c.put_head.new.out r c.put_head.new.to (head_lines path.trace.ending path.net (length path.trace.events) c.count_segments.result)) c.new-buffer.ensures c.put_head.ensures in
+    let count = c.count_segments-segments.ensures ∙ ap₂ (λ (es : List Event) (is : List ℕ). length (segments_of (events_on es is))) same c.deref.ensures.value in
+    let head = subst (λ (r : Rest). Gathers g.O.Sink.holds g.O.Sink.faults c.args.out.now c.put_head.new.out r c.put_head.new.to (head_lines path.trace.ending path.net (length path.trace.events) c.count_segments-segments.result)) c.new-buffer.ensures c.put_head.ensures in
     let counted = gathers_as (ap (head_lines path.trace.ending path.net (length path.trace.events)) count) head in
-    let segments = gathers_as (ap₂ (λ (es : List Event) (is : List ℕ). flat_map segment_line (segments_of (events_on es is))) same c.deref-2.ensures.value) c.put_segments.ensures in
+    let segments = gathers_as (ap₂ (λ (es : List Event) (is : List ℕ). flat_map segment_line (segments_of (events_on es is))) same c.deref-2.ensures.value) c.put_each.ensures in
     puts_whole (gathers_then (gathers_then counted segments) c.put_parts.ensures) c.finish.ensures

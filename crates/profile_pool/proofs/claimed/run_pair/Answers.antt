@@ -3,7 +3,7 @@ use Rattle.std.proofs.lemmas.Option.{get_or_from_slice_get}
 use Rattle.line_index.specs.Lines.{label}
 use Rattle.machines.specs.Records.{record_of}
 use Rattle.machines.specs.Standing.{delayed_record}
-use Rattle.virtual_run.specs.Seen.{Seen, experiment_of}
+use Rattle.run_engine.specs.Seen.{Seen, experiment_of}
 use Rattle.profile_pool.specs.Summaries.{summary_in}
 use Rattle.profile_pool.specs.Made.{parts_made}
 use Rattle.profile_pool.proofs.Summing.{summary_at}

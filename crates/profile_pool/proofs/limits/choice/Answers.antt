@@ -2,7 +2,7 @@ use Rattle.std.proofs.Common.{◌≡◌, ◌*◌, ℕ, refl, ap, ◌∙◌}
 use Rattle.std.specs.Prelude.{Option, Some, None, option_map}
 use Rattle.coz_types.specs.declared.LineId.{LineId}
 use Rattle.guest_memory.specs.declared.Layout.{Layout}
-use Rattle.virtual_run.specs.declared.choice.Choice.{Choice}
+use Rattle.run_engine.specs.declared.choice.Choice.{Choice}
 use Rattle.profile_pool.proofs.limits.choice.Goals as goal
 
 -- a line by its number is the line

@@ -2,7 +2,7 @@ use Rattle.std.proofs.Common.{◌∙◌, ap, sym, subst, length, map, ◌≤◌,
 use Rattle.coz_types.specs.Ranges.{IsSummary}
 use Rattle.sha2.specs.Sha256.{sha256}
 use Rattle.machines.specs.Records.{record_of}
-use Rattle.virtual_run.specs.Seen.{experiment_of}
+use Rattle.run_engine.specs.Seen.{experiment_of}
 use Rattle.machines.specs.KeptVisits.{net_of}
 use Rattle.net_visits.specs.Kept.{counts_of}
 use Rattle.profile_pool.proofs.Within.{IsWithin, summary_is}

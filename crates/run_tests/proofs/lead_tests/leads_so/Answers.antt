@@ -2,7 +2,7 @@ use Rattle.std.proofs.Common.{◌≡◌, [], ◌∷◌, refl, ap, subst, sym}
 use Rattle.machines.specs.Delayed.{unbegun}
 use Rattle.machines.specs.Lead.{Before}
 use Rattle.guest_calls.specs.Guest.{Guest}
-use Rattle.virtual_run.specs.Seen.{Seen, experiment_of}
+use Rattle.run_engine.specs.Seen.{Seen, experiment_of}
 use Rattle.virtual_run.specs.Lead.{arguments}
 use Rattle.run_tests.proofs.lead_tests.leads_so.Goals as goal
 

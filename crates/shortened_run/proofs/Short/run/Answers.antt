@@ -3,10 +3,10 @@ use Rattle.line_index.specs.Index.{position_at}
 use Rattle.progress_points.specs.Points.{point_of}
 use Rattle.machines.specs.Shortened.{Shortened}
 use Rattle.guest_calls.specs.Guest.{Guest}
-use Rattle.virtual_run.specs.declared.choice.Setting.{Setting}
-use Rattle.virtual_run.specs.Seen.{Seen, view_in, experiment_of, experiment_with}
-use Rattle.virtual_run.specs.Engine.{events_of}
-use Rattle.virtual_run.proofs.Law.{steady, none_is, ended_now}
+use Rattle.run_engine.specs.declared.choice.Setting.{Setting}
+use Rattle.run_engine.specs.Seen.{Seen, view_in, experiment_of, experiment_with}
+use Rattle.run_engine.specs.Engine.{events_of}
+use Rattle.run_engine.proofs.Law.{steady, none_is, ended_now}
 use Rattle.shortened_run.proofs.Law.{short_next, short_count, short_below, recorded_of, last_of, shortened_of, same_seen}
 use Rattle.shortened_run.proofs.Short.run.Goals as goal
 use Rattle.shortened_run.proofs.Short.run.Goals.{In-Some}

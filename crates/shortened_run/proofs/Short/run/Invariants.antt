@@ -1,5 +1,5 @@
 use Rattle.std.proofs.Common.{◌≡◌, ◌*◌, ◌-◌}
-use Rattle.virtual_run.specs.Engine.{events_of}
+use Rattle.run_engine.specs.Engine.{events_of}
 use Rattle.shortened_run.specs.ShortenedRun.{IsShort}
 use Rattle.shortened_run.proofs.Short.run.Given as goal
 

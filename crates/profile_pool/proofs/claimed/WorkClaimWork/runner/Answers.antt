@@ -1,5 +1,5 @@
 use Rattle.std.proofs.Common.{◌∙◌, ap, Some}
-use Rattle.virtual_run.specs.declared.choice.Choice.{Choice}
+use Rattle.run_engine.specs.declared.choice.Choice.{Choice}
 use Rattle.profile_pool.specs.Made.{parts_made}
 use Rattle.profile_pool.proofs.Making.{for_any}
 use Rattle.profile_pool.proofs.claimed.WorkClaimWork.runner.Goals as goal

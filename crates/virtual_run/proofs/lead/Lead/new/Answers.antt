@@ -1,6 +1,6 @@
 use Rattle.machines.specs.Delayed.{Delayed}
 use Rattle.guest_calls.specs.Guest.{Guest}
-use Rattle.virtual_run.specs.Seen.{Seen}
+use Rattle.run_engine.specs.Seen.{Seen}
 use Rattle.virtual_run.proofs.Leads.{made_lead, made_view}
 use Rattle.virtual_run.proofs.lead.Lead.new.Goals as goal
 

@@ -1,7 +1,7 @@
 use Rattle.std.proofs.Common.{◌≡◌, ◌+◌, ◌<◌, ◌≤◌, length, ap, subst, ◌∙◌, arith}
 use Rattle.machines.specs.Delayed.{Delayed}
 use Rattle.guest_calls.specs.Guest.{Guest}
-use Rattle.virtual_run.specs.Seen.{Seen}
+use Rattle.run_engine.specs.Seen.{Seen}
 use Rattle.virtual_run.specs.DelayedRun.{account_in}
 use Rattle.virtual_run.proofs.CreditedRun.{harts_few, latest_now, account_some, account_none, account_within}
 use Rattle.virtual_run.proofs.machine.Machine.account.Goals as goal

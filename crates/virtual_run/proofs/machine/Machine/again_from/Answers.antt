@@ -1,10 +1,10 @@
 use Rattle.std.proofs.Common.{◌≡◌, [], ◌∷◌, length, ap, subst, sym, ◌∙◌}
 use Rattle.delay_credits.specs.Delays.{Delays}
 use Rattle.guest_calls.specs.Guest.{IsMade}
-use Rattle.virtual_run.specs.declared.engine.Engine.{Engine}
+use Rattle.run_engine.specs.declared.engine.Engine.{Engine}
 use Rattle.virtual_run.specs.DelayedRun.{IsPaced}
-use Rattle.virtual_run.specs.Run.{selected_of}
-use Rattle.virtual_run.specs.Engine.{events_of}
+use Rattle.run_engine.specs.Run.{selected_of}
+use Rattle.run_engine.specs.Engine.{events_of}
 use Rattle.virtual_run.proofs.Again.{lined_setting, first_is_made, again_paced}
 use Rattle.virtual_run.proofs.Leads.{whole_seen, zero_seen, again_seen}
 use Rattle.virtual_run.proofs.machine.Machine.again_from.Goals as goal

@@ -1,8 +1,8 @@
 use Rattle.std.proofs.Common.{◌≡◌, ℕ, ◌+◌, ◌*◌, ◌^◌, ◌≤◌, None, subst, sym, ◌∙◌, arith}
 use Rattle.machines.specs.Standing.{standing}
 use Rattle.virtual_run.specs.Credited.{moment_of}
-use Rattle.virtual_run.specs.Seen.{experiment_with}
-use Rattle.virtual_run.specs.Engine.{events_of}
+use Rattle.run_engine.specs.Seen.{experiment_with}
+use Rattle.run_engine.specs.Engine.{events_of}
 use Rattle.virtual_run.specs.DelayedRun.{IsPaced}
 use Rattle.virtual_run.proofs.CreditedRun.{goes_seen, next_seen, count_seen, happens_seen, events_now, is_steady, raised_few, event_few, event_count, can_follow, paced_event, happens_event}
 use Rattle.virtual_run.proofs.machine.Machine.event.Goals as goal

@@ -2,11 +2,11 @@ use Rattle.std.proofs.Common.{◌≡◌, ℕ, ◌+◌, ◌*◌, ◌^◌, ◌≤�
 use Rattle.delay_credits.specs.Delays.{Delays}
 use Rattle.machines.specs.Lead.{before}
 use Rattle.virtual_run.specs.Credited.{raise_ticks, with_raises, AllRun, AllMade}
-use Rattle.virtual_run.specs.declared.engine.Engine.{Engine}
-use Rattle.virtual_run.specs.Engine.{events_of}
+use Rattle.run_engine.specs.declared.engine.Engine.{Engine}
+use Rattle.run_engine.specs.Engine.{events_of}
 use Rattle.virtual_run.specs.DelayedRun.{IsPaced}
 use Rattle.virtual_run.specs.Lead.{with_sooner}
-use Rattle.virtual_run.specs.Seen.{experiment_with}
+use Rattle.run_engine.specs.Seen.{experiment_with}
 use Rattle.virtual_run.proofs.Forks.{sped_setting, selected_run, selected_made, selected_few, forked_paced}
 use Rattle.virtual_run.proofs.Leads.{whole_seen, none_counted, forked_seen}
 use Rattle.virtual_run.proofs.machine.Machine.fork_from.Goals as goal
@@ -31,8 +31,8 @@ raise_selected-requires-clause-few c =
     subst (λ (credits : Delays). credits.raised + 3800 * length c.copy_from.new.self.selected ≤ 10 ^ 17) (sym c.copy_from-2.ensures)
     (selected_few m.image.now m.input.now m.setting m.engine m.credits m.moment c.lead.invariant c.copy_from.new.self.selected (ap (λ (r : Engine). r.selected) c.copy_from.ensures) none)
 
-pub hasten-requires-clause-made : goal.hasten-requires-clause-made
-hasten-requires-clause-made c =
+pub hasten_selected-requires-clause-made : goal.hasten_selected-requires-clause-made
+hasten_selected-requires-clause-made c =
     let m = c.lead.inside in
     subst (λ (r : Engine). AllMade r.guest r.selected) (sym c.copy_from.ensures)
     (selected_made m.image.now m.input.now m.setting m.engine m.credits m.moment c.lead.invariant m.engine.selected refl)
@@ -45,7 +45,7 @@ invariant_of-self c =
     let none : (before (experiment_with m.image.now m.input.now m.setting) (events_of m.engine)).state.starts ≡ 0 =
     none_counted m.image.now m.input.now m.setting m.engine m.credits m.moment c.lead.invariant c.args.lead.now c.lead.view_is c.requires.none in
     subst (λ (r : Engine). IsPaced m.image.now m.input.now (sped_setting q m.setting) r c.raise_selected.new.credits m.moment)
-    (sym (c.hasten.ensures ∙ ap (λ (r : Engine). record r { schedule = with_sooner (raise_ticks r.guest q) r.selected r.schedule }) c.copy_from.ensures))
+    (sym (c.hasten_selected.ensures ∙ ap (λ (r : Engine). record r { schedule = with_sooner (raise_ticks r.guest q) r.selected r.schedule }) c.copy_from.ensures))
     (forked_paced m.image.now m.input.now m.setting m.engine m.credits m.moment c.lead.invariant whole q c.requires.small none m.engine.selected
     (with_sooner (raise_ticks m.engine.guest q) m.engine.selected m.engine.schedule) c.raise_selected.new.credits refl
     (c.raise_selected.ensures ∙ ap₂ (λ (r : Engine) (credits : Delays). with_raises (raise_ticks r.guest q) r.selected credits) c.copy_from.ensures c.copy_from-2.ensures) refl)
@@ -53,5 +53,5 @@ invariant_of-self c =
 pub returns : goal.returns
 returns c =
     let m = c.lead.inside in
-    forked_seen m.image.now m.input.now m.setting m.engine m.credits m.moment c.lead.invariant c.args.lead.now c.lead.view_is c.args.speedup c.hasten.new.self
-    (ap events_of c.hasten.ensures ∙ ap events_of c.copy_from.ensures)
+    forked_seen m.image.now m.input.now m.setting m.engine m.credits m.moment c.lead.invariant c.args.lead.now c.lead.view_is c.args.speedup c.hasten_selected.new.engine
+    (ap events_of c.hasten_selected.ensures ∙ ap events_of c.copy_from.ensures)

@@ -1,7 +1,7 @@
 use Rattle.std.proofs.Common.{◌≤◌, ℕ, length, ap, subst, sym, ◌∙◌}
 use Rattle.guest_calls.specs.Guest.{Guest}
 use Rattle.machines.specs.Delayed.{Delayed}
-use Rattle.virtual_run.specs.Seen.{Seen}
+use Rattle.run_engine.specs.Seen.{Seen}
 use Rattle.virtual_run.proofs.CreditedRun.{guest_now, harts_now, harts_few}
 use Rattle.virtual_run.proofs.machine.Machine.harts.Goals as goal
 

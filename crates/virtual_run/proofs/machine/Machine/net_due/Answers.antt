@@ -2,7 +2,7 @@ use Rattle.std.proofs.Common.{ap, ◌∙◌, is_some, Option, ℕ}
 use Rattle.coz_types.specs.declared.ending.Ending.{Ending}
 use Rattle.machines.specs.Delayed.{Delayed}
 use Rattle.guest_calls.specs.Guest.{Guest}
-use Rattle.virtual_run.specs.Seen.{Seen}
+use Rattle.run_engine.specs.Seen.{Seen}
 use Rattle.virtual_run.specs.DelayedRun.{net_due_of}
 use Rattle.virtual_run.proofs.CreditedRun.{due_ended, due_goes, due_seen, timed_seen, not_over}
 use Rattle.virtual_run.proofs.machine.Machine.net_due.Goals as goal

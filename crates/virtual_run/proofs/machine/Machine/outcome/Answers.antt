@@ -1,7 +1,7 @@
 use Rattle.std.proofs.Common.{ℕ, ◌≤◌, Some, ap, subst, sym, ◌∙◌}
 use Rattle.machines.specs.Delayed.{Delayed}
 use Rattle.guest_calls.specs.Guest.{Guest}
-use Rattle.virtual_run.specs.Seen.{Seen}
+use Rattle.run_engine.specs.Seen.{Seen}
 use Rattle.virtual_run.specs.DelayedRun.{outcome_of}
 use Rattle.virtual_run.proofs.CreditedRun.{outcome_some, outcome_none, outcome_small, none_seen, delay_in_time}
 use Rattle.virtual_run.proofs.machine.Machine.outcome.Goals as goal

@@ -1,8 +1,8 @@
 use Rattle.std.proofs.Common.{◌≡◌, Some, None, ap, sym, ◌∙◌}
 use Rattle.machines.specs.Delayed.{Delayed}
 use Rattle.guest_calls.specs.Guest.{Guest}
-use Rattle.virtual_run.specs.Seen.{Seen}
-use Rattle.virtual_run.proofs.Law.{none_is}
+use Rattle.run_engine.specs.Seen.{Seen}
+use Rattle.run_engine.proofs.Law.{none_is}
 use Rattle.virtual_run.proofs.CreditedRun.{ending_now, going_first, going_next, going_smaller, record_now, last_now, agrees_last, delayed_now, law_now, moves_now, once_now, shortened_now}
 use Rattle.virtual_run.proofs.machine.Machine.run.Goals as goal
 

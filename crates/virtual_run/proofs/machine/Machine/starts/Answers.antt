@@ -1,7 +1,7 @@
 use Rattle.std.proofs.Common.{ap, sym, ◌∙◌}
 use Rattle.machines.specs.Delayed.{Delayed}
 use Rattle.guest_calls.specs.Guest.{Guest}
-use Rattle.virtual_run.specs.Seen.{Seen}
+use Rattle.run_engine.specs.Seen.{Seen}
 use Rattle.virtual_run.proofs.CreditedRun.{starts_now}
 use Rattle.virtual_run.proofs.machine.Machine.starts.Goals as goal
 

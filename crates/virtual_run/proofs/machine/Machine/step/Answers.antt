@@ -4,7 +4,7 @@ use Rattle.machines.specs.Delayed.{Delayed, events}
 use Rattle.machines.specs.Shortened.{shortened}
 use Rattle.machines.specs.Agreement.{Agrees}
 use Rattle.guest_calls.specs.Guest.{Guest}
-use Rattle.virtual_run.specs.Seen.{Seen, experiment_of}
+use Rattle.run_engine.specs.Seen.{Seen, experiment_of}
 use Rattle.virtual_run.proofs.CreditedRun.{going_first, ending_now, agrees_seen}
 use Rattle.virtual_run.proofs.Stepped.{IsStepped, stepped_first, goes_here, stepped_next, stepped_smaller, step_next, step_steps, step_over, step_rest}
 use Rattle.virtual_run.proofs.machine.Machine.step.Goals as goal

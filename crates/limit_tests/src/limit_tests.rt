@@ -1,0 +1,62 @@
+//! Files that have as many bytes as they may have, and one more.
+use crate::calls::{call, one_file};
+use crate::large::Large;
+use std::test::Fail;
+
+/// A program of three instructions that exits.
+const ONE_SOURCE: &[u8] = b"    addi a0, x0, 0\n    addi a7, x0, 93\n    ecall\n";
+
+/// What `run` prints of it.
+const ONE: &[u8] =
+    b"end exited:0\ntime 4200\ndelay 0\nnet 4200\nretired 3\nstarts 0\nhart 0 own 0 paused 0 credited 0\noutput 0\n\n";
+
+const LONG: &[u8] = b"coz: long: big\n";
+
+/// The arguments, the number of bytes of the file `big`, and the expected answer: the status,
+/// the output and the line of the fault. Zeros are no program, no source and no profile.
+static LIMITS: [(&[&str], u64, u8, &[u8], &[u8]); 8] = [
+    (&["run", "one", "--input=big"], 16_777_216, 0, ONE, b""),
+    (&["run", "one", "--input=big"], 16_777_217, 8, b"", LONG),
+    (
+        &["run", "big"],
+        33_554_432,
+        3,
+        b"",
+        b"coz: program: NotElf at 0\n",
+    ),
+    (&["run", "big"], 33_554_433, 8, b"", LONG),
+    (
+        &["asm", "big"],
+        4_194_304,
+        11,
+        b"",
+        b"coz: source: Byte at line 1 column 1\n",
+    ),
+    (&["asm", "big"], 4_194_305, 8, b"", LONG),
+    (
+        &["plot", "big"],
+        268_435_456,
+        12,
+        b"",
+        b"coz: profile: Head at 0\n",
+    ),
+    (&["plot", "big"], 268_435_457, 8, b"", LONG),
+];
+
+#[test]
+fn one_byte_over_the_limit_is_too_long(rt: HostRuntime) -> Result<(), Fail> {
+    let mut source = one_file(rt.alloc(), "one.s", ONE_SOURCE, &[])?;
+    let made = call(&rt, &["asm", "one.s"], &mut source)?;
+    for (words, size, status, out, err) in &LIMITS {
+        let mut files = Large {
+            size: *size,
+            program: made.out.as_slice(),
+        };
+        let served = call(&rt, *words, &mut files)?;
+        assert_eq!(rt;
+            (served.status, served.out.as_slice(), served.err.as_slice()),
+            (*status, *out, *err)
+        );
+    }
+    Ok(())
+}

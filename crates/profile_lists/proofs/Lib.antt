@@ -1,0 +1,5 @@
+pub mod FirstGroups
+pub mod Sorting
+pub mod Spellings
+pub mod Scans
+pub mod LabelOrder

@@ -1,0 +1,4 @@
+pub mod Scanning
+pub mod LabelOrder
+pub mod Groups
+pub mod Sorted

@@ -1,0 +1,8 @@
+pub mod Keys
+pub mod Many
+pub mod Begin
+pub mod Moves
+pub mod Law
+mod Rows
+pub mod Advance
+pub mod Choices

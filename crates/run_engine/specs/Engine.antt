@@ -1,0 +1,82 @@
+-- The state of the engine of both machines: a state of the shortened machine,
+-- and what holds between its moves.
+use Rattle.std.specs.Prelude.{◌≡◌, ℕ, ◌+◌, ◌*◌, ◌^◌, ◌≤◌, ◌<◌, List, [], ◌∷◌, map, length, get_or, Option, Some, None, is_some}
+use Rattle.coz_types.specs.declared.TheConstants.{HARTS}
+use Rattle.cost_table.specs.declared.TheConstants.{MAX_TICKS}
+use Rattle.coz_types.specs.Image.{ImageParts}
+use Rattle.hart_schedule.specs.Keys.{Keys, key_of, IsEmpty}
+use Rattle.machines.specs.Guest.{Experiment}
+use Rattle.machines.specs.Shortened.{Shortened, shortened}
+use Rattle.guest_calls.specs.Guest.{Guest, is_timed, first_guest}
+use Rattle.guest_calls.specs.Orderly.{IsOrderly}
+use Rattle.run_engine.specs.declared.choice.Setting.{Setting}
+use Rattle.run_engine.specs.declared.engine.Engine.{Engine}
+use Rattle.run_engine.specs.Begin.{many}
+use Rattle.run_engine.specs.Run.{experiment_in, selected_of}
+use Rattle.machines.specs.KeptVisits.{net_of}
+
+-- the retirements and wakes so far
+abbrev pub events_of : Engine → ℕ
+events_of engine = engine.retired + engine.wakes
+
+-- the state of the shortened machine that the engine's fields stand for, with these moments
+-- at which harts are due
+abbrev pub state_of : Engine → List (Option ℕ) → Shortened Guest
+state_of engine dues = record {
+  time = engine.time;
+  guest = engine.guest;
+  dues = dues;
+  visits = map net_of engine.visits.kept;
+  retired = engine.retired;
+  wakes = engine.wakes;
+  starts = engine.starts;
+  ending = engine.ending;
+}
+
+-- the keys are these moments
+abbrev pub AreDues : Keys → List (Option ℕ) → Type 0
+AreDues keys dues = (hart : ℕ) → key_of keys hart ≡ get_or dues hart None
+
+-- the fields stand for this state
+pub record IsStateOf (engine : Engine) (s : Shortened Guest) : Type 0 where
+  pub state : s ≡ state_of engine s.dues
+  pub dues : AreDues engine.schedule s.dues
+
+-- no hart is due later
+abbrev pub AreWithin : ℕ → Keys → Type 0
+AreWithin moment keys = (hart due : ℕ) → key_of keys hart ≡ Some due → due ≤ moment
+
+-- between the moves of a run that goes on: the harts that run or sleep are those that are due
+pub record IsSteady (engine : Engine) : Type 0 where
+  pub goes : engine.ending ≡ None
+  pub orderly : IsOrderly engine.guest
+  pub timed : (hart : ℕ) → is_timed engine.guest hart ≡ is_some (key_of engine.schedule hart)
+  pub some_hart : ¬ IsEmpty engine.schedule
+  pub room : length engine.schedule ≡ HARTS
+  pub unfull : length engine.visits.kept < engine.visits.limit
+  pub within : AreWithin (2 ^ 60) engine.schedule
+  pub retired : engine.retired ≤ 2 ^ 60
+  pub wakes : engine.wakes ≤ 2 ^ 60
+  pub few : engine.starts ≤ events_of engine + many engine.schedule
+
+-- the fields stand for the state after as many moves as instructions were retired and harts woken
+pub record IsReached (x : Experiment Guest) (engine : Engine) : Type 0 where
+  pub reached : IsStateOf engine (shortened x (events_of engine))
+  pub room : length engine.schedule ≡ HARTS
+  pub limit : engine.visits.limit ≡ x.visit_limit
+  pub unfull : engine.ending ≡ None → length engine.visits.kept < x.visit_limit
+  pub retired : engine.retired ≤ x.budget
+  pub few : engine.starts ≤ events_of engine + many engine.schedule
+  -- a hart sleeps to a moment of at most 10^16, and each event takes at most an instruction's ticks
+  pub within : AreWithin (10 ^ 16 + MAX_TICKS * (events_of engine + 1)) engine.schedule
+
+-- as it begins the run of an image on an input
+pub record IsFirst (setting : Setting) (image : ImageParts) (input : List ℕ)
+    (engine : Engine) : Type 0 where
+  pub reached : IsReached (experiment_in setting
+      (first_guest image input setting.choice.output_limit setting.choice.layout)) engine
+  pub retired : engine.retired ≡ 0
+  pub wakes : engine.wakes ≡ 0
+  pub ending : engine.ending ≡ None
+  pub kept : engine.visits.kept ≡ []
+  pub selected : engine.selected ≡ selected_of setting engine.guest (0 ∷ [])

@@ -1,0 +1,49 @@
+-- What contracts see of a run of a program.
+use Rattle.std.specs.Prelude.{ℕ, List}
+use Rattle.coz_types.specs.Image.{ImageParts}
+use Rattle.line_index.specs.Index.{Index, position_at}
+use Rattle.progress_points.specs.Points.{Points, point_of}
+use Rattle.machines.specs.Guest.{Experiment}
+use Rattle.guest_calls.specs.Guest.{Guest}
+use Rattle.run_engine.specs.declared.choice.Choice.{Choice}
+use Rattle.run_engine.specs.declared.choice.Setting.{Setting}
+use Rattle.run_engine.specs.Run.{experiment}
+
+-- what is run, and the state that it is in: one of the delayed or of the shortened machine
+pub record Seen (State : Type 0) : Type 0 where
+  pub image : ImageParts
+  pub index : Index
+  pub points : Points
+  pub input : List ℕ
+  pub choice : Choice
+  pub state : State
+
+-- the run of a program, with these lines and points, on an input by a choice,
+-- in a state of its experiment
+abbrev pub machine_view : {State : Type 0} → ImageParts → Index → Points → List ℕ → Choice
+    → (Experiment Guest → State) → Seen State
+machine_view image index points input choice state = record {
+  image = image;
+  index = index;
+  points = points;
+  input = input;
+  choice = choice;
+  state = state (experiment image (position_at index) (point_of points) input choice);
+}
+
+-- the same in a setting
+abbrev pub view_in : {State : Type 0} → ImageParts → List ℕ → Setting
+    → (Experiment Guest → State) → Seen State
+view_in image input setting state =
+    machine_view image setting.index.now setting.points.now input setting.choice state
+
+-- the run of an image on an input in a setting
+abbrev pub experiment_with : ImageParts → List ℕ → Setting → Experiment Guest
+experiment_with image input setting =
+    experiment image (position_at setting.index.now)
+    (point_of setting.points.now) input setting.choice
+
+-- what is run
+abbrev pub experiment_of : {State : Type 0} → Seen State → Experiment Guest
+experiment_of seen =
+    experiment seen.image (position_at seen.index) (point_of seen.points) seen.input seen.choice

@@ -1,0 +1,571 @@
+//! The engine that both machines use, and its events.
+ghost use Rattle.std.specs.Prelude.{◌≡◌, ℕ, map, true, ◌+◌, ◌^◌, ◌≤◌, ◌<◌, ◌++◌, [], ◌∷◌, Some, length, nat_le, is_some, IfOk, All, if◌then◌else◌, IsTrue};
+ghost use Rattle.coz_types.specs.declared.TheConstants.{MAX_SPEEDUP, MAX_OUTPUT, MAX_VISITS};
+ghost use Rattle.hart_schedule.specs.Keys.{key_of, without_key, IsEmpty, IsLeast};
+ghost use Rattle.machines.specs.Delayed.{is_any};
+ghost use Rattle.machines.specs.Guest.{goes_on};
+ghost use Rattle.machines.specs.Shortened.{runs_any};
+ghost use Rattle.progress_points.specs.Points.{point_of};
+ghost use Rattle.guest_calls.specs.Calls.{retirement};
+ghost use Rattle.guest_calls.specs.Guest.{making, is_running, is_sleeping, pc_of, IsMade};
+ghost use Rattle.guest_calls.specs.Retire.{retire};
+ghost use Rattle.run_engine.specs.Begin.{started_by, keys_at_rest, many, AreIdle, AreBegun};
+ghost use Rattle.run_engine.specs.Ending.{ending_of, runs_after};
+ghost use Rattle.run_engine.specs.Visits.{visits_of};
+ghost use Rattle.run_engine.specs.Advance.{is_wake};
+
+use crate::start::{add_if, begin, begin_again, begin_each, begin_next};
+use crate::{Choice, Setting, Visits};
+use coz_types::{Address, Ending, HARTS, HartId, Image, Tick, Visit};
+use guest_calls::{Fate, Guest};
+use guest_futex::HartList;
+use hart_schedule::Schedule;
+use std::alloc::{AllocError, Global};
+
+/// The hart that a program begins with: hart 0.
+pub const FIRST: HartId = HartId(0);
+
+/// A run of a program in net time, which the delayed and the shortened machine share:
+/// its guest, the harts that are due, the visits and the counts. It has no delays:
+/// an instruction of the selected line takes what the speedup of its setting leaves of its cost,
+/// and the caller passes the delay of each visit. `advance` makes one event of the run.
+///
+/// Times are in ticks, 100 to a cycle. The fields are public for the machine on the engine, which
+/// reads them at each event; a fork of a lead also makes harts of `schedule` due sooner.
+#[derive(Drop)]
+pub struct Engine<'a> {
+    /// The guest: its memory, its harts, and what it wrote.
+    pub guest: Guest<'a>,
+    /// The net time at which each running hart retires its next instruction, and each sleeping
+    /// hart wakes. A raise of the global delay changes none of these times.
+    pub schedule: Schedule,
+    /// The harts that the last retirement made or woke, in order.
+    pub started: HartList,
+    /// Of the harts that began an instruction at the last event, in order, those whose
+    /// instruction has the selected line.
+    pub selected: HartList,
+    /// The visits so far, in order. The time of each is its net time plus its delay.
+    pub visits: Visits,
+    /// The net time of the last retirement; 0 before the first.
+    pub time: Tick,
+    /// How many instructions were retired.
+    pub retired: u64,
+    /// How often a sleeping hart woke.
+    pub wakes: u64,
+    /// How many instructions of the selected line were begun.
+    pub starts: u64,
+    /// How the run ended; None while it goes on.
+    pub ending: Option<Ending>,
+}
+
+/// A hart that has retired an instruction, and what became of it.
+#[derive(Clone, Copy, Debug)]
+pub struct Retired {
+    /// The hart that retired.
+    pub hart: HartId,
+    /// What became of it.
+    pub fate: Fate,
+}
+
+/// A hart, and when it retires or wakes, in net ticks.
+#[derive(Clone, Copy, Debug)]
+pub struct Turn {
+    /// The hart that is due.
+    pub hart: HartId,
+    /// When it retires or wakes.
+    pub due: Tick,
+}
+
+/// What the hart that was due first has done.
+#[derive(Clone, Copy, Debug)]
+pub enum Event {
+    /// It slept, and runs from its moment on.
+    Woke(Turn),
+    /// It retired an instruction.
+    Retired(Retired),
+}
+
+/// Whether an event was a wake.
+#[inline]
+pub fn is_wake(event: Event) -> bool
+    ensures { result ≡ is_wake event }
+{
+    matches!(event, Event::Woke(_))
+}
+
+/// The hart that is due first. It stays in the schedule.
+#[inline]
+fn first_turn(schedule: &Schedule) -> Turn
+    requires { ¬ IsEmpty schedule.now }
+    ensures due { key_of schedule.now result.hart.0 ≡ Some result.due }
+    ensures first { IsLeast schedule.now result.hart.0 }
+{
+    let Some(first) = schedule.first() else {
+        unreachable!()
+    };
+    Turn {
+        hart: first.hart,
+        due: first.key,
+    }
+}
+
+/// What becomes of a running hart whose turn it is. The guest knows net time alone.
+#[inline(always)]
+fn retire_due(guest: &mut Guest, turn: Turn, started: &mut HartList) -> Fate
+    requires running { IsTrue (is_running guest.old turn.hart.0) }
+    requires started { started.old ≡ [] }
+    ensures effect { retirement guest.new result started.new
+        ≡ retire guest.old turn.hart.0 turn.due }
+    ensures made { making guest.new ≡ making guest.old }
+{
+    guest.retire(turn.hart, turn.due, started)
+}
+
+/// The hart that retired is taken out, or is due at its wake, unless it goes on.
+#[inline(always)]
+fn leave(schedule: &mut Schedule, hart: HartId, fate: Fate)
+    requires { hart.0 < length schedule.old }
+    ensures { schedule.new
+        ≡ (if goes_on fate then schedule.old else keys_at_rest hart.0 fate schedule.old) }
+{
+    match fate {
+        Fate::Goes => {}
+        Fate::Sleeps(moment) => schedule.rekey(hart, moment),
+        _ => {
+            schedule.take(hart);
+        }
+    }
+}
+
+/// One that would go on is taken out, as the run ends.
+#[inline]
+fn leave_ended(schedule: &mut Schedule, hart: HartId, fate: Fate)
+    ensures { schedule.new
+        ≡ (if goes_on fate then without_key hart.0 schedule.old else schedule.old) }
+{
+    if let Fate::Goes = fate {
+        schedule.take(hart);
+    }
+}
+
+/// Keeps the visit of the point at an address, if there is one.
+#[inline]
+fn keep_visit(
+    setting: &Setting,
+    visits: &mut Visits,
+    address: Address,
+    hart: HartId,
+    time: Tick,
+    delay: Tick,
+)
+    requires room { length visits.old.kept < visits.old.limit }
+    requires hart { hart.0 < HARTS }
+    ensures { visits.new ≡ record visits.old {
+      kept = visits.old.kept
+          ++ visits_of (point_of setting.now.points.now address) hart.0 time delay;
+    } }
+{
+    if let Some(point) = setting.points.point_at(address) {
+        visits.push(Visit {
+            point,
+            hart,
+            time,
+            delay,
+        });
+    }
+}
+
+/// Whether a list contains a hart.
+#[inline]
+pub fn has_any(started: &HartList) -> bool
+    ensures { result ≡ is_any started.now }
+{
+    !started.harts().is_empty()
+}
+
+/// Some hart is in the schedule.
+fn runs_any(schedule: &Schedule) -> bool
+    ensures { result ≡ runs_any schedule.now }
+{
+    schedule.least().is_some()
+}
+
+/// How a run ends with a retirement: as the hart's fate says, or as the output or the visits
+/// are full, no hart runs or the budget is spent.
+#[inline(never)]
+fn ending_after(
+    fate: Fate,
+    output_full: bool,
+    visits_full: bool,
+    some_hart_runs: bool,
+    retired: u64,
+    budget: u64,
+) -> Option<Ending>
+    ensures { result ≡ ending_of fate output_full visits_full some_hart_runs retired budget }
+{
+    match fate {
+        Fate::Ends(ending) => Some(ending),
+        _ if output_full => Some(Ending::OutputFull),
+        _ if visits_full => Some(Ending::VisitsFull),
+        _ if !some_hart_runs => Some(Ending::Stalled),
+        _ if budget <= retired => Some(Ending::Spent),
+        _ => None,
+    }
+}
+
+impl<'a> Engine<'a> {
+    ghost use Rattle.run_engine.specs.Run.{selected_of, ticks_in, IsChoice};
+    ghost use Rattle.run_engine.specs.Engine.{IsSteady, IsFirst};
+    ghost use Rattle.run_engine.specs.Advance.{CanSettle, IsAdvance, IsRetired, IsSettled, IsWoken};
+
+    /// A run that is about to begin.
+    pub fn new(
+        alloc: Global,
+        image: &'a Image<'a>,
+        input: &'a [u8],
+        setting: &Setting,
+    ) -> Result<Engine<'a>, AllocError>
+        requires { IsChoice setting.now.choice }
+        ensures { IfOk result (λ engine. IsFirst setting.now image.now input.now engine) }
+    {
+        let choice = setting.choice;
+        let visits = Visits::new(alloc, choice.visit_limit)?;
+        let mut schedule = Schedule::new(alloc, HARTS as u32)?;
+        // The guest has many parts: nothing that may fail comes after it.
+        let guest = Guest::new(alloc, image, input, choice.output_limit, choice.layout)?;
+        let mut selected = HartList::new();
+        begin(setting, &guest, &mut schedule, &mut selected, FIRST, 0);
+        let starts = selected.harts().len() as u64;
+        Ok(Engine {
+            guest,
+            schedule,
+            started: HartList::new(),
+            selected,
+            visits,
+            time: 0,
+            retired: 0,
+            wakes: 0,
+            starts,
+            ending: None,
+        })
+    }
+
+    /// One move: the hart that is due first wakes if it sleeps, and else retires.
+    #[inline(always)]
+    pub fn advance(&mut self, setting: &Setting, delay: Tick) -> Event
+        requires steady { IsSteady self.old }
+        requires speedup { setting.now.choice.speedup ≤ MAX_SPEEDUP }
+        requires delay { delay ≤ 10 ^ 17 }
+        ensures { IsAdvance setting.now self.old result delay self.new }
+    {
+        let turn = first_turn(&self.schedule);
+        if self.guest.is_sleeping(turn.hart) {
+            self.wake(setting, turn);
+            Event::Woke(turn)
+        } else {
+            Event::Retired(self.retire(setting, turn, delay))
+        }
+    }
+
+    /// A sleeping hart whose turn it is wakes, and its next instruction begins.
+    #[inline(never)]
+    fn wake(&mut self, setting: &Setting, turn: Turn)
+        requires steady { IsSteady self.old }
+        requires speedup { setting.now.choice.speedup ≤ MAX_SPEEDUP }
+        requires turn { key_of self.old.schedule turn.hart.0 ≡ Some turn.due }
+        requires first { IsLeast self.old.schedule turn.hart.0 }
+        requires asleep { is_sleeping self.old.guest turn.hart.0 ≡ true }
+        ensures { IsWoken setting.now self.old turn.hart.0 turn.due self.new }
+    {
+        self.guest.wake(turn.hart);
+        self.wakes += 1;
+        self.selected.clear();
+        begin_next(
+            setting,
+            &self.guest,
+            &mut self.schedule,
+            &mut self.selected,
+            turn.hart,
+            turn.due,
+        );
+        let begun = self.selected.harts().len() as u64;
+        self.starts += begun;
+    }
+
+    /// A running hart whose turn it is retires, and where the run goes on the harts that this
+    /// started begin. A visit is kept with the delay that is given, at a time that is later by it.
+    #[inline(always)]
+    fn retire(&mut self, setting: &Setting, turn: Turn, delay: Tick) -> Retired
+        requires steady { IsSteady self.old }
+        requires speedup { setting.now.choice.speedup ≤ MAX_SPEEDUP }
+        requires delay { delay ≤ 10 ^ 17 }
+        requires turn { key_of self.old.schedule turn.hart.0 ≡ Some turn.due }
+        requires first { IsLeast self.old.schedule turn.hart.0 }
+        requires running { is_running self.old.guest turn.hart.0 ≡ true }
+        ensures retired { IsRetired setting.now self.old turn.hart.0 result.fate delay self.new }
+        ensures hart { result.hart.0 ≡ turn.hart.0 }
+    {
+        let address = self.guest.pc(turn.hart);
+        keep_visit(
+            setting,
+            &mut self.visits,
+            address,
+            turn.hart,
+            turn.due + delay,
+            delay,
+        );
+        self.started.clear();
+        self.selected.clear();
+        let fate = retire_due(&mut self.guest, turn, &mut self.started);
+        self.time = turn.due;
+        self.retired += 1;
+        self.settle(setting, turn.hart, fate);
+        Retired {
+            hart: turn.hart,
+            fate,
+        }
+    }
+
+    /// After a retirement of this fate the run ends, or what was started begins. A hart that goes
+    /// on has a way of its own, on which no fate is handed on.
+    #[inline(always)]
+    fn settle(&mut self, setting: &Setting, hart: HartId, fate: Fate)
+        requires { CanSettle setting.now self.old hart.0 fate }
+        ensures { IsSettled setting.now self.old hart.0 fate self.new }
+    {
+        match fate {
+            Fate::Goes => self.end_or_begin(setting, hart, Fate::Goes),
+            other => self.end_or_begin_apart(setting, hart, other),
+        }
+    }
+
+    /// `end_or_begin` of a hart that does not go on, apart from the common case.
+    #[inline(never)]
+    fn end_or_begin_apart(&mut self, setting: &Setting, hart: HartId, fate: Fate)
+        requires { CanSettle setting.now self.old hart.0 fate }
+        ensures { IsSettled setting.now self.old hart.0 fate self.new }
+    {
+        self.end_or_begin(setting, hart, fate);
+    }
+
+    /// The run ends with a retirement of this fate, or what was started begins.
+    #[inline(always)]
+    fn end_or_begin(&mut self, setting: &Setting, hart: HartId, fate: Fate)
+        requires { CanSettle setting.now self.old hart.0 fate }
+        ensures { IsSettled setting.now self.old hart.0 fate self.new }
+    {
+        leave(&mut self.schedule, hart, fate);
+        if self.ends_with(&setting.choice, fate) {
+            self.ending = self.ending_after(&setting.choice, fate);
+            leave_ended(&mut self.schedule, hart, fate);
+        } else {
+            self.begin_started(setting, hart, fate);
+        }
+    }
+
+    /// Makes this engine equal to another one whose guest was made with the same arguments.
+    pub fn copy_from(&mut self, other: &Engine<'a>)
+        requires guest { making self.old.guest ≡ making other.now.guest }
+        requires visits { self.old.visits.limit ≡ other.now.visits.limit }
+        requires harts { length self.old.schedule ≡ length other.now.schedule }
+        ensures { self.new ≡ other.now }
+    {
+        self.guest.copy_from(&other.guest);
+        self.schedule.copy_from(&other.schedule);
+        self.started.copy_from(&other.started);
+        self.selected.copy_from(&other.selected);
+        self.visits.copy_from(&other.visits);
+        self.time = other.time;
+        self.retired = other.retired;
+        self.wakes = other.wakes;
+        self.starts = other.starts;
+        self.ending = other.ending;
+    }
+
+    /// Sets the selected harts and the number of starts of an engine that has made no event,
+    /// for the line that `setting` selects. Only hart 0 has begun an instruction there.
+    pub fn count_first(&mut self, setting: &Setting)
+        requires made { IsMade self.old.guest 0 }
+        ensures { self.new ≡ record self.old {
+          selected = selected_of setting.now self.old.guest (0 ∷ []);
+          starts = length (selected_of setting.now self.old.guest (0 ∷ []));
+        } }
+    {
+        self.selected.clear();
+        let selected = setting.has_selected(self.guest.pc(FIRST));
+        add_if(selected, &mut self.selected, FIRST);
+        self.starts = self.selected.harts().len() as u64;
+    }
+
+    /// The address of the next instruction of the hart that is due first.
+    #[inline]
+    pub fn address_due(&self) -> Address
+        requires { IsSteady self.now }
+        ensures { (hart : ℕ) → IsLeast self.now.schedule hart
+            → result ≡ pc_of self.now.guest hart }
+    {
+        let turn = first_turn(&self.schedule);
+        self.guest.pc(turn.hart)
+    }
+
+    /// When a hart retires or wakes, in net ticks; None where it neither runs nor sleeps.
+    #[inline]
+    pub fn due(&self, hart: HartId) -> Option<Tick>
+        ensures { result ≡ key_of self.now.schedule hart.0 }
+    {
+        self.schedule.key(hart)
+    }
+
+    /// The harts that the last retirement made or woke, in order.
+    #[inline]
+    pub fn started(&self) -> &[HartId]
+        ensures { map (λ hart. hart.0) result.now ≡ self.now.started }
+    {
+        self.started.harts()
+    }
+
+    /// How the run has ended, if it has.
+    pub fn ending(&self) -> Option<Ending>
+        ensures { result ≡ self.now.ending }
+    {
+        self.ending
+    }
+
+    /// When the last retirement was, in net ticks.
+    pub fn time(&self) -> Tick
+        ensures { result ≡ self.now.time }
+    {
+        self.time
+    }
+
+    /// How many instructions were retired.
+    pub fn retired(&self) -> u64
+        ensures { result ≡ self.now.retired }
+    {
+        self.retired
+    }
+
+    /// How many selected instructions were begun.
+    pub fn starts(&self) -> u64
+        ensures { result ≡ self.now.starts }
+    {
+        self.starts
+    }
+
+    /// The visits so far, at most 1,048,576, in order.
+    pub fn visits(&self) -> &[Visit]
+        ensures kept { result.now ≡ self.now.visits.kept }
+        ensures few { length result.now ≤ MAX_VISITS }
+        ensures harts { All (λ visit. visit.hart.0 < HARTS) result.now }
+    {
+        self.visits.all()
+    }
+
+    /// What was written so far, at most 67,108,864 bytes.
+    pub fn output(&self) -> &[u8]
+        ensures bytes { result.now ≡ self.now.guest.output }
+        ensures few { length result.now ≤ MAX_OUTPUT }
+    {
+        self.guest.output()
+    }
+
+    /// Whether the run ends with a retirement of this fate. Where the hart goes
+    /// on only the limits are looked at.
+    #[inline(always)]
+    fn ends_with(&self, choice: &Choice, fate: Fate) -> bool
+        ensures { result ≡ is_some (ending_of fate
+            (nat_le choice.now.output_limit (length self.now.guest.output))
+            (nat_le choice.now.visit_limit (length self.now.visits.kept))
+            (runs_after fate self.now.started self.now.schedule)
+            self.now.retired choice.now.budget) }
+    {
+        match fate {
+            Fate::Goes => {
+                choice.output_limit <= self.guest.output().len() as u64
+                    || choice.visit_limit <= self.visits.all().len() as u64
+                    || choice.budget <= self.retired
+            }
+            _ => self.ending_after(choice, fate).is_some(),
+        }
+    }
+
+    /// How the run ends with a retirement of this fate, if it does.
+    #[inline(never)]
+    fn ending_after(&self, choice: &Choice, fate: Fate) -> Option<Ending>
+        ensures { result ≡ ending_of fate
+            (nat_le choice.now.output_limit (length self.now.guest.output))
+            (nat_le choice.now.visit_limit (length self.now.visits.kept))
+            (runs_after fate self.now.started self.now.schedule)
+            self.now.retired choice.now.budget }
+    {
+        let output_full = choice.output_limit <= self.guest.output().len() as u64;
+        let visits_full = choice.visit_limit <= self.visits.all().len() as u64;
+        let some_hart_runs = self.runs_after(fate);
+        ending_after(
+            fate,
+            output_full,
+            visits_full,
+            some_hart_runs,
+            self.retired,
+            choice.budget,
+        )
+    }
+
+    /// Some hart runs after a retirement of this fate.
+    fn runs_after(&self, fate: Fate) -> bool
+        ensures { result ≡ runs_after fate self.now.started self.now.schedule }
+    {
+        match fate {
+            Fate::Goes => true,
+            _ => has_any(&self.started) || runs_any(&self.schedule),
+        }
+    }
+
+    /// The harts that a retirement of this fate started begin at its moment.
+    #[inline(always)]
+    fn begin_started(&mut self, setting: &Setting, hart: HartId, fate: Fate)
+        requires idle { AreIdle self.old.guest
+            (if goes_on fate then without_key hart.0 self.old.schedule else self.old.schedule)
+            (started_by hart.0 fate self.old.started) }
+        requires moment { self.old.time ≤ 2 ^ 60 }
+        requires speedup { setting.now.choice.speedup ≤ MAX_SPEEDUP }
+        requires room { length self.old.schedule ≡ HARTS }
+        requires selected { self.old.selected ≡ [] }
+        requires few { self.old.starts ≤ 2 ^ 62 }
+        ensures begun { AreBegun (ticks_in setting.now self.old.guest) self.old.time
+            (started_by hart.0 fate self.old.started)
+            (if goes_on fate then without_key hart.0 self.old.schedule else self.old.schedule)
+            self.new.schedule }
+        ensures selected { self.new.selected
+            ≡ selected_of setting.now self.old.guest (started_by hart.0 fate self.old.started) }
+        ensures room { length self.new.schedule ≡ HARTS }
+        ensures starts { self.new.starts ≡ self.old.starts + length self.new.selected }
+        ensures few { length self.new.selected + many
+            (if goes_on fate then without_key hart.0 self.old.schedule else self.old.schedule)
+            ≤ many self.new.schedule }
+        ensures rest { self.new ≡ record self.old {
+          schedule = self.new.schedule;
+          selected = self.new.selected;
+          starts = self.new.starts;
+        } }
+    {
+        begin_again(
+            setting,
+            &self.guest,
+            &mut self.schedule,
+            &mut self.selected,
+            hart,
+            fate,
+            self.time,
+        );
+        begin_each(
+            setting,
+            &self.guest,
+            &mut self.schedule,
+            &mut self.selected,
+            self.started.harts(),
+            self.time,
+        );
+        self.starts += self.selected.harts().len() as u64;
+    }
+}

@@ -1,0 +1,163 @@
+//! How harts begin their next instructions.
+
+ghost use Rattle.std.specs.Prelude.{◌≡◌, ◌+◌, ◌^◌, ◌≤◌, ◌<◌, ◌++◌, [], ◌∷◌, length, map, if◌then◌else◌, IsTrue};
+ghost use Rattle.coz_types.specs.declared.TheConstants.{MAX_SPEEDUP, HARTS};
+ghost use Rattle.cost_table.specs.declared.TheConstants.{MAX_TICKS};
+ghost use Rattle.hart_schedule.specs.Keys.{with_key, without_key};
+ghost use Rattle.machines.specs.Guest.{goes_on};
+ghost use Rattle.guest_calls.specs.Guest.{IsMade, pc_of};
+ghost use Rattle.run_engine.specs.Begin.{many, IsIdle, AreIdle, AreBegun};
+ghost use Rattle.run_engine.specs.Run.{is_selecting, selected_of, ticks_in};
+
+use crate::Setting;
+use cost_table::reduced;
+use coz_types::{HartId, Tick};
+use guest_calls::{Fate, Guest};
+use guest_futex::HartList;
+use hart_schedule::Schedule;
+
+/// How many ticks a hart's next instruction takes, and whether it has the selected line.
+#[derive(Clone, Copy, Drop)]
+struct Cost {
+    ticks: Tick,
+    selected: bool,
+}
+
+/// The cost of a hart's next instruction.
+#[inline(always)]
+fn cost_of(setting: &Setting, guest: &Guest, hart: HartId) -> Cost
+    requires made { IsMade guest.now hart.0 }
+    requires speedup { setting.now.choice.speedup ≤ MAX_SPEEDUP }
+    ensures ticks { result.ticks ≡ ticks_in setting.now guest.now hart.0 }
+    ensures selected { result.selected ≡ is_selecting setting.now (pc_of guest.now hart.0) }
+    ensures few { result.ticks ≤ MAX_TICKS }
+{
+    let cycles = guest.next_cycles(hart);
+    if setting.has_selected(guest.pc(hart)) {
+        Cost {
+            ticks: reduced(cycles, setting.choice.speedup),
+            selected: true,
+        }
+    } else {
+        Cost {
+            ticks: 100 * cycles,
+            selected: false,
+        }
+    }
+}
+
+/// Appends a hart, if it is selected.
+#[inline]
+pub fn add_if(selected: bool, harts: &mut HartList, hart: HartId)
+    requires { length harts.old < HARTS }
+    ensures { harts.new ≡ (if selected then harts.old ++ hart.0 ∷ [] else harts.old) }
+{
+    if selected {
+        harts.push(hart);
+    }
+}
+
+/// A hart's next instruction begins at a moment. Where it has the selected line the hart is
+/// put to the selected ones.
+#[inline(never)]
+pub fn begin(
+    setting: &Setting,
+    guest: &Guest,
+    schedule: &mut Schedule,
+    selected: &mut HartList,
+    hart: HartId,
+    moment: Tick,
+)
+    requires idle { IsIdle guest.now schedule.old hart.0 }
+    requires moment { moment ≤ 2 ^ 60 }
+    requires speedup { setting.now.choice.speedup ≤ MAX_SPEEDUP }
+    requires few { length selected.old < HARTS }
+    ensures due { schedule.new
+        ≡ with_key hart.0 (moment + ticks_in setting.now guest.now hart.0) schedule.old }
+    ensures selected { selected.new
+        ≡ selected.old ++ selected_of setting.now guest.now (hart.0 ∷ []) }
+{
+    let cost = cost_of(setting, guest, hart);
+    add_if(cost.selected, selected, hart);
+    schedule.put(hart, moment + cost.ticks);
+}
+
+/// The next instruction of the hart that retired or woke begins at a moment:
+/// the hart gets another place in the schedule.
+#[inline(always)]
+pub fn begin_next(
+    setting: &Setting,
+    guest: &Guest,
+    schedule: &mut Schedule,
+    selected: &mut HartList,
+    hart: HartId,
+    moment: Tick,
+)
+    requires idle { IsIdle guest.now (without_key hart.0 schedule.old) hart.0 }
+    requires moment { moment ≤ 2 ^ 60 }
+    requires speedup { setting.now.choice.speedup ≤ MAX_SPEEDUP }
+    requires few { length selected.old < HARTS }
+    ensures due { schedule.new ≡ with_key hart.0 (moment + ticks_in setting.now guest.now hart.0)
+        (without_key hart.0 schedule.old) }
+    ensures selected { selected.new
+        ≡ selected.old ++ selected_of setting.now guest.now (hart.0 ∷ []) }
+{
+    let cost = cost_of(setting, guest, hart);
+    add_if(cost.selected, selected, hart);
+    schedule.rekey(hart, moment + cost.ticks);
+}
+
+/// The next instruction of the hart that retired begins at that moment, if the hart goes on.
+#[inline(always)]
+pub fn begin_again(
+    setting: &Setting,
+    guest: &Guest,
+    schedule: &mut Schedule,
+    selected: &mut HartList,
+    hart: HartId,
+    fate: Fate,
+    moment: Tick,
+)
+    requires idle { IsTrue (goes_on fate)
+        → IsIdle guest.now (without_key hart.0 schedule.old) hart.0 }
+    requires moment { moment ≤ 2 ^ 60 }
+    requires speedup { setting.now.choice.speedup ≤ MAX_SPEEDUP }
+    requires selected { selected.old ≡ [] }
+    ensures due { schedule.new
+        ≡ (if goes_on fate then with_key hart.0 (moment + ticks_in setting.now guest.now hart.0)
+        (without_key hart.0 schedule.old) else schedule.old) }
+    ensures selected { selected.new
+        ≡ (if goes_on fate then selected_of setting.now guest.now (hart.0 ∷ []) else []) }
+{
+    match fate {
+        Fate::Goes => begin_next(setting, guest, schedule, selected, hart, moment),
+        _ => {}
+    }
+}
+
+/// The next instructions of these harts begin at a moment.
+pub fn begin_each(
+    setting: &Setting,
+    guest: &Guest,
+    schedule: &mut Schedule,
+    selected: &mut HartList,
+    harts: &[HartId],
+    moment: Tick,
+)
+    requires idle { AreIdle guest.now schedule.old (map (λ hart. hart.0) harts.now) }
+    requires moment { moment ≤ 2 ^ 60 }
+    requires speedup { setting.now.choice.speedup ≤ MAX_SPEEDUP }
+    requires room { length schedule.old ≡ HARTS }
+    requires few { length selected.old ≤ many schedule.old }
+    ensures begun { AreBegun (ticks_in setting.now guest.now) moment
+        (map (λ hart. hart.0) harts.now) schedule.old schedule.new }
+    ensures selected { selected.new
+        ≡ selected.old ++ selected_of setting.now guest.now (map (λ hart. hart.0) harts.now) }
+    ensures room { length schedule.new ≡ HARTS }
+    ensures few { length selected.new + many schedule.old
+        ≤ length selected.old + many schedule.new }
+{
+    for hart in harts {
+        begin(setting, guest, schedule, selected, *hart, moment);
+    }
+}

@@ -1,4 +1,0 @@
-use Rattle.virtual_run.proofs.engine.leave.Goals as goal
-
-pub returns-in-Sleeps : goal.returns-in-Sleeps
-returns-in-Sleeps c = rw c.in-Sleeps.is c.rekey.ensures
