@@ -69,7 +69,8 @@ fn rank<'w>(alloc: Global, bytes: &[u8]) -> Answer<'w>
     ensures settled { (IsMemory result → ⊥) → verdict_of result ≡ profile_verdict bytes.now }
 {
     let profile = read_profile(alloc, bytes)?;
-    let harmful = harmful(curves(alloc, &profile)?)?;
+    let all = curves(alloc, &profile)?;
+    let harmful = harmful(all)?;
     let curves = curves(alloc, &profile)?;
     Ok(Ranked {
         profile,

@@ -130,12 +130,19 @@ fn put_step<O: Sink>(to: &mut PutBuffer, out: &mut O, label: &[u8], step: &Curve
     to.push(out, b"</td></tr>\n");
 }
 
-fn put_steps<O: Sink>(to: &mut PutBuffer, out: &mut O, curve: &Curve)
+fn put_steps<O: Sink>(to: &mut PutBuffer, out: &mut O, label: &[u8], steps: &[CurveStep])
+    ensures { Gathers O.holds O.faults out.old out.new to.old to.new
+        (flat_map (step_text label.now) steps.now) }
+{
+    for step in steps {
+        put_step(to, out, label, step);
+    }
+}
+
+fn put_curve_steps<O: Sink>(to: &mut PutBuffer, out: &mut O, curve: &Curve)
     ensures { Gathers O.holds O.faults out.old out.new to.old to.new (steps_text curve.now) }
 {
-    for step in curve.steps.as_slice() {
-        put_step(to, out, curve.selected.bytes(), step);
-    }
+    put_steps(to, out, curve.selected.bytes(), curve.steps.as_slice());
 }
 
 fn put_all_steps<O: Sink>(to: &mut PutBuffer, out: &mut O, curves: &[Curve])
@@ -143,7 +150,7 @@ fn put_all_steps<O: Sink>(to: &mut PutBuffer, out: &mut O, curves: &[Curve])
         (flat_map steps_text curves.now) }
 {
     for curve in curves {
-        put_steps(to, out, curve);
+        put_curve_steps(to, out, curve);
     }
 }
 

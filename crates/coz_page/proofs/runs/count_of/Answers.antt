@@ -6,9 +6,9 @@ use Rattle.coz_page.proofs.runs.count_of.Goals as goal
 pub loop-summary-preserved : goal.loop-summary-preserved
 loop-summary-preserved c =
     let so_far = c.loop-summary.invariant in
-    let more = c.counted.ensures in
+    let more = c.counted-count.ensures in
     let one = at_most_one (ended_so c.args.kind.now c.summary-item.result) in
     record {
-      count = counted (ended_so c.args.kind.now) c.args.summaries.now c.loop-summary.summary-index c.loop-summary.count c.counted.result c.summary-item.result (search rules) (search rules) more so_far.count;
+      count = counted (ended_so c.args.kind.now) c.args.summaries.now c.loop-summary.summary-index c.loop-summary.count c.counted-count.result c.summary-item.result (search rules) (search rules) more so_far.count;
       within = omega (arith, more, one, so_far.within);
     }

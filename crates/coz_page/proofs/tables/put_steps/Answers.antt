@@ -4,5 +4,4 @@ use Rattle.coz_page.specs.Page.{step_text}
 use Rattle.coz_page.proofs.tables.put_steps.Goals as goal
 
 pub loop-step-preserved : goal.loop-step-preserved
-loop-step-preserved g c =
-    line_more (step_text c.args.curve.now.selected) c.args.curve.now.steps c.loop-step.step-index _ (search rules) (search rules) c.loop-step.invariant c.put_step.ensures
+loop-step-preserved g c = line_more (step_text c.args.label.now) c.args.steps.now c.loop-step.step-index _ (search rules) (search rules) c.loop-step.invariant c.put_step.ensures
