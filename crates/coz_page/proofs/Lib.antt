@@ -1,4 +1,6 @@
+pub mod Counts
 pub mod Escapes
+pub mod Harms
 pub mod Pages
 pub mod Pieces
 pub mod Ranking

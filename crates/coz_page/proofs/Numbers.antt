@@ -1,8 +1,8 @@
--- The axes of a picture, with each number that the places of values give.
+-- The axes of the pictures, with each number that the places of values give.
 use Rattle.std.proofs.Common.{◌≡◌, List, ◌++◌, refl}
 use Rattle.std.specs.Prelude.{ℕ, codes, decimal, pos, negsuc}
 use Rattle.std.specs.Fmt.{digits}
-use Rattle.coz_page.specs.declared.frame.TheConstants.{AXES}
+use Rattle.coz_page.specs.declared.frame.TheConstants.{AXES, SMALL_AXES}
 use Rattle.coz_page.specs.Values.{height, place_across}
 
 -- the places of 0 and 100 per cent from the left
@@ -39,3 +39,10 @@ axes : AXES.now ≡
     ++ codes "<text x=\"180\" y=\"53\" text-anchor=\"end\">"
 unfolding left right upper middle zero_line lower digits
 axes = refl
+
+small_axes : SMALL_AXES.now ≡
+    codes "<svg class=\"small\" viewBox=\"180 20 1180 540\">"
+    ++ codes "<path d=\"M" ++ left ++ codes " " ++ zero_line ++ codes "H" ++ right
+    ++ codes "\"/><polyline points=\""
+unfolding left right zero_line digits
+small_axes = refl

@@ -43,7 +43,7 @@ abbrev pub Answer : Type 0
 Answer = Result Ranked Fault
 
 abbrev pub ranked_page : Ranked → Text
-ranked_page r = curves_page r.profile.points r.curves
+ranked_page r = curves_page r.profile r.curves r.harmful
 
 abbrev pub ranked_verdict : Ranked → Verdict
 ranked_verdict r = text_verdict (ranked_page r)

@@ -1,5 +1,8 @@
 pub mod Labels
 pub mod Values
+pub mod Harm
+pub mod Cost
+pub mod Runs
 pub mod Page
 pub mod Verdict
 pub mod Answer

@@ -1,5 +1,5 @@
 -- Values in a page, and where they stand in a picture.
-use Rattle.std.specs.Prelude.{ℕ, ◌+◌, ◌-◌, ◌*◌, ◌/◌, ◌%◌, nat_le, min, [], ◌++◌, codes, decimal, Option, Some, None, ℤ, pos, negsuc, nat_abs, if◌then◌else◌}
+use Rattle.std.specs.Prelude.{ℕ, ◌+◌, ◌-◌, ◌*◌, ◌/◌, ◌%◌, nat_le, nat_lt, min, Bool, false, ◌||◌, List, [], ◌∷◌, ◌++◌, codes, decimal, Option, Some, None, ℤ, pos, negsuc, nat_abs, if◌then◌else◌}
 use Rattle.coz_types.specs.Labels.{Text}
 
 -- ---- in per cent
@@ -20,21 +20,35 @@ abbrev pub value_text : Option ℤ → Text
 value_text None = codes "absent"
 value_text (Some v) = percent v
 
+abbrev pub cost_text : Option ℕ → Text
+cost_text None = codes "absent"
+cost_text (Some n) = size_text n
+
 -- ---- in a picture
 
--- the least of these that the size doesn't pass, and 100 per cent for a greater one
+-- the upper ends of axes of values below 100 per cent
+abbrev pub tops : List ℕ
+tops =
+    100 ∷ 200 ∷ 300 ∷ 400 ∷ 500 ∷ 600 ∷ 800 ∷ 1000 ∷ 1500 ∷ 2000 ∷ 3000 ∷ 4000 ∷ 5000
+    ∷ 6000 ∷ 8000 ∷ []
+
+-- the first of these that the size doesn't pass, and 100 per cent for a greater one
+abbrev pub first_above : ℕ → List ℕ → ℕ
+first_above n [] = 10000
+first_above n (top ∷ rest) = if nat_le n top then top else first_above n rest
+
 abbrev pub top_above : ℕ → ℕ
-top_above n =
-    if nat_le n 100 then 100
-    else (if nat_le n 500 then 500
-    else (if nat_le n 1000 then 1000
-    else (if nat_le n 2500 then 2500
-    else (if nat_le n 5000 then 5000 else 10000))))
+top_above n = first_above n tops
 
 -- the upper end of the axis of values, where this is the greatest gain
 abbrev pub top_for : Option ℤ → ℕ
 top_for (Some (pos n)) = top_above n
 top_for _ = 100
+
+-- the upper end of an axis of which the lower end, a quarter of it, has room for this value
+abbrev pub harm_top_for : Option ℤ → ℕ
+harm_top_for None = 100
+harm_top_for (Some v) = top_above (4 * min (nat_abs v) 10000)
 
 -- how far from the axis of speedups a size stands; the upper end is 400 from it
 abbrev pub distance : ℕ → ℕ → ℕ
@@ -45,6 +59,16 @@ abbrev pub height : ℕ → ℤ → ℕ
 height top (pos n) = 440 - min (distance top n) 400
 height top (negsuc n) = 440 + min (distance top (n + 1)) 100
 
+-- the value is above the upper end, or below the lower end, which is a quarter of that
+abbrev pub is_cut : ℕ → ℤ → Bool
+is_cut top (pos n) = nat_lt top n
+is_cut top (negsuc n) = nat_lt (top / 4) (n + 1)
+
 -- the place of a speedup from the left
 abbrev pub place_across : ℕ → ℕ
 place_across speedup = 200 + speedup * 57 / 5
+
+-- a value whose size is at least a hundredth of the axis
+abbrev pub reaches : ℕ → Option ℤ → Bool
+reaches top None = false
+reaches top (Some v) = nat_le (top / 100) (nat_abs v)

@@ -1,10 +1,11 @@
 //! The picture of a curve.
-ghost use Rattle.std.specs.Prelude.{◌≡◌, ◌<◌, ◌≤◌, ◌++◌, flat_map};
+ghost use Rattle.std.specs.Prelude.{◌≡◌, ◌||◌, ◌<◌, ◌≤◌, ◌++◌, flat_map};
 ghost use Rattle.coz_files.specs.Gathered.{Gathers};
-ghost use Rattle.coz_page.specs.Values.{top_above, top_for, distance, height, place_across};
-ghost use Rattle.coz_page.specs.Page.{IsTop, place_text, dot_text, chart_text, place_at, dot_at};
+ghost use Rattle.coz_page.specs.Values.{top_above, top_for, harm_top_for, distance, height, is_cut, place_across, reaches};
+ghost use Rattle.coz_page.specs.Page.{IsTop, place_text, dot_start, dot_text, chart_text, place_at, dot_at, is_notable, small_text};
 
-use crate::frame::AXES;
+use crate::frame::{AXES, SMALL_AXES};
+use crate::harm::worst_of;
 use crate::percent::{put_percent, put_size};
 use causal_curves::{Curve, CurveStep};
 use coz_files::{PutBuffer, Sink};
@@ -19,14 +20,34 @@ fn top_above(size: u128) -> u64
 {
     if size <= 100 {
         100
+    } else if size <= 200 {
+        200
+    } else if size <= 300 {
+        300
+    } else if size <= 400 {
+        400
     } else if size <= 500 {
         500
+    } else if size <= 600 {
+        600
+    } else if size <= 800 {
+        800
     } else if size <= 1000 {
         1000
-    } else if size <= 2500 {
-        2500
+    } else if size <= 1500 {
+        1500
+    } else if size <= 2000 {
+        2000
+    } else if size <= 3000 {
+        3000
+    } else if size <= 4000 {
+        4000
     } else if size <= 5000 {
         5000
+    } else if size <= 6000 {
+        6000
+    } else if size <= 8000 {
+        8000
     } else {
         10000
     }
@@ -40,6 +61,18 @@ pub fn top_for(gain: Option<i128>) -> u64
     match gain {
         Some(gain) if gain >= 0 => top_above(gain as u128),
         _ => 100,
+    }
+}
+
+/// The upper end of an axis of which the lower end, a quarter of it, has room for this value,
+/// in hundredths of a per cent.
+pub fn harm_top_for(worst: Option<i128>) -> u64
+    ensures top { result ≡ harm_top_for worst }
+    ensures range { IsTop result }
+{
+    match worst {
+        Some(worst) => top_above(4 * worst.unsigned_abs().min(WHOLE)),
+        None => 100,
     }
 }
 
@@ -77,11 +110,31 @@ fn put_place<O: Sink>(to: &mut PutBuffer, out: &mut O, top: u64, speedup: u8, va
     put_number(to, out, b",", height(top, value));
 }
 
+/// Whether the value is above the upper end of the axis, or below the lower end,
+/// which is a quarter of that.
+fn is_cut(top: u64, value: i128) -> bool
+    ensures { result ≡ is_cut top value }
+{
+    let end = if value < 0 { top / 4 } else { top };
+    value.unsigned_abs() > end as u128
+}
+
+fn dot_start(is_low: bool) -> &'static [u8]
+    ensures { result.now ≡ dot_start is_low }
+{
+    if is_low {
+        b"<circle class=\"low"
+    } else {
+        b"<circle class=\"dot"
+    }
+}
+
 fn put_dot<O: Sink>(to: &mut PutBuffer, out: &mut O, top: u64, speedup: u8, value: i128)
     requires { IsTop top }
     ensures { Gathers O.holds O.faults out.old out.new to.old to.new (dot_text top speedup value) }
 {
-    put_number(to, out, b"<circle r=\"14\" cx=\"", across(speedup));
+    to.push(out, dot_start(is_cut(top, value)));
+    put_number(to, out, b"\" r=\"14\" cx=\"", across(speedup));
     put_number(to, out, b"\" cy=\"", height(top, value));
     put_number(to, out, b"\"><title>line ", speedup as u64);
     to.push(out, b"% faster: ");
@@ -125,6 +178,32 @@ fn put_dots<O: Sink>(to: &mut PutBuffer, out: &mut O, top: u64, steps: &[CurveSt
     for step in steps {
         put_dot_at(to, out, top, step);
     }
+}
+
+fn reaches(top: u64, value: Option<i128>) -> bool
+    ensures { result ≡ reaches top value }
+{
+    match value {
+        Some(value) => value.unsigned_abs() >= (top / 100) as u128,
+        None => false,
+    }
+}
+
+/// Whether the gain or the size of the worst value is at least a hundredth of the axis.
+pub fn is_notable(top: u64, curve: &Curve) -> bool
+    ensures { result ≡ is_notable top curve.now }
+{
+    reaches(top, curve.gain) || reaches(top, worst_of(curve.steps.as_slice()))
+}
+
+/// The picture of a curve in a row of a table: its line over the axis of speedups.
+pub fn put_small<O: Sink>(to: &mut PutBuffer, out: &mut O, top: u64, curve: &Curve)
+    requires { IsTop top }
+    ensures { Gathers O.holds O.faults out.old out.new to.old to.new (small_text top curve.now) }
+{
+    to.push(out, SMALL_AXES);
+    put_places(to, out, top, curve.steps.as_slice());
+    to.push(out, b"\"/></svg>");
 }
 
 /// The picture of a curve, over an axis of values with this upper end.

@@ -17,7 +17,7 @@ pub enum Fault<'a> {
     Write,
     /// The file of this path is longer than a profile may be.
     Long(&'a str),
-    /// Memory was wanting.
+    /// Out of memory.
     Memory,
     /// The text is no profile's.
     Profile(BookFault),

@@ -6,6 +6,7 @@ ghost use Rattle.coz_page.specs.Verdict.{Verdict, bytes_of, path_in, verdict, fi
 ghost use Rattle.coz_page.specs.Answer.{verdict_of, IsMemory, IsRead, IsOfPath, Suits, Settles, SettlesThen};
 
 use crate::fault::Fault;
+use crate::harm::harmful;
 use causal_curves::{Curve, curves};
 use coz_files::{FileAnswer, Files};
 use coz_lists::Items;
@@ -20,6 +21,8 @@ pub struct Ranked {
     pub profile: Profile,
     /// Its curves, the one that gains most first.
     pub curves: Items<Curve>,
+    /// Those of the lines that hurt, the one that hurts most first.
+    pub harmful: Items<Curve>,
 }
 
 /// A profile with its curves, or why there is no page. A fault borrows from the words.
@@ -66,8 +69,14 @@ fn rank<'w>(alloc: Global, bytes: &[u8]) -> Answer<'w>
     ensures settled { (IsMemory result → ⊥) → verdict_of result ≡ profile_verdict bytes.now }
 {
     let profile = read_profile(alloc, bytes)?;
+    let all = curves(alloc, &profile)?;
+    let harmful = harmful(all)?;
     let curves = curves(alloc, &profile)?;
-    Ok(Ranked { profile, curves })
+    Ok(Ranked {
+        profile,
+        curves,
+        harmful,
+    })
 }
 
 /// The profile that the words name, with its curves.

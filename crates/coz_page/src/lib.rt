@@ -3,14 +3,17 @@
 #![tactic(auto)]
 
 mod chart;
+mod cost;
 mod fault;
 mod fault_line;
 mod frame;
 mod groups;
+mod harm;
 mod judge;
 mod label;
 mod page;
 mod percent;
+mod runs;
 mod tables;
 mod top;
 

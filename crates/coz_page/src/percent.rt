@@ -1,7 +1,7 @@
 //! Values in per cent.
 ghost use Rattle.std.specs.Prelude.{◌≡◌, ◌++◌, decimal};
 ghost use Rattle.coz_files.specs.Gathered.{Gathers};
-ghost use Rattle.coz_page.specs.Values.{sign, size_text, percent, value_text};
+ghost use Rattle.coz_page.specs.Values.{sign, size_text, percent, value_text, cost_text};
 
 use coz_files::{PutBuffer, Sink};
 use profile_book::put_number;
@@ -43,6 +43,16 @@ pub fn put_value<O: Sink>(to: &mut PutBuffer, out: &mut O, value: Option<i128>)
 {
     match value {
         Some(value) => put_percent(to, out, value),
+        None => to.push(out, b"absent"),
+    }
+}
+
+/// A cost in per cent, or that it is absent.
+pub fn put_cost<O: Sink>(to: &mut PutBuffer, out: &mut O, cost: Option<u128>)
+    ensures { Gathers O.holds O.faults out.old out.new to.old to.new (cost_text cost) }
+{
+    match cost {
+        Some(cost) => put_size(to, out, cost),
         None => to.push(out, b"absent"),
     }
 }

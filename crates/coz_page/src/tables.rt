@@ -1,35 +1,54 @@
 //! What the page has of one progress point.
-ghost use Rattle.std.specs.Prelude.{◌≡◌, length, flat_map};
+ghost use Rattle.std.specs.Prelude.{◌≡◌, take, length, flat_map};
 ghost use Rattle.coz_types.specs.Labels.{Text};
 ghost use Rattle.coz_files.specs.Gathered.{Gathers};
-ghost use Rattle.coz_page.specs.Page.{IsTop, row_text, figure_text, count_text, point_name, point_number, top_of, point_text};
+ghost use Rattle.coz_page.specs.Page.{IsTop, most_shown, row_text, rows_text, figure_text, figure_at, count_text, step_text, steps_text, values_text, pictures_text, point_name, point_number, top_of, harm_top, point_text, harm_text};
 
-use crate::chart::{put_chart, top_for};
+use crate::chart::{harm_top_for, is_notable, put_chart, put_small, top_for};
+use crate::cost::cost_of;
+use crate::harm::worst_of;
 use crate::label::put_label;
-use crate::percent::put_value;
-use causal_curves::Curve;
+use crate::percent::{put_cost, put_value};
+use crate::runs::put_visits;
+use causal_curves::{Curve, CurveStep};
 use coz_files::{PutBuffer, Sink};
-use coz_types::Label;
-use profile_book::put_number;
+use coz_types::{Label, Summary};
+use profile_book::{Profile, put_number};
 
-/// How many lines are shown of each point.
+/// How many lines each table shows.
 const MAX_SHOWN: usize = 20;
 
-fn put_row<O: Sink>(to: &mut PutBuffer, out: &mut O, curve: &Curve)
-    ensures { Gathers O.holds O.faults out.old out.new to.old to.new (row_text curve.now) }
+fn put_row<O: Sink>(to: &mut PutBuffer, out: &mut O, top: u64, summaries: &[Summary], curve: &Curve)
+    requires { IsTop top }
+    ensures { Gathers O.holds O.faults out.old out.new to.old to.new
+        (row_text top summaries.now curve.now) }
 {
-    put_label(to, out, b"<tr><td>", curve.selected.bytes());
+    let label = curve.selected.bytes();
+    put_label(to, out, b"<tr><td>", label);
+    to.push(out, b"</td><td>");
+    put_cost(to, out, cost_of(summaries, label));
     to.push(out, b"</td><td>");
     put_value(to, out, curve.gain);
+    to.push(out, b"</td><td>");
+    put_value(to, out, worst_of(curve.steps.as_slice()));
+    to.push(out, b"</td><td>");
+    put_small(to, out, top, curve);
     to.push(out, b"</td></tr>\n");
 }
 
-fn put_rows<O: Sink>(to: &mut PutBuffer, out: &mut O, curves: &[Curve])
+fn put_rows<O: Sink>(
+    to: &mut PutBuffer,
+    out: &mut O,
+    top: u64,
+    summaries: &[Summary],
+    curves: &[Curve],
+)
+    requires { IsTop top }
     ensures { Gathers O.holds O.faults out.old out.new to.old to.new
-        (flat_map row_text curves.now) }
+        (flat_map (row_text top summaries.now) curves.now) }
 {
     for curve in curves {
-        put_row(to, out, curve);
+        put_row(to, out, top, summaries, curve);
     }
 }
 
@@ -45,13 +64,22 @@ fn put_figure<O: Sink>(to: &mut PutBuffer, out: &mut O, top: u64, curve: &Curve)
     to.push(out, b"</figure>\n");
 }
 
+fn put_figure_at<O: Sink>(to: &mut PutBuffer, out: &mut O, top: u64, curve: &Curve)
+    requires { IsTop top }
+    ensures { Gathers O.holds O.faults out.old out.new to.old to.new (figure_at top curve.now) }
+{
+    if is_notable(top, curve) {
+        put_figure(to, out, top, curve);
+    }
+}
+
 fn put_figures<O: Sink>(to: &mut PutBuffer, out: &mut O, top: u64, curves: &[Curve])
     requires { IsTop top }
     ensures { Gathers O.holds O.faults out.old out.new to.old to.new
-        (flat_map (figure_text top) curves.now) }
+        (flat_map (figure_at top) curves.now) }
 {
     for curve in curves {
-        put_figure(to, out, top, curve);
+        put_figure_at(to, out, top, curve);
     }
 }
 
@@ -60,9 +88,99 @@ fn put_count<O: Sink>(to: &mut PutBuffer, out: &mut O, lines: u64)
 {
     let shown = lines.min(MAX_SHOWN as u64);
     put_number(to, out, b"</table>\n<p>Lines: ", lines);
-    put_number(to, out, b". Shown, the best first: ", shown);
+    put_number(to, out, b". Shown: ", shown);
     put_number(to, out, b". Not shown: ", lines - shown);
-    to.push(out, b".</p>\n<div class=\"charts\">\n");
+    to.push(out, b".</p>\n");
+}
+
+/// The first of the curves, at most as many as a table shows.
+fn shown(curves: &[Curve]) -> &[Curve]
+    ensures { result.now ≡ take most_shown curves.now }
+{
+    &curves[..MAX_SHOWN.min(curves.len())]
+}
+
+fn put_table<O: Sink>(
+    to: &mut PutBuffer,
+    out: &mut O,
+    top: u64,
+    summaries: &[Summary],
+    curves: &[Curve],
+)
+    requires { IsTop top }
+    ensures { Gathers O.holds O.faults out.old out.new to.old to.new
+        (rows_text top summaries.now curves.now) }
+{
+    to.push(
+        out,
+        b"\">\n<tr><th>Line</th><th>Cost</th><th>Gain</th><th>Worst</th><th>Curve</th></tr>\n",
+    );
+    put_rows(to, out, top, summaries, shown(curves));
+    put_count(to, out, curves.len() as u64);
+}
+
+fn put_step<O: Sink>(to: &mut PutBuffer, out: &mut O, label: &[u8], step: &CurveStep)
+    ensures { Gathers O.holds O.faults out.old out.new to.old to.new
+        (step_text label.now step.now) }
+{
+    put_label(to, out, b"<tr><td>", label);
+    put_number(to, out, b"</td><td>", step.speedup as u64);
+    to.push(out, b"%</td><td>");
+    put_value(to, out, step.value);
+    to.push(out, b"</td></tr>\n");
+}
+
+fn put_steps<O: Sink>(to: &mut PutBuffer, out: &mut O, label: &[u8], steps: &[CurveStep])
+    ensures { Gathers O.holds O.faults out.old out.new to.old to.new
+        (flat_map (step_text label.now) steps.now) }
+{
+    for step in steps {
+        put_step(to, out, label, step);
+    }
+}
+
+fn put_curve_steps<O: Sink>(to: &mut PutBuffer, out: &mut O, curve: &Curve)
+    ensures { Gathers O.holds O.faults out.old out.new to.old to.new (steps_text curve.now) }
+{
+    put_steps(to, out, curve.selected.bytes(), curve.steps.as_slice());
+}
+
+fn put_all_steps<O: Sink>(to: &mut PutBuffer, out: &mut O, curves: &[Curve])
+    ensures { Gathers O.holds O.faults out.old out.new to.old to.new
+        (flat_map steps_text curves.now) }
+{
+    for curve in curves {
+        put_curve_steps(to, out, curve);
+    }
+}
+
+/// The value of each line at each speedup.
+fn put_values<O: Sink>(to: &mut PutBuffer, out: &mut O, curves: &[Curve])
+    ensures { Gathers O.holds O.faults out.old out.new to.old to.new (values_text curves.now) }
+{
+    to.push(
+        out,
+        b"<details><summary>The values at each speedup</summary>\n",
+    );
+    to.push(
+        out,
+        b"<table>\n<tr><th>Line</th><th>Faster by</th><th>Value</th></tr>\n",
+    );
+    put_all_steps(to, out, curves);
+    to.push(out, b"</table>\n</details>\n");
+}
+
+/// The large pictures of a table's lines, and their values.
+fn put_pictures<O: Sink>(to: &mut PutBuffer, out: &mut O, top: u64, curves: &[Curve])
+    requires { IsTop top }
+    ensures { Gathers O.holds O.faults out.old out.new to.old to.new
+        (pictures_text top curves.now) }
+{
+    to.push(out, b"<div class=\"charts\">\n");
+    put_figures(to, out, top, shown(curves));
+    to.push(out, b"</div>\n");
+    put_values(to, out, shown(curves));
+    to.push(out, b"</details>\n");
 }
 
 fn point_name<'a>(points: &'a [Label], curves: &[Curve]) -> &'a [u8]
@@ -96,24 +214,52 @@ fn top_of(curves: &[Curve]) -> u64
     }
 }
 
-/// What the page has of the point that these curves are of.
-pub fn put_point<O: Sink>(to: &mut PutBuffer, out: &mut O, points: &[Label], curves: &[Curve])
-    ensures { Gathers O.holds O.faults out.old out.new to.old to.new
-        (point_text points.now curves.now) }
+fn harm_top(curves: &[Curve]) -> u64
+    ensures top { result ≡ harm_top curves.now }
+    ensures range { IsTop result }
 {
-    let count = MAX_SHOWN.min(curves.len());
-    let shown = &curves[..count];
-    let name = point_name(points, curves);
+    match curves.first() {
+        Some(curve) => harm_top_for(worst_of(curve.steps.as_slice())),
+        None => 100,
+    }
+}
+
+/// What the page has of the point that these curves are of.
+pub fn put_point<O: Sink>(to: &mut PutBuffer, out: &mut O, profile: &Profile, curves: &[Curve])
+    ensures { Gathers O.holds O.faults out.old out.new to.old to.new
+        (point_text profile.now curves.now) }
+{
+    let summaries = profile.summaries.as_slice();
+    let point = point_number(curves);
+    let top = top_of(curves);
+    let name = point_name(profile.points.as_slice(), curves);
     put_label(
         to,
         out,
         b"<details name=\"point\" open><summary>Progress point ",
         name,
     );
-    put_number(to, out, b"</summary>\n<table id=\"p", point_number(curves));
-    to.push(out, b"\">\n<tr><th>Line</th><th>Gain</th></tr>\n");
-    put_rows(to, out, shown);
-    put_count(to, out, curves.len() as u64);
-    put_figures(to, out, top_of(curves), shown);
-    to.push(out, b"</div>\n</details>\n");
+    to.push(out, b"</summary>\n");
+    put_visits(to, out, summaries, point);
+    put_number(to, out, b"<table id=\"p", point);
+    put_table(to, out, top, summaries, curves);
+    put_pictures(to, out, top, curves);
+}
+
+/// The lines that hurt the point that these curves are of.
+pub fn put_harm<O: Sink>(to: &mut PutBuffer, out: &mut O, profile: &Profile, curves: &[Curve])
+    ensures { Gathers O.holds O.faults out.old out.new to.old to.new
+        (harm_text profile.now curves.now) }
+{
+    let top = harm_top(curves);
+    let name = point_name(profile.points.as_slice(), curves);
+    put_label(
+        to,
+        out,
+        b"<details open><summary>Lines that hurt, by their worst value: ",
+        name,
+    );
+    put_number(to, out, b"</summary>\n<table id=\"h", point_number(curves));
+    put_table(to, out, top, profile.summaries.as_slice(), curves);
+    put_pictures(to, out, top, curves);
 }

@@ -60,8 +60,9 @@ pub fn serve<F: Files, O: Sink, E: Sink>(
 {
     match judge(alloc, words, files) {
         Ok(ranked) => {
-            let points = ranked.profile.points.as_slice();
-            match write_page(points, ranked.curves.as_slice(), out) {
+            let curves = ranked.curves.as_slice();
+            let harmful = ranked.harmful.as_slice();
+            match write_page(&ranked.profile, curves, harmful, out) {
                 PutAnswer::Done => 0,
                 PutAnswer::Failed => tell(err, Fault::Write),
             }

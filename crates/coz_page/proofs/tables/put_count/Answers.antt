@@ -8,7 +8,7 @@ use Rattle.coz_page.proofs.tables.put_count.Goals as goal
 pub returns : goal.returns
 returns g c =
     let lines = c.args.lines in
-    let shown = gathers_as (ap (λ (n : ℕ). codes ". Shown, the best first: " ++ decimal n) c.min-shown.ensures) c.put_number-2.ensures in
+    let shown = gathers_as (ap (λ (n : ℕ). codes ". Shown: " ++ decimal n) c.min-shown.ensures) c.put_number-2.ensures in
     let others = gathers_as (ap (λ (n : ℕ). codes ". Not shown: " ++ decimal (lines - n)) c.min-shown.ensures) c.put_number-3.ensures in
-    let two = two_then (codes ". Shown, the best first: ") (decimal (min lines most_shown)) c.put_number.ensures shown in
+    let two = two_then (codes ". Shown: ") (decimal (min lines most_shown)) c.put_number.ensures shown in
     gathers_then (two_then (codes ". Not shown: ") (decimal (lines - min lines most_shown)) two others) c.push.ensures.gathers

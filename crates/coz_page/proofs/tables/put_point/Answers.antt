@@ -1,21 +1,22 @@
-use Rattle.std.proofs.Common.{◌≡◌, ℕ, List, ◌++◌, take, codes, decimal, flat_map, ap, ap₂, ◌∙◌}
-use Rattle.std.proofs.lemmas.List.{take_min}
+use Rattle.std.proofs.Common.{ℕ, List, ◌++◌, codes, decimal, ap, ap₂, ◌∙◌}
 use Rattle.coz_types.specs.Labels.{Text}
+use Rattle.coz_types.specs.declared.record.Summary.{Summary}
 use Rattle.coz_files.proofs.GatheredLemmas.{gathers_then}
 use Rattle.profile_book.proofs.Gathering.{gathers_as}
-use Rattle.causal_curves.specs.declared.curve.Curve.{Curve}
 use Rattle.coz_page.specs.Labels.{html}
-use Rattle.coz_page.specs.Page.{most_shown, point_number, row_text, figure_text}
+use Rattle.coz_page.specs.Runs.{visits_text}
+use Rattle.coz_page.specs.Page.{point_name, point_number, rows_text, pictures_text}
 use Rattle.coz_page.proofs.Pieces.{two_then}
 use Rattle.coz_page.proofs.tables.put_point.Goals as goal
 
 pub returns : goal.returns
 returns g c =
     let curves = c.args.curves.now in
-    let shown : take c.min-count.result curves ≡ take most_shown curves = ap (λ (n : ℕ). take n curves) c.min-count.ensures ∙ take_min most_shown curves in
-    let name = gathers_as (ap (λ (t : Text). codes "<details name=\"point\" open><summary>Progress point " ++ html t) c.point_name-name.ensures) c.put_label.ensures in
-    let number = gathers_as (ap (λ (n : ℕ). codes "</summary>\n<table id=\"p" ++ decimal n) c.point_number.ensures) c.put_number.ensures in
-    let head = gathers_then (two_then (codes "</summary>\n<table id=\"p") (decimal (point_number curves)) name number) c.push.ensures.gathers in
-    let table = gathers_then (gathers_then head (gathers_as (ap (flat_map row_text) shown) c.put_rows.ensures)) c.put_count.ensures in
-    let figures = gathers_as (ap₂ (λ (top : ℕ) (cs : List Curve). flat_map (figure_text top) cs) c.top_of.ensures.top shown) c.put_figures.ensures in
-    gathers_then (gathers_then table figures) c.push-2.ensures.gathers
+    let named = c.point_name-name.ensures ∙ ap (λ (ps : List Text). point_name ps curves) c.as_slice.ensures in
+    let name = gathers_as (ap (λ (t : Text). codes "<details name=\"point\" open><summary>Progress point " ++ html t) named) c.put_label.ensures in
+    let visits = gathers_as (ap₂ (λ (ss : List Summary) (n : ℕ). visits_text ss n) c.as_slice-summaries.ensures c.point_number-point.ensures) c.put_visits.ensures in
+    let number = gathers_as (ap (λ (n : ℕ). codes "<table id=\"p" ++ decimal n) c.point_number-point.ensures) c.put_number.ensures in
+    let head = two_then (codes "<table id=\"p") (decimal (point_number curves)) (gathers_then (gathers_then name c.push.ensures.gathers) visits) number in
+    let rows = gathers_as (ap₂ (λ (top : ℕ) (ss : List Summary). rows_text top ss curves) c.top_of-top.ensures.top c.as_slice-summaries.ensures) c.put_table.ensures in
+    let pictures = gathers_as (ap (λ (top : ℕ). pictures_text top curves) c.top_of-top.ensures.top) c.put_pictures.ensures in
+    gathers_then (gathers_then head rows) pictures

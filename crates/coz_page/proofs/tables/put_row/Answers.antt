@@ -1,11 +1,20 @@
-use Rattle.std.proofs.Common.{◌++◌, codes, ap}
+use Rattle.std.proofs.Common.{◌++◌, codes, ap, ◌∙◌}
 use Rattle.coz_types.specs.Labels.{Text}
 use Rattle.coz_files.proofs.GatheredLemmas.{gathers_then}
 use Rattle.profile_book.proofs.Gathering.{gathers_as}
 use Rattle.coz_page.specs.Labels.{html}
+use Rattle.coz_page.specs.Values.{value_text, cost_text}
+use Rattle.coz_page.specs.Harm.{worst_of}
+use Rattle.coz_page.specs.Cost.{cost_of}
 use Rattle.coz_page.proofs.tables.put_row.Goals as goal
 
 pub returns : goal.returns
 returns g c =
-    let label = gathers_as (ap (λ (t : Text). codes "<tr><td>" ++ html t) c.bytes.ensures) c.put_label.ensures in
-    gathers_then (gathers_then (gathers_then label c.push.ensures.gathers) c.put_value.ensures) c.push-2.ensures.gathers
+    let label = gathers_as (ap (λ (t : Text). codes "<tr><td>" ++ html t) c.bytes-label.ensures) c.put_label.ensures in
+    let of_label = c.cost_of.ensures ∙ ap (cost_of c.args.summaries.now) c.bytes-label.ensures in
+    let cost = gathers_then (gathers_then label c.push.ensures.gathers) (gathers_as (ap cost_text of_label) c.put_cost.ensures) in
+    let gain = gathers_then (gathers_then cost c.push-2.ensures.gathers) c.put_value.ensures in
+    let least = c.worst_of.ensures ∙ ap worst_of c.as_slice.ensures in
+    let worst = gathers_as (ap value_text least) c.put_value-2.ensures in
+    let harm = gathers_then (gathers_then gain c.push-3.ensures.gathers) worst in
+    gathers_then (gathers_then (gathers_then harm c.push-4.ensures.gathers) c.put_small.ensures) c.push-5.ensures.gathers

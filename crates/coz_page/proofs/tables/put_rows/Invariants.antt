@@ -5,4 +5,4 @@ use Rattle.coz_page.specs.Page.{row_text}
 use Rattle.coz_page.proofs.tables.put_rows.Given as goal
 
 abbrev pub invariant-loop-curve : goal.invariant-loop-curve
-invariant-loop-curve g l = Gathers g.O.Sink.holds g.O.Sink.faults l.fn.out l.out l.fn.to l.to (flat_map row_text (take l.curve-index l.curves))
+invariant-loop-curve g l = Gathers g.O.Sink.holds g.O.Sink.faults l.fn.out l.out l.fn.to l.to (flat_map (row_text l.top l.summaries) (take l.curve-index l.curves))

@@ -1,6 +1,5 @@
 use Rattle.std.proofs.Common.{◌≡◌, List, codes, refl, arith, subst, ap₂}
 use Rattle.std.specs.Io.KnownBytes.{Appends}
-use Rattle.coz_types.specs.Labels.{Text}
 use Rattle.coz_files.specs.Puts.{AppendsPrefix}
 use Rattle.causal_curves.specs.declared.curve.Curve.{Curve}
 use Rattle.coz_page.specs.Page.{curves_page}
@@ -14,7 +13,7 @@ returns-in-Done-clause-usage g c = usage_apart 0 (path_in (bytes_of c.args.words
 
 pub returns-in-Done-clause-text : goal.returns-in-Done-clause-text
 returns-in-Done-clause-text g c =
-    let page : curves_page c.as_slice-points.result.now c.as_slice.result.now ≡ ranked_page c.in-Ok.ranked = ap₂ (λ (ps : List Text) (cs : List Curve). curves_page ps cs) c.as_slice-points.ensures c.as_slice.ensures in
+    let page : curves_page c.in-Ok.ranked.profile c.as_slice-curves.result.now c.as_slice-harmful.result.now ≡ ranked_page c.in-Ok.ranked = ap₂ (λ (cs hs : List Curve). curves_page c.in-Ok.ranked.profile cs hs) c.as_slice-curves.ensures c.as_slice-harmful.ensures in
     page_put (bytes_of c.args.words.now) (g.F.Files.faults c.args.files.now) (g.F.Files.faults c.judge.new.files) (g.F.Files.held c.args.files.now) (g.O.Sink.holds c.args.out.now) (g.O.Sink.holds c.write_page.new.out) c.in-Ok.ranked 0
     c.in-Ok.ensures.settled
     (subst (Appends (g.O.Sink.holds c.args.out.now) (g.O.Sink.holds c.write_page.new.out)) page (c.in-Done.ensures.done refl))
@@ -26,7 +25,7 @@ returns-in-Ok-clause-usage g c =
 
 pub returns-in-Ok-clause-torn : goal.returns-in-Ok-clause-torn
 returns-in-Ok-clause-torn g c =
-    let page : curves_page c.as_slice-points.result.now c.as_slice.result.now ≡ ranked_page c.in-Ok.ranked = ap₂ (λ (ps : List Text) (cs : List Curve). curves_page ps cs) c.as_slice-points.ensures c.as_slice.ensures in
+    let page : curves_page c.in-Ok.ranked.profile c.as_slice-curves.result.now c.as_slice-harmful.result.now ≡ ranked_page c.in-Ok.ranked = ap₂ (λ (cs hs : List Curve). curves_page c.in-Ok.ranked.profile cs hs) c.as_slice-curves.ensures c.as_slice-harmful.ensures in
     page_torn (bytes_of c.args.words.now) (g.F.Files.faults c.args.files.now) (g.F.Files.faults c.judge.new.files) (g.F.Files.held c.args.files.now) (g.O.Sink.holds c.args.out.now) (g.O.Sink.holds c.write_page.new.out) c.in-Ok.ranked c.tell.result
     c.in-Ok.ensures.settled
     (subst (AppendsPrefix (g.O.Sink.holds c.args.out.now) (g.O.Sink.holds c.write_page.new.out)) page (c.in-Failed.ensures.torn refl))

@@ -1,0 +1,77 @@
+-- What a page says of the runs.
+use Rattle.std.specs.Prelude.{ℕ, ◌-◌, Bool, not, ◌==◌, List, [], ◌++◌, length, find, get_or, codes, decimal, Option, Some, None, if◌then◌else◌}
+use Rattle.std.specs.List.{filter}
+use Rattle.std.specs.Str.{bytes_eq}
+use Rattle.coz_types.specs.Labels.{Text}
+use Rattle.coz_types.specs.declared.ending.Ending.{Ending}
+use Rattle.coz_types.specs.declared.ending.Ending.TheVariants.{Exited, Trapped, Unsupported, Clock, OutputFull, VisitsFull, Stalled, Spent}
+use Rattle.coz_types.specs.declared.record.Summary.{Summary}
+use Rattle.profile_book.specs.declared.profile.Profile.{Profile}
+use Rattle.causal_curves.specs.Curves.{visits}
+
+-- the kind of an ending, as its text begins
+abbrev pub kind_of : Ending → Text
+kind_of (Exited code) = codes "exited"
+kind_of (Trapped trap) = codes "trapped"
+kind_of (Unsupported number) = codes "unsupported"
+kind_of Clock = codes "clock"
+kind_of OutputFull = codes "output-full"
+kind_of VisitsFull = codes "visits-full"
+kind_of Stalled = codes "stalled"
+kind_of Spent = codes "spent"
+
+abbrev pub ended_so : Text → Summary → Bool
+ended_so kind s = bytes_eq (kind_of s.outcome.ending) kind
+
+-- how many runs ended so
+abbrev pub count_of : Text → List Summary → ℕ
+count_of kind summaries = length (filter (ended_so kind) summaries)
+
+abbrev pub others_of : List Summary → ℕ
+others_of summaries = length summaries - count_of (codes "exited") summaries
+
+-- nothing where no run ended so
+abbrev pub kind_text : List Summary → Text → Text
+kind_text summaries kind =
+    if count_of kind summaries == 0 then []
+    else kind ++ codes ": " ++ decimal (count_of kind summaries) ++ codes ". "
+
+-- the kinds of endings other than `exited`, each with its number
+abbrev pub kinds_text : List Summary → Text
+kinds_text summaries =
+    kind_text summaries (codes "trapped") ++ kind_text summaries (codes "unsupported")
+    ++ kind_text summaries (codes "clock") ++ kind_text summaries (codes "output-full")
+    ++ kind_text summaries (codes "visits-full") ++ kind_text summaries (codes "stalled")
+    ++ kind_text summaries (codes "spent")
+
+abbrev pub warned : ℕ → List Summary → Text
+warned others summaries =
+    codes "<p class=\"warning\">Warning: runs that did not exit: " ++ decimal others
+    ++ codes ". " ++ kinds_text summaries ++ codes "</p>\n"
+
+-- a warning where a run did not exit
+abbrev pub warning_text : List Summary → Text
+warning_text summaries =
+    if others_of summaries == 0 then [] else warned (others_of summaries) summaries
+
+-- what was run, and how the runs ended
+abbrev pub runs_text : Profile → Text
+runs_text p =
+    codes "<p>Budget of each run: " ++ decimal p.budget ++ codes " instructions. Runs: "
+    ++ decimal (length p.summaries) ++ codes ".</p>\n" ++ warning_text p.summaries
+
+-- the first run at speedup 0
+abbrev pub plain_run : List Summary → Option Summary
+plain_run summaries = find (λ (s : Summary). s.speedup == 0) summaries
+
+abbrev pub visits_of : ℕ → Summary → Text
+visits_of point s =
+    codes "<p>Visits at speedup 0: " ++ decimal (visits point s) ++ codes ".</p>\n"
+
+abbrev pub visits_in : ℕ → Option Summary → Text
+visits_in point None = []
+visits_in point (Some s) = visits_of point s
+
+-- the visits of a point in that run
+abbrev pub visits_text : List Summary → ℕ → Text
+visits_text summaries point = visits_in point (plain_run summaries)
