@@ -13,7 +13,7 @@ use std::alloc::{AllocError, AllocFailed, Global};
 /// What is wrong with a line, and at which column; or that memory ran out.
 #[derive(Debug, Drop)]
 pub enum LineError {
-    /// Memory was wanting.
+    /// Out of memory.
     Memory,
     /// What is wrong, and the column, counted from 1.
     Fault { kind: AsmKind, column: u32 },

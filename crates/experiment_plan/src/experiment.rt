@@ -26,7 +26,7 @@ pub struct Experiment {
 pub enum PlanError {
     /// The number of pairs, which exceeds `MAX_PAIRS`.
     TooMany(u64),
-    /// Memory was wanting.
+    /// Out of memory.
     Memory,
 }
 

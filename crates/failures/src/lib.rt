@@ -11,7 +11,7 @@ use std::alloc::{AllocError, AllocFailed};
 pub enum Failure<F> {
     /// The first fault that it has.
     Fault(F),
-    /// Memory was wanting.
+    /// Out of memory.
     Memory,
 }
 

@@ -32,7 +32,7 @@ pub enum Fault<'a> {
     Long(&'a str),
     /// The number of runs of the plan, which exceeds 100,000.
     ManyExperiments(u64),
-    /// Memory was wanting.
+    /// Out of memory.
     Memory,
     /// The source isn't assembled.
     Source(AsmFault),

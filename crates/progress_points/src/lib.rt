@@ -20,7 +20,7 @@ use std::marker::Model;
 pub enum PointsError {
     /// The number of lines, which exceeds `MAX_POINTS`.
     TooMany(u64),
-    /// Memory was wanting.
+    /// Out of memory.
     Memory,
 }
 

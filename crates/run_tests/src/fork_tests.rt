@@ -157,7 +157,7 @@ fn fork_stands<'a>(
     }
 }
 
-/// The choice of a line and a speedup, for a program of so many lines.
+/// The choice of a line and a speedup, for a program with that number of lines.
 fn choice_of(count: u32, line: u32, speedup: u8) -> Option<Choice>
     ensures choice { IfSome result IsChoice }
     ensures selected { IfSome result (λ choice. IsSome choice.selected) }
