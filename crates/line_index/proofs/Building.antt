@@ -56,8 +56,11 @@ labels_are labels paths8 paths keys9 keys same8 same9 are =
     let moved : map (λ (key : Key). label (line_at (texts paths8) key)) keys9 ≡ map (λ (key : Key). label (line_at (texts paths) key)) keys = λ i. map (λ (key : Key). label (line_at (texts (same8 i)) key)) (same9 i) in
     are ∙ moved ∙ map_twice (texts paths) keys
 
-pub entries_many : (entries : List (Vec ℕ)) (changes : List Change) (n m : ℕ) → n ≡ m → AreStarts n changes (texts entries) → length entries ≡ m
-entries_many entries changes n m e all = sym (length-map entries (λ (list : Vec ℕ). list.items)) ∙ all.as_many ∙ e
+pub entries_many : (entries : List (List ℕ)) (changes : List Change) (n m : ℕ) → n ≡ m → AreStarts n changes entries → length entries ≡ m
+entries_many entries changes n m e all = all.as_many ∙ e
+
+pub changes_many : (rows : List Row) (positions : List (Option ℕ)) (keys : List Key) (covering changes : List Change) → map (line_change keys) changes ≡ map (key_change rows positions) covering → length changes ≡ length covering
+changes_many rows positions keys covering changes lined = sym (length-map changes (line_change keys)) ∙ ap length lined ∙ length-map covering (key_change rows positions)
 
 pub rise_of : (rows : List Row) (positions : List (Option ℕ)) (keys : List Key) (covering6 covering changes : List Change) → covering6 ≡ covering → IsRising 0 covering → map (line_change keys) changes ≡ map (key_change rows positions) covering6 → IsRising 0 changes
 rise_of rows positions keys covering6 covering changes same up lined =

@@ -6,8 +6,9 @@ pub mod Beginnings
 pub mod Order
 pub mod Whole
 pub mod Examples
-pub mod Starting
+pub mod Flat
 pub mod Turning
+pub mod Marked
 pub mod Distinct
 pub mod Found
 pub mod Names

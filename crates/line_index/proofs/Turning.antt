@@ -1,18 +1,14 @@
 -- A line stands where an odd number of its turns is passed.
-use Rattle.std.proofs.Common.{⊎_elim, ◌≡◌, ℕ, zero, suc, ◌+◌, ◌≤◌, ◌<◌, ◌%◌, ◌==◌, Bool, true, false, not, List, [], ◌∷◌, ◌++◌, length, drop, Option, Some, None, nat_lt, nat_le, leb, cond, get_or, set, refl, sym, ap, ◌∙◌, subst, arith, append_assoc, All, IfSome}
-use Rattle.std.specs.Global.{Vec}
+use Rattle.std.proofs.Common.{⊎_elim, ◌≡◌, ℕ, zero, suc, ◌≤◌, ◌<◌, ◌%◌, ◌==◌, Bool, true, false, not, List, [], ◌∷◌, ◌++◌, length, Option, Some, None, nat_lt, nat_le, leb, cond, get_or, slice_get, refl, sym, ap, ◌∙◌, arith}
 use Rattle.std.specs.List.Sorted.{IsNonDecreasingBy, IsPartitionPoint}
 use Rattle.std.proofs.lemmas.Bool.{cases_lt}
 use Rattle.std.proofs.lemmas.Bool.Decides.{nat_tests}
-use Rattle.std.proofs.lemmas.List.{length-map, drop_more, get_or-map, get_or_past, map-set}
-use Rattle.std.proofs.lemmas.List.Elements.{All-get_or}
-use Rattle.coz_types.specs.declared.LineId.{LineId}
+use Rattle.std.proofs.lemmas.List.{get_or_past}
+use Rattle.std.proofs.lemmas.Option.{get_or_from_slice_get}
 use Rattle.line_index.specs.declared.changes.Change.{Change}
-use Rattle.line_index.specs.declared.changes.LineChange.{LineChange}
-use Rattle.line_index.specs.Changes.{value_at, IsRising, place_of, change_of, changes_of}
-use Rattle.line_index.specs.Keys.{texts, is_at, IsBelow}
-use Rattle.line_index.specs.Turns.{Rises, is_different, is_within, turns, with_turn}
-use Rattle.line_index.proofs.Starting.{line_change_at}
+use Rattle.line_index.specs.Changes.{value_at, IsRising}
+use Rattle.line_index.specs.Keys.{is_at}
+use Rattle.line_index.specs.Turns.{Rises, is_different, is_within, turns}
 
 -- ---- what the turns tell
 
@@ -110,52 +106,11 @@ odd_passed (x ∷ xs) a (suc n) le h =
 pub odd_turns : (xs : List ℕ) (a n : ℕ) → n ≤ length xs → IsTurn a xs n → (n % 2 == 1) ≡ is_within a xs
 odd_turns xs a n le h = odd_rest n ∙ odd_passed xs a n le h
 
--- ---- noting them
+-- ---- the turns of one line
 
--- what is noted, and what is still ahead
-pub record Turning (count : ℕ) (changes : List Change) (lists : List (List ℕ)) (before : Option ℕ) (ahead : List Change) : Type 0 where
-  pub as_many : length lists ≡ count
-  pub below : IfSome before (λ line. line < count)
-  pub each : (k : ℕ) → get_or lists k [] ++ turns k before ahead ≡ turns k None changes
+-- those of a line that is there, and of one that isn't
+pub turns_there : (lists : List (List ℕ)) (k : ℕ) (list : List ℕ) (cs : List Change) → slice_get lists k ≡ Some list → ((j : ℕ) → get_or lists j [] ≡ turns j None cs) → list ≡ turns k None cs
+turns_there lists k list cs is each = sym (get_or_from_slice_get lists k list [] is) ∙ each k
 
--- one change is noted
-pub turned : (count : ℕ) (changes : List Change) (lists after : List (List ℕ)) (before : Option ℕ) (i : ℕ) (d : Change) → i < length changes → All (IsBelow count) changes → length after ≡ length lists
-    → ((k : ℕ) → get_or after k [] ≡ get_or lists k [] ++ cond (is_different (is_at k before) (is_at k (get_or changes i d).position)) ((get_or changes i d).address ∷ []) [])
-    → Turning count changes lists before (drop i changes) → Turning count changes after (get_or changes i d).position (drop (i + 1) changes)
-turned count changes lists after before i d lt below many added so_far = record {
-  as_many = many ∙ so_far.as_many;
-  below = All-get_or (IsBelow count) changes i d lt below;
-  each = λ k.
-      let front : drop i changes ≡ get_or changes i d ∷ drop (i + 1) changes = drop_more changes i d lt in
-      ap (λ xs. xs ++ turns k (get_or changes i d).position (drop (i + 1) changes)) (added k)
-      ∙ append_assoc (get_or lists k []) (cond (is_different (is_at k before) (is_at k (get_or changes i d).position)) ((get_or changes i d).address ∷ []) []) (turns k (get_or changes i d).position (drop (i + 1) changes))
-      ∙ ap (λ cs. get_or lists k [] ++ turns k before cs) (sym front)
-      ∙ so_far.each k;
-}
-
-pub turned_change : (count : ℕ) (cs : List LineChange) (lists after : List (Vec ℕ)) (before : Option LineId) (i : ℕ) (d : LineChange) → i < length cs → All (IsBelow count) (changes_of cs) → length after ≡ length lists
-    → ((k : ℕ) → get_or (texts after) k [] ≡ get_or (texts lists) k [] ++ cond (is_different (is_at k (place_of before)) (is_at k (place_of (get_or cs i d).line))) ((get_or cs i d).address ∷ []) [])
-    → Turning count (changes_of cs) (texts lists) (place_of before) (drop i (changes_of cs)) → Turning count (changes_of cs) (texts after) (place_of (get_or cs i d).line) (drop (i + 1) (changes_of cs))
-turned_change count cs lists after before i d lt below many added so_far =
-    subst (λ (c : Change). Turning count (changes_of cs) (texts after) c.position (drop (i + 1) (changes_of cs))) (line_change_at cs i d lt)
-    (turned count (changes_of cs) (texts lists) (texts after) (place_of before) i (change_of d) (omega (arith, length-map cs change_of)) below
-    (length-map after (λ (v : Vec ℕ). v.items) ∙ many ∙ sym (length-map lists (λ (v : Vec ℕ). v.items)))
-    (λ k. added k ∙ ap (λ (c : Change). get_or (texts lists) k [] ++ cond (is_different (is_at k (place_of before)) (is_at k c.position)) (c.address ∷ []) []) (sym (line_change_at cs i d lt))) so_far)
-
--- a turn goes to the end of its line's list
-pub turn_added : (lists : List (Vec ℕ)) (line a : ℕ) (grown old d : Vec ℕ) (position : Option ℕ) → position ≡ Some line → line < length lists → old ≡ get_or lists line d → grown.items ≡ old.items ++ a ∷ []
-    → texts (set lists line grown) ≡ with_turn position a (texts lists)
-turn_added lists line a grown old d position at lt is grows =
-    let old_items : old.items ≡ get_or (texts lists) line [] = ap (λ (v : Vec ℕ). v.items) is ∙ sym (get_or-map (λ (v : Vec ℕ). v.items) lists line d [] lt) in
-    let items : grown.items ≡ get_or (texts lists) line [] ++ a ∷ [] = grows ∙ ap (λ xs. xs ++ a ∷ []) old_items in
-    map-set (λ (v : Vec ℕ). v.items) lists line grown ∙ ap (λ xs. set (texts lists) line xs) items ∙ ap (λ p. with_turn p a (texts lists)) (sym at)
-
--- the list of a line that is there, and of one that isn't
-pub turns_there : (lists near : List (Vec ℕ)) (k : ℕ) (v : Vec ℕ) (cs : List Change) → near ≡ lists → k < length near → v ≡ get_or near k v → ((j : ℕ) → get_or (texts lists) j [] ≡ turns j None cs) → v.items ≡ turns k None cs
-turns_there lists near k v cs same within is each =
-    ap (λ (w : Vec ℕ). w.items) is ∙ sym (get_or-map (λ (w : Vec ℕ). w.items) near k v [] within) ∙ ap (λ xs. get_or (texts xs) k []) same ∙ each k
-
-pub turns_nowhere : (lists near : List (Vec ℕ)) (k : ℕ) (cs : List Change) → near ≡ lists → length near ≤ k → ((j : ℕ) → get_or (texts lists) j [] ≡ turns j None cs) → [] ≡ turns k None cs
-turns_nowhere lists near k cs same past each =
-    let many : length (texts lists) ≡ length near = length-map lists (λ (w : Vec ℕ). w.items) ∙ ap length (sym same) in
-    sym (get_or_past (texts lists) k [] (omega arith)) ∙ each k
+pub turns_nowhere : (lists : List (List ℕ)) (k : ℕ) (cs : List Change) → length lists ≤ k → ((j : ℕ) → get_or lists j [] ≡ turns j None cs) → [] ≡ turns k None cs
+turns_nowhere lists k cs past each = sym (get_or_past lists k [] past) ∙ each k

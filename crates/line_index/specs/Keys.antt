@@ -1,5 +1,5 @@
 -- Lines by the position of their path, and the positions of lines.
-use Rattle.std.specs.Prelude.{◌≡◌, ℕ, ◌+◌, ◌<◌, ◌^◌, Bool, false, not, ◌&&◌, length, List, [], ◌∷◌, ◌++◌, map, slice_get, slice_set, get_or, Option, Some, None, option_map, option_and_then, ◌==◌, if◌then◌else◌, IfSome}
+use Rattle.std.specs.Prelude.{◌≡◌, ℕ, ◌+◌, ◌<◌, ◌^◌, Bool, false, not, ◌&&◌, length, List, [], ◌∷◌, ◌++◌, map, slice_get, get_or, Option, Some, None, option_map, option_and_then, ◌==◌, if◌then◌else◌, IfSome}
 use Rattle.std.specs.List.{filter_map}
 use Rattle.std.specs.declared.cmp.Ordering.{Ordering}
 use Rattle.std.specs.Ordering.{nat_cmp, ordering_then}
@@ -84,14 +84,6 @@ IsBelow count c = IfSome c.position (λ k. k < count)
 abbrev pub is_at : ℕ → Option ℕ → Bool
 is_at k None = false
 is_at k (Some j) = j == k
-
--- the address of a change at the end of its line's starts, unless the line stood there before
-abbrev pub with_start : Option ℕ → Change → List (List ℕ) → List (List ℕ)
-with_start before c lists = elim (c.position) [
-  | None ↦ lists
-  | Some k ↦ if is_at k before then lists
-      else slice_set lists k (get_or lists k [] ++ c.address ∷ [])
-]
 
 -- where the line at this position begins
 abbrev pub starts : ℕ → Option ℕ → List Change → List ℕ

@@ -3,6 +3,7 @@ pub mod Lines
 pub mod Spans
 pub mod Keys
 pub mod Turns
+pub mod Lists
 pub mod Index
 pub mod Backwards
 pub mod Endings

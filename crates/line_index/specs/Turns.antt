@@ -1,5 +1,5 @@
 -- Where a line begins and ends.
-use Rattle.std.specs.Prelude.{ℕ, suc, ◌≤◌, Bool, true, false, not, ◌&&◌, List, [], ◌∷◌, ◌++◌, Option, None, Some, nat_le, get_or, slice_set, if◌then◌else◌}
+use Rattle.std.specs.Prelude.{ℕ, suc, ◌≤◌, Bool, true, false, not, ◌&&◌, List, [], ◌∷◌, ◌++◌, Option, nat_le, if◌then◌else◌}
 use Rattle.line_index.specs.declared.changes.Change.{Change}
 use Rattle.line_index.specs.Keys.{is_at}
 
@@ -24,8 +24,3 @@ turns k before (c ∷ cs) =
 abbrev pub is_within : ℕ → List ℕ → Bool
 is_within a [] = false
 is_within a (t ∷ ts) = nat_le t a && not (is_within a ts)
-
--- an address at the end of a line's list, where there is a line
-abbrev pub with_turn : Option ℕ → ℕ → List (List ℕ) → List (List ℕ)
-with_turn None address lists = lists
-with_turn (Some k) address lists = slice_set lists k (get_or lists k [] ++ address ∷ [])

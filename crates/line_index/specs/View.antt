@@ -12,7 +12,7 @@ use Rattle.line_index.specs.Index.{Index, line_at}
 abbrev pub index_view : Inside → Index
 index_view inside = record {
   lines = map (line_at (texts inside.paths.items)) inside.lines.items;
-  entries = texts inside.entries.items;
+  entries = inside.entries;
   changes = changes_of inside.changes.items;
 }
 
@@ -27,7 +27,7 @@ pub record IsWhole (inside : Inside) : Type 0 where
   pub right : All IsRight (map (line_at (texts inside.paths.items)) inside.lines.items)
   pub labels : inside.labels.items
       ≡ map label (map (line_at (texts inside.paths.items)) inside.lines.items)
-  pub as_many : length inside.entries.items ≡ length inside.lines.items
+  pub as_many : length inside.entries ≡ length inside.lines.items
   pub rising : IsRising 0 (changes_of inside.changes.items)
   pub turns : (k : ℕ)
-      → get_or (texts inside.turns.items) k [] ≡ turns k None (changes_of inside.changes.items)
+      → get_or inside.turns k [] ≡ turns k None (changes_of inside.changes.items)

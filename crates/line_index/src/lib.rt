@@ -11,6 +11,7 @@ mod entry;
 mod find;
 mod labels;
 mod lines;
+mod lists;
 mod named;
 mod parts;
 mod paths;
@@ -31,6 +32,7 @@ ghost use Rattle.line_index.specs.Listed.{IsListed};
 use crate::changes::{LineChange, line_at};
 use crate::endings::Endings;
 use crate::lines::{Key, lines_of};
+use crate::lists::Lists;
 use crate::named::named_files;
 use crate::parts::parts_of;
 use crate::places::places_of;
@@ -48,9 +50,9 @@ pub struct LineIndex {
     endings: Endings,
     lines: Vec<Key>,
     labels: Vec<Label>,
-    entries: Vec<Vec<Address>>,
+    entries: Lists,
     changes: Vec<LineChange>,
-    turns: Vec<Vec<Address>>,
+    turns: Lists,
 }
 
 impl Model for LineIndex {
@@ -96,7 +98,7 @@ impl LineIndex {
         requires { line.0 < length self.now.lines }
         ensures { slice_get self.now.entries line.0 ≡ Some result.now }
     {
-        &self.entries[line.0 as usize]
+        self.entries.list(line.0 as usize)
     }
 
     /// How the line is written: its path, a colon and its number. Labels rise with the lines.

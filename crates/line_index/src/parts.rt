@@ -14,21 +14,22 @@ use crate::endings::{Endings, endings_of};
 use crate::entries::entries;
 use crate::labels::labels;
 use crate::lines::Key;
+use crate::lists::Lists;
 use crate::turns::turns;
-use coz_types::{Address, Label};
+use coz_types::Label;
 use std::alloc::{AllocError, Global};
 
 /// What is made of the paths, the lines and their changes.
 #[derive(Drop)]
 pub struct Parts {
     /// Where each line begins.
-    pub entries: Vec<Vec<Address>>,
+    pub entries: Lists,
     /// The label of each line.
     pub labels: Vec<Label>,
     /// The lines by how their paths end.
     pub endings: Endings,
     /// Where each line begins and ends, in turn.
-    pub turns: Vec<Vec<Address>>,
+    pub turns: Lists,
 }
 
 /// The parts of these paths, lines and changes.
@@ -41,16 +42,17 @@ pub fn parts_of(
     requires few { length paths.now < 2 ^ 32 }
     requires few_lines { length lines.now < 2 ^ 32 }
     requires have_paths { All (HasPath (texts paths.now)) lines.now }
+    requires few_changes { length changes.now < 2 ^ 31 }
     requires below { All (IsBelow (length lines.now)) (changes_of changes.now) }
     ensures entries { IfOk result (λ parts.
-        AreStarts (length lines.now) (changes_of changes.now) (texts parts.entries.items)) }
+        AreStarts (length lines.now) (changes_of changes.now) parts.entries) }
     ensures labels { IfOk result (λ parts. parts.labels.items
         ≡ map (λ (key : Key). label (line_at (texts paths.now) key)) lines.now) }
     ensures searchable { IfOk result (λ parts.
         IsSearchable (texts paths.now) parts.endings) }
     ensures endings { IfOk result (λ parts. HoldsLines lines.now parts.endings) }
     ensures turns { IfOk result (λ parts. (k : ℕ)
-        → get_or (texts parts.turns.items) k [] ≡ turns k None (changes_of changes.now)) }
+        → get_or parts.turns k [] ≡ turns k None (changes_of changes.now)) }
 {
     let entries = entries(alloc, changes, lines.len())?;
     let endings = endings_of(alloc, paths, lines)?;

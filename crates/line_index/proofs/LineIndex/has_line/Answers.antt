@@ -1,4 +1,4 @@
-use Rattle.std.proofs.Common.{◌≡◌, None, subst, sym, ap, ◌∙◌}
+use Rattle.std.proofs.Common.{◌≡◌, None, refl, subst, sym, ap, ◌∙◌}
 use Rattle.line_index.specs.Changes.{changes_of}
 use Rattle.line_index.specs.Index.{Index, has_line}
 use Rattle.line_index.specs.Turns.{Rises, is_within, turns}
@@ -6,17 +6,17 @@ use Rattle.line_index.proofs.Turning.{has_turned, turns_rise, turns_there, turns
 use Rattle.line_index.proofs.LineIndex.has_line.Goals as goal
 use Rattle.line_index.proofs.LineIndex.has_line.Goals.{In-Some}
 
-there : (c : In-Some) → c.in-Some.turns.now.items ≡ turns c.args.line.0 None (changes_of c.self.inside.changes.items)
-there c = turns_there c.self.inside.turns.items c.deref.result.now c.args.line.0 c.in-Some.turns.now (changes_of c.self.inside.changes.items) c.deref.ensures.value c.in-Some.ensures.lookup.3.0 c.in-Some.ensures.lookup.1 c.self.invariant.turns
+there : (c : In-Some) → c.in-Some.turns.now ≡ turns c.args.line.0 None (changes_of c.self.inside.changes.items)
+there c = turns_there c.self.inside.turns c.args.line.0 c.in-Some.turns.now (changes_of c.self.inside.changes.items) c.in-Some.ensures.there c.self.invariant.turns
 
 pub is_within-requires : goal.is_within-requires
 is_within-requires c =
-    subst (Rises 0) (sym (c.deref-in-Some.ensures.value ∙ there c.before)) (turns_rise c.args.line.0 0 None (changes_of c.self.inside.changes.items) c.self.invariant.rising)
+    subst (Rises 0) (sym (there c)) (turns_rise c.args.line.0 0 None (changes_of c.self.inside.changes.items) c.self.invariant.rising)
 
 pub returns-in-Some : goal.returns-in-Some
 returns-in-Some c =
-    c.is_within.ensures ∙ ap (is_within c.args.address) (c.deref-in-Some.ensures.value ∙ there c.before.before) ∙ sym (has_turned c.args.line.0 c.args.address (changes_of c.self.inside.changes.items) c.self.invariant.rising) ∙ ap (λ (index : Index). has_line index c.args.line.0 c.args.address) c.self.view_is
+    c.is_within.ensures ∙ ap (is_within c.args.address) (there c.before) ∙ sym (has_turned c.args.line.0 c.args.address (changes_of c.self.inside.changes.items) c.self.invariant.rising) ∙ ap (λ (index : Index). has_line index c.args.line.0 c.args.address) c.self.view_is
 
 pub returns-in-None : goal.returns-in-None
 returns-in-None c =
-    ap (is_within c.args.address) (turns_nowhere c.self.inside.turns.items c.deref.result.now c.args.line.0 (changes_of c.self.inside.changes.items) c.deref.ensures.value c.in-None.ensures.lookup.3 c.self.invariant.turns) ∙ sym (has_turned c.args.line.0 c.args.address (changes_of c.self.inside.changes.items) c.self.invariant.rising) ∙ ap (λ (index : Index). has_line index c.args.line.0 c.args.address) c.self.view_is
+    ap (is_within c.args.address) (turns_nowhere c.self.inside.turns c.args.line.0 (changes_of c.self.inside.changes.items) (c.in-None.ensures.nowhere refl) c.self.invariant.turns) ∙ sym (has_turned c.args.line.0 c.args.address (changes_of c.self.inside.changes.items) c.self.invariant.rising) ∙ ap (λ (index : Index). has_line index c.args.line.0 c.args.address) c.self.view_is

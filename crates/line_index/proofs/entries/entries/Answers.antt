@@ -1,15 +1,11 @@
-use Rattle.std.proofs.Common.{arith}
-use Rattle.std.proofs.lemmas.List.{length-map}
-use Rattle.line_index.specs.Changes.{place_of, change_of, changes_of}
-use Rattle.line_index.specs.Keys.{texts}
-use Rattle.line_index.proofs.Starting.{line_within, noted_change, all_noted}
+use Rattle.std.proofs.Common.{ap, ◌∙◌}
+use Rattle.line_index.specs.Changes.{changes_of}
+use Rattle.line_index.specs.Lists.{addresses_of}
+use Rattle.line_index.proofs.Marked.{starts_below, entries_made}
 use Rattle.line_index.proofs.entries.entries.Goals as goal
 
-pub add_start-requires : goal.add_start-requires
-add_start-requires c = line_within c.args.count c.args.changes.now c.loop-change.lists.items c.loop-change.change-index _ (omega arith) c.requires c.loop-change.invariant.as_many
-
-pub loop-change-preserved : goal.loop-change-preserved
-loop-change-preserved c = noted_change c.args.count c.args.changes.now (texts c.loop-change.lists.items) (texts c.add_start.new.lists.items) c.loop-change.before c.loop-change.change-index _ (omega arith) c.requires c.in_ok-add_start.ensures c.loop-change.invariant
+pub lists_of-requires-clause-below : goal.lists_of-requires-clause-below
+lists_of-requires-clause-below c = starts_below c.args.count (changes_of c.args.changes.now) c.deref.result.now c.requires.below (λ k. ap (addresses_of k) c.deref.ensures.value ∙ c.in_ok-marks.ensures.each k)
 
 pub returns : goal.returns
-returns c = all_noted c.args.count (changes_of c.args.changes.now) (texts c.loop-change.lists.items) (place_of c.loop-change.before) c.loop-change.change-index (omega (arith, length-map c.args.changes.now change_of)) c.loop-change.invariant
+returns c = entries_made c.lists_of.result c.args.count (changes_of c.args.changes.now) c.deref.result.now (λ k. ap (addresses_of k) c.deref.ensures.value ∙ c.in_ok-marks.ensures.each k) c.lists_of.ensures.as_many c.lists_of.ensures.each

@@ -1,10 +1,11 @@
-use Rattle.std.proofs.Common.{arith}
-use Rattle.line_index.proofs.Starting.{line_within}
-use Rattle.line_index.proofs.Turning.{turned_change}
+use Rattle.std.proofs.Common.{ap, ◌∙◌}
+use Rattle.line_index.specs.Changes.{changes_of}
+use Rattle.line_index.specs.Lists.{addresses_of}
+use Rattle.line_index.proofs.Marked.{turns_below, turns_made}
 use Rattle.line_index.proofs.turns.turns.Goals as goal
 
-pub add_turns-requires-clause-change : goal.add_turns-requires-clause-change
-add_turns-requires-clause-change c = line_within c.args.count c.args.changes.now c.loop-change.lists.items c.loop-change.change-index _ (omega arith) c.requires c.loop-change.invariant.as_many
+pub lists_of-requires-clause-below : goal.lists_of-requires-clause-below
+lists_of-requires-clause-below c = turns_below c.args.count (changes_of c.args.changes.now) c.deref.result.now c.requires.below (λ k. ap (addresses_of k) c.deref.ensures.value ∙ c.in_ok-marks.ensures.each k)
 
-pub loop-change-preserved : goal.loop-change-preserved
-loop-change-preserved c = turned_change c.args.count c.args.changes.now c.loop-change.lists.items c.add_turns.new.lists.items c.loop-change.before c.loop-change.change-index _ (omega arith) c.requires c.in_ok-add_turns.ensures.as_many c.in_ok-add_turns.ensures.added c.loop-change.invariant
+pub returns : goal.returns
+returns c = turns_made c.lists_of.result c.args.count (changes_of c.args.changes.now) c.deref.result.now c.requires.below (λ k. ap (addresses_of k) c.deref.ensures.value ∙ c.in_ok-marks.ensures.each k) c.lists_of.ensures.as_many c.lists_of.ensures.each
