@@ -1,10 +1,11 @@
-# make         proves and builds both programs, and leaves them as build/coz and build/coz-page
+# make         proves and builds the programs, and leaves them as build/coz, build/coz-page and
+#              build/coz-join
 # make test    runs the merge gate, and then checks the man pages and that machines take no memory and,
-#              if both programs are built, the outputs that README and TUTORIAL show and an example's profile
+#              if the programs are built, the outputs that README and TUTORIAL show and an example's profile
 # make try ARGS="run examples/one"    runs the program with no proof, in some minutes
 # make guests  builds, with Debian's packages, what guests/coz-cc links programs with
 # make examples    builds the examples in C as they stand, with a C library of their own
-# make page    the same of build/coz-page alone
+# make page    the same of build/coz-page alone; make join the same of build/coz-join
 # make install PREFIX=DIR    puts the programs and their man pages below DIR; make uninstall takes them away
 
 ARGS ?= run examples/one
@@ -12,9 +13,9 @@ PREFIX ?= /usr/local
 
 EXAMPLES = longer ledger
 
-.PHONY: build page test try guests examples install uninstall clean
+.PHONY: build page join test try guests examples install uninstall clean
 
-build: page
+build: page join
 	cd crates/coz && rt run -- run data/one > /dev/null
 	mkdir -p build
 	cp crates/coz/out/coz build/coz
@@ -23,6 +24,11 @@ page:
 	cd crates/coz_page_main && rt run -- data/profile > /dev/null
 	mkdir -p build
 	cp crates/coz_page_main/out/coz_page_main build/coz-page
+
+join:
+	cd crates/coz_join && rt run -- data/a data/b > /dev/null
+	mkdir -p build
+	cp crates/coz_join/out/coz_join build/coz-join
 
 test:
 	bash .ci/run
@@ -44,12 +50,15 @@ examples:
 install: build
 	install -D -m 755 build/coz $(DESTDIR)$(PREFIX)/bin/coz
 	install -D -m 755 build/coz-page $(DESTDIR)$(PREFIX)/bin/coz-page
+	install -D -m 755 build/coz-join $(DESTDIR)$(PREFIX)/bin/coz-join
 	install -D -m 644 docs/coz.1 $(DESTDIR)$(PREFIX)/share/man/man1/coz.1
 	install -D -m 644 docs/coz-page.1 $(DESTDIR)$(PREFIX)/share/man/man1/coz-page.1
+	install -D -m 644 docs/coz-join.1 $(DESTDIR)$(PREFIX)/share/man/man1/coz-join.1
 
 uninstall:
 	rm -f $(DESTDIR)$(PREFIX)/bin/coz $(DESTDIR)$(PREFIX)/share/man/man1/coz.1
 	rm -f $(DESTDIR)$(PREFIX)/bin/coz-page $(DESTDIR)$(PREFIX)/share/man/man1/coz-page.1
+	rm -f $(DESTDIR)$(PREFIX)/bin/coz-join $(DESTDIR)$(PREFIX)/share/man/man1/coz-join.1
 
 clean:
 	rm -rf build crates/*/out

@@ -1,8 +1,13 @@
-//! Tests of both top calls over files of the greatest sizes, and nothing else.
+//! Tests of the top calls over files of the greatest sizes, and of the join of profiles, and
+//! nothing else.
 #![tactic(auto)]
 
 #[cfg(test)]
 mod calls;
+#[cfg(test)]
+mod join_files;
+#[cfg(test)]
+mod join_tests;
 #[cfg(test)]
 mod large;
 #[cfg(test)]

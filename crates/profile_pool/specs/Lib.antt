@@ -2,3 +2,4 @@ pub mod Choices
 pub mod Summaries
 pub mod Made
 pub mod Work
+pub mod Profiles

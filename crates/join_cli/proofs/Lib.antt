@@ -1,0 +1,3 @@
+pub mod Baselines
+pub mod Blocks
+pub mod Shards

@@ -1,0 +1,117 @@
+-- The files of profiles of lists of a program's lines are joined to the profile of all their lines.
+use Rattle.std.proofs.Common.{◌≡◌, ℕ, ◌≤◌, Bool, true, false, cond, List, [], ◌∷◌, map, length, All, Option, None, Some, IfSome, refl, sym, ap, subst, ◌∙◌, arith}
+use Rattle.std.proofs.Math.Path.{fun_ext}
+use Rattle.std.specs.List.{list_all}
+use Rattle.std.specs.Io.KnownBytes.{Appends}
+use Rattle.coz_types.specs.Image.{ImageParts}
+use Rattle.coz_types.specs.Labels.{Text}
+use Rattle.coz_types.specs.declared.record.Summary.{Summary}
+use Rattle.coz_files.specs.Held.{Held, file_at}
+use Rattle.coz_files.specs.Puts.{AppendsPrefix}
+use Rattle.coz_files.specs.Verdict.{Verdict, IsOfVerdict, refusal}
+use Rattle.line_index.specs.Index.{Index}
+use Rattle.progress_points.specs.Points.{Points}
+use Rattle.experiment_plan.specs.Selected.{rising_numbers}
+use Rattle.profile_book.specs.Profile.{IsProfile, profile_text}
+use Rattle.profile_book.specs.declared.profile.Profile.{Profile}
+use Rattle.profile_shards.specs.Shards.{AreLines, AreTogether, AreDisjoint, IsTwice, profile_at}
+use Rattle.profile_pool.specs.Profiles.{label_at, profile_of_lines}
+use Rattle.join_answers.specs.Verdict.{IsVerdict, has_exited, profile_status, profile_verdict}
+use Rattle.join_answers.specs.Serve.{IsLine, VerdictHas}
+use Rattle.join_answers.specs.Shards.{HoldProfiles, IsShardsVerdict, twice_line}
+use Rattle.join_answers.proofs.Sharded.{shards_verdict}
+use Rattle.join_cli.specs.Shards.{AreIndexed, JoinsShards, JoinsAllShards}
+use Rattle.join_cli.proofs.Blocks.{are_blocks, block_at, profile_is, some_speedups, speedups_rise}
+
+-- ---- the verdict
+
+module _ (image : ImageParts) (index : Index) (points : Points) (input : List ℕ) (budget : ℕ) (speedups : List ℕ) where
+  abbrev made_of : List ℕ → Profile
+  made_of lines = profile_of_lines image index points input budget speedups lines
+
+  abbrev blocks_of : List ℕ → Profile
+  blocks_of lines = profile_at budget (map (label_at index.lines) points.lines) (block_at image index points input budget) (rising_numbers (0 ∷ speedups)) lines
+
+  same_profiles : made_of ≡ blocks_of
+  same_profiles = fun_ext (λ (lines : List ℕ). profile_is image index points input budget speedups lines)
+
+  holds_blocks : (words : List Text) (held : Held) (lists : List (List ℕ)) → HoldProfiles words held (map made_of lists) → HoldProfiles words held (map blocks_of lists)
+  holds_blocks words held lists hold =
+      let same : map made_of lists ≡ map blocks_of lists = ap (λ (f : List ℕ → Profile). map f lists) same_profiles in
+      record {
+        paths = hold.paths;
+        named = hold.named;
+        files = subst (λ (ps : List Profile). map (file_at held) hold.paths ≡ map (λ (p : Profile). Some (profile_text p)) ps) same hold.files;
+        right = subst (λ (ps : List Profile). All IsProfile ps) same hold.right;
+        short = subst (λ (ps : List Profile). All (λ (p : Profile). length (profile_text p) ≤ 268435456) ps) same hold.short;
+      }
+
+  verdict_is : (words : List Text) (held : Held) (lists : List (List ℕ)) (whole : List ℕ) → AreIndexed index → All (AreLines (length index.lines)) lists → AreTogether (length index.lines) lists whole
+      → (hold : HoldProfiles words held (map made_of lists)) → (v : Verdict) → IsVerdict words held v → IsShardsVerdict lists (made_of whole) (label_at index.lines) hold.paths v
+  unfolding holds_blocks
+  verdict_is words held lists whole are lines together hold v is =
+      let law = shards_verdict (length index.lines) (label_at index.lines) (block_at image index points input budget) (are_blocks image index points input budget are) budget (map (label_at index.lines) points.lines)
+      (rising_numbers (0 ∷ speedups)) lists whole (some_speedups speedups) (speedups_rise speedups) lines together words held (holds_blocks words held lists hold) v is in
+      subst (λ (p : Profile). IsShardsVerdict lists p (label_at index.lines) hold.paths v) (sym (profile_is image index points input budget speedups whole)) law
+
+-- ---- what is left
+
+low_by : (b : Bool) → cond b 0 1 ≤ 1
+low_by true = omega arith
+low_by false = omega arith
+
+low : (p : Profile) → profile_status p ≤ 1
+low p = low_by (list_all (λ (s : Summary). has_exited s.outcome.ending) p.summaries)
+
+module _ (words : List Text) (Tells : Text → Type 0) (before now : Option Text) (status : ℕ) where
+  abbrev IfVerdict : Option Held → Type 0
+  IfVerdict told = IfSome told (λ held. IsOfVerdict status → VerdictHas words held (λ v. status ≡ v.status))
+
+  abbrev IfText : Option Held → Type 0
+  IfText told = IfSome told (λ held. status ≤ 1 → VerdictHas words held (λ v. (status ≡ v.status) × Appends before now v.text))
+
+  abbrev IfTorn : Option Held → Type 0
+  IfTorn told = IfSome told (λ held. status ≡ 6 → VerdictHas words held (λ v. AppendsPrefix before now v.text))
+
+  abbrev IfLine : Option Held → Type 0
+  IfLine told = 2 ≤ status → (line : Text) × IsLine status words told line × Tells line
+
+  module _ (held : Held) (of_verdict : IfVerdict (Some held)) (text : IfText (Some held)) (torn : IfTorn (Some held)) (line : IfLine (Some held)) (lists : List (List ℕ)) (whole : Profile) (label : ℕ → Text) (paths : List Text)
+      (law : (v : Verdict) → IsVerdict words held v → IsShardsVerdict lists whole label paths v) where
+    status_of : AreDisjoint lists → IsOfVerdict status → status ≡ profile_status whole
+    status_of disjoint of =
+        let v = of_verdict of in
+        v.2 ∙ ap (λ (w : Verdict). w.status) ((law v.0 v.1).joined disjoint)
+
+    text_of : AreDisjoint lists → status ≤ 1 → Appends before now (profile_text whole)
+    text_of disjoint small =
+        let v = text small in
+        subst (λ (w : Verdict). Appends before now w.text) ((law v.0 v.1).joined disjoint) v.2.1
+
+    told_of : (place part : ℕ) → IsTwice lists place part → IsOfVerdict status → status ≡ 14 → Tells (twice_line (label place) paths part)
+    told_of place part two of high =
+        let told = line (omega (arith, high)) in
+        let v = told.1.verdict of in
+        subst Tells (v.2.1 ∙ ap (λ (w : Verdict). w.line) ((law v.0 v.1).twice place part two)) told.2
+
+    joins : JoinsShards lists whole label paths Tells before now status
+    joins = record {
+      joined = λ disjoint of.
+          let same = status_of disjoint of in
+          (same, text_of disjoint (subst (λ (n : ℕ). n ≤ 1) (sym same) (low whole)));
+      torn = λ disjoint six.
+          let v = torn six in
+          subst (λ (w : Verdict). AppendsPrefix before now w.text) ((law v.0 v.1).joined disjoint) v.2;
+      twice = λ place part two of.
+          let v = of_verdict of in
+          let high : status ≡ 14 = v.2 ∙ ap (λ (w : Verdict). w.status) ((law v.0 v.1).twice place part two) in
+          (high, told_of place part two of high);
+    }
+
+  pub joins_shards : (told : Option Held) → IfVerdict told → IfText told → IfTorn told → IfLine told
+      → IfSome told (λ held. JoinsAllShards words held Tells before now status)
+  joins_shards None of_verdict text torn line = tt
+  joins_shards (Some held) of_verdict text torn line =
+      λ image index points input budget speedups lists whole are lines together hold.
+      joins held of_verdict text torn line lists (profile_of_lines image index points input budget speedups whole) (label_at index.lines) hold.paths
+      (verdict_is image index points input budget speedups words held lists whole are lines together hold)

@@ -1,0 +1,6 @@
+//! The program that joins profiles.
+#![tactic(auto)]
+
+mod top;
+
+pub use top::serve_join;
