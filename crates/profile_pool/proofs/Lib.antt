@@ -3,3 +3,4 @@ pub mod Summing
 mod Lines
 mod Making
 mod Numbers
+pub mod PlainRun

@@ -14,6 +14,7 @@ use Rattle.experiment_plan.specs.declared.experiment.Experiment.{Experiment}
 use Rattle.profile_pool.specs.declared.work.Work.{Work}
 use Rattle.profile_pool.specs.Choices.{choice_of}
 use Rattle.profile_pool.specs.Made.{parts_made, made_for, IsFor}
+use Rattle.profile_pool.specs.Plain.{IsPlain}
 use Rattle.profile_pool.specs.Work.{IsWork}
 
 -- what is made for some line is made for any
@@ -55,8 +56,9 @@ made_lead work choice = record {
 }
 
 pub work_of : (work : Work) (choice : Choice) → All (λ (pair : Experiment). pair.line.0 < length work.index.now.lines) work.plan.now
-    → 1 ≤ work.budget → work.budget ≤ 10 ^ 12 → work.first.now ≡ made_lead work choice → choice ≡ choice_of (Some 0) 0 work.budget → IsWork work
-work_of work choice lines some few led chosen =
+    → 1 ≤ work.budget → work.budget ≤ 10 ^ 12 → work.first.now ≡ made_lead work choice → choice ≡ choice_of (Some 0) 0 work.budget
+    → IsPlain work.image.now work.index.now work.points.now work.input.now work.budget work.plain.now → IsWork work
+work_of work choice lines some few led chosen plain =
     let P : Seen (Before Guest) → Type 0 = λ lead. lead.state ≡ record { state = unbegun (experiment_of lead); harts = 0 ∷ [] } in
     record {
       lines = lines;
@@ -64,4 +66,5 @@ work_of work choice lines some few led chosen =
       few = few;
       first = ap parts_made led ∙ ap (λ (c : Choice). parts_made (made_lead work c)) chosen;
       unbegun = subst P (sym led) refl;
+      plain = plain;
     }

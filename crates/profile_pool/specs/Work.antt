@@ -7,9 +7,10 @@ use Rattle.experiment_plan.specs.declared.experiment.Experiment.{Experiment}
 use Rattle.experiment_plan.specs.ByLine.{by_line}
 use Rattle.profile_pool.specs.declared.work.Work.{Work}
 use Rattle.machines.specs.Delayed.{unbegun}
-use Rattle.run_engine.specs.Seen.{experiment_of}
+use Rattle.run_engine.specs.Seen.{Seen, experiment_of}
 use Rattle.profile_pool.specs.Summaries.{summary_in}
 use Rattle.profile_pool.specs.Made.{parts_made, made_for}
+use Rattle.profile_pool.specs.Plain.{starts_at, IsPlain}
 
 -- the summary of the run of a pair
 abbrev pub summary_of_pair : Work → Experiment → Summary
@@ -21,7 +22,8 @@ summary_of_pair work pair =
 abbrev pub work_at : Work → ℕ → List Summary
 work_at work claim = map (summary_of_pair work) (slice_index_or (by_line work.plan.now) claim [])
 
--- what the runs ask for: lines of the program, a budget, and a lead that stands where it was made
+-- what the runs ask for: lines of the program, a budget, a lead that stands where it was made,
+-- and what the run with no line selected left
 pub record IsWork (work : Work) : Type 0 where
   pub lines : All (λ (pair : Experiment). pair.line.0 < length work.index.now.lines) work.plan.now
   pub some_budget : 1 ≤ work.budget
@@ -29,3 +31,10 @@ pub record IsWork (work : Work) : Type 0 where
   pub first : parts_made work.first.now ≡ made_for work (Some 0) 0
   pub unbegun : work.first.now.state
       ≡ record { state = unbegun (experiment_of work.first.now); harts = 0 ∷ [] }
+  pub plain : IsPlain work.image.now work.index.now work.points.now work.input.now work.budget
+      work.plain.now
+
+-- a lead stands for the runs of the line at this position, if the line starts
+abbrev pub IsLed : {State : Type 0} → Work → Seen State → ℕ → Type 0
+IsLed work lead line =
+    ¬ (starts_at work.plain.now line ≡ 0) → parts_made lead ≡ made_for work (Some line) 0

@@ -1,30 +1,83 @@
 //! The work of a claim: the runs of all pairs of a line.
-ghost use Rattle.std.specs.Prelude.{◌≡◌, ◌<◌, ◌≤◌, [], Some, length, map, All, IfOk};
+ghost use Rattle.std.specs.Prelude.{◌≡◌, ◌<◌, ◌≤◌, ◌⊎◌, [], Some, length, map, All, IfOk};
 ghost use Rattle.coz_types.specs.declared.TheConstants.{MAX_SPEEDUP};
 ghost use Rattle.coz_types.specs.Ranges.{IsSummary};
 ghost use Rattle.experiment_plan.specs.ByLine.{by_line};
 ghost use Rattle.experiment_plan.specs.declared.experiment.Experiment.{Experiment};
 ghost use Rattle.profile_pool.specs.Made.{parts_made, made_for, IsFor, AreFor};
-ghost use Rattle.profile_pool.specs.Work.{summary_of_pair, work_at, IsWork};
+ghost use Rattle.profile_pool.specs.Plain.{starts_at};
+ghost use Rattle.profile_pool.specs.Work.{summary_of_pair, work_at, IsWork, IsLed};
 
 use crate::limits::choice;
 use crate::summary::summarise;
 use crate::work::{Runner, Work};
 use claim_workers::ClaimWork;
 use coz_lists::Items;
-use coz_types::{LineId, Summary};
+use coz_types::{Label, LineId, Outcome, Summary};
 use experiment_plan::Experiment;
 use std::alloc::{AllocError, Global};
 use virtual_run::{Lead, Machine};
 
 /// Has a lead stand before the first start of a line.
-fn take_up<'a>(work: &Work<'a>, lead: &mut Lead<'a>, line: LineId)
+fn lead_up<'a>(work: &Work<'a>, lead: &mut Lead<'a>, line: LineId)
     requires work { IsWork work.now }
     requires lead { IsFor work.now lead.old }
     ensures { parts_made lead.new ≡ made_for work.now (Some line.0) 0 }
 {
     lead.again(work.first, line);
     lead.run();
+}
+
+/// Has a lead stand before the first start of a line, if the line starts.
+fn take_up<'a>(work: &Work<'a>, lead: &mut Lead<'a>, line: LineId)
+    requires work { IsWork work.now }
+    requires line { line.0 < length work.now.index.now.lines }
+    requires lead { IsFor work.now lead.old }
+    ensures lead { IsFor work.now lead.new }
+    ensures led { IsLed work.now lead.new line.0 }
+{
+    let starts = starts_of(work, line);
+    if starts == 0 {
+        return;
+    }
+    lead_up(work, lead, line);
+}
+
+/// How often a line starts at speedup 0.
+fn starts_of(work: &Work, line: LineId) -> u64
+    requires work { IsWork work.now }
+    requires line { line.0 < length work.now.index.now.lines }
+    ensures { result ≡ starts_at work.now.plain.now line.0 }
+{
+    work.plain.starts[line.0 as usize]
+}
+
+/// The summary of the run of a pair that is the run with no line selected but for its label, its
+/// speedup and its starts: at speedup 0, and if the line never starts.
+fn plain_pair(alloc: Global, work: &Work, pair: Experiment) -> Result<Summary, AllocError>
+    requires work { IsWork work.now }
+    requires line { pair.line.0 < length work.now.index.now.lines }
+    requires speedup { pair.speedup ≤ MAX_SPEEDUP }
+    requires plain { (pair.speedup ≡ 0) ⊎ (starts_at work.now.plain.now pair.line.0 ≡ 0) }
+    ensures summary { IfOk result (λ summary. summary ≡ summary_of_pair work.now pair) }
+    ensures ranges { IfOk result (IsSummary (length work.now.points.now.lines)) }
+{
+    let starts = starts_of(work, pair.line);
+    let summary = &work.plain.summary;
+    let selected = Label::copy(alloc, work.index.label(pair.line).bytes())?;
+    let counts = Vec::from_slice(alloc, summary.counts.as_slice())?;
+    Ok(Summary {
+        selected,
+        speedup: pair.speedup,
+        outcome: Outcome {
+            starts,
+            ..summary.outcome
+        },
+        length: summary.length,
+        output: summary.output,
+        counts: Items::new(counts),
+        visits: summary.visits,
+    })
 }
 
 /// The summary of the run of a pair, which is forked from the lead of its line.
@@ -54,6 +107,33 @@ fn run_pair<'a>(
     )
 }
 
+/// The summary of the run of a pair, which is forked from the lead of its line if it has to be.
+fn make_pair<'a>(
+    alloc: Global,
+    work: &Work<'a>,
+    lead: &Lead<'a>,
+    machine: &mut Machine<'a>,
+    pair: Experiment,
+) -> Result<Summary, AllocError>
+    requires work { IsWork work.now }
+    requires line { pair.line.0 < length work.now.index.now.lines }
+    requires speedup { pair.speedup ≤ MAX_SPEEDUP }
+    requires lead { IsLed work.now lead.now pair.line.0 }
+    requires machine { IsFor work.now machine.old }
+    ensures machine { IsFor work.now machine.new }
+    ensures summary { IfOk result (λ summary. summary ≡ summary_of_pair work.now pair) }
+    ensures ranges { IfOk result (IsSummary (length work.now.points.now.lines)) }
+{
+    if pair.speedup == 0 {
+        return plain_pair(alloc, work, pair);
+    }
+    let starts = starts_of(work, pair.line);
+    if starts == 0 {
+        return plain_pair(alloc, work, pair);
+    }
+    run_pair(alloc, work, lead, machine, pair)
+}
+
 /// Adds the summary of the run of each of some pairs, forked from the lead of their line.
 fn run_pairs<'a>(
     alloc: Global,
@@ -63,11 +143,12 @@ fn run_pairs<'a>(
     pairs: &[Experiment],
     summaries: &mut Vec<Summary>,
 ) -> Result<(), AllocError>
+    requires work { IsWork work.now }
     requires lines { All (λ (pair : Experiment).
         pair.line.0 < length work.now.index.now.lines) pairs.now }
     requires speedups { All (λ (pair : Experiment). pair.speedup ≤ MAX_SPEEDUP) pairs.now }
     requires lead { All (λ (pair : Experiment).
-        parts_made lead.now ≡ made_for work.now (Some pair.line.0) 0) pairs.now }
+        IsLed work.now lead.now pair.line.0) pairs.now }
     requires machine { IsFor work.now machine.old }
     requires summaries { summaries.old.items ≡ [] }
     ensures machine { IsFor work.now machine.new }
@@ -77,7 +158,7 @@ fn run_pairs<'a>(
         All (IsSummary (length work.now.points.now.lines)) summaries.new.items) }
 {
     for pair in pairs {
-        let summary = run_pair(alloc, work, lead, machine, *pair)?;
+        let summary = make_pair(alloc, work, lead, machine, *pair)?;
         summaries.push(summary)?;
     }
     Ok(())

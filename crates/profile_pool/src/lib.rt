@@ -4,6 +4,7 @@
 mod claimed;
 mod limits;
 mod outcomes;
+mod plain;
 mod pool;
 mod summary;
 mod work;

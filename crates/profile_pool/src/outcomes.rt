@@ -3,6 +3,7 @@ ghost use Rattle.std.specs.Prelude.{◌≡◌, ◌≤◌, true, IsSome, Some};
 ghost use Rattle.coz_types.specs.Ranges.{is_ending};
 ghost use Rattle.virtual_run.specs.DelayedRun.{outcome_of, IsOfAHart, IsSmall};
 
+use counted_run::Counted;
 use coz_types::{Ending, Outcome};
 use virtual_run::Machine;
 
@@ -30,6 +31,26 @@ pub fn outcome(machine: &Machine) -> Outcome
     ensures ending { is_ending result.ending ≡ true }
 {
     let Some(outcome) = machine.outcome() else {
+        unreachable!()
+    };
+    Outcome {
+        ending: in_range(outcome.ending),
+        time: outcome.time,
+        delay: outcome.delay,
+        retired: outcome.retired,
+        starts: outcome.starts,
+    }
+}
+
+/// How a run with no line selected that has ended came out.
+pub fn counted_outcome(counted: &Counted) -> Outcome
+    requires { IsSome counted.now.state.ending }
+    ensures outcome { Some result ≡ outcome_of counted.now.state }
+    ensures small { IsSmall result }
+    ensures in_time { result.delay ≤ result.time }
+    ensures ending { is_ending result.ending ≡ true }
+{
+    let Some(outcome) = counted.outcome() else {
         unreachable!()
     };
     Outcome {

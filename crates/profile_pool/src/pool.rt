@@ -3,9 +3,11 @@ ghost use Rattle.std.specs.Prelude.{◌≡◌, ◌<◌, ◌≤◌, IfOk, length,
 ghost use Rattle.coz_types.specs.declared.TheConstants.{MAX_BUDGET, MAX_WORKERS};
 ghost use Rattle.coz_types.specs.Ranges.{IsSummary};
 ghost use Rattle.experiment_plan.specs.declared.experiment.Experiment.{Experiment};
+ghost use Rattle.profile_pool.specs.Plain.{IsPlain};
 ghost use Rattle.profile_pool.specs.Summaries.{summaries_of};
 
 use crate::limits::choice;
+use crate::plain::{Plain, plain_run};
 use crate::work::Work;
 use claim_workers::run_claims;
 use coz_files::Gate;
@@ -16,6 +18,49 @@ use progress_points::Points;
 use std::alloc::{AllocError, Global};
 use std::thread::Threads;
 use virtual_run::Lead;
+
+/// The summary of the run of each pair of a plan, by workers, after the run with no line selected.
+fn run_from<R: Threads + Sync, G: Gate>(
+    rt: &R,
+    alloc: Global,
+    image: &Image,
+    index: &LineIndex,
+    points: &Points,
+    input: &[u8],
+    plan: &Plan,
+    budget: u64,
+    workers: u32,
+    gate: &G,
+    plain: &Plain,
+) -> Result<Vec<Summary>, AllocError>
+    requires lines { All (λ (pair : Experiment). pair.line.0 < length index.now.lines) plan.now }
+    requires some_budget { 1 ≤ budget }
+    requires few { budget ≤ MAX_BUDGET }
+    requires some_workers { 1 ≤ workers }
+    requires few_workers { workers ≤ MAX_WORKERS }
+    requires plain { IsPlain image.now index.now points.now input.now budget plain.now }
+    ensures summaries { IfOk result (λ summaries.
+        summaries.items ≡ summaries_of image.now index.now points.now input.now budget plan.now) }
+    ensures ranges { IfOk result (λ summaries.
+        All (IsSummary (length points.now.lines)) summaries.items) }
+{
+    let choice = choice(Some(LineId(0)), 0, budget);
+    let lead = Lead::new(alloc, image, index, points, input, choice)?;
+    let work = Work {
+        image,
+        index,
+        points,
+        input,
+        plan,
+        first: &lead,
+        plain,
+        budget,
+    };
+    let summaries = run_claims(rt, alloc, &work, workers, gate);
+    // By one call, since a drop in place is proved part by part.
+    drop(lead);
+    summaries
+}
 
 /// The summary of the run of each pair of a plan, in the plan's order, whatever the number
 /// of workers and the gate. It fails only if it is out of memory, and then the other
@@ -42,19 +87,11 @@ pub fn run_plan<R: Threads + Sync, G: Gate>(
     ensures ranges { IfOk result (λ summaries.
         All (IsSummary (length points.now.lines)) summaries.items) }
 {
-    let choice = choice(Some(LineId(0)), 0, budget);
-    let lead = Lead::new(alloc, image, index, points, input, choice)?;
-    let work = Work {
-        image,
-        index,
-        points,
-        input,
-        plan,
-        first: &lead,
-        budget,
-    };
-    let summaries = run_claims(rt, alloc, &work, workers, gate);
+    let plain = plain_run(alloc, image, index, points, input, budget)?;
+    let summaries = run_from(
+        rt, alloc, image, index, points, input, plan, budget, workers, gate, &plain,
+    );
     // By one call, since a drop in place is proved part by part.
-    drop(lead);
+    drop(plain);
     summaries
 }

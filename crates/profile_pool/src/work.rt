@@ -1,4 +1,5 @@
 //! What the runs of a plan are made of, and what a worker makes them by.
+use crate::plain::Plain;
 use coz_types::Image;
 use experiment_plan::Plan;
 use line_index::LineIndex;
@@ -20,6 +21,8 @@ pub struct Work<'a> {
     pub plan: &'a Plan,
     /// A lead that stands where it was made. Each line is taken up from it.
     pub first: &'a Lead<'a>,
+    /// What the run with no line selected left.
+    pub plain: &'a Plain,
     /// How many instructions each run may retire.
     pub budget: u64,
 }

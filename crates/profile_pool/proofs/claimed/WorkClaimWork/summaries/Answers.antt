@@ -1,4 +1,4 @@
-use Rattle.std.proofs.Common.{◌≡◌, ◌∙◌, ◌<◌, [], length, map, Some, ap, sym}
+use Rattle.std.proofs.Common.{◌≡◌, ◌∙◌, ◌<◌, [], length, map, Some, ap, sym, arith, All}
 use Rattle.std.proofs.lemmas.List.Elements.{All-same}
 use Rattle.std.proofs.lemmas.Option.{get_or_from_slice_get}
 use Rattle.experiment_plan.specs.ByLine.{by_line, all_pairs}
@@ -6,7 +6,7 @@ use Rattle.experiment_plan.specs.declared.experiment.Experiment.{Experiment}
 use Rattle.experiment_plan.proofs.Lines.{joined_again}
 use Rattle.coz_types.specs.declared.LineId.{LineId}
 use Rattle.profile_pool.specs.Made.{parts_made, made_for}
-use Rattle.profile_pool.specs.Work.{summary_of_pair}
+use Rattle.profile_pool.specs.Work.{summary_of_pair, IsLed}
 use Rattle.profile_pool.proofs.Lines.{of_all, of_one_line}
 use Rattle.profile_pool.proofs.Making.{for_any}
 use Rattle.profile_pool.proofs.claimed.WorkClaimWork.summaries.Goals as goal
@@ -22,11 +22,11 @@ pub run_pairs-requires-clause-lead : goal.run_pairs-requires-clause-lead
 run_pairs-requires-clause-lead c =
     let pairs = c.of_line-pairs.result.now in
     let one = c.of_line-pairs.ensures.one_line in
-    let P : LineId → Type 0 = λ line. parts_made c.take_up.new.lead ≡ made_for c.args.self.now (Some line.0) 0 in
-    of_one_line P pairs one _ c.take_up.ensures
+    let P : LineId → Type 0 = λ line. IsLed c.args.self.now c.take_up.new.lead line.0 in
+    of_one_line P pairs one _ c.take_up.ensures.led
 
 pub returns-in-Ok-clause-runner : goal.returns-in-Ok-clause-runner
-returns-in-Ok-clause-runner c = (for_any c.args.self.now (Some _) 0 c.take_up.new.lead c.take_up.ensures, c.run_pairs.ensures.machine)
+returns-in-Ok-clause-runner c = (c.take_up.ensures.lead, c.run_pairs.ensures.machine)
 
 pub returns-in-Ok-clause-summaries : goal.returns-in-Ok-clause-summaries
 returns-in-Ok-clause-summaries c =
@@ -35,4 +35,13 @@ returns-in-Ok-clause-summaries c =
     ∙ ap (map (summary_of_pair c.args.self.now)) (sym (get_or_from_slice_get (by_line c.args.self.now.plan.now) c.args.claim c.of_line-pairs.result.now [] c.of_line-pairs.ensures.pairs))
 
 pub returns-in-Err-clause-runner : goal.returns-in-Err-clause-runner
-returns-in-Err-clause-runner c = (for_any c.args.self.now (Some _) 0 c.take_up.new.lead c.take_up.ensures, c.run_pairs.ensures.machine)
+returns-in-Err-clause-runner c = (c.take_up.ensures.lead, c.run_pairs.ensures.machine)
+
+pub take_up-requires-clause-line : goal.take_up-requires-clause-line
+take_up-requires-clause-line c =
+    let plan = c.args.self.now.plan.now in
+    let P : Experiment → Type 0 = λ pair. pair.line.0 < length c.args.self.now.index.now.lines in
+    let each : All P c.of_line-pairs.result.now =
+    of_all P (by_line plan) _ c.of_line-pairs.result.now (All-same P (all_pairs (by_line plan)) plan (joined_again plan) c.requires.work.lines) c.of_line-pairs.ensures.pairs in
+    let some = c.of_line-pairs.ensures.one_line.some in
+    each 0 (record { line = record { 0 = 0 }; speedup = 0 }) (omega arith)

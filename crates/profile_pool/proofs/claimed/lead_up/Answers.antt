@@ -1,7 +1,7 @@
 use Rattle.std.proofs.Common.{◌∙◌, ap, sym, Some}
 use Rattle.profile_pool.specs.Made.{parts_made}
 use Rattle.profile_pool.proofs.Making.{for_any, taken}
-use Rattle.profile_pool.proofs.claimed.take_up.Goals as goal
+use Rattle.profile_pool.proofs.claimed.lead_up.Goals as goal
 
 pub again-requires-clause-arguments : goal.again-requires-clause-arguments
 again-requires-clause-arguments c =

@@ -4,11 +4,11 @@ use Rattle.experiment_plan.specs.declared.experiment.Experiment.{Experiment}
 use Rattle.profile_pool.specs.Summaries.{summary_in}
 use Rattle.profile_pool.proofs.Lines.{plan_by_line}
 use Rattle.profile_pool.proofs.Making.{work_of}
-use Rattle.profile_pool.proofs.pool.run_plan.Goals as goal
+use Rattle.profile_pool.proofs.pool.run_from.Goals as goal
 
 pub run_claims-summaries-requires-clause-work : goal.run_claims-summaries-requires-clause-work
 run_claims-summaries-requires-clause-work g c κs = λ _.
-    work_of _ c.choice-choice.result c.requires.lines c.requires.some_budget c.requires.few c.in_ok-lead.ensures c.choice-choice.ensures.choice
+    work_of _ c.choice-choice.result c.requires.lines c.requires.some_budget c.requires.few c.in_ok-lead.ensures c.choice-choice.ensures.choice c.requires.plain
 
 -- a claim is a line
 pub returns-clause-summaries : goal.returns-clause-summaries

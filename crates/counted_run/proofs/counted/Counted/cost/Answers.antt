@@ -1,0 +1,8 @@
+use Rattle.run_counts.specs.Counts.{counts_of}
+use Rattle.counted_run.proofs.Recorded.{cost_seen}
+use Rattle.counted_run.proofs.counted.Counted.cost.Goals as goal
+
+pub returns : goal.returns
+returns c =
+    let m = c.self.inside in
+    cost_seen m.image.now m.input.now m.setting m.engine (counts_of m.tallies) c.self.invariant c.args.self.now c.self.view_is c.args.line.0 c.index.result.now c.requires c.index.ensures

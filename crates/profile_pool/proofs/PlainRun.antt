@@ -1,0 +1,108 @@
+-- What the run with no line selected says of the runs that select one.
+use Rattle.std.proofs.Common.{◌≡◌, ◌≤◌, ◌<◌, ◌^◌, ◌⊎◌, inl, inr, ℕ, true, List, [], map, length, get_or, subst, Result, Ok, Err, IfOk, Option, Some, None, sym, ap, ap₂, refl, ◌∙◌, arith}
+use Rattle.std.specs.declared.alloc.AllocError.{AllocError}
+use Rattle.std.proofs.lemmas.List.{length-map}
+use Rattle.coz_types.specs.declared.LineId.{LineId}
+use Rattle.coz_types.specs.declared.record.Outcome.{Outcome}
+use Rattle.coz_types.specs.declared.record.Summary.{Summary}
+use Rattle.coz_types.specs.declared.record.Visit.{Visit}
+use Rattle.coz_types.specs.Image.{ImageParts}
+use Rattle.coz_types.specs.Labels.{is_label}
+use Rattle.coz_types.specs.Ranges.{IsSummary}
+use Rattle.line_index.specs.Index.{Index, position_at}
+use Rattle.line_index.specs.Lines.{label}
+use Rattle.progress_points.specs.Points.{Points, point_of}
+use Rattle.machines.specs.Delayed.{Delayed}
+use Rattle.machines.specs.Shortened.{NetVisit}
+use Rattle.machines.specs.KeptVisits.{net_of}
+use Rattle.machines.specs.Records.{Record, net_visit}
+use Rattle.machines.specs.Selecting.{uncounted_record}
+use Rattle.machines.specs.Standing.{delayed_record}
+use Rattle.sha2.specs.Sha256.{sha256}
+use Rattle.net_visits.specs.Kept.{visits_bytes, counts_of}
+use Rattle.guest_calls.specs.Guest.{Guest}
+use Rattle.run_engine.specs.Run.{experiment}
+use Rattle.run_engine.specs.Seen.{Seen, experiment_of}
+use Rattle.counted_run.specs.CountedRun.{selecting_line}
+use Rattle.profile_pool.specs.declared.plain.Plain.{Plain}
+use Rattle.profile_pool.specs.Choices.{choice_of}
+use Rattle.profile_pool.specs.Made.{parts_made}
+use Rattle.profile_pool.specs.Plain.{relabelled, starts_at, SaysOf, IsPlain}
+use Rattle.profile_pool.specs.Summaries.{outcome_in, summary_of, summary_in}
+use Rattle.profile_pool.proofs.Summing.{summary_by}
+
+-- what the run of a program with no line selected is made with
+abbrev pub plain_parts : ImageParts → Index → Points → List ℕ → ℕ → Seen (Unit {0})
+plain_parts image index points input budget = record { image = image; index = index; points = points; input = input; choice = choice_of None 0 budget; state = tt }
+
+pub relabels : (text : List ℕ) (speedup points starts : ℕ) (r : Record) → relabelled text speedup starts (summary_of [] 0 points r) ≡ summary_of text speedup points (record r { starts = starts })
+unfolding summary_of
+relabels text speedup points starts r = refl
+
+-- a record with the starts of another one that is otherwise equal
+with_starts : (r s : Record) (n : ℕ) → n ≡ r.starts → uncounted_record r ≡ uncounted_record s → record s { starts = n } ≡ r
+with_starts r s n counted same = ap (λ (u : Record). record u { starts = n }) (sym same) ∙ ap (λ (m : ℕ). record r { starts = m }) counted
+
+module _ (image : ImageParts) (index : Index) (points : Points) (input : List ℕ) (budget : ℕ) (seen : Seen (Delayed Guest)) (made : parts_made seen ≡ plain_parts image index points input budget) where
+  -- the record of the run that selects a line
+  abbrev of_line : ℕ → ℕ → Record
+  of_line line speedup = delayed_record (experiment image (position_at index) (point_of points) input (choice_of (Some line) speedup budget))
+
+  line_is : (line speedup : ℕ) → delayed_record (experiment_of (selecting_line (record { 0 = line }) speedup seen)) ≡ of_line line speedup
+  line_is line speedup = ap (λ (parts : Seen (Unit {0})). delayed_record (experiment_of (selecting_line (record { 0 = line }) speedup parts))) made
+
+  abbrev plain_record : Record
+  plain_record = delayed_record (experiment_of seen)
+
+  -- at speedup 0, or if the line never starts
+  record_of_line : (line speedup starts : ℕ) → SaysOf seen line starts → (speedup ≡ 0) ⊎ (starts ≡ 0) → record plain_record { starts = starts } ≡ of_line line speedup
+  record_of_line line speedup starts says (inl zero) =
+      with_starts (delayed_record (experiment_of (selecting_line (record { 0 = line }) 0 seen))) plain_record starts says.starts_are says.same
+      ∙ line_is line 0
+      ∙ ap (of_line line) (sym zero)
+  record_of_line line speedup starts says (inr none) =
+      let counted : starts ≡ plain_record.starts = says.starts_are ∙ ap (λ (r : Record). r.starts) (says.unstarted none 0) in
+      ap (λ (n : ℕ). record plain_record { starts = n }) counted
+      ∙ sym (says.unstarted none speedup)
+      ∙ line_is line speedup
+
+  summary_in_is : (line speedup : ℕ) → summary_of (get_or (map label index.lines) line []) speedup (length points.lines) (of_line line speedup) ≡ summary_in image index points input budget line speedup
+  unfolding summary_in
+  summary_in_is line speedup = refl
+
+  pub plain_is : (plain : Plain) (r : Record) → length plain.starts.items ≡ length index.lines
+      → ((line : ℕ) → line < length index.lines → SaysOf seen line (starts_at plain line))
+      → plain.summary ≡ summary_of [] 0 (length points.lines) r → r ≡ delayed_record (experiment_of seen)
+      → ((text : List ℕ) (speedup starts : ℕ) → is_label text ≡ true → speedup ≤ 95 → starts ≤ 10 ^ 17 → IsSummary (length points.lines) (relabelled text speedup starts plain.summary))
+      → IsPlain image index points input budget plain
+  plain_is plain r many says summary recorded ranges = record {
+    many = many;
+    same = λ line speedup below either.
+        let text : List ℕ = get_or (map label index.lines) line [] in
+        let starts : ℕ = starts_at plain line in
+        ap (relabelled text speedup starts) (summary ∙ ap (summary_of [] 0 (length points.lines)) recorded)
+        ∙ relabels text speedup (length points.lines) starts plain_record
+        ∙ ap (summary_of text speedup (length points.lines)) (record_of_line line speedup starts (says line below) either)
+        ∙ summary_in_is line speedup;
+    ranges = λ text line speedup below labelled slow. ranges text speedup (starts_at plain line) labelled slow (says line below).small;
+  }
+
+pub all_ok : {T : Type 0} (r : Result T AllocError) (A B C D E : T → Type 0) → IfOk r A → IfOk r B → IfOk r C → IfOk r D → ((t : T) → A t → B t → C t → D t → E t) → IfOk r E
+all_ok (Ok t) A B C D E a b c d f = f t a b c d
+all_ok (Err e) A B C D E a b c d f = a
+
+-- a summary of net visits
+pub net_summed : (label : List ℕ) (speedup points : ℕ) (r : Record) (given : List Visit) (selected : List ℕ) (o : Outcome) (size : ℕ) (output counts visits : List ℕ)
+    → map net_of given ≡ map net_visit r.visits → selected ≡ label → o ≡ outcome_in r → size ≡ length r.output → output ≡ sha256 r.output
+    → counts ≡ counts_of points (map net_of given) → visits ≡ sha256 (visits_bytes (map net_of given))
+    → summary_by selected speedup o size output counts visits ≡ summary_of label speedup points r
+unfolding summary_of
+net_summed label speedup points r given selected o size output counts visits nets named came long hashed counted listed =
+    ap₂ (λ (text : List ℕ) (it : Outcome). summary_by text speedup it size output counts visits) named came
+    ∙ ap₂ (λ (n : ℕ) (it : List ℕ). summary_by label speedup (outcome_in r) n it counts visits) long hashed
+    ∙ ap₂ (λ (cs vs : List ℕ). summary_by label speedup (outcome_in r) (length r.output) (sha256 r.output) cs vs)
+    (counted ∙ ap (counts_of points) nets)
+    (listed ∙ ap (λ (them : List NetVisit). sha256 (visits_bytes them)) nets)
+
+pub few_nets : (given : List Visit) (r : Record) → map net_of given ≡ map net_visit r.visits → length given ≤ 1048576 → length r.visits ≤ 1048576
+few_nets given r are few = let same = ap length are in omega (arith, length-map given net_of, length-map r.visits net_visit)

@@ -1,0 +1,57 @@
+-- The run with no line selected, and what it gives of the runs that select one.
+use Rattle.std.specs.Prelude.{◌≡◌, ℕ, ◌<◌, ◌≤◌, ◌^◌, ◌⊎◌, true, List, [], map, length, get_or, slice_index_or}
+use Rattle.coz_types.specs.declared.TheConstants.{MAX_SPEEDUP}
+use Rattle.coz_types.specs.declared.LineId.{LineId}
+use Rattle.coz_types.specs.declared.record.Summary.{Summary}
+use Rattle.coz_types.specs.Image.{ImageParts}
+use Rattle.coz_types.specs.Labels.{is_label}
+use Rattle.coz_types.specs.Ranges.{IsSummary}
+use Rattle.line_index.specs.Index.{Index}
+use Rattle.line_index.specs.Lines.{label}
+use Rattle.machines.specs.Delayed.{Delayed}
+use Rattle.machines.specs.Selecting.{uncounted_record}
+use Rattle.machines.specs.Standing.{delayed_record}
+use Rattle.progress_points.specs.Points.{Points}
+use Rattle.guest_calls.specs.Guest.{Guest}
+use Rattle.run_engine.specs.Seen.{Seen, experiment_of}
+use Rattle.counted_run.specs.CountedRun.{selecting_line}
+use Rattle.profile_pool.specs.declared.plain.Plain.{Plain}
+use Rattle.profile_pool.specs.Summaries.{summary_in}
+
+-- with another label, speedup and number of starts
+abbrev pub relabelled : List ℕ → ℕ → ℕ → Summary → Summary
+relabelled label speedup starts s = record s {
+  selected = label;
+  speedup = speedup;
+  outcome = record s.outcome { starts = starts };
+}
+
+abbrev pub starts_at : Plain → ℕ → ℕ
+starts_at plain line = slice_index_or plain.starts.items line 0
+
+-- what a run with no line selected says of the line at this position, which starts so often
+pub record SaysOf (seen : Seen (Delayed Guest)) (line starts : ℕ) : Type 0 where
+  pub starts_are : starts
+      ≡ (delayed_record (experiment_of (selecting_line (record { 0 = line }) 0 seen))).starts
+  pub small : starts ≤ 10 ^ 17
+  pub same : uncounted_record
+      (delayed_record (experiment_of (selecting_line (record { 0 = line }) 0 seen)))
+      ≡ uncounted_record (delayed_record (experiment_of seen))
+  pub unstarted : starts ≡ 0 → (speedup : ℕ)
+      → delayed_record (experiment_of (selecting_line (record { 0 = line }) speedup seen))
+      ≡ delayed_record (experiment_of seen)
+
+-- its summary, with the label, the speedup and the starts of a line, is that of the run with the
+-- line selected, at speedup 0 and, if the line never starts, at every speedup
+pub record IsPlain (image : ImageParts) (index : Index) (points : Points) (input : List ℕ)
+    (budget : ℕ) (plain : Plain) : Type 0 where
+  pub many : length plain.starts.items ≡ length index.lines
+  pub same : (line speedup : ℕ) → line < length index.lines
+      → (speedup ≡ 0) ⊎ (starts_at plain line ≡ 0)
+      → relabelled (get_or (map label index.lines) line []) speedup (starts_at plain line)
+      plain.summary
+      ≡ summary_in image index points input budget line speedup
+  pub ranges : (text : List ℕ) (line speedup : ℕ) → line < length index.lines
+      → is_label text ≡ true → speedup ≤ MAX_SPEEDUP
+      → IsSummary (length points.lines)
+      (relabelled text speedup (starts_at plain line) plain.summary)

@@ -1,0 +1,127 @@
+//! The run with no line selected, which is the run of each line at speedup 0 but for its starts.
+ghost use Rattle.std.specs.Prelude.{◌≡◌, ℕ, ◌<◌, ◌≤◌, ◌^◌, List, [], true, length, get_or, IfOk, IsSome, Some};
+ghost use Rattle.coz_types.specs.declared.TheConstants.{MAX_BUDGET, MAX_SPEEDUP};
+ghost use Rattle.coz_types.specs.declared.ending.Ending.{Ending};
+ghost use Rattle.coz_types.specs.Labels.{is_label};
+ghost use Rattle.coz_types.specs.Ranges.{IsSummary};
+ghost use Rattle.machines.specs.Records.{record_of};
+ghost use Rattle.run_engine.specs.Seen.{experiment_of};
+ghost use Rattle.profile_pool.specs.Summaries.{summary_of};
+ghost use Rattle.profile_pool.specs.Plain.{relabelled, starts_at, SaysOf, IsPlain};
+
+use crate::limits::choice;
+use crate::outcomes::counted_outcome;
+use counted_run::Counted;
+use coz_lists::Items;
+use coz_types::{Image, Label, LineId, Outcome, Summary};
+use line_index::LineIndex;
+use net_visits::{counts_of_visits, digest_of_bytes, digest_of_visits};
+use progress_points::Points;
+use std::alloc::{AllocError, Global};
+
+/// The run of a program with no line selected.
+#[derive(Drop)]
+pub struct Plain {
+    /// Its summary, with an empty label.
+    pub summary: Summary,
+    /// How many instructions of each line were begun, by the position of the line.
+    pub starts: Vec<u64>,
+}
+
+/// The summary of a run that has ended, with an empty label.
+fn summarise_counted(
+    alloc: Global,
+    counted: &Counted,
+    points: &Points,
+) -> Result<Summary, AllocError>
+    requires points { counted.now.points ≡ points.now }
+    requires ended { IsSome counted.now.state.ending }
+    ensures summary { (ending : Ending) → counted.now.state.ending ≡ Some ending
+        → IfOk result (λ summary. summary ≡ summary_of [] 0 (length points.now.lines)
+        (record_of (experiment_of counted.now) counted.now.state ending)) }
+    ensures ranges { IfOk result (λ summary. (text : List ℕ) (speedup starts : ℕ)
+        → is_label text ≡ true → speedup ≤ MAX_SPEEDUP → starts ≤ 10 ^ 17
+        → IsSummary (length points.now.lines) (relabelled text speedup starts summary)) }
+{
+    let visits = counted.visits();
+    let output = counted.output();
+    let selected = Label::copy(alloc, b"")?;
+    let counts = counts_of_visits(alloc, points.count(), visits)?;
+    Ok(Summary {
+        selected,
+        speedup: 0,
+        outcome: counted_outcome(counted),
+        length: output.len() as u64,
+        output: digest_of_bytes(output),
+        counts: Items::new(counts),
+        visits: digest_of_visits(visits),
+    })
+}
+
+/// How many instructions of each line were begun in a run that has ended.
+fn starts_of(alloc: Global, counted: &Counted, index: &LineIndex) -> Result<Vec<u64>, AllocError>
+    requires index { counted.now.index ≡ index.now }
+    requires ended { IsSome counted.now.state.ending }
+    ensures many { IfOk result (λ starts. length starts.items ≡ length index.now.lines) }
+    ensures each { IfOk result (λ starts. (line : ℕ) → line < length index.now.lines
+        → SaysOf counted.now line (get_or starts.items line 0)) }
+{
+    let mut starts = Vec::new(alloc);
+    for line in 0..index.count() {
+        starts.push(counted.starts(LineId(line)))?;
+    }
+    Ok(starts)
+}
+
+/// What is kept of a run that has ended.
+fn plain_in(
+    alloc: Global,
+    counted: &Counted,
+    index: &LineIndex,
+    points: &Points,
+) -> Result<Plain, AllocError>
+    requires index { counted.now.index ≡ index.now }
+    requires points { counted.now.points ≡ points.now }
+    requires ended { IsSome counted.now.state.ending }
+    ensures many { IfOk result (λ plain. length plain.starts.items ≡ length index.now.lines) }
+    ensures each { IfOk result (λ plain. (line : ℕ) → line < length index.now.lines
+        → SaysOf counted.now line (starts_at plain line)) }
+    ensures summary { (ending : Ending) → counted.now.state.ending ≡ Some ending
+        → IfOk result (λ plain. plain.summary ≡ summary_of [] 0 (length points.now.lines)
+        (record_of (experiment_of counted.now) counted.now.state ending)) }
+    ensures ranges { IfOk result (λ plain. (text : List ℕ) (speedup starts : ℕ)
+        → is_label text ≡ true → speedup ≤ MAX_SPEEDUP → starts ≤ 10 ^ 17
+        → IsSummary (length points.now.lines) (relabelled text speedup starts plain.summary)) }
+{
+    let starts = starts_of(alloc, counted, index)?;
+    match summarise_counted(alloc, counted, points) {
+        Ok(summary) => Ok(Plain { summary, starts }),
+        Err(error) => {
+            // By one call, since a drop in place is proved part by part.
+            drop(starts);
+            Err(error)
+        }
+    }
+}
+
+/// What is kept of the run of a program with no line selected.
+pub fn plain_run(
+    alloc: Global,
+    image: &Image,
+    index: &LineIndex,
+    points: &Points,
+    input: &[u8],
+    budget: u64,
+) -> Result<Plain, AllocError>
+    requires some_budget { 1 ≤ budget }
+    requires few { budget ≤ MAX_BUDGET }
+    ensures { IfOk result (IsPlain image.now index.now points.now input.now budget) }
+{
+    let choice = choice(None, 0, budget);
+    let mut counted = Counted::new(alloc, image, index, points, input, choice)?;
+    counted.run();
+    let plain = plain_in(alloc, &counted, index, points);
+    // By one call, since a drop in place is proved part by part.
+    drop(counted);
+    plain
+}

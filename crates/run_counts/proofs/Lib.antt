@@ -1,0 +1,6 @@
+pub mod Counted
+pub mod Undelayed
+mod Examples
+pub mod Adding
+pub mod Within
+pub mod Ended

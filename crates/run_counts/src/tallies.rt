@@ -1,0 +1,90 @@
+//! What was begun of each line.
+ghost use Rattle.std.specs.Prelude.{◌≡◌, ◌^◌, ◌≤◌, ◌<◌, length, option_map, IfOk, IfSome};
+ghost use Rattle.run_counts.specs.Counts.{counts_of, no_counts, place_in, with_one, IsWithin};
+
+use coz_types::{LineId, Tick};
+use std::alloc::{AllocError, Global};
+
+/// What was begun of a line.
+#[derive(Clone, Copy, Debug)]
+pub struct Tally {
+    /// How many of its instructions.
+    pub starts: u64,
+    /// Their work, in ticks.
+    pub cost: Tick,
+}
+
+/// What was begun of each of some lines, and of code that has none of them.
+#[derive(Drop)]
+pub struct Tallies {
+    /// By the position of the line.
+    pub lines: Vec<Tally>,
+    /// The work of code that has no line, in ticks.
+    pub none: Tick,
+    /// All work, in ticks.
+    pub all: Tick,
+    /// How many instructions were begun in all.
+    pub begun: u64,
+}
+
+/// Nothing was begun of this many lines. Takes 16 bytes for each. Fails only when out of memory.
+pub fn no_tallies(alloc: Global, count: u32) -> Result<Tallies, AllocError>
+    ensures { IfOk result (λ tallies. counts_of tallies ≡ no_counts count) }
+{
+    let none = Tally { starts: 0, cost: 0 };
+    let lines = vec![in alloc; none; count as usize]?;
+    Ok(Tallies {
+        lines,
+        none: 0,
+        all: 0,
+        begun: 0,
+    })
+}
+
+/// The place of a line among this many; None if it is not one of them.
+fn place_of(line: Option<LineId>, count: usize) -> Option<usize>
+    ensures { result ≡ place_in count (option_map (λ line. line.0) line) }
+{
+    match line {
+        Some(line) => {
+            let place = line.0 as usize;
+            if place < count { Some(place) } else { None }
+        }
+        None => None,
+    }
+}
+
+/// Adds an instruction to the tally at a place, or to no tally.
+fn add_at(tallies: &mut Tallies, place: Option<usize>, cost: Tick)
+    requires place { IfSome place (λ k. k < length tallies.old.lines.items) }
+    requires small { cost ≤ 2 ^ 12 }
+    requires within { IsWithin (counts_of tallies.old) }
+    requires few { tallies.old.begun < 2 ^ 50 }
+    ensures { counts_of tallies.new ≡ with_one place cost (counts_of tallies.old) }
+{
+    tallies.begun += 1;
+    tallies.all += cost;
+    match place {
+        Some(place) => {
+            let old = tallies.lines[place];
+            tallies.lines[place] = Tally {
+                starts: old.starts + 1,
+                cost: old.cost + cost,
+            };
+        }
+        None => tallies.none += cost,
+    }
+}
+
+/// Adds an instruction of a line, or of no line, which takes `cost` ticks, at most 4,096.
+pub fn add(tallies: &mut Tallies, line: Option<LineId>, cost: Tick)
+    requires small { cost ≤ 2 ^ 12 }
+    requires within { IsWithin (counts_of tallies.old) }
+    requires few { tallies.old.begun < 2 ^ 50 }
+    ensures { counts_of tallies.new
+        ≡ with_one (place_in (length tallies.old.lines.items) (option_map (λ line. line.0) line))
+        cost (counts_of tallies.old) }
+{
+    let place = place_of(line, tallies.lines.len());
+    add_at(tallies, place, cost);
+}
