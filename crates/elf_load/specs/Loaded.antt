@@ -7,6 +7,7 @@ use Rattle.coz_types.specs.Image.{ImageParts}
 use Rattle.elf_load.specs.declared.ElfFault.{ElfFault}
 use Rattle.failures.specs.declared.Failure.{Failure}
 use Rattle.failures.specs.Answers.{Fails}
+use Rattle.elf_load.specs.declared.tables.Section.{Section}
 use Rattle.elf_load.specs.declared.tables.Segment.{Segment}
 use Rattle.elf_load.specs.Tables.{entry, phoff, phnum, segments, sections, is_load, load_areas, is_executable, is_writable, is_readable, first_page, pages, has_place, has_bytes, is_named, bytes_of}
 use Rattle.elf_load.specs.Faults.{fault}
@@ -61,6 +62,12 @@ byte_at file area a =
 unfoldable pub section : List ℕ → List ℕ → Option (List ℕ)
 section file name =
     option_map (bytes_of file) (find (λ s. has_bytes s && is_named file name s) (sections file))
+
+-- the offset of the header of that section
+unfoldable pub section_place : List ℕ → List ℕ → Option ℕ
+section_place file name =
+    option_map (λ (s : Section). s.place)
+    (find (λ s. has_bytes s && is_named file name s) (sections file))
 
 -- What loading answered is what the file holds, unless memory ran out.
 abbrev pub Loads : Result ImageParts (Failure ElfFault) → Result ImageParts ElfFault → Type 0

@@ -17,18 +17,18 @@ mod pages;
 mod sections;
 mod tables;
 
-ghost use Rattle.std.specs.Prelude.{◌≡◌, None, IfOk};
+ghost use Rattle.std.specs.Prelude.{◌≡◌, ◌≤◌, ◌+◌, None, IfOk, IfSome, length};
 ghost use Rattle.std.specs.Option.{option_copied};
 ghost use Rattle.failures.specs.declared.Failure.TheVariants.{Fault};
 ghost use Rattle.elf_load.specs.Faults.{fault};
-ghost use Rattle.elf_load.specs.Loaded.{Loads, load_answer, section};
+ghost use Rattle.elf_load.specs.Loaded.{Loads, load_answer, section, section_place};
 
 use crate::areas::{headers, image_areas, load_areas};
 use crate::codes::{E_ENTRY, E_PHNUM};
 use crate::faults::check_tables;
 use crate::fields::{double_at, half_at};
 use crate::header::check_header;
-use crate::sections::section_of;
+use crate::sections::{named_section, section_of};
 use crate::tables::{read_sections, read_segments};
 use coz_types::Image;
 use failures::Failure;
@@ -116,4 +116,18 @@ pub fn section<'a>(image: &Image<'a>, name: &[u8]) -> Option<&'a [u8]>
     ensures { option_copied result ≡ section image.now.file name.now }
 {
     section_of(image.file(), name)
+}
+
+/// The offset in the file of the header of the first section of that name, 64 bytes long, for an
+/// image whose file has no fault. NULL and NOBITS sections are not found.
+#[tactic(auto, unfolding(crate::specs::Loaded::section_place))]
+pub fn section_place(image: &Image, name: &[u8]) -> Option<u64>
+    requires { fault image.now.file ≡ None }
+    ensures place { result ≡ section_place image.now.file name.now }
+    ensures within { IfSome result (λ place. place + 64 ≤ length image.now.file) }
+{
+    match named_section(image.file(), name) {
+        Some(section) => Some(section.place),
+        None => None,
+    }
 }

@@ -1,7 +1,7 @@
 use Rattle.std.proofs.Common.{◌≡◌, find}
 use Rattle.elf_load.specs.Tables.{sections}
 use Rattle.elf_load.proofs.SectionLemmas.{wanted, left}
-use Rattle.elf_load.proofs.sections.section_of.Given as goal
+use Rattle.elf_load.proofs.sections.named_section.Given as goal
 
 -- the section is among those that are left, if it is there
 abbrev pub invariant-loop-index : goal.invariant-loop-index

@@ -1,0 +1,5 @@
+mod Loaded
+mod Escapes
+mod SameAreas
+mod SymbolLists
+mod Worked

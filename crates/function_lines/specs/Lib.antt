@@ -1,0 +1,4 @@
+pub mod SameProgram
+pub mod WithLines
+pub mod Symbols
+pub mod Labels

@@ -1,0 +1,65 @@
+-- The functions of a symbol table (ELF-64 Object File Format, version 1.5, "Symbol Table").
+use Rattle.std.specs.Prelude.{ℕ, ◌+◌, ◌/◌, ◌%◌, Bool, not, ◌&&◌, ◌==◌, nat_lt, nat_le, List, [], ◌∷◌, map, take_while, drop, length, slice_index, if◌then◌else◌}
+use Rattle.std.specs.Int.{w16, w32, w64}
+use Rattle.std.specs.Ordering.{nat_cmp}
+use Rattle.std.specs.BTreeMap.{insert_entry}
+use Rattle.coz_types.specs.declared.TheConstants.{LOAD_END}
+use Rattle.elf_load.specs.Tables.{number, places}
+use Rattle.function_lines.specs.declared.symbols.Symbol.{Symbol}
+
+-- the entry at a place
+abbrev pub symbol_at : List ℕ → ℕ → Symbol
+symbol_at table place = record {
+  name = number w32 table place;
+  kind = slice_index table (place + 4) % 16;
+  section = number w16 table (place + 6);
+  address = number w64 table (place + 8);
+  size = number w64 table (place + 16);
+}
+
+-- the whole entries, of 24 bytes each
+abbrev pub symbols : List ℕ → List Symbol
+symbols table = map (symbol_at table) (places 0 24 (length table / 24))
+
+-- ---- names
+
+-- a byte before names that end
+abbrev pub before_ended : ℕ → List ℕ → List ℕ
+before_ended b [] = if b == 0 then b ∷ [] else []
+before_ended b (c ∷ cs) = b ∷ c ∷ cs
+
+-- the names that a zero byte ends: the bytes up to the last zero byte
+abbrev pub ended : List ℕ → List ℕ
+ended [] = []
+ended (b ∷ bs) = before_ended b (ended bs)
+
+-- its name begins among these names, and isn't empty
+abbrev pub has_name : List ℕ → Symbol → Bool
+has_name names s = nat_lt s.name (length names) && not (slice_index names s.name == 0)
+
+-- the bytes up to the next zero byte
+abbrev pub name_of : List ℕ → Symbol → List ℕ
+name_of names s = take_while (λ b. not (b == 0)) (drop s.name names)
+
+-- ---- functions
+
+-- a defined symbol of type STT_FUNC of some bytes, at an instruction, with a name
+abbrev pub is_function : List ℕ → Symbol → Bool
+is_function names s =
+    s.kind == 2
+    && (not (s.section == 0) && (not (s.size == 0) && (s.address % 4 == 0
+    && (nat_le (s.address + s.size) LOAD_END && has_name names s))))
+
+-- in place of another one at its address, if it is a function
+abbrev pub with_function : List ℕ → Symbol → List (ℕ × Symbol) → List (ℕ × Symbol)
+with_function names s found =
+    if is_function names s then insert_entry nat_cmp found s.address s else found
+
+-- by their addresses, rising: of several with one address the first counts
+abbrev pub by_address : List ℕ → List Symbol → List (ℕ × Symbol)
+by_address names [] = []
+by_address names (s ∷ more) = with_function names s (by_address names more)
+
+-- of a symbol table and of the section that holds its names
+unfoldable pub functions : List ℕ → List ℕ → List (ℕ × Symbol)
+functions table names = by_address (ended names) (symbols table)

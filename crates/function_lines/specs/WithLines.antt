@@ -1,0 +1,35 @@
+-- A file with another line table behind it.
+use Rattle.std.specs.Prelude.{◌≡◌, ℕ, ◌+◌, Bool, false, ◌&&◌, List, ◌++◌, take, drop, length, bytes_eq, Option, Some, None, option_map, codes}
+use Rattle.coz_types.specs.Image.{ImageParts}
+use Rattle.elf_load.specs.Loaded.{load_answer, section, section_place}
+use Rattle.function_lines.specs.declared.relined.LinesError.{LinesError}
+use Rattle.function_lines.specs.declared.relined.LinesError.TheVariants.{NoLines, Overlap, Memory}
+use Rattle.function_lines.specs.SameProgram.{is_same_program}
+use Rattle.line_unit.specs.Unit.{double}
+
+-- the file and behind it the unit, with the section header at a place that names the unit:
+-- sh_offset is 24 bytes behind the place, and sh_size 32
+abbrev pub with_section : List ℕ → List ℕ → ℕ → List ℕ
+with_section file unit place =
+    take (place + 24) file
+    ++ (double (length file) ++ (double (length unit) ++ (drop (place + 40) file ++ unit)))
+
+-- the file whose section `.debug_line` is to be the unit, unless it has no such section
+abbrev pub with_lines : List ℕ → List ℕ → Option (List ℕ)
+with_lines file unit = option_map (with_section file unit) (section_place file (codes ".debug_line"))
+
+abbrev pub is_section : Option (List ℕ) → List ℕ → Bool
+is_section None unit = false
+is_section (Some bytes) unit = bytes_eq bytes unit
+
+-- it is the program of the image with this line table
+abbrev pub has_lines : ImageParts → List ℕ → List ℕ → Bool
+has_lines image unit file =
+    is_same_program image (load_answer file) && is_section (section file (codes ".debug_line")) unit
+
+-- why there is no such file
+abbrev pub IsCause : ImageParts → List ℕ → LinesError → Type 0
+IsCause image unit NoLines = section_place image.file (codes ".debug_line") ≡ None
+IsCause image unit Overlap =
+    option_map (has_lines image unit) (with_lines image.file unit) ≡ Some false
+IsCause image unit Memory = Unit {0}

@@ -1,0 +1,60 @@
+//! The line that a function is.
+
+ghost use Rattle.std.specs.Prelude.{◌≡◌, ◌++◌, ◌∷◌, true, IfOk, IfSome};
+ghost use Rattle.coz_types.specs.Labels.{is_written, written};
+ghost use Rattle.function_lines.specs.Labels.{labelled, lines_of};
+ghost use Rattle.function_lines.specs.declared.labels.Place.{Place};
+ghost use Rattle.line_unit.specs.Lines.{line_of_sequence};
+ghost use Rattle.line_unit.specs.Unit.{view};
+
+use crate::raw_paths::unwritten;
+use crate::symbols::Symbol;
+use line_unit::Sequence;
+use std::alloc::{AllocError, Global};
+
+/// A line of a program: a written path and a number.
+#[derive(Clone, Copy)]
+pub struct Place<'a> {
+    /// Its path, as labels have it.
+    pub path: &'a [u8],
+    /// Its number.
+    pub number: u32,
+}
+
+/// The path of a name below the path that is written so.
+fn path_below(alloc: Global, path: &[u8], name: &[u8]) -> Result<Vec<u8>, AllocError>
+    requires { is_written path.now ≡ true }
+    ensures { IfOk result (λ v. written v.items ≡ path.now ++ 47 ∷ written name.now) }
+{
+    let mut out = unwritten(alloc, path)?;
+    out.push(b'/')?;
+    out.extend_from_slice(name)?;
+    Ok(out)
+}
+
+/// Returns the sequence of a function with this name: its addresses, and the line that it is. A
+/// function whose first address has the line N of the written path P is line N of `P/NAME`, and
+/// one without a line is line 1 of `NAME`.
+pub fn function_sequence(
+    alloc: Global,
+    symbol: &Symbol,
+    name: &[u8],
+    place: Option<Place>,
+) -> Result<Sequence, AllocError>
+    requires { IfSome place (λ place. is_written place.path.now ≡ true) }
+    ensures line { IfOk result (λ s.
+        line_of_sequence (view s) ≡ labelled name.now (lines_of place.entry)) }
+    ensures address { IfOk result (λ s. s.address ≡ symbol.now.address) }
+    ensures size { IfOk result (λ s. s.size ≡ symbol.now.size) }
+{
+    let (path, number) = match place {
+        Some(place) => (path_below(alloc, place.path, name)?, place.number),
+        None => (Vec::from_slice(alloc, name)?, 1),
+    };
+    Ok(Sequence {
+        path,
+        number,
+        address: symbol.address,
+        size: symbol.size,
+    })
+}

@@ -1,0 +1,6 @@
+mod Leb
+mod LineProgram
+mod Lengths
+mod LineOf
+pub mod UnitReads
+mod Worked
