@@ -103,7 +103,7 @@ fn are_hex_digits(bytes: &[u8]) -> bool
     all_hex_digits(bytes) && 0 < bytes.len()
 }
 
-/// The number that a word spells. None where it spells none.
+/// The number that a word spells. None if it spells none.
 pub fn spelled(word: &[u8]) -> Option<u128>
     ensures value { result ≡ spelled_number word.now }
     ensures small { IfSome result (λ n. n ≤ 2 ^ 64) }

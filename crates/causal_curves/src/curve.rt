@@ -21,6 +21,6 @@ pub struct CurveStep {
     /// The speedup in per cent.
     pub speedup: u8,
     /// How much less net time a visit takes than at speedup 0, in hundredths of a per cent,
-    /// rounded down. There is none where that can't be told.
+    /// rounded down. There is none if that can't be told.
     pub value: Option<i128>,
 }

@@ -42,7 +42,7 @@ fn share(whole: i128, part: i128) -> i128
 }
 
 /// How much less net time a visit takes than in the base, if that can be told.
-/// None where either has no visit of the point, or the base has no net time.
+/// None if either has no visit of the point, or the base has no net time.
 pub fn value_over(point: usize, base: &Summary, summary: &Summary) -> Option<i128>
     requires base { IsMeasured point base.now }
     requires summary { IsMeasured point summary.now }

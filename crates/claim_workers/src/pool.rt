@@ -56,7 +56,7 @@ fn deal<W: ClaimWork>(
     Ok((seat, jobs))
 }
 
-/// Has each worker work in a thread of its own, where one can be made, and else one after another.
+/// Has each worker work in a thread of its own, if one can be made, and else one after another.
 fn run_jobs<R: Threads + Sync, W: ClaimWork, G: Gate>(
     rt: &R,
     alloc: Global,

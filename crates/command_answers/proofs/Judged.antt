@@ -16,8 +16,6 @@ use Rattle.experiment_plan.specs.declared.experiment.Experiment.{Experiment as P
 use Rattle.coz_words.specs.Said.{Text}
 use Rattle.coz_words.specs.declared.request.Request.{Request}
 use Rattle.printed_texts.specs.declared.printed.Printed.{Printed}
-use Rattle.command_answers.specs.declared.experiment.Kind.{Kind}
-use Rattle.command_answers.specs.declared.experiment.Kind.TheVariants.{Delayed, Shortened, Profiled, Measured}
 use Rattle.coz_files.specs.Faults.{Rose}
 use Rattle.coz_files.specs.Held.{Held, file_at}
 use Rattle.program_steps.specs.declared.fault.Fault.{Fault}
@@ -29,9 +27,8 @@ use Rattle.experiment_plan.specs.Selected.{places_among}
 use Rattle.command_answers.specs.Latencies.{latency_printed, latency_verdict, lines_of_both, net_at_each, speedups_of}
 use Rattle.command_answers.specs.Profiled.{all_lines, pairs_of, profile_of}
 use Rattle.program_steps.specs.Selection.{line_named, lines_named}
-use Rattle.command_answers.specs.Kind.{judgement_by, really_printed, run_printed}
 use Rattle.command_answers.specs.Answer.{Answer, IsMemory, IsMemoryFault, IsRead, IsReadFault, Suits, verdict_of, fault_verdict}
-use Rattle.command_answers.specs.Verdict.{Verdict, asked_verdict, bytes_verdict, profiled_verdict, file_verdict, input_verdict, read_verdict, has_exited, loaded_verdict, named_verdict, plan_verdict, points_verdict, profile_verdict, table_verdict}
+use Rattle.command_answers.specs.Verdict.{Verdict, Judging, really_printed, run_printed, asked_verdict, bytes_verdict, profiled_verdict, file_verdict, input_verdict, read_verdict, has_exited, loaded_verdict, named_verdict, plan_verdict, points_verdict, profile_verdict, table_verdict}
 
 -- the status is a run's, or one of the refusals after the reading, with a line
 pub record Refuses (v : Verdict) : Type 0 where
@@ -77,7 +74,7 @@ judged_asked asked print each lines runs =
     judged_points named _ (λ points.
     each (runs (choice_of selected asked.speedup asked.budget) points))))
 
-judged_profiled : (asked : Request) (lines : List Line) (runs : Runs) → Judged (profiled_verdict asked lines runs)
+pub judged_profiled : (asked : Request) (lines : List Line) (runs : Runs) → Judged (profiled_verdict asked lines runs)
 unfolding profiled_verdict
 judged_profiled asked lines runs =
     judged_named (lines_named lines (all_lines lines) asked.lines) _ (λ selected.
@@ -86,7 +83,7 @@ judged_profiled asked lines runs =
     judged_plan (pairs_of selected asked.speedups) (λ pairs. profile_verdict (profile_of runs lines asked.budget points pairs))
     (λ pairs. inl (low (list_all (λ (s : Summary). has_exited s.outcome.ending) (profile_of runs lines asked.budget points pairs).summaries))))))
 
-judged_latency : (asked : Request) (lines : List Line) (runs : Runs) → Judged (latency_verdict asked lines runs)
+pub judged_latency : (asked : Request) (lines : List Line) (runs : Runs) → Judged (latency_verdict asked lines runs)
 unfolding latency_verdict
 judged_latency asked lines runs =
     judged_named (line_named lines asked.line) _ (λ selected.
@@ -96,11 +93,11 @@ judged_latency asked lines runs =
     (λ points. latency_printed (places_among points arrive) (places_among points depart) (net_at_each runs selected asked.budget points) (speedups_of asked))
     (λ points. inl (low (list_all (λ speedup. has_exited (net_at_each runs selected asked.budget points speedup).ending) (speedups_of asked)))))))
 
-judged_kind : (kind : Kind) (asked : Request) (lines : List Line) (runs : Runs) → Judged (judgement_by kind asked lines runs)
-judged_kind Delayed asked = judged_asked asked run_printed (λ x. inl (low (has_exited (delayed_record x).ending)))
-judged_kind Shortened asked = judged_asked asked really_printed (λ x. inl (low (has_exited (shortened_record x).ending)))
-judged_kind Profiled asked = judged_profiled asked
-judged_kind Measured asked = judged_latency asked
+pub judged_run : (asked : Request) (lines : List Line) (runs : Runs) → Judged (asked_verdict asked run_printed lines runs)
+judged_run asked = judged_asked asked run_printed (λ x. inl (low (has_exited (delayed_record x).ending)))
+
+pub judged_really : (asked : Request) (lines : List Line) (runs : Runs) → Judged (asked_verdict asked really_printed lines runs)
+judged_really asked = judged_asked asked really_printed (λ x. inl (low (has_exited (shortened_record x).ending)))
 
 judged_table : (t : Result Table LineFault) (next : Table → Verdict) → ((table : Table) → Judged (next table)) → Judged (table_verdict t next)
 judged_table (Err fault) next each = inr (record { high = omega arith; no_read = λ is. omega (arith, is); no_write = λ is. omega (arith, is); no_length = λ is. omega (arith, is); told = λ is. absurd cc })
@@ -110,11 +107,11 @@ judged_loaded : (l : Result ImageParts ElfFault) (next : ImageParts → Verdict)
 judged_loaded (Err fault) next each = inr (record { high = omega arith; no_read = λ is. omega (arith, is); no_write = λ is. omega (arith, is); no_length = λ is. omega (arith, is); told = λ is. absurd cc })
 judged_loaded (Ok image) next each = each image
 
-judged_file : (kind : Kind) (asked : Request) (file input : List ℕ) → Judged (file_verdict (judgement_by kind asked) file input)
-judged_file kind asked file input =
+judged_file : (next : Judging) (file input : List ℕ) → ((lines : List Line) (runs : Runs) → Judged (next lines runs)) → Judged (file_verdict next file input)
+judged_file next file input judged =
     judged_loaded (load_answer file) _ (λ image.
     judged_table (table_in file) _ (λ table.
-    judged_kind kind asked _ _))
+    judged _ _))
 
 -- ---- answers
 
@@ -146,9 +143,9 @@ module _ (asked : Request) (v : Verdict) (judged : Judged v) where
   suits_of (Err (Source fault)) no_read settled = tt
   suits_of (Err (Profile fault)) no_read settled = tt
 
-pub suits_file : (kind : Kind) (asked : Request) (file input : List ℕ) (answer : Answer) → (IsRead answer → ⊥)
-    → ((IsMemory answer → ⊥) → verdict_of answer ≡ file_verdict (judgement_by kind asked) file input) → Suits asked answer
-suits_file kind asked file input answer = suits_of asked (file_verdict (judgement_by kind asked) file input) (judged_file kind asked file input) answer
+pub suits_file : (next : Judging) (asked : Request) (file input : List ℕ) (answer : Answer) → ((lines : List Line) (runs : Runs) → Judged (next lines runs)) → (IsRead answer → ⊥)
+    → ((IsMemory answer → ⊥) → verdict_of answer ≡ file_verdict next file input) → Suits asked answer
+suits_file next asked file input answer judged = suits_of asked (file_verdict next file input) (judged_file next file input judged) answer
 
 judged_path : (budget : ℕ) (file input : List ℕ) → Judged (path_on budget file input)
 unfolding path_printed
@@ -164,11 +161,11 @@ suits_path asked file input answer = suits_of asked (path_on asked.budget file i
 -- ---- reading
 
 -- a program's file that could not be read
-pub first_read : (told : Option Held) (asked : Request) (next : List ℕ → List ℕ → Verdict) (path : List ℕ) (before now : ℕ) (fault : Fault) → path ≡ asked.target
+pub first_read : (told : Option Held) (asked : Request) (path : List ℕ) (before now : ℕ) (fault : Fault) → path ≡ asked.target
     → IfSome told (λ held. (IsMemoryFault fault → ⊥) → (rest : List ℕ → Verdict) →
     (fault_verdict fault ≡ read_verdict 33554432 path (file_at held path) rest) ⊎ (IsReadFault fault × Rose before now))
-    → IfSome told (λ held. (IsMemoryFault fault → ⊥) → (fault_verdict fault ≡ bytes_verdict asked held next) ⊎ (IsReadFault fault × Rose before now))
-first_read None asked next path before now fault same is = tt
-first_read (Some held) asked next path before now fault same is = λ other.
+    → IfSome told (λ held. (IsMemoryFault fault → ⊥) → (next : List ℕ → List ℕ → Verdict) → (fault_verdict fault ≡ bytes_verdict asked held next) ⊎ (IsReadFault fault × Rose before now))
+first_read None asked path before now fault same is = tt
+first_read (Some held) asked path before now fault same is = λ other next.
     let rest : List ℕ → Verdict = λ file. input_verdict asked.input held (next file) in
     subst (λ (p : List ℕ). (fault_verdict fault ≡ read_verdict 33554432 p (file_at held p) rest) ⊎ (IsReadFault fault × Rose before now)) same (is other rest)

@@ -17,7 +17,7 @@ use Rattle.machines.specs.Lead.{Before, at_speedup}
 use Rattle.machines.specs.Records.{NetRecord, net}
 use Rattle.machines.specs.Standing.{delayed_record}
 use Rattle.guest_calls.specs.Guest.{Guest}
-use Rattle.profile_pool.specs.Choices.{choice_of}
+use Rattle.run_engine.specs.Choices.{choice_of}
 use Rattle.run_engine.specs.Run.{experiment}
 use Rattle.run_engine.specs.Seen.{Seen, experiment_of}
 use Rattle.run_engine.specs.declared.choice.Choice.{Choice}

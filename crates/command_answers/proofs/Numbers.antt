@@ -1,6 +1,6 @@
 -- The limits of the commands.
 use Rattle.std.proofs.Common.{◌≡◌, ℕ, ◌-◌, ◌*◌, ◌^◌, refl}
-use Rattle.command_answers.specs.declared.experiment.TheConstants.{MAX_INPUT}
+use Rattle.command_answers.specs.declared.inputs.TheConstants.{MAX_INPUT}
 use Rattle.command_answers.specs.declared.trial.TheConstants.{SELECTED, BUDGET}
 
 -- 16 MiB

@@ -22,7 +22,7 @@ use Rattle.program_steps.specs.FaultLines.{plan_line}
 use Rattle.machines.specs.Guest.{Experiment}
 use Rattle.machines.specs.Standing.{delayed_record}
 use Rattle.guest_calls.specs.Guest.{Guest}
-use Rattle.profile_pool.specs.Choices.{choice_of}
+use Rattle.run_engine.specs.Choices.{choice_of}
 use Rattle.profile_pool.specs.Summaries.{summary_in, summaries_of}
 use Rattle.experiment_plan.proofs.Pairing.{speedups_few}
 use Rattle.coz_words.specs.Said.{Text}

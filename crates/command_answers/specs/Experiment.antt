@@ -1,6 +1,7 @@
 -- The experiment on a program.
 use Rattle.std.specs.Prelude.{ℕ, List, map}
 use Rattle.coz_types.specs.Image.{ImageParts}
+use Rattle.program_steps.specs.declared.program.Program.{Program}
 use Rattle.dwarf_lines.specs.Registers.{Table}
 use Rattle.line_index.specs.Index.{Index, position_at}
 use Rattle.line_index.specs.Listed.{lines_in, entries_in, position_in}
@@ -9,7 +10,7 @@ use Rattle.machines.specs.Guest.{Experiment}
 use Rattle.guest_calls.specs.Guest.{Guest}
 use Rattle.run_engine.specs.declared.choice.Choice.{Choice}
 use Rattle.run_engine.specs.Run.{experiment}
-pub use Rattle.profile_pool.specs.Choices.{choice_of}
+pub use Rattle.run_engine.specs.Choices.{choice_of}
 
 -- the runs of a program on an input: the experiment of a choice, with the lines at these
 -- positions as points
@@ -32,3 +33,7 @@ experiment_by_table image table input choice points =
 abbrev pub runs_in : ImageParts → Index → List ℕ → Runs
 runs_in image index input choice points =
     experiment image (position_at index) (point_in index.entries points) input choice
+
+-- the same of a program that was read
+abbrev pub runs_on : Program → List ℕ → Runs
+runs_on program = runs_in program.image program.index

@@ -8,7 +8,7 @@ use Rattle.machines.specs.Standing.{delayed_record}
 use Rattle.guest_calls.specs.Guest.{Guest}
 use Rattle.line_index.specs.Lines.{Line}
 use Rattle.experiment_plan.specs.Selected.{rising_numbers, places_among}
-use Rattle.profile_pool.specs.Choices.{choice_of}
+use Rattle.run_engine.specs.Choices.{choice_of}
 use Rattle.coz_words.specs.declared.request.Request.{Request}
 use Rattle.printed_texts.specs.Printed.{has_exited}
 use Rattle.printed_texts.specs.LatencyText.{latency_text}

@@ -5,5 +5,4 @@ pub mod CriticalPath
 pub mod Latencies
 pub mod Measured
 pub mod Verdict
-pub mod Kind
 pub mod Answer

@@ -1,8 +1,8 @@
--- What a command and the files that its paths hold come to: a status, a text for the output
+-- What a command gives, with the files that its paths hold: a status, a text for the output
 -- and a line for the errors.
 use Rattle.std.specs.Prelude.{ℕ, List, [], length, nat_lt, Option, None, Some, Result, Ok, Err, if◌then◌else◌}
 use Rattle.std.specs.List.{list_all}
-use Rattle.command_answers.specs.declared.experiment.TheConstants.{MAX_INPUT}
+use Rattle.command_answers.specs.declared.inputs.TheConstants.{MAX_INPUT}
 use Rattle.asm_tokens.specs.declared.TheConstants.{MAX_SOURCE}
 use Rattle.experiment_plan.specs.declared.experiment.TheConstants.{MAX_PAIRS}
 use Rattle.coz_types.specs.declared.TheConstants.{MAX_PROGRAM}
@@ -58,6 +58,14 @@ profile_verdict p = record {
 -- of a program's lines and its runs
 abbrev pub Judging : Type 0
 Judging = List Line → Runs → Verdict
+
+-- of an experiment: what `run` prints of it
+abbrev pub run_printed : Experiment Guest → Verdict
+run_printed x = run_verdict (delayed_record x)
+
+-- and what `really` prints of it
+abbrev pub really_printed : Experiment Guest → Verdict
+really_printed x = really_verdict (shortened_record x)
 
 -- of the experiment that a request asks for, by what is printed of it
 abbrev pub asked_verdict : Request → (Experiment Guest → Verdict) → Judging
@@ -154,9 +162,9 @@ trial_verdict seed size =
 -- of a command
 abbrev pub command_verdict : Command → Request → Held → Verdict
 command_verdict Run asked held =
-    files_verdict asked held (asked_verdict asked (λ x. run_verdict (delayed_record x)))
+    files_verdict asked held (asked_verdict asked run_printed)
 command_verdict Really asked held =
-    files_verdict asked held (asked_verdict asked (λ x. really_verdict (shortened_record x)))
+    files_verdict asked held (asked_verdict asked really_printed)
 command_verdict Profile asked held = files_verdict asked held (profiled_verdict asked)
 command_verdict Lines asked held =
     read_verdict MAX_PROGRAM asked.target (file_at held asked.target) lines_verdict

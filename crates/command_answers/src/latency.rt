@@ -1,8 +1,9 @@
-//! The latencies that a request asks for.
-ghost use Rattle.std.specs.Prelude.{◌≡◌, ◌&&◌, ◌≤◌, ◌<◌, ◌++◌, ℕ, List, length, All, Some, IsSome, IfOk, if◌then◌else◌};
+//! The command `latency`.
+ghost use Rattle.std.specs.Prelude.{◌≡◌, ◌&&◌, ◌≤◌, ◌<◌, ◌++◌, ℕ, List, length, All, Some, IsSome, IfOk, IfSome, IfNone, if◌then◌else◌};
 ghost use Rattle.std.specs.List.{list_all};
 ghost use Rattle.coz_types.specs.declared.LineId.{LineId};
-ghost use Rattle.coz_types.specs.declared.TheConstants.{MAX_SPEEDUP, MAX_BUDGET};
+ghost use Rattle.coz_types.specs.declared.TheConstants.{MAX_BUDGET, MAX_PROGRAM, MAX_SPEEDUP};
+ghost use Rattle.coz_files.specs.Faults.{Rose};
 ghost use Rattle.progress_points.specs.Points.{IsPoints};
 ghost use Rattle.experiment_plan.specs.Selected.{ids};
 ghost use Rattle.latency_points.specs.Moments.{numbers_of};
@@ -10,21 +11,22 @@ ghost use Rattle.run_engine.specs.Run.{IsChoice};
 ghost use Rattle.virtual_run.specs.Lead.{arguments};
 ghost use Rattle.coz_words.specs.Request.{IsFit};
 ghost use Rattle.printed_texts.specs.LatencyText.{latency_text};
-ghost use Rattle.command_answers.specs.Experiment.{Runs, runs_in};
+ghost use Rattle.command_answers.specs.Experiment.{Runs, runs_on};
 ghost use Rattle.command_answers.specs.Latencies.{latency_printed, latency_verdict, marked_verdict, net_at_each};
 ghost use Rattle.command_answers.specs.Measured.{arguments_of, run_at};
-ghost use Rattle.command_answers.specs.Verdict.{Verdict, has_exited};
-ghost use Rattle.command_answers.specs.Answer.{verdict_of, verdict_after, IsMemory, IsRead};
+ghost use Rattle.command_answers.specs.Verdict.{Verdict, file_verdict, files_verdict, has_exited};
+ghost use Rattle.command_answers.specs.Answer.{verdict_of, verdict_after, IsMemory, IsRead, Suits, Settles};
 
 use crate::answer::Answer;
+use crate::inputs::read_inputs;
 use crate::measuring::latency_at;
-use coz_types::{Image, LineId, PointId};
+use coz_files::Files;
+use coz_types::{LineId, PointId};
 use coz_words::Request;
 use experiment_plan::{joined, places_among, rising_speedups};
 use line_index::LineIndex;
 use printed_texts::{Printed, Text, has_exited, push_latency};
-use profile_pool::choice;
-use program_steps::{Fault, bytes_of, line_named, listed_lines, points_of};
+use program_steps::{Fault, Program, bytes_of, line_named, listed_lines, points_of, read_program};
 use progress_points::Points;
 use std::alloc::{AllocError, Global};
 use virtual_run::{Choice, Lead, Machine};
@@ -147,7 +149,7 @@ fn push_latencies<'a>(
     Ok(all)
 }
 
-/// The status of runs: 0 where each exited.
+/// The status of runs: 0 if each exited.
 fn status_of(all_exited: bool) -> u8
     ensures { result ≡ (if all_exited then 0 else 1) }
 {
@@ -187,8 +189,7 @@ fn leads_answer<'r, 'a>(
 /// What is written of the runs of a lead's line, on a machine that is made for them.
 fn machine_answer<'r, 'a>(
     alloc: Global,
-    image: &'a Image<'a>,
-    index: &'a LineIndex,
+    program: &'a Program<'a>,
     points: &'a Points,
     input: &'a [u8],
     choice: Choice,
@@ -197,14 +198,14 @@ fn machine_answer<'r, 'a>(
 ) -> Answer<'r>
     requires choice { IsChoice choice }
     requires lead { arguments lead.old
-        ≡ arguments_of image.now index.now points.now input.now choice }
+        ≡ arguments_of program.now.image program.now.index points.now input.now choice }
     requires small { All (λ speedup. speedup ≤ MAX_SPEEDUP) asked.now.speedups.items }
     ensures no_read { IsRead result → ⊥ }
     ensures settled { (IsMemory result → ⊥) → verdict_of result ≡ latency_printed
         (numbers_of asked.now.marked.arrive.items) (numbers_of asked.now.marked.depart.items)
         (run_at lead.old) asked.now.speedups.items }
 {
-    let mut machine = Machine::new(alloc, image, index, points, input, choice)?;
+    let mut machine = Machine::new(alloc, &program.image, &program.index, points, input, choice)?;
     let answer = leads_answer(alloc, lead, &mut machine, asked);
     // By one call, since a drop in place is proved part by part.
     drop(machine);
@@ -214,27 +215,26 @@ fn machine_answer<'r, 'a>(
 /// What is written of the runs of a program at each speedup. Err: out of memory.
 fn runs_answer<'r>(
     alloc: Global,
-    image: &Image,
-    index: &LineIndex,
+    program: &Program,
     input: &[u8],
     budget: u64,
     asked: &AskedLatency,
 ) -> Answer<'r>
     requires some_budget { 1 ≤ budget }
     requires few { budget ≤ MAX_BUDGET }
-    requires points { IsPoints index.now asked.now.marked.points.lines asked.now.marked.points }
+    requires points { IsPoints program.now.index asked.now.marked.points.lines asked.now.marked.points }
     requires small { All (λ speedup. speedup ≤ MAX_SPEEDUP) asked.now.speedups.items }
     ensures no_read { IsRead result → ⊥ }
     ensures settled { (IsMemory result → ⊥) → verdict_of result ≡ latency_printed
         (numbers_of asked.now.marked.arrive.items) (numbers_of asked.now.marked.depart.items)
-        (net_at_each (runs_in image.now index.now input.now) (Some asked.now.selected.0)
+        (net_at_each (runs_on program.now input.now) (Some asked.now.selected.0)
         budget asked.now.marked.points.lines)
         asked.now.speedups.items }
 {
-    let choice = choice(Some(asked.selected), 0, budget);
+    let choice = Choice::usual(Some(asked.selected), 0, budget);
     let points = &asked.marked.points;
-    let mut lead = Lead::new(alloc, image, index, points, input, choice)?;
-    let answer = machine_answer(alloc, image, index, points, input, choice, &mut lead, asked);
+    let mut lead = Lead::new(alloc, &program.image, &program.index, points, input, choice)?;
+    let answer = machine_answer(alloc, program, points, input, choice, &mut lead, asked);
     // By one call, since a drop in place is proved part by part.
     drop(lead);
     answer
@@ -243,10 +243,9 @@ fn runs_answer<'r>(
 /// What is written of the latencies of a program with these lines, if it has those
 /// that are named: of one lead and one machine, whatever the number of speedups.
 #[tactic(auto, using(crate::proofs::Budgets::few_budget))]
-pub fn latency_answer<'r>(
+fn latency_answer<'r>(
     alloc: Global,
-    image: &Image,
-    index: &LineIndex,
+    program: &Program,
     input: &[u8],
     request: &'r Request,
 ) -> Answer<'r>
@@ -255,8 +254,41 @@ pub fn latency_answer<'r>(
     requires some_budget { 1 ≤ request.now.budget }
     ensures no_read { IsRead result → ⊥ }
     ensures settled { (IsMemory result → ⊥) → verdict_of result ≡
-        latency_verdict request.now index.now.lines (runs_in image.now index.now input.now) }
+        latency_verdict request.now program.now.index.lines (runs_on program.now input.now) }
 {
-    let asked = asked_latency(alloc, index, request)?;
-    runs_answer(alloc, image, index, input, request.budget, &asked)
+    let asked = asked_latency(alloc, &program.index, request)?;
+    runs_answer(alloc, program, input, request.budget, &asked)
+}
+
+/// What is written of the latencies of the program that a request names.
+/// Err is the first fault of the files, the program and its lines, or `Fault::Memory`.
+pub fn judge_latency<'r, F: Files>(alloc: Global, request: &'r Request, files: &mut F) -> Answer<'r>
+    requires fit { IsFit request.now }
+    requires line { IsSome request.now.line }
+    requires some_budget { 1 ≤ request.now.budget }
+    ensures same { F.held files.new ≡ F.held files.old }
+    ensures suits { Suits request.now result }
+    ensures settled { IfSome (F.held files.old) (λ held. (IsMemory result → ⊥) →
+        Settles (files_verdict request.now held (latency_verdict request.now))
+        (F.faults files.old) (F.faults files.new) result) }
+    ensures untold { IsRead result
+        → IfNone (F.held files.old) (Rose (F.faults files.old) (F.faults files.new)) }
+    ensures no_fault { (IsRead result → ⊥) → F.faults files.new ≡ F.faults files.old }
+{
+    let inputs = read_inputs(alloc, request, files)?;
+    latency_of_file(alloc, &inputs.program, &inputs.input, request)
+}
+
+/// What is written of the latencies of the program that a file is, if it is one.
+fn latency_of_file<'r>(alloc: Global, file: &[u8], input: &[u8], request: &'r Request) -> Answer<'r>
+    requires short { length file.now ≤ MAX_PROGRAM }
+    requires fit { IsFit request.now }
+    requires line { IsSome request.now.line }
+    requires some_budget { 1 ≤ request.now.budget }
+    ensures no_read { IsRead result → ⊥ }
+    ensures settled { (IsMemory result → ⊥) → verdict_of result
+        ≡ file_verdict (latency_verdict request.now) file.now input.now }
+{
+    let program = read_program(alloc, file)?;
+    latency_answer(alloc, &program, input, request)
 }

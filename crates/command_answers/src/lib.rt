@@ -3,6 +3,7 @@
 
 mod answer;
 mod experiment;
+mod inputs;
 mod latency;
 mod lines;
 mod measuring;
@@ -14,9 +15,11 @@ mod source;
 mod trial;
 
 pub use answer::Answer;
-pub use experiment::{Kind, judge_experiment};
+pub use experiment::{judge_really, judge_run};
+pub use latency::judge_latency;
 pub use lines::judge_lines;
 pub use path::judge_path;
 pub use plot::judge_plot;
+pub use profile::judge_profile;
 pub use source::judge_source;
 pub use trial::judge_trial;

@@ -5,22 +5,21 @@ ghost use Rattle.coz_files.specs.Faults.{Rose};
 ghost use Rattle.line_index.specs.Index.{position_at};
 ghost use Rattle.critical_chains.specs.declared.TheConstants.{MAX_EVENTS};
 ghost use Rattle.path_texts.specs.PathText.{written_path};
-ghost use Rattle.command_answers.specs.Experiment.{runs_in};
+ghost use Rattle.command_answers.specs.Experiment.{runs_on};
 ghost use Rattle.command_answers.specs.CriticalPath.{path_on, path_printed, plain_run};
 ghost use Rattle.command_answers.specs.Verdict.{ended_verdict, path_verdict};
 ghost use Rattle.command_answers.specs.Answer.{verdict_of, printed_verdict, IsMemory, IsRead, Suits, Settles};
 
 use crate::answer::Answer;
-use crate::experiment::MAX_INPUT;
+use crate::inputs::read_inputs;
 use coz_files::Files;
-use coz_types::{Image, MAX_PROGRAM};
 use coz_words::Request;
 use critical_path::walk;
 use line_index::LineIndex;
 use path_texts::{CriticalPath, path_of};
 use printed_texts::{Printed, Text, ending_status};
-use profile_pool::choice;
-use program_steps::{Fault, read_file, read_program};
+use program_steps::{Fault, Program, read_program};
+use run_engine::Choice;
 use std::alloc::{AllocError, Global};
 
 /// What is written of the critical path of the program and the input that the request names.
@@ -37,25 +36,22 @@ pub fn judge_path<'r, F: Files>(alloc: Global, request: &'r Request, files: &mut
         → IfNone (F.held files.old) (Rose (F.faults files.old) (F.faults files.new)) }
     ensures no_fault { (IsRead result → ⊥) → F.faults files.new ≡ F.faults files.old }
 {
-    let file = read_file(alloc, files, request.target.text(), MAX_PROGRAM)?;
-    let Some(path) = &request.input else {
-        return file_answer(alloc, &file, &[], request.budget);
-    };
-    let input = read_file(alloc, files, path.text(), MAX_INPUT)?;
-    file_answer(alloc, &file, &input, request.budget)
+    let inputs = read_inputs(alloc, request, files)?;
+    path_of_file(alloc, &inputs.program, &inputs.input, request.budget)
 }
 
 /// What is written of the critical path of the program that a file is, if it is one.
-fn file_answer<'r>(alloc: Global, file: &[u8], input: &[u8], budget: u64) -> Answer<'r>
+fn path_of_file<'r>(alloc: Global, file: &[u8], input: &[u8], budget: u64) -> Answer<'r>
     requires short { length file.now ≤ MAX_PROGRAM }
     requires some_budget { 1 ≤ budget }
     requires few { budget ≤ MAX_EVENTS }
     ensures no_read { IsRead result → ⊥ }
     ensures settled { (IsMemory result → ⊥)
-        → verdict_of result ≡ path_on budget file.now input.now }
+        → verdict_of result
+        ≡ path_on budget file.now input.now }
 {
     let program = read_program(alloc, file)?;
-    match found_path(alloc, &program.image, &program.index, input, budget) {
+    match found_path(alloc, &program, input, budget) {
         Ok(path) => Ok(printed_path(path, program.index)),
         Err(_) => {
             // By one call, since a drop in place is proved part by part.
@@ -80,26 +76,25 @@ fn printed_path(path: CriticalPath, index: LineIndex) -> Printed
 /// Fails only when out of memory.
 fn found_path(
     alloc: Global,
-    image: &Image,
-    index: &LineIndex,
+    program: &Program,
     input: &[u8],
     budget: u64,
 ) -> Result<CriticalPath, AllocError>
     requires some_budget { 1 ≤ budget }
     requires few { budget ≤ MAX_EVENTS }
     ensures { IfOk result (λ path.
-        ended_verdict path.trace.ending (written_path path index.now)
-        ≡ path_printed (plain_run (runs_in image.now index.now input.now) budget)
-        (position_at index.now) index.now.lines) }
+        ended_verdict path.trace.ending (written_path path program.now.index)
+        ≡ path_printed (plain_run (runs_on program.now input.now) budget)
+        (position_at program.now.index) program.now.index.lines) }
 {
-    let limits = choice(None, 0, budget);
+    let limits = Choice::usual(None, 0, budget);
     let trace = walk(
         alloc,
-        image,
+        &program.image,
         input,
         limits.budget,
         limits.output_limit,
         limits.layout,
     )?;
-    path_of(alloc, index, trace)
+    path_of(alloc, &program.index, trace)
 }

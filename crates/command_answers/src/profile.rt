@@ -1,31 +1,33 @@
-//! The profile that a request asks for.
-ghost use Rattle.std.specs.Prelude.{◌≡◌, ◌<◌, ◌≤◌, ℕ, List, length, map, All, IfOk};
+//! The command `profile`.
+ghost use Rattle.std.specs.Prelude.{◌≡◌, ◌<◌, ◌≤◌, ℕ, List, length, map, All, IfOk, IfSome, IfNone};
 ghost use Rattle.std.specs.List.{list_all};
 ghost use Rattle.std.specs.List.Sorted.{IsStrictlySortedBy};
 ghost use Rattle.std.specs.Ordering.{nat_cmp};
 ghost use Rattle.coz_types.specs.declared.LineId.{LineId};
-ghost use Rattle.coz_types.specs.declared.TheConstants.{MAX_SPEEDUP, MAX_POINTS};
+ghost use Rattle.coz_types.specs.declared.TheConstants.{MAX_POINTS, MAX_PROGRAM, MAX_SPEEDUP};
+ghost use Rattle.coz_files.specs.Faults.{Rose};
 ghost use Rattle.coz_types.specs.declared.record.Summary.{Summary};
 ghost use Rattle.progress_points.specs.Points.{IsPoints};
 ghost use Rattle.experiment_plan.specs.declared.experiment.Experiment.{Experiment};
 ghost use Rattle.experiment_plan.specs.Selected.{ids};
 ghost use Rattle.coz_words.specs.Request.{IsFit};
-ghost use Rattle.command_answers.specs.Experiment.{Runs, runs_in};
+ghost use Rattle.command_answers.specs.Experiment.{Runs, runs_on};
 ghost use Rattle.command_answers.specs.Profiled.{label_at, pairs_of, profile_of};
-ghost use Rattle.command_answers.specs.Verdict.{Verdict, has_exited, plan_verdict, profile_verdict, profiled_verdict};
-ghost use Rattle.command_answers.specs.Answer.{verdict_of, verdict_after, printed_verdict, IsMemory, IsRead};
+ghost use Rattle.command_answers.specs.Verdict.{Verdict, file_verdict, files_verdict, has_exited, plan_verdict, profile_verdict, profiled_verdict};
+ghost use Rattle.command_answers.specs.Answer.{verdict_of, verdict_after, printed_verdict, IsMemory, IsRead, Suits, Settles};
 
 use crate::answer::Answer;
-use coz_files::Gate;
+use crate::inputs::read_inputs;
+use coz_files::{Files, Gate};
 use coz_lists::Items;
-use coz_types::{Ending, Image, Label, LineId, PointId, Summary};
+use coz_types::{Ending, Label, LineId, PointId, Summary};
 use coz_words::Request;
 use experiment_plan::{Plan, plan};
 use line_index::LineIndex;
 use printed_texts::{Printed, Text, has_exited};
 use profile_book::Profile;
 use profile_pool::run_plan;
-use program_steps::{Fault, bytes_of, progress_points, selected_lines};
+use program_steps::{Fault, Program, bytes_of, progress_points, read_program, selected_lines};
 use progress_points::Points;
 use std::alloc::{AllocError, Global};
 use std::thread::Threads;
@@ -57,7 +59,7 @@ fn all_exited(summaries: &[Summary]) -> bool
         .all(|summary| has_exited(summary.outcome.ending))
 }
 
-/// The status of runs: 0 where each exited.
+/// The status of runs: 0 if each exited.
 pub fn profile_status(profile: &Profile) -> u8
     ensures status { result ≡ (profile_verdict profile.now).status }
     ensures low { result ≤ 1 }
@@ -131,8 +133,7 @@ fn asked_plan<'r>(
 fn plan_answer<'r, R: Threads + Sync, G: Gate>(
     rt: &R,
     alloc: Global,
-    image: &Image,
-    index: &LineIndex,
+    program: &Program,
     points: &Points,
     input: &[u8],
     plan: &Plan,
@@ -142,21 +143,21 @@ fn plan_answer<'r, R: Threads + Sync, G: Gate>(
     requires fit { IsFit request.now }
     requires some_budget { 1 ≤ request.now.budget }
     requires some_workers { 1 ≤ request.now.workers }
-    requires points { IsPoints index.now points.now.lines points.now }
+    requires points { IsPoints program.now.index points.now.lines points.now }
     requires few { length points.now.lines ≤ MAX_POINTS }
-    requires below { All (λ line. line < length index.now.lines) points.now.lines }
-    requires lines { All (λ (pair : Experiment). pair.line.0 < length index.now.lines) plan.now }
+    requires below { All (λ line. line < length program.now.index.lines) points.now.lines }
+    requires lines { All (λ (pair : Experiment). pair.line.0 < length program.now.index.lines) plan.now }
     ensures no_read { IsRead result → ⊥ }
     ensures settled { (IsMemory result → ⊥) → verdict_of result ≡ profile_verdict
-        (profile_of (runs_in image.now index.now input.now)
-        index.now.lines request.now.budget points.now.lines plan.now) }
+        (profile_of (runs_on program.now input.now)
+        program.now.index.lines request.now.budget points.now.lines plan.now) }
 {
-    let labels = point_labels(alloc, index, points)?;
+    let labels = point_labels(alloc, &program.index, points)?;
     let summaries = run_plan(
         rt,
         alloc,
-        image,
-        index,
+        &program.image,
+        &program.index,
         points,
         input,
         plan,
@@ -173,11 +174,10 @@ fn plan_answer<'r, R: Threads + Sync, G: Gate>(
 
 /// What is written of the runs of a program with these lines, if it has those that are named
 /// and the plan isn't too large.
-pub fn profile_answer<'r, R: Threads + Sync, G: Gate>(
+fn profile_answer<'r, R: Threads + Sync, G: Gate>(
     rt: &R,
     alloc: Global,
-    image: &Image,
-    index: &LineIndex,
+    program: &Program,
     input: &[u8],
     request: &'r Request,
     gate: &G,
@@ -187,18 +187,63 @@ pub fn profile_answer<'r, R: Threads + Sync, G: Gate>(
     requires some_workers { 1 ≤ request.now.workers }
     ensures no_read { IsRead result → ⊥ }
     ensures settled { (IsMemory result → ⊥) → verdict_of result ≡
-        profiled_verdict request.now index.now.lines (runs_in image.now index.now input.now) }
+        profiled_verdict request.now program.now.index.lines (runs_on program.now input.now) }
 {
-    let asked = asked_plan(alloc, index, request)?;
+    let asked = asked_plan(alloc, &program.index, request)?;
     plan_answer(
         rt,
         alloc,
-        image,
-        index,
+        program,
         &asked.points,
         input,
         &asked.plan,
         request,
         gate,
     )
+}
+
+/// What is written of the profile of the program that a request names.
+/// Err is the first fault of the files, the program, its lines and the plan, or `Fault::Memory`.
+pub fn judge_profile<'r, R: Threads + Sync, F: Files, G: Gate>(
+    rt: &R,
+    alloc: Global,
+    request: &'r Request,
+    files: &mut F,
+    gate: &G,
+) -> Answer<'r>
+    requires fit { IsFit request.now }
+    requires some_budget { 1 ≤ request.now.budget }
+    requires some_workers { 1 ≤ request.now.workers }
+    ensures same { F.held files.new ≡ F.held files.old }
+    ensures suits { Suits request.now result }
+    ensures settled { IfSome (F.held files.old) (λ held. (IsMemory result → ⊥) →
+        Settles (files_verdict request.now held (profiled_verdict request.now))
+        (F.faults files.old) (F.faults files.new) result) }
+    ensures untold { IsRead result
+        → IfNone (F.held files.old) (Rose (F.faults files.old) (F.faults files.new)) }
+    ensures no_fault { (IsRead result → ⊥) → F.faults files.new ≡ F.faults files.old }
+{
+    let inputs = read_inputs(alloc, request, files)?;
+    profile_of_file(rt, alloc, &inputs.program, &inputs.input, request, gate)
+}
+
+/// What is written of the profile of the program that a file is, if it is one.
+fn profile_of_file<'r, R: Threads + Sync, G: Gate>(
+    rt: &R,
+    alloc: Global,
+    file: &[u8],
+    input: &[u8],
+    request: &'r Request,
+    gate: &G,
+) -> Answer<'r>
+    requires short { length file.now ≤ MAX_PROGRAM }
+    requires fit { IsFit request.now }
+    requires some_budget { 1 ≤ request.now.budget }
+    requires some_workers { 1 ≤ request.now.workers }
+    ensures no_read { IsRead result → ⊥ }
+    ensures settled { (IsMemory result → ⊥) → verdict_of result
+        ≡ file_verdict (profiled_verdict request.now) file.now input.now }
+{
+    let program = read_program(alloc, file)?;
+    profile_answer(rt, alloc, &program, input, request, gate)
 }

@@ -15,9 +15,9 @@ ghost use Rattle.command_answers.specs.Verdict.{ended_verdict, ending_status, re
 ghost use Rattle.command_answers.specs.Answer.{verdict_of, printed_verdict, IsMemory, IsRead};
 
 use crate::answer::Answer;
-use coz_types::{Account, Ending, HartId, Image};
-use line_index::LineIndex;
+use coz_types::{Account, Ending, HartId};
 use printed_texts::{Printed, RunRecord, ShortRecord, Text, ending_status, really_text, run_text};
+use program_steps::Program;
 use progress_points::Points;
 use shortened_run::Short;
 use std::alloc::{AllocError, Global};
@@ -82,8 +82,7 @@ fn machine_answer<'r>(alloc: Global, machine: &mut Machine) -> Answer<'r>
 /// The text of a program's delayed run. Fails only if it is out of memory.
 pub fn run_answer<'r>(
     alloc: Global,
-    image: &Image,
-    index: &LineIndex,
+    program: &Program,
     points: &Points,
     input: &[u8],
     choice: Choice,
@@ -92,9 +91,9 @@ pub fn run_answer<'r>(
     ensures no_read { IsRead result → ⊥ }
     ensures settled { (IsMemory result → ⊥) → verdict_of result ≡
         run_verdict (delayed_record
-        (experiment image.now (position_at index.now) (point_of points.now) input.now choice)) }
+        (experiment program.now.image (position_at program.now.index) (point_of points.now) input.now choice)) }
 {
-    let mut machine = Machine::new(alloc, image, index, points, input, choice)?;
+    let mut machine = Machine::new(alloc, &program.image, &program.index, points, input, choice)?;
     let answer = machine_answer(alloc, &mut machine);
     // By one call, since a drop in place is proved part by part.
     drop(machine);
@@ -131,8 +130,7 @@ fn short_answer<'r>(alloc: Global, short: &mut Short) -> Answer<'r>
 /// The text of a program's shortened run. Fails only if it is out of memory.
 pub fn really_answer<'r>(
     alloc: Global,
-    image: &Image,
-    index: &LineIndex,
+    program: &Program,
     points: &Points,
     input: &[u8],
     choice: Choice,
@@ -141,9 +139,9 @@ pub fn really_answer<'r>(
     ensures no_read { IsRead result → ⊥ }
     ensures settled { (IsMemory result → ⊥) → verdict_of result ≡
         really_verdict (shortened_record
-        (experiment image.now (position_at index.now) (point_of points.now) input.now choice)) }
+        (experiment program.now.image (position_at program.now.index) (point_of points.now) input.now choice)) }
 {
-    let mut short = Short::new(alloc, image, index, points, input, choice)?;
+    let mut short = Short::new(alloc, &program.image, &program.index, points, input, choice)?;
     let answer = short_answer(alloc, &mut short);
     // By one call, since a drop in place is proved part by part.
     drop(short);

@@ -11,7 +11,7 @@ ghost use Rattle.work_gen.specs.Text.{view};
 ghost use Rattle.work_gen.specs.Accepted.{IsAccepted};
 ghost use Rattle.experiment_plan.specs.Selected.{ids};
 ghost use Rattle.experiment_plan.specs.declared.experiment.Experiment.{Experiment};
-ghost use Rattle.command_answers.specs.Experiment.{runs_in};
+ghost use Rattle.command_answers.specs.Experiment.{runs_on};
 ghost use Rattle.command_answers.specs.Profiled.{label_at};
 ghost use Rattle.command_answers.specs.declared.trial.TheConstants.{SELECTED};
 ghost use Rattle.command_answers.specs.Trial.{IsTrialFile, tenths, trial_plan, trial_point, trial_profile};
@@ -22,7 +22,7 @@ use crate::answer::Answer;
 use crate::profile::profile_status;
 use coz_files::Gate;
 use coz_lists::Items;
-use coz_types::{Image, Label, LineId, MIN_VERSION, Summary};
+use coz_types::{Label, LineId, MIN_VERSION, Summary};
 use coz_words::Request;
 use experiment_plan::{Plan, plan};
 use image_write::write_elf;
@@ -30,7 +30,7 @@ use line_index::LineIndex;
 use printed_texts::{Printed, Text, trial_text};
 use profile_book::Profile;
 use profile_pool::run_plan;
-use program_steps::{Fault, points_of, read_program};
+use program_steps::{Fault, Program, points_of, read_program};
 use rv_asm::assemble;
 use std::alloc::{AllocError, Global};
 use std::thread::Threads;
@@ -117,27 +117,26 @@ fn trial_plan<'r>(alloc: Global, index: &LineIndex) -> Result<Plan, Fault<'r>>
 fn trial_summaries<'r, R: Threads + Sync, G: Gate>(
     rt: &R,
     alloc: Global,
-    image: &Image,
-    index: &LineIndex,
+    program: &Program,
     point: LineId,
     workers: u32,
     gate: &G,
 ) -> Result<Items<Summary>, Fault<'r>>
-    requires point { point.0 < length index.now.lines }
+    requires point { point.0 < length program.now.index.lines }
     requires some_workers { 1 ≤ workers }
     requires few_workers { workers ≤ MAX_WORKERS }
     ensures summaries { IfOk result (λ summaries. summaries ≡
-        (trial_profile (runs_in image.now index.now []) index.now.lines point.0).summaries) }
+        (trial_profile (runs_on program.now []) program.now.index.lines point.0).summaries) }
     ensures ranges { IfOk result (AllByRecursion (IsSummary 1)) }
     ensures memory { IfErr result IsMemoryFault }
 {
-    let plan = trial_plan(alloc, index)?;
-    let points = points_of(alloc, index, &[point])?;
+    let plan = trial_plan(alloc, &program.index)?;
+    let points = points_of(alloc, &program.index, &[point])?;
     let summaries = run_plan(
         rt,
         alloc,
-        image,
-        index,
+        &program.image,
+        &program.index,
         &points,
         &[],
         &plan,
@@ -152,25 +151,24 @@ fn trial_summaries<'r, R: Threads + Sync, G: Gate>(
 fn trial_profile<'r, R: Threads + Sync, G: Gate>(
     rt: &R,
     alloc: Global,
-    image: &Image,
-    index: &LineIndex,
+    program: &Program,
     point: LineId,
     workers: u32,
     gate: &G,
 ) -> Result<Profile, Fault<'r>>
-    requires point { point.0 < length index.now.lines }
+    requires point { point.0 < length program.now.index.lines }
     requires some_workers { 1 ≤ workers }
     requires few_workers { workers ≤ MAX_WORKERS }
     ensures profile { IfOk result (λ profile.
-        profile ≡ trial_profile (runs_in image.now index.now []) index.now.lines point.0) }
+        profile ≡ trial_profile (runs_on program.now []) program.now.index.lines point.0) }
     ensures points { IfOk result (λ profile. length profile.points ≡ 1) }
     ensures ranges { IfOk result (λ profile. AllByRecursion (IsSummary 1) profile.summaries) }
     ensures whole { IfOk result (λ profile.
-        length profile.summaries ≡ length (trial_plan index.now.lines)) }
+        length profile.summaries ≡ length (trial_plan program.now.index.lines)) }
     ensures memory { IfErr result IsMemoryFault }
 {
-    let points = only_label(alloc, index, point)?;
-    let summaries = trial_summaries(rt, alloc, image, index, point, workers, gate)?;
+    let points = only_label(alloc, &program.index, point)?;
+    let summaries = trial_summaries(rt, alloc, program, point, workers, gate)?;
     Ok(Profile {
         budget: BUDGET,
         points,
@@ -198,24 +196,23 @@ fn printed_trial<'r>(
 }
 
 /// What is written of the runs of a trial's program with these lines.
-fn index_answer<'r, R: Threads + Sync, G: Gate>(
+fn program_answer<'r, R: Threads + Sync, G: Gate>(
     rt: &R,
     alloc: Global,
     source: &Generated,
-    image: &Image,
-    index: &LineIndex,
+    program: &Program,
     workers: u32,
     gate: &G,
 ) -> Answer<'r>
-    requires point { IsOk (trial_point source.now.point index.now.lines) }
+    requires point { IsOk (trial_point source.now.point program.now.index.lines) }
     requires some_workers { 1 ≤ workers }
     requires few_workers { workers ≤ MAX_WORKERS }
     ensures { IsOfTrial (trial_judging (view source.now)
-        index.now.lines (runs_in image.now index.now [])) result }
+        program.now.index.lines (runs_on program.now [])) result }
 {
-    let point = point_line(index, source.point);
-    let profile = trial_profile(rt, alloc, image, index, point, workers, gate)?;
-    let answer = printed_trial(alloc, source, index, &profile);
+    let point = point_line(&program.index, source.point);
+    let profile = trial_profile(rt, alloc, program, point, workers, gate)?;
+    let answer = printed_trial(alloc, source, &program.index, &profile);
     // By one call, since a drop in place is proved part by part.
     drop(profile);
     answer
@@ -236,15 +233,7 @@ fn file_answer<'r, R: Threads + Sync, G: Gate>(
     ensures { IsOfTrial (file_verdict (trial_judging (view source.now)) file.now []) result }
 {
     let program = read_program(alloc, file)?;
-    let answer = index_answer(
-        rt,
-        alloc,
-        source,
-        &program.image,
-        &program.index,
-        workers,
-        gate,
-    );
+    let answer = program_answer(rt, alloc, source, &program, workers, gate);
     // By one call, since a drop in place is proved part by part.
     drop(program);
     answer

@@ -29,7 +29,7 @@ use Rattle.coz_words.specs.declared.command.Command.{Command}
 use Rattle.coz_words.specs.declared.command.Command.TheVariants.{Run, Profile, Really, Latency, Path}
 use Rattle.coz_words.proofs.Exact.{exact_back}
 use Rattle.coz_words.proofs.Fit.{fit_in}
-use Rattle.program_steps.specs.Words.{request_of}
+use Rattle.coz_words.specs.Slow.{request_of}
 use Rattle.program_steps.specs.LineTable.{table_in}
 use Rattle.program_steps.specs.Selection.{line_named, lines_named}
 use Rattle.progress_points.specs.Points.{point_in}

@@ -9,7 +9,7 @@ use Rattle.coz_words.specs.declared.request.Request.{Request}
 use Rattle.printed_texts.specs.declared.printed.Printed.{Printed}
 use Rattle.program_steps.specs.declared.fault.Fault.{Fault}
 use Rattle.program_steps.specs.declared.fault.Fault.TheVariants.{Usage, Program, Lines, Read, Write, NoLine, ManyPoints, Long, ManyExperiments, Memory, Source, Profile}
-use Rattle.program_steps.specs.Words.{request_of}
+use Rattle.coz_words.specs.Slow.{request_of}
 use Rattle.command_answers.specs.Verdict.{Verdict, command_verdict}
 use Rattle.coz_cli.specs.Verdict.{request_verdict, verdict}
 use Rattle.command_answers.specs.Answer.{Answer, IsMemory, IsMemoryFault, IsReadFault, Suits, Settles, fault_line, fault_status, printed_verdict, text_bytes}

@@ -7,7 +7,8 @@ use Rattle.coz_files.specs.Held.{Held}
 use Rattle.program_steps.specs.declared.fault.Fault.{Fault}
 use Rattle.program_steps.specs.declared.fault.Fault.TheVariants.{Usage, Program, Lines, Read, Write, NoLine, ManyPoints, Long, ManyExperiments, Memory, Source, Profile}
 use Rattle.coz_words.specs.declared.request.Request.{Request}
-use Rattle.program_steps.specs.Words.{Names, request_of}
+use Rattle.command_answers.specs.Answer.{Names}
+use Rattle.coz_words.specs.Slow.{request_of}
 use Rattle.command_answers.specs.Verdict.{Verdict}
 use Rattle.coz_cli.specs.Verdict.{verdict}
 use Rattle.command_answers.specs.Answer.{IsMemoryFault, IsReadFault, Suits, Settles, fault_status, fault_line}

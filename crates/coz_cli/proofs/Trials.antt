@@ -6,7 +6,7 @@ use Rattle.coz_words.specs.declared.command.Command.{Command}
 use Rattle.coz_words.specs.declared.command.Command.TheVariants.{Trial}
 use Rattle.coz_words.specs.declared.request.Request.{Request}
 use Rattle.program_steps.specs.declared.fault.Fault.{Fault}
-use Rattle.program_steps.specs.Words.{request_of}
+use Rattle.coz_words.specs.Slow.{request_of}
 use Rattle.command_answers.specs.Answer.{Answer, IsMemory, IsOfTrial, IsRead, IsReadFault, Settles, Suits}
 use Rattle.command_answers.specs.Verdict.{Verdict, command_verdict, trial_verdict}
 use Rattle.command_answers.proofs.Faults.{memory_is}

@@ -28,7 +28,7 @@ use Rattle.critical_chains.specs.Path.{IsChain, Sound, weight}
 use Rattle.critical_path.specs.Events.{events_of}
 use Rattle.coz_words.specs.declared.request.Request.{Request}
 use Rattle.coz_words.specs.declared.command.Command.TheVariants.{Run, Really, Profile, Latency, Path}
-use Rattle.program_steps.specs.Words.{request_of}
+use Rattle.coz_words.specs.Slow.{request_of}
 use Rattle.program_steps.specs.LineTable.{table_in}
 use Rattle.program_steps.specs.Selection.{line_named, lines_named}
 use Rattle.command_answers.specs.Experiment.{Runs, choice_of, experiment_by_table}

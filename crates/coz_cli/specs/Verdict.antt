@@ -1,10 +1,10 @@
--- What the words and the files that the paths hold come to: a status, a text for the output
+-- What the arguments give, with the files that the paths hold: a status, a text for the output
 -- and a line for the errors.
 use Rattle.std.specs.Prelude.{ℕ, List, codes, Option, None, Some}
 use Rattle.coz_files.specs.Held.{Held}
 use Rattle.coz_words.specs.declared.request.Request.{Request}
 use Rattle.program_steps.specs.Verdict.{Verdict, refusal}
-use Rattle.program_steps.specs.Words.{request_of}
+use Rattle.coz_words.specs.Slow.{request_of}
 use Rattle.command_answers.specs.Verdict.{command_verdict}
 
 -- of what the words ask for

@@ -7,7 +7,8 @@ ghost use Rattle.command_answers.specs.Verdict.{command_verdict};
 ghost use Rattle.command_answers.specs.Answer.{IsMemory, IsMemoryFault, IsRead, Suits, Settles};
 
 use command_answers::{
-    Answer, Kind, judge_experiment, judge_lines, judge_path, judge_plot, judge_source, judge_trial,
+    Answer, judge_latency, judge_lines, judge_path, judge_plot, judge_profile, judge_really,
+    judge_run, judge_source, judge_trial,
 };
 use coz_files::{Files, Gate};
 use coz_words::{Command, Request};
@@ -35,14 +36,14 @@ pub fn judge<'r, R: Threads + Sync, F: Files, G: Gate>(
         → (files.new ≡ files.old) × IfErr result IsMemoryFault }
 {
     match request.command {
-        Command::Run => judge_experiment(rt, alloc, request, Kind::Delayed, files, gate),
-        Command::Really => judge_experiment(rt, alloc, request, Kind::Shortened, files, gate),
-        Command::Profile => judge_experiment(rt, alloc, request, Kind::Profiled, files, gate),
+        Command::Run => judge_run(alloc, request, files),
+        Command::Really => judge_really(alloc, request, files),
+        Command::Profile => judge_profile(rt, alloc, request, files, gate),
         Command::Lines => judge_lines(alloc, request, files),
         Command::Plot => judge_plot(alloc, request, files),
         Command::Asm => judge_source(alloc, request, files),
         Command::Trial => judge_trial(rt, alloc, request, gate),
-        Command::Latency => judge_experiment(rt, alloc, request, Kind::Measured, files, gate),
+        Command::Latency => judge_latency(alloc, request, files),
         Command::Path => judge_path(alloc, request, files),
     }
 }

@@ -1,4 +1,4 @@
--- What a program's words come to: a status, a text for the output and a line for the errors.
+-- What a program's arguments give: a status, a text for the output and a line for the errors.
 use Rattle.std.specs.Prelude.{◌≡◌, ℕ, ◌≢◌, ◌⊎◌, List, [], map, Result, Ok, Err, IsErrAnd, string_bytes}
 use Rattle.std.specs.declared.string.String.{String}
 use Rattle.std.specs.declared.alloc.Global.{Global}

@@ -1,4 +1,4 @@
--- What the words and the files that the paths hold come to: a status, a text for the output
+-- What the arguments give, with the files that the paths hold: a status, a text for the output
 -- and a line for the errors.
 use Rattle.std.specs.Prelude.{List, [], ◌∷◌, ◌++◌, length, nat_le, codes, decimal, Option, Some, None, if◌then◌else◌}
 use Rattle.coz_types.specs.Labels.{Text, is_empty}

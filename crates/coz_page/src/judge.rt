@@ -1,4 +1,4 @@
-//! What the words and the file that they name come to.
+//! What the arguments and the file that they name give.
 ghost use Rattle.std.specs.Prelude.{◌≡◌, ℕ, List, None, Some, MatchOption, IfErr, IfSome, IfNone};
 ghost use Rattle.coz_files.specs.Faults.{Rose};
 ghost use Rattle.coz_files.specs.Held.{file_at};

@@ -13,7 +13,7 @@ fn put_big<O: Sink>(to: &mut PutBuffer, out: &mut O, n: u128)
     to.push(out, buffer.format(n).as_bytes());
 }
 
-/// So many hundredths of a per cent.
+/// Puts a number of hundredths of a per cent, as a percentage with two decimals.
 pub fn put_size<O: Sink>(to: &mut PutBuffer, out: &mut O, n: u128)
     ensures { Gathers O.holds O.faults out.old out.new to.old to.new (size_text n) }
 {

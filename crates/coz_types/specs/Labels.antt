@@ -14,7 +14,7 @@ is_empty text = length text == 0
 
 -- ---- spellings of numbers
 
--- the text is the one spelling of a number of at most so much
+-- the text is the one spelling of a number up to a bound
 abbrev pub is_decimal : ℕ → Text → Bool
 is_decimal most text =
     bytes_eq text (decimal (digits_value 10 text)) && nat_le (digits_value 10 text) most

@@ -63,3 +63,7 @@ request_in (word ∷ rest) =
     items_in (option_names c) None rest >>= λ items.
     request_of_items c items
     ) else None
+
+-- the same, not unfolded by a search
+unfoldable pub request_of : List Text → Option Request
+request_of words = request_in words

@@ -26,7 +26,7 @@ pub enum Command {
     Path,
 }
 
-/// The command of that name. None where there is none.
+/// The command of that name. None if there is none.
 pub(crate) fn command_of(word: &str) -> Option<Command>
     ensures { result ≡ command_of word.now }
 {

@@ -7,7 +7,7 @@ ghost use Rattle.coz_words.specs.Answers.{Answers, bytes_of, option_value};
 ghost use Rattle.coz_words.specs.Parse.{target_id};
 ghost use Rattle.coz_words.specs.Said.{Text};
 ghost use Rattle.coz_words.specs.Request.{IsFit, Requests, are_right, counts_with, has_text, option_names, request_with, none_or, is_some_text};
-ghost use Rattle.coz_words.specs.Slow.{request_in};
+ghost use Rattle.coz_words.specs.Slow.{request_in, request_of};
 ghost use Rattle.coz_words.specs.declared.request.WordsError.TheVariants.{Usage, Memory};
 
 use crate::command::{Command, has_option, option_names};
@@ -23,7 +23,7 @@ use coz_lists::Items;
 use coz_types::{MAX_SIZE, MAX_WORKERS};
 use std::alloc::{AllocError, AllocFailed, Global};
 
-/// The workers where the words name none.
+/// The workers if the words name none.
 const USUAL_WORKERS: u64 = 4;
 /// The size where the words name none.
 const USUAL_SIZE: u64 = 100;
@@ -39,7 +39,7 @@ pub struct Request {
     pub input: Option<Word>,
     /// The selected line, as it was given, if there is one.
     pub line: Option<Word>,
-    /// How much faster the selected line is, in percent: 0 to 95, and 0 where no line is selected.
+    /// How much faster the selected line is, in percent: 0 to 95, and 0 if no line is selected.
     pub speedup: u8,
     /// The list of lines to be selected in turn, as it was given, if there is one.
     pub lines: Option<Word>,
@@ -47,16 +47,16 @@ pub struct Request {
     pub progress: Option<Word>,
     /// The speedups to be tried, in percent, as they were given.
     pub speedups: Items<u8>,
-    /// The most instructions to retire: 1 to 10^12, for `path` 1 to 4,000,000, and 0 where
+    /// The most instructions to retire: 1 to 10^12, for `path` 1 to 4,000,000, and 0 if
     /// the command runs nothing.
     pub budget: u64,
-    /// How many workers there are: 1 to 16, and 0 where the command has none.
+    /// How many workers there are: 1 to 16, and 0 if the command has none.
     pub workers: u32,
-    /// What a source is made from, and 0 where the command makes none.
+    /// What a source is made from, and 0 if the command makes none.
     pub seed: u64,
-    /// The size of a source that is made: 1 to 2,000, and 0 where the command makes none.
+    /// The size of a source that is made: 1 to 2,000, and 0 if the command makes none.
     pub size: u32,
-    /// The version of the line table that is written: 4 or 5, and 0 where the command writes none.
+    /// The version of the line table that is written: 4 or 5, and 0 if the command writes none.
     pub dwarf: u8,
     /// The list of the lines at which requests arrive, as it was given, if there is one.
     pub arrive: Option<Word>,
@@ -197,7 +197,7 @@ fn texts_of(
     })
 }
 
-/// Whether the line and the lists are such, where they are given, and those are given that
+/// Whether the line and the lists are such, if they are given, and those are given that
 /// the command needs.
 fn are_right(
     command: Command,
@@ -309,14 +309,15 @@ fn request_in(alloc: Global, words: &[String]) -> Result<Request, WordsError>
 /// A value may follow a `=` in the option's own argument; an argument `--` ends the options.
 /// A number has 1 to 20 digits. A speedup is 0 to 95, and stands beside a line;
 /// a budget is 1 to 10^12, and 10^8 if none is given; for `path` it is 1 to 4,000,000,
-/// and 1,000,000 where none is given; there are 1 to 16 workers, 4 where none is given; a version is 4 or 5,
-/// and 4 where none is given; a size is 1 to 2,000, and 100 where none is given.
+/// and 1,000,000 if none is given. There are 1 to 16 workers, 4 if none is given. A version is
+/// 4 or 5, and 4 if none is given. A size is 1 to 2,000, and 100 if none is given.
 /// A line is a path without a comma, `:` and a number from 1 to 2^32 - 1; a list is one line
 /// or more, with a comma between, and so are NUMBERS of speedups, which are 0, 5, 10
-/// and so on to 95 where none are given.
-/// All other words are `Usage`. Want of memory can stand against any words, and is then the answer
-/// in place of either.
+/// and so on to 95 if none are given.
+/// All other words are `Usage`. Any words may be answered by `Memory` instead, if it is out of
+/// memory.
 pub fn read_words(alloc: Global, words: &[String]) -> Result<Request, WordsError>
+    ensures asked { Answers (request_of (bytes_of words.now)) result }
     ensures given { IfOk result (λ request. Requests (bytes_of words.now) request) }
     ensures only { (request : Request) → Requests (bytes_of words.now) request
         → (result ≡ Ok request) ⊎ (result ≡ Err Memory) }

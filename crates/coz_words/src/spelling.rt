@@ -27,8 +27,8 @@ fn are_words(words: &[String]) -> bool
     words.iter().all(|word| is_word(word.as_bytes()))
 }
 
-/// The command of the words, where each may be a word.
-/// None where the first names no command, or some text is no word.
+/// The command of the words, if each may be a word.
+/// None if the first names no command, or some text is no word.
 pub fn command_in(words: &[String]) -> Option<Command>
     ensures { result ≡ command_in (bytes_of words.now) }
 {

@@ -15,24 +15,24 @@ use std::alloc::Global;
 
 /// The budget of a run where the words give none, in instructions.
 const USUAL_BUDGET: u64 = 100_000_000;
-/// The budget of a run whose critical path is asked for, where the words give none.
+/// The budget of a run whose critical path is asked for, if the words give none.
 const USUAL_PATH_BUDGET: u64 = 1_000_000;
 /// The greatest budget of such a run: each instruction takes up to 80 bytes.
 const MAX_PATH_BUDGET: u64 = 4_000_000;
 
-/// The speedups, in percent, where the words give none.
+/// The speedups, in percent, if the words give none.
 static ALL_SPEEDUPS: [u8; 20] = [
     0, 5, 10, 15, 20, 25, 30, 35, 40, 45, 50, 55, 60, 65, 70, 75, 80, 85, 90, 95,
 ];
 
-/// Whether the line is one, where it is given.
+/// Whether the line is one, if it is given.
 pub fn is_line_or_none(line: Option<&str>) -> bool
     ensures { result ≡ none_or is_line (option_copied line.entry) }
 {
     line.is_none_or(|text| is_line(text.as_bytes()))
 }
 
-/// Whether the list is one, where it is given.
+/// Whether the list is one, if it is given.
 pub fn is_list_or_none(list: Option<&str>) -> bool
     ensures { result ≡ none_or is_list (option_copied list.entry) }
 {
@@ -56,7 +56,7 @@ pub fn has_needed(
     }
 }
 
-/// The budget of the command, in instructions, where the words give none.
+/// The budget of the command, in instructions, if the words give none.
 pub fn usual_budget(command: Command) -> u64
     ensures { result ≡ usual_budget command }
 {
@@ -77,7 +77,7 @@ pub fn greatest_budget(command: Command) -> u64
 }
 
 /// A number from `least` to `most`. Where no text is given, it is the usual one,
-/// or 0 where the command lacks the option.
+/// or 0 if the command lacks the option.
 pub fn number_or(
     command: Command,
     name: &str,
@@ -96,7 +96,7 @@ pub fn number_or(
 }
 
 /// The speedup of a line, in percent.
-/// Err where the text is no number from 0 to 95, or stands beside no line.
+/// Err if the text is no number from 0 to 95, or stands beside no line.
 pub fn speedup_of(line: Option<&str>, text: Option<&str>) -> Result<u8, WordsError>
     ensures { Answers (speedup_in (option_copied line.entry) (option_copied text.entry)) result }
 {
@@ -117,7 +117,7 @@ fn speedup_in(text: &[u8]) -> Result<u8, WordsError>
 }
 
 /// The version of a line table. Where no text is given, it is the least,
-/// or 0 where the command lacks the option.
+/// or 0 if the command lacks the option.
 pub fn version_of(command: Command, text: Option<&str>) -> Result<u8, WordsError>
     ensures { Answers (number_or command dwarf_name MIN_VERSION MIN_VERSION MAX_VERSION
         (option_copied text.entry)) result }
@@ -165,7 +165,7 @@ fn speedups_in(alloc: Global, text: &[u8]) -> Result<Items<u8>, WordsError>
     Ok(Items::new(speedups))
 }
 
-/// The speedups, in percent: those given, all where none are, and none where
+/// The speedups, in percent: those given, all where none are, and none if
 /// the command lacks the option.
 pub fn speedups_of(
     alloc: Global,

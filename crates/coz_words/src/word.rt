@@ -45,7 +45,7 @@ fn copied(alloc: Global, text: Option<&str>) -> Result<Option<Word>, AllocError>
     }
 }
 
-/// Owned copies of two texts, where there are such.
+/// Owned copies of two texts, if there are such.
 pub(crate) fn copied_pair(
     alloc: Global,
     first: Option<&str>,

@@ -115,7 +115,7 @@ credited latest goal s = go s.account s.pending
     go a None waits = refl
     go a (Some p) waits = cc
 
--- the seat after a credit, where all that was raised is so much
+-- the seat after a credit, at this global delay
 abbrev credited_seat : ℕ → Seat → Seat
 credited_seat raised s = record { account = record s.account { credited = s.account.credited + (raised - (s.account.own + s.account.paused + s.account.credited)) }; pending = None }
 

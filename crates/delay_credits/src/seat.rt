@@ -12,7 +12,7 @@ pub(crate) struct Pending {
     pub(crate) pause: Tick,
 }
 
-/// A hart's account and, where it runs, its pause, as they were at one moment.
+/// A hart's account and, if it runs, its pause, as they were at one moment.
 #[derive(Clone, Copy, Drop)]
 pub(crate) struct Seat {
     pub(crate) account: Account,

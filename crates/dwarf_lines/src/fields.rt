@@ -8,42 +8,42 @@ use crate::{LineError, LineFault, LineKind};
 use leb_cursor::Cursor;
 use std::alloc::Global;
 
-/// The next byte; Err where it runs past the end.
+/// The next byte; Err if it runs past the end.
 pub fn byte(cursor: &mut Cursor) -> Result<u8, LineFault>
     ensures { Walks (λ x. x) result cursor.new (byte cursor.old) }
 {
     Ok(cursor.byte()?)
 }
 
-/// The number in the next 2 bytes; Err where it runs past the end.
+/// The number in the next 2 bytes; Err if it runs past the end.
 pub fn half(cursor: &mut Cursor) -> Result<u16, LineFault>
     ensures { Walks (λ x. x) result cursor.new (half_field cursor.old) }
 {
     Ok(cursor.half()?)
 }
 
-/// The number in the next 4 bytes; Err where it runs past the end.
+/// The number in the next 4 bytes; Err if it runs past the end.
 pub fn word(cursor: &mut Cursor) -> Result<u32, LineFault>
     ensures { Walks (λ x. x) result cursor.new (word cursor.old) }
 {
     Ok(cursor.word()?)
 }
 
-/// The bytes before the next zero byte, which is passed too. Err where none follows.
+/// The bytes before the next zero byte, which is passed too. Err if none follows.
 pub fn text<'a>(cursor: &mut Cursor<'a>) -> Result<&'a [u8], LineFault>
     ensures { Walks (λ x. x.now) result cursor.new (field (text_at cursor.old)) }
 {
     Ok(cursor.text()?)
 }
 
-/// A LEB128 number without a sign; Err where it doesn't end or doesn't fit 64 bits.
+/// A LEB128 number without a sign; Err if it doesn't end or doesn't fit 64 bits.
 pub fn unsigned(cursor: &mut Cursor) -> Result<u64, LineFault>
     ensures { Walks (λ x. x) result cursor.new (unsigned_field cursor.old) }
 {
     Ok(cursor.uleb()?)
 }
 
-/// A LEB128 number with a sign; Err where it doesn't end or doesn't fit 64 bits.
+/// A LEB128 number with a sign; Err if it doesn't end or doesn't fit 64 bits.
 pub fn signed(cursor: &mut Cursor) -> Result<i64, LineFault>
     ensures { Walks (λ x. x) result cursor.new (leb_field (sleb_at cursor.old)) }
 {
@@ -90,7 +90,7 @@ pub fn address_sizes(version: u16, cursor: &mut Cursor) -> Result<(), LineFault>
 }
 
 /// From version 4 on the count of operations for an instruction, which has to be 1.
-/// Err where it isn't.
+/// Err if it isn't.
 pub fn one_operation(version: u16, cursor: &mut Cursor) -> Result<(), LineFault>
     ensures { WalksOn result cursor.new (operations version cursor.old) }
 {
@@ -118,7 +118,7 @@ pub fn announced<'a>(
     }
 }
 
-/// The next bytes, as a cursor of their own. Err where fewer are left.
+/// The next bytes, as a cursor of their own. Err if fewer are left.
 fn front<'a>(count: u64, cursor: &mut Cursor<'a>) -> Result<Cursor<'a>, LineFault>
     ensures { Walks (λ x. x) result cursor.new (field (part_at count cursor.old)) }
 {

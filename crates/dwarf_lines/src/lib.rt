@@ -122,9 +122,9 @@ pub struct Row {
     pub address: u64,
     /// The position of its file in the table's files, if the file number has an entry.
     pub file: Option<u32>,
-    /// The number of the line in its file; 0 where there is none.
+    /// The number of the line in its file; 0 if there is none.
     pub line: u32,
-    /// The column in the line; 0 where it isn't told.
+    /// The column in the line; 0 if it isn't told.
     pub column: u64,
     /// The address begins a statement.
     pub is_stmt: bool,

@@ -31,7 +31,7 @@ impl<'a> Texts<'a> {
     }
 
     /// The text from this place up to the next zero byte, in logarithmic time.
-    /// None where the place isn't in the section, or no zero byte follows.
+    /// None if the place isn't in the section, or no zero byte follows.
     pub fn text(&self, place: u64) -> Option<&'a [u8]>
         ensures { option_map (λ (t : Bor (List ℕ)). t.now) result
             ≡ text_from place self.now.bytes.now }

@@ -64,7 +64,7 @@ fn holder(segments: &[Segment], place: u64) -> Option<&Segment>
     segments.iter().find(|s| s.is_load() && s.has_place(place))
 }
 
-/// The address of the program headers in memory, 0 where they are not loaded.
+/// The address of the program headers in memory, 0 if they are not loaded.
 pub fn headers(file: &[u8], segments: &[Segment]) -> u64
     requires headers { HasHeaders file.now }
     requires tables { first_row (table_rows file.now) ≡ None }

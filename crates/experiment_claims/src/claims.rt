@@ -22,7 +22,7 @@ impl Claims {
     }
 
     /// Spends one turn of the seat on the next number, which no other seat gets. `None` comes
-    /// where it is the bound or more.
+    /// if it is the bound or more.
     pub fn draw(&self, seat: &mut ClaimSeat) -> Option<u32>
         requires seat { IsSeatOf self.now seat.old }
         requires turn { 0 < (hand_of seat.old).turns }

@@ -60,7 +60,7 @@ pub fn line_parts<'a>(text: &'a [u8]) -> (&'a [u8], u32)
     (path, value_of(number) as u32)
 }
 
-/// The place of the first `,`, or the length where there is none.
+/// The place of the first `,`, or the length if there is none.
 fn first_comma(text: &[u8]) -> usize
     ensures place { result ≡ position_or_len is_comma text.now }
     ensures before { AllWithin (λ b. is_comma b ≡ false) text.now 0 result }

@@ -382,7 +382,7 @@ fn counted(alloc: Global, parts: &[&[u8]]) -> Result<Vec<u8>, LineError> {
     Ok(bytes)
 }
 
-/// The section that is made so, with this length where it is cut.
+/// The section that is made so, with this length if it is cut.
 fn section_of(alloc: Global, made: &Made, length: usize) -> Result<Vec<u8>, LineError> {
     match *made {
         Made::Cut(_, _) => counted(alloc, &[&FIVE[..length.min(83)]]),

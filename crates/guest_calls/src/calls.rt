@@ -149,7 +149,7 @@ impl<'a> Guest<'a> {
         Fate::Ends(Ending::Unsupported(self.number(hart)))
     }
 
-    /// Writes bytes to the memory, as a store does; nothing is written where some byte may not be.
+    /// Writes bytes to the memory, as a store does; nothing is written if some byte may not be.
     /// Err is just that.
     pub(crate) fn store(&mut self, address: Address, bytes: &[u8]) -> Result<(), Access>
         ensures { MatchResult result

@@ -38,7 +38,7 @@ impl Carrier {
         })
     }
 
-    /// Copies the first bytes of a pipe into the memory; nothing is copied where some byte may not
+    /// Copies the first bytes of a pipe into the memory; nothing is copied if some byte may not
     /// be written. Err is just that.
     pub fn deliver(
         &mut self,

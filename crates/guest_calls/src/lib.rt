@@ -109,7 +109,7 @@ impl<'a> Guest<'a> {
         })
     }
 
-    /// The next instruction of a hart that was made, or none where it can't be fetched
+    /// The next instruction of a hart that was made, or none if it can't be fetched
     /// or is not supported.
     pub fn next(&self, hart: HartId) -> Option<Instr>
         requires { IsMade self.now hart.0 }

@@ -11,7 +11,7 @@ use guest_memory::Memory;
 /// The pieces that one call may name (Linux: UIO_MAXIOV).
 pub const PIECES: usize = 1024;
 
-/// So many bytes at an address.
+/// A piece of memory: an address and a length (`struct iovec`).
 #[derive(Clone, Copy, Default)]
 pub struct Piece {
     /// Where it begins.

@@ -92,7 +92,7 @@ impl<'a> Guest<'a> {
     }
 
     /// Stores bytes of a pipe, takes them from it, and wakes those that wait for its room; nothing
-    /// is done where some byte may not be written. Err is just that.
+    /// is done if some byte may not be written. Err is just that.
     fn read_bytes(
         &mut self,
         number: u32,
@@ -119,7 +119,7 @@ impl<'a> Guest<'a> {
         Ok(())
     }
 
-    /// Stores the first bytes of a pipe, which keeps them; nothing is stored where some byte may not
+    /// Stores the first bytes of a pipe, which keeps them; nothing is stored if some byte may not
     /// be written. Err is just that.
     fn store_bytes(&mut self, number: u32, count: u32, address: Address) -> Result<(), Access>
         requires reads { kind_at number self.old.pipes ≡ Some Reading }

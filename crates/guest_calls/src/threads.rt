@@ -46,7 +46,7 @@ fn has(flags: u64, flag: u64) -> bool
     flags / flag % 2 == 1
 }
 
-/// How many a wake takes at most: a signed number of 32 bits, where it is above 1.
+/// How many a wake takes at most: a signed number of 32 bits, if it is above 1.
 fn wake_count(value: u64) -> u32
     ensures { result ≡ calls.wake_count (signed_bits 32 (value % 2 ^ 32)) }
 {
@@ -78,7 +78,7 @@ impl<'a> Guest<'a> {
     }
 
     /// Stores 0 at the hart's clear address and wakes the oldest hart that waits for it;
-    /// where it has none, or it may not be written, nothing is done.
+    /// if it has none, or it may not be written, nothing is done.
     fn clear(&mut self, hart: HartId, started: &mut HartList)
         requires made { IsMade self.old hart.0 }
         requires started { started.old ≡ [] }
@@ -281,7 +281,7 @@ impl<'a> Guest<'a> {
         };
     }
 
-    /// Stores a word, where its 4 bytes may be written.
+    /// Stores a word, if its 4 bytes may be written.
     fn store_word(&mut self, address: Address, word: u32)
         ensures { self.new ≡ with_word address word self.old }
     {

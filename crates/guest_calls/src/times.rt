@@ -116,7 +116,7 @@ impl<'a> Guest<'a> {
         Fate::Sleeps(moment)
     }
 
-    /// Stores a span, where its 16 bytes may be written.
+    /// Stores a span, if its 16 bytes may be written.
     fn store_span(&mut self, address: Address, span: Span) -> Result<(), Access>
         ensures { MatchResult result
             (λ _. IsTrue (is_writable (memory_of self.old) address 16)

@@ -325,7 +325,7 @@ impl<'a> Memory<'a> {
     }
 
     /// The number that stands at an address, for a size of 1, 2, 4 or 8 bytes.
-    /// Err where some byte may not be read.
+    /// Err if some byte may not be read.
     pub fn load(&self, address: Address, size: u8) -> Result<u64, Access>
         requires { IsSize size }
         ensures { result_ok result ≡ load self.now address size }
@@ -333,7 +333,7 @@ impl<'a> Memory<'a> {
         self.read_number(address, size, Right::Read)
     }
 
-    /// The word that stands at an address, to be executed. Err where some byte may not be executed.
+    /// The word that stands at an address, to be executed. Err if some byte may not be executed.
     #[inline(always)]
     pub fn fetch(&self, address: Address) -> Result<u32, Access>
         ensures { result_ok result ≡ fetch self.now address }
@@ -415,7 +415,7 @@ impl<'a> Memory<'a> {
         true
     }
 
-    /// The last of some bytes, or none where it would be past all addresses.
+    /// The last of some bytes, or none if it would be past all addresses.
     fn last_of(&self, address: Address, count: u64) -> Option<Address>
         requires { 0 < count }
         ensures { MatchOption result (rights_at self.now (address + (count - 1)) ≡ no_rights)
@@ -436,7 +436,7 @@ impl<'a> Memory<'a> {
     }
 
     /// Writes a number at an address, in 1, 2, 4 or 8 bytes.
-    /// Err where some byte may not be written; then nothing is.
+    /// Err if some byte may not be written; then nothing is.
     #[inline(always)]
     pub fn store(&mut self, address: Address, size: u8, value: u64) -> Result<(), Access>
         requires { IsSize size }
@@ -472,7 +472,7 @@ impl<'a> Memory<'a> {
         self.copy_in(address, &value.to_le_bytes()[..size as usize])
     }
 
-    /// Reads bytes from an address on; nothing is read where some byte may not be.
+    /// Reads bytes from an address on; nothing is read if some byte may not be.
     /// Err is just that.
     pub fn read_at(&self, address: Address, into: &mut [u8]) -> Result<(), Access>
         ensures { MatchResult result
@@ -502,7 +502,7 @@ impl<'a> Memory<'a> {
         }
     }
 
-    /// Reads bytes that lie in one page, and zeros where there is no such page.
+    /// Reads bytes that lie in one page, and zeros if there is no such page.
     fn read_piece(&self, address: Address, into: &mut [u8])
         requires { address % PAGE + length into.old ≤ PAGE }
         ensures { into.new ≡ bytes_at self.now address (length into.old) }
@@ -516,7 +516,7 @@ impl<'a> Memory<'a> {
         }
     }
 
-    /// Writes bytes from an address on; nothing is written where some byte may not be.
+    /// Writes bytes from an address on; nothing is written if some byte may not be.
     /// Err is just that.
     pub fn copy_in(&mut self, address: Address, bytes: &[u8]) -> Result<(), Access>
         ensures { MatchResult result

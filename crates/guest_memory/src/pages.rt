@@ -26,7 +26,7 @@ pub struct Pages {
 }
 
 impl Pages {
-    /// So many pages with no rights, all of them touched.
+    /// `total` pages with no rights, all of them touched.
     pub fn new(alloc: Global, total: usize) -> Result<Pages, AllocError>
         ensures { IfOk result (λ pages.
             pages.each.items ≡ replicate total (touched_with no_rights)) }

@@ -5,12 +5,12 @@ use Rattle.std.proofs.lemmas.List.Elements.{All-replicate}
 use Rattle.guest_pipes.specs.declared.ends.End.{End}
 use Rattle.guest_pipes.specs.declared.waiters.PipeWaiter.{PipeWaiter}
 use Rattle.guest_pipes.specs.Pipes.{PipeMap, no_pipes}
-use Rattle.guest_pipes.specs.Kept.{IsPlace, AreApart, AreKept}
+use Rattle.guest_pipes.specs.Kept.{IsSlot, AreApart, AreKept}
 
 pub first_kept : (ends : List (Option End)) (bytes : List (List ℕ)) (ws : List PipeWaiter) (capacity : ℕ) → ends ≡ replicate 128 None → bytes ≡ replicate 64 [] → ws ≡ [] → 256 ≤ capacity → AreKept ends bytes ws capacity
 first_kept ends bytes ws capacity none empty idle room = record {
   numbers = ap (λ (es : List (Option End)). length es) none;
-  places = subst (λ (es : List (Option End)). All IsPlace es) (sym none) (All-replicate IsPlace 128 None tt);
+  slots = subst (λ (es : List (Option End)). All IsSlot es) (sym none) (All-replicate IsSlot 128 None tt);
   pipes = ap (λ (bs : List (List ℕ)). length bs) empty;
   apart = subst AreApart (sym idle) tt;
   room = room;

@@ -1,4 +1,4 @@
-pub mod FreePlaces
+pub mod FreeSlots
 pub mod Bytes
 pub mod WaitersLemmas
 pub mod First

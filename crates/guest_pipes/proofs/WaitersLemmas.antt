@@ -77,7 +77,7 @@ length-others w ws low others apart =
     let many = length-apart (w ∷ ws) more in
     omega arith
 
--- the waiter at a place is listed, or it isn't
+-- the waiter at a slot is listed, or it isn't
 pub listed : (e : End) (ws : List PipeWaiter) (i : ℕ) (d : PipeWaiter) → i < length ws → is_same e (get_or ws i d).at ≡ true → woken_at e (drop i ws) ≡ (get_or ws i d).hart.0 ∷ woken_at e (drop (i + 1) ws)
 listed e ws i d below here = ap (woken_at e) (drop-cons ws i d below) ∙ rw (add-one, here) refl
 

@@ -5,9 +5,9 @@ use Rattle.guest_pipes.specs.declared.TheConstants.{NUMBERS, PIPES}
 use Rattle.guest_pipes.specs.declared.ends.End.{End}
 use Rattle.guest_pipes.specs.declared.waiters.PipeWaiter.{PipeWaiter}
 
-abbrev pub IsPlace : Option End → Type 0
-IsPlace None = Unit {0}
-IsPlace (Some e) = e.pipe < PIPES
+abbrev pub IsSlot : Option End → Type 0
+IsSlot None = Unit {0}
+IsSlot (Some e) = e.pipe < PIPES
 
 -- the hart isn't among them
 abbrev pub AreOthers : ℕ → List PipeWaiter → Type 0
@@ -22,7 +22,7 @@ AreApart (w ∷ ws) = (w.hart.0 < HARTS) × AreOthers w.hart.0 ws × AreApart ws
 pub record AreKept (ends : List (Option End)) (bytes : List (List ℕ)) (waiters : List PipeWaiter)
     (capacity : ℕ) : Type 0 where
   pub numbers : length ends ≡ NUMBERS
-  pub places : All IsPlace ends
+  pub slots : All IsSlot ends
   pub pipes : length bytes ≡ PIPES
   pub apart : AreApart waiters
   -- calls need no more room

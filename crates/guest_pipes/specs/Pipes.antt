@@ -80,12 +80,12 @@ held number p = get_or p.bytes (this_end number p).pipe []
 unfoldable pub free_pipe : List (Option End) → ℕ
 free_pipe ends = position_or_len (λ pipe. not (is_used ends pipe)) (range_with_len 0 PIPES)
 
--- the lowest free place of a number
-abbrev pub free_place : List (Option End) → ℕ
-free_place ends = position_or_len is_none ends
+-- the lowest free slot of a number
+abbrev pub free_slot : List (Option End) → ℕ
+free_slot ends = position_or_len is_none ends
 
 abbrev pub with_end : End → List (Option End) → List (Option End)
-with_end e ends = set ends (free_place ends) (Some e)
+with_end e ends = set ends (free_slot ends) (Some e)
 
 -- a pipe isn't in use, and two numbers are free
 abbrev pub can_make : PipeMap → Bool
@@ -97,7 +97,7 @@ half_made ends = with_end (end_of (free_pipe ends) Reading) ends
 
 -- the lowest free number reads, and the next lowest writes
 abbrev pub made_numbers : PipeMap → ℕ × ℕ
-made_numbers p = (FIRST_NUMBER + free_place p.ends, FIRST_NUMBER + free_place (half_made p.ends))
+made_numbers p = (FIRST_NUMBER + free_slot p.ends, FIRST_NUMBER + free_slot (half_made p.ends))
 
 abbrev pub made : PipeMap → PipeMap
 made p = record p { ends = with_end (end_of (free_pipe p.ends) Writing) (half_made p.ends) }

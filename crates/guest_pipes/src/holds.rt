@@ -112,7 +112,7 @@ pub fn copy_each(held: &mut [Held], others: &[Held])
     }
 }
 
-/// So many pipes that hold nothing.
+/// `count` pipes that hold nothing.
 pub fn all_empty(alloc: Global, count: usize) -> Result<Vec<Held>, AllocError>
     ensures { IfOk result (λ held. held.items ≡ replicate count []) }
 {
@@ -123,7 +123,7 @@ pub fn all_empty(alloc: Global, count: usize) -> Result<Vec<Held>, AllocError>
     Ok(held)
 }
 
-/// Takes all bytes of a pipe, where it isn't in use.
+/// Takes all bytes of a pipe, if it isn't in use.
 pub fn empty_unused(ends: &[Option<End>], held: &mut [Held], pipe: u8)
     requires { pipe < length held.old }
     ensures { held.new ≡ emptied ends.now pipe held.old }

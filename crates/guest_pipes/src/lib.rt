@@ -10,11 +10,11 @@ ghost use Rattle.std.specs.Prelude.{◌≡◌, ◌≢◌, ◌+◌, ◌<◌, ◌�
 ghost use Rattle.coz_types.specs.declared.TheConstants.{HARTS};
 ghost use Rattle.guest_pipes.specs.declared.TheConstants.{FIRST_NUMBER, NUMBERS, PIPES};
 ghost use Rattle.guest_pipes.specs.declared.ends.PipeEnd.TheVariants.{Reading, Writing};
-ghost use Rattle.guest_pipes.specs.Pipes.{PipeMap, no_pipes, free_place, with_end, end_at, kind_at, this_end, held, room, can_make, made_numbers, made, readiness, IsFew, woken_for, taken, put, waiting, closed};
+ghost use Rattle.guest_pipes.specs.Pipes.{PipeMap, no_pipes, free_slot, with_end, end_at, kind_at, this_end, held, room, can_make, made_numbers, made, readiness, IsFew, woken_for, taken, put, waiting, closed};
 
 use coz_types::{HARTS, HartId};
 pub use ends::{End, PipeEnd};
-use ends::{free_pipe, free_place, free_places, is_open, no_ends};
+use ends::{free_pipe, free_slot, free_slots, is_open, no_ends};
 use guest_futex::HartList;
 use holds::{Held, all_empty, copy_each, empty_unused};
 use std::alloc::{AllocError, Global};
@@ -40,7 +40,7 @@ pub const ATOMIC_BYTES: usize = 4096;
 /// What a read or a write of some bytes finds.
 #[derive(Clone, Copy, Debug, PartialEq, Eq)]
 pub enum Ready {
-    /// So many bytes can be taken or put.
+    /// This number of bytes can be taken or put.
     Now(u32),
     /// The other end is closed, and nothing can be taken or put any more.
     Closed,
@@ -99,11 +99,11 @@ impl Pipes {
     pub fn can_make(&self) -> bool
         ensures { result ≡ can_make self.now }
     {
-        free_pipe(&self.ends) < PIPES as u8 && free_places(&self.ends) >= 2
+        free_pipe(&self.ends) < PIPES as u8 && free_slots(&self.ends) >= 2
     }
 
     /// Makes a pipe and gives the numbers of its ends: the lowest free number reads, and the next
-    /// lowest writes. None exactly where all pipes are in use, or fewer than two numbers are free;
+    /// lowest writes. None exactly if all pipes are in use, or fewer than two numbers are free;
     /// then nothing changes.
     pub fn make_pipe(&mut self) -> Option<(u32, u32)>
         ensures { MatchOption result
@@ -132,7 +132,7 @@ impl Pipes {
         Some((reading, writing))
     }
 
-    /// What a number is. None exactly where it is no open end.
+    /// What a number is. None exactly if it is no open end.
     pub fn end(&self, number: u64) -> Option<PipeEnd>
         ensures kind { result ≡ kind_at number self.now }
         ensures low { IfSome result (λ _. number < FIRST_NUMBER + NUMBERS) }
@@ -150,9 +150,9 @@ impl Pipes {
         if number < u64::from(FIRST_NUMBER) {
             return None;
         }
-        let place = number - u64::from(FIRST_NUMBER);
-        if place < NUMBERS as u64 {
-            self.ends[place as usize]
+        let slot = number - u64::from(FIRST_NUMBER);
+        if slot < NUMBERS as u64 {
+            self.ends[slot as usize]
         } else {
             None
         }
@@ -298,14 +298,14 @@ impl Pipes {
     }
 }
 
-/// Opens an end at the lowest free place, and gives its number.
+/// Opens an end at the lowest free slot, and gives its number.
 fn open_end(ends: &mut [Option<End>], end: End) -> u32
-    requires free { free_place ends.old < length ends.old }
+    requires free { free_slot ends.old < length ends.old }
     requires few { length ends.old ≤ NUMBERS }
-    ensures number { result ≡ FIRST_NUMBER + free_place ends.old }
+    ensures number { result ≡ FIRST_NUMBER + free_slot ends.old }
     ensures ends { ends.new ≡ with_end end ends.old }
 {
-    let place = free_place(ends);
-    ends[place] = Some(end);
-    FIRST_NUMBER + place as u32
+    let slot = free_slot(ends);
+    ends[slot] = Some(end);
+    FIRST_NUMBER + slot as u32
 }

@@ -24,15 +24,15 @@ use std::marker::Model;
 /// Harts of a number given at making, each with a key or not in it.
 ///
 /// Contracts see the list of the keys by the numbers of the harts. Beside its making no call takes
-/// memory. `key` and `least` read one place. `put` and `take` move entries on one way between
-/// a place and the root or a leaf.
+/// memory. `key` and `least` read one slot. `put` and `take` move entries on one way between
+/// a slot and the root or a leaf.
 #[derive(Drop)]
 pub struct Schedule {
     keys: Vec<Option<Tick>>,
-    // The heap: place 1 is the root, 2 k and 2 k + 1 are below k, and place 0 is not used.
+    // The heap: slot 1 is the root, 2 k and 2 k + 1 are below k, and slot 0 is not used.
     entries: Vec<Contender>,
-    // The place of each hart that has a key.
-    places: Vec<u16>,
+    // The slot of each hart that has a key.
+    slots: Vec<u16>,
     count: usize,
 }
 
@@ -44,7 +44,7 @@ impl Model for Schedule {
 
     ghost view = { λ s. s.keys.items };
 
-    ghost invariant = { λ s. IsSchedule s.keys.items s.entries.items s.places.items s.count };
+    ghost invariant = { λ s. IsSchedule s.keys.items s.entries.items s.slots.items s.count };
 }
 
 impl Schedule {
@@ -62,7 +62,7 @@ impl Schedule {
         Ok(Schedule {
             keys: vec![in alloc; None; harts as usize]?,
             entries: vec![in alloc; nobody; harts as usize + 1]?,
-            places: vec![in alloc; 0; harts as usize]?,
+            slots: vec![in alloc; 0; harts as usize]?,
             count: 0,
         })
     }
@@ -77,7 +77,7 @@ impl Schedule {
         self.count += 1;
         rise(
             &mut self.entries,
-            &mut self.places,
+            &mut self.slots,
             self.count,
             Contender { key, hart },
         );
@@ -108,7 +108,7 @@ impl Schedule {
         }
     }
 
-    /// Takes a hart out, and gives its key; None exactly where it isn't in the schedule.
+    /// Takes a hart out, and gives its key; None exactly if it isn't in the schedule.
     pub fn take(&mut self, hart: HartId) -> Option<Tick>
         ensures key { result ≡ key_of self.old hart.0 }
         ensures rest { self.new ≡ without_key hart.0 self.old }
@@ -117,11 +117,11 @@ impl Schedule {
         if key.is_some() {
             let index = usize::from(hart.0);
             self.keys[index] = None;
-            let place = usize::from(self.places[index]);
+            let slot = usize::from(self.slots[index]);
             let last = self.entries[self.count];
             self.count -= 1;
-            if place <= self.count {
-                refill(&mut self.entries, &mut self.places, self.count, place, last);
+            if slot <= self.count {
+                refill(&mut self.entries, &mut self.slots, self.count, slot, last);
             }
         }
         key
@@ -139,25 +139,25 @@ impl Schedule {
             self.put(hart, key);
         } else {
             self.keys[index] = Some(key);
-            let place = usize::from(self.places[index]);
+            let slot = usize::from(self.slots[index]);
             refill(
                 &mut self.entries,
-                &mut self.places,
+                &mut self.slots,
                 self.count,
-                place,
+                slot,
                 Contender { key, hart },
             );
         }
     }
 
-    /// A hart's key; None exactly where it isn't in the schedule.
+    /// A hart's key; None exactly if it isn't in the schedule.
     #[inline]
     pub fn key(&self, hart: HartId) -> Option<Tick>
         ensures { result ≡ key_of self.now hart.0 }
     {
-        let place = usize::from(hart.0);
-        if place < self.keys.len() {
-            self.keys[place]
+        let slot = usize::from(hart.0);
+        if slot < self.keys.len() {
+            self.keys[slot]
         } else {
             None
         }
@@ -170,7 +170,7 @@ impl Schedule {
     {
         self.keys.copy_from_slice(&other.keys);
         self.entries.copy_from_slice(&other.entries);
-        self.places.copy_from_slice(&other.places);
+        self.slots.copy_from_slice(&other.slots);
         self.count = other.count;
     }
 }

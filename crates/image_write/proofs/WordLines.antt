@@ -39,14 +39,14 @@ next_is v address line (l ∷ ls) = next_by v (l == line) address line l ls (nex
 abbrev picked : Bool → Row → ℕ → List Row → Option Row
 picked here row a later = if here then Some row else first_covering a later
 
--- the row covers what is before the rows behind it
+-- the row covers what is before the rows after it
 covers_now : (v a at address line : ℕ) (later : List Row) → at ≤ a → a < address → IsNext address later → first_covering a (row_at v at line false ∷ later) ≡ Some (row_at v at line false)
 unfolding IsNext
 covers_now v a at address line later low high (e, more, is) =
     ap (λ o. picked (elim o as (λ x. Bool) [ Some end ↦ nat_le at a && nat_lt a end | None ↦ false ]) (row_at v at line false) a later) is
     ∙ ap (λ here. picked here (row_at v at line false) a later) (and_from (nat_le at a) (nat_lt a e) (le-leb at a low) (lt-ltb a e (omega arith)))
 
--- and not what is at the row behind it or later
+-- and not what is at the row after it or later
 none_picked : (t : Bool) (row : Row) (a : ℕ) (later : List Row) → picked (t && false) row a later ≡ first_covering a later
 none_picked true row a later = refl
 none_picked false row a later = refl
@@ -80,7 +80,7 @@ later_word v false ls at address line l a wanted before here more =
     let (b, is) = more address l (omega arith) in
     (b, passed v a at address line l (rows_from v (address + 4) l ls) here ∙ is)
 
--- in rows behind one at an earlier address
+-- in rows after one at an earlier address
 word_line : (v : ℕ) (ls : List ℕ) (at address line k a : ℕ) → at < address → k < length ls → a ≡ address + 4 * k → HasLine v a (get_or ls k 0) (row_at v at line false ∷ rows_from v address line ls)
 word_line v [] at address line k a before few e = absurd (omega arith)
 word_line v (l ∷ ls) at address line zero a before few e = first_word v (l == line) ls at address line l a refl before (omega arith)
@@ -143,7 +143,7 @@ text_runs p file k within =
     or_left (nat_le 0x10000 (0x10000 + 4 * k) && nat_lt (0x10000 + 4 * k) (0x10000 + whole_pages p)) _
     (and_from (nat_le 0x10000 (0x10000 + 4 * k)) (nat_lt (0x10000 + 4 * k) (0x10000 + whole_pages p)) (le-leb 0x10000 (0x10000 + 4 * k) (omega arith)) (lt-ltb (0x10000 + 4 * k) (0x10000 + whole_pages p) (omega arith)))
 
--- each word of a program stands for a line
+-- each word of a program has a line
 pub line_there : (p : Program) (k : ℕ) → IsProgram p → k < length p.lines → 0 < get_or p.lines k 0
 line_there p k is few =
     let fits : (1 ≤ get_or p.lines k 0) × (get_or p.lines k 0 ≤ 65536) = All-contains (λ line. (1 ≤ line) × (line ≤ 65536)) p.lines (get_or p.lines k 0) is.lines_fit (Contains-get_or p.lines k 0 few) in

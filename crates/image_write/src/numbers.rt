@@ -37,7 +37,7 @@ pub fn push_double(out: &mut Vec<u8>, n: u64) -> Result<(), AllocError>
     out.extend_from_slice(&bytes)
 }
 
-/// So many zeros.
+/// Appends `count` zeros.
 pub fn push_zeros(out: &mut Vec<u8>, count: u32) -> Result<(), AllocError>
     ensures { IfOk result (λ _. out.new.items ≡ out.old.items ++ replicate count 0) }
 {
@@ -45,7 +45,8 @@ pub fn push_zeros(out: &mut Vec<u8>, count: u32) -> Result<(), AllocError>
     out.resize(length + count as usize, 0)
 }
 
-/// So many groups of seven bits, the lowest first; all but the last have the upper bit.
+/// Appends `count` groups of seven bits of `n`, the lowest first. All but the last have the
+/// upper bit.
 fn push_groups(out: &mut Vec<u8>, count: u32, n: u64) -> Result<(), AllocError>
     requires { 1 ≤ count }
     ensures { IfOk result (λ _. out.new.items ≡ out.old.items ++ groups count n) }

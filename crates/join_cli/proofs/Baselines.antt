@@ -13,7 +13,7 @@ use Rattle.progress_points.specs.Points.{Points, point_of}
 use Rattle.experiment_plan.specs.declared.experiment.Experiment.{Experiment as Pair}
 use Rattle.run_engine.specs.Run.{experiment}
 use Rattle.profile_join.specs.Parts.{unlabelled}
-use Rattle.profile_pool.specs.Choices.{choice_of}
+use Rattle.run_engine.specs.Choices.{choice_of}
 use Rattle.profile_pool.specs.Summaries.{summary_of}
 use Rattle.profile_pool.specs.Profiles.{record_in, summary_on}
 

@@ -95,7 +95,7 @@ impl<'a> Cursor<'a> {
         Ok(bytes[0])
     }
 
-    /// The number in the next 2 bytes, the lowest first; `Short` where fewer are left.
+    /// The number in the next 2 bytes, the lowest first; `Short` if fewer are left.
     pub fn half(&mut self) -> Result<u16, Short>
         ensures { Reads (λ x. x) result self.old self.new (number_at w16 self.old) }
     {
@@ -103,7 +103,7 @@ impl<'a> Cursor<'a> {
         Ok(LittleEndian::read_u16(bytes))
     }
 
-    /// The number in the next 4 bytes, the lowest first; `Short` where fewer are left.
+    /// The number in the next 4 bytes, the lowest first; `Short` if fewer are left.
     pub fn word(&mut self) -> Result<u32, Short>
         ensures { Reads (λ x. x) result self.old self.new (number_at w32 self.old) }
     {
@@ -111,7 +111,7 @@ impl<'a> Cursor<'a> {
         Ok(LittleEndian::read_u32(bytes))
     }
 
-    /// The number in the next 8 bytes, the lowest first; `Short` where fewer are left.
+    /// The number in the next 8 bytes, the lowest first; `Short` if fewer are left.
     pub fn double(&mut self) -> Result<u64, Short>
         ensures { Reads (λ x. x) result self.old self.new (number_at w64 self.old) }
     {
@@ -119,7 +119,7 @@ impl<'a> Cursor<'a> {
         Ok(LittleEndian::read_u64(bytes))
     }
 
-    /// The bytes before the next zero byte, which is passed too; `Short` where none follows.
+    /// The bytes before the next zero byte, which is passed too; `Short` if none follows.
     pub fn text(&mut self) -> Result<&'a [u8], Short>
         ensures { Reads (λ x. x.now) result self.old self.new (text_at self.old) }
     {
@@ -144,7 +144,7 @@ impl<'a> Cursor<'a> {
     }
 
     /// The next `count` bytes, as a cursor of their own that continues to count offsets; `Short`
-    /// where fewer are left.
+    /// if fewer are left.
     pub fn part(&mut self, count: u64) -> Result<Cursor<'a>, Short>
         ensures { Reads (λ x. x) result self.old self.new (part_at count self.old) }
     {
@@ -153,8 +153,8 @@ impl<'a> Cursor<'a> {
         Ok(Cursor { place, bytes })
     }
 
-    /// An unsigned LEB128 number, padded or not (DWARF 5, section 7.6). `Short` where no byte ends
-    /// it, `Wide` where its value is 2^64 or more.
+    /// An unsigned LEB128 number, padded or not (DWARF 5, section 7.6). `Short` if no byte ends
+    /// it, `Wide` if its value is 2^64 or more.
     pub fn uleb(&mut self) -> Result<u64, LebFault>
         ensures { Reads (λ x. x) result self.old self.new (uleb_at self.old) }
     {
@@ -174,8 +174,8 @@ impl<'a> Cursor<'a> {
         }
     }
 
-    /// A signed LEB128 number, padded or not. `Short` where no byte ends it, `Wide`
-    /// where its value doesn't fit 64 bits with a sign.
+    /// A signed LEB128 number, padded or not. `Short` if no byte ends it, `Wide`
+    /// if its value doesn't fit 64 bits with a sign.
     pub fn sleb(&mut self) -> Result<i64, LebFault>
         ensures { Reads (λ x. x) result self.old self.new (sleb_at self.old) }
     {

@@ -56,7 +56,7 @@ const NO_EVENT: Event = Event {
     due: 0,
 };
 
-/// The event of a number, and one of all zeros where there is none.
+/// The event of a number, and one of all zeros if there is none.
 pub fn event_of(events: &[Event], number: u32) -> Event
     ensures { result ≡ event_at events.now number }
 {

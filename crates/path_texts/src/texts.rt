@@ -65,7 +65,7 @@ fn first_segment(event: &Event) -> Segment
     }
 }
 
-/// The segment of the first event of a path, where it goes on to this last one.
+/// The segment of the first event of a path, if it goes on to this last one.
 fn whole_segment(first: &Event, last: &Event) -> Segment
     ensures { result ≡ record (first_segment first.now) { end = last.now.due } }
 {

@@ -27,7 +27,7 @@ pub enum Text {
 /// A text that is to be written, and the status beside it.
 #[derive(Drop)]
 pub struct Printed {
-    /// The status of the command where the text is put: 0 or 1.
+    /// The status of the command if the text is put: 0 or 1.
     pub status: u8,
     /// What is put.
     pub text: Text,

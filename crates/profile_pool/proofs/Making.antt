@@ -12,7 +12,7 @@ use Rattle.run_engine.specs.Seen.{Seen, experiment_of}
 use Rattle.virtual_run.specs.Lead.{arguments}
 use Rattle.experiment_plan.specs.declared.experiment.Experiment.{Experiment}
 use Rattle.profile_pool.specs.declared.work.Work.{Work}
-use Rattle.profile_pool.specs.Choices.{choice_of}
+use Rattle.run_engine.specs.Choices.{choice_of}
 use Rattle.profile_pool.specs.Made.{parts_made, made_for, IsFor}
 use Rattle.profile_pool.specs.Plain.{IsPlain}
 use Rattle.profile_pool.specs.Work.{IsWork}

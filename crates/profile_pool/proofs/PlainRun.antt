@@ -25,7 +25,7 @@ use Rattle.run_engine.specs.Run.{experiment}
 use Rattle.run_engine.specs.Seen.{Seen, experiment_of}
 use Rattle.counted_run.specs.CountedRun.{selecting_line}
 use Rattle.profile_pool.specs.declared.plain.Plain.{Plain}
-use Rattle.profile_pool.specs.Choices.{choice_of}
+use Rattle.run_engine.specs.Choices.{choice_of}
 use Rattle.profile_pool.specs.Made.{parts_made}
 use Rattle.profile_pool.specs.Plain.{relabelled, starts_at, SaysOf, IsPlain}
 use Rattle.profile_pool.specs.Summaries.{outcome_in, summary_of, summary_in}

@@ -1,4 +1,3 @@
-pub mod Choices
 pub mod Summaries
 pub mod Made
 pub mod Work

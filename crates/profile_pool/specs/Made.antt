@@ -4,7 +4,7 @@ use Rattle.run_engine.specs.Seen.{Seen}
 use Rattle.virtual_run.specs.Lead.{arguments}
 use Rattle.profile_pool.specs.declared.work.Runner.{Runner}
 use Rattle.profile_pool.specs.declared.work.Work.{Work}
-use Rattle.profile_pool.specs.Choices.{choice_of}
+use Rattle.run_engine.specs.Choices.{choice_of}
 
 -- all but the state
 abbrev pub parts_made : {State : Type 0} → Seen State → Seen (Unit {0})

@@ -11,7 +11,7 @@ use Rattle.experiment_plan.specs.Pairs.{planned_pairs}
 use Rattle.experiment_plan.specs.declared.experiment.Experiment.{Experiment as Pair}
 use Rattle.run_engine.specs.Run.{experiment}
 use Rattle.profile_book.specs.declared.profile.Profile.{Profile}
-use Rattle.profile_pool.specs.Choices.{choice_of}
+use Rattle.run_engine.specs.Choices.{choice_of}
 use Rattle.profile_pool.specs.Summaries.{summary_of}
 
 -- the pairs of the lines at these positions: each at 0 and at each speedup

@@ -12,7 +12,7 @@ use Rattle.progress_points.specs.Points.{Points, point_of}
 use Rattle.run_engine.specs.Run.{experiment}
 use Rattle.sha2.specs.Sha256.{sha256}
 use Rattle.net_visits.specs.Kept.{visits_bytes, counts_of}
-use Rattle.profile_pool.specs.Choices.{choice_of}
+use Rattle.run_engine.specs.Choices.{choice_of}
 
 -- how the run of a record came out
 abbrev pub outcome_in : Record → Outcome

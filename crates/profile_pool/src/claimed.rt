@@ -8,7 +8,6 @@ ghost use Rattle.profile_pool.specs.Made.{parts_made, made_for, IsFor, AreFor};
 ghost use Rattle.profile_pool.specs.Plain.{starts_at};
 ghost use Rattle.profile_pool.specs.Work.{summary_of_pair, work_at, IsWork, IsLed};
 
-use crate::limits::choice;
 use crate::summary::summarise;
 use crate::work::{Runner, Work};
 use claim_workers::ClaimWork;
@@ -16,7 +15,7 @@ use coz_lists::Items;
 use coz_types::{Label, LineId, Outcome, Summary};
 use experiment_plan::Experiment;
 use std::alloc::{AllocError, Global};
-use virtual_run::{Lead, Machine};
+use virtual_run::{Choice, Lead, Machine};
 
 /// Has a lead stand before the first start of a line.
 fn lead_up<'a>(work: &Work<'a>, lead: &mut Lead<'a>, line: LineId)
@@ -184,7 +183,7 @@ impl<'a> ClaimWork for Work<'a> {
 
     /// A lead and a machine of the program. Which line is selected at first doesn't matter.
     fn runner(&self, alloc: Global) -> Result<Runner<'a>, AllocError> {
-        let choice = choice(Some(LineId(0)), 0, self.budget);
+        let choice = Choice::usual(Some(LineId(0)), 0, self.budget);
         let lead = Lead::new(
             alloc,
             self.image,

@@ -2,13 +2,11 @@
 #![tactic(auto)]
 
 mod claimed;
-mod limits;
 mod outcomes;
 mod plain;
 mod pool;
 mod summary;
 mod work;
 
-pub use limits::choice;
 pub use pool::run_plan;
 pub use summary::summarise;

@@ -9,7 +9,6 @@ ghost use Rattle.run_engine.specs.Seen.{experiment_of};
 ghost use Rattle.profile_pool.specs.Summaries.{summary_of};
 ghost use Rattle.profile_pool.specs.Plain.{relabelled, starts_at, SaysOf, IsPlain};
 
-use crate::limits::choice;
 use crate::outcomes::counted_outcome;
 use counted_run::Counted;
 use coz_lists::Items;
@@ -18,6 +17,7 @@ use line_index::LineIndex;
 use net_visits::{counts_of_visits, digest_of_bytes, digest_of_visits};
 use progress_points::Points;
 use std::alloc::{AllocError, Global};
+use virtual_run::Choice;
 
 /// The run of a program with no line selected.
 #[derive(Drop)]
@@ -117,7 +117,7 @@ pub fn plain_run(
     requires few { budget ≤ MAX_BUDGET }
     ensures { IfOk result (IsPlain image.now index.now points.now input.now budget) }
 {
-    let choice = choice(None, 0, budget);
+    let choice = Choice::usual(None, 0, budget);
     let mut counted = Counted::new(alloc, image, index, points, input, choice)?;
     counted.run();
     let plain = plain_in(alloc, &counted, index, points);

@@ -6,7 +6,6 @@ ghost use Rattle.experiment_plan.specs.declared.experiment.Experiment.{Experimen
 ghost use Rattle.profile_pool.specs.Plain.{IsPlain};
 ghost use Rattle.profile_pool.specs.Summaries.{summaries_of};
 
-use crate::limits::choice;
 use crate::plain::{Plain, plain_run};
 use crate::work::Work;
 use claim_workers::run_claims;
@@ -17,7 +16,7 @@ use line_index::LineIndex;
 use progress_points::Points;
 use std::alloc::{AllocError, Global};
 use std::thread::Threads;
-use virtual_run::Lead;
+use virtual_run::{Choice, Lead};
 
 /// The summary of the run of each pair of a plan, by workers, after the run with no line selected.
 fn run_from<R: Threads + Sync, G: Gate>(
@@ -44,7 +43,7 @@ fn run_from<R: Threads + Sync, G: Gate>(
     ensures ranges { IfOk result (λ summaries.
         All (IsSummary (length points.now.lines)) summaries.items) }
 {
-    let choice = choice(Some(LineId(0)), 0, budget);
+    let choice = Choice::usual(Some(LineId(0)), 0, budget);
     let lead = Lead::new(alloc, image, index, points, input, choice)?;
     let work = Work {
         image,

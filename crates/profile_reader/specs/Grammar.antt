@@ -151,7 +151,7 @@ expected_field (item ∷ before) = Newline
 abbrev pub is_field : BookField → Text → Bool
 is_field kind item = bytes_eq item (field (field_name kind) (value_in kind item))
 
--- the field with the spelling of a number of at most so much
+-- the field with the spelling of a number up to a bound
 abbrev pub has_number : BookField → ℕ → Text → Bool
 has_number kind top item = is_field kind item && is_decimal top (value_in kind item)
 

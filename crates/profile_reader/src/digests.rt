@@ -34,7 +34,7 @@ fn is_digest(text: &[u8]) -> bool
     text.len() == 64 && are_lower_hex(text)
 }
 
-/// The bytes of which the text has the digits. None where it has the digits of none.
+/// The bytes of which the text has the digits. None if it has the digits of none.
 pub fn digest_of(text: &[u8]) -> Option<[u8; 32]>
     ensures { Tells (λ bytes. bytes) (is_digest text.now) (bytes_in text.now) result }
 {

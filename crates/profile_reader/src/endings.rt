@@ -4,7 +4,7 @@ ghost use Rattle.profile_reader.specs.EndingSpellings.{is_one_of, causes, ending
 ghost use Rattle.profile_reader.specs.Parts.{parts, parts_behind};
 ghost use Rattle.profile_reader.specs.Reading.{Tells, cause_in, ending_in_parts, ending_in};
 
-use crate::numbers::address;
+use crate::numbers::parse_address;
 use coz_types::{Ending, HARTS, HartId, Trap, TrapCause};
 use profile_lists::decimal;
 
@@ -86,12 +86,12 @@ fn trapped(word: &[u8], name: &[u8], hart: &[u8], pc: &[u8]) -> Option<Ending>
     }
     let cause = cause(name)?;
     let hart = decimal(hart, MAX_HART)?;
-    let pc = address(pc)?;
+    let pc = parse_address(pc)?;
     let hart = HartId(hart as u16);
     Some(Ending::Trapped(Trap { cause, hart, pc }))
 }
 
-/// The ending of which the text is the spelling. None where it spells none.
+/// The ending of which the text is the spelling. None if it spells none.
 #[tactic(auto, using(crate::proofs::Colons::five))]
 pub fn ending_of(text: &[u8]) -> Option<Ending>
     ensures { Tells (λ e. e) (is_ending_text text.now) (ending_in text.now) result }

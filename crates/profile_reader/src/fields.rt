@@ -11,18 +11,22 @@ use crate::cursor::Cursor;
 use crate::digests::digest_of;
 use crate::endings::ending_of;
 use crate::fault::{BookError, BookField};
-use crate::moves::{fault, item};
-use crate::orders::{comes_after, goes_on, not_before};
-use crate::values::{number_of, value};
+use crate::field_values::{number_of, value};
+use crate::order::{comes_after, goes_on, not_before};
+use crate::scan::{fault, next_item};
 use coz_types::{Digest, Ending, Label, MAX_SPEEDUP, Summary};
 use profile_lists::is_label;
 
-/// The item that is these bytes. Err where another item stands there, or none.
+/// The item that is these bytes. Err if another item stands there, or none.
 #[tactic(auto, unfolding(crate::specs::Reading::word_at))]
-pub fn word<'a>(at: Cursor<'a>, kind: BookField, text: &[u8]) -> Result<Cursor<'a>, BookError>
+pub fn expect_word<'a>(
+    at: Cursor<'a>,
+    kind: BookField,
+    text: &[u8],
+) -> Result<Cursor<'a>, BookError>
     ensures { Gives (λ c. (tt, ahead c)) result (word_at kind text.now (ahead at.entry)) }
 {
-    let (word, next) = item(at);
+    let (word, next) = next_item(at);
     if word == text {
         Ok(next)
     } else {
@@ -30,29 +34,32 @@ pub fn word<'a>(at: Cursor<'a>, kind: BookField, text: &[u8]) -> Result<Cursor<'
     }
 }
 
-/// The field with a number of at most so much. Err where another item stands there, or none.
+/// The field with a number of at most this bound. Err if another item stands there, or none.
 #[tactic(auto, unfolding(crate::specs::Reading::number_at))]
-pub fn number<'a>(
+pub fn parse_number<'a>(
     at: Cursor<'a>,
     kind: BookField,
     most: u64,
 ) -> Result<(u64, Cursor<'a>), BookError>
     ensures { Gives (λ x. (x.0, ahead x.1)) result (number_at kind most (ahead at.entry)) }
 {
-    let (word, next) = item(at);
+    let (word, next) = next_item(at);
     match number_of(word, kind, most) {
         Some(number) => Ok((number, next)),
         None => Err(fault(at, kind)),
     }
 }
 
-/// The name of a point, after the last one. Err where another item stands there, or none.
+/// The name of a point, after the last one. Err if another item stands there, or none.
 #[tactic(auto, unfolding(crate::specs::Reading::label_at))]
-pub fn name<'a>(at: Cursor<'a>, last: Option<&Label>) -> Result<(&'a [u8], Cursor<'a>), BookError>
+pub fn parse_name<'a>(
+    at: Cursor<'a>,
+    last: Option<&Label>,
+) -> Result<(&'a [u8], Cursor<'a>), BookError>
     ensures { Gives (λ x. (x.0.now, ahead x.1)) result
         (label_at Name (comes_after (option_copied last.entry)) (ahead at.entry)) }
 {
-    let (word, next) = item(at);
+    let (word, next) = next_item(at);
     let Some(label) = value(word, BookField::Name) else {
         return Err(fault(at, BookField::Name));
     };
@@ -63,16 +70,16 @@ pub fn name<'a>(at: Cursor<'a>, last: Option<&Label>) -> Result<(&'a [u8], Curso
     }
 }
 
-/// The label of a block, after the last one. Err where another item stands there, or none.
+/// The label of a block, after the last one. Err if another item stands there, or none.
 #[tactic(auto, unfolding(crate::specs::Reading::label_at))]
-pub fn selected<'a>(
+pub fn parse_label<'a>(
     at: Cursor<'a>,
     last: Option<&Summary>,
 ) -> Result<(&'a [u8], Cursor<'a>), BookError>
     ensures { Gives (λ x. (x.0.now, ahead x.1)) result
         (label_at Selected (not_before (selected_of (option_copied last.entry))) (ahead at.entry)) }
 {
-    let (word, next) = item(at);
+    let (word, next) = next_item(at);
     let Some(label) = value(word, BookField::Selected) else {
         return Err(fault(at, BookField::Selected));
     };
@@ -84,9 +91,9 @@ pub fn selected<'a>(
 }
 
 /// The speedup of a block with this label, after the last block.
-/// Err where another item stands there, or none.
+/// Err if another item stands there, or none.
 #[tactic(auto, unfolding(crate::specs::Reading::speedup_at))]
-pub fn speedup<'a>(
+pub fn parse_speedup<'a>(
     at: Cursor<'a>,
     last: Option<&Summary>,
     label: &[u8],
@@ -96,19 +103,19 @@ pub fn speedup<'a>(
         (speedup_of (option_copied last.entry)) label.now
         (ahead at.entry)) }
 {
-    let (word, next) = item(at);
+    let (word, next) = next_item(at);
     match number_of(word, BookField::Speedup, MAX_SPEEDUP) {
         Some(speedup) if goes_on(last, label, speedup) => Ok((speedup as u8, next)),
         _ => Err(fault(at, BookField::Speedup)),
     }
 }
 
-/// The ending of a run. Err where another item stands there, or none.
+/// The ending of a run. Err if another item stands there, or none.
 #[tactic(auto, unfolding(crate::specs::Reading::ending_at))]
-pub fn ending<'a>(at: Cursor<'a>) -> Result<(Ending, Cursor<'a>), BookError>
+pub fn parse_ending<'a>(at: Cursor<'a>) -> Result<(Ending, Cursor<'a>), BookError>
     ensures { Gives (λ x. (x.0, ahead x.1)) result (ending_at (ahead at.entry)) }
 {
-    let (word, next) = item(at);
+    let (word, next) = next_item(at);
     let Some(text) = value(word, BookField::End) else {
         return Err(fault(at, BookField::End));
     };
@@ -118,12 +125,12 @@ pub fn ending<'a>(at: Cursor<'a>) -> Result<(Ending, Cursor<'a>), BookError>
     }
 }
 
-/// A digest. Err where another item stands there, or none.
+/// A digest. Err if another item stands there, or none.
 #[tactic(auto, unfolding(crate::specs::Reading::digest_at))]
-pub fn digest<'a>(at: Cursor<'a>) -> Result<(Digest, Cursor<'a>), BookError>
+pub fn parse_digest<'a>(at: Cursor<'a>) -> Result<(Digest, Cursor<'a>), BookError>
     ensures { Gives (λ x. (x.0.bytes, ahead x.1)) result (digest_at (ahead at.entry)) }
 {
-    let (word, next) = item(at);
+    let (word, next) = next_item(at);
     let Some(text) = value(word, BookField::Digest) else {
         return Err(fault(at, BookField::Digest));
     };
@@ -133,13 +140,13 @@ pub fn digest<'a>(at: Cursor<'a>) -> Result<(Digest, Cursor<'a>), BookError>
     }
 }
 
-/// The field with this index. Err where another item stands there, or none.
+/// The field with this index. Err if another item stands there, or none.
 #[tactic(auto, unfolding(crate::specs::Reading::word_at))]
-pub fn index<'a>(at: Cursor<'a>, index: u64) -> Result<Cursor<'a>, BookError>
+pub fn expect_index<'a>(at: Cursor<'a>, index: u64) -> Result<Cursor<'a>, BookError>
     ensures { Gives (λ c. (tt, ahead c)) result
         (word_at Index (number_field (codes "index") index) (ahead at.entry)) }
 {
-    let (word, next) = item(at);
+    let (word, next) = next_item(at);
     if is_index(word, index) {
         Ok(next)
     } else {

@@ -1,19 +1,19 @@
 //! The grammar of a profile's text, its first fault, and its reader.
 #![tactic(auto)]
 
+mod block_lines;
+mod blocks;
 mod cursor;
 mod digests;
 mod endings;
 mod fault;
+mod field_values;
 mod fields;
 mod item;
-mod lines;
-mod loops;
-mod moves;
 mod numbers;
-mod orders;
+mod order;
 mod reader;
-mod values;
+mod scan;
 
 pub use fault::{BookError, BookFault, BookField};
 pub use reader::{

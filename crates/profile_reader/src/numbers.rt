@@ -14,8 +14,8 @@ fn behind_mark(text: &[u8]) -> Option<&[u8]>
     text.strip_prefix(b"0x")
 }
 
-/// The address of which the text is the spelling. None where it spells none.
-pub fn address(text: &[u8]) -> Option<Address>
+/// The address of which the text is the spelling. None if it spells none.
+pub fn parse_address(text: &[u8]) -> Option<Address>
     ensures { Tells (λ a. a) (is_address text.now) (digits_value 16 (drop 2 text.now)) result }
 {
     let digits = behind_mark(text)?;

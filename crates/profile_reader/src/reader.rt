@@ -10,21 +10,21 @@ ghost use Rattle.profile_reader.specs.Told.{told};
 ghost use Rattle.profile_reader.specs.Judging.{IsJudged, IsRead};
 ghost use Rattle.profile_book.specs.declared.profile.Profile.{Profile};
 
+use crate::block_lines::parse_head;
+use crate::blocks::{parse_blocks, parse_points};
 use crate::fault::BookError;
-use crate::lines::head;
-use crate::loops::{blocks, names};
-use crate::moves::start;
+use crate::scan::start;
 use coz_lists::Items;
 use profile_book::Profile;
 use std::alloc::Global;
 
 #[tactic(auto, unfolding(crate::specs::Reading::profile_at, crate::specs::Reading::bind))]
-fn all(alloc: Global, bytes: &[u8]) -> Result<Profile, BookError>
+fn parse_profile(alloc: Global, bytes: &[u8]) -> Result<Profile, BookError>
     ensures { Gives (λ p. p) result (profile_at (length bytes.now) (items_of bytes.now)) }
 {
-    let ((budget, points), at) = head(start(bytes))?;
-    let (names, at) = names(alloc, points, at)?;
-    let summaries = blocks(alloc, bytes.len(), points, at)?;
+    let ((budget, points), at) = parse_head(start(bytes))?;
+    let (names, at) = parse_points(alloc, points, at)?;
+    let summaries = parse_blocks(alloc, bytes.len(), points, at)?;
     let points = Items::new(names);
     let summaries = Items::new(summaries);
     Ok(Profile {
@@ -44,7 +44,7 @@ pub fn read_profile(alloc: Global, bytes: &[u8]) -> Result<Profile, BookError>
     // A profile's text is read as this profile, unless memory runs out.
     ensures only { (p : Profile) → IsTextOf p bytes.now → IsRead result p }
 {
-    all(alloc, bytes)
+    parse_profile(alloc, bytes)
 }
 
 /// There is no fault exactly where the bytes are the text of a profile.

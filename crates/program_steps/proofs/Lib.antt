@@ -3,5 +3,4 @@ pub mod Sections
 pub mod Tables
 pub mod Loads
 pub mod Files
-pub mod Requested
 mod Examples

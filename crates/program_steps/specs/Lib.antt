@@ -1,4 +1,3 @@
-pub mod Words
 pub mod FaultLines
 pub mod LineTable
 pub mod Selection

@@ -1,4 +1,4 @@
--- What the steps that commands share come to, and what follows each.
+-- What the steps that commands share give, and what follows each.
 use Rattle.std.specs.Prelude.{ℕ, List, ◌++◌, length, nat_lt, codes, Option, None, Some, Result, Ok, Err, if◌then◌else◌}
 use Rattle.coz_types.specs.declared.TheConstants.{MAX_POINTS}
 use Rattle.coz_types.specs.Image.{ImageParts}

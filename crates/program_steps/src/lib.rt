@@ -1,5 +1,5 @@
-//! The steps that commands share: what the words ask for, a file that is read, a program with its
-//! lines, and the lines that words name; and why nothing is printed.
+//! The steps that commands share: a file that is read, a program with its lines, and the lines
+//! that arguments name; and why nothing is printed.
 #![tactic(auto)]
 
 mod fault;
@@ -8,7 +8,6 @@ mod kinds;
 mod line_table;
 mod program;
 mod selection;
-mod words;
 
 pub use fault::Fault;
 pub use fault_lines::tell;
@@ -16,4 +15,3 @@ pub use program::{Program, read_file, read_program};
 pub use selection::{
     bytes_of, line_named, listed_lines, points_of, progress_points, selected_lines,
 };
-pub use words::request;

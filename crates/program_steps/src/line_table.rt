@@ -11,7 +11,7 @@ use dwarf_lines::{LineError, LineTable, read_lines};
 use elf_load::section;
 use std::alloc::Global;
 
-/// The bytes of a program's section of this name, none where it has no such section.
+/// The bytes of a program's section of this name, none if it has no such section.
 #[tactic(auto, using(crate::proofs::Sections::section_fits))]
 fn bytes_in<'a>(image: &Image<'a>, name: &[u8]) -> &'a [u8]
     requires { fault image.now.file ≡ None }

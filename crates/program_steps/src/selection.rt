@@ -14,7 +14,7 @@ ghost use Rattle.program_steps.specs.Answer.{verdict_after, IsMemory, IsRead};
 use crate::fault::Fault;
 use coz_types::LineId;
 use coz_words::Word;
-use experiment_plan::{SelectError, line_parts, select};
+use experiment_plan::{SelectError, line_found, select};
 use line_index::LineIndex;
 use progress_points::Points;
 use std::alloc::{AllocError, Global};
@@ -44,8 +44,7 @@ pub fn line_named<'r>(
     let Some(text) = line else {
         return Ok(None);
     };
-    let (path, number) = line_parts(text);
-    match index.find(path, number) {
+    match line_found(index, text) {
         Some(line) => Ok(Some(line)),
         None => Err(Fault::NoLine(text)),
     }
@@ -108,7 +107,7 @@ pub fn selected_lines<'r>(
     }
 }
 
-/// The lines that a list names, as they rise and each once, or none where there is no list.
+/// The lines that a list names, as they rise and each once, or none if there is no list.
 /// Err tells the first piece that names no line of the program, or that memory ran out.
 pub fn listed_lines<'r>(
     alloc: Global,
@@ -144,7 +143,7 @@ pub fn points_of<'r>(
     Ok(Points::new(alloc, index, lines)?)
 }
 
-/// The progress points of a list, or none where there is none.
+/// The progress points of a list, or none if there is none.
 pub fn progress_points<'r>(
     alloc: Global,
     index: &LineIndex,

@@ -76,7 +76,7 @@ fn place_of(marks: &[Mark], address: Address) -> usize
 }
 
 /// The first mark of an address among marks in the order of their addresses.
-/// None where it has none.
+/// None if it has none.
 pub fn first_mark(marks: &[Mark], address: Address) -> Option<Mark>
     requires { IsNonDecreasingBy (λ (mark : Mark). mark.address) marks.now }
     ensures { result ≡ find (is_at address) marks.now }

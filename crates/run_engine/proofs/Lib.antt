@@ -6,3 +6,4 @@ pub mod Law
 mod Rows
 pub mod Advance
 pub mod Choices
+mod Numbers

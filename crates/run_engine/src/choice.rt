@@ -1,9 +1,12 @@
 //! What is chosen for a run, and what it reads.
 
-ghost use Rattle.std.specs.Prelude.{◌≡◌};
-ghost use Rattle.run_engine.specs.Run.{is_selecting};
+ghost use Rattle.std.specs.Prelude.{◌≡◌, ◌≤◌, option_map};
+ghost use Rattle.coz_types.specs.declared.LineId.{LineId};
+ghost use Rattle.coz_types.specs.declared.TheConstants.{MAX_BUDGET, MAX_SPEEDUP};
+ghost use Rattle.run_engine.specs.Choices.{choice_of};
+ghost use Rattle.run_engine.specs.Run.{IsChoice, is_selecting};
 
-use coz_types::{Address, LineId};
+use coz_types::{Address, LineId, MAX_VISITS};
 use guest_memory::Layout;
 use line_index::LineIndex;
 use progress_points::Points;
@@ -15,14 +18,40 @@ pub struct Choice {
     pub selected: Option<LineId>,
     /// By how many per cent they are to cost less, at most `MAX_SPEEDUP`.
     pub speedup: u8,
-    /// So many instructions are retired at most, from 1 to 10^12.
+    /// The most instructions to retire, from 1 to 10^12.
     pub budget: u64,
-    /// So many bytes are written at most, from 1 to 67,108,864.
+    /// The most bytes of output, from 1 to 67,108,864.
     pub output_limit: u64,
-    /// So many visits are kept at most, from 1 to 1,048,576.
+    /// The most visits to keep, from 1 to 1,048,576.
     pub visit_limit: u64,
     /// The sizes of the stack and of the regions of brk and mmap.
     pub layout: Layout,
+}
+
+/// The most bytes that a run of a command writes.
+pub const MAX_RUN_OUTPUT: u64 = 0x40_0000;
+
+impl Choice {
+    /// What is chosen for a run of a command: a line or none, its speedup in percent and a budget
+    /// in instructions, with the usual limits: 4 MiB of output, `MAX_VISITS` visits, and the
+    /// sizes of `Layout::usual`.
+    pub fn usual(selected: Option<LineId>, speedup: u8, budget: u64) -> Choice
+        requires speedup { speedup ≤ MAX_SPEEDUP }
+        requires some_budget { 1 ≤ budget }
+        requires few { budget ≤ MAX_BUDGET }
+        ensures choice { result
+            ≡ choice_of (option_map (λ (line : LineId). line.0) selected) speedup budget }
+        ensures within { IsChoice result }
+    {
+        Choice {
+            selected,
+            speedup,
+            budget,
+            output_limit: MAX_RUN_OUTPUT,
+            visit_limit: MAX_VISITS,
+            layout: Layout::usual(),
+        }
+    }
 }
 
 /// What a run reads beside its image and its input, and what is chosen for it.

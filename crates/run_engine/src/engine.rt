@@ -408,7 +408,7 @@ impl<'a> Engine<'a> {
         self.guest.pc(turn.hart)
     }
 
-    /// When a hart retires or wakes, in net ticks; None where it neither runs nor sleeps.
+    /// When a hart retires or wakes, in net ticks; None if it neither runs nor sleeps.
     #[inline]
     pub fn due(&self, hart: HartId) -> Option<Tick>
         ensures { result ≡ key_of self.now.schedule hart.0 }

@@ -9,6 +9,6 @@ mod engine;
 mod start;
 mod visits;
 
-pub use choice::{Choice, Setting};
+pub use choice::{Choice, MAX_RUN_OUTPUT, Setting};
 pub use engine::{Engine, Event, FIRST, Retired, Turn, has_any, is_wake};
 pub use visits::Visits;

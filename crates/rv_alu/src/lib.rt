@@ -244,7 +244,7 @@ fn word_atomic(op: AtomicOp, old: u32, word: u32) -> u32
 }
 
 /// What an atomic operation, neither `lr` nor `sc`, stores: of the old value in memory
-/// and that of a register, of 64 bits where it is `wide`, else of their low 32.
+/// and that of a register, of 64 bits if it is `wide`, else of their low 32.
 #[inline]
 pub fn atomic(op: AtomicOp, wide: bool, old: u64, right: u64) -> u64
     requires { IsTrue (is_amo op) }

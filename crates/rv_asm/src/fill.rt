@@ -159,7 +159,7 @@ fn write_address_load(out: &mut Vec<u8>, rd: u8, far: i128) -> Result<(), LineEr
     write_instruction(out, far_lower(rd, far))
 }
 
-/// So many zeros.
+/// Appends `count` zeros.
 fn write_zeros(out: &mut Vec<u8>, count: u32) -> Result<(), LineError>
     ensures { Steps result out.new.items (Ok (out.old.items ++ replicate count 0)) }
 {

@@ -344,7 +344,7 @@ fn jump_form<'s>(alloc: Global, mut operands: Operands<'_, 's>) -> Result<Statem
     puts(alloc, operands, piece)
 }
 
-/// The number, where 12 bits with a sign hold it.
+/// The number, if 12 bits with a sign hold it.
 fn short(value: i128) -> Option<i32>
     ensures { result ≡ if is_signed 12 value then Some value else None }
 {
@@ -380,7 +380,7 @@ fn load_upper(rd: u8, value: u32) -> u32
     encode(instr)
 }
 
-/// The instructions that put a number into a register: one where it has 12 bits
+/// The instructions that put a number into a register: one if it has 12 bits
 /// with its sign, else two.
 fn load_number<'s>(alloc: Global, rd: u8, value: i128) -> Result<Vec<Piece<'s>>, AllocError>
     requires register { rd < 32 }

@@ -34,7 +34,7 @@ pub enum Piece<'s> {
     Address(NameUse<'s>),
     /// These bytes.
     Bytes(Vec<u8>),
-    /// So many zeros.
+    /// This number of zeros.
     Zeros(u32),
 }
 

@@ -237,10 +237,10 @@ fn system(word: u32) -> Option<Instr>
     }
 }
 
-/// The instruction whose word this is, or `None` where no instruction of RV64IMA
+/// The instruction whose word this is, or `None` if no instruction of RV64IMA
 /// has it, in constant time.
 pub fn decode(word: u32) -> Option<Instr>
-    // The instruction has the word; where none is answered, no instruction has it.
+    // The instruction has the word; if none is answered, no instruction has it.
     ensures decoded { IsDecoded word result }
 
     // No other instruction has the word, and the word of an instruction decodes to it.

@@ -5,7 +5,7 @@ ghost use Rattle.rv_decode.specs.Table.{code, operation_with, branch_code, branc
 
 use crate::{AtomicOp, BranchOp, ImmOp, LoadOp, RegOp, ShiftOp, StoreOp};
 
-/// A branch by its funct3; None where the table has none.
+/// A branch by its funct3; None if the table has none.
 pub(crate) fn branch_operation(funct3: u32) -> Option<BranchOp>
     ensures { result ≡ operation_with branch_code branch_ops (code 0x63 funct3 0x00) }
 {
@@ -20,7 +20,7 @@ pub(crate) fn branch_operation(funct3: u32) -> Option<BranchOp>
     }
 }
 
-/// A load by its funct3; None where the table has none.
+/// A load by its funct3; None if the table has none.
 pub(crate) fn load_operation(funct3: u32) -> Option<LoadOp>
     ensures { result ≡ operation_with load_code load_ops (code 0x03 funct3 0x00) }
 {
@@ -36,7 +36,7 @@ pub(crate) fn load_operation(funct3: u32) -> Option<LoadOp>
     }
 }
 
-/// A store by its funct3; None where the table has none.
+/// A store by its funct3; None if the table has none.
 pub(crate) fn store_operation(funct3: u32) -> Option<StoreOp>
     ensures { result ≡ operation_with store_code store_ops (code 0x23 funct3 0x00) }
 {
@@ -49,7 +49,7 @@ pub(crate) fn store_operation(funct3: u32) -> Option<StoreOp>
     }
 }
 
-/// An operation on an immediate by its funct3; None where the table has none.
+/// An operation on an immediate by its funct3; None if the table has none.
 pub(crate) fn immediate_operation(funct3: u32) -> Option<ImmOp>
     ensures { result ≡ operation_with imm_code imm_ops (code 0x13 funct3 0x00) }
 {
@@ -66,7 +66,7 @@ pub(crate) fn immediate_operation(funct3: u32) -> Option<ImmOp>
 
 /// A shift of 64 bits: the lowest bit of funct7 belongs to the amount,
 /// and funct6 are the bits above it.
-/// None where the table has none.
+/// None if the table has none.
 pub(crate) fn shift_operation(funct3: u32, funct6: u32) -> Option<ShiftOp>
     requires { funct6 < 2 ^ 6 }
     ensures { result ≡ operation_with shift_code shift_ops (code 0x13 funct3 (funct6 * 2)) }
@@ -79,7 +79,7 @@ pub(crate) fn shift_operation(funct3: u32, funct6: u32) -> Option<ShiftOp>
     }
 }
 
-/// A shift of 32 bits; None where the table has none.
+/// A shift of 32 bits; None if the table has none.
 pub(crate) fn word_shift_operation(funct3: u32, funct7: u32) -> Option<ShiftOp>
     ensures { result ≡ operation_with shift_code shift_ops (code 0x1B funct3 funct7) }
 {
@@ -91,7 +91,7 @@ pub(crate) fn word_shift_operation(funct3: u32, funct7: u32) -> Option<ShiftOp>
     }
 }
 
-/// An operation of 64 bits on two registers; None where the table has none.
+/// An operation of 64 bits on two registers; None if the table has none.
 pub(crate) fn register_operation(funct3: u32, funct7: u32) -> Option<RegOp>
     ensures { result ≡ operation_with register_code register_ops (code 0x33 funct3 funct7) }
 {
@@ -127,7 +127,7 @@ pub(crate) fn register_operation(funct3: u32, funct7: u32) -> Option<RegOp>
     }
 }
 
-/// An operation of 32 bits on two registers; None where the table has none.
+/// An operation of 32 bits on two registers; None if the table has none.
 pub(crate) fn word_register_operation(funct3: u32, funct7: u32) -> Option<RegOp>
     ensures { result ≡ operation_with register_code register_ops (code 0x3B funct3 funct7) }
 {
@@ -156,7 +156,7 @@ pub(crate) fn word_register_operation(funct3: u32, funct7: u32) -> Option<RegOp>
 }
 
 /// An operation on memory: funct5 are the bits of funct7 above the two flags.
-/// None where the table has none.
+/// None if the table has none.
 pub(crate) fn atomic_operation(funct5: u32) -> Option<AtomicOp>
     requires { funct5 < 2 ^ 5 }
     ensures { result ≡ operation_with atomic_code atomic_ops (code 0x2F 2 (funct5 * 4)) }

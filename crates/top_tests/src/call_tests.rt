@@ -214,7 +214,7 @@ nap: .dword 1
 half: .dword 999999999
 ";
 
-/// Four harts are made, wait, wake each other and leave. The letters of rows that wait stand behind
+/// Four harts are made, wait, wake each other and leave. The letters of rows that wait stand after
 /// what wakes them; of those that are due at once, the hart of the least number is first.
 const THREADS: &str = "
 # A to H: a child's id is stored where it may be, and it has a stack and a thread pointer
@@ -234,7 +234,7 @@ const THREADS: &str = "
 .dword 3, call, 98, 0x3FFFFF0000, 128, 0x500000002, 0, 0, 0
 .dword 0, call, 98, 0x3FFFFF0000, 0, 2, 0, 0, 0
 .dword 2, call, 98, 0x3FFFFF0004, 0, 2, 0, 0, 0
-# O to T: a wake starts one hart at least, the eldest first, of those that wait at the address:
+# O to T: a wake starts one hart at least, the oldest first, of those that wait at the address:
 # Q starts L, R waits, S starts M and R
 .dword 1, call, 98, 0x3FFFFF0002, 1, 1, 0, 0, -22
 .dword 1, call, 98, 0x3FFFFF0008, 1, 9, 0, 0, 0
@@ -242,7 +242,7 @@ const THREADS: &str = "
 .dword 3, call, 98, 0x3FFFFF0000, 0, 2, 0, 0, 0
 .dword 1, call, 98, 0x3FFFFF0000, 1, 9, 0, 0, 2
 .dword 1, call, 98, 0x3FFFFF0000, 1, 0xFFFFFFFF, 0, 0, 0
-# U to Y: V waits behind N; W leaves, which clears the word at 0x3FFFFF0004 and starts N alone;
+# U to Y: V waits after N; W leaves, which clears the word at 0x3FFFFF0004 and starts N alone;
 # Y starts V
 .dword 3, call, 96, 0x3FFFFF0008, 0, 0, 0, 0, 4
 .dword 3, call, 98, 0x3FFFFF0004, 0, 2, 0, 0, 0

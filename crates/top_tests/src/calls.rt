@@ -34,7 +34,7 @@ pub(crate) fn call<R: Threads + Sync + AllocGlobal>(
     call_over(rt, words, outside, &FreeGate)
 }
 
-/// What a call meets outside: files, and a sink with so much room.
+/// What a call meets outside: files, and a sink with this much room.
 #[derive(Drop)]
 pub(crate) struct Outside {
     pub(crate) files: MemoryFiles,

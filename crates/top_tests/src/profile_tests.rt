@@ -44,7 +44,7 @@ fn damaged(
     Ok(bytes)
 }
 
-/// A profile of `one.s`, over an output with so much room.
+/// A profile of `one.s`, over an output with this much room.
 fn profiled_over<R: Threads + Sync + AllocGlobal>(
     rt: &R,
     options: &[&str],

@@ -1,4 +1,4 @@
-//! What programs come to that are assembled, run and profiled.
+//! Programs that are assembled, run and profiled, and what is printed.
 use crate::calls::{ONE_SOURCE, Outside, assembled, call, call_over, copies, held, one_file};
 use coz_files::{FreeGate, HeldFile};
 use std::alloc::{AllocError, Global};
@@ -164,7 +164,7 @@ const PLANNED: &[u8] =
 const SPENT_RUNS: &[u8] =
     b"coz-ticks\tversion=1\tbudget=2\tpoints=0\nexperiment\tselected=d/one.s:1\tspeedup=0\tend=spent\ttime=200\tdelay=0\tretired=2\tstarts=1\noutput\tlength=0\tsha256=e3b0c44298fc1c149afbf4c8996fb92427ae41e4649b934ca495991b7852b855\nvisits\tsha256=e3b0c44298fc1c149afbf4c8996fb92427ae41e4649b934ca495991b7852b855\nexperiment\tselected=d/one.s:1\tspeedup=50\tend=spent\ttime=200\tdelay=50\tretired=2\tstarts=1\noutput\tlength=0\tsha256=e3b0c44298fc1c149afbf4c8996fb92427ae41e4649b934ca495991b7852b855\nvisits\tsha256=e3b0c44298fc1c149afbf4c8996fb92427ae41e4649b934ca495991b7852b855\n";
 
-/// Words about these programs, and what they come to: the status, the output
+/// Words about these programs, and what they give: the status, the output
 /// and the line of the fault.
 static NAMED: [(&[&str], u8, &[u8], &[u8]); 24] = [
     (&["lines", "d/one"], 0, ONE_LINES, b""),

@@ -27,7 +27,7 @@ const PC_WHOLE: [u8; 32] = [
 
 const THREE_LINES: &str = "--lines=pc.s:12,pc.s:24,pc.s:62";
 
-/// What a profile of `pc` with these options prints, over a sink with so much room: the status,
+/// What a profile of `pc` with these options prints, over a sink with this much room: the status,
 /// the length of the output and its SHA-256, and the line of the fault.
 static PC_PROFILES: [(&[&str], u64, u8, usize, [u8; 32], &[u8]); 5] = [
     (

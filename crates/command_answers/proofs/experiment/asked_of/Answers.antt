@@ -32,8 +32,8 @@ module _ (asked : Request) (print : Experiment Guest → Verdict) (lines : List 
   line_is : (line : Option Text) → line ≡ asked.line → of_line line ≡ asked_verdict asked print lines runs
   line_is line is = ap of_line is
 
-pub choice-choice-requires-clause-few : goal.choice-choice-requires-clause-few
-choice-choice-requires-clause-few c = few_budget c.args.request.now c.requires.fit
+pub usual-choice-requires-clause-few : goal.usual-choice-requires-clause-few
+usual-choice-requires-clause-few c = few_budget c.args.request.now c.requires.fit
 
 pub returns-clause-settled : goal.returns-clause-settled
 returns-clause-settled c = λ other image input print.
@@ -42,7 +42,7 @@ returns-clause-settled c = λ other image input print.
     let runs = runs_in image index input in
     let selected = option_map id_of c.in_ok-selected.selected in
     let points = c.in_ok-points.points in
-    ap print (experiment_is image index input points points.lines c.choice-choice.result (choice_of selected asked.speedup asked.budget) c.in_ok-points.ensures.points c.choice-choice.ensures.choice)
+    ap print (experiment_is image index input points points.lines c.usual-choice.result (choice_of selected asked.speedup asked.budget) c.in_ok-points.ensures.points c.usual-choice.ensures.choice)
     ∙ c.in_ok-points.ensures.settled (λ never. never) (of_points asked print index.lines runs selected)
     ∙ list_is asked print index.lines runs selected _ c.bytes_of-2.ensures
     ∙ c.in_ok-selected.ensures.settled (of_list asked print index.lines runs asked.progress)

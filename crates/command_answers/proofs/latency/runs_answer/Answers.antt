@@ -18,5 +18,5 @@ returns-clause-settled c = λ other.
     let marked = asked.marked in
     c.machine_answer-answer.ensures.settled other
     ∙ ap (λ (run : ℕ → NetRecord). latency_printed (numbers_of marked.arrive.items) (numbers_of marked.depart.items) run asked.speedups.items)
-    (runs_are c.args.image.now c.args.index.now c.args.input.now marked.points asked.selected.0 c.args.budget c.choice-choice.result c.in_ok-lead.lead c.requires.points c.choice-choice.ensures.choice
+    (runs_are c.args.program.now.image c.args.program.now.index c.args.input.now marked.points asked.selected.0 c.args.budget c.usual-choice.result c.in_ok-lead.lead c.requires.points c.usual-choice.ensures.choice
     (ap (λ (s : Seen (Before Guest)). experiment_of s) c.in_ok-lead.ensures))

@@ -8,17 +8,17 @@ use Rattle.command_answers.proofs.path.found_path.Goals as goal
 
 pub walk-requires-clause-choice : goal.walk-requires-clause-choice
 walk-requires-clause-choice c =
-    let is : c.choice-limits.result ≡ choice_of None 0 c.args.budget = c.choice-limits.ensures.choice in
-    subst (λ (o : Choice). IsChoice (plain_choice o.budget o.output_limit o.layout)) (sym is) (subst IsChoice is c.choice-limits.ensures.within)
+    let is : c.usual-limits.result ≡ choice_of None 0 c.args.budget = c.usual-limits.ensures.choice in
+    subst (λ (o : Choice). IsChoice (plain_choice o.budget o.output_limit o.layout)) (sym is) (subst IsChoice is c.usual-limits.ensures.within)
 
 pub walk-requires-clause-few : goal.walk-requires-clause-few
 walk-requires-clause-few c =
-    let is : c.choice-limits.result ≡ choice_of None 0 c.args.budget = c.choice-limits.ensures.choice in
+    let is : c.usual-limits.result ≡ choice_of None 0 c.args.budget = c.usual-limits.ensures.choice in
     subst (λ (o : Choice). o.budget ≤ 4000000) (sym is) c.requires.few
 
 pub returns : goal.returns
 returns c =
     let trace = c.in_ok-trace.ensures in
     both_ok c.path_of.result _ _ _
-    (λ path ending text. path_is c.args.image.now c.args.index.now c.args.input.now c.args.budget c.choice-limits.result c.choice-limits.ensures.choice c.in_ok-trace.trace path trace.events trace.ending trace.many trace.whole ending text)
+    (λ path ending text. path_is c.args.program.now.image c.args.program.now.index c.args.input.now c.args.budget c.usual-limits.result c.usual-limits.ensures.choice c.in_ok-trace.trace path trace.events trace.ending trace.many trace.whole ending text)
     c.path_of.ensures.ending c.path_of.ensures.text

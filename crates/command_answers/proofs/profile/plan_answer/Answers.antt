@@ -6,8 +6,8 @@ use Rattle.command_answers.proofs.profile.plan_answer.Goals as goal
 
 pub returns-clause-settled : goal.returns-clause-settled
 returns-clause-settled g c = λ _.
-    let image = c.args.image.now in
-    let index = c.args.index.now in
+    let image = c.args.program.now.image in
+    let index = c.args.program.now.index in
     let points = c.args.points.now in
     let budget = c.args.request.now.budget in
     let pairs = c.args.plan.now in

@@ -10,8 +10,8 @@ use Rattle.command_answers.proofs.trial.file_answer.Goals as goal
 pub read_program-requires : goal.read_program-requires
 read_program-requires g c = let short = file_short (view c.args.source.now) c.args.file.now c.requires.file in omega (arith, short)
 
-pub index_answer-answer-requires-clause-point : goal.index_answer-answer-requires-clause-point
-index_answer-answer-requires-clause-point g c = λ lifetimes within.
+pub program_answer-answer-requires-clause-point : goal.program_answer-answer-requires-clause-point
+program_answer-answer-requires-clause-point g c = λ lifetimes within.
     let program = c.in_ok-program.program in
     let read = c.in_ok-program.ensures in
     point_there (view c.args.source.now) c.args.file.now c.requires.file program.index program.image (table_of program.table) read.loads read.reads read.indexed
@@ -25,6 +25,6 @@ pub returns : goal.returns
 returns g c =
     let program = c.in_ok-program.program in
     let read = c.in_ok-program.ensures in
-    subst (λ (v : Verdict). IsOfTrial v c.index_answer-answer.result)
+    subst (λ (v : Verdict). IsOfTrial v c.program_answer-answer.result)
     (file_judged (view c.args.source.now) c.args.file.now program.image (table_of program.table) program.index read.indexed (read.settled (λ never. never)))
-    c.index_answer-answer.ensures
+    c.program_answer-answer.ensures

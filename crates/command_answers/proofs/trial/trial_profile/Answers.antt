@@ -5,10 +5,10 @@ use Rattle.command_answers.proofs.trial.trial_profile.Goals as goal
 
 pub returns-clause-profile : goal.returns-clause-profile
 returns-clause-profile g c =
-    let index = c.args.index.now in
-    profile_is (runs_in c.args.image.now index []) index.lines c.args.point.0 c.in_ok-points.points c.in_ok-summaries.summaries c.in_ok-points.ensures c.in_ok-summaries.ensures.summaries
+    let index = c.args.program.now.index in
+    profile_is (runs_in c.args.program.now.image index []) index.lines c.args.point.0 c.in_ok-points.points c.in_ok-summaries.summaries c.in_ok-points.ensures c.in_ok-summaries.ensures.summaries
 
 pub returns-clause-whole : goal.returns-clause-whole
 returns-clause-whole g c =
-    let index = c.args.index.now in
-    ap length c.in_ok-summaries.ensures.summaries ∙ as_many (runs_in c.args.image.now index []) index.lines c.args.point.0
+    let index = c.args.program.now.index in
+    ap length c.in_ok-summaries.ensures.summaries ∙ as_many (runs_in c.args.program.now.image index []) index.lines c.args.point.0

@@ -26,7 +26,7 @@ pub returns-in-Trial-clause-untold : goal.returns-in-Trial-clause-untold
 returns-in-Trial-clause-untold g c = λ read. absurd (trial_no_read (trial_verdict c.args.request.now.seed c.args.request.now.size) c.judge_trial.result c.judge_trial.ensures read)
 
 pub returns-in-Really-clause-settled : goal.returns-in-Really-clause-settled
-returns-in-Really-clause-settled g c = rw c.in-Really.is c.judge_experiment-in-Really.ensures.settled
+returns-in-Really-clause-settled g c = rw c.in-Really.is c.judge_really.ensures.settled
 
 pub judge_path-requires-clause-some_budget : goal.judge_path-requires-clause-some_budget
 judge_path-requires-clause-some_budget g c = c.requires.some_budget (ap is_runner c.in-Path.is)

@@ -1,6 +1,11 @@
 use Rattle.coz_words.specs.Answers.{bytes_of}
+use Rattle.coz_words.specs.Slow.{request_of}
 use Rattle.coz_words.proofs.Clauses as clauses
 use Rattle.coz_words.proofs.request.read_words.Goals as goal
+
+pub returns-clause-asked : goal.returns-clause-asked
+unfolding request_of
+returns-clause-asked c = c.request_in.ensures
 
 pub returns-clause-given : goal.returns-clause-given
 returns-clause-given c = clauses.given (bytes_of c.args.words.now) c.request_in.result c.request_in.ensures

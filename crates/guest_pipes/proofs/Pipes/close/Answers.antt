@@ -2,14 +2,14 @@ use Rattle.std.proofs.Common.{◌∙◌, length-set, length-take, length-append,
 use Rattle.std.proofs.lemmas.List.Elements.{All-set}
 use Rattle.guest_pipes.specs.declared.ends.PipeEnd.TheVariants.{Reading, Writing}
 use Rattle.guest_pipes.specs.Pipes.{end_of, left_at}
-use Rattle.guest_pipes.specs.Kept.{IsPlace}
+use Rattle.guest_pipes.specs.Kept.{IsSlot}
 use Rattle.guest_pipes.proofs.WaitersLemmas.{apart-left}
 use Rattle.guest_pipes.proofs.Pipes.close.Goals as goal
 
 pub invariant_of-self : goal.invariant_of-self
 invariant_of-self c = record {
   numbers = length-set _ _ _ ∙ c.self.invariant.numbers;
-  places = All-set IsPlace c.self.inside.ends _ None tt c.self.invariant.places;
+  slots = All-set IsSlot c.self.inside.ends _ None tt c.self.invariant.slots;
   pipes =
       let kept = c.empty_unused.auto.held in
       let there = c.deref_mut.ensures.len in

@@ -2,7 +2,7 @@ use Rattle.std.proofs.Common.{◌≡◌, ◌≤◌, ◌+◌, count_by, is_none, 
 use Rattle.guest_pipes.specs.declared.ends.End.{End}
 use Rattle.guest_pipes.specs.Pipes.{PipeMap, can_make, end_of, with_end}
 use Rattle.guest_pipes.specs.declared.ends.PipeEnd.TheVariants.{Reading}
-use Rattle.guest_pipes.proofs.FreePlaces.{some_free, one_less, two_free}
+use Rattle.guest_pipes.proofs.FreeSlots.{some_free, one_less, two_free}
 use Rattle.guest_pipes.proofs.Pipes.make_pipe.Goals as goal
 
 pub open_end-reading-requires-clause-free : goal.open_end-reading-requires-clause-free

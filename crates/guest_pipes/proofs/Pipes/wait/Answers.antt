@@ -21,7 +21,7 @@ invariant_of-self c =
     let others : AreOthers c.args.hart.0 c.self.inside.waiters.items = subst (λ (p : PipeMap). AreOthers c.args.hart.0 p.waiters) (sym c.self.view_is) (others_from_all c.args.hart.0 c.args.self.now.waiters c.requires.apart) in
     record {
       numbers = c.self.invariant.numbers;
-      places = c.self.invariant.places;
+      slots = c.self.invariant.slots;
       pipes = c.self.invariant.pipes;
       apart = rw c.in-Ok.ensures.items (apart-append c.self.inside.waiters.items more c.self.invariant.apart c.requires.low others);
       room = let many = c.self.invariant.room in let grown = c.in-Ok.ensures.capacity in omega arith;

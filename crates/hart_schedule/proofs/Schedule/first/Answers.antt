@@ -13,6 +13,6 @@ returns-else-self-eq0 c =
     let some = all.some in
     let room = all.room in
     let root = get_or_default inside.entries.items 1 nobody c.index.result.now (omega (arith, some, room)) ∙ sym c.index.ensures in
-    let least = root_is_least inside.keys.items inside.entries.items inside.places.items inside.count all.heap (omega (arith, c.if-self-eq0.false)) in
+    let least = root_is_least inside.keys.items inside.entries.items inside.slots.items inside.count all.heap (omega (arith, c.if-self-eq0.false)) in
     let has = (all.heap.seated.has 1 (omega arith) (omega (arith, c.if-self-eq0.false))).0 in
     rw (← c.self.view_is) (subst (λ (e : Contender). IsLeast inside.keys.items e.hart.0 × (key_of inside.keys.items e.hart.0 ≡ Some e.key)) root (least, has))

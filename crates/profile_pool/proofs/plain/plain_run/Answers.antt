@@ -24,7 +24,7 @@ returns c =
     let seen = c.run.new.self in
     let with_choice : Choice → Seen (Unit {0}) = λ choice. record { image = image; index = index; points = points; input = input; choice = plain_choice choice; state = tt } in
     let made : parts_made seen ≡ plain_parts image index points input c.args.budget =
-    ap parts_made c.run.ensures.rest ∙ ap parts_made c.in_ok-counted.ensures ∙ ap with_choice c.choice-choice.ensures.choice in
+    ap parts_made c.run.ensures.rest ∙ ap parts_made c.in_ok-counted.ensures ∙ ap with_choice c.usual-choice.ensures.choice in
     let same : experiment_of seen ≡ experiment_of c.in_ok-counted.counted = ap experiment_of c.run.ensures.rest in
     let r : Record = record_of (experiment_of seen) seen.state c.run.result in
     let recorded : r ≡ delayed_record (experiment_of seen) =

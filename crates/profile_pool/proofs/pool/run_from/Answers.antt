@@ -8,7 +8,7 @@ use Rattle.profile_pool.proofs.pool.run_from.Goals as goal
 
 pub run_claims-summaries-requires-clause-work : goal.run_claims-summaries-requires-clause-work
 run_claims-summaries-requires-clause-work g c κs = λ _.
-    work_of _ c.choice-choice.result c.requires.lines c.requires.some_budget c.requires.few c.in_ok-lead.ensures c.choice-choice.ensures.choice c.requires.plain
+    work_of _ c.usual-choice.result c.requires.lines c.requires.some_budget c.requires.few c.in_ok-lead.ensures c.usual-choice.ensures.choice c.requires.plain
 
 -- a claim is a line
 pub returns-clause-summaries : goal.returns-clause-summaries

@@ -1,0 +1,16 @@
+use Rattle.std.proofs.Common.{◌∙◌}
+use Rattle.dwarf_lines.specs.Registers.{view}
+use Rattle.line_index.specs.Listed.{lines_in}
+use Rattle.command_answers.specs.Experiment.{experiment_by_table}
+use Rattle.command_answers.specs.Verdict.{profiled_verdict}
+use Rattle.command_answers.proofs.Indexed.{indexed}
+use Rattle.command_answers.proofs.profile.profile_of_file.Goals as goal
+
+pub returns-clause-settled : goal.returns-clause-settled
+returns-clause-settled g c = λ other.
+    let next = profiled_verdict c.args.request.now in
+    let input = c.args.input.now in
+    let program = c.in_ok-program.program in
+    c.profile_answer.ensures.settled other
+    ∙ indexed program.image (view program.table) input program.index c.in_ok-program.ensures.indexed next
+    ∙ c.in_ok-program.ensures.settled (λ never. never) (λ image table. next (lines_in table image.areas) (experiment_by_table image table input))

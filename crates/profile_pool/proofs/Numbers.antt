@@ -1,7 +1,0 @@
--- The limits of the runs.
-use Rattle.std.proofs.Common.{◌≡◌, ℕ, ◌-◌, ◌*◌, ◌^◌, refl}
-use Rattle.profile_pool.specs.declared.limits.TheConstants.{MAX_RUN_OUTPUT}
-
--- 4 MiB
-output_limit : MAX_RUN_OUTPUT ≡ 2 ^ 22
-output_limit = refl
