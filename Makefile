@@ -36,6 +36,7 @@ test:
 	tools/check-docs
 	tools/check-memory
 	tools/check-examples
+	tools/test-study
 
 try:
 	cd crates/coz && rt try $(foreach file,$(wildcard $(ARGS)),--data $(file)=$(abspath $(file))) -- $(ARGS)
@@ -51,14 +52,17 @@ install: build
 	install -D -m 755 build/coz $(DESTDIR)$(PREFIX)/bin/coz
 	install -D -m 755 build/coz-page $(DESTDIR)$(PREFIX)/bin/coz-page
 	install -D -m 755 build/coz-join $(DESTDIR)$(PREFIX)/bin/coz-join
+	install -D -m 755 tools/coz-study $(DESTDIR)$(PREFIX)/bin/coz-study
 	install -D -m 644 docs/coz.1 $(DESTDIR)$(PREFIX)/share/man/man1/coz.1
 	install -D -m 644 docs/coz-page.1 $(DESTDIR)$(PREFIX)/share/man/man1/coz-page.1
 	install -D -m 644 docs/coz-join.1 $(DESTDIR)$(PREFIX)/share/man/man1/coz-join.1
+	install -D -m 644 docs/coz-study.1 $(DESTDIR)$(PREFIX)/share/man/man1/coz-study.1
 
 uninstall:
 	rm -f $(DESTDIR)$(PREFIX)/bin/coz $(DESTDIR)$(PREFIX)/share/man/man1/coz.1
 	rm -f $(DESTDIR)$(PREFIX)/bin/coz-page $(DESTDIR)$(PREFIX)/share/man/man1/coz-page.1
 	rm -f $(DESTDIR)$(PREFIX)/bin/coz-join $(DESTDIR)$(PREFIX)/share/man/man1/coz-join.1
+	rm -f $(DESTDIR)$(PREFIX)/bin/coz-study $(DESTDIR)$(PREFIX)/share/man/man1/coz-study.1
 
 clean:
 	rm -rf build crates/*/out
