@@ -5,8 +5,8 @@ use Rattle.std.specs.declared.alloc.AllocError.{AllocError}
 use Rattle.asm_tokens.specs.declared.line.Token.{Token as CodeToken}
 use Rattle.asm_tokens.specs.declared.line.Token.TheVariants as code
 use Rattle.asm_tokens.specs.declared.line.Placed.{Placed as CodePlaced}
-use Rattle.asm_tokens.specs.declared.line.LineError.{LineError}
-use Rattle.asm_tokens.specs.declared.line.LineError.TheVariants as errors
+use Rattle.asm_tokens.specs.declared.line.TokenError.{TokenError}
+use Rattle.asm_tokens.specs.declared.line.TokenError.TheVariants as errors
 use Rattle.asm_tokens.specs.declared.line.Found.{Found}
 use Rattle.asm_tokens.specs.declared.line.Found.TheVariants as ahead
 use Rattle.asm_tokens.specs.Tokens.{Spelling, Token, Name, Number, Text, Mark, Placed, Read, ◌>>=◌, Front, Blank, Comment, Begins, Wrong}
@@ -16,7 +16,7 @@ use Rattle.asm_tokens.specs.Table.{Named}
 abbrev pub entry_view : {A : Type 0} → Bor (List ℕ) × A → Named A
 entry_view r = (r.0.now, r.1)
 
--- What was answered is this text, or this want of one, unless memory ran out.
+-- The answer is this text, or None if there is none, unless memory ran out.
 abbrev pub GivesText : {V : Type 0} → (V → List ℕ) → Result (Option (V × ℕ)) AllocError
     → Option Spelling → Type 0
 GivesText items (Ok answer) spelling = option_map (λ t. (items t.0, t.1)) answer ≡ spelling
@@ -44,12 +44,12 @@ IsWithin ahead.Wrong n = Unit {0}
 abbrev pub placed_of : CodePlaced → Placed
 placed_of p = record { column = p.column; token = token_of p.token }
 
-abbrev pub FailsLine : {A : Type 0} → LineError → Read A → Type 0
+abbrev pub FailsLine : {A : Type 0} → TokenError → Read A → Type 0
 FailsLine errors.Memory read = Unit {0}
 FailsLine (errors.Fault kind column) read = read ≡ Err (record { kind = kind; column = column })
 
 -- It is what is read of the line, unless memory ran out.
-abbrev pub GivesLine : {X A : Type 0} → (X → A) → Result X LineError → Read A → Type 0
+abbrev pub GivesLine : {X A : Type 0} → (X → A) → Result X TokenError → Read A → Type 0
 GivesLine view (Ok x) read = read ≡ Ok (view x)
 GivesLine view (Err e) read = FailsLine e read
 

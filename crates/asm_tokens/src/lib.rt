@@ -1,5 +1,10 @@
 //! The tokens of a line of assembly, the registers, and the table of the statements
 //! by their first words.
+//!
+//! ```text
+//! tokens(alloc, b"li a0, 1")?;  // Name(b"li"), Name(b"a0"), Mark(b','), Number(1)
+//! register_of(b"a0");           // Some(Register::X10)
+//! ```
 #![tactic(auto)]
 
 mod form;
@@ -9,7 +14,7 @@ mod table;
 mod words;
 
 pub use form::{Alone, Form, Order, Section, Size, Width};
-pub use line::{LineError, Placed, Token, is_blank, tokens};
+pub use line::{Placed, Token, TokenError, is_blank, tokens};
 pub use register::{Register, number_of};
 pub use table::{form_of, register_of};
 

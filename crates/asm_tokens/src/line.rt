@@ -4,7 +4,7 @@ ghost use Rattle.std.specs.Prelude.{◌≡◌, ◌≤◌, ◌<◌, ◌+◌, ◌-
 ghost use Rattle.asm_tokens.specs.declared.TheConstants.{MAX_SOURCE};
 ghost use Rattle.asm_tokens.specs.Tokens.{text, front, tokens, spelled_number, number_front, is_blank, is_mark};
 ghost use Rattle.asm_tokens.specs.Views.{GivesText, front_of, token_of, placed_of, IsWithin, GivesLine};
-ghost use Rattle.asm_tokens.specs.declared.line.LineError.TheVariants.{Memory};
+ghost use Rattle.asm_tokens.specs.declared.line.TokenError.TheVariants.{Memory};
 
 use crate::AsmKind;
 use crate::words::{escaped, is_digit, is_of_name, spelled, word_length};
@@ -12,26 +12,26 @@ use std::alloc::{AllocError, AllocFailed, Global};
 
 /// What is wrong with a line, and at which column; or that memory ran out.
 #[derive(Debug, Drop)]
-pub enum LineError {
+pub enum TokenError {
     /// Out of memory.
     Memory,
     /// What is wrong, and the column, counted from 1.
     Fault { kind: AsmKind, column: u32 },
 }
 
-impl From<AllocError> for LineError {
+impl From<AllocError> for TokenError {
     ghost from_gives = { λ _ e. e ≡ Memory };
 
-    fn from(_e: AllocError) -> LineError {
-        LineError::Memory
+    fn from(_e: AllocError) -> TokenError {
+        TokenError::Memory
     }
 }
 
-impl<T: Drop> From<AllocFailed<T>> for LineError {
+impl<T: Drop> From<AllocFailed<T>> for TokenError {
     ghost from_gives = { λ _ e. e ≡ Memory };
 
-    fn from(_e: AllocFailed<T>) -> LineError {
-        LineError::Memory
+    fn from(_e: AllocFailed<T>) -> TokenError {
+        TokenError::Memory
     }
 }
 
@@ -53,7 +53,7 @@ pub enum Token<'a> {
 pub struct Placed<'a> {
     /// Counted from 1.
     pub column: u32,
-    /// What stands there.
+    /// The token.
     pub token: Token<'a>,
 }
 
@@ -117,7 +117,7 @@ fn number<'a>(word: &[u8], is_negative: bool, bytes: usize) -> Found<'a>
     }
 }
 
-/// What begins there.
+/// Returns the token, blank or comment that begins these bytes, or that none does.
 pub fn begins<'a>(alloc: Global, bytes: &'a [u8]) -> Result<Found<'a>, AllocError>
     ensures within { IfOk result (λ found. IsWithin found (length bytes.now)) }
     ensures value { IfOk result (λ found. front_of token_of found ≡ front bytes.now) }
@@ -178,7 +178,7 @@ fn is_mark(byte: u8) -> bool
     byte == b':' || byte == b',' || byte == b'(' || byte == b')'
 }
 
-/// What begins at this place of a line.
+/// Returns the token, blank or comment that begins at this index of a line, or that none does.
 fn begins_at<'a>(alloc: Global, line: &'a [u8], place: usize) -> Result<Found<'a>, AllocError>
     requires { place ≤ length line.now }
     ensures within { IfOk result (λ found. IsWithin found (length line.now - place)) }
@@ -189,7 +189,7 @@ fn begins_at<'a>(alloc: Global, line: &'a [u8], place: usize) -> Result<Found<'a
 
 /// The tokens of a line, or the first bytes that form none.
 #[tactic(auto, unfolding(crate::specs::Tokens::tokens))]
-pub fn tokens<'a>(alloc: Global, line: &'a [u8]) -> Result<Vec<Placed<'a>>, LineError>
+pub fn tokens<'a>(alloc: Global, line: &'a [u8]) -> Result<Vec<Placed<'a>>, TokenError>
     requires { length line.now ≤ MAX_SOURCE }
     ensures { GivesLine (λ v. map placed_of v.items) result (tokens line.now) }
 {
@@ -201,7 +201,7 @@ pub fn tokens<'a>(alloc: Global, line: &'a [u8]) -> Result<Vec<Placed<'a>>, Line
             Found::Blank => i += 1,
             Found::Comment => return Ok(out),
             Found::Wrong => {
-                return Err(LineError::Fault {
+                return Err(TokenError::Fault {
                     kind: AsmKind::Token,
                     column,
                 });

@@ -18,7 +18,7 @@ pub fn is_hex_digit(byte: u8) -> bool
     is_digit(byte) || b'a' <= byte && byte <= b'f' || b'A' <= byte && byte <= b'F'
 }
 
-/// Whether a name may have it.
+/// Whether a name may contain the byte.
 pub fn is_of_name(byte: u8) -> bool
     ensures { result ≡ is_of_name byte }
 {
@@ -56,7 +56,7 @@ pub fn digit(byte: u8) -> u8
     }
 }
 
-/// The number whose digits these are, or 2^64 where it is larger.
+/// The number whose digits these are, or 2^64 if it is larger.
 pub fn number_in(base: u8, digits: &[u8]) -> u128
     requires base { base ≤ 16 }
     requires digits { AllPass is_hex_digit digits.now }

@@ -51,7 +51,7 @@ abbrev pub label_in : List Summary → Text
 label_in [] = []
 label_in (s ∷ group) = s.selected
 
--- the greater of two values, where there is one
+-- the greater of two values, if there is one
 abbrev pub greater : Option ℤ → Option ℤ → Option ℤ
 greater a b = if is_lt (option_cmp int_cmp a b) then b else a
 

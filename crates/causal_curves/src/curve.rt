@@ -20,7 +20,7 @@ pub struct Curve {
 pub struct CurveStep {
     /// The speedup in per cent.
     pub speedup: u8,
-    /// How much less net time a visit takes than at speedup 0, in hundredths of a per cent,
-    /// rounded down. There is none if that can't be told.
+    /// How much less net time a visit takes than at speedup 0, in hundredths of a per cent, rounded
+    /// down. None if either run has no visit of the point, or the run at 0 has no net time.
     pub value: Option<i128>,
 }

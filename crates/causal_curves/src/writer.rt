@@ -6,7 +6,7 @@ ghost use Rattle.causal_curves.specs.Texts.{value_text, bar, step_text, curve_te
 
 use crate::curve::{Curve, CurveStep};
 use coz_files::{PutAnswer, PutBuffer, Sink};
-use profile_book::{put_field, put_number};
+use profile_book::{put_field, put_number, put_signed};
 
 /// The most marks of a bar.
 const LONGEST_BAR: usize = 40;
@@ -39,10 +39,7 @@ fn put_value<O: Sink>(to: &mut PutBuffer, out: &mut O, name: &[u8], value: Optio
         (name.now ++ value_text value) }
 {
     match value {
-        Some(value) => {
-            let mut buffer = itoa::Buffer::new();
-            put_field(to, out, name, buffer.format(value).as_bytes());
-        }
+        Some(value) => put_signed(to, out, name, value),
         None => put_field(to, out, name, b"absent"),
     }
 }

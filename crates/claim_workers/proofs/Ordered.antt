@@ -123,7 +123,7 @@ ordered_summaries f n ps qs e moved up = ap (flat_map kept_summaries) (ordered f
 is_below : (y w : ℕ) → 1 ≤ once_below y w → y < w
 is_below y w h = grind arith
 
--- where each number is below the bound, none is past it
+-- if each number is below the bound, none is past it
 none_past : (b : ℕ) (xs : List ℕ) → All (λ x. x < b) xs → count_past b xs ≡ 0
 none_past b [] h = refl
 none_past b (x ∷ xs) h =
@@ -158,7 +158,7 @@ reached b w stops xs stopped some each (no n) =
 once_claimed : (x b w : ℕ) → b ≤ w → cond (nat_lt x b) (once_below x w) 0 ≡ once_below x b
 once_claimed x b w h = grind arith
 
--- what is claimed of all numbers below the word, where some draw met the bound, is each claim once
+-- what is claimed of all numbers below the word, if some draw met the bound, is each claim once
 pub each_claim : (f : ℕ → List Summary) (b w turns stops : ℕ) (h : Hand) (ps : List Claimed) → Worked f b turns stops h ps → 0 < stops → ((x : ℕ) → times x h.numbers ≡ once_below x w) → EachClaim f b ps
 each_claim f b w turns stops h ps worked some each =
     let far : b ≤ w = reached b w stops h.numbers worked.stopped some each (dec_le b w) in

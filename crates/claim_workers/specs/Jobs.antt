@@ -16,7 +16,7 @@ abbrev pub IsJob : {Runner : Type 0} → (Runner → Type 0) → Claims → Job 
 IsJob IsFor c j =
     IsSeatOf c j.seat × (hand_of j.seat ≡ hand (bound_of c + 1) []) × IsFor j.runner
 
--- a seat at its end, where one draw met the bound, and what was done by it
+-- a seat at its end, if one draw met the bound, and what was done by it
 abbrev pub HaveWorked : (ℕ → List Summary) → ℕ → Claims → ClaimSeat → List Claimed → Type 0
 HaveWorked f points c seat done =
     IsSeatOf c seat

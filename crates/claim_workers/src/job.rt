@@ -2,14 +2,14 @@
 use crate::claimed::Claimed;
 use experiment_claims::ClaimSeat;
 
-/// A worker's number, its seat, and what it works by.
+/// A worker's number, its seat and its state.
 #[derive(Drop)]
 pub struct Job<T> {
     /// Its number, from 0.
     pub worker: u32,
-    /// What it draws claims by.
+    /// The seat that it draws claims by.
     pub seat: ClaimSeat,
-    /// What it does their work by.
+    /// Its state.
     pub runner: T,
 }
 

@@ -20,7 +20,7 @@ use std::thread;
 use std::thread::Threads;
 
 /// The seat that is left, and a job for each worker: a seat with one turn more than there are
-/// claims, and what it works by.
+/// claims, and its state.
 fn deal<W: ClaimWork>(
     alloc: Global,
     work: &W,

@@ -7,13 +7,13 @@ use coz_lists::Items;
 use coz_types::Summary;
 use std::alloc::{AllocError, Global};
 
-/// The work of claims: what workers work by, and what the work of each claim gives.
-/// Workers share it, and nobody writes it.
+/// The work of claims: the state of a worker, and the summaries that the work of each claim gives.
+/// Workers share it, and none writes it.
 pub trait ClaimWork: Sync {
-    /// What a worker does the work of its claims by. It is made once for each worker.
+    /// The state of a worker. It is made once for each worker.
     type Runner: Drop + Send;
 
-    /// What the work asks for.
+    /// What has to hold before a worker begins.
     ghost is_ready: { Self → Type 0 };
 
     /// How many claims there are.
@@ -32,12 +32,12 @@ pub trait ClaimWork: Sync {
     fn count(&self) -> u32
         ensures { result ≡ bound self.now };
 
-    /// What a worker begins with.
+    /// Makes a worker's state. Err: out of memory.
     fn runner(&self, alloc: Global) -> Result<Self::Runner, AllocError>
         requires { is_ready self.now }
         ensures { IfOk result (is_for self.now) };
 
-    /// Does the work of a claim.
+    /// Does the work of a claim, and returns its summaries. Err: out of memory.
     fn summaries(
         &self,
         alloc: Global,

@@ -1,4 +1,4 @@
--- What a buffer has done where it was full.
+-- What a buffer has done when it was full.
 use Rattle.std.proofs.Common.{◌≡◌, ℕ, List, [], Option, sym, subst, refl}
 use Rattle.coz_files.specs.Puts.{Puts}
 use Rattle.coz_files.specs.Gathered.{Rest, rest_at, Gathers, Ends}

@@ -44,7 +44,7 @@ puts_then {holds = holds} {faults = faults} {old = old} {mid = mid} {new = new} 
   later = let same : faults mid ≡ faults old = first.no_fault (refl) in omega (arith, second.later);
 }
 
--- where a put failed, nothing follows it
+-- if a put failed, nothing follows it
 pub puts_stop : {S : Type 0} {holds : S → Option (List ℕ)} {faults : S → ℕ} {old new : S} {xs : List ℕ} (ys : List ℕ) → Puts holds faults old new Failed xs → Puts holds faults old new Failed (xs ++ ys)
 puts_stop {holds = holds} {old = old} {new = new} {xs = xs} ys first = record {
   done = λ is. let no : ⊥ = cc in absurd no;

@@ -4,7 +4,7 @@ use Rattle.coz_files.specs.Puts.{Puts}
 use Rattle.coz_files.specs.declared.outside.PutAnswer.{PutAnswer}
 use Rattle.coz_files.specs.declared.outside.PutAnswer.TheVariants.{Done, Failed}
 
--- the bytes that are gathered, and None where a put failed
+-- the bytes that are gathered, and None if a put failed
 abbrev pub Rest : Type 0
 Rest = Option (List ℕ)
 
@@ -13,7 +13,7 @@ abbrev pub rest_at : PutAnswer → List ℕ → Rest
 rest_at Done bytes = Some bytes
 rest_at Failed bytes = None
 
--- the bytes have room beside what is gathered; where a put failed, all have
+-- the bytes have room beside what is gathered; if a put failed, all have
 abbrev pub Fits : ℕ → Rest → List ℕ → Type 0
 Fits room (Some rest) bytes = length rest + length bytes ≤ room
 Fits room None bytes = ⊤

@@ -10,7 +10,7 @@ use std::marker::Model;
 /// How many bytes are gathered before they are put.
 const ROOM: usize = 4096;
 
-/// Bytes on their way to a sink: they are gathered in a fixed room, and put where it is full.
+/// Bytes on their way to a sink: they are gathered in a fixed room, and put when it is full.
 /// Once a put has failed, nothing more is put. The sink is passed at each call,
 /// and is to be the same one.
 #[derive(Drop)]
@@ -60,7 +60,7 @@ impl PutBuffer {
         }
     }
 
-    /// Puts what is left, and says whether all that was pushed is put.
+    /// Puts the bytes that are left, and returns whether all that were pushed are put.
     pub fn finish<S: Sink>(self, sink: &mut S) -> PutAnswer
         ensures { Ends S.holds S.faults sink.old sink.new self result }
     {

@@ -24,7 +24,7 @@ is_decimal most text =
 abbrev pub hex_digit : ℕ → ℕ
 hex_digit n = if nat_lt n 10 then 48 + n else 55 + n
 
--- a byte that can't stand for itself in a list of labels
+-- a byte that a list of labels can't have as it is: one that doesn't print, a space, % or a comma
 abbrev pub is_escaped : ℕ → Bool
 is_escaped b = nat_lt b 0x21 || (nat_lt 0x7E b || (b == 37 || b == 44))
 
@@ -78,7 +78,7 @@ parts_of (b ∷ rest) = elim (parts_of rest) [
   | None ↦ if b == 58 then Some ([], rest) else None
 ]
 
--- the number of a line, or 0 where the text is no spelling of one
+-- the number of a line, or 0 if the text is no spelling of one
 abbrev pub line_number : Text → ℕ
 line_number text = if is_decimal MAX_LINE text then digits_value 10 text else 0
 

@@ -1,4 +1,4 @@
--- The request computed word by word is the one that the relation gives, and there is none where the relation gives none.
+-- The request computed word by word is the one that the relation gives, and there is none if the relation gives none.
 use Rattle.std.proofs.Common.{◌≡◌, Bool, true, false, List, [], ◌∷◌, Option, Some, None, refl, sym, ap, subst, ◌∙◌, if◌then◌else◌, find}
 use Rattle.std.specs.Prelude.{option_and_then}
 use Rattle.std.specs.List.{list_all}

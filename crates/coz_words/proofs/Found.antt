@@ -172,7 +172,7 @@ found_is words c found named f =
     request_by words c named ∙ ap (option_and_then (request_of_items c)) said ∙ asked_is c items given.1 given.2
     ∙ ap₂ (λ (path : Option Text) (value : Text → Option Text). if are_texts_of c path value then request_with c path value else None) (sym f.3) (sym (held_is c items found given.1 f.2))
 
--- where nothing is found there is none
+-- if nothing is found there is none
 pub nothing_found : (words : List Text) (c : Command) → command_in words ≡ Some c → Finds (option_names c) words None → request_in words ≡ None
 unfolding request_of_items
 nothing_found words c named none = by (request_in words) refl

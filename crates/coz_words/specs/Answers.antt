@@ -17,6 +17,6 @@ Answers wanted (Ok found) = wanted ≡ Some found
 Answers wanted (Err Usage) = wanted ≡ None
 Answers wanted (Err Memory) = ⊤
 
--- the value of an option, where the command has it
+-- the value of an option, if the command has it
 abbrev pub option_value : Command → (Text → Option Text) → Text → Option Text
 option_value c found name = if has_option c name then found name else None

@@ -127,7 +127,7 @@ same_kind (option a v) (option b w) = bytes_eq a b
 same_kind (target v) (target w) = true
 same_kind _ _ = false
 
--- each option comes at most once, and so does the positional
+-- each option is given at most once, and so is the positional
 abbrev pub is_once : List Item → Bool
 is_once [] = true
 is_once (item ∷ items) = not (list_any (same_kind item) items) && is_once items
@@ -159,7 +159,7 @@ abbrev pub has_needed : Command → Option Text → Option Text → Option Text 
 has_needed Latency line arrive depart = is_some line && is_some arrive && is_some depart
 has_needed _ line arrive depart = true
 
--- the line and the lists are such, where they come, and those come that the command needs
+-- the line and the lists are such, if they are given, and those are given that the command needs
 abbrev pub are_right : Command → Option Text → Option Text → Option Text → Option Text
     → Option Text → Bool
 are_right c line lines progress arrive depart =
@@ -169,7 +169,7 @@ are_right c line lines progress arrive depart =
 abbrev pub has_option : Command → Text → Bool
 has_option c name = is_among (option_names c) name
 
--- the budget of a command where none is given, and the greatest
+-- the budget of a command if none is given, and the greatest
 abbrev pub usual_budget : Command → ℕ
 usual_budget Path = 1000000
 usual_budget _ = 100000000
@@ -178,13 +178,13 @@ abbrev pub greatest_budget : Command → ℕ
 greatest_budget Path = 4000000
 greatest_budget _ = 10 ^ 12
 
--- the number of an option that comes; where it doesn't, the usual one,
--- or 0 where the command hasn't the option
+-- the number of an option that is given; if it isn't, the usual one,
+-- or 0 if the command hasn't the option
 abbrev pub number_or : Command → Text → ℕ → ℕ → ℕ → Option Text → Option ℕ
 number_or c name usual least most None = Some (if has_option c name then usual else 0)
 number_or c name usual least most (Some number) = number_in least most number
 
--- the speedup that a value gives to a line; where no line is given, none can be given
+-- the speedup that a value gives to a line; if no line is given, none can be given
 abbrev pub speedup_in : Option Text → Option Text → Option ℕ
 speedup_in line None = Some 0
 speedup_in None (Some number) = None
@@ -195,12 +195,12 @@ abbrev pub seed_in : Command → Text → Option ℕ
 seed_in Trial text = number_in 0 last_word text
 seed_in _ text = Some 0
 
--- one value after the other, where all are there
+-- one value after the other, if all are there
 infixr 20 ◌>>=◌
 abbrev pub ◌>>=◌ : {A B : Type 0} → Option A → (A → Option B) → Option B
 o >>= f = option_and_then f o
 
--- the numbers of a list of texts, where each is one
+-- the numbers of a list of texts, if each is one
 abbrev pub numbers_in : ℕ → ℕ → List Text → Option (List ℕ)
 numbers_in least most [] = Some []
 numbers_in least most (text ∷ texts) =
@@ -220,7 +220,7 @@ speedups_in c (Some numbers) = numbers_in 0 MAX_SPEEDUP (pieces numbers)
 
 -- ---- the request
 
--- the numbers that stand for themselves: of a command, its positional, and the values of options
+-- the numbers that are no parts of lists: of a command, its positional, and the values of options
 -- by their names
 abbrev pub counts_with : Command → Text → (Text → Option Text) → Option Counts
 counts_with c text value =
@@ -264,7 +264,7 @@ request_with c path value =
     Some (request_from c target value speedup speedups counts)
     ) else None
 
--- the request that the items make, where they are right
+-- the request that the items make, if they are right
 unfoldable pub request_of_items : Command → List Item → Option Request
 request_of_items c items =
     if are_items_of c items then request_with c (target_of items) (λ name. value_of name items)
@@ -300,7 +300,7 @@ pub record IsFit (request : Request) : Type 0 where
   pub size : request.size ≤ MAX_SIZE
   -- what a trial is made from is its positional
   pub seed : seed_in request.command request.target ≡ Some request.seed
-  -- 4 or 5 where the command has a version
+  -- 4 or 5 if the command has a version
   pub some_dwarf : has_option request.command dwarf_name ≡ true → MIN_VERSION ≤ request.dwarf
   pub dwarf : request.dwarf ≤ MAX_VERSION
 

@@ -23,7 +23,7 @@ name_in rest = before_first (λ b. b == 61) rest
 abbrev pub value_in : Text → Text
 value_in rest = after_first (λ b. b == 61) rest
 
--- the items, where `wanting` is the option whose value is to come
+-- the items, if `wanting` is the option whose value is to come
 unfoldable pub items_in : List Text → Option Text → List Text → Option (List Item)
 items_in names None [] = Some []
 items_in names (Some name) [] = None
@@ -49,7 +49,7 @@ items_in names None (word ∷ words) = elim (is_own_word word) [
 abbrev pub command_of : Text → Option Command
 command_of word = find (λ c. bytes_eq (command_name c) word) commands
 
--- the command that the first word names, where each word may be one
+-- the command that the first word names, if each word may be one
 abbrev pub command_in : List Text → Option Command
 command_in [] = None
 command_in (word ∷ rest) = if list_all is_word (word ∷ rest) then command_of word else None

@@ -25,7 +25,7 @@ use std::alloc::{AllocError, AllocFailed, Global};
 
 /// The workers if the words name none.
 const USUAL_WORKERS: u64 = 4;
-/// The size where the words name none.
+/// The size if the words name none.
 const USUAL_SIZE: u64 = 100;
 
 /// What the words ask for. A field that the command lacks is `None`, 0 or empty.
@@ -67,9 +67,9 @@ pub struct Request {
 /// Why there is no request.
 #[derive(Clone, Copy, Debug, PartialEq, Eq)]
 pub enum WordsError {
-    /// The words make none.
+    /// The arguments are no request.
     Usage,
-    /// It is out of memory.
+    /// Out of memory.
     Memory,
 }
 
@@ -101,7 +101,7 @@ fn text_of<'a>(command: Command, matches: &ArgMatches<'a>, name: &str) -> Option
     }
 }
 
-/// The numbers of a request that stand for themselves.
+/// The numbers of a request that are no parts of lists.
 #[derive(Clone, Copy, Drop)]
 struct Counts {
     budget: u64,

@@ -13,7 +13,7 @@ use coz_types::{MAX_BUDGET, MAX_SPEEDUP, MAX_VERSION, MIN_VERSION};
 use experiment_plan::{first_piece, is_line, is_list, number_in};
 use std::alloc::Global;
 
-/// The budget of a run where the words give none, in instructions.
+/// The budget of a run if the words give none, in instructions.
 const USUAL_BUDGET: u64 = 100_000_000;
 /// The budget of a run whose critical path is asked for, if the words give none.
 const USUAL_PATH_BUDGET: u64 = 1_000_000;
@@ -76,7 +76,7 @@ pub fn greatest_budget(command: Command) -> u64
     }
 }
 
-/// A number from `least` to `most`. Where no text is given, it is the usual one,
+/// A number from `least` to `most`. If no text is given, it is the usual one,
 /// or 0 if the command lacks the option.
 pub fn number_or(
     command: Command,
@@ -116,7 +116,7 @@ fn speedup_in(text: &[u8]) -> Result<u8, WordsError>
     }
 }
 
-/// The version of a line table. Where no text is given, it is the least,
+/// The version of a line table. If no text is given, it is the least,
 /// or 0 if the command lacks the option.
 pub fn version_of(command: Command, text: Option<&str>) -> Result<u8, WordsError>
     ensures { Answers (number_or command dwarf_name MIN_VERSION MIN_VERSION MAX_VERSION
@@ -165,7 +165,7 @@ fn speedups_in(alloc: Global, text: &[u8]) -> Result<Items<u8>, WordsError>
     Ok(Items::new(speedups))
 }
 
-/// The speedups, in percent: those given, all where none are, and none if
+/// The speedups, in percent: those given, all if none are, and none if
 /// the command lacks the option.
 pub fn speedups_of(
     alloc: Global,

@@ -4,7 +4,7 @@ use Rattle.std.specs.Option.{ForSome}
 use Rattle.critical_chains.specs.declared.TheConstants.{MAX_EVENTS}
 use Rattle.critical_chains.specs.declared.event.Event.{Event}
 
--- stands where there is no event
+-- what stands in place of an event if there is none
 abbrev pub no_event : Event
 no_event = record {
   hart = record { 0 = 0 };
@@ -20,7 +20,7 @@ no_event = record {
 abbrev pub event_at : List Event → ℕ → Event
 event_at events i = slice_index_or events i no_event
 
--- the number of the last event, where there is one
+-- the number of the last event, if there is one
 abbrev pub last_of : List Event → ℕ
 last_of events = length events - 1
 
@@ -53,7 +53,7 @@ pub record IsBehind (events : List Event) (i : ℕ) (p : ℕ) : Type 0 where
   pub lower : p < i
   pub later : (event_at events p).due + ticks (event_at events i) ≤ (event_at events i).due
 
--- an event is no sooner than what it waited for lets it be
+-- an event is due no sooner than what it waited for allows
 pub record IsTimely (events : List Event) (i : ℕ) : Type 0 where
   pub from : ForSome (event_at events i).from (IsBehind events i)
   pub before : ForSome (event_at events i).before (IsBehind events i)

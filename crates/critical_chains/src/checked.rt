@@ -12,14 +12,14 @@ fn ticks(event: &Event) -> u128
     event.cost as u128 + event.slept as u128
 }
 
-/// The event may come after that number in a chain.
+/// Whether the event may come after that number in a chain.
 fn follows(event: &Event, number: u32) -> bool
     ensures { IsTrue result ↔ Follows event.now number }
 {
     event.from == Some(number) || event.before == Some(number)
 }
 
-/// The number is below that of an event, which is no sooner than its ticks after that one.
+/// Whether an event with a lower number is due no later than the event of `number` less its ticks.
 fn is_behind(events: &[Event], number: usize, earlier: u32) -> bool
     requires { number < length events.now }
     ensures { IsTrue result ↔ IsBehind events.now number earlier }
@@ -29,7 +29,7 @@ fn is_behind(events: &[Event], number: usize, earlier: u32) -> bool
         && events[earlier].due as u128 + ticks(&events[number]) <= events[number].due as u128
 }
 
-/// An event is no sooner than what it waited for lets it be.
+/// Whether an event is due no sooner than what it waited for allows.
 fn is_timely(events: &[Event], number: usize) -> bool
     requires { number < length events.now }
     ensures { IsTrue result ↔ IsTimely events.now number }
@@ -44,7 +44,7 @@ fn is_timely(events: &[Event], number: usize) -> bool
     }
 }
 
-/// Each event is.
+/// Whether each event is due no sooner than what it waited for allows.
 fn are_timely(events: &[Event]) -> bool
     ensures { IsTrue result ↔ EachIndex events.now (IsTimely events.now) }
 {
@@ -56,14 +56,14 @@ fn are_timely(events: &[Event]) -> bool
     true
 }
 
-/// No event is due later than the last.
+/// Whether no event is due later than the moment `last`.
 fn is_latest(events: &[Event], last: u64) -> bool
     ensures { IsTrue result ↔ All (λ e. e.due ≤ last) events.now }
 {
     events.iter().all(|event| event.due <= last)
 }
 
-/// The list is a chain.
+/// Whether the list is a chain.
 fn is_chain(events: &[Event], chain: &[u32]) -> bool
     ensures { IsTrue result ↔ IsChain events.now chain.now }
 {
@@ -99,7 +99,7 @@ fn weight(events: &[Event], chain: &[u32]) -> u128
     sum
 }
 
-/// The last number of a chain is that of the last event.
+/// Whether the last number of a chain is that of the last event.
 fn ends(events: &[Event], chain: &[u32]) -> bool
     requires { 1 ≤ length events.now }
     ensures { IsTrue result
@@ -111,8 +111,8 @@ fn ends(events: &[Event], chain: &[u32]) -> bool
     }
 }
 
-/// Whether a chain shows how long a run of these events was: it is one, it ends with the last
-/// event, no event is sooner than what it waited for lets it be, none is due later than the last,
+/// Whether a chain shows how long a run of these events was: it is a chain, it ends with the last
+/// event, no event is due sooner than what it waited for allows, none is due later than the last,
 /// and the chain's weight is that moment.
 pub fn check(events: &[Event], chain: &[u32]) -> bool
     ensures exact { IsTrue result ↔ Sound events.now chain.now }

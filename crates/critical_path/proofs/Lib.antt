@@ -1,7 +1,7 @@
 pub mod Turns
 pub mod Grown
 pub mod Traced
-pub mod Followed
+pub mod Recorded
 pub mod Turned
 mod Rows
 pub mod Begun

@@ -7,8 +7,8 @@ use Rattle.machines.specs.Shortened.{Shortened, Turn, next_turn, retire, wake, b
 use Rattle.machines.proofs.Harts.{cut_le}
 use Rattle.machines.proofs.Short.{Lives, turn_runs, move_is, come_retires, come_wakes}
 use Rattle.machines.proofs.Ends.{goes_on_at, next_is, stays}
-use Rattle.critical_path.specs.Events.{Traced, work, retired, woken, follow, untraced, traced, events_of}
-use Rattle.critical_path.proofs.Followed.{retired_at, woken_at, now, ended_follows, turn_follows, stands_at}
+use Rattle.critical_path.specs.Events.{Traced, work, retired, woken, after_move, untraced, traced, events_of}
+use Rattle.critical_path.proofs.Recorded.{retired_at, woken_at, now, ended_after, turn_after, stands_at}
 
 module _ {G : Type 0} (x : Experiment G) (Good : G → Type 0) (law : IsLawful x Good) (place : G → ℕ → ℕ) (n : ℕ) where
   abbrev s : Shortened G
@@ -17,7 +17,7 @@ module _ {G : Type 0} (x : Experiment G) (Good : G → Type 0) (law : IsLawful x
   abbrev w : Traced
   w = traced x place n
 
-  pub follows : traced x place (suc n) ≡ follow x place s w
+  pub follows : traced x place (suc n) ≡ after_move x place s w
   unfolding traced
   follows = refl
 
@@ -58,7 +58,7 @@ module _ {G : Type 0} (x : Experiment G) (Good : G → Type 0) (law : IsLawful x
         let apart = law.apart s.guest t.hart t.due lives.good runs in
         let is = retires_is awake in
         record {
-          traced_is = follows ∙ turn_follows x Good law place s t w none is_turn ∙ ap (λ (b : Bool). if b then woken x place t s.guest w else retired x place t s.guest w) awake;
+          traced_is = follows ∙ turn_after x Good law place s t w none is_turn ∙ ap (λ (b : Bool). if b then woken x place t s.guest w else retired x place t s.guest w) awake;
           later = law.sleeps_later s.guest t.hart t.due lives.good runs;
           begun = λ on k among.
               ap (λ (o : Shortened G). get_or o.dues k None) is
@@ -73,7 +73,7 @@ module _ {G : Type 0} (x : Experiment G) (Good : G → Type 0) (law : IsLawful x
         let caused = (now x Good law place s t w (stands_at x Good law place n) lives none is_turn).1 in
         let due_is = caused.due_is in
         record {
-          traced_is = follows ∙ turn_follows x Good law place s t w none is_turn ∙ ap (λ (b : Bool). if b then woken x place t s.guest w else retired x place t s.guest w) asleep;
+          traced_is = follows ∙ turn_after x Good law place s t w none is_turn ∙ ap (λ (b : Bool). if b then woken x place t s.guest w else retired x place t s.guest w) asleep;
           begun =
               ap (λ (o : Shortened G). get_or o.dues t.hart None) is
               ∙ woken_at x t s t.hart
@@ -91,7 +91,7 @@ module _ {G : Type 0} (x : Experiment G) (Good : G → Type 0) (law : IsLawful x
       let over : (shortened x (k + n)).ending ≡ Some a = ap (λ (o : Shortened G). o.ending) (stays x Good law n a e k) ∙ e in
       ap (traced x place) (suc-add k n)
       ∙ follows x Good law place (k + n)
-      ∙ ended_follows x Good law place (shortened x (k + n)) a (traced x place (k + n)) over
+      ∙ ended_after x Good law place (shortened x (k + n)) a (traced x place (k + n)) over
       ∙ so_far
 
   pub all_events : (n : ℕ) (a : Ending) → n ≤ enough x → (shortened x n).ending ≡ Some a → (traced x place n).events ≡ events_of x place

@@ -29,7 +29,7 @@ use Rattle.run_engine.specs.Advance.{IsAdvance}
 use Rattle.run_engine.specs.Begin.{started_by}
 use Rattle.run_engine.specs.Engine.{events_of, IsReached, IsFirst, IsSteady}
 use Rattle.run_engine.specs.Run.{IsChoice, experiment}
-use Rattle.run_engine.specs.Seen.{experiment_with}
+use Rattle.run_engine.specs.Seen.{experiment_of_image}
 use Rattle.run_engine.specs.Visits.{Visits}
 use Rattle.run_engine.proofs.Keys.{has_place, next_is}
 use Rattle.run_engine.proofs.Law.{lawful_run, reached_next, reached_woken, steady, events_below, ended_now, within_enough, recorded_now}
@@ -42,14 +42,14 @@ use Rattle.critical_path.specs.Causes.{no_cause, cause_at, woken_with, turned, a
 use Rattle.critical_path.specs.Events.{Traced, AreBefores, work, untraced, traced}
 use Rattle.critical_path.specs.Events.{events_of as whole_events}
 use Rattle.critical_path.specs.Walk.{plain_choice, plain}
-use Rattle.critical_path.specs.Follow.{IsBegun, ticks_from, CanFollow, IsFollowed}
+use Rattle.critical_path.specs.Recording.{IsBegun, ticks_from, CanRecord, IsRecorded}
 use Rattle.critical_path.proofs.Begun.{same_turned_by}
-use Rattle.critical_path.proofs.Followed.{stands_at, many_events, befores_are, last_due, linked}
+use Rattle.critical_path.proofs.Recorded.{stands_at, many_events, befores_are, last_due, linked}
 use Rattle.critical_path.proofs.Turned.{IsRetiring, IsWaking, retiring, waking, all_events, first_traced, first_due}
 
 module _ (image : ImageParts) (input : List ℕ) (setting : Setting) where
   abbrev pub x : Experiment Guest
-  x = experiment_with image input setting
+  x = experiment_of_image image input setting
 
   -- so far, beside the engine
   pub record IsWalked (engine : Engine) (causes : List Cause) (events : List Event) : Type 0 where
@@ -138,7 +138,7 @@ module _ (image : ImageParts) (input : List ℕ) (setting : Setting) where
           ∙ turn.begun (none_after (Retired one) did on) k (subst (λ (o : Retirement Guest). is_among k (started_harts one.hart.0 o) ≡ true) (sym retires) among)
           ∙ ap (λ (o : Retirement Guest). Some (new.time + work x pc_of o.guest k)) retires
 
-      pub retired_can : CanFollow new (Retired one) causes events
+      pub retired_can : CanRecord new (Retired one) causes events
       retired_can =
           let many_events = many in
           let budget = walked.reached.retired in
@@ -150,7 +150,7 @@ module _ (image : ImageParts) (input : List ℕ) (setting : Setting) where
             λ on k among. let key = begun on k among in (within_harts k _ key did.room, begun_then new.time (work x pc_of new.guest k) k key),
           )
 
-      pub retired_walked : (address : ℕ) (new_causes : List Cause) (new_events : List Event) → address ≡ pc_of engine.guest one.hart.0 → length new_causes ≡ HARTS → IsFollowed new (Retired one) address causes events new_causes new_events → IsWalked new new_causes new_events
+      pub retired_walked : (address : ℕ) (new_causes : List Cause) (new_events : List Event) → address ≡ pc_of engine.guest one.hart.0 → length new_causes ≡ HARTS → IsRecorded new (Retired one) address causes events new_causes new_events → IsWalked new new_causes new_events
       retired_walked address new_causes new_events place room followed =
           let below = here_below one.hart.0 new.time did.turn in
           record {
@@ -183,7 +183,7 @@ module _ (image : ImageParts) (input : List ℕ) (setting : Setting) where
       key : key_of new.schedule one.hart.0 ≡ Some (one.due + work x pc_of (with_wake one.hart.0 s.guest) one.hart.0)
       key = key_after (Woke one) did one.hart.0 ∙ wake_turn.begun
 
-      pub woken_can : CanFollow new (Woke one) causes events
+      pub woken_can : CanRecord new (Woke one) causes events
       woken_can =
           let below = here_below one.hart.0 one.due did.turn in
           let soon = (steady image (position_at setting.index.now) (point_of setting.points.now) input setting.choice walked.valid engine walked.reached none).within one.hart.0 one.due did.turn in
@@ -198,7 +198,7 @@ module _ (image : ImageParts) (input : List ℕ) (setting : Setting) where
           let ticks : ticks_from new.schedule one.due k ≡ work x pc_of (with_wake k s.guest) k = subst (λ (j : ℕ). ticks_from new.schedule one.due j ≡ work x pc_of (with_wake j s.guest) j) there (ticks_then one.due (work x pc_of (with_wake one.hart.0 s.guest) one.hart.0) one.hart.0 key) in
           ap₂ woken_with ticks same
 
-      pub woken_walked : (address : ℕ) (new_causes : List Cause) (new_events : List Event) → length new_causes ≡ HARTS → IsFollowed new (Woke one) address causes events new_causes new_events → IsWalked new new_causes new_events
+      pub woken_walked : (address : ℕ) (new_causes : List Cause) (new_events : List Event) → length new_causes ≡ HARTS → IsRecorded new (Woke one) address causes events new_causes new_events → IsWalked new new_causes new_events
       woken_walked address new_causes new_events room followed = record {
         valid = walked.valid;
         few = walked.few;
@@ -208,13 +208,13 @@ module _ (image : ImageParts) (input : List ℕ) (setting : Setting) where
         causes_are = λ on k lt. followed.1 k ∙ woken_by k (k == one.hart.0) (cause_at causes k) refl (walked.causes_are none k lt) ∙ ap (λ (o : Traced). o.causes k) (sym (traced_after (Woke one) did ∙ wake_turn.traced_is));
       }
 
-    pub can_follow : (moved : moves.Event) → IsAdvance setting engine moved 0 new → CanFollow new moved causes events
-    can_follow (Woke one) did = woken_can one did
-    can_follow (Retired one) did = retired_can one did
+    pub can_record : (moved : moves.Event) → IsAdvance setting engine moved 0 new → CanRecord new moved causes events
+    can_record (Woke one) did = woken_can one did
+    can_record (Retired one) did = retired_can one did
 
     -- it is so after a move that is followed
     pub walked_on : (moved : moves.Event) → IsAdvance setting engine moved 0 new → (address : ℕ) → ((hart : ℕ) → IsLeast engine.schedule hart → address ≡ pc_of engine.guest hart)
-        → (new_causes : List Cause) (new_events : List Event) → length new_causes ≡ HARTS → IsFollowed new moved address causes events new_causes new_events → IsWalked new new_causes new_events
+        → (new_causes : List Cause) (new_events : List Event) → length new_causes ≡ HARTS → IsRecorded new moved address causes events new_causes new_events → IsWalked new new_causes new_events
     walked_on (Woke one) did address place new_causes new_events room followed = woken_walked one did address new_causes new_events room followed
     walked_on (Retired one) did address place new_causes new_events room followed = retired_walked one did address new_causes new_events (place one.hart.0 did.first) room followed
 

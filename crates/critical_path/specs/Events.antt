@@ -19,7 +19,7 @@ abbrev pub latest : List Event → ℕ → ℕ → Option ℕ
 latest events h zero = None
 latest events h (suc i) = if h == (event_at events i).hart.0 then Some i else latest events h i
 
--- each event's `before` is the latest earlier event of its hart, and None where there is none
+-- each event's `before` is the latest earlier event of its hart, and None if there is none
 abbrev pub AreBefores : List Event → Type 0
 AreBefores events =
     EachIndex events
@@ -30,7 +30,7 @@ module _ {G : Type 0} (x : Experiment G) (place : G → ℕ → ℕ) where
   abbrev pub work : G → ℕ → ℕ
   work g h = cost x g h - cut x g h
 
-  -- the event of a turn, where this is known of its hart
+  -- the event of a turn, by what is known of its hart
   abbrev pub event_of : Turn → G → Cause → Event
   event_of t g c = record {
     hart = record { 0 = t.hart };
@@ -62,14 +62,14 @@ module _ {G : Type 0} (x : Experiment G) (place : G → ℕ → ℕ) where
   }
 
   -- what follows on a move of the machine
-  abbrev pub follow_by : Option Ending → Option Turn → G → Traced → Traced
-  follow_by (Some e) turn g w = w
-  follow_by None (Some t) g w =
+  abbrev pub after_move_by : Option Ending → Option Turn → G → Traced → Traced
+  after_move_by (Some e) turn g w = w
+  after_move_by None (Some t) g w =
       if x.guest.is_sleeping g t.hart then woken t g w else retired t g w
-  follow_by None None g w = w
+  after_move_by None None g w = w
 
-  abbrev pub follow : Shortened G → Traced → Traced
-  follow s w = follow_by s.ending (next_turn s.dues) s.guest w
+  abbrev pub after_move : Shortened G → Traced → Traced
+  after_move s w = after_move_by s.ending (next_turn s.dues) s.guest w
 
   -- only the first hart is begun, and nothing was before it
   abbrev pub untraced : Traced
@@ -81,7 +81,7 @@ module _ {G : Type 0} (x : Experiment G) (place : G → ℕ → ℕ) where
   -- beside the state of the shortened machine after n moves
   unfoldable pub traced : ℕ → Traced
   traced zero = untraced
-  traced (suc n) = follow (shortened x n) (traced n)
+  traced (suc n) = after_move (shortened x n) (traced n)
 
   -- the events of a run
   unfoldable pub events_of : List Event

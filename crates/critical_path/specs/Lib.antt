@@ -1,4 +1,4 @@
 pub mod Causes
 pub mod Events
-pub mod Follow
+pub mod Recording
 pub mod Walk

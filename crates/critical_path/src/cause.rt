@@ -11,7 +11,7 @@ use machines::Fate;
 pub struct Cause {
     /// The event that started it, or began its sleep.
     pub from: Option<u32>,
-    /// Its own event before.
+    /// The event of the same hart before.
     pub before: Option<u32>,
     /// The ticks of work that it was begun with.
     pub cost: Tick,

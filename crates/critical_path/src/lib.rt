@@ -3,7 +3,7 @@
 #![tactic(auto)]
 
 mod cause;
-mod follow;
+mod recording;
 mod walked;
 
 pub use walked::walk;

@@ -9,11 +9,11 @@ ghost use Rattle.critical_chains.specs.declared.TheConstants.{MAX_EVENTS};
 ghost use Rattle.critical_chains.specs.Path.{event_at, last_of, Linked};
 ghost use Rattle.critical_path.specs.Causes.{no_cause, cause_at};
 ghost use Rattle.critical_path.specs.Events.{events_of, AreBefores};
-ghost use Rattle.critical_path.specs.Follow.{ticks_from};
+ghost use Rattle.critical_path.specs.Recording.{ticks_from};
 ghost use Rattle.critical_path.specs.Walk.{plain_choice, plain, IsMadeOf};
 
 use crate::cause::Cause;
-use crate::follow::{Walked, follow, ticks_from};
+use crate::recording::{Walked, record_move, ticks_from};
 use coz_lists::Items;
 use coz_types::{Ending, HARTS, HartId, Image, MAX_VISITS};
 use critical_chains::Trace;
@@ -133,7 +133,7 @@ pub fn walk<'a>(
     while engine.ending().is_none() {
         let address = engine.address_due();
         let moved = engine.advance(&setting, 0);
-        follow(&engine, moved, address, &mut walked)?;
+        record_move(&engine, moved, address, &mut walked)?;
     }
     let Some(ending) = engine.ending() else {
         unreachable!()

@@ -14,7 +14,7 @@ use Rattle.delay_credits.specs.Delays.{Delays, hart_at, at, with_start, with_sto
 use Rattle.delay_credits.specs.Seats.{hart_of_seat, settled_seat, IsSound, IsRaised, IsUnpaused}
 use Rattle.delay_credits.proofs.Standing.{standing-all, standing-set, standing-read, standing-start, standing-stop, standing-again, standing-kept}
 
--- a seat to name a place past the end
+-- a seat to name an index past the end
 abbrev no_seat : Seat
 no_seat = record { account = record { own = 0; paused = 0; credited = 0 }; pending = None }
 
@@ -79,31 +79,31 @@ raised-all v latest now raised h ticks seats seats' d view sound later same each
 
 -- what was read is the seat of the hart
 read-at : (now h p : ℕ) (seats : List Seat) (s r : Seat) → p ≡ h → s ≡ get_or seats p s → r ≡ settled_seat now s → r.account ≡ (settled_seat now (get_or seats h s)).account
-read-at now h p seats s r place item settles =
-    let read : s ≡ get_or seats h s = item ∙ ap (λ i. get_or seats i s) place in
+read-at now h p seats s r index item settles =
+    let read : s ≡ get_or seats h s = item ∙ ap (λ i. get_or seats i s) index in
     ap (λ (x : Seat). x.account) settles ∙ ap (λ (x : Seat). (settled_seat now x).account) read
 
 pub started-at : (v : Delays) (latest now raised h p : ℕ) (seats : List Seat) (s r : Seat) → seen latest raised seats ≡ v → All (IsSound latest raised) seats → h < length v.harts → v.latest ≤ now
     → p ≡ h → s ≡ get_or seats p s → r ≡ settled_seat now s
     → seen now raised (set seats p (record { account = r.account; pending = Some (record { since = now; pause = 0 }) })) ≡ with_start h now v
-started-at v latest now raised h p seats s r view sound below later place item settles =
-    ap (λ i. seen now raised (set seats i (record { account = r.account; pending = Some (record { since = now; pause = 0 }) }))) place
-    ∙ ap (λ (a : GivenAccount). seen now raised (set seats h (record { account = a; pending = Some (record { since = now; pause = 0 }) }))) (read-at now h p seats s r place item settles)
+started-at v latest now raised h p seats s r view sound below later index item settles =
+    ap (λ i. seen now raised (set seats i (record { account = r.account; pending = Some (record { since = now; pause = 0 }) }))) index
+    ∙ ap (λ (a : GivenAccount). seen now raised (set seats h (record { account = a; pending = Some (record { since = now; pause = 0 }) }))) (read-at now h p seats s r index item settles)
     ∙ started v latest now raised h seats s view sound below later
 
 pub stopped-at : (v : Delays) (latest now raised h p : ℕ) (seats : List Seat) (s r : Seat) → seen latest raised seats ≡ v → All (IsSound latest raised) seats → h < length v.harts → v.latest ≤ now
     → p ≡ h → s ≡ get_or seats p s → r ≡ settled_seat now s
     → seen now raised (set seats p (record { account = r.account; pending = None })) ≡ with_stop h now v
-stopped-at v latest now raised h p seats s r view sound below later place item settles =
-    ap (λ i. seen now raised (set seats i (record { account = r.account; pending = None }))) place
-    ∙ ap (λ (a : GivenAccount). seen now raised (set seats h (record { account = a; pending = None }))) (read-at now h p seats s r place item settles)
+stopped-at v latest now raised h p seats s r view sound below later index item settles =
+    ap (λ i. seen now raised (set seats i (record { account = r.account; pending = None }))) index
+    ∙ ap (λ (a : GivenAccount). seen now raised (set seats h (record { account = a; pending = None }))) (read-at now h p seats s r index item settles)
     ∙ stopped v latest now raised h seats s view sound below later
 
 -- the hart of a seat that was read
 pub hart-at : (v : Delays) (latest now raised h p : ℕ) (seats : List Seat) (s : Seat) → seen latest raised seats ≡ v → All (IsSound latest raised) seats → h < length v.harts → v.latest ≤ now
     → p ≡ h → s ≡ get_or seats p s → hart_of_seat now s ≡ hart_at (at now v) h
-hart-at v latest now raised h p seats s view sound below later place item =
-    ap (hart_of_seat now) (item ∙ ap (λ i. get_or seats i s) place) ∙ hart-later v latest now raised h seats s view sound below later
+hart-at v latest now raised h p seats s view sound below later index item =
+    ap (hart_of_seat now) (item ∙ ap (λ i. get_or seats i s) index) ∙ hart-later v latest now raised h seats s view sound below later
 
 -- a hart that doesn't run is credited
 credited : (latest goal : ℕ) (s : Seat) → is_running (hart_of_seat latest s) ≡ false
@@ -121,12 +121,12 @@ credited_seat raised s = record { account = record s.account { credited = s.acco
 
 pub credited-at : (v : Delays) (latest raised woken waker p : ℕ) (seats : List Seat) (s : Seat) → seen latest raised seats ≡ v → woken < length v.harts → is_running (hart_at v woken) ≡ false → total (hart_at v waker).account ≡ v.raised
     → p ≡ woken → s ≡ get_or seats p s → seen latest raised (set seats p (credited_seat raised s)) ≡ with_credit woken waker v
-credited-at v latest raised woken waker p seats s view below waits whole place item =
+credited-at v latest raised woken waker p seats s view below waits whole index item =
     subst (λ (w : Delays). woken < length w.harts → is_running (hart_at w woken) ≡ false → total (hart_at w waker).account ≡ w.raised → seen latest raised (set seats p (credited_seat raised s)) ≡ with_credit woken waker w)
     view go below waits whole
   where
     read : s ≡ get_or seats woken s
-    read = item ∙ ap (λ i. get_or seats i s) place
+    read = item ∙ ap (λ i. get_or seats i s) index
 
     go : woken < length (seen latest raised seats).harts → is_running (hart_at (seen latest raised seats) woken) ≡ false → total (hart_at (seen latest raised seats) waker).account ≡ raised
         → seen latest raised (set seats p (credited_seat raised s)) ≡ with_credit woken waker (seen latest raised seats)
@@ -136,7 +136,7 @@ credited-at v latest raised woken waker p seats s view below waits whole place i
         let still : is_running (hart_of_seat latest s) ≡ false = ap is_running (sym hart) ∙ waits in
         let one : hart_of_seat latest (credited_seat raised s) ≡ credit raised (hart_of_seat latest (get_or seats woken s)) = credited latest raised s still ∙ ap (λ (x : Seat). credit raised (hart_of_seat latest x)) read in
         let all : map (hart_of_seat latest) (set seats woken (credited_seat raised s)) ≡ change idle_hart woken (credit raised) (map (hart_of_seat latest) seats) = standing-set latest woken (credit raised) seats (credited_seat raised s) s at_seat one in
-        ap (λ i. seen latest raised (set seats i (credited_seat raised s))) place
+        ap (λ i. seen latest raised (set seats i (credited_seat raised s))) index
         ∙ ap (λ (hs : List Hart). record { latest = latest; raised = raised; harts = hs }) all
         ∙ ap (λ goal. record { latest = latest; raised = raised; harts = change idle_hart woken (credit goal) (map (hart_of_seat latest) seats) }) (sym whole)
 
@@ -147,17 +147,17 @@ take-seam n xs ys is = rw (← is) (take-append_seam xs ys)
 pub raised-at : (v : Delays) (latest now raised h p ticks n : ℕ) (seats old new : List Seat) → seen latest raised seats ≡ v → All (IsSound latest raised) seats → v.latest ≤ now
     → p ≡ h → old ≡ seats → length old ≡ n → length new ≡ length old → ((k : ℕ) → k < length old → (e : Seat) → IsRaised ticks now p k (get_or old k e) (get_or new k e))
     → seen now (raised + ticks) (take n (new ++ drop (length new) seats)) ≡ with_raise h ticks now v
-raised-at v latest now raised h p ticks n seats old new view sound later place is many same each =
+raised-at v latest now raised h p ticks n seats old new view sound later index is many same each =
     let all : take n (new ++ drop (length new) seats) ≡ new = take-seam n new (drop (length new) seats) (same ∙ many) in
     let raises : (k : ℕ) → k < length seats → (e : Seat) → IsRaised ticks now h k (get_or seats k e) (get_or new k e) =
-    subst (λ i. (k : ℕ) → k < length seats → (e : Seat) → IsRaised ticks now i k (get_or seats k e) (get_or new k e)) place
+    subst (λ i. (k : ℕ) → k < length seats → (e : Seat) → IsRaised ticks now i k (get_or seats k e) (get_or new k e)) index
     (subst (λ (xs : List Seat). (k : ℕ) → k < length xs → (e : Seat) → IsRaised ticks now p k (get_or xs k e) (get_or new k e)) is each) in
     ap (seen now (raised + ticks)) all ∙ raised-all v latest now raised h ticks seats new no_seat view sound later (same ∙ ap length is) raises
 
 -- a hart that runs with no pause starts again
 pub unpaused-at : (v : Delays) (latest now raised h p : ℕ) (seats : List Seat) (s : Seat) → seen latest raised seats ≡ v → All (IsSound latest raised) seats → h < length v.harts → v.latest ≤ now
     → p ≡ h → s ≡ get_or seats p s → IsUnpaused s → seen now raised seats ≡ with_start h now v
-unpaused-at v latest now raised h p seats s view sound below later place item unpaused =
+unpaused-at v latest now raised h p seats s view sound below later index item unpaused =
     subst (λ (w : Delays). h < length w.harts → w.latest ≤ now → seen now raised seats ≡ with_start h now w)
     view
     (λ below' later'. ap (λ (hs : List Hart). record { latest = now; raised = raised; harts = hs })
@@ -166,4 +166,4 @@ unpaused-at v latest now raised h p seats s view sound below later place item un
     below later
   where
     read : s ≡ get_or seats h s
-    read = item ∙ ap (λ i. get_or seats i s) place
+    read = item ∙ ap (λ i. get_or seats i s) index

@@ -80,7 +80,7 @@ standing-again now seat unpaused = go seat.account seat.pending unpaused
         let pause : p.pause - (now - p.since) ≡ 0 = omega arith in
         ap₂ (λ (m n : ℕ). record { account = record { own = a.own; paused = a.paused + min (now - p.since) p.pause; credited = a.credited }; load = Some (record { work = m; pause = n }) }) work pause
 
--- no seat is written where a change leaves the hart as it is
+-- no seat is written if a change leaves the hart as it is
 pub standing-kept : (now h : ℕ) (f : Hart → Hart) (seats : List Seat) (d : Seat) → h < length seats → hart_of_seat now (get_or seats h d) ≡ f (hart_of_seat now (get_or seats h d)) → map (hart_of_seat now) seats ≡ change idle_hart h f (map (hart_of_seat now) seats)
 standing-kept now h f [] d below is = absurd (omega arith)
 standing-kept now zero f (x ∷ xs) d below is = ap (λ (y : Hart). y ∷ map (hart_of_seat now) xs) is

@@ -1,4 +1,4 @@
--- What the seats of harts stand for.
+-- The delays of harts, by their seats.
 use Rattle.std.specs.Prelude.{◌≡◌, ℕ, ◌+◌, ◌-◌, ◌≤◌, ◌<◌, ◌^◌, min, List, length, slice_index_or, Some, None}
 use Rattle.machines.specs.Delayed.{Hart, raise_hart, total}
 use Rattle.machines.specs.Steps.{sit_load}
@@ -25,11 +25,11 @@ pub record IsSound (latest raised : ℕ) (seat : Seat) : Type 0 where
   pub past : since_of seat ≤ latest
   pub within : total (account_as seat.account) + pause_owed seat ≤ raised
 
--- no hart from a place on runs
+-- no hart from an index on runs
 abbrev pub AreIdleFrom : ℕ → List Seat → Type 0
 AreIdleFrom first seats =
-    (place : ℕ) → first ≤ place → place < length seats
-    → (d : Seat) → (slice_index_or seats place d).pending ≡ None
+    (index : ℕ) → first ≤ index → index < length seats
+    → (d : Seat) → (slice_index_or seats index d).pending ≡ None
 
 -- the seat of the same hart, looked at at a moment
 abbrev pub settled_seat : ℕ → Seat → Seat
@@ -53,8 +53,8 @@ abbrev pub Fits : ℕ → Seat → Type 0
 Fits ticks seat = total (account_as seat.account) + pause_owed seat + ticks < 2 ^ 64
 
 -- a seat before and after a raise of `ticks` ticks at a moment
-pub record IsRaised (ticks now raiser place : ℕ) (old new : Seat) : Type 0 where
-  pub stands : hart_of_seat now new ≡ raise_hart ticks raiser place (hart_of_seat now old)
+pub record IsRaised (ticks now raiser index : ℕ) (old new : Seat) : Type 0 where
+  pub stands : hart_of_seat now new ≡ raise_hart ticks raiser index (hart_of_seat now old)
   pub past : since_of new ≤ now
   pub within : total (account_as new.account) + pause_owed new
       ≤ total (account_as old.account) + pause_owed old + ticks

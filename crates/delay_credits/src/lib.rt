@@ -25,7 +25,7 @@ use std::marker::Model;
 #[derive(Drop)]
 pub struct Credits {
     seats: Vec<Seat>,
-    // One past the greatest place that was ever started, so a raise ends here.
+    // One past the greatest number of a hart that was ever started, so a raise ends here.
     used: usize,
     latest: Tick,
     raised: Tick,
@@ -80,21 +80,21 @@ impl Credits {
         requires later { self.old.latest ≤ now }
         ensures { self.new ≡ with_start hart.0 now self.old }
     {
-        let place = usize::from(hart.0);
-        let seat = self.seats[place];
+        let index = usize::from(hart.0);
+        let seat = self.seats[index];
         if is_unpaused(seat) {
             self.latest = now;
             return;
         }
         let account = settle(seat, now).account;
-        self.seats[place] = Seat {
+        self.seats[index] = Seat {
             account,
             pending: Some(Pending {
                 since: now,
                 pause: 0,
             }),
         };
-        self.used = self.used.max(place + 1);
+        self.used = self.used.max(index + 1);
         self.latest = now;
     }
 
@@ -106,9 +106,9 @@ impl Credits {
         requires unpaused { pause_of (hart_at (at now self.old) hart.0) ≡ 0 }
         ensures { self.new ≡ with_stop hart.0 now self.old }
     {
-        let place = usize::from(hart.0);
-        let account = settle(self.seats[place], now).account;
-        self.seats[place] = Seat {
+        let index = usize::from(hart.0);
+        let account = settle(self.seats[index], now).account;
+        self.seats[index] = Seat {
             account,
             pending: None,
         };
@@ -138,10 +138,10 @@ impl Credits {
         requires whole { total (hart_at self.old waker.0).account ≡ self.old.raised }
         ensures { self.new ≡ with_credit woken.0 waker.0 self.old }
     {
-        let place = usize::from(woken.0);
-        let account = self.seats[place].account;
+        let index = usize::from(woken.0);
+        let account = self.seats[index].account;
         let total = account.own + account.paused + account.credited;
-        self.seats[place] = Seat {
+        self.seats[index] = Seat {
             account: Account {
                 credited: account.credited + (self.raised - total),
                 ..account

@@ -54,16 +54,16 @@ pub(crate) fn settle(seat: Seat, now: Tick) -> Seat
 
 /// The seat of a running hart after a raise at a moment: its own delay grows if the hart raised
 /// it, else its pause.
-pub(crate) fn raise_seat(seat: Seat, ticks: Tick, now: Tick, raiser: usize, place: usize) -> Seat
+pub(crate) fn raise_seat(seat: Seat, ticks: Tick, now: Tick, raiser: usize, index: usize) -> Seat
     requires past { since_of seat ≤ now }
     requires fits { Fits ticks seat }
-    ensures { IsRaised ticks now raiser place seat result }
+    ensures { IsRaised ticks now raiser index seat result }
 {
     let seat = settle(seat, now);
     let Some(pending) = seat.pending else {
         return seat;
     };
-    if place == raiser {
+    if index == raiser {
         Seat {
             account: Account {
                 own: seat.account.own + ticks,
@@ -88,12 +88,12 @@ pub(crate) fn raise_each(seats: &mut [Seat], used: usize, ticks: Tick, now: Tick
     requires idle { AreIdleFrom used seats.old }
     requires past { All (λ seat. since_of seat ≤ now) seats.old }
     requires fits { All (Fits ticks) seats.old }
-    ensures raised { (place : ℕ) → place < length seats.old → (d : Seat) →
-        IsRaised ticks now raiser place
-        (slice_index_or seats.old place d) (slice_index_or seats.new place d) }
+    ensures raised { (index : ℕ) → index < length seats.old → (d : Seat) →
+        IsRaised ticks now raiser index
+        (slice_index_or seats.old index d) (slice_index_or seats.new index d) }
     ensures idle { AreIdleFrom used seats.new }
 {
-    for place in 0..used {
-        seats[place] = raise_seat(seats[place], ticks, now, raiser, place);
+    for index in 0..used {
+        seats[index] = raise_seat(seats[index], ticks, now, raiser, index);
     }
 }

@@ -33,7 +33,7 @@ pub joined_step : {A : Type 0} (xs : List A) (x : A) (r : Reading (List A) LineF
 joined_step xs x (Ok more) = ap (λ (ys : List _). Ok (ys, more.1)) (append_assoc xs (x ∷ []) more.0)
 joined_step xs x (Err e) = refl
 
--- a text is empty where its length is 0
+-- a text is empty if its length is 0
 pub is_nothing : (text : List ℕ) → (length text == 0) ≡ true → text ≡ []
 is_nothing [] e = refl
 is_nothing (x ∷ xs) e = absurd (omega (arith, eqb-true (length (x ∷ xs)) 0 e))

@@ -419,7 +419,7 @@ abbrev pub WalksOn : {X : Type 0} → Result X LineFault → Ahead → Result Ah
 WalksOn (Ok x) new reads = reads ≡ Ok new
 WalksOn (Err e) new reads = reads ≡ Err e
 
--- The same where memory may run out.
+-- The same if memory may run out.
 abbrev pub WalksOver : {X A : Type 0} → (X → A) → Result X (Failure LineFault) → Ahead
     → Reading A LineFault → Type 0
 WalksOver view (Ok x) new reads = reads ≡ Ok (view x, new)

@@ -77,8 +77,8 @@ fn byte_of(value: u8, kind: LineKind, cursor: &mut Cursor) -> Result<u8, LineFau
     }
 }
 
-/// In version 5 the sizes of an address, which has to be 8, and of a segment, which has to be 0.
-/// Err tells the first that isn't so.
+/// Reads address_size and segment_selector_size, which version 5 has. Err is the first fault: the
+/// sizes have to be 8 and 0.
 pub fn address_sizes(version: u16, cursor: &mut Cursor) -> Result<(), LineFault>
     ensures { WalksOn result cursor.new (sizes version cursor.old) }
 {
@@ -89,8 +89,7 @@ pub fn address_sizes(version: u16, cursor: &mut Cursor) -> Result<(), LineFault>
     Ok(())
 }
 
-/// From version 4 on the count of operations for an instruction, which has to be 1.
-/// Err if it isn't.
+/// Reads maximum_operations_per_instruction, which a unit has from version 4 on. Err if it isn't 1.
 pub fn one_operation(version: u16, cursor: &mut Cursor) -> Result<(), LineFault>
     ensures { WalksOn result cursor.new (operations version cursor.old) }
 {
@@ -100,7 +99,7 @@ pub fn one_operation(version: u16, cursor: &mut Cursor) -> Result<(), LineFault>
     Ok(())
 }
 
-/// The next bytes as a cursor of their own; where there are fewer, the fault is at this place,
+/// The next bytes as a cursor of their own; if there are fewer, the fault is at this place,
 /// which announced them.
 pub fn announced<'a>(
     place: u64,

@@ -1,5 +1,11 @@
 //! Reads the line programs of a `.debug_line` section, versions 2 to 5
 //! (DWARF 4 and 5, section 6.2).
+//!
+//! ```text
+//! let table = read_lines(alloc, debug_line, debug_str, debug_line_str)?;
+//! let row = table.rows[0];              // its address, line, column and file
+//! table.files[row.file? as usize].name  // b"main.c"
+//! ```
 #![tactic(auto)]
 
 pub mod codes;
@@ -31,7 +37,7 @@ use failures::Failure;
 use leb_cursor::{Cursor, LebFault};
 use std::alloc::Global;
 
-/// What is wrong with a field.
+/// What is wrong with a field of a section `.debug_line` (DWARF 4 and 5, section 6.2).
 #[derive(Clone, Copy, Debug, PartialEq, Eq)]
 pub enum LineKind {
     /// It runs past its bound.
@@ -40,7 +46,7 @@ pub enum LineKind {
     Wide,
     /// A unit_length of the 64-bit form, or a reserved one.
     LongForm,
-    /// More than one operation for an instruction.
+    /// A maximum_operations_per_instruction that isn't 1.
     ManyOps,
     /// A line_range of 0.
     ZeroRange,
@@ -48,7 +54,7 @@ pub enum LineKind {
     OpcodeBaseZero,
     /// A row whose line doesn't fit 32 bits.
     LineOut,
-    /// A set_address that isn't 9 bytes long.
+    /// A DW_LNE_set_address that isn't 9 bytes long.
     AddressLength,
     /// A unit that ends within a sequence.
     Unended,
@@ -56,11 +62,12 @@ pub enum LineKind {
     AddressSize,
     /// A segment_selector_size of version 5 that isn't 0.
     SegmentSize,
-    /// A form that isn't known, or that its content may not have.
+    /// A DW_FORM code that isn't known, or that its DW_LNCT content may not have.
     FormOut,
-    /// Entries without a format.
+    /// A directories_count or a file_names_count above 0 whose format count is 0.
     EmptyEntries,
-    /// A place that isn't in its section of texts, or that no zero byte follows there.
+    /// An offset (DW_FORM_strp or DW_FORM_line_strp) that isn't in its section, or after which no
+    /// zero byte follows.
     TextOut,
 }
 
@@ -124,7 +131,7 @@ pub struct Row {
     pub file: Option<u32>,
     /// The number of the line in its file; 0 if there is none.
     pub line: u32,
-    /// The column in the line; 0 if it isn't told.
+    /// The column in the line, from 1; 0 if it isn't known.
     pub column: u64,
     /// The address begins a statement.
     pub is_stmt: bool,

@@ -21,7 +21,7 @@ pub enum Value<'a> {
     Text(&'a [u8]),
     /// A number.
     Number(u64),
-    /// Bytes that nothing is made of.
+    /// Bytes that are skipped.
     Other,
 }
 
@@ -42,7 +42,7 @@ fn other<'a>(count: u64, cursor: &mut Cursor<'a>) -> Result<Value<'a>, LineFault
     Ok(Value::Other)
 }
 
-/// The text at the place that four bytes say.
+/// The text at the offset in the next four bytes.
 fn text_in<'a>(texts: &Texts<'a>, cursor: &mut Cursor<'a>) -> Result<Value<'a>, LineFault>
     ensures { Walks value_view result cursor.new (text_in texts.now.bytes.now cursor.old) }
 {
@@ -83,7 +83,7 @@ fn read_value<'a>(
     }
 }
 
-/// Of several values with one content the last counts.
+/// The entry with one more value. Of several values with one content the last counts.
 fn with_value<'a>(content: u64, value: Value<'a>, entry: Entry<'a>) -> Entry<'a>
     ensures { entry_view result
         ≡ with_value content (value_view value.entry) (entry_view entry.entry) }
@@ -98,7 +98,7 @@ fn with_value<'a>(content: u64, value: Value<'a>, entry: Entry<'a>) -> Entry<'a>
     }
 }
 
-/// A value for each format, and what they make.
+/// Reads an entry: a value for each format.
 fn read_entry<'a>(
     strings: &Strings<'a>,
     formats: &[Format],

@@ -75,7 +75,7 @@ short_stands [] name le = refl
 short_stands (b ∷ bs) [] le = absurd (omega arith)
 short_stands (b ∷ bs) (x ∷ xs) le = rw (short_stands bs xs (omega arith), and_false (b == x)) (and_false (not (b == 0)))
 
--- where neither has a zero byte, equal bytes are enough
+-- if neither has a zero byte, equal bytes are enough
 not_zero : (b x : ℕ) (rest : Bool) → (x == 0) ≡ false → (not (b == 0) && ((b == x) && rest)) ≡ ((b == x) && rest)
 not_zero b x rest none =
     elim (cases_Bool (b == x)) [

@@ -234,7 +234,7 @@ entered_by file a (s ∷ ss) e =
 
 -- ---- the image
 
--- what the rows on the tables say where none holds
+-- what the rows on the tables say if none holds
 pub record NoRow (file : List ℕ) : Type 0 where
   pub in_file : AllByRecursion (λ s. (is_load s && runs_past file s.offset s.filesz) ≡ false) (segments file)
   pub in_memory : AllByRecursion (λ s. (is_load s && nat_lt s.memsz s.filesz) ≡ false) (segments file)

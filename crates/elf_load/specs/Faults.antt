@@ -1,4 +1,4 @@
--- The table of faults: the first row that holds of the file tells its fault.
+-- The table of faults: the fault of a file is that of the first row that holds of it.
 use Rattle.std.specs.Prelude.{◌≡◌, ℕ, ◌*◌, ◌%◌, Bool, not, ◌&&◌, ◌||◌, List, [], ◌∷◌, ◌++◌, length, take, sum_by, slice_index, Option, Some, None, Result, Ok, Err, option_map, find, nat_lt, nat_le, ◌==◌, if◌then◌else◌, bytes_eq}
 use Rattle.std.specs.List.{list_any}
 use Rattle.coz_types.specs.declared.TheConstants.{PAGE, LOAD_END, MAX_LOADED}
@@ -12,7 +12,7 @@ use Rattle.elf_load.specs.declared.tables.Segment.{Segment}
 use Rattle.elf_load.specs.declared.tables.Section.{Section}
 use Rattle.elf_load.specs.Tables.{kind_of, machine, entry, phoff, shoff, flags, phentsize, phnum, shentsize, shnum, shstrndx, has_bit, runs_past, segments, sections, is_load, is_interp, load_areas, is_executable, is_writable, first_page, end_page, pages, share_page, has_address, has_bytes, is_compressed, holds_lines}
 
--- a row: its kind, where it holds, and its place
+-- a row: its kind, whether it holds, and its place
 abbrev pub row : ElfKind → Bool → ℕ → Option ElfFault
 row kind holds place = if holds then Some (record { kind = kind; place = place }) else None
 
@@ -90,7 +90,7 @@ table_rows file = rows_on file (segments file) (sections file) (load_areas file)
 unfoldable pub fault : List ℕ → Option ElfFault
 fault file = first_row (header_rows file ++ table_rows file)
 
--- a check passes where no fault is there, and else answers it
+-- a check passes if no fault is there, and else answers it
 abbrev pub Judges : Result (Unit {0}) ElfFault → Option ElfFault → Type 0
 Judges (Ok passed) found = found ≡ None
 Judges (Err f) found = found ≡ Some f

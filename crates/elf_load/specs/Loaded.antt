@@ -19,7 +19,7 @@ rights_of s = record {
   execute = is_executable s;
 }
 
--- The area of a program header. Where it has no bytes in the file, its offset may be anything,
+-- The area of a program header. If it has no bytes in the file, its offset may be anything,
 -- and is taken for the file's end at most.
 abbrev pub area_of : List ℕ → Segment → Area
 area_of file s = record {

@@ -142,7 +142,7 @@ is_compressed s = has_bit 11 s.flags
 abbrev pub bytes_of : List ℕ → Section → List ℕ
 bytes_of file s = take s.size (drop s.offset file)
 
--- the bytes of the section that holds the names, none where there is no such section
+-- the bytes of the section that holds the names, none if there is no such section
 abbrev pub names : List ℕ → List ℕ
 names file =
     let s = section_at file (shoff file + SHDR_SIZE * shstrndx file) in
@@ -158,7 +158,7 @@ text bytes = option_map (λ k. take k bytes) (position (λ b. b == 0) bytes)
 abbrev pub is_text : List ℕ → List ℕ → Bool
 is_text bytes name = elim (text bytes) [ Some n ↦ bytes_eq n name | None ↦ false ]
 
--- among these names the section has this one: it has none where its name runs past them
+-- among these names the section has this one: it has none if its name runs past them
 abbrev pub has_name : List ℕ → List ℕ → Section → Bool
 has_name names name s = is_text (drop s.name names) name
 

@@ -39,14 +39,18 @@ pub const E_SHSTRNDX: usize = 62;
 
 // The codes of these fields.
 
-/// The class of 64-bit files.
+/// The first four bytes of a file.
+pub const ELFMAG: [u8; 4] = [0x7F, b'E', b'L', b'F'];
+/// The e_ident[EI_CLASS] of 64-bit files.
 pub const ELFCLASS64: u8 = 2;
-/// Numbers have their lowest byte first.
+/// The e_ident[EI_DATA] of numbers that have their lowest byte first.
 pub const ELFDATA2LSB: u8 = 1;
 /// The kind of a program with fixed addresses.
 pub const ET_EXEC: u16 = 2;
 /// The machine RISC-V (RISC-V ELF psABI, "File Header").
 pub const EM_RISCV: u16 = 243;
+/// e_flags: bit 0, the code has compressed instructions (RISC-V ELF psABI, e_flags).
+pub const EF_RISCV_RVC: u32 = 1;
 /// The e_phnum of a file whose number of program headers does not fit (PN_XNUM).
 pub const PN_XNUM: u16 = 0xFFFF;
 
@@ -74,11 +78,11 @@ pub const PT_INTERP: u32 = 3;
 
 // The bits of its flags, counted from 0.
 
-/// It may be executed.
+/// The bit of p_flags, from 0, by which the bytes may be executed.
 pub const PF_X: u32 = 0;
-/// It may be written.
+/// The bit of p_flags, from 0, by which the bytes may be written.
 pub const PF_W: u32 = 1;
-/// It may be read.
+/// The bit of p_flags, from 0, by which the bytes may be read.
 pub const PF_R: u32 = 2;
 
 // The places of fields in a section header (gABI, "Sections").

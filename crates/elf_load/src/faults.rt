@@ -175,8 +175,8 @@ fn entry_in_code(file: &[u8], segments: &[Segment]) -> Result<(), ElfFault>
     }
 }
 
-/// No row on program headers and section headers holds.
-/// Err is the first that does, or out of memory.
+/// Checks the program headers and the section headers of a file. Err is their first fault, or out
+/// of memory.
 pub fn check_tables(
     alloc: Global,
     file: &[u8],

@@ -5,8 +5,8 @@ ghost use Rattle.elf_load.specs.Faults.{Judges, first_row, header_rows};
 
 use crate::codes::{
     E_FLAGS, E_MACHINE, E_PHENTSIZE, E_PHNUM, E_PHOFF, E_SHENTSIZE, E_SHNUM, E_SHOFF, E_SHSTRNDX,
-    E_TYPE, EHDR_SIZE, EI_CLASS, EI_DATA, ELFCLASS64, ELFDATA2LSB, EM_RISCV, ET_EXEC, PHDR_SIZE,
-    PN_XNUM, SHDR_SIZE,
+    E_TYPE, EF_RISCV_RVC, EHDR_SIZE, EI_CLASS, EI_DATA, ELFCLASS64, ELFDATA2LSB, ELFMAG, EM_RISCV,
+    ET_EXEC, PHDR_SIZE, PN_XNUM, SHDR_SIZE,
 };
 use crate::fields::{double_at, half_at, runs_past, word_at};
 use crate::{ElfFault, ElfKind};
@@ -17,14 +17,14 @@ fn fault(kind: ElfKind, place: u64) -> Result<(), ElfFault>
     Err(ElfFault { kind, place })
 }
 
-/// No row on the header holds. Err tells the first that does.
+/// Checks the header of a file. Err is its first fault.
 pub fn check_header(file: &[u8]) -> Result<(), ElfFault>
     ensures { Judges result (first_row (header_rows file.now)) }
 {
     if file.len() < EHDR_SIZE {
         return fault(ElfKind::NotElf, file.len() as u64);
     }
-    if file[..4] != [0x7F, b'E', b'L', b'F'] {
+    if file[..4] != ELFMAG[..] {
         return fault(ElfKind::NotElf, 0);
     }
     if file[EI_CLASS] != ELFCLASS64 {
@@ -39,7 +39,7 @@ pub fn check_header(file: &[u8]) -> Result<(), ElfFault>
     if half_at(file, E_MACHINE) != EM_RISCV {
         return fault(ElfKind::NotRiscv, E_MACHINE as u64);
     }
-    if word_at(file, E_FLAGS) % 2 == 1 {
+    if word_at(file, E_FLAGS) % 2 == EF_RISCV_RVC {
         return fault(ElfKind::Compressed, E_FLAGS as u64);
     }
     let segments = half_at(file, E_PHNUM);

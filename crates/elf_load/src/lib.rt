@@ -37,35 +37,36 @@ use std::alloc::Global;
 /// What may be wrong with a file, in the order in which it is judged.
 #[derive(Clone, Copy, Debug, PartialEq, Eq)]
 pub enum ElfKind {
-    /// It has no ELF header: it is too short, or its first bytes are others.
+    /// It has no ELF header: it is shorter than 64 bytes, or e_ident does not begin with ELFMAG.
     NotElf,
-    /// It is no file of 64 bits.
+    /// e_ident[EI_CLASS] is not ELFCLASS64: it is no file of 64 bits.
     NotClass64,
-    /// Its numbers don't have their lowest byte first.
+    /// e_ident[EI_DATA] is not ELFDATA2LSB: its numbers don't have their lowest byte first.
     NotLittle,
-    /// It is no executable file of fixed addresses (ET_EXEC).
+    /// e_type is not ET_EXEC: it is no executable file of fixed addresses.
     NotExec,
-    /// It is for another machine.
+    /// e_machine is not EM_RISCV: it is for another machine.
     NotRiscv,
-    /// It may have compressed instructions (EF_RISCV_RVC).
+    /// e_flags has EF_RISCV_RVC: it may have compressed instructions.
     Compressed,
-    /// A table, or the bytes of an entry, are not in the file.
+    /// A table of headers, or the bytes that an entry names, do not lie in the file; or
+    /// e_phentsize, e_shentsize, e_phnum or e_shstrndx is not valid.
     HeaderOut,
     /// A section `.debug_line`, `.debug_str` or `.debug_line_str` is compressed.
     PackedLines,
-    /// It asks for an interpreter.
+    /// It has a PT_INTERP: it asks for an interpreter.
     Interp,
-    /// A PT_LOAD has more bytes in the file than in memory.
+    /// The p_filesz of a PT_LOAD exceeds its p_memsz.
     SizeOrder,
     /// A load area is not within 0x1000 to 0x20_0000_0000.
     AddressOut,
-    /// A PT_LOAD may be written and executed.
+    /// The p_flags of a PT_LOAD have PF_W and PF_X.
     WritableCode,
     /// A load area has a page of an earlier one.
     SharedPage,
     /// The load areas up to this one have more than 64 MiB.
     TooMuch,
-    /// The entry is no multiple of 4 in an executable PT_LOAD.
+    /// e_entry is no multiple of 4 in an executable PT_LOAD.
     EntryOut,
 }
 
@@ -90,9 +91,9 @@ impl From<ElfFault> for LoadError {
     }
 }
 
-/// The image of an ELF64 file for RISC-V, or the first fault that it has (ELF-64 Object
-/// File Format, version 1.5). The areas are those of its program headers, in their order.
-/// Want of memory may come in place of either.
+/// The image of an ELF64 file for RISC-V, or the first fault that it has (ELF-64 Object File
+/// Format, version 1.5). The areas are those of its program headers, in their order. Err may be out
+/// of memory in place of either.
 pub fn load<'a>(alloc: Global, file: &'a [u8]) -> Result<Image<'a>, LoadError>
     ensures answer { Loads result (load_answer file.now) }
     ensures faultless { IfOk result (λ image. fault image.file ≡ None) }

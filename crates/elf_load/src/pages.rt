@@ -46,7 +46,8 @@ pub fn no_shared_page(alloc: Global, areas: &[Segment]) -> Result<(), LoadError>
     Ok(())
 }
 
-/// All areas have at most 64 MiB together. Err tells the area with which they have more.
+/// Ok if all areas have at most 64 MiB together. Err is the fault of the area with which they have
+/// more.
 pub fn not_too_much(areas: &[Segment]) -> Result<(), ElfFault>
     ensures { Judges result (entry_row ElfKind.TooMuch (first_area (λ earlier s.
         nat_lt MAX_LOADED (PAGE * sum_by pages (s ∷ earlier))) areas.now)) }

@@ -29,7 +29,7 @@ pub fn named_section(file: &[u8], name: &[u8]) -> Option<Section>
     None
 }
 
-/// The bytes of the first section of that name. None where there is none.
+/// The bytes of the first section of that name. None if there is none.
 #[tactic(auto, unfolding(crate::specs::Loaded::section))]
 pub fn section_of<'a>(file: &'a [u8], name: &[u8]) -> Option<&'a [u8]>
     requires { HasHeaders file.now }

@@ -29,7 +29,7 @@ abbrev pub total : (Hand → ℕ) → List Hand → ℕ
 total f [] = 0
 total f (h ∷ hs) = f h + total f hs
 
--- where the claim word is w: the turns of all seats and w are all turns, as many numbers were
+-- if the claim word is w: the turns of all seats and w are all turns, as many numbers were
 -- drawn as w says, and the lists of all seats have each number below w once and no other
 pub record Fits (w : ℕ) (hands : List Hand) : Type 0 where
   pub turns : total (λ h. h.turns) hands + w ≡ all_turns

@@ -13,7 +13,7 @@ abbrev pub IsSeatOf : Claims → ClaimSeat → Type 0
 IsSeatOf c s = s.seat.table_id ≡ c.table.shared.table_id
 
 -- one draw: a turn is spent, and one number is put after those that the seat has, greater
--- than each of them and no less than how many they are. It is answered where it is below the bound.
+-- than each of them and no less than how many they are. It is answered if it is below the bound.
 pub record Draws (bound : ℕ) (old new : Hand) (answer : Option ℕ) : Type 0 where
   pub number : ℕ
   pub turn : new.turns + 1 ≡ old.turns

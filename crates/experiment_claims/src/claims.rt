@@ -21,8 +21,8 @@ impl Claims {
         Ok((Claims { table, bound }, ClaimSeat { seat }))
     }
 
-    /// Spends one turn of the seat on the next number, which no other seat gets. `None` comes
-    /// if it is the bound or more.
+    /// Spends one turn of the seat on the next number, which no other seat gets. Returns `None` if
+    /// that number is the bound or more.
     pub fn draw(&self, seat: &mut ClaimSeat) -> Option<u32>
         requires seat { IsSeatOf self.now seat.old }
         requires turn { 0 < (hand_of seat.old).turns }
@@ -36,8 +36,8 @@ impl Claims {
         None
     }
 
-    /// Divides a seat in two: the second has that many of its turns and no numbers,
-    /// and the first keeps the rest.
+    /// Divides a seat in two: the second has `turns` of its turns and no numbers, and the first
+    /// keeps the rest.
     pub fn split(&self, seat: ClaimSeat, turns: u64) -> (ClaimSeat, ClaimSeat)
         requires seat { IsSeatOf self.now seat }
         requires turns { turns ≤ (hand_of seat).turns }

@@ -12,10 +12,10 @@ use Rattle.std.proofs.lemmas.Bool.{leb-true}
 use Rattle.experiment_plan.specs.Lists.{Text, is_colon, is_comma, is_number, is_path, number_in, is_line, pieces}
 use Rattle.experiment_plan.proofs.Bools.{both_true, not_not}
 
--- where a colon stands right before a place and none after it, that is the place after the last
-pub behind : (text : Text) (place : ℕ) → place ≤ length text → ((k : ℕ) → place ≤ k → k < length text → is_colon (get_or text k 0) ≡ false)
-    → (0 < place → is_colon (get_or text (place - 1) 0) ≡ true) → suffix_len (λ b. not (is_colon b)) text ≡ length text - place
-behind text place within none there = suffix_len_is (λ b. not (is_colon b)) text place 0 within (λ k le lt. ap not (none k le lt)) (λ some. ap not (there some))
+-- if a colon stands right before an offset and none after it, that is the offset after the last
+pub behind : (text : Text) (offset : ℕ) → offset ≤ length text → ((k : ℕ) → offset ≤ k → k < length text → is_colon (get_or text k 0) ≡ false)
+    → (0 < offset → is_colon (get_or text (offset - 1) 0) ≡ true) → suffix_len (λ b. not (is_colon b)) text ≡ length text - offset
+behind text offset within none there = suffix_len_is (λ b. not (is_colon b)) text offset 0 within (λ k le lt. ap not (none k le lt)) (λ some. ap not (there some))
 
 -- ---- the number of a line is one, and fits 32 bits
 
@@ -37,31 +37,31 @@ line_number text number line after =
 
 -- ---- a list
 
-pub first : (text : Text) (place : ℕ) → place ≤ length text → ((k : ℕ) → k < place → is_comma (get_or text k 0) ≡ false) → (place < length text → is_comma (get_or text place 0) ≡ true)
-    → place ≡ position_or_len is_comma text
-first text place within none there = sym (position_or_len_is is_comma text place 0 within none there)
+pub first : (text : Text) (offset : ℕ) → offset ≤ length text → ((k : ℕ) → k < offset → is_comma (get_or text k 0) ≡ false) → (offset < length text → is_comma (get_or text offset 0) ≡ true)
+    → offset ≡ position_or_len is_comma text
+first text offset within none there = sym (position_or_len_is is_comma text offset 0 within none there)
 
 pub one_piece : (text : Text) → AllWithin (λ b. is_comma b ≡ false) text 0 (length text) → pieces text ≡ text ∷ []
 unfolding pieces
 one_piece text none = slice_split_none is_comma text (λ i d lt. none i d (omega arith) lt)
 
-pub first_and_rest : (text : Text) (place : ℕ) → place ≡ position_or_len is_comma text → place < length text
-    → pieces text ≡ take place text ∷ pieces (take (length text - (place + 1)) (drop (place + 1) text))
+pub first_and_rest : (text : Text) (offset : ℕ) → offset ≡ position_or_len is_comma text → offset < length text
+    → pieces text ≡ take offset text ∷ pieces (take (length text - (offset + 1)) (drop (offset + 1) text))
 unfolding pieces
-first_and_rest text place is lt =
-    let rest = drop (place + 1) text in
+first_and_rest text offset is lt =
+    let rest = drop (offset + 1) text in
     subst (λ (n : ℕ). slice_split is_comma text ≡ take n text ∷ slice_split is_comma (drop (n + 1) text)) (sym is) (slice_split_first is_comma text 0 (omega (arith, is, lt)))
-    ∙ ap (λ (t : Text). take place text ∷ slice_split is_comma t) (sym (take_all (length text - (place + 1)) rest (omega (arith, length-drop (place + 1) text))))
+    ∙ ap (λ (t : Text). take offset text ∷ slice_split is_comma t) (sym (take_all (length text - (offset + 1)) rest (omega (arith, length-drop (offset + 1) text))))
 
 -- the text is what stands before its first comma, the comma and the rest
-pub cut_there : (text : Text) (place : ℕ) → place ≡ position_or_len is_comma text → place < length text → text ≡ take place text ++ 44 ∷ take (length text - (place + 1)) (drop (place + 1) text)
-cut_there text place is lt =
-    let rest = drop (place + 1) text in
+pub cut_there : (text : Text) (offset : ℕ) → offset ≡ position_or_len is_comma text → offset < length text → text ≡ take offset text ++ 44 ∷ take (length text - (offset + 1)) (drop (offset + 1) text)
+cut_there text offset is lt =
+    let rest = drop (offset + 1) text in
     let stops : not (is_comma (get_or text (position_or_len is_comma text) 0)) ≡ false = prefix_len_stops (λ b. not (is_comma b)) text 0 (omega (arith, is, lt)) in
-    let comma : get_or text place 0 ≡ 44 = ap (λ k. get_or text k 0) is ∙ eqb-true (get_or text (position_or_len is_comma text) 0) 44 (not_not (is_comma (get_or text (position_or_len is_comma text) 0)) (sym stops)) in
-    let on : suc place ≡ place + 1 = omega arith in
-    sym (take-append-drop place text)
-    ∙ ap (λ (t : Text). take place text ++ t) (drop-cons text place 0 lt)
-    ∙ ap (λ k. take place text ++ get_or text place 0 ∷ drop k text) on
-    ∙ ap (λ b. take place text ++ b ∷ rest) comma
-    ∙ ap (λ (t : Text). take place text ++ 44 ∷ t) (sym (take_all (length text - (place + 1)) rest (omega (arith, length-drop (place + 1) text))))
+    let comma : get_or text offset 0 ≡ 44 = ap (λ k. get_or text k 0) is ∙ eqb-true (get_or text (position_or_len is_comma text) 0) 44 (not_not (is_comma (get_or text (position_or_len is_comma text) 0)) (sym stops)) in
+    let on : suc offset ≡ offset + 1 = omega arith in
+    sym (take-append-drop offset text)
+    ∙ ap (λ (t : Text). take offset text ++ t) (drop-cons text offset 0 lt)
+    ∙ ap (λ k. take offset text ++ get_or text offset 0 ∷ drop k text) on
+    ∙ ap (λ b. take offset text ++ b ∷ rest) comma
+    ∙ ap (λ (t : Text). take offset text ++ 44 ∷ t) (sym (take_all (length text - (offset + 1)) rest (omega (arith, length-drop (offset + 1) text))))

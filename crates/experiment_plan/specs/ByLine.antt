@@ -10,7 +10,7 @@ goes_on pair [] = false
 goes_on pair (next ∷ pairs) = pair.line.0 == next.line.0
 
 -- the maximal runs of pairs of one line, in their order: a pair stands in the run of the next
--- one where that has its line
+-- one if that has its line
 abbrev pub by_line : List Experiment → List (List Experiment)
 by_line [] = []
 by_line (pair ∷ pairs) =

@@ -14,7 +14,7 @@ is_digit b = nat_le 48 b && nat_le b 57
 abbrev pub is_number : Text → Bool
 is_number text = nat_lt 0 (length text) && nat_le (length text) 20 && list_all is_digit text
 
--- the number, where the text is one from `least` to `most`
+-- the number, if the text is one from `least` to `most`
 abbrev pub number_in : ℕ → ℕ → Text → Option ℕ
 number_in least most text =
     let n = digits_value 10 text in
@@ -56,7 +56,7 @@ abbrev pub pieces_left : Option Text → List Text
 pieces_left None = []
 pieces_left (Some text) = pieces text
 
--- the text is the piece, and where something is left a comma and that
+-- the text is the piece, and if something is left a comma and that
 abbrev pub IsCut : Text → Text → Option Text → Type 0
 IsCut text piece None = text ≡ piece
 IsCut text piece (Some rest) = text ≡ piece ++ 44 ∷ rest

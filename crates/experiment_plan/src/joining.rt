@@ -32,13 +32,13 @@ pub fn places_among(
 ) -> Result<Vec<PointId>, AllocError>
     requires { length lines.now ≤ MAX_POINTS }
     ensures { IfOk result (λ places.
-        map (λ (place : PointId). place.0) places.items
+        map (λ (position : PointId). position.0) places.items
         ≡ places_among (ids lines.now) (ids list.now)) }
 {
     let mut places = Vec::new(alloc);
-    for (place, line) in lines.iter().enumerate() {
+    for (position, line) in lines.iter().enumerate() {
         if list.contains(line) {
-            places.push(PointId(place as u16))?;
+            places.push(PointId(position as u16))?;
         }
     }
     Ok(places)

@@ -1,6 +1,5 @@
-//! What a line and a list of lines are, as an experiment's words name them, and the numbers
-//! in them; which lines of a program such a list selects; and the plan of the experiments
-//! on lines at speedups.
+//! Lines, lists of lines and numbers, as arguments spell them; the lines of a program that a list
+//! selects; and the plan of a profile: each selected line at each speedup.
 #![tactic(auto)]
 
 mod by_line;

@@ -10,13 +10,13 @@ use coz_types::MAX_LINE;
 /// The index after the last `:`, or 0 if there is none.
 fn behind_last_colon(text: &[u8]) -> usize
     ensures within { result ≤ length text.now }
-    ensures place { suffix_len (λ b. not (is_colon b)) text.now ≡ length text.now - result }
+    ensures offset { suffix_len (λ b. not (is_colon b)) text.now ≡ length text.now - result }
 {
-    let mut place = text.len();
-    while place > 0 && text[place - 1] != b':' {
-        place -= 1;
+    let mut offset = text.len();
+    while offset > 0 && text[offset - 1] != b':' {
+        offset -= 1;
     }
-    place
+    offset
 }
 
 /// The bytes before the last `:`, and the bytes after it.
@@ -24,8 +24,8 @@ fn cut_at_last_colon<'a>(text: &'a [u8]) -> (&'a [u8], &'a [u8])
     ensures before { result.0.now ≡ before_last is_colon text.now }
     ensures after { result.1.now ≡ after_last is_colon text.now }
 {
-    let place = behind_last_colon(text);
-    (&text[..place.saturating_sub(1)], &text[place..])
+    let offset = behind_last_colon(text);
+    (&text[..offset.saturating_sub(1)], &text[offset..])
 }
 
 fn has_no_comma(path: &[u8]) -> bool
@@ -60,16 +60,16 @@ pub fn line_parts<'a>(text: &'a [u8]) -> (&'a [u8], u32)
     (path, value_of(number) as u32)
 }
 
-/// The place of the first `,`, or the length if there is none.
+/// The offset of the first `,`, or the length if there is none.
 fn first_comma(text: &[u8]) -> usize
-    ensures place { result ≡ position_or_len is_comma text.now }
+    ensures offset { result ≡ position_or_len is_comma text.now }
     ensures before { AllWithin (λ b. is_comma b ≡ false) text.now 0 result }
 {
-    let mut place = 0;
-    while place < text.len() && text[place] != b',' {
-        place += 1;
+    let mut offset = 0;
+    while offset < text.len() && text[offset] != b',' {
+        offset += 1;
     }
-    place
+    offset
 }
 
 /// The first piece of a list, and the bytes after its comma, if there is one.
@@ -78,9 +78,9 @@ pub fn first_piece<'a>(text: &'a [u8]) -> (&'a [u8], Option<&'a [u8]>)
     ensures cut { IsCut text.now result.0.now (option_copied result.1) }
     ensures shorter { IfSome result.1 (λ rest. length rest.now < length text.now) }
 {
-    let place = first_comma(text);
-    if place < text.len() {
-        (&text[..place], Some(&text[place + 1..]))
+    let offset = first_comma(text);
+    if offset < text.len() {
+        (&text[..offset], Some(&text[offset + 1..]))
     } else {
         (text, None)
     }

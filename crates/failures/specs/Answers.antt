@@ -1,4 +1,4 @@
--- What a call answered that tells the first fault, or that memory was wanting.
+-- The answer of a call that reports the first fault, or that memory ran out.
 use Rattle.std.specs.Prelude.{◌≡◌, Result, Ok, Err}
 use Rattle.failures.specs.declared.Failure.{Failure}
 use Rattle.failures.specs.declared.Failure.TheVariants.{Fault, Memory}

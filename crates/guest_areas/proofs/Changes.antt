@@ -51,29 +51,29 @@ not_false true h = let no : ⊥ = cc in absurd no
 not_false false h = refl
 
 -- a run that is found is mapped
-pub map_done : (areas : List Area) (layout : Layout) (break : ℕ) (flags filled : List Bool) (m now : MemoryMap) (len protection count place k : ℕ) → IsKept layout break flags → (len ≡ 0 → ⊥) → has_power protection 4 ≡ false → count ≡ pages_for len
-    → free_run (regions_of areas layout break flags) count ≡ Some (34603008 + place) → k ≡ count → filled ≡ replicate k true
-    → now ≡ with_zeros (page_of (141733920768 + place * 4096)) count (with_rights_from (page_of (141733920768 + place * 4096)) count (rights_of protection) m)
-    → record { answer = pos (141733920768 + place * 4096); space = space (regions_of areas layout break (put_mid place k flags filled)) now } ≡ map len protection (space (regions_of areas layout break flags) m)
-map_done areas layout break flags filled m now len protection count place k kept some safe is found size full e =
+pub map_done : (areas : List Area) (layout : Layout) (break : ℕ) (flags filled : List Bool) (m now : MemoryMap) (len protection count index k : ℕ) → IsKept layout break flags → (len ≡ 0 → ⊥) → has_power protection 4 ≡ false → count ≡ pages_for len
+    → free_run (regions_of areas layout break flags) count ≡ Some (34603008 + index) → k ≡ count → filled ≡ replicate k true
+    → now ≡ with_zeros (page_of (141733920768 + index * 4096)) count (with_rights_from (page_of (141733920768 + index * 4096)) count (rights_of protection) m)
+    → record { answer = pos (141733920768 + index * 4096); space = space (regions_of areas layout break (put_mid index k flags filled)) now } ≡ map len protection (space (regions_of areas layout break flags) m)
+map_done areas layout break flags filled m now len protection count index k kept some safe is found size full e =
     let some_pages : 0 < count = omega arith in
-    let at = found_is (regions_of areas layout break flags) count (page_of layout.map) 34603008 (34603008 + place)
+    let at = found_is (regions_of areas layout break flags) count (page_of layout.map) 34603008 (34603008 + index)
     (search_is (regions_of areas layout break flags) count (page_of layout.map) 34603008 some_pages ∙ found) in
-    let within : place + k ≤ length flags = omega (arith, at.within, kept.each_page) in
+    let within : index + k ≤ length flags = omega (arith, at.within, kept.each_page) in
     let more : 0 < k = omega arith in
-    let free : list_any (is_in_run (34603008 + place) k) (marked_pages 34603008 flags) ≡ false =
-    ap (λ (n : ℕ). list_any (is_in_run (34603008 + place) n) (marked_pages 34603008 flags)) size ∙ not_false (list_any (is_in_run (34603008 + place) count) (marked_pages 34603008 flags)) at.free in
-    let mapped : marked_pages 34603008 (put_mid place k flags filled) ≡ filter (λ p. ltb p (34603008 + place)) (marked_pages 34603008 flags) ++ run (34603008 + place) (pages_for len) ++ filter (λ p. ltb (34603008 + place) p) (marked_pages 34603008 flags) =
-    ap (λ (fs : List Bool). marked_pages 34603008 (put_mid place k flags fs)) full ∙ marked-taken 34603008 place k flags more within free
-    ∙ ap (λ (n : ℕ). filter (λ p. ltb p (34603008 + place)) (marked_pages 34603008 flags) ++ run (34603008 + place) n ++ filter (λ p. ltb (34603008 + place) p) (marked_pages 34603008 flags)) (size ∙ is) in
-    let memory : now ≡ with_zeros (34603008 + place) (pages_for len) (with_rights_from (34603008 + place) (pages_for len) (rights_of protection) m) =
-    e ∙ ap (λ (p : ℕ). with_zeros p count (with_rights_from p count (rights_of protection) m)) (let f : page_of (141733920768 + place * 4096) ≡ 34603008 + place = omega arith in f)
-    ∙ ap (λ (n : ℕ). with_zeros (34603008 + place) n (with_rights_from (34603008 + place) n (rights_of protection) m)) is in
-    ap (λ (a : ℕ). answered a areas layout break (marked_pages 34603008 (put_mid place k flags filled)) now) (let f : 141733920768 + place * 4096 ≡ (34603008 + place) * 4096 = omega arith in f)
-    ∙ ap (λ (ps : List ℕ). answered ((34603008 + place) * 4096) areas layout break ps now) mapped
-    ∙ ap (λ (x : MemoryMap). answered ((34603008 + place) * 4096) areas layout break
-    (filter (λ p. ltb p (34603008 + place)) (marked_pages 34603008 flags) ++ run (34603008 + place) (pages_for len) ++ filter (λ p. ltb (34603008 + place) p) (marked_pages 34603008 flags)) x) memory
-    ∙ sym (map-at len protection (space (regions_of areas layout break flags) m) (Some (34603008 + place)) some safe
+    let free : list_any (is_in_run (34603008 + index) k) (marked_pages 34603008 flags) ≡ false =
+    ap (λ (n : ℕ). list_any (is_in_run (34603008 + index) n) (marked_pages 34603008 flags)) size ∙ not_false (list_any (is_in_run (34603008 + index) count) (marked_pages 34603008 flags)) at.free in
+    let mapped : marked_pages 34603008 (put_mid index k flags filled) ≡ filter (λ p. ltb p (34603008 + index)) (marked_pages 34603008 flags) ++ run (34603008 + index) (pages_for len) ++ filter (λ p. ltb (34603008 + index) p) (marked_pages 34603008 flags) =
+    ap (λ (fs : List Bool). marked_pages 34603008 (put_mid index k flags fs)) full ∙ marked-taken 34603008 index k flags more within free
+    ∙ ap (λ (n : ℕ). filter (λ p. ltb p (34603008 + index)) (marked_pages 34603008 flags) ++ run (34603008 + index) n ++ filter (λ p. ltb (34603008 + index) p) (marked_pages 34603008 flags)) (size ∙ is) in
+    let memory : now ≡ with_zeros (34603008 + index) (pages_for len) (with_rights_from (34603008 + index) (pages_for len) (rights_of protection) m) =
+    e ∙ ap (λ (p : ℕ). with_zeros p count (with_rights_from p count (rights_of protection) m)) (let f : page_of (141733920768 + index * 4096) ≡ 34603008 + index = omega arith in f)
+    ∙ ap (λ (n : ℕ). with_zeros (34603008 + index) n (with_rights_from (34603008 + index) n (rights_of protection) m)) is in
+    ap (λ (a : ℕ). answered a areas layout break (marked_pages 34603008 (put_mid index k flags filled)) now) (let f : 141733920768 + index * 4096 ≡ (34603008 + index) * 4096 = omega arith in f)
+    ∙ ap (λ (ps : List ℕ). answered ((34603008 + index) * 4096) areas layout break ps now) mapped
+    ∙ ap (λ (x : MemoryMap). answered ((34603008 + index) * 4096) areas layout break
+    (filter (λ p. ltb p (34603008 + index)) (marked_pages 34603008 flags) ++ run (34603008 + index) (pages_for len) ++ filter (λ p. ltb (34603008 + index) p) (marked_pages 34603008 flags)) x) memory
+    ∙ sym (map-at len protection (space (regions_of areas layout break flags) m) (Some (34603008 + index)) some safe
     (ap (λ (n : ℕ). free_run (regions_of areas layout break flags) n) (sym is) ∙ found))
 
 pub unmap_unaligned : (address len : ℕ) (s : Space) → (address % 4096 ≡ 0 → ⊥) → unmap address len s ≡ refused_answer invalid_argument s
@@ -109,21 +109,21 @@ outside_above layout address len count valid aligned is h =
     omega arith)
 
 -- a run of the region is unmapped
-pub unmap_done : (areas : List Area) (layout : Layout) (break : ℕ) (flags filled : List Bool) (m now : MemoryMap) (address len count place k : ℕ) → IsKept layout break flags → address % 4096 ≡ 0 → (len ≡ 0 → ⊥) → map_base ≤ address → count ≡ pages_for len
-    → address / 4096 + count ≤ (map_base + layout.map) / 4096 → place ≡ address / 4096 - 34603008 → k ≡ count → filled ≡ replicate k false
+pub unmap_done : (areas : List Area) (layout : Layout) (break : ℕ) (flags filled : List Bool) (m now : MemoryMap) (address len count index k : ℕ) → IsKept layout break flags → address % 4096 ≡ 0 → (len ≡ 0 → ⊥) → map_base ≤ address → count ≡ pages_for len
+    → address / 4096 + count ≤ (map_base + layout.map) / 4096 → index ≡ address / 4096 - 34603008 → k ≡ count → filled ≡ replicate k false
     → now ≡ with_rights_from (page_of address) count no_rights m
-    → record { answer = pos 0; space = space (regions_of areas layout break (put_mid place k flags filled)) now } ≡ unmap address len (space (regions_of areas layout break flags) m)
-unmap_done areas layout break flags filled m now address len count place k kept aligned some low is high at size empty e =
+    → record { answer = pos 0; space = space (regions_of areas layout break (put_mid index k flags filled)) now } ≡ unmap address len (space (regions_of areas layout break flags) m)
+unmap_done areas layout break flags filled m now address len count index k kept aligned some low is high at size empty e =
     let valid = kept.valid.whole_map in
-    let first : 34603008 + place ≡ page_of address = omega arith in
-    let within : place + k ≤ length flags = omega (arith, kept.each_page) in
+    let first : 34603008 + index ≡ page_of address = omega arith in
+    let within : index + k ≤ length flags = omega (arith, kept.each_page) in
     let inside : is_in_map layout address len ≡ true =
     and_from (leb map_base address) (leb (address + pages_for len * 4096) (map_end layout)) (le-leb map_base address low) (le-leb (address + pages_for len * 4096) (map_end layout) (omega arith)) in
     let passes : (not (is_page_start address) || eqb len 0 || not (is_in_map layout address len)) ≡ false =
     or_from (not (is_page_start address) || eqb len 0) (not (is_in_map layout address len))
     (or_from (not (is_page_start address)) (eqb len 0) (ap not (eq-eqb (address % 4096) 0 aligned)) (ne_eqb len 0 some)) (ap not inside) in
-    let mapped : marked_pages 34603008 (put_mid place k flags filled) ≡ filter (λ p. not (is_in_run (page_of address) (pages_for len) p)) (marked_pages 34603008 flags) =
-    ap (λ (fs : List Bool). marked_pages 34603008 (put_mid place k flags fs)) empty ∙ marked-left 34603008 place k flags within
+    let mapped : marked_pages 34603008 (put_mid index k flags filled) ≡ filter (λ p. not (is_in_run (page_of address) (pages_for len) p)) (marked_pages 34603008 flags) =
+    ap (λ (fs : List Bool). marked_pages 34603008 (put_mid index k flags fs)) empty ∙ marked-left 34603008 index k flags within
     ∙ ap (λ (q : ℕ). filter (λ p. not (is_in_run q k p)) (marked_pages 34603008 flags)) first
     ∙ ap (λ (n : ℕ). filter (λ p. not (is_in_run (page_of address) n p)) (marked_pages 34603008 flags)) (size ∙ is) in
     ap (λ (ps : List ℕ). answered 0 areas layout break ps now) mapped
@@ -132,8 +132,8 @@ unmap_done areas layout break flags filled m now address len count place k kept 
     ∙ sym (unmap-done address len (space (regions_of areas layout break flags) m) passes)
 
 -- the flags after a part of them was filled
-pub filled_flags : {Z : Type 0} (v : Vec Bool Z) (place k : ℕ) (was filled : List Bool) → was ≡ v.items → place + k ≤ length v.items → length filled ≡ k → (with_items v (put_mid place k was filled)).items ≡ put_mid place k v.items filled
-filled_flags v place k was filled e h size =
-    let new : put_mid place k was filled ≡ put_mid place k v.items filled = ap (λ (fs : List Bool). put_mid place k fs filled) e in
-    let n : length (put_mid place k v.items filled) ≡ length v.items = simp (length-append, length-take, length-drop) (omega arith) in
-    with_items_is v (put_mid place k was filled) (ap (λ (fs : List Bool). length fs) new ∙ n ∙ sym v.ok.0) ∙ new
+pub filled_flags : {Z : Type 0} (v : Vec Bool Z) (index k : ℕ) (was filled : List Bool) → was ≡ v.items → index + k ≤ length v.items → length filled ≡ k → (with_items v (put_mid index k was filled)).items ≡ put_mid index k v.items filled
+filled_flags v index k was filled e h size =
+    let new : put_mid index k was filled ≡ put_mid index k v.items filled = ap (λ (fs : List Bool). put_mid index k fs filled) e in
+    let n : length (put_mid index k v.items filled) ≡ length v.items = simp (length-append, length-take, length-drop) (omega arith) in
+    with_items_is v (put_mid index k was filled) (ap (λ (fs : List Bool). length fs) new ∙ n ∙ sym v.ok.0) ∙ new

@@ -34,7 +34,7 @@ below : with_break (brk_base - 1) start ≡ start
 unfolding with_break
 below = refl
 
--- a page below the break that comes to lie above it has no rights
+-- a page that was below the break and is above it now has no rights
 lowered : is_writable (with_break (brk_base + 1) (with_break (brk_base + 5000) start)).memory (brk_base + 4096) 1 ≡ false
 unfolding with_break
 lowered = refl

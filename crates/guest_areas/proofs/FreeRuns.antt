@@ -6,7 +6,7 @@ use Rattle.guest_areas.specs.Marks.{marked_pages}
 use Rattle.guest_areas.specs.Space.{RegionMap, is_in_run, is_free_run, run}
 use Rattle.guest_areas.proofs.MarkLemmas.{list_any-marked_at, list_any-marked_none, in_run}
 
--- the search from a page on, where n are left of the region
+-- the search from a page on, if n are left of the region
 abbrev pub free_run_from : RegionMap → ℕ → ℕ → ℕ → Option ℕ
 free_run_from r count zero page = None
 free_run_from r count (suc left) page =
@@ -126,21 +126,21 @@ is_free r b fs first count e h =
     h k l (leb-true first (b + k) p.0) (ltb-true (b + k) (first + count) p.1)))
 
 -- the search after a mapped page
-pub search_taken : (r : RegionMap) (base count place free : ℕ) (fs : List Bool) → r.mapped ≡ marked_pages base fs → free < count → free ≤ place → place < length fs → get_or fs place false ≡ true
-    → free_run_from r count (length fs - (place - free)) (base + (place - free)) ≡ free_run_from r count (length fs - (place + 1)) (base + (place + 1))
-search_taken r base count place free fs e short back h taken =
-    passed r count (length fs - (place - free)) (base + (place - free)) (free + 1) (omega arith)
-    (λ c from below. not_free r base fs c count place e h taken (omega arith) (omega arith))
-    ∙ ap (λ (n : ℕ). free_run_from r count n (base + (place - free) + (free + 1))) (let f : length fs - (place - free) - (free + 1) ≡ length fs - (place + 1) = omega arith in f)
-    ∙ ap (λ (q : ℕ). free_run_from r count (length fs - (place + 1)) q) (let f : base + (place - free) + (free + 1) ≡ base + (place + 1) = omega arith in f)
+pub search_taken : (r : RegionMap) (base count index free : ℕ) (fs : List Bool) → r.mapped ≡ marked_pages base fs → free < count → free ≤ index → index < length fs → get_or fs index false ≡ true
+    → free_run_from r count (length fs - (index - free)) (base + (index - free)) ≡ free_run_from r count (length fs - (index + 1)) (base + (index + 1))
+search_taken r base count index free fs e short back h taken =
+    passed r count (length fs - (index - free)) (base + (index - free)) (free + 1) (omega arith)
+    (λ c from below. not_free r base fs c count index e h taken (omega arith) (omega arith))
+    ∙ ap (λ (n : ℕ). free_run_from r count n (base + (index - free) + (free + 1))) (let f : length fs - (index - free) - (free + 1) ≡ length fs - (index + 1) = omega arith in f)
+    ∙ ap (λ (q : ℕ). free_run_from r count (length fs - (index + 1)) q) (let f : base + (index - free) + (free + 1) ≡ base + (index + 1) = omega arith in f)
 
 -- the search at a run that is long enough
-pub search_found : (r : RegionMap) (base count place free : ℕ) (fs : List Bool) → r.mapped ≡ marked_pages base fs → free + 1 ≡ count → free ≤ place → place < length fs
-    → ((k : ℕ) → place - free ≤ k → k < place → get_or fs k false ≡ false) → get_or fs place false ≡ false
-    → free_run_from r count (length fs - (place - free)) (base + (place - free)) ≡ Some (base + (place - free))
-search_found r base count place free fs e long back h open_ here =
-    found r count (length fs - (place - free)) (base + (place - free)) (omega arith) (omega arith)
-    (is_free r base fs (base + (place - free)) count e (λ k l from below.
-    ⊎_elim (λ (s : k < place). open_ k (omega arith) s)
-    (λ (s : place ≤ k). ap (λ (i : ℕ). get_or fs i false) (let f : k ≡ place = omega arith in f) ∙ here)
-    (cases_lt k place)))
+pub search_found : (r : RegionMap) (base count index free : ℕ) (fs : List Bool) → r.mapped ≡ marked_pages base fs → free + 1 ≡ count → free ≤ index → index < length fs
+    → ((k : ℕ) → index - free ≤ k → k < index → get_or fs k false ≡ false) → get_or fs index false ≡ false
+    → free_run_from r count (length fs - (index - free)) (base + (index - free)) ≡ Some (base + (index - free))
+search_found r base count index free fs e long back h open_ here =
+    found r count (length fs - (index - free)) (base + (index - free)) (omega arith) (omega arith)
+    (is_free r base fs (base + (index - free)) count e (λ k l from below.
+    ⊎_elim (λ (s : k < index). open_ k (omega arith) s)
+    (λ (s : index ≤ k). ap (λ (i : ℕ). get_or fs i false) (let f : k ≡ index = omega arith in f) ∙ here)
+    (cases_lt k index)))

@@ -14,7 +14,7 @@ use Rattle.guest_areas.specs.Marks.{marked_pages}
 use Rattle.guest_areas.specs.Space.{RegionMap, SharesRegions, is_in_run, is_in_area, is_each, is_known}
 use Rattle.guest_areas.specs.Kept.{regions_of, IsKept, AreSorted}
 
--- a marked page that passes has its place among the flags
+-- a marked page that passes has its index among the flags
 pub list_any-marked_from : (p : ℕ → Bool) (b : ℕ) (fs : List Bool) → list_any p (marked_pages b fs) ≡ true → (k : ℕ) × (k < length fs) × (p (b + k) ≡ true)
 list_any-marked_from p b [] h = let no : ⊥ = cc in absurd no
 list_any-marked_from p b (true ∷ fs) h =

@@ -124,7 +124,7 @@ rights-with_bytes m a (b ∷ bs) = rights-with_bytes (with_byte a b m) (a + 1) b
 pub rights-with_number : (m : MemoryMap) (a n v : ℕ) → (with_number a n v m).rights ≡ m.rights
 rights-with_number m a n v = rights-with_bytes m a (bytes_low_first 0 n v)
 
--- bytes in one page have the right of its first one, also where only bytes have changed since
+-- bytes in one page have the right of its first one, also if only bytes have changed since
 pub page_allowed : (right : Rights → Bool) (m now : MemoryMap) (a j n : ℕ) → right (rights_at m a) ≡ true → now.rights ≡ m.rights → a % 4096 + j + n ≤ 4096 → is_allowed right now (a + j) n ≡ true
 page_allowed right m now a j n h same fits =
     allowed_from right now (a + j) n (λ i below.

@@ -49,7 +49,7 @@ list_any-marked_none p b (true ∷ fs) h =
 list_any-marked_none p b (false ∷ fs) h =
     list_any-marked_none p (b + 1) fs (λ k l t. h (suc k) (omega arith) (ap p (let f : b + suc k ≡ b + 1 + k = omega arith in f) ∙ t))
 
--- where each page passes and no marked one does, none is marked
+-- if each page passes and no marked one does, none is marked
 pub marked_empty : (p : ℕ → Bool) (b : ℕ) (fs : List Bool) → ((k : ℕ) → k < length fs → p (b + k) ≡ true) → list_any p (marked_pages b fs) ≡ false → marked_pages b fs ≡ []
 marked_empty p b [] h e = refl
 marked_empty p b (true ∷ fs) h e =

@@ -21,7 +21,7 @@ abbrev pub name : List ℕ
 name = 0x70 ∷ 0x72 ∷ 0x6F ∷ 0x67 ∷ []
 
 -- one argument, no environment, and the auxiliary vector: the program headers with their size and
--- count, the size of a page, the entry, 16 bytes of zeros in the place of random ones, and the end
+-- count, the size of a page, the entry, 16 bytes of zeros instead of random ones, and the end
 abbrev pub entry_numbers : ImageParts → List ℕ
 entry_numbers image =
     1 ∷ (stack_top - 32) ∷ 0

@@ -7,7 +7,7 @@ use Rattle.guest_memory.specs.Regions.{IsLayout, page_of, brk_base, brk_end, map
 use Rattle.guest_areas.specs.Marks.{marked_pages}
 use Rattle.guest_areas.specs.Space.{RegionMap}
 
--- the pages that the fields stand for
+-- the pages, by the fields
 abbrev pub regions_of : List Area → Layout → ℕ → List Bool → RegionMap
 regions_of areas layout break flags = record {
   areas = areas;

@@ -10,7 +10,7 @@ use guest_memory::{Access, Memory, STACK_TOP};
 /// The address of the program's name.
 const NAME: Address = STACK_TOP - 32;
 
-/// The address of 16 bytes that stand for random ones. They stay zeros.
+/// The address of the 16 bytes that the guest takes as random (AT_RANDOM). They are zeros.
 const RANDOM: Address = STACK_TOP - 16;
 
 // The auxiliary vector's keys (System V ABI).

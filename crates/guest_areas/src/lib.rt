@@ -52,9 +52,9 @@ const READ_AND_WRITE: Rights = Rights {
 /// and the stack. All room is taken when it is made.
 #[derive(Drop)]
 pub struct Areas {
-    /// In the image's order.
+    /// The load areas, in the image's order.
     areas: Vec<Area>,
-    /// The same areas, sorted by address.
+    /// The load areas, sorted by address.
     sorted: Vec<Area>,
     layout: Layout,
     /// The break.
@@ -77,7 +77,7 @@ impl Model for Areas {
 
 impl Areas {
     /// The regions at a program's entry, whose stack is written. The memory is the first one
-    /// of the image. If room is wanting, it stays as it is.
+    /// of the image. If memory runs out, it stays as it is.
     pub fn new(alloc: Global, memory: &mut Memory, image: &Image) -> Result<Areas, AllocError>
         requires { memory.old ≡ first_memory image.now memory.old.layout }
         ensures ok { IfOk result (λ areas.
@@ -107,9 +107,9 @@ impl Areas {
         STACK_POINTER
     }
 
-    /// Moves the break, if it may stand there, and answers with the break after it. Pages that come
-    /// to lie below it are zeros that may be read and written; those that no longer do lose their
-    /// rights (Linux: brk(2)).
+    /// Moves the break, if it may stand there, and returns the break after that. New pages below it
+    /// are zeros that may be read and written; pages that are no longer below it lose their rights
+    /// (Linux: brk(2)).
     pub fn brk(&mut self, memory: &mut Memory, to: Address) -> Address
         requires { SharesRegions self.old memory.old }
         ensures answer { result ≡ (with_break to (space self.old memory.old)).regions.break }
@@ -130,9 +130,9 @@ impl Areas {
         to
     }
 
-    /// Maps `length` bytes of zeros, at the lowest free run of pages that is long enough,
-    /// and answers with its address. Refused are no bytes, execution, and more
-    /// than are free (Linux: mmap(2)).
+    /// Maps `length` bytes of zeros, at the lowest free run of pages that is long enough, and
+    /// returns its address. Rejects a length of 0 (-EINVAL), execution (-EACCES), and more than is
+    /// free (-ENOMEM) (Linux: mmap(2)).
     pub fn map(&mut self, memory: &mut Memory, length: u64, protection: u64) -> i64
         requires { SharesRegions self.old memory.old }
         ensures answer { result ≡ (map length protection (space self.old memory.old)).answer }
@@ -149,18 +149,18 @@ impl Areas {
         let count = pages_for(length);
         match self.free_run(count) {
             None => NO_MEMORY,
-            Some(place) => {
-                self.mapped[place..place + count as usize].fill(true);
-                let address = MAP_BASE + place as u64 * PAGE;
+            Some(index) => {
+                self.mapped[index..index + count as usize].fill(true);
+                let address = MAP_BASE + index as u64 * PAGE;
                 memory.give(address, count, rights_of(protection), true);
                 address as i64
             }
         }
     }
 
-    /// Unmaps `length` bytes from an address on, in whole pages: they lose their rights,
-    /// mapped or not. Refused are an address that starts no page, no bytes, and pages outside
-    /// of the map region (Linux: munmap(2)).
+    /// Unmaps `length` bytes from an address on, in whole pages: they lose their rights, mapped or
+    /// not. Rejects an address that starts no page, a length of 0, and pages outside of the map
+    /// region (-EINVAL) (Linux: munmap(2)).
     pub fn unmap(&mut self, memory: &mut Memory, address: Address, length: u64) -> i64
         requires { SharesRegions self.old memory.old }
         ensures answer { result ≡ (unmap address length (space self.old memory.old)).answer }
@@ -177,15 +177,15 @@ impl Areas {
         {
             return INVALID;
         }
-        let place = (first - MAP_BASE / PAGE) as usize;
-        self.mapped[place..place + count as usize].fill(false);
+        let index = (first - MAP_BASE / PAGE) as usize;
+        self.mapped[index..index + count as usize].fill(false);
         memory.give(address, count, NO_RIGHTS, false);
         0
     }
 
-    /// Gives `length` bytes from an address on, in whole pages, the rights of a protection,
-    /// and never execution. Refused are an address that starts no page, execution,
-    /// and a page that the program doesn't have (Linux: mprotect(2)).
+    /// Gives `length` bytes from an address on, in whole pages, the rights of a protection, and
+    /// never execution. Rejects an address that starts no page, execution, and a page that the
+    /// program doesn't have (Linux: mprotect(2)).
     pub fn protect(
         &mut self,
         memory: &mut Memory,
@@ -232,15 +232,15 @@ impl Areas {
     /// The index in the map region of the lowest run of `count` free pages.
     fn free_run(&self, count: u64) -> Option<usize>
         requires { 0 < count }
-        ensures page { option_map (λ place. page_of map_base + place) result
+        ensures page { option_map (λ index. page_of map_base + index) result
             ≡ free_run self.now count }
-        ensures within { IfSome result (λ place. place + count ≤ page_of self.now.layout.map) }
+        ensures within { IfSome result (λ index. index + count ≤ page_of self.now.layout.map) }
     {
         let mut free = 0;
-        for (place, is_mapped) in self.mapped.iter().enumerate() {
+        for (index, is_mapped) in self.mapped.iter().enumerate() {
             free = if *is_mapped { 0 } else { free + 1 };
             if free == count {
-                return Some(place + 1 - count as usize);
+                return Some(index + 1 - count as usize);
             }
         }
         None

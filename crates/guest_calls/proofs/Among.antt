@@ -176,7 +176,7 @@ none_woken hs apart = record {
   still = apart;
 }
 
--- those that a test keeps, at most n, where the others aren't among them
+-- those that a test keeps, at most n, if the others aren't among them
 pub first_woken : {X : Type 0} (f : X → ℕ) (wakes keeps : X → Bool) (count : ℕ) (ws : List X) → AllApart (map f ws) → ((w : X) → keeps w ≡ true → is_among (f w) (take count (map f (filter wakes ws))) ≡ false)
     → IsWoken (map f ws) (take count (map f (filter wakes ws))) (map f (filter keeps ws))
 first_woken f wakes keeps count ws apart others = record {

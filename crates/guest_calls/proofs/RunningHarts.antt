@@ -133,19 +133,19 @@ asleep_same (x ∷ xs) (y ∷ ys) count same =
     let rest : sleepers_of ys ≡ sleepers_of xs = asleep_same xs ys (omega arith) (λ k. same (suc k)) in
     ap₂ (λ (n : ℕ) (s : HartStatus). n + (if is_sleeping_status s then 1 else 0)) rest (same 0)
 
--- where neither the hart nor the one in its place sleeps
+-- if neither the hart nor the one in its place sleeps
 pub asleep_put : (harts : List Hart) (h : ℕ) (hart : Hart) → sleeps_at harts h ≡ false → is_sleeping_status hart.status ≡ false → sleepers_of (set harts h hart) ≡ sleepers_of harts
 asleep_put [] h hart before after = refl
 asleep_put (x ∷ xs) zero hart before after = rw (after, before) refl
 asleep_put (x ∷ xs) (suc h) hart before after = ap (λ (n : ℕ). n + (if is_sleeping_status x.status then 1 else 0)) (asleep_put xs h hart before after)
 
--- where the hart slept
+-- if the hart slept
 pub asleep_less : (harts : List Hart) (h : ℕ) (hart : Hart) → sleeps_at harts h ≡ true → is_sleeping_status hart.status ≡ false → sleepers_of harts ≡ sleepers_of (set harts h hart) + 1
 asleep_less [] h hart before after = absurd (let never : false ≡ true = before in cc)
 asleep_less (x ∷ xs) zero hart before after = rw (after, before) (omega arith)
 asleep_less (x ∷ xs) (suc h) hart before after = let rest : sleepers_of xs ≡ sleepers_of (set xs h hart) + 1 = asleep_less xs h hart before after in omega arith
 
--- where a hart that didn't sleep does now
+-- if a hart that didn't sleep does now
 pub asleep_more : (harts : List Hart) (h : ℕ) (hart : Hart) → h < length harts → sleeps_at harts h ≡ false → is_sleeping_status hart.status ≡ true → sleepers_of (set harts h hart) ≡ sleepers_of harts + 1
 asleep_more [] h hart made before after = absurd (omega arith)
 asleep_more (x ∷ xs) zero hart made before after = rw (after, before) (omega arith)

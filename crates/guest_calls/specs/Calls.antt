@@ -130,7 +130,7 @@ abbrev pub is_accepted : ℕ → Bool
 is_accepted flags =
     bit_and flags required_flags == required_flags && bit_or flags accepted_flags == accepted_flags
 
--- a word is stored, where its 4 bytes may be written
+-- a word is stored, if its 4 bytes may be written
 abbrev pub with_word : ℕ → ℕ → Guest → Guest
 with_word address n g =
     if is_writable (memory_of g) address 4 then with_stored address (to_le_bytes w32 n) g else g
@@ -456,7 +456,7 @@ module _ (g : Guest) (h : ℕ) where
   with_child_tid changed =
       if has_power a0 child_set_tid then with_word a4 (thread_id child) changed else changed
 
-  -- the guest with the child, whose thread id is stored where the flags ask for it
+  -- the guest with the child, whose thread id is stored if the flags ask for it
   abbrev pub cloned : Guest
   cloned = with_child_tid (with_parent_tid with_child)
 

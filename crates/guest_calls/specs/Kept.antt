@@ -1,4 +1,4 @@
--- What the fields of `Guest` stand for, and what holds of them.
+-- What the fields of `Guest` hold, and what is true of them.
 use Rattle.std.specs.Prelude.{ℕ, ◌≤◌, List, length}
 use Rattle.coz_types.specs.declared.TheConstants.{HARTS}
 use Rattle.machines.specs.Places.{AllApart}

@@ -19,7 +19,7 @@ use Rattle.guest_calls.specs.Calls.{retirement, call_of}
 abbrev pub word_at : Guest → ℕ → Option ℕ
 word_at g h = fetch (memory_of g) (pc_of g h)
 
--- a hart's next instruction; None where the word can't be fetched or is no instruction
+-- a hart's next instruction; None if the word can't be fetched or is no instruction
 unfoldable pub next_of : Guest → ℕ → Option Instr
 next_of g h = option_and_then instruction_of (word_at g h)
 

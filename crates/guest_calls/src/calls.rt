@@ -149,8 +149,8 @@ impl<'a> Guest<'a> {
         Fate::Ends(Ending::Unsupported(self.number(hart)))
     }
 
-    /// Writes bytes to the memory, as a store does; nothing is written if some byte may not be.
-    /// Err is just that.
+    /// Writes bytes to the memory, as a store does. Err if some byte may not be written; then
+    /// nothing is.
     pub(crate) fn store(&mut self, address: Address, bytes: &[u8]) -> Result<(), Access>
         ensures { MatchResult result
             (λ _. IsTrue (is_writable (memory_of self.old) address (length bytes.now))
@@ -317,7 +317,7 @@ impl<'a> Guest<'a> {
         self.answer_count(hart, count)
     }
 
-    /// The pieces that a hart's arguments name, or what the call answers where they name none.
+    /// The pieces that a hart's arguments name, or what the call answers if they name none.
     fn named_pieces(&self, hart: HartId) -> Result<ArrayVec<Piece, PIECES>, i64>
         requires { IsMade self.now hart.0 }
         ensures { MatchResult result

@@ -31,15 +31,15 @@ impl Model for Carrier {
 }
 
 impl Carrier {
-    /// Takes the room. Only out of memory can be the error.
+    /// Takes the room. Err: out of memory.
     pub fn new(alloc: Global) -> Result<Carrier, AllocError> {
         Ok(Carrier {
             bytes: vec![in alloc; 0u8; PIPE_BYTES]?,
         })
     }
 
-    /// Copies the first bytes of a pipe into the memory; nothing is copied if some byte may not
-    /// be written. Err is just that.
+    /// Copies the first bytes of a pipe into the memory. Err if some byte may not be written; then
+    /// nothing is copied.
     pub fn deliver(
         &mut self,
         pipes: &Pipes,

@@ -121,7 +121,7 @@ impl<'a> Guest<'a> {
         }
     }
 
-    /// The cycles of that instruction, which are 1 for none.
+    /// The cycles of the next instruction of a hart that was made; 1 if there is none.
     #[inline(always)]
     pub fn next_cycles(&self, hart: HartId) -> u64
         requires { IsMade self.now hart.0 }
@@ -134,7 +134,7 @@ impl<'a> Guest<'a> {
         }
     }
 
-    /// The address of that instruction.
+    /// The address of the next instruction of a hart that was made.
     #[inline]
     pub fn pc(&self, hart: HartId) -> Address
         requires { IsMade self.now hart.0 }

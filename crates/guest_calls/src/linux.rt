@@ -57,7 +57,7 @@ pub const SYS_MADVISE: u64 = 233;
 
 // The flags of clone(2). A signal stands in their low 8 bits.
 
-/// The bits of the signal at the end.
+/// The bits of the signal that is sent when the child ends.
 pub const CSIGNAL: u64 = 0xFF;
 /// Shares the memory.
 pub const CLONE_VM: u64 = 0x100;
@@ -100,7 +100,7 @@ pub const CLOCK_MONOTONIC: u64 = 1;
 
 // A flag of pipe2(2).
 
-/// The ends are closed where another program is begun.
+/// The ends are closed when another program is begun.
 pub const O_CLOEXEC: u64 = 0x80000;
 
 // The flags of mmap(2). The sort of a mapping stands in their low 2 bits.
@@ -120,11 +120,11 @@ pub const MAP_ANONYMOUS: u64 = 0x20;
 pub const EBADF: i64 = 9;
 /// The word has another value, or there is no room for one more thread.
 pub const EAGAIN: i64 = 11;
-/// No room for it.
+/// There is no room.
 pub const ENOMEM: i64 = 12;
 /// An address that may not be used.
 pub const EFAULT: i64 = 14;
-/// An argument that is none.
+/// An argument that is not valid.
 pub const EINVAL: i64 = 22;
 /// No more files can be open.
 pub const EMFILE: i64 = 24;

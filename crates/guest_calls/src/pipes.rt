@@ -91,8 +91,8 @@ impl<'a> Guest<'a> {
         }
     }
 
-    /// Stores bytes of a pipe, takes them from it, and wakes those that wait for its room; nothing
-    /// is done if some byte may not be written. Err is just that.
+    /// Stores bytes of a pipe, takes them from it, and wakes those that wait for its room. Err if
+    /// some byte may not be written; then nothing is done.
     fn read_bytes(
         &mut self,
         number: u32,
@@ -119,8 +119,8 @@ impl<'a> Guest<'a> {
         Ok(())
     }
 
-    /// Stores the first bytes of a pipe, which keeps them; nothing is stored if some byte may not
-    /// be written. Err is just that.
+    /// Stores the first bytes of a pipe, which keeps them. Err if some byte may not be written;
+    /// then nothing is stored.
     fn store_bytes(&mut self, number: u32, count: u32, address: Address) -> Result<(), Access>
         requires reads { kind_at number self.old.pipes ≡ Some Reading }
         requires few { count ≤ length (held number self.old.pipes) }

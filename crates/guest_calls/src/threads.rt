@@ -54,7 +54,7 @@ fn wake_count(value: u64) -> u32
     if count < 0x80000000 { count.max(1) } else { 1 }
 }
 
-/// These harts, of those that were made, run.
+/// Sets these harts, of those that were made, running.
 pub(crate) fn run_each(harts: &mut [Hart], woken: &[HartId])
     requires { EachIndex (map (λ hart. hart.0) woken.now) (λ k.
         slice_index (map (λ hart. hart.0) woken.now) k < length harts.old) }
@@ -227,7 +227,7 @@ impl<'a> Guest<'a> {
         self.answer_count(hart, thread_id(child))
     }
 
-    /// Makes the next hart, the child of this one, and stores its thread id where
+    /// Makes the next hart, the child of this one, and stores its thread id if
     /// the flags ask for it.
     fn make_child(&mut self, hart: HartId, child: HartId)
         requires made { IsMade self.old hart.0 }

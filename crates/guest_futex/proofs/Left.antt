@@ -63,7 +63,7 @@ without_other hart harts (w ∷ ws) others =
     (λ (no : list_any (λ k. k == w.hart) harts ≡ false). rw no (ap (λ xs. w ∷ xs) (without_other hart harts ws others.1)))
     (cases_Bool (list_any (λ k. k == w.hart) harts)))
 
--- where no hart waits twice, what a pass leaves are the waiters that aren't woken
+-- if no hart waits twice, what a pass leaves are the waiters that aren't woken
 pub left_by-left : (address : ℕ) (ws : List Waiter) (count : ℕ) → AreApart ws → left_by address ws count ≡ waiters_left address ws count
 left_by-left address [] count apart = refl
 left_by-left address (w ∷ ws) zero apart = sym (without_none (w ∷ ws))

@@ -7,7 +7,7 @@ use std::marker::Model;
 /// A list of up to `HARTS` harts, which contracts see as the list of their numbers.
 #[derive(Drop)]
 pub struct HartList {
-    places: [HartId; HARTS],
+    slots: [HartId; HARTS],
     count: usize,
 }
 
@@ -17,7 +17,7 @@ impl Model for HartList {
 
     ghost Value = { List ℕ };
 
-    ghost view = { λ l. map (λ hart. hart.0) (take l.count l.places) };
+    ghost view = { λ l. map (λ hart. hart.0) (take l.count l.slots) };
 
     ghost invariant = { λ l. l.count ≤ HARTS };
 }
@@ -28,7 +28,7 @@ impl HartList {
         ensures { result ≡ [] }
     {
         HartList {
-            places: [HartId(0); HARTS],
+            slots: [HartId(0); HARTS],
             count: 0,
         }
     }
@@ -38,7 +38,7 @@ impl HartList {
         requires { length self.old < HARTS }
         ensures { self.new ≡ self.old ++ hart.0 ∷ [] }
     {
-        self.places[self.count] = hart;
+        self.slots[self.count] = hart;
         self.count += 1;
     }
 
@@ -46,7 +46,7 @@ impl HartList {
     pub fn harts(&self) -> &[HartId]
         ensures { map (λ hart. hart.0) result.now ≡ self.now }
     {
-        &self.places[..self.count]
+        &self.slots[..self.count]
     }
 
     /// Makes the list equal to another one.
@@ -54,7 +54,7 @@ impl HartList {
         ensures { self.new ≡ other.now }
     {
         let count = other.count;
-        self.places[..count].copy_from_slice(&other.places[..count]);
+        self.slots[..count].copy_from_slice(&other.slots[..count]);
         self.count = count;
     }
 

@@ -11,7 +11,7 @@ use std::marker::Model;
 
 /// A hart that waits, and the address.
 #[derive(Clone, Copy, Drop)]
-struct Place {
+struct Waiting {
     address: Address,
     hart: HartId,
 }
@@ -22,7 +22,7 @@ struct Place {
 #[derive(Drop)]
 pub struct Queue {
     // The oldest first.
-    places: Vec<Place>,
+    waiters: Vec<Waiting>,
 }
 
 impl Model for Queue {
@@ -35,31 +35,31 @@ impl Model for Queue {
 
     ghost Value = { List Waiter };
 
-    ghost view = { λ q. waiters_of q.places.items };
+    ghost view = { λ q. waiters_of q.waiters.items };
 
     ghost invariant = { λ q.
-        AreApart (waiters_of q.places.items) × (HARTS ≤ vec_capacity q.places) };
+        AreApart (waiters_of q.waiters.items) × (HARTS ≤ vec_capacity q.waiters) };
 }
 
 /// Appends the harts of the oldest waiters for an address to a list, at most `count`,
 /// and moves those that are left to the front. Returns how many are left.
-fn take_eldest(places: &mut [Place], address: Address, count: u32, into: &mut HartList) -> usize
-    requires apart { AreApart (waiters_of places.old) }
+fn take_eldest(waiters: &mut [Waiting], address: Address, count: u32, into: &mut HartList) -> usize
+    requires apart { AreApart (waiters_of waiters.old) }
     requires room { length into.old
-        + length (woken_harts address (waiters_of places.old) count) ≤ HARTS }
-    ensures woken { into.new ≡ into.old ++ woken_harts address (waiters_of places.old) count }
-    ensures left { waiters_of (take result places.new)
-        ≡ waiters_left address (waiters_of places.old) count }
+        + length (woken_harts address (waiters_of waiters.old) count) ≤ HARTS }
+    ensures woken { into.new ≡ into.old ++ woken_harts address (waiters_of waiters.old) count }
+    ensures left { waiters_of (take result waiters.new)
+        ≡ waiters_left address (waiters_of waiters.old) count }
 {
     let mut wanted = count;
     let mut kept = 0;
-    for i in 0..places.len() {
-        let place = places[i];
-        if wanted > 0 && place.address == address {
-            into.push(place.hart);
+    for i in 0..waiters.len() {
+        let waiting = waiters[i];
+        if wanted > 0 && waiting.address == address {
+            into.push(waiting.hart);
             wanted -= 1;
         } else {
-            places[kept] = place;
+            waiters[kept] = waiting;
             kept += 1;
         }
     }
@@ -67,13 +67,12 @@ fn take_eldest(places: &mut [Place], address: Address, count: u32, into: &mut Ha
 }
 
 impl Queue {
-    /// No waiters, with room for `HARTS` of them. An error is out of memory,
-    /// and no clause says when that comes.
+    /// No waiters, with room for `HARTS` of them. Err: out of memory.
     pub fn new(alloc: Global) -> Result<Queue, AllocError>
         ensures { IfOk result (λ queue. queue ≡ []) }
     {
         Ok(Queue {
-            places: Vec::with_capacity(alloc, HARTS)?,
+            waiters: Vec::with_capacity(alloc, HARTS)?,
         })
     }
 
@@ -83,7 +82,7 @@ impl Queue {
         requires apart { All (λ waiter. waiter.hart ≢ hart.0) self.old }
         ensures { self.new ≡ with_waiter address hart.0 self.old }
     {
-        let Ok(()) = self.places.push(Place { address, hart }) else {
+        let Ok(()) = self.waiters.push(Waiting { address, hart }) else {
             unreachable!()
         };
     }
@@ -94,16 +93,16 @@ impl Queue {
         ensures woken { into.new ≡ into.old ++ woken_harts address self.old count }
         ensures left { self.new ≡ waiters_left address self.old count }
     {
-        let kept = take_eldest(&mut self.places, address, count, into);
-        self.places.truncate(kept);
+        let kept = take_eldest(&mut self.waiters, address, count, into);
+        self.waiters.truncate(kept);
     }
 
     /// Makes these waiters equal to others.
     pub fn copy_from(&mut self, other: &Queue)
         ensures { self.new ≡ other.now }
     {
-        self.places.clear();
-        let Ok(()) = self.places.extend_from_slice(&other.places) else {
+        self.waiters.clear();
+        let Ok(()) = self.waiters.extend_from_slice(&other.waiters) else {
             unreachable!()
         };
     }

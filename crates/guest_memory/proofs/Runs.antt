@@ -50,7 +50,7 @@ refused_page right m a n last q some e from to h =
     refused_from right m a n (q * 4096 - a) first.0
     (ap (λ (p : ℕ). right (value_or no_rights m.rights p)) first.1 ∙ h)
 
--- where all bytes are in the page of the first
+-- if all bytes are in the page of the first
 pub allowed_here : (right : Rights → Bool) (m : MemoryMap) (a n : ℕ) → a % 4096 + n ≤ 4096 → right (rights_at m a) ≡ true → is_allowed right m a n ≡ true
 allowed_here right m a n fits h =
     allowed_from right m a n (λ j below.

@@ -15,7 +15,7 @@ pub record MemoryMap : Type 0 where
   pub layout : Layout
   -- the rights of each page that has any, by its number
   pub rights : Map Rights
-  -- the byte at each address where it isn't 0
+  -- the byte at each address, if it isn't 0
   pub bytes : Map ℕ
 
 abbrev pub no_rights : Rights
@@ -84,7 +84,7 @@ IsHeld m a = IsKnown m.image.areas m.layout (page_of a) ⊎ IsTrue (rights_at m 
 abbrev pub IsSize : ℕ → Type 0
 IsSize n = (n ≡ 1) ⊎ (n ≡ 2) ⊎ (n ≡ 4) ⊎ (n ≡ 8)
 
--- None where some byte lacks the right
+-- None if some byte lacks the right
 abbrev pub load : MemoryMap → ℕ → ℕ → Option ℕ
 load m a size = if is_readable m a size then Some (number_at m a size) else None
 

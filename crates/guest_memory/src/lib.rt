@@ -111,7 +111,7 @@ pub struct Memory<'a> {
     image: &'a Image<'a>,
     layout: Layout,
     spans: Vec<Span>,
-    /// The place of the span that the entry is in, where a fetch looks first.
+    /// The index of the span that the entry is in, where a fetch looks first.
     code: usize,
     pages: Pages,
     bytes: Vec<u8>,
@@ -279,8 +279,8 @@ impl<'a> Memory<'a> {
             None => unreachable!(),
             Some(index) => {
                 self.pages.touch(index);
-                let place = index * PAGE as usize + (address % PAGE) as usize;
-                self.bytes[place..place + bytes.len()].copy_from_slice(bytes);
+                let offset = index * PAGE as usize + (address % PAGE) as usize;
+                self.bytes[offset..offset + bytes.len()].copy_from_slice(bytes);
             }
         }
     }
@@ -472,8 +472,7 @@ impl<'a> Memory<'a> {
         self.copy_in(address, &value.to_le_bytes()[..size as usize])
     }
 
-    /// Reads bytes from an address on; nothing is read if some byte may not be.
-    /// Err is just that.
+    /// Reads bytes from an address on. Err if some byte may not be read; then nothing is.
     pub fn read_at(&self, address: Address, into: &mut [u8]) -> Result<(), Access>
         ensures { MatchResult result
             (λ _. IsTrue (is_readable self.now address (length into.old))
@@ -510,14 +509,13 @@ impl<'a> Memory<'a> {
         match find(&self.spans, address / PAGE) {
             None => into.fill(0),
             Some(index) => {
-                let place = index * PAGE as usize + (address % PAGE) as usize;
-                into.copy_from_slice(&self.bytes[place..place + into.len()]);
+                let offset = index * PAGE as usize + (address % PAGE) as usize;
+                into.copy_from_slice(&self.bytes[offset..offset + into.len()]);
             }
         }
     }
 
-    /// Writes bytes from an address on; nothing is written if some byte may not be.
-    /// Err is just that.
+    /// Writes bytes from an address on. Err if some byte may not be written; then nothing is.
     pub fn copy_in(&mut self, address: Address, bytes: &[u8]) -> Result<(), Access>
         ensures { MatchResult result
             (λ _. IsTrue (is_writable self.old address (length bytes.now))

@@ -1,4 +1,4 @@
--- How many bytes a read or a write takes or puts where it finds that it can.
+-- How many bytes a read or a write takes or puts if it finds that it can.
 use Rattle.std.proofs.Common.{ℕ, ◌≡◌, ◌≤◌, Bool, true, false, not, ◌==◌, min, nat_lt, if◌then◌else◌, length, Option, Some, None, ap, ◌∙◌, arith}
 use Rattle.guest_pipes.specs.declared.TheConstants.{ATOMIC_BYTES}
 use Rattle.guest_pipes.specs.declared.ends.End.{End}

@@ -31,7 +31,7 @@ impl Model for Held {
 }
 
 impl Held {
-    /// No bytes. Only out of memory can be the error.
+    /// No bytes. Err: out of memory.
     pub fn new(alloc: Global) -> Result<Held, AllocError>
         ensures { IfOk result (λ held. held ≡ []) }
     {

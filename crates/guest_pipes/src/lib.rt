@@ -70,7 +70,7 @@ impl Model for Pipes {
 }
 
 impl Pipes {
-    /// No pipes. Only out of memory can be the error.
+    /// No pipes. Err: out of memory.
     pub fn new(alloc: Global) -> Result<Pipes, AllocError>
         ensures { IfOk result (λ pipes. pipes ≡ no_pipes) }
     {

@@ -25,7 +25,7 @@ as_many keys hart k key lt present =
     let was : one (key_of keys hart) ≡ 1 = ap one present in
     omega (arith, sums, was)
 
--- where one hart has no key, there is room for one more
+-- if one hart has no key, there is room for one more
 pub room : (keys : Keys) (hart : ℕ) → hart < length keys → key_of keys hart ≡ None → count_by is_some keys < length keys
 room keys hart lt absent =
     let more = one_more keys hart 0 lt absent in

@@ -21,11 +21,11 @@ pub use heap::Contender;
 use std::alloc::{AllocError, Global};
 use std::marker::Model;
 
-/// Harts of a number given at making, each with a key or not in it.
+/// The harts that are due, each with its key, out of a number of harts that is given at making.
 ///
-/// Contracts see the list of the keys by the numbers of the harts. Beside its making no call takes
-/// memory. `key` and `least` read one slot. `put` and `take` move entries on one way between
-/// a slot and the root or a leaf.
+/// Contracts see the list of the keys by the numbers of the harts. `new` alone takes memory. `key`
+/// and `least` read one slot. `put` and `take` move entries along one path between a slot and the
+/// root or a leaf.
 #[derive(Drop)]
 pub struct Schedule {
     keys: Vec<Option<Tick>>,
@@ -84,7 +84,7 @@ impl Schedule {
     }
 
     /// The hart with the least key, among equal keys the least-numbered one; None exactly
-    /// where the schedule is empty.
+    /// if the schedule is empty.
     #[inline]
     pub fn least(&self) -> Option<HartId>
         ensures { MatchOption result (IsEmpty self.now) (λ hart. IsLeast self.now hart.0) }

@@ -212,7 +212,7 @@ fn first_zero(bytes: &[u8]) -> Option<usize>
     bytes.iter().position(|b| *b == 0)
 }
 
-/// What the low bits of these bytes make, if it fits.
+/// The number in the low seven bits of each of these bytes, the lowest first, if it fits 64 bits.
 fn value_of(bytes: &[u8]) -> Option<u64>
     ensures { result
         ≡ (if nat_lt (low_bits bytes.now) (2 ^ 64) then Some (low_bits bytes.now) else None) }
@@ -239,7 +239,8 @@ fn is_negative(bytes: &[u8]) -> bool
     }
 }
 
-/// What the low bits of these bytes make as two's complement, if it fits.
+/// The number in the low seven bits of each of these bytes in two's complement, the lowest first,
+/// if it fits 64 bits.
 fn signed_value_of(bytes: &[u8]) -> Option<i64>
     ensures { result ≡ (if fits_64_signed (signed_low_bits bytes.now)
         then Some (signed_low_bits bytes.now) else None) }

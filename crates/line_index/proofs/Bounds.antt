@@ -93,7 +93,7 @@ among_back : {X : Type 0} (x : X) (xs ys : List X) → Among x ys → Among x (x
 among_back x [] ys h = h
 among_back x (z ∷ xs) ys h = inr (among_back x xs ys h)
 
--- where there is a line the address is executable
+-- if there is a line the address is executable
 line_parts : (executable : Bool) (line : Option Line) (l : Line) → cond executable line None ≡ Some l → (executable ≡ true) × (line ≡ Some l)
 line_parts true line l e = (refl, e)
 line_parts false line l e = let no : ⊥ = cc in absurd no

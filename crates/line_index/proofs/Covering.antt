@@ -81,7 +81,7 @@ pub within : (areas : List Area) (a n : ℕ) (y : Option ℕ) → option_and_the
 within [] a n y = refl
 within (area ∷ areas) a n y = within_area area.rights.execute a n area areas y refl (λ m. within areas a m y)
 
--- the first of some spans is that of their front part, and where that has none of the part after
+-- the first of some spans is that of their front part, and if that has none of the part after
 pub halves : {X : Type 0} (p : X → Bool) (n m : ℕ) (xs : List X) (front back : List X) (x y : Option ℕ) → front ++ back ≡ xs → length front ≡ m → x ≡ position_from p n front → y ≡ position_from p (n + m) back → or_else x y ≡ position_from p n xs
 halves p n m xs front back x y whole long e f =
     let moved : y ≡ position_from p (n + length front) back = f ∙ ap (λ k. position_from p (n + k) back) (sym long) in

@@ -45,7 +45,7 @@ lines_of_three : map (line_of three (code ∷ [])) (0xFFFF ∷ 0x10000 ∷ 0x100
 unfolding line_of
 lines_of_three = refl
 
--- where two sequences overlap, the first row in file order has the address
+-- if two sequences overlap, the first row in file order has the address
 abbrev two : Table
 two = table (a_s ∷ []) (row 0 0x10004 (Some 0) 1 ∷ row 1 0x10000 (Some 0) 2 ∷ last 0 0x10008 ∷ last 1 0x1000C ∷ [])
 
@@ -85,7 +85,7 @@ going_back : map (line_of (table (a_s ∷ []) (row 0 0x10008 (Some 0) 1 ∷ row 
 unfolding line_of
 going_back = refl
 
--- line 0, a file number without an entry and an empty path are no line, also where a later row covers the address
+-- line 0, a file number without an entry and an empty path are no line, also if a later row covers the address
 no_lines : map (line_of (table (a_s ∷ record { directory = []; name = [] } ∷ []) (row 0 0x10000 (Some 0) 0 ∷ row 0 0x10004 None 7 ∷ row 0 0x10008 (Some 1) 7 ∷ last 0 0x1000C ∷ row 1 0x10000 (Some 0) 3 ∷ last 1 0x10010 ∷ [])) (code ∷ [])) (0x10000 ∷ 0x10004 ∷ 0x10008 ∷ 0x1000C ∷ [])
     ≡ None ∷ None ∷ None ∷ line 3 ∷ []
 unfolding line_of

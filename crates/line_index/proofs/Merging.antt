@@ -147,7 +147,7 @@ none_left [] (d ∷ ds) e = let no : ⊥ = cc in absurd no
 none_left (c ∷ cs) [] e = let no : ⊥ = cc in absurd no
 none_left (c ∷ cs) (d ∷ ds) e = absurd (not_none (nat_le c.address d.address) c.address d.address e)
 
--- where nothing is ahead, all is done
+-- if nothing is ahead, all is done
 pub record Done (join : Join) (first second out : List Change) : Type 0 where
   pub values : (a : ℕ) → value_at a None out ≡ joined_position join (value_at a None first) (value_at a None second)
   pub rises : IsRising 0 out

@@ -32,7 +32,7 @@ sorted_from_strict : {K : Type 0} {R : K → K → Ordering} → IsTotalOrder R 
 sorted_from_strict {R = R} o xs up k d le lt =
     less_not_back (R (get_or xs k d) (get_or xs (k + 1) d)) (R (get_or xs (k + 1) d) (get_or xs k d)) (Less-from_sorted R xs k (k + 1) d up (omega arith) lt) (o.antisymm (get_or xs (k + 1) d) (get_or xs k d))
 
--- what a search finds, where the element is there
+-- what a search finds, if the element is there
 pub search_finds : {K : Type 0} {R : K → K → Ordering} → IsTotalOrder R → (xs : List K) (x : K) (r : Result ℕ ℕ) → IsStrictlySortedBy R xs → IsBinarySearchResult (λ y. R y x) xs r
     → (k : ℕ) → k < length xs → R (get_or xs k x) x ≡ Equal → MatchResult r (λ i. R (get_or xs i x) x ≡ Equal) (λ _. ⊥)
 search_finds o xs x (Ok i) up found k lt e = found x

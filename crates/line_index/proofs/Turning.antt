@@ -1,4 +1,4 @@
--- A line stands where an odd number of its turns is passed.
+-- A line stands at an address if an odd number of its turns is passed.
 use Rattle.std.proofs.Common.{⊎_elim, ◌≡◌, ℕ, zero, suc, ◌≤◌, ◌<◌, ◌%◌, ◌==◌, Bool, true, false, not, List, [], ◌∷◌, ◌++◌, length, Option, Some, None, nat_lt, nat_le, leb, cond, get_or, slice_get, refl, sym, ap, ◌∙◌, arith}
 use Rattle.std.specs.List.Sorted.{IsNonDecreasingBy, IsPartitionPoint}
 use Rattle.std.proofs.lemmas.Bool.{cases_lt}
@@ -47,7 +47,7 @@ has_turned_from k a low x (c ∷ cs) up =
     ap (λ z. is_at k (cond z x (value_at a c.position cs))) f ∙ has_turned_from k a (suc c.address) c.position cs up.1 ∙ passed (is_at k x) (is_at k c.position) a c.address (turns k c.position cs) le)
     (cases_lt a c.address)
 
--- a line stands at an address where the address lies within its turns
+-- a line stands at an address if the address lies within its turns
 pub has_turned : (k a : ℕ) (cs : List Change) → IsRising 0 cs → is_at k (value_at a None cs) ≡ is_within a (turns k None cs)
 has_turned k a cs up = has_turned_from k a 0 None cs up
 

@@ -23,7 +23,7 @@ scans_over (b ∷ text) rest all = ap (is_scanned (Some None)) (append_assoc (es
 abbrev pub IsWhole : Text → Type 0
 IsWhole front = (rest : Text) → is_scanned (Some None) (front ++ rest) ≡ is_scanned (Some None) rest
 
--- a slash stands for itself
+-- a slash is written as it is
 pub directory_whole : (directory : Text) → Bytes directory → IsWhole (written directory ++ 47 ∷ [])
 directory_whole directory all rest = ap (is_scanned (Some None)) (append_assoc (written directory) (47 ∷ []) rest) ∙ scans_over directory (47 ∷ rest) (recursion_from_All (λ (byte : ℕ). byte < 256) directory all)
 

@@ -34,7 +34,7 @@ abbrev pub or_else : {A : Type 0} → Option A → Option A → Option A
 or_else None second = second
 or_else (Some x) second = Some x
 
--- the first, and where there is none the second; or the second, where there is a first
+-- the first, and if there is none the second; or the second, if there is a first
 abbrev pub joined_position : Join → Option ℕ → Option ℕ → Option ℕ
 joined_position Over first second = or_else first second
 joined_position Within first second = option_and_then (λ (_ : ℕ). second) first
@@ -54,7 +54,7 @@ least None second = second
 least (Some x) None = Some x
 least (Some x) (Some y) = if nat_le x y then Some x else Some y
 
--- the changes after an address, where the next change is not before it
+-- the changes after an address, if the next change is not before it
 abbrev pub position_after : ℕ → Option ℕ → List Change → Option ℕ
 position_after a before [] = before
 position_after a before (c ∷ cs) = if c.address == a then c.position else before

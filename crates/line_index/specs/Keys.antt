@@ -55,7 +55,7 @@ named_file rows position =
     option_and_then (λ (row : Row). if row.line == 0 then None else row.file)
     (slice_get rows k)) position
 
--- the key of a row, where these are the positions of the files' paths
+-- the key of a row, if these are the positions of the files' paths
 abbrev pub row_key : List (Option ℕ) → Row → Option Key
 row_key ranks row =
     if row.line == 0 then None

@@ -8,16 +8,12 @@ ghost use Rattle.line_index.specs.Backwards.{AreBackwards, IsStretch, backward, 
 use std::alloc::{AllocError, Global};
 use std::cmp::Ordering;
 
-/// The path at a position; empty where there is none.
+/// The path at a position; empty if there is none.
 pub fn path_at(paths: &[Vec<u8>], position: u32) -> &[u8]
     ensures { result.now ≡ get_or (texts paths.now) position [] }
 {
-    let place = position as usize;
-    if place < paths.len() {
-        &paths[place]
-    } else {
-        &[]
-    }
+    let at = position as usize;
+    if at < paths.len() { &paths[at] } else { &[] }
 }
 
 /// The order of the paths at two positions, by their bytes from the last to the first.
@@ -68,8 +64,8 @@ pub fn backwards(alloc: Global, paths: &[Vec<u8>]) -> Result<Vec<u32>, AllocErro
     Ok(list)
 }
 
-/// Whether in that order the path at a position stands before those that end with a slash and
-/// the text, is one of them, or stands after them.
+/// The order of the path at a position and the paths that end with a slash and the text: before
+/// them, among them (`Equal`) or after them.
 fn ending_cmp(paths: &[Vec<u8>], position: u32, text: &[u8]) -> Ordering
     ensures { result ≡ start_cmp (ending text.now) (backward (texts paths.now) position) }
 {

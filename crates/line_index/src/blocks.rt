@@ -11,7 +11,7 @@ use std::alloc::{AllocError, Global};
 /// those in between by their firsts.
 pub const BLOCK: usize = 2048;
 
-/// The lesser of two lines, where there are two.
+/// The lesser of two lines, if there are two.
 fn earlier(line: Option<u32>, other: Option<u32>) -> Option<u32>
     ensures { result ≡ least line other }
 {
@@ -22,7 +22,7 @@ fn earlier(line: Option<u32>, other: Option<u32>) -> Option<u32>
     }
 }
 
-/// The first of the lines from one place up to another, each of which is looked at.
+/// The first of the lines from one index up to another, each of which is looked at.
 fn first_in(lines: &[Ending], start: usize, end: usize) -> Option<u32>
     requires { end ≤ length lines.now }
     ensures { IsLeast (IsBetween lines.now start end) result }
@@ -49,7 +49,7 @@ pub fn firsts_of(alloc: Global, lines: &[Ending]) -> Result<Vec<Option<u32>>, Al
     Ok(firsts)
 }
 
-/// The first of the lines from one place up to another, in whole blocks where they are there.
+/// The first of the lines from one index up to another, by whole blocks if there are any.
 pub fn first_between(
     lines: &[Ending],
     firsts: &[Option<u32>],

@@ -27,9 +27,9 @@ pub struct LineChange {
 /// How two lists of changes become one.
 #[derive(Clone, Copy)]
 pub enum Join {
-    /// The first's position, and where it has none the second's.
+    /// The first's position, and if it has none the second's.
     Over,
-    /// The second's position where the first has one.
+    /// The second's position if the first has one.
     Within,
 }
 
@@ -76,7 +76,7 @@ impl<'a> Side<'a> {
     }
 }
 
-/// The lesser of two addresses, where there are two.
+/// The lesser of two addresses, if there are two.
 fn least(first: Option<Address>, second: Option<Address>) -> Option<Address>
     ensures { result ≡ least first second }
 {
@@ -122,7 +122,7 @@ pub fn merged(
     Ok(changes)
 }
 
-/// The line that stands at an address. None where none does.
+/// The line that stands at an address. None if none does.
 pub fn line_at(changes: &[LineChange], address: Address) -> Option<LineId>
     requires { IsRising 0 (changes_of changes.now) }
     ensures { place_of result ≡ value_at address None (changes_of changes.now) }

@@ -10,7 +10,7 @@ use crate::lists::{Lists, Mark, add_mark, lists_of};
 use coz_types::LineId;
 use std::alloc::{AllocError, Global};
 
-/// The line of a change is marked, unless the address before has it too.
+/// Marks the beginning of the line of a change, unless the address before has that line too.
 fn add_start(
     marks: &mut Vec<Mark>,
     before: Option<LineId>,

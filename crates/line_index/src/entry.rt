@@ -57,7 +57,7 @@ pub fn sorted_entries<'a>(
     Ok(entries)
 }
 
-/// What stands at the place of the file's entry.
+/// The position at the index of the file's entry.
 fn position_of(entries: &[Entry], positions: &[Option<u32>], file: &FileName) -> Option<u32>
     requires in_order { IsStrictlySortedBy entry_cmp entries.now }
     requires one { Contains (entries_view entries.now) (file_view file.now) }
@@ -66,7 +66,7 @@ fn position_of(entries: &[Entry], positions: &[Option<u32>], file: &FileName) ->
         → path_place paths result ≡ option_map Some (entry_path (file_view file.now)) }
 {
     match entries.binary_search(&entry_of(file)) {
-        Ok(place) => positions[place],
+        Ok(at) => positions[at],
         Err(_) => None,
     }
 }

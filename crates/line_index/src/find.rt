@@ -20,7 +20,7 @@ fn line_of_path(keys: &[Key], path: u32, number: u32) -> Option<u32>
     ensures { result ≡ position (is_key (with_path number path)) keys.now }
 {
     match keys.binary_search(&Key { path, number }) {
-        Ok(place) => Some(place as u32),
+        Ok(at) => Some(at as u32),
         Err(_) => None,
     }
 }
@@ -36,7 +36,7 @@ fn line_of_text(paths: &[Vec<u8>], keys: &[Key], path: &[u8], number: u32) -> Op
         ≡ position (is_line_named path.now number) (map (line_at (texts paths.now)) keys.now) }
 {
     match paths.binary_search_by(|other| other.as_slice().cmp(path)) {
-        Ok(place) => line_of_path(keys, place as u32, number),
+        Ok(at) => line_of_path(keys, at as u32, number),
         Err(_) => None,
     }
 }

@@ -32,7 +32,7 @@ pub struct Lines {
     pub changes: Vec<LineChange>,
 }
 
-/// The line of a row, where these are the positions of the files' paths.
+/// The line of a row, if these are the positions of the files' paths.
 fn row_key(positions: &[Option<u32>], row: &Row) -> Option<Key>
     ensures key { result ≡ row_key positions.now row.now }
     ensures numbered { IfSome result IsNumbered }
@@ -50,16 +50,16 @@ fn row_key(positions: &[Option<u32>], row: &Row) -> Option<Key>
 }
 
 /// The line of the row at a position.
-fn key_at(rows: &[Row], positions: &[Option<u32>], place: Option<u32>) -> Option<Key>
-    ensures key { result ≡ key_at rows.now positions.now place }
+fn key_at(rows: &[Row], positions: &[Option<u32>], number: Option<u32>) -> Option<Key>
+    ensures key { result ≡ key_at rows.now positions.now number }
     ensures numbered { IfSome result IsNumbered }
 {
-    let place = place?;
-    let row = rows.get(place as usize)?;
+    let number = number?;
+    let row = rows.get(number as usize)?;
     row_key(positions, row)
 }
 
-/// One more line, if it is one.
+/// Appends a line, if there is one.
 fn push_some(keys: &mut Vec<Key>, key: Option<Key>) -> Result<(), AllocError>
     ensures { OnOk result (keys.new.items ≡ keys.old.items ++ cons_option key []) }
 {
@@ -119,14 +119,14 @@ fn key_line(keys: &[Key], key: Option<Key>) -> Option<LineId>
 {
     match key {
         Some(key) => match keys.binary_search(&key) {
-            Ok(place) => Some(LineId(place as u32)),
+            Ok(at) => Some(LineId(at as u32)),
             Err(_) => None,
         },
         None => None,
     }
 }
 
-/// The changes with lines in place of rows.
+/// The changes with lines instead of rows.
 fn line_changes(
     alloc: Global,
     rows: &[Row],
@@ -152,7 +152,7 @@ fn line_changes(
     Ok(lines)
 }
 
-/// The lines of the rows that changes name, and the changes with them in place of the rows.
+/// The lines of the rows that changes name, and the changes with them instead of the rows.
 pub fn lines_of(
     alloc: Global,
     rows: &[Row],

@@ -9,15 +9,15 @@ use dwarf_lines::{FileName, Row};
 use std::alloc::{AllocError, Global};
 
 /// The file that the row at a position names, unless it has line 0.
-fn named_file(rows: &[Row], place: Option<u32>) -> Option<u32>
-    ensures { result ≡ named_file rows.now place }
+fn named_file(rows: &[Row], number: Option<u32>) -> Option<u32>
+    ensures { result ≡ named_file rows.now number }
 {
-    let place = place?;
-    let row = rows.get(place as usize)?;
+    let number = number?;
+    let row = rows.get(number as usize)?;
     if row.line == 0 { None } else { row.file }
 }
 
-/// So many files without a name.
+/// `count` files without a name.
 fn nameless<'a>(alloc: Global, count: usize) -> Result<Vec<FileName<'a>>, AllocError>
     ensures { IfOk result (λ files. length files.items ≡ count) }
 {
@@ -41,15 +41,15 @@ fn give_name<'a>(named: &mut Vec<FileName<'a>>, files: &[FileName<'a>], file: Op
         ⊎ (slice_get named.new.items k ≡ slice_get named.old.items k) }
 {
     if let Some(file) = file {
-        let place = file as usize;
-        if place < files.len() {
-            named[place] = files[place];
+        let at = file as usize;
+        if at < files.len() {
+            named[at] = files[at];
         }
     }
 }
 
-/// The files in their places, of which those have their names that some row names which is the
-/// first to cover an address. A path is made of no other one: a table may hold a long directory
+/// The files in their places. A file has its name if some row names it that is the first to cover
+/// an address; all others have none. So no path is made of these: a table may hold a long directory
 /// and millions of files in it.
 pub fn named_files<'a>(
     alloc: Global,

@@ -12,7 +12,7 @@ use crate::entry::Entry;
 use crate::written::write_escaped;
 use std::alloc::{AllocError, Global};
 
-/// A name that begins at the root.
+/// Whether a name begins at the root.
 fn is_rooted(name: &[u8]) -> bool
     ensures { result ≡ is_rooted name.now }
 {
@@ -22,7 +22,7 @@ fn is_rooted(name: &[u8]) -> bool
     }
 }
 
-/// The name of a file, and in front of it its directory and a slash, where it has one and doesn't
+/// The name of a file, and in front of it its directory and a slash, if it has one and doesn't
 /// begin at the root itself; as it is written in labels.
 fn written_path(alloc: Global, entry: &Entry) -> Result<Vec<u8>, AllocError>
     ensures path { IfOk result (λ text. text.items ≡ path (entry_view entry.now)) }
@@ -78,7 +78,7 @@ fn path_position(alloc: Global, paths: &[Vec<u8>], entry: &Entry) -> Result<Opti
         return Ok(None);
     }
     match paths.binary_search(&written) {
-        Ok(place) => Ok(Some(place as u32)),
+        Ok(at) => Ok(Some(at as u32)),
         Err(_) => Ok(None),
     }
 }

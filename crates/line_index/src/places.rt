@@ -12,7 +12,7 @@ use crate::paths::{path_positions, sorted_paths};
 use dwarf_lines::FileName;
 use std::alloc::{AllocError, Global};
 
-/// Written paths, and the place of each file's path among them.
+/// Written paths, and the position of each file's path among them.
 #[derive(Drop)]
 pub struct Places {
     /// The paths in order, each once.

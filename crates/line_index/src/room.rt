@@ -4,7 +4,7 @@
 ghost use Rattle.std.specs.Prelude.{◌≡◌, ◌≤◌, ◌*◌, ◌-◌, ◌^◌, min, IfOk};
 ghost use Rattle.std.specs.List.{sum_by};
 ghost use Rattle.std.specs.Vec.{vec_capacity};
-ghost use Rattle.line_index.specs.declared.room.TheConstants.{MOST_NAMED};
+ghost use Rattle.line_index.specs.declared.room.TheConstants.{MAX_NAMED};
 ghost use Rattle.line_index.specs.Keys.{label_size, name_size, texts};
 
 use crate::backwards::path_at;
@@ -15,10 +15,10 @@ use std::alloc::{AllocError, Global};
 /// The most bytes that the names of files and of their directories have together, 128 MiB: four
 /// times those of the largest file of a program. Only entries that share a text have more, and
 /// to compare them takes as long as to read each of them whole.
-const MOST_NAMED: usize = 0x800_0000;
+const MAX_NAMED: usize = 0x800_0000;
 
 /// The most bytes of a colon and a number.
-const MOST_NUMBER: usize = 11;
+const MAX_DIGITS: usize = 11;
 
 /// How many bytes the names of the files and of their directories have.
 fn named_bytes(files: &[FileName]) -> usize
@@ -34,15 +34,15 @@ fn named_bytes(files: &[FileName]) -> usize
 }
 
 /// Room for each file's path, in which a byte that is escaped takes three. Out of memory too
-/// where the names have more bytes than `MOST_NAMED`. Nothing is written into the room, so it
+/// if the names have more bytes than `MAX_NAMED`. Nothing is written into the room, so it
 /// isn't to be inlined: it would be left out.
 #[inline(never)]
 pub fn room(alloc: Global, files: &[FileName]) -> Result<Vec<u8>, AllocError>
     ensures room { IfOk result (λ room. 3 * sum_by name_size files.now ≤ vec_capacity room) }
-    ensures bounded { IfOk result (λ room. sum_by name_size files.now ≤ MOST_NAMED) }
+    ensures bounded { IfOk result (λ room. sum_by name_size files.now ≤ MAX_NAMED) }
 {
     let bytes = named_bytes(files);
-    if MOST_NAMED < bytes {
+    if MAX_NAMED < bytes {
         return Err(AllocError);
     }
     Vec::with_capacity(alloc, bytes * 3)
@@ -56,7 +56,7 @@ fn label_bytes(paths: &[Vec<u8>], keys: &[Key]) -> usize
     for key in keys {
         total = total
             .saturating_add(path_at(paths, key.path).len())
-            .saturating_add(MOST_NUMBER);
+            .saturating_add(MAX_DIGITS);
     }
     total
 }

@@ -14,7 +14,7 @@ use dwarf_lines::Row;
 use std::alloc::{AllocError, Global};
 use std::collections::BTreeMap;
 
-/// The addresses from one up to another that is not among them; none where it is not greater.
+/// The addresses from one up to another that is not among them; none if it is not greater.
 #[derive(Clone, Copy)]
 pub struct Span {
     /// The first address.

@@ -11,7 +11,7 @@ use crate::lists::{Lists, Mark, add_mark, lists_of};
 use coz_types::{Address, LineId};
 use std::alloc::{AllocError, Global};
 
-/// The line that ends at a change is marked, and the one that begins.
+/// Marks the end of the line that ends at a change, and the beginning of the one that begins.
 fn add_turns(
     marks: &mut Vec<Mark>,
     before: Option<LineId>,
@@ -57,8 +57,8 @@ pub fn turns(alloc: Global, changes: &[LineChange], count: usize) -> Result<List
     lists_of(alloc, &marks, count)
 }
 
-/// An address lies after a beginning and before the end that follows: it has passed
-/// an odd number of turns.
+/// Whether an address lies after a beginning and before the end that follows: it has passed an odd
+/// number of turns.
 #[inline]
 pub fn is_within(turns: &[Address], address: Address) -> bool
     requires { Rises 0 turns.now }

@@ -17,7 +17,8 @@ fn hex_digit(digit: u8) -> u8
     }
 }
 
-/// A byte that can't stand for itself in a list of labels.
+/// Whether a list of labels can't have the byte as it is: it doesn't print, or is a space, % or a
+/// comma.
 fn is_escaped(byte: u8) -> bool
     ensures { result ≡ is_escaped byte }
 {

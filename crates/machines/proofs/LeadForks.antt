@@ -101,7 +101,7 @@ module _ {G : Type 0} (x : Experiment G) where
   unfolding jump
   jump_guest k d = refl
 
-  -- the harts of a list that pass a test are all different where those of the list are
+  -- the harts of a list that pass a test are all different if those of the list are
   out_of : (test : ℕ → Bool) (h : ℕ) (hs : List ℕ) → is_among h hs ≡ false → is_among h (filter test hs) ≡ false
   out_of test h [] out = refl
   out_of test h (k ∷ hs) out = go (test k) (cases_eq h k) out (λ o. out_of test h hs o)

@@ -1,4 +1,4 @@
--- The first mark of an address, where marks are gathered line by line.
+-- The first mark of an address, if marks are gathered line by line.
 use Rattle.std.proofs.Common.{◌≡◌, ℕ, ◌+◌, ◌<◌, Bool, true, false, ◌||◌, ◌==◌, cond, List, [], ◌∷◌, ◌++◌, length, take, get_or, Option, Some, None, option_map, slice_get, refl, sym, ap, ◌∙◌, arith}
 use Rattle.std.specs.List.{list_any, find, position_from}
 use Rattle.std.specs.Option.{option_or}
@@ -9,7 +9,7 @@ use Rattle.std.proofs.lemmas.Option.{get_or_from_slice_get}
 use Rattle.coz_types.specs.declared.LineId.{LineId}
 use Rattle.progress_points.specs.Points.{Mark, marks_at, is_at, first_point, has_entry, point_in, ids}
 
--- the point, where a test says that an address has it
+-- the point, if a test says that an address has it
 abbrev pub point_if : Bool → ℕ → Option ℕ
 point_if has point = cond has (Some point) None
 

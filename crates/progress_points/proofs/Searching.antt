@@ -19,7 +19,7 @@ other_below x a lt = grind (arith, nat_tests)
 other_above : (x a : ℕ) → a < x → (x == a) ≡ false
 other_above x a lt = grind (arith, nat_tests)
 
--- where no mark has the address
+-- if no mark has the address
 absent : (a : ℕ) (marks : List Mark) → ((k : ℕ) (d : Mark) → k < length marks → is_at a (get_or marks k d) ≡ false) → find (is_at a) marks ≡ None
 absent a [] other = refl
 absent a (m ∷ ms) other = ap (λ b. cond b (Some m) (find (is_at a) ms)) (other 0 m (omega arith)) ∙ absent a ms (λ k d lt. other (suc k) d (omega arith))
@@ -51,7 +51,7 @@ IsPlace a marks n = IsPartitionPoint (λ (m : Mark). m.address < a) (λ (m : Mar
 before : (a : ℕ) (marks : List Mark) (n : ℕ) → IsPlace a marks n → (k : ℕ) (d : Mark) → k < n → is_at a (get_or marks k d) ≡ false
 before a marks n place k d lt = other_below (get_or marks k d).address a (place.0 k d (omega arith) lt)
 
--- where all stand below it, none has it
+-- if all stand below it, none has it
 pub all_below : (a : ℕ) (marks : List Mark) (n : ℕ) → IsPlace a marks n → length marks ≤ n → find (is_at a) marks ≡ None
 all_below a marks n place past = absent a marks (λ k d within. before a marks n place k d (omega arith))
 

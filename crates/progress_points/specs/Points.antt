@@ -8,7 +8,7 @@ pub use Rattle.progress_points.specs.declared.marks.Mark.{Mark}
 use Rattle.progress_points.specs.declared.PointsError.{PointsError}
 use Rattle.progress_points.specs.declared.PointsError.TheVariants.{TooMany, Memory}
 
--- the progress lines by their ids, where a point's number is the position of its line,
+-- the progress lines by their ids (a point's number is the position of its line)
 -- and the entry addresses in order, each with its point
 pub record Points : Type 0 where
   pub lines : List ℕ

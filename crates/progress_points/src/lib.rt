@@ -44,7 +44,7 @@ impl<T: Drop> From<AllocFailed<T>> for PointsError {
 /// the position of its line.
 ///
 /// After C. Curtsinger and E. D. Berger, "Coz: finding code that counts with causal profiling",
-/// SOSP 2015. Making them alone can be out of memory.
+/// SOSP 2015. `new` alone can be out of memory.
 #[derive(Drop)]
 pub struct Points {
     lines: Vec<LineId>,

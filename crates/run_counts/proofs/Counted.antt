@@ -163,7 +163,7 @@ module _ {G : Type 0} (x : Experiment G) (test : G → ℕ → Bool) where
       ∙ unselected_record x test (λ _ _. false)
       ∙ sym (ap (λ n. record s { starts = n }) zero_starts)
 
-  -- where no instruction that passes is begun, the record of the run that selects those that pass is at every speedup the one with nothing selected
+  -- if no instruction that passes is begun, the record of the run that selects those that pass is at every speedup the one with nothing selected
   pub none_started : starts_among plain test (all_begun plain) ≡ 0 → (q : ℕ) → delayed_record (at_speedup q (selecting test x)) ≡ delayed_record plain
   none_started none q =
       let no_starts : (delayed_record tested).starts ≡ 0 = starts_counted x test (λ _ _. false) ∙ none in

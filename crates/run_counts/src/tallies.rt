@@ -41,33 +41,37 @@ pub fn no_tallies(alloc: Global, count: u32) -> Result<Tallies, AllocError>
     })
 }
 
-/// The place of a line among this many; None if it is not one of them.
+/// The position of a line among this many; None if it is not one of them.
 fn place_of(line: Option<LineId>, count: usize) -> Option<usize>
     ensures { result ≡ place_in count (option_map (λ line. line.0) line) }
 {
     match line {
         Some(line) => {
-            let place = line.0 as usize;
-            if place < count { Some(place) } else { None }
+            let position = line.0 as usize;
+            if position < count {
+                Some(position)
+            } else {
+                None
+            }
         }
         None => None,
     }
 }
 
-/// Adds an instruction to the tally at a place, or to no tally.
-fn add_at(tallies: &mut Tallies, place: Option<usize>, cost: Tick)
-    requires place { IfSome place (λ k. k < length tallies.old.lines.items) }
+/// Adds an instruction to the tally at a position, or to no tally.
+fn add_at(tallies: &mut Tallies, position: Option<usize>, cost: Tick)
+    requires position { IfSome position (λ k. k < length tallies.old.lines.items) }
     requires small { cost ≤ 2 ^ 12 }
     requires within { IsWithin (counts_of tallies.old) }
     requires few { tallies.old.begun < 2 ^ 50 }
-    ensures { counts_of tallies.new ≡ with_one place cost (counts_of tallies.old) }
+    ensures { counts_of tallies.new ≡ with_one position cost (counts_of tallies.old) }
 {
     tallies.begun += 1;
     tallies.all += cost;
-    match place {
-        Some(place) => {
-            let old = tallies.lines[place];
-            tallies.lines[place] = Tally {
+    match position {
+        Some(position) => {
+            let old = tallies.lines[position];
+            tallies.lines[position] = Tally {
                 starts: old.starts + 1,
                 cost: old.cost + cost,
             };
@@ -85,6 +89,6 @@ pub fn add(tallies: &mut Tallies, line: Option<LineId>, cost: Tick)
         ≡ with_one (place_in (length tallies.old.lines.items) (option_map (λ line. line.0) line))
         cost (counts_of tallies.old) }
 {
-    let place = place_of(line, tallies.lines.len());
-    add_at(tallies, place, cost);
+    let position = place_of(line, tallies.lines.len());
+    add_at(tallies, position, cost);
 }

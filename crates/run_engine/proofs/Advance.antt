@@ -17,7 +17,7 @@ use Rattle.run_engine.specs.Begin.{started_by, keys_at_rest, many, AreIdle, AreB
 use Rattle.run_engine.specs.Ending.{ending_of, runs_after}
 use Rattle.run_engine.specs.Run.{is_selecting, selected_of, ticks_in}
 use Rattle.run_engine.specs.Engine.{events_of, AreWithin, IsSteady}
-use Rattle.run_engine.specs.Advance.{told_in, IsRetired, IsSettled, IsWoken}
+use Rattle.run_engine.specs.Advance.{told_in, IsRetired, IsCompleted, IsWoken}
 use Rattle.run_engine.proofs.Keys.{has_place, rested_length}
 use Rattle.run_engine.proofs.Many.{many_with, many_without}
 use Rattle.run_engine.proofs.Begin.{ticks_few, within_begun, within_left, within_later, left_runs, many_rested, woken_begun, one_at_most}
@@ -64,7 +64,7 @@ module _ (setting : Setting) (engine : Engine) (left : Keys) (h due delay : ℕ)
     ends = l.ends;
   }
 
-  -- where the run goes on, the harts that the move started can begin
+  -- if the run goes on, the harts that the move started can begin
   pub idle_then : e ≡ None → AreIdle after left (started_by h fate others)
   idle_then none =
       let turn : IsTurn engine.guest engine.schedule h due = record { orderly = l.steady.orderly; timed = l.steady.timed; running = l.running; room = l.steady.room; turn = l.turn } in
@@ -148,7 +148,7 @@ module _ (setting : Setting) (engine : Engine) (left : Keys) (h due delay : ℕ)
 -- a retirement, from what its calls leave and what it then ends or begins
 pub settled : (setting : Setting) (engine : Engine) (h due delay : ℕ) (after : Guest) (fate : Fate) (others chosen : List ℕ) (now : Visits) (address : ℕ) (new : Engine) → setting.choice.speedup ≤ 95 → chosen ≡ []
     → ((e : Option Ending) → e ≡ told_in setting fate (engine_of due after engine.schedule others chosen now (engine.retired + 1) engine.wakes engine.starts engine.ending) (keys_at_rest h fate engine.schedule) → IsLeft setting engine (keys_at_rest h fate engine.schedule) h due delay after fate others now address e)
-    → IsSettled setting (engine_of due after engine.schedule others chosen now (engine.retired + 1) engine.wakes engine.starts engine.ending) h fate new → IsRetired setting engine h fate delay new
+    → IsCompleted setting (engine_of due after engine.schedule others chosen now (engine.retired + 1) engine.wakes engine.starts engine.ending) h fate new → IsRetired setting engine h fate delay new
 settled setting engine h due delay after fate others chosen now address new small empty left s = go new.ending refl
   where
     go : (e : Option Ending) → new.ending ≡ e → IsRetired setting engine h fate delay new

@@ -119,7 +119,7 @@ same_runs keys dues are =
     (λ e. let r = some_runs keys e in runs_some dues r.0 r.1 (sym (are r.0) ∙ r.2))
     (λ e. let r = some_runs dues e in runs_some keys r.0 r.1 (are r.0 ∙ r.2))
 
--- a hart is found exactly where some hart runs
+-- a hart is found exactly if some hart runs
 pub runs_least : (keys : Keys) (found : Option HartId) → MatchOption found (IsEmpty keys) (λ hart. IsLeast keys hart.0) → is_some found ≡ runs_any keys
 runs_least keys None empty = sym (runs_none keys empty)
 runs_least keys (Some hart) first = sym (runs_some keys hart.0 first.key first.has)

@@ -59,7 +59,7 @@ first_of : (o p : Option Ending) → first_of_two o p ≡ None → o ≡ None
 first_of None p none = refl
 first_of (Some a) p none = absurd (let no : ◌≡◌ {A = Option Ending} (Some a) None = none in cc)
 
--- where the run goes on the guest asks for no ending
+-- if the run goes on the guest asks for no ending
 pub none_own : (fate : Fate) (output_full visits_full some_hart_runs : Bool) (retired budget : ℕ) → ending_of fate output_full visits_full some_hart_runs retired budget ≡ None → own_ending fate ≡ None
 none_own fate output_full visits_full some_hart_runs retired budget none = first_of (own_ending fate) _ none
 

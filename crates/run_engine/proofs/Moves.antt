@@ -22,7 +22,7 @@ use Rattle.machines.specs.KeptVisits.{net_of}
 use Rattle.run_engine.specs.Visits.{Visits, visits_of}
 use Rattle.run_engine.specs.Begin.{started_by, keys_at_rest, AreBegun}
 use Rattle.run_engine.specs.Ending.{ending_of, runs_after}
-use Rattle.run_engine.specs.Run.{experiment_in, is_selecting, selected_of, ticks_in}
+use Rattle.run_engine.specs.Run.{experiment_of_setting, is_selecting, selected_of, ticks_in}
 use Rattle.run_engine.specs.Engine.{AreDues, state_of, IsStateOf}
 use Rattle.run_engine.proofs.Keys.{with_key_at, no_keys, has_place, dues_rested, next_is, same_runs}
 use Rattle.run_engine.proofs.Begin.{ticks_less}
@@ -101,7 +101,7 @@ pub record IsMove (setting : Setting) (engine : Engine) (left : Keys) (h due : �
 
 module _ (setting : Setting) (first : Guest) where
   abbrev x : Experiment Guest
-  x = experiment_in setting first
+  x = experiment_of_setting setting first
 
   -- the ending of the machine is that of the code
   ends_as : (g : Guest) (fate : Fate) (others : List ℕ) (h : ℕ) (keys dues : List (Option ℕ)) (count retired : ℕ) → runs_any keys ≡ runs_any dues
@@ -223,7 +223,7 @@ first_due v w (suc k) keys same is = is ∙ rw (ne_eqb (suc k) 0 (λ (e : suc k 
 
 pub first_state : (setting : Setting) (first g : Guest) (keys : Keys) (others selected : List ℕ) (visits : Visits) (starts : ℕ) → setting.choice.speedup ≤ 95 → g ≡ first → keys ≡ with_key 0 (0 + ticks_in setting g 0) (replicate 256 None)
     → visits.kept ≡ [] → starts ≡ length (selected_of setting g (0 ∷ []))
-    → IsStateOf (engine_of 0 g keys others selected visits 0 0 starts None) (shortened (experiment_in setting first) 0)
+    → IsStateOf (engine_of 0 g keys others selected visits 0 0 starts None) (shortened (experiment_of_setting setting first) 0)
 first_state setting first g keys others selected visits starts small is made none counted =
     let due_is : 0 + ticks_in setting g 0 ≡ due_at setting first first 0 0 =
     ap (λ (g : Guest). 0 + ticks_in setting g 0) is ∙ ticks_less (is_selecting setting) setting.choice.speedup 0 first 0 (omega arith) in

@@ -16,17 +16,17 @@ use Rattle.run_engine.specs.declared.engine.Event.TheVariants.{Woke, Retired}
 use Rattle.run_engine.specs.declared.engine.Engine.{Engine}
 use Rattle.run_engine.specs.Begin.{started_by, keys_at_rest, many, AreIdle, AreBegun}
 use Rattle.run_engine.specs.Ending.{ending_of, runs_after}
-use Rattle.run_engine.specs.Run.{experiment_in, selected_of, ticks_in}
+use Rattle.run_engine.specs.Run.{experiment_of_setting, selected_of, ticks_in}
 use Rattle.run_engine.specs.Engine.{events_of, state_of, AreDues, AreWithin, IsStateOf}
 use Rattle.run_engine.specs.Visits.{visits_of}
 
 -- in a setting this engine becomes that one as a hart retires to this fate,
--- where a visit is kept with this delay
+-- if a visit is kept with this delay
 pub record IsRetired (setting : Setting) (engine : Engine) (hart : ℕ) (fate : Fate) (delay : ℕ)
     (new : Engine) : Type 0 where
   -- a move of the shortened machine, whatever its guest began as
   pub moved : (first : Guest) (dues : List (Option ℕ)) → AreDues engine.schedule dues
-      → IsStateOf new (move (experiment_in setting first) (state_of engine dues))
+      → IsStateOf new (move (experiment_of_setting setting first) (state_of engine dues))
   -- the hart is the one that is due first
   pub turn : key_of engine.schedule hart ≡ Some new.time
   pub first : IsLeast engine.schedule hart
@@ -53,7 +53,7 @@ pub record IsRetired (setting : Setting) (engine : Engine) (hart : ℕ) (fate : 
   pub within : (moment : ℕ) → 10 ^ 16 ≤ moment → AreWithin moment engine.schedule
       → AreWithin (moment + MAX_TICKS) new.schedule
 
--- how its run ends with a retirement to this fate, where those are the keys of the harts
+-- how its run ends with a retirement to this fate, if those are the keys of the harts
 -- that stay in the schedule
 abbrev pub told_in : Setting → Fate → Engine → Keys → Option Ending
 told_in setting fate engine keys =
@@ -63,9 +63,9 @@ told_in setting fate engine keys =
     (runs_after fate engine.started keys)
     engine.retired setting.choice.budget
 
--- a hart has retired to this fate, and the engine has not yet settled it: where it doesn't end with
+-- a hart has retired to this fate, and the engine has not yet settled it: if it doesn't end with
 -- that, each hart that was started may begin
-pub record CanSettle (setting : Setting) (engine : Engine) (hart : ℕ) (fate : Fate) : Type 0 where
+pub record CanComplete (setting : Setting) (engine : Engine) (hart : ℕ) (fate : Fate) : Type 0 where
   pub goes : engine.ending ≡ None
   pub below : hart < length engine.schedule
   pub idle : told_in setting fate engine (keys_at_rest hart fate engine.schedule) ≡ None
@@ -95,7 +95,7 @@ pub record HasBegun (setting : Setting) (engine : Engine) (hart : ℕ) (fate : F
 
 -- an engine whose guest, visits and counts are those after a retirement to this fate becomes
 -- that one: it ends, or what was started begins
-pub record IsSettled (setting : Setting) (engine : Engine) (hart : ℕ) (fate : Fate)
+pub record IsCompleted (setting : Setting) (engine : Engine) (hart : ℕ) (fate : Fate)
     (new : Engine) : Type 0 where
   pub ending : new.ending ≡ told_in setting fate engine (keys_at_rest hart fate engine.schedule)
   pub ended : IsSome new.ending
@@ -107,7 +107,7 @@ pub record IsSettled (setting : Setting) (engine : Engine) (hart : ℕ) (fate : 
 pub record IsWoken (setting : Setting) (engine : Engine) (hart moment : ℕ)
     (new : Engine) : Type 0 where
   pub moved : (first : Guest) (dues : List (Option ℕ)) → AreDues engine.schedule dues
-      → IsStateOf new (move (experiment_in setting first) (state_of engine dues))
+      → IsStateOf new (move (experiment_of_setting setting first) (state_of engine dues))
   pub turn : key_of engine.schedule hart ≡ Some moment
   pub first : IsLeast engine.schedule hart
   pub asleep : is_sleeping engine.guest hart ≡ true

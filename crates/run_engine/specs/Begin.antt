@@ -9,7 +9,7 @@ use Rattle.machines.specs.Places.{is_among, AllApart}
 use Rattle.guest_calls.specs.Guest.{Guest, IsMade, pc_of}
 use Rattle.guest_calls.specs.Retire.{next_of}
 
--- the ticks of a hart's next instruction: fewer where its address is a selected one,
+-- the ticks of a hart's next instruction: fewer if its address is a selected one,
 -- as the speedup in per cent says
 abbrev pub ticks_of : (ℕ → Bool) → ℕ → Guest → ℕ → ℕ
 ticks_of is_selected speedup g hart =

@@ -8,8 +8,8 @@ use Rattle.machines.specs.Delayed.{is_any}
 use Rattle.machines.specs.Shortened.{runs_any}
 use Rattle.hart_schedule.specs.Keys.{Keys}
 
--- how a run ends with a retirement of this fate, where the output and the visits are full
--- or aren't, where some hart runs after it or none does, with this number of retired instructions
+-- how a run ends with a retirement of this fate: by whether the output and the visits are full,
+-- whether some hart runs after it, and the number of retired instructions
 abbrev pub ending_of : Fate → Bool → Bool → Bool → ℕ → ℕ → Option Ending
 ending_of fate output_full visits_full some_hart_runs retired budget =
     first_ending

@@ -12,14 +12,14 @@ use Rattle.guest_calls.specs.Orderly.{IsOrderly}
 use Rattle.run_engine.specs.declared.choice.Setting.{Setting}
 use Rattle.run_engine.specs.declared.engine.Engine.{Engine}
 use Rattle.run_engine.specs.Begin.{many}
-use Rattle.run_engine.specs.Run.{experiment_in, selected_of}
+use Rattle.run_engine.specs.Run.{experiment_of_setting, selected_of}
 use Rattle.machines.specs.KeptVisits.{net_of}
 
 -- the retirements and wakes so far
 abbrev pub events_of : Engine → ℕ
 events_of engine = engine.retired + engine.wakes
 
--- the state of the shortened machine that the engine's fields stand for, with these moments
+-- the state of the shortened machine by the engine's fields, with these moments
 -- at which harts are due
 abbrev pub state_of : Engine → List (Option ℕ) → Shortened Guest
 state_of engine dues = record {
@@ -37,7 +37,7 @@ state_of engine dues = record {
 abbrev pub AreDues : Keys → List (Option ℕ) → Type 0
 AreDues keys dues = (hart : ℕ) → key_of keys hart ≡ get_or dues hart None
 
--- the fields stand for this state
+-- the fields hold this state
 pub record IsStateOf (engine : Engine) (s : Shortened Guest) : Type 0 where
   pub state : s ≡ state_of engine s.dues
   pub dues : AreDues engine.schedule s.dues
@@ -59,7 +59,7 @@ pub record IsSteady (engine : Engine) : Type 0 where
   pub wakes : engine.wakes ≤ 2 ^ 60
   pub few : engine.starts ≤ events_of engine + many engine.schedule
 
--- the fields stand for the state after as many moves as instructions were retired and harts woken
+-- the fields hold the state after as many moves as instructions were retired and harts woken
 pub record IsReached (x : Experiment Guest) (engine : Engine) : Type 0 where
   pub reached : IsStateOf engine (shortened x (events_of engine))
   pub room : length engine.schedule ≡ HARTS
@@ -73,7 +73,7 @@ pub record IsReached (x : Experiment Guest) (engine : Engine) : Type 0 where
 -- as it begins the run of an image on an input
 pub record IsFirst (setting : Setting) (image : ImageParts) (input : List ℕ)
     (engine : Engine) : Type 0 where
-  pub reached : IsReached (experiment_in setting
+  pub reached : IsReached (experiment_of_setting setting
       (first_guest image input setting.choice.output_limit setting.choice.layout)) engine
   pub retired : engine.retired ≡ 0
   pub wakes : engine.wakes ≡ 0

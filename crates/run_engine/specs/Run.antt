@@ -34,8 +34,8 @@ has_selected None position a = false
 has_selected (Some line) position a = is_at line (position a)
 
 -- the guest of a run: what lines and points addresses have, and what is chosen
-abbrev pub experiment_from : Guest → (ℕ → Option ℕ) → (ℕ → Option ℕ) → Choice → Experiment Guest
-experiment_from first position point choice = record {
+abbrev pub experiment_of_guest : Guest → (ℕ → Option ℕ) → (ℕ → Option ℕ) → Choice → Experiment Guest
+experiment_of_guest first position point choice = record {
   guest = plug (has_selected (selected_line choice) position) point;
   first = first;
   speedup = choice.speedup;
@@ -48,13 +48,13 @@ experiment_from first position point choice = record {
 abbrev pub experiment : ImageParts → (ℕ → Option ℕ) → (ℕ → Option ℕ) → List ℕ
     → Choice → Experiment Guest
 experiment image position point input choice =
-    experiment_from (first_guest image input choice.output_limit choice.layout)
+    experiment_of_guest (first_guest image input choice.output_limit choice.layout)
     position point choice
 
 -- in a setting, the guest of a run
-abbrev pub experiment_in : Setting → Guest → Experiment Guest
-experiment_in setting first =
-    experiment_from first (position_at setting.index.now)
+abbrev pub experiment_of_setting : Setting → Guest → Experiment Guest
+experiment_of_setting setting first =
+    experiment_of_guest first (position_at setting.index.now)
     (point_of setting.points.now) setting.choice
 
 -- whether an address has the selected line

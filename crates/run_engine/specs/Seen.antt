@@ -38,8 +38,8 @@ view_in image input setting state =
     machine_view image setting.index.now setting.points.now input setting.choice state
 
 -- the run of an image on an input in a setting
-abbrev pub experiment_with : ImageParts → List ℕ → Setting → Experiment Guest
-experiment_with image input setting =
+abbrev pub experiment_of_image : ImageParts → List ℕ → Setting → Experiment Guest
+experiment_of_image image input setting =
     experiment image (position_at setting.index.now)
     (point_of setting.points.now) input setting.choice
 

@@ -66,7 +66,7 @@ pub struct Setting<'a> {
 }
 
 impl<'a> Setting<'a> {
-    /// The address has the selected line. Where none is selected the index is not asked.
+    /// Whether the address has the selected line. If none is selected, the index is not asked.
     #[inline]
     pub fn has_selected(&self, address: Address) -> bool
         ensures { result ≡ is_selecting self.now address }

@@ -121,9 +121,9 @@ fn retire_due(guest: &mut Guest, turn: Turn, started: &mut HartList) -> Fate
     guest.retire(turn.hart, turn.due, started)
 }
 
-/// The hart that retired is taken out, or is due at its wake, unless it goes on.
+/// Takes the hart that retired out of the schedule, or puts it at its wake, unless it goes on.
 #[inline(always)]
-fn leave(schedule: &mut Schedule, hart: HartId, fate: Fate)
+fn reschedule(schedule: &mut Schedule, hart: HartId, fate: Fate)
     requires { hart.0 < length schedule.old }
     ensures { schedule.new
         ≡ (if goes_on fate then schedule.old else keys_at_rest hart.0 fate schedule.old) }
@@ -137,9 +137,9 @@ fn leave(schedule: &mut Schedule, hart: HartId, fate: Fate)
     }
 }
 
-/// One that would go on is taken out, as the run ends.
+/// Takes a hart that would go on out of the schedule, since the run ends.
 #[inline]
-fn leave_ended(schedule: &mut Schedule, hart: HartId, fate: Fate)
+fn reschedule_ended(schedule: &mut Schedule, hart: HartId, fate: Fate)
     ensures { schedule.new
         ≡ (if goes_on fate then without_key hart.0 schedule.old else schedule.old) }
 {
@@ -183,7 +183,7 @@ pub fn has_any(started: &HartList) -> bool
     !started.harts().is_empty()
 }
 
-/// Some hart is in the schedule.
+/// Whether some hart is in the schedule.
 fn runs_any(schedule: &Schedule) -> bool
     ensures { result ≡ runs_any schedule.now }
 {
@@ -216,7 +216,7 @@ fn ending_after(
 impl<'a> Engine<'a> {
     ghost use Rattle.run_engine.specs.Run.{selected_of, ticks_in, IsChoice};
     ghost use Rattle.run_engine.specs.Engine.{IsSteady, IsFirst};
-    ghost use Rattle.run_engine.specs.Advance.{CanSettle, IsAdvance, IsRetired, IsSettled, IsWoken};
+    ghost use Rattle.run_engine.specs.Advance.{CanComplete, IsAdvance, IsRetired, IsCompleted, IsWoken};
 
     /// A run that is about to begin.
     pub fn new(
@@ -292,7 +292,7 @@ impl<'a> Engine<'a> {
         self.starts += begun;
     }
 
-    /// A running hart whose turn it is retires, and where the run goes on the harts that this
+    /// A running hart whose turn it is retires, and if the run goes on the harts that this
     /// started begin. A visit is kept with the delay that is given, at a time that is later by it.
     #[inline(always)]
     fn retire(&mut self, setting: &Setting, turn: Turn, delay: Tick) -> Retired
@@ -319,7 +319,7 @@ impl<'a> Engine<'a> {
         let fate = retire_due(&mut self.guest, turn, &mut self.started);
         self.time = turn.due;
         self.retired += 1;
-        self.settle(setting, turn.hart, fate);
+        self.complete(setting, turn.hart, fate);
         Retired {
             hart: turn.hart,
             fate,
@@ -329,9 +329,9 @@ impl<'a> Engine<'a> {
     /// After a retirement of this fate the run ends, or what was started begins. A hart that goes
     /// on has a way of its own, on which no fate is handed on.
     #[inline(always)]
-    fn settle(&mut self, setting: &Setting, hart: HartId, fate: Fate)
-        requires { CanSettle setting.now self.old hart.0 fate }
-        ensures { IsSettled setting.now self.old hart.0 fate self.new }
+    fn complete(&mut self, setting: &Setting, hart: HartId, fate: Fate)
+        requires { CanComplete setting.now self.old hart.0 fate }
+        ensures { IsCompleted setting.now self.old hart.0 fate self.new }
     {
         match fate {
             Fate::Goes => self.end_or_begin(setting, hart, Fate::Goes),
@@ -342,8 +342,8 @@ impl<'a> Engine<'a> {
     /// `end_or_begin` of a hart that does not go on, apart from the common case.
     #[inline(never)]
     fn end_or_begin_apart(&mut self, setting: &Setting, hart: HartId, fate: Fate)
-        requires { CanSettle setting.now self.old hart.0 fate }
-        ensures { IsSettled setting.now self.old hart.0 fate self.new }
+        requires { CanComplete setting.now self.old hart.0 fate }
+        ensures { IsCompleted setting.now self.old hart.0 fate self.new }
     {
         self.end_or_begin(setting, hart, fate);
     }
@@ -351,13 +351,13 @@ impl<'a> Engine<'a> {
     /// The run ends with a retirement of this fate, or what was started begins.
     #[inline(always)]
     fn end_or_begin(&mut self, setting: &Setting, hart: HartId, fate: Fate)
-        requires { CanSettle setting.now self.old hart.0 fate }
-        ensures { IsSettled setting.now self.old hart.0 fate self.new }
+        requires { CanComplete setting.now self.old hart.0 fate }
+        ensures { IsCompleted setting.now self.old hart.0 fate self.new }
     {
-        leave(&mut self.schedule, hart, fate);
+        reschedule(&mut self.schedule, hart, fate);
         if self.ends_with(&setting.choice, fate) {
             self.ending = self.ending_after(&setting.choice, fate);
-            leave_ended(&mut self.schedule, hart, fate);
+            reschedule_ended(&mut self.schedule, hart, fate);
         } else {
             self.begin_started(setting, hart, fate);
         }
@@ -469,8 +469,8 @@ impl<'a> Engine<'a> {
         self.guest.output()
     }
 
-    /// Whether the run ends with a retirement of this fate. Where the hart goes
-    /// on only the limits are looked at.
+    /// Whether the run ends with a retirement of this fate. If the hart goes
+    /// on, only the limits are looked at.
     #[inline(always)]
     fn ends_with(&self, choice: &Choice, fate: Fate) -> bool
         ensures { result ≡ is_some (ending_of fate
@@ -511,7 +511,7 @@ impl<'a> Engine<'a> {
         )
     }
 
-    /// Some hart runs after a retirement of this fate.
+    /// Whether some hart runs after a retirement of this fate.
     fn runs_after(&self, fate: Fate) -> bool
         ensures { result ≡ runs_after fate self.now.started self.now.schedule }
     {

@@ -57,8 +57,8 @@ pub fn add_if(selected: bool, harts: &mut HartList, hart: HartId)
     }
 }
 
-/// A hart's next instruction begins at a moment. Where it has the selected line the hart is
-/// put to the selected ones.
+/// A hart's next instruction begins at a moment. If it has the selected line, the hart is appended
+/// to the selected ones.
 #[inline(never)]
 pub fn begin(
     setting: &Setting,

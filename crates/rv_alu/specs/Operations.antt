@@ -55,7 +55,7 @@ right_shift k a b = a / 2 ^ (b % k)
 abbrev pub signed_right_shift : ℕ → ℕ → ℕ → ℕ
 signed_right_shift k a b = twos_complement k (int_shr (signed_bits k a) (b % k))
 
--- rounded toward zero; all ones where the divisor is 0
+-- rounded toward zero; all ones if the divisor is 0
 abbrev pub quotient : ℕ → ℕ → ℕ → ℕ
 quotient k a b =
     if b == 0 then 2 ^ k - 1 else twos_complement k (int_div (signed_bits k a) (signed_bits k b))
@@ -63,7 +63,7 @@ quotient k a b =
 abbrev pub unsigned_quotient : ℕ → ℕ → ℕ → ℕ
 unsigned_quotient k a b = if b == 0 then 2 ^ k - 1 else a / b
 
--- with the sign of the dividend; the dividend where the divisor is 0
+-- with the sign of the dividend; the dividend if the divisor is 0
 abbrev pub remainder : ℕ → ℕ → ℕ → ℕ
 remainder k a b =
     if b == 0 then a else twos_complement k (int_rem (signed_bits k a) (signed_bits k b))

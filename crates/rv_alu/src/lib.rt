@@ -33,7 +33,7 @@ fn sign_extended(n: u32) -> u64
     i64::from(n.cast_signed()).cast_unsigned()
 }
 
-// A division by 0 gives all ones and leaves the dividend; where the quotient overflows it is
+// A division by 0 gives all ones and leaves the dividend; if the quotient overflows it is
 // the dividend, and the remainder 0.
 
 #[inline]

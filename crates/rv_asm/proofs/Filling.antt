@@ -7,15 +7,15 @@ use Rattle.failures.specs.declared.Failure.TheVariants as faults
 use Rattle.asm_tokens.specs.declared.form.Section.{Section}
 use Rattle.asm_tokens.specs.declared.form.Section.TheVariants as sections
 use Rattle.rv_asm.specs.declared.state.Put.{Put as CodePut}
-use Rattle.asm_tokens.specs.declared.line.LineError.{LineError}
-use Rattle.asm_tokens.specs.declared.line.LineError.TheVariants as errors
+use Rattle.asm_tokens.specs.declared.line.TokenError.{TokenError}
+use Rattle.asm_tokens.specs.declared.line.TokenError.TheVariants as errors
 use Rattle.asm_tokens.specs.Tokens.{Read, ◌>>=◌}
 use Rattle.rv_asm.specs.Assembled.{State, Filled, filled_piece, filled_pieces, all_bytes, text_of, content_of, lines_of}
 use Rattle.failures.specs.Answers.{Fails}
 use Rattle.rv_asm.specs.Views.{Steps, Parts, no_parts, with_filled, with_next, all_parts, with_all, put_of}
 
 -- two words, one after the other, unless memory ran out
-pub two_words : {U : Type 0} (r : Result U LineError) (out one two first second : List ℕ) → ◌≡◌ {A = Read (List ℕ)} (Ok (out ++ first)) (Ok one) → Steps r two (Ok (one ++ second)) → Steps r two (Ok (out ++ (first ++ second)))
+pub two_words : {U : Type 0} (r : Result U TokenError) (out one two first second : List ℕ) → ◌≡◌ {A = Read (List ℕ)} (Ok (out ++ first)) (Ok one) → Steps r two (Ok (one ++ second)) → Steps r two (Ok (out ++ (first ++ second)))
 two_words (Ok u) out one two first second e f =
     let start : out ++ first ≡ one = cc in
     ap Ok (sym (append_assoc out first second)) ∙ ap (λ xs. Ok (xs ++ second)) start ∙ f

@@ -4,8 +4,8 @@ use Rattle.std.specs.Prelude.{◌==◌}
 use Rattle.std.specs.Str.{byte}
 use Rattle.std.proofs.lemmas.List.{append_assoc, append-nil}
 use Rattle.asm_tokens.specs.declared.AsmKind.TheVariants as kinds
-use Rattle.asm_tokens.specs.declared.line.LineError.{LineError}
-use Rattle.asm_tokens.specs.declared.line.LineError.TheVariants as errors
+use Rattle.asm_tokens.specs.declared.line.TokenError.{TokenError}
+use Rattle.asm_tokens.specs.declared.line.TokenError.TheVariants as errors
 use Rattle.asm_tokens.specs.declared.form.Size.{Size}
 use Rattle.asm_tokens.specs.Tokens.{Read, Spot, wrong, ◌>>=◌, Token, Name, Number, Text, Mark, Placed}
 use Rattle.rv_asm.specs.Statements.{Piece, mark, item, item_operand, then_item, items}
@@ -73,7 +73,7 @@ wrong_first end size [] s is = cc
 wrong_first end size (t ∷ ts) s is = wrong_by end size t ts s (item end size t) refl is
 
 -- or it is none
-pub no_first : (end : ℕ) (size : Size) (ts : List Placed) (e : LineError) → FailsLine e (item_operand end size ts) → FailsLine e (items end size ts)
+pub no_first : (end : ℕ) (size : Size) (ts : List Placed) (e : TokenError) → FailsLine e (item_operand end size ts) → FailsLine e (items end size ts)
 no_first end size ts errors.Memory fails = tt
 no_first end size ts (errors.Fault kind column) fails = wrong_first end size ts (record { kind = kind; column = column }) fails
 
@@ -97,7 +97,7 @@ goes_on end size out p ts rest all is kept =
     sym (joined out (p ∷ []) (items_behind end size rest)) ∙ ap (with_front out) (sym (next end size ts rest p is)) ∙ kept
 
 -- nothing is left
-pub ends : {U : Type 0} (end : ℕ) (size : Size) (out : List Piece) (r : Result U LineError) (ts : List Placed) (all : Read (List Piece)) → is_err r ≡ false → EndsThere r ts → with_front out (items_behind end size ts) ≡ all → all ≡ Ok out
+pub ends : {U : Type 0} (end : ℕ) (size : Size) (out : List Piece) (r : Result U TokenError) (ts : List Placed) (all : Read (List Piece)) → is_err r ≡ false → EndsThere r ts → with_front out (items_behind end size ts) ≡ all → all ≡ Ok out
 ends end size out (Err e) ts all no_more there kept = absurd cc
 ends end size out (Ok u) ts all no_more none kept = sym kept ∙ ap (λ xs. with_front out (items_behind end size xs)) none ∙ ap Ok (append-nil out)
 
@@ -105,14 +105,14 @@ wrong_next : (end : ℕ) (size : Size) (comma : Read (List Placed)) (s : Spot) �
 wrong_next end size (Ok ts) s is = wrong_first end size ts s is
 wrong_next end size (Err f) s is = let same : f ≡ s = cc in ap Err same
 
-stops_by : (end : ℕ) (size : Size) (out : List Piece) (t : Placed) (ts : List Placed) (e : LineError) (all : Read (List Piece)) → FailsLine e (then_item end size (t ∷ ts))
+stops_by : (end : ℕ) (size : Size) (out : List Piece) (t : Placed) (ts : List Placed) (e : TokenError) (all : Read (List Piece)) → FailsLine e (then_item end size (t ∷ ts))
     → with_front out (items_behind end size (t ∷ ts)) ≡ all → FailsLine e all
 stops_by end size out t ts errors.Memory all fails kept = tt
 stops_by end size out t ts (errors.Fault kind column) all fails kept =
     sym kept ∙ ap (with_front out) (wrong_next end size (mark end (byte ",") (t ∷ ts)) (record { kind = kind; column = column }) fails)
 
 -- something is left, which is no comma and item
-pub stops : {U : Type 0} (end : ℕ) (size : Size) (out : List Piece) (r : Result U LineError) (ts : List Placed) (e : LineError) (all : Read (List Piece)) → is_err r ≡ true → EndsThere r ts
+pub stops : {U : Type 0} (end : ℕ) (size : Size) (out : List Piece) (r : Result U TokenError) (ts : List Placed) (e : TokenError) (all : Read (List Piece)) → is_err r ≡ true → EndsThere r ts
     → FailsLine e (then_item end size ts) → with_front out (items_behind end size ts) ≡ all → FailsLine e all
 stops end size out (Ok u) ts e all more there fails kept = absurd cc
 stops end size out (Err f) [] e all more there fails kept = absurd there

@@ -1,7 +1,7 @@
 -- The labels of a line, one by one, and the statement after them.
 use Rattle.std.proofs.Common.{◌≡◌, ◌≤◌, length, ℕ, List, [], ◌∷◌, drop, refl, Option, Some, None, option_map, Ok, ap, ◌∙◌, arith}
-use Rattle.asm_tokens.specs.declared.line.LineError.{LineError}
-use Rattle.asm_tokens.specs.declared.line.LineError.TheVariants as errors
+use Rattle.asm_tokens.specs.declared.line.TokenError.{TokenError}
+use Rattle.asm_tokens.specs.declared.line.TokenError.TheVariants as errors
 use Rattle.asm_tokens.specs.Tokens.{Read, ◌>>=◌, Placed}
 use Rattle.rv_asm.specs.Statements.{Use}
 use Rattle.rv_asm.specs.Assembled.{State, with_label, with_statement, label_in, take_tokens}
@@ -55,7 +55,7 @@ two_left (t ∷ []) u e = absurd cc
 two_left (t ∷ c ∷ ts) u e = omega arith
 
 -- what fails at its first part fails as a whole
-pub fails_then : {A B : Type 0} (e : LineError) (read : Read A) (f : A → Read B) → FailsLine e read → FailsLine e (read >>= f)
+pub fails_then : {A B : Type 0} (e : TokenError) (read : Read A) (f : A → Read B) → FailsLine e read → FailsLine e (read >>= f)
 fails_then errors.Memory read f h = tt
 fails_then (errors.Fault kind column) read f h = ap (λ r. r >>= f) h
 

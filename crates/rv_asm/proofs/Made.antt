@@ -9,7 +9,7 @@ use Rattle.asm_tokens.specs.declared.AsmKind.TheVariants as kinds
 use Rattle.rv_asm.specs.declared.AsmFault.{AsmFault}
 use Rattle.asm_tokens.specs.declared.form.Section.{Section}
 use Rattle.asm_tokens.specs.declared.form.Section.TheVariants as sections
-use Rattle.rv_asm.specs.declared.state.Place.{Place}
+use Rattle.rv_asm.specs.declared.state.Location.{Location}
 use Rattle.asm_tokens.specs.Tokens.{lines}
 use Rattle.rv_asm.specs.Statements.{Piece, Encoded, BranchTo, JumpTo, AddressTo, AddressOf, Bytes, Zeros, size}
 use Rattle.rv_asm.specs.Assembled.{Put, State, start, take_lines, target, reach, load_address, bytes_at, Filled, at_line, address, filled_piece, filled_pieces, Program, IsProgram, text_of, content_of, all_bytes, lines_of, begin_of, entry, program, assembled}
@@ -30,12 +30,12 @@ as_long s from (Zeros count) = length-replicate count 0
 
 -- the bytes of a piece, as long as it
 abbrev Fills : Put → Filled → Type 0
-Fills p f = (bytes : List ℕ) × (length bytes ≡ size p.piece) × (f ≡ record { section = p.place.section; line = p.line; bytes = bytes })
+Fills p f = (bytes : List ℕ) × (length bytes ≡ size p.piece) × (f ≡ record { section = p.location.section; line = p.line; bytes = bytes })
 
 fills : (s : State) (p : Put) → IfOk (filled_piece s p) (Fills p)
 fills s p =
-    then_ok (λ (bytes : List ℕ). length bytes ≡ size p.piece) (Fills p) (at_line p.line (bytes_at s (address s p.place) p.piece)) _
-    (at_line_ok (λ (bytes : List ℕ). length bytes ≡ size p.piece) p.line (bytes_at s (address s p.place) p.piece) (as_long s (address s p.place) p.piece))
+    then_ok (λ (bytes : List ℕ). length bytes ≡ size p.piece) (Fills p) (at_line p.line (bytes_at s (address s p.location) p.piece)) _
+    (at_line_ok (λ (bytes : List ℕ). length bytes ≡ size p.piece) p.line (bytes_at s (address s p.location) p.piece) (as_long s (address s p.location) p.piece))
     (λ bytes long. (bytes, long, refl))
 
 -- both sections are as long as their pieces, and the words have their lines
@@ -50,8 +50,8 @@ lines_behind zero line more is all = all
 lines_behind (suc n) line more is all = (is, lines_behind n line more is all)
 
 one_more : (line : ℕ) (section : Section) (offset : ℕ) (piece : Piece) (bytes : List ℕ) (ps : List Put) (fs : List Filled) → length bytes ≡ size piece
-    → IsPut (record { line = line; place = record { section = section; offset = offset }; piece = piece }) → AreFilled ps fs
-    → AreFilled (record { line = line; place = record { section = section; offset = offset }; piece = piece } ∷ ps) (record { section = section; line = line; bytes = bytes } ∷ fs)
+    → IsPut (record { line = line; location = record { section = section; offset = offset }; piece = piece }) → AreFilled ps fs
+    → AreFilled (record { line = line; location = record { section = section; offset = offset }; piece = piece } ∷ ps) (record { section = section; line = line; bytes = bytes } ∷ fs)
 one_more line sections.Text offset piece bytes ps fs long is so_far =
     let whole : size piece % 4 ≡ 0 = is.0 refl in
     let words : 4 * (length bytes / 4) ≡ size piece = omega arith in
@@ -74,7 +74,7 @@ all_fill s [] is = record { text = refl; content = refl; words = refl; lines = t
 all_fill s (p ∷ ps) is =
     then_ok (Fills p) (AreFilled (p ∷ ps)) (filled_piece s p) _ (fills s p) (λ f (bytes, long, same).
     then_ok (AreFilled ps) (AreFilled (p ∷ ps)) (filled_pieces s ps) _ (all_fill s ps is.1) (λ fs so_far.
-    subst (λ (g : Filled). AreFilled (p ∷ ps) (g ∷ fs)) (sym same) (one_more p.line p.place.section p.place.offset p.piece bytes ps fs long is.0 so_far)))
+    subst (λ (g : Filled). AreFilled (p ∷ ps) (g ∷ fs)) (sym same) (one_more p.line p.location.section p.location.offset p.piece bytes ps fs long is.0 so_far)))
 
 -- ---- the entry
 
@@ -89,7 +89,7 @@ at_place : (section : Section) (offset : ℕ) (s : State) → 0 < s.text → (se
 at_place sections.Text offset s some whole = within (nat_lt offset s.text) s offset refl some (whole refl)
 at_place sections.Data offset s some whole = (refl, omega arith, omega arith)
 
-begins : (o : Option Place) (s : State) → 0 < s.text → ((p : Place) → o ≡ Some p → p.section ≡ sections.Text → p.offset % 4 ≡ 0) → IsEntry s.text (begin_of s o)
+begins : (o : Option Location) (s : State) → 0 < s.text → ((p : Location) → o ≡ Some p → p.section ≡ sections.Text → p.offset % 4 ≡ 0) → IsEntry s.text (begin_of s o)
 begins None s some whole = (refl, omega arith, omega arith)
 begins (Some p) s some whole = at_place p.section p.offset s some (whole p refl)
 

@@ -10,17 +10,17 @@ use Rattle.asm_tokens.specs.declared.form.Section.{Section}
 use Rattle.asm_tokens.specs.declared.form.Section.TheVariants as sections
 use Rattle.rv_asm.specs.declared.lines.TheConstants.{MAX_LINES}
 use Rattle.rv_asm.specs.declared.state.TheConstants.{MAX_SECTION}
-use Rattle.rv_asm.specs.declared.state.Place.{Place}
+use Rattle.rv_asm.specs.declared.state.Location.{Location}
 use Rattle.asm_tokens.specs.Tokens.{Read, wrong, ◌>>=◌, Placed, tokens, is_allowed}
 use Rattle.rv_asm.specs.Statements.{Piece, Zeros, Statement, Puts, Aligns, Enters, size, section_of, statement}
-use Rattle.rv_asm.specs.Assembled.{Put, State, start, section_length, next_place, with_label, with_more, with_piece, with_pieces, up_to_multiple, with_effect, is_in_place, form_named, name_in, label_in, with_statement, take_tokens, check, byte_check, take_line, at_line, take_lines}
+use Rattle.rv_asm.specs.Assembled.{Put, State, start, section_length, next_location, with_label, with_more, with_piece, with_pieces, up_to_multiple, with_effect, is_in_place, form_named, name_in, label_in, with_statement, take_tokens, check, byte_check, take_line, at_line, take_lines}
 use Rattle.rv_asm.proofs.WholeWords.{then_ok, and_ok, IsWhole, IsCode, code_stands}
 
 abbrev pub text_size : Put → ℕ
-text_size p = elim (p.place.section) [ sections.Text ↦ size p.piece | sections.Data ↦ 0 ]
+text_size p = elim (p.location.section) [ sections.Text ↦ size p.piece | sections.Data ↦ 0 ]
 
 abbrev pub content_size : Put → ℕ
-content_size p = elim (p.place.section) [ sections.Text ↦ 0 | sections.Data ↦ size p.piece ]
+content_size p = elim (p.location.section) [ sections.Text ↦ 0 | sections.Data ↦ size p.piece ]
 
 abbrev pub total : (Put → ℕ) → List Put → ℕ
 total f [] = 0
@@ -34,7 +34,7 @@ abbrev pub IsLine : ℕ → Type 0
 IsLine line = (1 ≤ line) × (line ≤ MAX_LINES)
 
 abbrev pub IsPut : Put → Type 0
-IsPut p = (p.place.section ≡ sections.Text → IsWhole p.piece) × IsLine p.line
+IsPut p = (p.location.section ≡ sections.Text → IsWhole p.piece) × IsLine p.line
 
 all_more : (ps : List Put) (p : Put) → AllByRecursion IsPut ps → IsPut p → AllByRecursion IsPut (ps ++ p ∷ [])
 all_more [] p all is = (is, tt)
@@ -44,7 +44,7 @@ pub record IsRight (s : State) : Type 0 where
   pub text_whole : s.text % 4 ≡ 0
   pub text_fits : s.text ≤ MAX_SECTION
   pub content_fits : s.content ≤ MAX_SECTION
-  pub labels_whole : (name : List ℕ) (p : Place) → s.labels name ≡ Some p → p.section ≡ sections.Text → p.offset % 4 ≡ 0
+  pub labels_whole : (name : List ℕ) (p : Location) → s.labels name ≡ Some p → p.section ≡ sections.Text → p.offset % 4 ≡ 0
   pub text_total : total text_size s.puts ≡ s.text
   pub content_total : total content_size s.puts ≡ s.content
   pub puts_right : AllByRecursion IsPut s.puts
@@ -68,9 +68,9 @@ Keeps section s = IsRight s × (s.section ≡ section)
 
 with_more_right : (section : Section) (s : State) (line : ℕ) (piece : Piece) → IsLine line → IsRight s → (section ≡ sections.Text → IsWhole piece)
     → section_length (record s { section = section }) + size piece ≤ MAX_SECTION
-    → Keeps section (with_more (size piece) (record s { section = section; puts = s.puts ++ record { line = line; place = next_place (record s { section = section }); piece = piece } ∷ [] }))
+    → Keeps section (with_more (size piece) (record s { section = section; puts = s.puts ++ record { line = line; location = next_location (record s { section = section }); piece = piece } ∷ [] }))
 with_more_right sections.Text s line piece is right whole room =
-    let p : Put = record { line = line; place = record { section = sections.Text; offset = s.text }; piece = piece } in
+    let p : Put = record { line = line; location = record { section = sections.Text; offset = s.text }; piece = piece } in
     let words : size piece % 4 ≡ 0 = whole refl in
     let with_more_whole : (s.text + size piece) % 4 ≡ 0 = omega (arith, right.text_whole) in (
       record {
@@ -85,7 +85,7 @@ with_more_right sections.Text s line piece is right whole room =
       refl,
     )
 with_more_right sections.Data s line piece is right whole room =
-    let p : Put = record { line = line; place = record { section = sections.Data; offset = s.content }; piece = piece } in (
+    let p : Put = record { line = line; location = record { section = sections.Data; offset = s.content }; piece = piece } in (
       record {
         text_whole = right.text_whole;
         text_fits = right.text_fits;
@@ -99,7 +99,7 @@ with_more_right sections.Data s line piece is right whole room =
     )
 
 placed_by : (much : Bool) (line column : ℕ) (piece : Piece) (s : State) → nat_lt MAX_SECTION (section_length s + size piece) ≡ much → IsLine line → IsRight s → (s.section ≡ sections.Text → IsWhole piece)
-    → IfOk (if much then wrong kinds.Much column else Ok (with_more (size piece) (record s { puts = s.puts ++ record { line = line; place = next_place s; piece = piece } ∷ [] }))) (Keeps s.section)
+    → IfOk (if much then wrong kinds.Much column else Ok (with_more (size piece) (record s { puts = s.puts ++ record { line = line; location = next_location s; piece = piece } ∷ [] }))) (Keeps s.section)
 placed_by true line column piece s e is right whole = tt
 placed_by false line column piece s e is right whole = with_more_right s.section s line piece is right whole (ltb-false _ _ e)
 
@@ -164,24 +164,24 @@ with_statement_right line end t ts s is right = form_named_right (form_named (na
 
 -- ---- a label
 
-at_name : (same : Bool) (section_length p : Place) (old : Option Place) → (section_length.section ≡ sections.Text → section_length.offset % 4 ≡ 0) → (old ≡ Some p → p.section ≡ sections.Text → p.offset % 4 ≡ 0)
+at_name : (same : Bool) (section_length p : Location) (old : Option Location) → (section_length.section ≡ sections.Text → section_length.offset % 4 ≡ 0) → (old ≡ Some p → p.section ≡ sections.Text → p.offset % 4 ≡ 0)
     → (if same then Some section_length else old) ≡ Some p → p.section ≡ sections.Text → p.offset % 4 ≡ 0
 at_name true section_length p old whole others e text =
     let same : section_length ≡ p = cc in
-    ap (λ (q : Place). q.offset % 4) (sym same) ∙ whole (ap (λ (q : Place). q.section) same ∙ text)
+    ap (λ (q : Location). q.offset % 4) (sym same) ∙ whole (ap (λ (q : Location). q.section) same ∙ text)
 at_name false section_length p old whole others e text = others e text
 
 section_length_whole : (section : Section) (s : State) → IsRight s → section ≡ sections.Text → section_length (record s { section = section }) % 4 ≡ 0
 section_length_whole sections.Text s right e = right.text_whole
 section_length_whole sections.Data s right e = absurd cc
 
-labelled_right : (there : Bool) (name : List ℕ) (column : ℕ) (s : State) → IsRight s → IfOk (if there then wrong kinds.Twice column else Ok (record s { labels = update bytes_eq s.labels name (Some (next_place s)) })) IsRight
+labelled_right : (there : Bool) (name : List ℕ) (column : ℕ) (s : State) → IsRight s → IfOk (if there then wrong kinds.Twice column else Ok (record s { labels = update bytes_eq s.labels name (Some (next_location s)) })) IsRight
 labelled_right true name column s right = tt
 labelled_right false name column s right = record {
   text_whole = right.text_whole;
   text_fits = right.text_fits;
   content_fits = right.content_fits;
-  labels_whole = λ q p e text. at_name (bytes_eq name q) (next_place s) p (s.labels q) (section_length_whole s.section s right) (right.labels_whole q p) e text;
+  labels_whole = λ q p e text. at_name (bytes_eq name q) (next_location s) p (s.labels q) (section_length_whole s.section s right) (right.labels_whole q p) e text;
   text_total = right.text_total;
   content_total = right.content_total;
   puts_right = right.puts_right;

@@ -17,7 +17,7 @@ use Rattle.rv_asm.specs.declared.lines.TheConstants.{MAX_LINES}
 use Rattle.rv_asm.specs.declared.state.TheConstants.{MAX_SECTION}
 use Rattle.rv_asm.specs.declared.AsmFault.{AsmFault}
 use Rattle.rv_asm.specs.declared.Assembled.{Assembled}
-use Rattle.rv_asm.specs.declared.state.Place.{Place}
+use Rattle.rv_asm.specs.declared.state.Location.{Location}
 use Rattle.asm_tokens.specs.declared.form.Form.{Form}
 use Rattle.asm_tokens.specs.declared.form.Section.{Section}
 use Rattle.asm_tokens.specs.declared.form.Section.TheVariants as sections
@@ -27,16 +27,16 @@ use Rattle.rv_asm.specs.Statements.{Use, Piece, Encoded, BranchTo, JumpTo, Addre
 
 -- ---- the lines so far
 
--- a piece in its place, and its line
+-- a piece, its location and its line
 pub record Put : Type 0 where
   pub line : ℕ
-  pub place : Place
+  pub location : Location
   pub piece : Piece
 
 -- the places of the labels by their names, the section and how long each one is, and the pieces
 -- in the order of the source
 pub record State : Type 0 where
-  pub labels : List ℕ → Option Place
+  pub labels : List ℕ → Option Location
   pub section : Section
   pub text : ℕ
   pub content : ℕ
@@ -49,15 +49,15 @@ start = record { labels = λ name. None; section = sections.Text; text = 0; cont
 abbrev pub section_length : State → ℕ
 section_length s = elim (s.section) [ sections.Text ↦ s.text | sections.Data ↦ s.content ]
 
-abbrev pub next_place : State → Place
-next_place s = record { section = s.section; offset = section_length s }
+abbrev pub next_location : State → Location
+next_location s = record { section = s.section; offset = section_length s }
 
 -- ---- one more label, or one more statement
 
 abbrev pub with_label : List ℕ → ℕ → State → Read State
 with_label name column s =
     if is_some (s.labels name) then wrong kinds.Twice column
-    else Ok (record s { labels = update bytes_eq s.labels name (Some (next_place s)) })
+    else Ok (record s { labels = update bytes_eq s.labels name (Some (next_location s)) })
 
 abbrev pub with_more : ℕ → State → State
 with_more n s = elim (s.section) [
@@ -69,7 +69,7 @@ abbrev pub with_piece : ℕ → ℕ → Piece → State → Read State
 with_piece line column piece s =
     if nat_lt MAX_SECTION (section_length s + size piece) then wrong kinds.Much column
     else Ok (with_more (size piece) (record s {
-      puts = s.puts ++ record { line = line; place = next_place s; piece = piece } ∷ [];
+      puts = s.puts ++ record { line = line; location = next_location s; piece = piece } ∷ [];
     }))
 
 -- one after the other
@@ -164,13 +164,13 @@ take_lines n (line ∷ more) s = at_line n (take_line n line s) >>= λ t. take_l
 -- ---- after all lines: the bytes of the pieces
 
 -- data begins at the first page that isn't below the text's end
-abbrev pub address : State → Place → ℕ
+abbrev pub address : State → Location → ℕ
 address s p = elim (p.section) [
   | sections.Text ↦ TEXT_START + p.offset
   | sections.Data ↦ TEXT_START + up_to_multiple PAGE s.text + p.offset
 ]
 
-abbrev pub address_in : State → ℕ → Option Place → Read ℕ
+abbrev pub address_in : State → ℕ → Option Location → Read ℕ
 address_in s column None = wrong kinds.Missing column
 address_in s column (Some p) = Ok (address s p)
 
@@ -212,8 +212,8 @@ pub record Filled : Type 0 where
 
 abbrev pub filled_piece : State → Put → Result Filled AsmFault
 filled_piece s p =
-    at_line p.line (bytes_at s (address s p.place) p.piece) >>= λ bytes.
-    Ok (record { section = p.place.section; line = p.line; bytes = bytes })
+    at_line p.line (bytes_at s (address s p.location) p.piece) >>= λ bytes.
+    Ok (record { section = p.location.section; line = p.line; bytes = bytes })
 
 unfoldable pub filled_pieces : State → List Put → Result (List Filled) AsmFault
 filled_pieces s [] = Ok []
@@ -248,7 +248,7 @@ all_bytes fs = flat_map (λ f. f.bytes) fs
 abbrev pub lines_of : List Filled → List ℕ
 lines_of fs = flat_map (λ f. replicate (length f.bytes / 4) f.line) (text_of fs)
 
-abbrev pub begin_of : State → Option Place → ℕ
+abbrev pub begin_of : State → Option Location → ℕ
 begin_of s None = TEXT_START
 begin_of s (Some p) =
     if is_text p.section && nat_lt p.offset s.text then address s p else TEXT_START

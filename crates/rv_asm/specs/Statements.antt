@@ -1,4 +1,4 @@
--- Statements: their operands, and the pieces that they stand for.
+-- Statements: their operands, and the pieces that they are assembled to.
 use Rattle.std.specs.Prelude.{ℕ, ◌-◌, ◌*◌, ◌^◌, Bool, true, false, ◌&&◌, List, [], ◌∷◌, length, ℤ, pos, neg_ℤ, ◌-ℤ◌, nat_abs, Option, Some, None, Ok, ◌==◌, if◌then◌else◌, int_le}
 use Rattle.std.specs.Str.{byte}
 use Rattle.std.specs.Int.{bytes_low_first}
@@ -240,7 +240,7 @@ module _ (end : ℕ) where
   label_item sizes.Eight n column = Ok (AddressOf (record { name = n; column = column }))
   label_item size n column = wrong kinds.Operand column
 
-  -- a number of this size, or a label where that is eight bytes
+  -- a number of this size, or a label if that is eight bytes
   abbrev pub item : Size → Placed → Read Piece
   item size t = elim (t.token) [
     | Name n ↦ label_item size n t.column

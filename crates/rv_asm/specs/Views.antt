@@ -1,8 +1,8 @@
 -- What contracts see of the code's values.
 use Rattle.std.specs.Prelude.{◌≡◌, ℕ, ◌≤◌, List, [], ◌∷◌, ◌++◌, Option, None, Result, Ok, Err, option_map, map, length, drop, replicate, ◌/◌}
 use denote.Ref.{Bor}
-use Rattle.asm_tokens.specs.declared.line.LineError.{LineError}
-use Rattle.asm_tokens.specs.declared.line.LineError.TheVariants as errors
+use Rattle.asm_tokens.specs.declared.line.TokenError.{TokenError}
+use Rattle.asm_tokens.specs.declared.line.TokenError.TheVariants as errors
 use Rattle.asm_tokens.specs.Tokens.{Placed, Read, ◌>>=◌}
 use Rattle.asm_tokens.specs.declared.AsmKind.TheVariants as kinds
 use Rattle.asm_tokens.specs.declared.line.Placed.{Placed as CodePlaced}
@@ -15,7 +15,7 @@ use Rattle.rv_asm.specs.declared.pieces.Statement.{Statement as CodeStatement}
 use Rattle.rv_asm.specs.declared.pieces.Statement.TheVariants as does
 use Rattle.rv_asm.specs.declared.operands.NameUse.{NameUse}
 use Rattle.rv_asm.specs.declared.operands.Operands.{Operands}
-use Rattle.rv_asm.specs.declared.state.Place.{Place}
+use Rattle.rv_asm.specs.declared.state.Location.{Location}
 use Rattle.rv_asm.specs.declared.state.Put.{Put as CodePut}
 use Rattle.rv_asm.specs.declared.state.State.{State as CodeState}
 use Rattle.failures.specs.declared.Failure.{Failure}
@@ -32,7 +32,7 @@ use Rattle.std.specs.Ordering.{nat_cmp}
 
 -- What was done: now this is what is read of the line, or the line has a fault,
 -- unless memory ran out.
-abbrev pub Steps : {U A : Type 0} → Result U LineError → A → Read A → Type 0
+abbrev pub Steps : {U A : Type 0} → Result U TokenError → A → Read A → Type 0
 Steps (Ok u) new read = read ≡ Ok new
 Steps (Err e) new read = FailsLine e read
 
@@ -45,25 +45,25 @@ tokens_left operands = all_placed (drop operands.next operands.tokens.now)
 
 -- What was answered is taken of the old operands, and the new ones are left of the same line,
 -- unless memory ran out.
-abbrev pub Takes : {X A : Type 0} → (X → A) → Result X LineError → Operands
+abbrev pub Takes : {X A : Type 0} → (X → A) → Result X TokenError → Operands
     → Operands → Taking A → Type 0
 Takes view (Ok x) old new taking = (taking ≡ Ok (view x, tokens_left new)) × (new.end ≡ old.end)
 Takes view (Err e) old new taking = FailsLine e taking
 
--- the same where nothing is answered
-abbrev pub Passes : {U : Type 0} → Result U LineError → Operands → Operands
+-- as `Takes`, of a call that returns no value
+abbrev pub Passes : {U : Type 0} → Result U TokenError → Operands → Operands
     → Read (List Placed) → Type 0
 Passes (Ok u) old new passing = (passing ≡ Ok (tokens_left new)) × (new.end ≡ old.end)
 Passes (Err e) old new passing = FailsLine e passing
 
 -- The first token is taken, or the line has no more.
-abbrev pub TakesFirst : Result (Bor CodePlaced) LineError → Operands → Operands → Type 0
+abbrev pub TakesFirst : Result (Bor CodePlaced) TokenError → Operands → Operands → Type 0
 TakesFirst (Ok first) old new =
     (tokens_left old ≡ placed_of first.now ∷ tokens_left new) × (new.end ≡ old.end)
 TakesFirst (Err e) old new = (tokens_left old ≡ []) × (e ≡ errors.Fault kinds.Operand old.end)
 
 -- Nothing is left, or the first token is one too many.
-abbrev pub EndsThere : {U : Type 0} → Result U LineError → List Placed → Type 0
+abbrev pub EndsThere : {U : Type 0} → Result U TokenError → List Placed → Type 0
 EndsThere (Ok u) tokens = tokens ≡ []
 EndsThere (Err e) [] = ⊥
 EndsThere (Err e) (t ∷ ts) = e ≡ errors.Fault kinds.Operand t.column
@@ -82,9 +82,9 @@ statement_of (does.Puts ps) = Puts (map piece_of ps.items)
 statement_of (does.Aligns bits) = Aligns bits
 statement_of (does.Enters section) = Enters section
 
--- What was answered is the statement of this form that the operands stand for,
+-- The answer is the statement of this form with these operands,
 -- unless memory ran out.
-abbrev pub Reads : Form → Result CodeStatement LineError → Operands → Type 0
+abbrev pub Reads : Form → Result CodeStatement TokenError → Operands → Type 0
 Reads form result operands =
     GivesLine statement_of result (statement operands.end form (tokens_left operands))
 
@@ -95,9 +95,9 @@ AlignsWithin (does.Aligns bits) = bits ≤ 12
 AlignsWithin (does.Enters section) = Unit {0}
 
 abbrev pub put_of : CodePut → Put
-put_of p = record { line = p.line; place = p.place; piece = piece_of p.piece }
+put_of p = record { line = p.line; location = p.location; piece = piece_of p.piece }
 
-abbrev pub labels_of : BTreeMap (Bor (List ℕ)) Place → List ℕ → Option Place
+abbrev pub labels_of : BTreeMap (Bor (List ℕ)) Location → List ℕ → Option Location
 labels_of labels name = get_by (λ k. slice_cmp nat_cmp name k.now) labels
 
 abbrev pub state_of : CodeState → State
@@ -116,7 +116,7 @@ label_front (t ∷ []) = None
 label_front (t ∷ c ∷ ts) =
     option_map (λ name. record { name = name; column = t.column }) (label_in t.token c.token)
 
-abbrev pub error_at : ℕ → LineError → Failure AsmFault
+abbrev pub error_at : ℕ → TokenError → Failure AsmFault
 error_at line errors.Memory = faults.Memory
 error_at line (errors.Fault kind column) =
     faults.Fault (record { kind = kind; line = line; column = column })

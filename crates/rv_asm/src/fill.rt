@@ -16,9 +16,9 @@ ghost use Rattle.rv_asm.specs.Views.{Steps, StepsAll, state_of, use_of, piece_of
 use crate::lines::error_at;
 use crate::operands::NameUse;
 use crate::pieces::{Piece, lower, upper};
-use crate::state::{Place, Put, State, up_to_multiple};
+use crate::state::{Location, Put, State, up_to_multiple};
 use crate::{AsmError, AsmKind, TEXT_START};
-use asm_tokens::{LineError, Section, number_of};
+use asm_tokens::{Section, TokenError, number_of};
 use coz_types::PAGE;
 use rv_decode::{ImmOp, Instr, UpperOp, encode};
 use std::alloc::{AllocError, Global};
@@ -34,35 +34,35 @@ pub struct Filled {
     pub lines: Vec<u32>,
 }
 
-/// The address of a place; data begins at the first page that isn't below the text's end.
-pub fn address(state: &State, place: Place) -> u64
-    ensures value { result ≡ address (state_of state.now) place }
+/// The address of a location; data begins at the first page that isn't below the text's end.
+pub fn address(state: &State, location: Location) -> u64
+    ensures value { result ≡ address (state_of state.now) location }
     ensures small { result < 2 ^ 34 }
 {
-    match place.section {
-        Section::Text => TEXT_START + u64::from(place.offset),
+    match location.section {
+        Section::Text => TEXT_START + u64::from(location.offset),
         Section::Data => {
-            TEXT_START + up_to_multiple(PAGE, u64::from(state.text)) + u64::from(place.offset)
+            TEXT_START + up_to_multiple(PAGE, u64::from(state.text)) + u64::from(location.offset)
         }
     }
 }
 
 /// The address of a label.
-fn target(state: &State, label: NameUse) -> Result<u64, LineError>
+fn target(state: &State, label: NameUse) -> Result<u64, TokenError>
     ensures value { GivesLine (λ a. a) result (target (state_of state.now) (use_of label.entry)) }
     ensures small { IfOk result (λ a. a < 2 ^ 34) }
 {
     match state.labels.get(label.name) {
-        None => Err(LineError::Fault {
+        None => Err(TokenError::Fault {
             kind: AsmKind::Missing,
             column: label.column,
         }),
-        Some(place) => Ok(address(state, *place)),
+        Some(location) => Ok(address(state, *location)),
     }
 }
 
 /// How far a label is from a branch.
-fn branch_offset(state: &State, label: NameUse, from: u64) -> Result<i32, LineError>
+fn branch_offset(state: &State, label: NameUse, from: u64) -> Result<i32, TokenError>
     requires { from < 2 ^ 34 }
     ensures value { GivesLine (λ far. far) result
         (reach (state_of state.now) 13 (use_of label.entry) from) }
@@ -78,7 +78,7 @@ fn branch_offset(state: &State, label: NameUse, from: u64) -> Result<i32, LineEr
 }
 
 /// How far a label is from a jump.
-fn jump_offset(state: &State, label: NameUse, from: u64) -> Result<i32, LineError>
+fn jump_offset(state: &State, label: NameUse, from: u64) -> Result<i32, TokenError>
     requires { from < 2 ^ 34 }
     ensures value { GivesLine (λ far. far) result
         (reach (state_of state.now) 21 (use_of label.entry) from) }
@@ -94,32 +94,33 @@ fn jump_offset(state: &State, label: NameUse, from: u64) -> Result<i32, LineErro
 }
 
 /// A label that is out of reach or an odd number of bytes away.
-fn far_fault(column: u32) -> LineError
-    ensures { result ≡ LineError.Fault AsmKind.Far column }
+fn far_fault(column: u32) -> TokenError
+    ensures { result ≡ TokenError.Fault AsmKind.Far column }
 {
-    LineError::Fault {
+    TokenError::Fault {
         kind: AsmKind::Far,
         column,
     }
 }
 
-/// These bytes.
-fn write_bytes(out: &mut Vec<u8>, bytes: &[u8]) -> Result<(), LineError>
+/// Appends these bytes.
+fn write_bytes(out: &mut Vec<u8>, bytes: &[u8]) -> Result<(), TokenError>
     ensures { Steps result out.new.items (Ok (out.old.items ++ bytes.now)) }
 {
     out.extend_from_slice(bytes)?;
     Ok(())
 }
 
-/// An instruction's word.
-fn write_instruction(out: &mut Vec<u8>, instr: Instr) -> Result<(), LineError>
+/// Appends an instruction's word.
+fn write_instruction(out: &mut Vec<u8>, instr: Instr) -> Result<(), TokenError>
     requires { InRange instr }
     ensures { Steps result out.new.items (Ok (out.old.items ++ word instr)) }
 {
     write_bytes(out, &encode(instr).to_le_bytes())
 }
 
-/// The first of the two instructions that put an address so far away into a register.
+/// The first of the two instructions that put an address `far` bytes away into a register: its
+/// upper 20 bits.
 fn far_upper(rd: u8, far: i128) -> Instr
     requires register { rd < 32 }
     requires low { neg_ℤ (pos (2 ^ 100)) ≤ℤ far }
@@ -134,7 +135,8 @@ fn far_upper(rd: u8, far: i128) -> Instr
     }
 }
 
-/// The second instruction of a far address: its low 12 bits.
+/// The second of the two instructions that put an address `far` bytes away into a register: its low
+/// 12 bits.
 fn far_lower(rd: u8, far: i128) -> Instr
     requires { rd < 32 }
     ensures value { result ≡ instr.Imm Addi rd rd (lower far) }
@@ -148,8 +150,8 @@ fn far_lower(rd: u8, far: i128) -> Instr
     }
 }
 
-/// The two instructions that put an address so far away into a register.
-fn write_address_load(out: &mut Vec<u8>, rd: u8, far: i128) -> Result<(), LineError>
+/// Appends the two instructions that put an address `far` bytes away into a register.
+fn write_address_load(out: &mut Vec<u8>, rd: u8, far: i128) -> Result<(), TokenError>
     requires register { rd < 32 }
     requires low { neg_ℤ (pos (2 ^ 100)) ≤ℤ far }
     requires high { far ≤ℤ pos (2 ^ 100) }
@@ -160,7 +162,7 @@ fn write_address_load(out: &mut Vec<u8>, rd: u8, far: i128) -> Result<(), LineEr
 }
 
 /// Appends `count` zeros.
-fn write_zeros(out: &mut Vec<u8>, count: u32) -> Result<(), LineError>
+fn write_zeros(out: &mut Vec<u8>, count: u32) -> Result<(), TokenError>
     ensures { Steps result out.new.items (Ok (out.old.items ++ replicate count 0)) }
 {
     let length = out.len();
@@ -168,8 +170,8 @@ fn write_zeros(out: &mut Vec<u8>, count: u32) -> Result<(), LineError>
     Ok(())
 }
 
-/// The bytes of a piece at this address.
-fn write_piece(out: &mut Vec<u8>, state: &State, from: u64, piece: &Piece) -> Result<(), LineError>
+/// Appends the bytes of a piece that stands at this address.
+fn write_piece(out: &mut Vec<u8>, state: &State, from: u64, piece: &Piece) -> Result<(), TokenError>
     requires { from < 2 ^ 34 }
     ensures { Steps result out.new.items
         (with_front out.old.items (bytes_at (state_of state.now) from (piece_of piece.now))) }
@@ -217,13 +219,13 @@ fn push_lines(lines: &mut Vec<u32>, line: u32, words: usize) -> Result<(), Alloc
     Ok(())
 }
 
-/// The bytes of a piece in its place.
+/// The bytes of a piece at its location.
 fn fill_one(parts: &mut Filled, state: &State, put: &Put) -> Result<(), AsmError>
     ensures { StepsAll result (parts_of parts.new)
         (with_next (parts_of parts.old) (filled_piece (state_of state.now) (put_of put.now))) }
 {
-    let from = address(state, put.place);
-    match put.place.section {
+    let from = address(state, put.location);
+    match put.location.section {
         Section::Text => {
             let before = parts.text.len();
             if let Err(error) = write_piece(&mut parts.text, state, from, &put.piece) {
@@ -264,8 +266,9 @@ pub fn entry(state: &State) -> u64
     ensures { result ≡ entry (state_of state.now) }
 {
     match state.labels.get(b"_start".as_slice()) {
-        Some(place) if matches!(place.section, Section::Text) && place.offset < state.text => {
-            address(state, *place)
+        Some(location)
+            if matches!(location.section, Section::Text) && location.offset < state.text => {
+            address(state, *location)
         }
         _ => TEXT_START,
     }

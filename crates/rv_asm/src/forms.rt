@@ -18,7 +18,7 @@ use crate::operands::{NameUse, Operands, operand_fault};
 use crate::pieces::{Piece, Statement, low_bits, lower, upper};
 use crate::state::MAX_SECTION;
 use asm_tokens::{
-    Alone, Form, LineError, Order, Placed, Register, Section, Size, Token, Width, number_of,
+    Alone, Form, Order, Placed, Register, Section, Size, Token, TokenError, Width, number_of,
 };
 use rv_decode::{
     AtomicOp, BranchOp, ImmOp, Instr, LoadOp, RegOp, ShiftOp, StoreOp, UpperOp, encode,
@@ -26,7 +26,7 @@ use rv_decode::{
 use std::alloc::{AllocError, Global};
 
 /// This statement, if nothing is left.
-fn whole<'s>(operands: Operands<'_, 's>, what: Statement<'s>) -> Result<Statement<'s>, LineError>
+fn whole<'s>(operands: Operands<'_, 's>, what: Statement<'s>) -> Result<Statement<'s>, TokenError>
     ensures value { GivesLine statement_of result
         (whole operands.entry.end (statement_of what.entry) (tokens_left operands.entry)) }
     ensures same { IfOk result (λ x. x ≡ what.entry) }
@@ -40,7 +40,7 @@ fn puts<'s>(
     alloc: Global,
     operands: Operands<'_, 's>,
     piece: Piece<'s>,
-) -> Result<Statement<'s>, LineError>
+) -> Result<Statement<'s>, TokenError>
     ensures value { GivesLine statement_of result
         (puts operands.entry.end (piece_of piece.entry ∷ []) (tokens_left operands.entry)) }
     ensures within { IfOk result AlignsWithin }
@@ -54,7 +54,7 @@ fn one<'s>(
     alloc: Global,
     operands: Operands<'_, 's>,
     instr: Instr,
-) -> Result<Statement<'s>, LineError>
+) -> Result<Statement<'s>, TokenError>
     requires { InRange instr }
     ensures value { GivesLine statement_of result
         (one operands.entry.end instr (tokens_left operands.entry)) }
@@ -68,7 +68,7 @@ fn register_form<'s>(
     alloc: Global,
     op: RegOp,
     mut operands: Operands<'_, 's>,
-) -> Result<Statement<'s>, LineError>
+) -> Result<Statement<'s>, TokenError>
     ensures value { Reads (forms.Register op) result operands.entry }
     ensures within { IfOk result AlignsWithin }
 {
@@ -89,7 +89,7 @@ fn immediate_form<'s>(
     alloc: Global,
     op: ImmOp,
     mut operands: Operands<'_, 's>,
-) -> Result<Statement<'s>, LineError>
+) -> Result<Statement<'s>, TokenError>
     ensures value { Reads (forms.Immediate op) result operands.entry }
     ensures within { IfOk result AlignsWithin }
 {
@@ -120,7 +120,7 @@ fn shift_form<'s>(
     alloc: Global,
     op: ShiftOp,
     mut operands: Operands<'_, 's>,
-) -> Result<Statement<'s>, LineError>
+) -> Result<Statement<'s>, TokenError>
     ensures value { Reads (forms.Shift op) result operands.entry }
     ensures within { IfOk result AlignsWithin }
 {
@@ -141,7 +141,7 @@ fn load_form<'s>(
     alloc: Global,
     op: LoadOp,
     mut operands: Operands<'_, 's>,
-) -> Result<Statement<'s>, LineError>
+) -> Result<Statement<'s>, TokenError>
     ensures value { Reads (forms.Load op) result operands.entry }
     ensures within { IfOk result AlignsWithin }
 {
@@ -158,7 +158,7 @@ fn load_form<'s>(
 }
 
 /// `jalr rd, n(rs1)`
-fn jalr_form<'s>(alloc: Global, mut operands: Operands<'_, 's>) -> Result<Statement<'s>, LineError>
+fn jalr_form<'s>(alloc: Global, mut operands: Operands<'_, 's>) -> Result<Statement<'s>, TokenError>
     ensures value { Reads forms.Jalr result operands.entry }
     ensures within { IfOk result AlignsWithin }
 {
@@ -178,7 +178,7 @@ fn store_form<'s>(
     alloc: Global,
     op: StoreOp,
     mut operands: Operands<'_, 's>,
-) -> Result<Statement<'s>, LineError>
+) -> Result<Statement<'s>, TokenError>
     ensures value { Reads (forms.Store op) result operands.entry }
     ensures within { IfOk result AlignsWithin }
 {
@@ -199,7 +199,7 @@ fn branch_form<'s>(
     alloc: Global,
     op: BranchOp,
     mut operands: Operands<'_, 's>,
-) -> Result<Statement<'s>, LineError>
+) -> Result<Statement<'s>, TokenError>
     ensures value { Reads (forms.Branch op) result operands.entry }
     ensures within { IfOk result AlignsWithin }
 {
@@ -216,7 +216,7 @@ fn branch_form<'s>(
 }
 
 /// `jal rd, label`
-fn jal_form<'s>(alloc: Global, mut operands: Operands<'_, 's>) -> Result<Statement<'s>, LineError>
+fn jal_form<'s>(alloc: Global, mut operands: Operands<'_, 's>) -> Result<Statement<'s>, TokenError>
     ensures value { Reads forms.Jal result operands.entry }
     ensures within { IfOk result AlignsWithin }
 {
@@ -230,7 +230,7 @@ fn upper_form<'s>(
     alloc: Global,
     op: UpperOp,
     mut operands: Operands<'_, 's>,
-) -> Result<Statement<'s>, LineError>
+) -> Result<Statement<'s>, TokenError>
     ensures value { Reads (forms.Upper op) result operands.entry }
     ensures within { IfOk result AlignsWithin }
 {
@@ -269,7 +269,7 @@ fn atomic_form<'s>(
     width: Width,
     order: Order,
     mut operands: Operands<'_, 's>,
-) -> Result<Statement<'s>, LineError>
+) -> Result<Statement<'s>, TokenError>
     ensures value { Reads (forms.Atomic op width order) result operands.entry }
     ensures within { IfOk result AlignsWithin }
 {
@@ -316,7 +316,7 @@ fn instruction_alone(name: Alone) -> Instr
 }
 
 /// `mv rd, rs`
-fn move_form<'s>(alloc: Global, mut operands: Operands<'_, 's>) -> Result<Statement<'s>, LineError>
+fn move_form<'s>(alloc: Global, mut operands: Operands<'_, 's>) -> Result<Statement<'s>, TokenError>
     ensures value { Reads forms.Move result operands.entry }
     ensures within { IfOk result AlignsWithin }
 {
@@ -332,7 +332,7 @@ fn move_form<'s>(alloc: Global, mut operands: Operands<'_, 's>) -> Result<Statem
 }
 
 /// `j label`
-fn jump_form<'s>(alloc: Global, mut operands: Operands<'_, 's>) -> Result<Statement<'s>, LineError>
+fn jump_form<'s>(alloc: Global, mut operands: Operands<'_, 's>) -> Result<Statement<'s>, TokenError>
     ensures value { Reads forms.Jump result operands.entry }
     ensures within { IfOk result AlignsWithin }
 {
@@ -400,7 +400,7 @@ fn load_number<'s>(alloc: Global, rd: u8, value: i128) -> Result<Vec<Piece<'s>>,
 fn load_number_form<'s>(
     alloc: Global,
     mut operands: Operands<'_, 's>,
-) -> Result<Statement<'s>, LineError>
+) -> Result<Statement<'s>, TokenError>
     ensures value { Reads forms.LoadNumber result operands.entry }
     ensures within { IfOk result AlignsWithin }
 {
@@ -415,7 +415,7 @@ fn load_number_form<'s>(
 fn load_address_form<'s>(
     alloc: Global,
     mut operands: Operands<'_, 's>,
-) -> Result<Statement<'s>, LineError>
+) -> Result<Statement<'s>, TokenError>
     ensures value { Reads forms.LoadAddress result operands.entry }
     ensures within { IfOk result AlignsWithin }
 {
@@ -428,7 +428,7 @@ fn load_address_form<'s>(
 fn global_form<'s>(
     alloc: Global,
     mut operands: Operands<'_, 's>,
-) -> Result<Statement<'s>, LineError>
+) -> Result<Statement<'s>, TokenError>
     ensures value { Reads forms.Global result operands.entry }
     ensures within { IfOk result AlignsWithin }
 {
@@ -437,7 +437,10 @@ fn global_form<'s>(
 }
 
 /// `.ascii "text"`
-fn ascii_form<'s>(alloc: Global, mut operands: Operands<'_, 's>) -> Result<Statement<'s>, LineError>
+fn ascii_form<'s>(
+    alloc: Global,
+    mut operands: Operands<'_, 's>,
+) -> Result<Statement<'s>, TokenError>
     ensures value { Reads forms.Ascii result operands.entry }
     ensures within { IfOk result AlignsWithin }
 {
@@ -447,7 +450,10 @@ fn ascii_form<'s>(alloc: Global, mut operands: Operands<'_, 's>) -> Result<State
 }
 
 /// `.zero n`
-fn zeros_form<'s>(alloc: Global, mut operands: Operands<'_, 's>) -> Result<Statement<'s>, LineError>
+fn zeros_form<'s>(
+    alloc: Global,
+    mut operands: Operands<'_, 's>,
+) -> Result<Statement<'s>, TokenError>
     ensures value { Reads forms.Zeros result operands.entry }
     ensures within { IfOk result AlignsWithin }
 {
@@ -456,7 +462,7 @@ fn zeros_form<'s>(alloc: Global, mut operands: Operands<'_, 's>) -> Result<State
 }
 
 /// `.align n`
-fn align_form<'s>(mut operands: Operands<'_, 's>) -> Result<Statement<'s>, LineError>
+fn align_form<'s>(mut operands: Operands<'_, 's>) -> Result<Statement<'s>, TokenError>
     ensures value { Reads forms.Align result operands.entry }
     ensures within { IfOk result AlignsWithin }
 {
@@ -495,13 +501,13 @@ fn number_item<'s>(
     size: Size,
     value: i128,
     column: u32,
-) -> Result<Piece<'s>, LineError>
+) -> Result<Piece<'s>, TokenError>
     ensures { GivesLine piece_of result (number_item end size value column) }
 {
     if is_in_size(size, value) {
         Ok(Piece::Bytes(number_bytes(alloc, size, value)?))
     } else {
-        Err(LineError::Fault {
+        Err(TokenError::Fault {
             kind: AsmKind::Range,
             column,
         })
@@ -509,7 +515,12 @@ fn number_item<'s>(
 }
 
 /// A label, whose address has eight bytes.
-fn label_item<'s>(end: u32, size: Size, name: &'s [u8], column: u32) -> Result<Piece<'s>, LineError>
+fn label_item<'s>(
+    end: u32,
+    size: Size,
+    name: &'s [u8],
+    column: u32,
+) -> Result<Piece<'s>, TokenError>
     ensures { GivesLine piece_of result (label_item end size name.now column) }
 {
     match size {
@@ -518,8 +529,13 @@ fn label_item<'s>(end: u32, size: Size, name: &'s [u8], column: u32) -> Result<P
     }
 }
 
-/// A number of this size, or a label where that is eight bytes.
-fn item<'s>(alloc: Global, end: u32, size: Size, found: &Placed<'s>) -> Result<Piece<'s>, LineError>
+/// A number of this size, or a label if that is eight bytes.
+fn item<'s>(
+    alloc: Global,
+    end: u32,
+    size: Size,
+    found: &Placed<'s>,
+) -> Result<Piece<'s>, TokenError>
     ensures { GivesLine piece_of result (item end size (placed_of found.now)) }
 {
     match &found.token {
@@ -534,7 +550,7 @@ fn next_item<'s>(
     alloc: Global,
     size: Size,
     operands: &mut Operands<'_, 's>,
-) -> Result<Piece<'s>, LineError>
+) -> Result<Piece<'s>, TokenError>
     ensures { Takes piece_of result operands.old operands.new
         (item_operand operands.old.end size (tokens_left operands.old)) }
 {
@@ -547,7 +563,7 @@ fn then_item<'s>(
     alloc: Global,
     size: Size,
     operands: &mut Operands<'_, 's>,
-) -> Result<Piece<'s>, LineError>
+) -> Result<Piece<'s>, TokenError>
     ensures { Takes piece_of result operands.old operands.new
         (then_item operands.old.end size (tokens_left operands.old)) }
 {
@@ -560,7 +576,7 @@ fn items<'s>(
     alloc: Global,
     size: Size,
     mut operands: Operands<'_, 's>,
-) -> Result<Vec<Piece<'s>>, LineError>
+) -> Result<Vec<Piece<'s>>, TokenError>
     ensures { GivesLine (λ v. map piece_of v.items) result
         (items operands.entry.end size (tokens_left operands.entry)) }
 {
@@ -577,7 +593,7 @@ fn numbers_form<'s>(
     alloc: Global,
     size: Size,
     operands: Operands<'_, 's>,
-) -> Result<Statement<'s>, LineError>
+) -> Result<Statement<'s>, TokenError>
     ensures value { Reads (forms.Numbers size) result operands.entry }
     ensures within { IfOk result AlignsWithin }
 {
@@ -592,7 +608,7 @@ pub fn statement<'s>(
     end: u32,
     form: Form,
     tokens: &[Placed<'s>],
-) -> Result<Statement<'s>, LineError>
+) -> Result<Statement<'s>, TokenError>
     ensures value { GivesLine statement_of result (statement end form (all_placed tokens.now)) }
     ensures within { IfOk result AlignsWithin }
 {

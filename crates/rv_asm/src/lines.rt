@@ -15,7 +15,7 @@ use crate::forms::statement;
 use crate::operands::NameUse;
 use crate::state::State;
 use crate::{AsmError, AsmFault, AsmKind};
-use asm_tokens::{Form, LineError, Placed, Section, Token, form_of, is_blank, tokens};
+use asm_tokens::{Form, Placed, Section, Token, TokenError, form_of, is_blank, tokens};
 use std::alloc::Global;
 
 /// The most lines of a source.
@@ -60,20 +60,20 @@ fn form_in(first: &Token) -> Option<Form>
     }
 }
 
-/// The tokens from a place on.
-fn from_place<'t, 's>(tokens: &'t [Placed<'s>], place: usize) -> &'t [Placed<'s>]
-    requires { place ≤ length tokens.now }
-    ensures { result.now ≡ drop place tokens.now }
+/// The tokens from an index on.
+fn from_index<'t, 's>(tokens: &'t [Placed<'s>], index: usize) -> &'t [Placed<'s>]
+    requires { index ≤ length tokens.now }
+    ensures { result.now ≡ drop index tokens.now }
 {
-    &tokens[place..]
+    &tokens[index..]
 }
 
-/// The label that begins at this place, if a colon follows the name there.
-fn label_at<'s>(tokens: &[Placed<'s>], place: usize) -> Option<NameUse<'s>>
-    requires { place ≤ length tokens.now }
-    ensures { option_map use_of result ≡ label_front (all_placed (drop place tokens.now)) }
+/// The label that begins at this index, if a colon follows the name there.
+fn label_at<'s>(tokens: &[Placed<'s>], index: usize) -> Option<NameUse<'s>>
+    requires { index ≤ length tokens.now }
+    ensures { option_map use_of result ≡ label_front (all_placed (drop index tokens.now)) }
 {
-    label_first(from_place(tokens, place))
+    label_first(from_index(tokens, index))
 }
 
 /// The label that begins these tokens, if a colon follows the name there.
@@ -100,19 +100,19 @@ fn take_statement<'s>(
     first: &Placed<'s>,
     operands: &[Placed<'s>],
     state: &mut State<'s>,
-) -> Result<(), LineError>
+) -> Result<(), TokenError>
     ensures { Steps result (state_of state.new) (with_statement line end (placed_of first.now)
         (all_placed operands.now) (state_of state.old)) }
 {
     let column = first.column;
     let Some(form) = form_in(&first.token) else {
-        return Err(LineError::Fault {
+        return Err(TokenError::Fault {
             kind: AsmKind::Name,
             column,
         });
     };
     if !is_in_place(form, state.section) {
-        return Err(LineError::Fault {
+        return Err(TokenError::Fault {
             kind: AsmKind::Section,
             column,
         });
@@ -128,7 +128,7 @@ fn take_last<'s>(
     end: u32,
     tokens: &[Placed<'s>],
     state: &mut State<'s>,
-) -> Result<(), LineError>
+) -> Result<(), TokenError>
     requires { label_front (all_placed tokens.now) ≡ None }
     ensures { Steps result (state_of state.new)
         (take_tokens line end (all_placed tokens.now) (state_of state.old)) }
@@ -146,22 +146,22 @@ fn take_tokens<'s>(
     end: u32,
     tokens: &[Placed<'s>],
     state: &mut State<'s>,
-) -> Result<(), LineError>
+) -> Result<(), TokenError>
     ensures { Steps result (state_of state.new)
         (take_tokens line end (all_placed tokens.now) (state_of state.old)) }
 {
-    let mut place = 0;
-    while let Some(label) = label_at(tokens, place) {
+    let mut index = 0;
+    while let Some(label) = label_at(tokens, index) {
         state.add_label(label.name, label.column)?;
-        place += 2;
+        index += 2;
     }
-    take_last(alloc, line, end, from_place(tokens, place), state)
+    take_last(alloc, line, end, from_index(tokens, index), state)
 }
 
-/// The place of the first byte that may not stand in a line.
+/// The index of the first byte that may not stand in a line.
 fn first_wrong_byte(line: &[u8]) -> Option<usize>
-    ensures place { result ≡ position (λ b. not (is_allowed b)) line.now }
-    ensures within { IfSome result (λ place. place < length line.now) }
+    ensures index { result ≡ position (λ b. not (is_allowed b)) line.now }
+    ensures within { IfSome result (λ index. index < length line.now) }
 {
     line.iter().position(|byte| !is_allowed(*byte))
 }
@@ -173,21 +173,21 @@ fn take_line<'s>(
     number: u32,
     line: &'s [u8],
     state: &mut State<'s>,
-) -> Result<(), LineError>
+) -> Result<(), TokenError>
     requires { length line.now ≤ MAX_SOURCE }
     ensures value { Steps result (state_of state.new)
         (take_line number line.now (state_of state.old)) }
 {
     if number > MAX_LINES {
-        return Err(LineError::Fault {
+        return Err(TokenError::Fault {
             kind: AsmKind::Lines,
             column: 1,
         });
     }
-    if let Some(place) = first_wrong_byte(line) {
-        return Err(LineError::Fault {
+    if let Some(index) = first_wrong_byte(line) {
+        return Err(TokenError::Fault {
             kind: AsmKind::Byte,
-            column: place as u32 + 1,
+            column: index as u32 + 1,
         });
     }
     let found = tokens(alloc, line)?;
@@ -215,23 +215,23 @@ fn first_line(bytes: &[u8]) -> &[u8]
     &bytes[..line_length(bytes)]
 }
 
-/// The line that begins at this place of the source.
-fn line_at(source: &[u8], place: usize) -> &[u8]
-    requires { place < length source.now }
-    ensures lines { lines (drop place source.now)
-        ≡ result.now ∷ lines (drop (place + (length result.now + 1)) source.now) }
-    ensures within { place + length result.now ≤ length source.now }
+/// The line that begins at this index of the source.
+fn line_at(source: &[u8], index: usize) -> &[u8]
+    requires { index < length source.now }
+    ensures lines { lines (drop index source.now)
+        ≡ result.now ∷ lines (drop (index + (length result.now + 1)) source.now) }
+    ensures within { index + length result.now ≤ length source.now }
 {
-    first_line(&source[place..])
+    first_line(&source[index..])
 }
 
 /// The fault of a line, with the line's number.
-pub fn error_at(line: u32, error: LineError) -> AsmError
+pub fn error_at(line: u32, error: TokenError) -> AsmError
     ensures { result ≡ error_at line error }
 {
     match error {
-        LineError::Memory => AsmError::Memory,
-        LineError::Fault { kind, column } => AsmError::Fault(AsmFault { kind, line, column }),
+        TokenError::Memory => AsmError::Memory,
+        TokenError::Fault { kind, column } => AsmError::Fault(AsmFault { kind, line, column }),
     }
 }
 
@@ -242,14 +242,14 @@ pub fn take_lines<'s>(alloc: Global, source: &'s [u8]) -> Result<State<'s>, AsmE
 {
     let mut state = State::new(alloc);
     let mut number = 0;
-    let mut place = 0;
-    while place < source.len() {
-        let line = line_at(source, place);
+    let mut index = 0;
+    while index < source.len() {
+        let line = line_at(source, index);
         number += 1;
         if let Err(error) = take_line(alloc, number, line, &mut state) {
             return Err(error_at(number, error));
         }
-        place += line.len() + 1;
+        index += line.len() + 1;
     }
     Ok(state)
 }

@@ -9,7 +9,7 @@ ghost use Rattle.asm_tokens.specs.Views.{all_placed};
 ghost use Rattle.rv_asm.specs.Views.{use_of, tokens_left, TakesFirst, Takes, Passes, EndsThere};
 
 use crate::AsmKind;
-use asm_tokens::{LineError, Placed, Register, Token, register_of};
+use asm_tokens::{Placed, Register, Token, TokenError, register_of};
 use rv_decode::AtomicOp;
 
 /// A label where it is used.
@@ -28,10 +28,10 @@ pub struct Operands<'t, 's> {
 }
 
 /// A token that the form doesn't have there, or a missing one.
-pub fn operand_fault(column: u32) -> LineError
-    ensures { result ≡ LineError.Fault AsmKind.Operand column }
+pub fn operand_fault(column: u32) -> TokenError
+    ensures { result ≡ TokenError.Fault AsmKind.Operand column }
 {
-    LineError::Fault {
+    TokenError::Fault {
         kind: AsmKind::Operand,
         column,
     }
@@ -51,7 +51,7 @@ impl<'t, 's> Operands<'t, 's> {
     }
 
     /// A token.
-    pub fn token(&mut self) -> Result<&'t Placed<'s>, LineError>
+    pub fn token(&mut self) -> Result<&'t Placed<'s>, TokenError>
         ensures { TakesFirst result self.old self.new }
     {
         let tokens = self.tokens;
@@ -71,8 +71,8 @@ impl<'t, 's> Operands<'t, 's> {
         self.end
     }
 
-    /// Nothing, and nothing is left.
-    pub fn finish(&self) -> Result<(), LineError>
+    /// Ok if no token is left.
+    pub fn finish(&self) -> Result<(), TokenError>
         ensures { EndsThere result (tokens_left self.now) }
     {
         match self.tokens.get(self.next) {
@@ -82,7 +82,7 @@ impl<'t, 's> Operands<'t, 's> {
     }
 
     /// A name.
-    pub fn name(&mut self) -> Result<NameUse<'s>, LineError>
+    pub fn name(&mut self) -> Result<NameUse<'s>, TokenError>
         ensures { Takes use_of result self.old self.new (name self.old.end (tokens_left self.old)) }
     {
         let first = self.token()?;
@@ -96,7 +96,7 @@ impl<'t, 's> Operands<'t, 's> {
     }
 
     /// This mark.
-    pub fn mark(&mut self, wanted: u8) -> Result<(), LineError>
+    pub fn mark(&mut self, wanted: u8) -> Result<(), TokenError>
         ensures { Passes result self.old self.new
             (mark self.old.end wanted (tokens_left self.old)) }
     {
@@ -108,7 +108,7 @@ impl<'t, 's> Operands<'t, 's> {
     }
 
     /// A number from `low` to `high`.
-    pub fn number(&mut self, low: i128, high: i128) -> Result<i128, LineError>
+    pub fn number(&mut self, low: i128, high: i128) -> Result<i128, TokenError>
         ensures value { Takes (λ n. n) result self.old self.new
             (number self.old.end low high (tokens_left self.old)) }
         ensures low { IfOk result (λ n. low ≤ℤ n) }
@@ -121,7 +121,7 @@ impl<'t, 's> Operands<'t, 's> {
                 if low <= found && found <= high {
                     Ok(found)
                 } else {
-                    Err(LineError::Fault {
+                    Err(TokenError::Fault {
                         kind: AsmKind::Range,
                         column: first.column,
                     })
@@ -132,7 +132,7 @@ impl<'t, 's> Operands<'t, 's> {
     }
 
     /// The bytes of a text.
-    pub fn text(&mut self) -> Result<&'t [u8], LineError>
+    pub fn text(&mut self) -> Result<&'t [u8], TokenError>
         ensures { Takes (λ bytes. bytes.now) result self.old self.new
             (text_operand self.old.end (tokens_left self.old)) }
     {
@@ -144,7 +144,7 @@ impl<'t, 's> Operands<'t, 's> {
     }
 
     /// A register.
-    pub fn register(&mut self) -> Result<Register, LineError>
+    pub fn register(&mut self) -> Result<Register, TokenError>
         ensures { Takes number_of result self.old self.new
             (register self.old.end (tokens_left self.old)) }
     {
@@ -156,7 +156,7 @@ impl<'t, 's> Operands<'t, 's> {
     }
 
     /// A number from 0 to `high`.
-    pub fn number_up_to(&mut self, high: u32) -> Result<u32, LineError>
+    pub fn number_up_to(&mut self, high: u32) -> Result<u32, TokenError>
         ensures value { Takes (λ n. n) result self.old self.new
             (number_up_to self.old.end high (tokens_left self.old)) }
         ensures small { IfOk result (λ n. n ≤ high) }
@@ -166,7 +166,7 @@ impl<'t, 's> Operands<'t, 's> {
     }
 
     /// A number of 12 bits with a sign.
-    pub fn immediate(&mut self) -> Result<i32, LineError>
+    pub fn immediate(&mut self) -> Result<i32, TokenError>
         ensures value { Takes (λ n. n) result self.old self.new
             (immediate self.old.end (tokens_left self.old)) }
         ensures small { IfOk result (λ n. IsTrue (is_signed 12 n)) }
@@ -176,7 +176,7 @@ impl<'t, 's> Operands<'t, 's> {
     }
 
     /// A name after a comma.
-    pub fn then_name(&mut self) -> Result<NameUse<'s>, LineError>
+    pub fn then_name(&mut self) -> Result<NameUse<'s>, TokenError>
         ensures { Takes use_of result self.old self.new
             (then_name self.old.end (tokens_left self.old)) }
     {
@@ -185,7 +185,7 @@ impl<'t, 's> Operands<'t, 's> {
     }
 
     /// A register after a comma.
-    pub fn then_register(&mut self) -> Result<Register, LineError>
+    pub fn then_register(&mut self) -> Result<Register, TokenError>
         ensures { Takes number_of result self.old self.new
             (then_register self.old.end (tokens_left self.old)) }
     {
@@ -194,7 +194,7 @@ impl<'t, 's> Operands<'t, 's> {
     }
 
     /// A signed number of 12 bits after a comma.
-    pub fn then_immediate(&mut self) -> Result<i32, LineError>
+    pub fn then_immediate(&mut self) -> Result<i32, TokenError>
         ensures value { Takes (λ n. n) result self.old self.new
             (then_immediate self.old.end (tokens_left self.old)) }
         ensures small { IfOk result (λ n. IsTrue (is_signed 12 n)) }
@@ -204,7 +204,7 @@ impl<'t, 's> Operands<'t, 's> {
     }
 
     /// A number from 0 to `high` after a comma.
-    pub fn then_up_to(&mut self, high: u32) -> Result<u32, LineError>
+    pub fn then_up_to(&mut self, high: u32) -> Result<u32, TokenError>
         ensures value { Takes (λ n. n) result self.old self.new
             (then_up_to self.old.end high (tokens_left self.old)) }
         ensures small { IfOk result (λ n. n ≤ high) }
@@ -214,7 +214,7 @@ impl<'t, 's> Operands<'t, 's> {
     }
 
     /// A register in parentheses.
-    pub fn base(&mut self) -> Result<Register, LineError>
+    pub fn base(&mut self) -> Result<Register, TokenError>
         ensures { Takes number_of result self.old self.new
             (base self.old.end (tokens_left self.old)) }
     {
@@ -225,7 +225,7 @@ impl<'t, 's> Operands<'t, 's> {
     }
 
     /// A register in parentheses after a comma.
-    pub fn then_base(&mut self) -> Result<Register, LineError>
+    pub fn then_base(&mut self) -> Result<Register, TokenError>
         ensures { Takes number_of result self.old self.new
             (then_base self.old.end (tokens_left self.old)) }
     {
@@ -234,7 +234,7 @@ impl<'t, 's> Operands<'t, 's> {
     }
 
     /// The register that an atomic stores or combines, after a comma; `lr` has none.
-    pub fn then_second(&mut self, op: AtomicOp) -> Result<Register, LineError>
+    pub fn then_second(&mut self, op: AtomicOp) -> Result<Register, TokenError>
         ensures value { Takes number_of result self.old self.new
             (then_second self.old.end op (tokens_left self.old)) }
         ensures second { IfOk result (λ r. IsTrue (is_second op (number_of r))) }

@@ -1,4 +1,4 @@
-//! What statements stand for.
+//! The pieces that statements are assembled to.
 
 ghost use Rattle.std.specs.Prelude.{◌≡◌, ◌≤◌, ◌<◌, ◌^◌, IsTrue, pos, neg_ℤ, ◌≤ℤ◌};
 ghost use Rattle.rv_decode.specs.Fields.{twos_complement, is_signed};

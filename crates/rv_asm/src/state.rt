@@ -1,35 +1,35 @@
 //! What the lines so far have made: labels with their places, and pieces in their places.
 
 ghost use Rattle.std.specs.Prelude.{◌≡◌, ◌≤◌, ◌<◌, ◌+◌, ◌-◌, ◌^◌, [], map};
-ghost use Rattle.rv_asm.specs.Assembled.{section_length, next_place, start, with_label, with_piece, with_pieces, up_to_multiple, with_effect};
+ghost use Rattle.rv_asm.specs.Assembled.{section_length, next_location, start, with_label, with_piece, with_pieces, up_to_multiple, with_effect};
 ghost use Rattle.rv_asm.specs.Statements.{size};
 ghost use Rattle.rv_asm.specs.Views.{Steps, state_of, piece_of, statement_of, AlignsWithin};
 
 use crate::AsmKind;
 use crate::pieces::{Piece, Statement};
-use asm_tokens::{LineError, Section};
+use asm_tokens::{Section, TokenError};
 use std::alloc::Global;
 use std::collections::BTreeMap;
 
 /// The most bytes of a section.
 pub const MAX_SECTION: u32 = 1_048_576;
 
-/// A place in a section.
+/// A location in a section.
 #[derive(Clone, Copy)]
-pub struct Place {
+pub struct Location {
     /// The section.
     pub section: Section,
     /// How many bytes of it stand before.
     pub offset: u32,
 }
 
-/// A piece in its place, and the line of its statement.
+/// A piece, its location, and the line of its statement.
 #[derive(Drop)]
 pub struct Put<'s> {
     /// The line, counted from 1.
     pub line: u32,
     /// Where it is put.
-    pub place: Place,
+    pub location: Location,
     /// What is put.
     pub piece: Piece<'s>,
 }
@@ -38,7 +38,7 @@ pub struct Put<'s> {
 #[derive(Drop)]
 pub struct State<'s> {
     /// Where each label stands.
-    pub labels: BTreeMap<&'s [u8], Place>,
+    pub labels: BTreeMap<&'s [u8], Location>,
     /// The section that the next piece goes into.
     pub section: Section,
     /// How many bytes `.text` has so far.
@@ -96,10 +96,10 @@ impl<'s> State<'s> {
         }
     }
 
-    fn next_place(&self) -> Place
-        ensures { result ≡ next_place (state_of self.now) }
+    fn next_location(&self) -> Location
+        ensures { result ≡ next_location (state_of self.now) }
     {
-        Place {
+        Location {
             section: self.section,
             offset: self.section_length(),
         }
@@ -107,14 +107,14 @@ impl<'s> State<'s> {
 
     /// A label where the next piece goes.
     /// Err if there is one of that name, or if it is out of memory.
-    pub fn add_label(&mut self, name: &'s [u8], column: u32) -> Result<(), LineError>
+    pub fn add_label(&mut self, name: &'s [u8], column: u32) -> Result<(), TokenError>
         ensures { Steps result (state_of self.new)
             (with_label name.now column (state_of self.old)) }
     {
-        let place = self.next_place();
-        match self.labels.insert(name, place)? {
+        let location = self.next_location();
+        match self.labels.insert(name, location)? {
             None => Ok(()),
-            Some(_) => Err(LineError::Fault {
+            Some(_) => Err(TokenError::Fault {
                 kind: AsmKind::Twice,
                 column,
             }),
@@ -122,19 +122,23 @@ impl<'s> State<'s> {
     }
 
     /// One piece of a statement.
-    fn put(&mut self, line: u32, column: u32, piece: Piece<'s>) -> Result<(), LineError>
+    fn put(&mut self, line: u32, column: u32, piece: Piece<'s>) -> Result<(), TokenError>
         ensures { Steps result (state_of self.new)
             (with_piece line column (piece_of piece.entry) (state_of self.old)) }
     {
         let end = (self.section_length() as usize).saturating_add(size(&piece));
         if end > MAX_SECTION as usize {
-            return Err(LineError::Fault {
+            return Err(TokenError::Fault {
                 kind: AsmKind::Much,
                 column,
             });
         }
-        let place = self.next_place();
-        self.puts.push(Put { line, place, piece })?;
+        let location = self.next_location();
+        self.puts.push(Put {
+            line,
+            location,
+            piece,
+        })?;
         match self.section {
             Section::Text => self.text = end as u32,
             Section::Data => self.content = end as u32,
@@ -144,7 +148,7 @@ impl<'s> State<'s> {
 
     /// The pieces of a statement.
     #[tactic(auto, unfolding(crate::specs::Assembled::with_pieces))]
-    fn put_all(&mut self, line: u32, column: u32, pieces: Vec<Piece<'s>>) -> Result<(), LineError>
+    fn put_all(&mut self, line: u32, column: u32, pieces: Vec<Piece<'s>>) -> Result<(), TokenError>
         ensures { Steps result (state_of self.new)
             (with_pieces line column (map piece_of pieces.entry.items) (state_of self.old)) }
     {
@@ -156,7 +160,7 @@ impl<'s> State<'s> {
 
     /// What a statement does.
     /// Err if its section may not have it or would be too long, or if it is out of memory.
-    pub fn perform(&mut self, line: u32, column: u32, what: Statement<'s>) -> Result<(), LineError>
+    pub fn perform(&mut self, line: u32, column: u32, what: Statement<'s>) -> Result<(), TokenError>
         requires { AlignsWithin what }
         ensures { Steps result (state_of self.new)
             (with_effect line column (statement_of what.entry) (state_of self.old)) }

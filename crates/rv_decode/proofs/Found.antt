@@ -124,8 +124,8 @@ module _ (w : ℕ) (small : w < 2 ^ 32) where
       let whole = sum_of_parts w small in
       (grind (arith, common_steps), omega arith)
 
-  flag_field-test : (n place : ℕ) → n < 2 → flag_field (n == 1) place ≡ n * 2 ^ place
-  flag_field-test n place h = grind (arith, common_steps)
+  flag_field-test : (n shift : ℕ) → n < 2 → flag_field (n == 1) shift ≡ n * 2 ^ shift
+  flag_field-test n shift h = grind (arith, common_steps)
 
   pub atomic_word : (op : AtomicOp) (wide : Bool) → part w 0 7 ≡ 0x2F → part w 12 3 ≡ 2 + bit wide → HasCode (atomic_code op) 0x2F 2 (part w 27 5 * 4)
       → IsTrue (is_second op (part w 20 5))

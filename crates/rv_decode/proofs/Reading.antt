@@ -328,9 +328,9 @@ second_fits : (op : AtomicOp) (r : ℕ) → IsTrue (is_second op r) → r < 2 ^ 
 second_fits Amoadd r e = grind (arith, common_steps)
 second_fits _ r e = grind (arith, common_steps)
 
-pub flag_field-bit : (flag : Bool) (place : ℕ) → flag_field flag place ≡ bit flag * 2 ^ place
-flag_field-bit true place = omega arith
-flag_field-bit false place = omega arith
+pub flag_field-bit : (flag : Bool) (shift : ℕ) → flag_field flag shift ≡ bit flag * 2 ^ shift
+flag_field-bit true shift = omega arith
+flag_field-bit false shift = omega arith
 
 bit_below : (flag : Bool) → bit flag < 2
 bit_below true = lit< tt

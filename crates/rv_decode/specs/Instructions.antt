@@ -11,7 +11,7 @@ use Rattle.rv_decode.specs.declared.AtomicOp.TheVariants.{Lr}
 use Rattle.rv_decode.specs.Fields.{part, twos_complement, signed_bits, is_signed, is_even}
 use Rattle.rv_decode.specs.Table.{Code, upper_code, branch_code, load_code, store_code, imm_code, shift_code, register_code, atomic_code, upper_ops, branch_ops, load_ops, store_ops, imm_ops, shift_ops, register_ops, atomic_ops}
 
--- the fields of a word, each in its place
+-- the fields of a word, each shifted to its position
 abbrev pub code_field : Code → ℕ
 code_field c = c.opcode + c.funct3 * 2 ^ 12 + c.funct7 * 2 ^ 25
 
@@ -39,7 +39,7 @@ jump_field z = let n = twos_complement 21 z in
     part n 12 8 * 2 ^ 12 + part n 11 1 * 2 ^ 20 + part n 1 10 * 2 ^ 21 + part n 20 1 * 2 ^ 31
 
 abbrev pub flag_field : Bool → ℕ → ℕ
-flag_field flag place = if flag then 2 ^ place else 0
+flag_field flag shift = if flag then 2 ^ shift else 0
 
 -- the word of an instruction
 abbrev pub word_of : Instr → ℕ
@@ -161,11 +161,11 @@ candidates w =
 abbrev pub instruction_of : ℕ → Option Instr
 instruction_of w = find (has_word w) (candidates w)
 
--- what decoding a word answers: the instruction that has the word, or None where none has it
+-- what decoding a word answers: the instruction that has the word, or None if none has it
 abbrev pub IsDecoded : ℕ → Option Instr → Type 0
 IsDecoded w (Some i) = HasWord w i
 IsDecoded w None = (i : Instr) → InRange i → word_of i ≢ w
 
--- what decoding a word answers: an instruction exactly where that instruction has the word
+-- what decoding a word answers: an instruction exactly if that instruction has the word
 abbrev pub IsInstructionOf : ℕ → Option Instr → Type 0
 IsInstructionOf w found = (i : Instr) → (found ≡ Some i) ↔ HasWord w i

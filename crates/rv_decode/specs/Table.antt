@@ -19,7 +19,7 @@ use Rattle.rv_decode.specs.declared.RegOp.TheVariants.{Add, Sll, Slt, Sltu, Xor,
 use Rattle.rv_decode.specs.declared.AtomicOp.{AtomicOp}
 use Rattle.rv_decode.specs.declared.AtomicOp.TheVariants.{Amoadd, Amoswap, Lr, Sc, Amoxor, Amoor, Amoand, Amomin, Amomax, Amominu, Amomaxu}
 
--- the opcode, funct3 and funct7 of an instruction, each 0 where its form has none
+-- the opcode, funct3 and funct7 of an instruction, each 0 if its form has none
 pub record Code : Type 0 where
   pub opcode : ℕ
   pub funct3 : ℕ
@@ -102,7 +102,7 @@ register_code Divuw = code 0x3B 5 0x01
 register_code Remw = code 0x3B 6 0x01
 register_code Remuw = code 0x3B 7 0x01
 
--- funct3 is that of the form of 32 bits, and the lowest two bits of funct7 stand for aq and rl
+-- funct3 is that of the form of 32 bits, and the lowest two bits of funct7 are aq and rl
 abbrev pub atomic_code : AtomicOp → Code
 atomic_code Amoadd = code 0x2F 2 0x00
 atomic_code Amoswap = code 0x2F 2 0x04

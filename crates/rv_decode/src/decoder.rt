@@ -172,7 +172,7 @@ fn word_registers(word: u32) -> Option<Instr>
     })
 }
 
-/// lr has no second operand: its place holds 0.
+/// lr has no second operand: its field is 0.
 fn is_operand(op: AtomicOp, rs2: u8) -> bool
     requires { rs2 < 32 }
     ensures { result ≡ is_second op rs2 }

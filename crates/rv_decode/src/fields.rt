@@ -88,12 +88,12 @@ pub(crate) fn fence_bits(word: u32) -> u16
     bits(word, 20, 12) as u16
 }
 
-/// The bit at a place.
-pub(crate) fn flag(word: u32, place: u32) -> bool
-    requires { place < 32 }
-    ensures { result ≡ (part word place 1 == 1) }
+/// The lowest bit of a word after a shift to the right.
+pub(crate) fn flag(word: u32, shift: u32) -> bool
+    requires { shift < 32 }
+    ensures { result ≡ (part word shift 1 == 1) }
 {
-    bits(word, place, 1) == 1
+    bits(word, shift, 1) == 1
 }
 
 /// The signed number that 12 bits write.

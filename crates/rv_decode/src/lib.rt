@@ -293,7 +293,7 @@ pub enum Instr {
     Ebreak,
 }
 
-/// The opcode, funct3 and funct7 of an operation, each in its place.
+/// The opcode, funct3 and funct7 of an operation, each shifted to its position.
 fn upper_fixed_bits(op: UpperOp) -> u32
     ensures code { result ≡ code_field (upper_code op) }
     ensures below { result ≤ 0x37 }
@@ -304,7 +304,7 @@ fn upper_fixed_bits(op: UpperOp) -> u32
     }
 }
 
-/// The opcode, funct3 and funct7 of an operation, each in its place.
+/// The opcode, funct3 and funct7 of an operation, each shifted to its position.
 fn branch_fixed_bits(op: BranchOp) -> u32
     ensures code { result ≡ code_field (branch_code op) }
     ensures below { result ≤ 0x7063 }
@@ -319,7 +319,7 @@ fn branch_fixed_bits(op: BranchOp) -> u32
     }
 }
 
-/// The opcode, funct3 and funct7 of an operation, each in its place.
+/// The opcode, funct3 and funct7 of an operation, each shifted to its position.
 fn load_fixed_bits(op: LoadOp) -> u32
     ensures code { result ≡ code_field (load_code op) }
     ensures below { result ≤ 0x6003 }
@@ -335,7 +335,7 @@ fn load_fixed_bits(op: LoadOp) -> u32
     }
 }
 
-/// The opcode, funct3 and funct7 of an operation, each in its place.
+/// The opcode, funct3 and funct7 of an operation, each shifted to its position.
 fn store_fixed_bits(op: StoreOp) -> u32
     ensures code { result ≡ code_field (store_code op) }
     ensures below { result ≤ 0x3023 }
@@ -348,7 +348,7 @@ fn store_fixed_bits(op: StoreOp) -> u32
     }
 }
 
-/// The opcode, funct3 and funct7 of an operation, each in its place.
+/// The opcode, funct3 and funct7 of an operation, each shifted to its position.
 fn imm_fixed_bits(op: ImmOp) -> u32
     ensures code { result ≡ code_field (imm_code op) }
     ensures below { result ≤ 0x701B }
@@ -364,7 +364,7 @@ fn imm_fixed_bits(op: ImmOp) -> u32
     }
 }
 
-/// The opcode, funct3 and funct7 of an operation, each in its place.
+/// The opcode, funct3 and funct7 of an operation, each shifted to its position.
 fn shift_fixed_bits(op: ShiftOp) -> u32
     ensures code { result ≡ code_field (shift_code op) }
     ensures below { result ≤ 0x4000501B }
@@ -379,7 +379,7 @@ fn shift_fixed_bits(op: ShiftOp) -> u32
     }
 }
 
-/// The opcode, funct3 and funct7 of an operation, each in its place.
+/// The opcode, funct3 and funct7 of an operation, each shifted to its position.
 fn register_fixed_bits(op: RegOp) -> u32
     ensures code { result ≡ code_field (register_code op) }
     ensures below { result ≤ 0x4000703B }
@@ -416,7 +416,7 @@ fn register_fixed_bits(op: RegOp) -> u32
     }
 }
 
-/// The opcode, funct3 and funct7 of an operation, each in its place.
+/// The opcode, funct3 and funct7 of an operation, each shifted to its position.
 fn atomic_fixed_bits(op: AtomicOp) -> u32
     ensures code { result ≡ code_field (atomic_code op) }
     ensures below { result ≤ 0xE000202F }
@@ -520,15 +520,15 @@ fn jump_bits(z: i32) -> u64
         + n / 0x10_0000 % 2 * 0x8000_0000
 }
 
-/// A flag in its place.
-fn flag_bits(flag: bool, place: u64) -> u64
-    requires { place ≤ 31 }
-    ensures { result ≡ flag_field flag place }
+/// A flag, shifted to its position.
+fn flag_bits(flag: bool, shift: u64) -> u64
+    requires { shift ≤ 31 }
+    ensures { result ≡ flag_field flag shift }
 {
-    if flag { 1 << place } else { 0 }
+    if flag { 1 << shift } else { 0 }
 }
 
-/// The register that is written, in its place.
+/// The register that is written (rd), shifted to its position.
 fn rd_bits(r: u8) -> u64
     requires { r < 32 }
     ensures field { result ≡ rd_field r }
@@ -537,7 +537,7 @@ fn rd_bits(r: u8) -> u64
     u64::from(r) * 0x80
 }
 
-/// The first register that is read, in its place.
+/// The first register that is read (rs1), shifted to its position.
 fn rs1_bits(r: u8) -> u64
     requires { r < 32 }
     ensures field { result ≡ rs1_field r }
@@ -546,7 +546,7 @@ fn rs1_bits(r: u8) -> u64
     u64::from(r) * 0x8000
 }
 
-/// The second register that is read, in its place.
+/// The second register that is read (rs2), shifted to its position.
 fn rs2_bits(r: u8) -> u64
     requires { r < 32 }
     ensures field { result ≡ rs2_field r }
@@ -555,7 +555,7 @@ fn rs2_bits(r: u8) -> u64
     u64::from(r) * 0x10_0000
 }
 
-/// The sum of the fields of an instruction, each in its place.
+/// The sum of the fields of an instruction, each shifted to its position.
 fn sum_of_fields(instr: Instr) -> u64
     requires { InRange instr }
     ensures word { result ≡ word_of instr }

@@ -78,7 +78,7 @@ length-others hart es low apart =
     let many = length-apart ((hart, 0) ∷ without_own hart es) one_more in
     omega arith
 
--- what stands with one more in the first place that is free
+-- what is held with one more in the first slot that is free
 pub reserved : (hart address count : ℕ) (places r : List (ℕ × ℕ)) → hart < 256 → count ≤ length places → length places ≡ 256 → AreApart (take count places) → take count places ≡ without_own hart r → (count < 256) × (take (count + 1) (set places count (hart, eight_at address)) ≡ with_reservation hart address r) × AreApart (with_reservation hart address r)
 reserved hart address count places r low within all apart kept =
     let others : AreApart (without_own hart r) = subst AreApart kept apart in

@@ -13,24 +13,24 @@ pub record Kept (keeps : (ℕ × ℕ) → Bool) (old : List (ℕ × ℕ)) (i kep
   pub rest : drop i places ≡ drop i old
   pub done : take kept places ≡ filter keeps (take i old)
 
--- the place at i is the old one, and the rest too
+-- the reservation at i is the old one, and the rest too
 at_rest : (old places : List (ℕ × ℕ)) (i : ℕ) (d : ℕ × ℕ) → length places ≡ length old → i < length old → drop i places ≡ drop i old → (get_or places i d ≡ get_or old i d) × (drop (i + 1) places ≡ drop (i + 1) old)
 at_rest old places i d same below rest =
     let ours : drop i places ≡ get_or places i d ∷ drop (suc i) places = drop-cons places i d (omega arith) in
     let theirs : drop i old ≡ get_or old i d ∷ drop (suc i) old = drop-cons old i d below in
     rw add-one (cc, cc)
 
--- what is kept of one place more
+-- what is kept of one reservation more
 filter-more : (keeps : (ℕ × ℕ) → Bool) (old : List (ℕ × ℕ)) (i : ℕ) (d : ℕ × ℕ) → i < length old → filter keeps (take (i + 1) old) ≡ filter keeps (take i old) ++ filter keeps (get_or old i d ∷ [])
 filter-more keeps old i d below = ap (filter keeps) (take_more old i d below) ∙ filter-append keeps (take i old) (get_or old i d ∷ [])
 
--- an element is put after those in front, and counted where the test keeps it
+-- an element is put after those in front, and counted if the test keeps it
 counted : (keeps : (ℕ × ℕ) → Bool) (places : List (ℕ × ℕ)) (kept : ℕ) (w : ℕ × ℕ) (b : Bool) → kept < length places → keeps w ≡ b
     → (kept + bool_byte b ≤ kept + 1) × (take (kept + bool_byte b) (set places kept w) ≡ take kept places ++ filter keeps (w ∷ []))
 counted keeps places kept w true below is = (omega arith, rw is (take_more_set places kept w below))
 counted keeps places kept w false below is = (omega arith, rw (is, add-zero, append-nil) (take-set places kept w))
 
--- one place more is moved after those that are kept, and counted where the test keeps it
+-- one reservation more is moved after those that are kept, and counted where the test keeps it
 pub kept-more : {keeps : (ℕ × ℕ) → Bool} {old places : List (ℕ × ℕ)} {i kept : ℕ} (d : ℕ × ℕ) (b : Bool) → Kept keeps old i kept places → i < length old → keeps (get_or places i d) ≡ b → Kept keeps old (i + 1) (kept + bool_byte b) (set places kept (get_or places i d))
 kept-more {keeps} {old} {places} {i} {kept} d b p below is =
     let w : ℕ × ℕ = get_or places i d in

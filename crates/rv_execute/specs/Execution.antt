@@ -155,7 +155,7 @@ reserve h wide rd address s =
           (record s { reservations = with_reservation h address s.reservations })
     ]
 
--- the store needs the right to write also where the hart has no reservation
+-- the store needs the right to write also if the hart has no reservation
 abbrev pub store_reserved : Bool → Bool → ℕ → ℕ → ℕ → Setting → Executed
 store_reserved reserved wide rd address n s =
     elim (store address (atomic_size wide) n s.memory) [

@@ -11,7 +11,7 @@ abbrev pub after_atomic_trap : ℕ → AtomicOp → Setting → Setting
 after_atomic_trap h Sc s = record s { reservations = without_own h s.reservations }
 after_atomic_trap h _ s = s
 
--- a trap changes nothing, but that an sc has ended its own reservation
+-- a trap changes nothing, except that an sc has ended its own reservation
 abbrev pub after_trap : ℕ → Instr → Setting → Setting
 after_trap h (Atomic op wide aq rl rd rs1 rs2) s = after_atomic_trap h op s
 after_trap h _ s = s

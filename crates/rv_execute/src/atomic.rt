@@ -81,7 +81,7 @@ fn load_reserved(
     }
 }
 
-/// Stores where the hart's reservation stood. The right to write is needed in any case.
+/// Stores if the hart's reservation stood. The right to write is needed in any case.
 fn store_if(
     hart: &mut HartState,
     memory: &mut Memory,
@@ -111,7 +111,7 @@ fn store_if(
     }
 }
 
-/// Stores where the hart's reservation stands, and ends it in any case.
+/// Stores if the hart's reservation stands, and ends it in any case.
 fn store_conditional(
     hart: &mut HartState,
     number: HartId,

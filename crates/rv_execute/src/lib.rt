@@ -27,9 +27,10 @@ use rv_decode::Instr;
 /// Executes an instruction of a hart. The hart's number is below `HARTS`, and the instruction's
 /// fields are in range.
 ///
-/// `Call` comes exactly at `ecall`, with all unchanged: the caller serves the call, and moves
-/// the pc on. A `Fault` leaves all unchanged, but that an `sc` has ended its own reservation.
-/// `Misaligned` is judged before `Access`. Register 0 reads as 0, and is never written.
+/// Returns `Call` exactly at `ecall`, and changes nothing then: the caller serves the call, and
+/// moves the pc on. With a `Fault` nothing has changed, except that an `sc` has ended its own
+/// reservation. `Misaligned` is judged before `Access`. Register 0 reads as 0, and is never
+/// written.
 pub fn execute(
     hart: &mut HartState,
     number: HartId,

@@ -10,7 +10,7 @@ use std::marker::Model;
 pub struct Reservations {
     // Of each hart that has one, its number and the start of its 8 bytes. Few stand at a time,
     // so a store looks at few.
-    places: [(u16, Address); HARTS],
+    slots: [(u16, Address); HARTS],
     count: usize,
 }
 
@@ -21,9 +21,9 @@ impl Model for Reservations {
 
     ghost Value = { List (ℕ × ℕ) };
 
-    ghost view = { λ r. take r.count r.places };
+    ghost view = { λ r. take r.count r.slots };
 
-    ghost invariant = { λ r. AreApart (take r.count r.places) × (r.count ≤ HARTS) };
+    ghost invariant = { λ r. AreApart (take r.count r.slots) × (r.count ≤ HARTS) };
 }
 
 /// Whether the 8 bytes at `start` have one of `count` bytes from an address on.
@@ -44,7 +44,7 @@ impl Reservations {
         ensures { result ≡ [] }
     {
         Reservations {
-            places: [(0, 0); HARTS],
+            slots: [(0, 0); HARTS],
             count: 0,
         }
     }
@@ -56,9 +56,9 @@ impl Reservations {
     {
         let mut kept = 0;
         for i in 0..self.count {
-            let place = self.places[i];
-            self.places[kept] = place;
-            kept += usize::from(!touches(address, count, place.1));
+            let reservation = self.slots[i];
+            self.slots[kept] = reservation;
+            kept += usize::from(!touches(address, count, reservation.1));
         }
         self.count = kept;
     }
@@ -70,9 +70,9 @@ impl Reservations {
     {
         let mut kept = 0;
         for i in 0..self.count {
-            let place = self.places[i];
-            self.places[kept] = place;
-            kept += usize::from(place.0 != hart.0);
+            let reservation = self.slots[i];
+            self.slots[kept] = reservation;
+            kept += usize::from(reservation.0 != hart.0);
         }
         self.count = kept;
     }
@@ -83,7 +83,7 @@ impl Reservations {
         ensures { self.new ≡ with_reservation hart.0 address self.old }
     {
         self.end_own(hart);
-        self.places[self.count] = (hart.0, address / 8 * 8);
+        self.slots[self.count] = (hart.0, address / 8 * 8);
         self.count += 1;
     }
 
@@ -92,9 +92,8 @@ impl Reservations {
         ensures { result ≡ is_reserved hart.0 address self.now }
     {
         let start = address / 8 * 8;
-        self.places[..self.count]
-            .iter()
-            .any(|place| place.0 == hart.0 && place.1 == start)
+        self.slots[..self.count].iter().any(|reservation| reservation.0 == hart.0
+            && reservation.1 == start)
     }
 
     /// Makes these reservations equal to others.
@@ -102,7 +101,7 @@ impl Reservations {
         ensures { self.new ≡ other.now }
     {
         let count = other.count;
-        self.places[..count].copy_from_slice(&other.places[..count]);
+        self.slots[..count].copy_from_slice(&other.slots[..count]);
         self.count = count;
     }
 }

@@ -74,7 +74,7 @@ impl<'a> Short<'a> {
         })
     }
 
-    /// Runs to the end, and gives it. A further run changes nothing and gives the same.
+    /// Runs to the end, and returns the ending. A further run changes nothing and returns the same.
     pub fn run(&mut self) -> Ending
         ensures ended { self.new.state.ending ≡ Some result }
         ensures record { let x = experiment_of self.old in

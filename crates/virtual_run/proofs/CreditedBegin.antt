@@ -14,7 +14,7 @@ use Rattle.run_engine.specs.declared.engine.Turn.{Turn}
 use Rattle.run_engine.specs.declared.engine.Retired.{Retired as RetiredHart}
 use Rattle.run_engine.specs.declared.engine.Engine.{Engine}
 use Rattle.run_engine.specs.Begin.{started_by}
-use Rattle.virtual_run.specs.Credited.{with_credits, with_starts, with_rest, with_begun, moment_of, AllBelow, AllRun, CanBegin, CanWake, CanSettle, CanFollow, IsAlone}
+use Rattle.virtual_run.specs.Credited.{with_credits, with_starts, with_rest, with_begun, moment_of, AllBelow, AllRun, CanBegin, CanWake, CanAccountRetirement, CanAccount, IsAlone}
 use Rattle.virtual_run.proofs.CreditedLists.{among_rest, credits_length, raises_length, starts_run}
 
 -- the retiring hart, if it goes on, and then the others
@@ -93,8 +93,8 @@ none-any [] e = refl
 none-any (h ∷ hs) e = absurd (let no : true ≡ false = e in cc)
 
 -- what follows an event, by the event
-pub can_wake : (event : Event) (turn : Turn) (c : Delays) (engine : Engine) (raised : ℕ) → event ≡ Woke turn → CanFollow event c engine (moment_of event engine + raised) → CanWake c engine turn.hart.0 (turn.due + raised)
-can_wake event turn c engine raised is can = subst (λ (e : Event). CanFollow e c engine (moment_of e engine + raised)) is can
+pub can_wake : (event : Event) (turn : Turn) (c : Delays) (engine : Engine) (raised : ℕ) → event ≡ Woke turn → CanAccount event c engine (moment_of event engine + raised) → CanWake c engine turn.hart.0 (turn.due + raised)
+can_wake event turn c engine raised is can = subst (λ (e : Event). CanAccount e c engine (moment_of e engine + raised)) is can
 
-pub can_settle : (event : Event) (retired : RetiredHart) (c : Delays) (engine : Engine) (raised : ℕ) → event ≡ Retired retired → CanFollow event c engine (moment_of event engine + raised) → CanSettle c engine retired.hart.0 retired.fate (engine.time + raised)
-can_settle event retired c engine raised is can = subst (λ (e : Event). CanFollow e c engine (moment_of e engine + raised)) is can
+pub can_account_retirement : (event : Event) (retired : RetiredHart) (c : Delays) (engine : Engine) (raised : ℕ) → event ≡ Retired retired → CanAccount event c engine (moment_of event engine + raised) → CanAccountRetirement c engine retired.hart.0 retired.fate (engine.time + raised)
+can_account_retirement event retired c engine raised is can = subst (λ (e : Event). CanAccount e c engine (moment_of e engine + raised)) is can

@@ -102,7 +102,7 @@ module _ {G : Type 0} (x : Experiment G) (Good : G → Type 0) (law : IsLawful x
       let before : Bounded most (turned n) = jump_bounded x most few (ticks_left (standing x n).harts) (standing x n) (standing_bounded most few n) in
       next_by (Bounded most) n (standing_bounded most few n) (λ h none r asleep. wake_bounded x most few h (turned n) before) (λ h none r awake. retire_bounded x most few h (turned n) before)
 
--- where instructions have at most n cycles, and the speedup is at most n per cent
+-- if instructions have at most n cycles, and the speedup is at most n per cent
 pub cut_few : {G : Type 0} (x : Experiment G) (cycles speedup : ℕ) → ((g : G) (h : ℕ) → x.guest.cycles g h ≤ cycles) → x.speedup ≤ speedup → (g : G) (h : ℕ) → cut x g h ≤ speedup * cycles
 unfolding cut
 cut_few x cycles speedup few small g h = go (x.guest.is_selected g h)

@@ -50,9 +50,9 @@ use Rattle.run_engine.specs.Visits.{Visits, visits_of}
 use Rattle.run_engine.specs.Run.{IsChoice}
 use Rattle.run_engine.specs.Engine.{events_of, IsReached, IsSteady, IsFirst}
 use Rattle.run_engine.specs.Advance.{IsRetired, IsWoken, IsAdvance}
-use Rattle.virtual_run.specs.Credited.{raise_ticks, with_credits, with_starts, with_raises, with_rest, with_begun, credits_after, moment_of, credited_by, Runs, AllRun, AllBelow, Holds, CanBegin, CanWake, CanSettle, CanFollow}
+use Rattle.virtual_run.specs.Credited.{raise_ticks, with_credits, with_starts, with_raises, with_rest, with_begun, credits_after, moment_of, credited_by, Runs, AllRun, AllBelow, Holds, CanBegin, CanWake, CanAccountRetirement, CanAccount}
 use Rattle.virtual_run.specs.Credited as credited
-use Rattle.run_engine.specs.Seen.{Seen, view_in, experiment_with, experiment_of}
+use Rattle.run_engine.specs.Seen.{Seen, view_in, experiment_of_image, experiment_of}
 use Rattle.virtual_run.specs.DelayedRun.{net_due_of, account_in, outcome_of, IsOfAHart, IsSmall, Happens, AgreesThroughout, EndsOnce, IsPaced}
 use Rattle.machines.specs.KeptVisits.{visit_as}
 use Rattle.run_engine.proofs.Keys.{has_place, rested_length, next_is}
@@ -70,10 +70,10 @@ use Rattle.virtual_run.proofs.CreditedSteps as steps
 use Rattle.virtual_run.proofs.Made.{retire_grows, first_count}
 
 -- the experiment, and that it counts the harts that were made
-pub lawful_with : (image : ImageParts) (input : List ℕ) (setting : Setting) → IsChoice setting.choice → IsLawful (experiment_with image input setting) IsOrderly
+pub lawful_with : (image : ImageParts) (input : List ℕ) (setting : Setting) → IsChoice setting.choice → IsLawful (experiment_of_image image input setting) IsOrderly
 lawful_with image input setting valid = lawful_run image (position_at setting.index.now) (point_of setting.points.now) input setting.choice valid.speedup
 
-counted_with : (image : ImageParts) (input : List ℕ) (setting : Setting) → IsCounted (experiment_with image input setting) IsOrderly (λ g. length g.harts)
+counted_with : (image : ImageParts) (input : List ℕ) (setting : Setting) → IsCounted (experiment_of_image image input setting) IsOrderly (λ g. length g.harts)
 counted_with image input setting = record {
   first = first_count image input setting.choice.output_limit setting.choice.layout;
   made = λ g h good runs. (running_low g h good runs).0;
@@ -90,7 +90,7 @@ visit_kept : (o : Option ℕ) (h time delay : ℕ) → map visit_as (visits_of o
 visit_kept None h time delay = refl
 visit_kept (Some p) h time delay = refl
 
--- an ending is of a hart if it is where it is a trap
+-- an ending is of a hart if each trap is
 of_a_hart : (e : Ending) → ((trap : Trap) → e ≡ Trapped trap → trap.hart.0 < 256) → IsOfAHart e
 of_a_hart (Exited code) low = tt
 of_a_hart (Trapped trap) low = low trap refl
@@ -119,7 +119,7 @@ trap_fate (Ends e) o v r n b trap is = let same : e ≡ Trapped trap = cc in ap 
 
 module _ (image : ImageParts) (input : List ℕ) (setting : Setting) (engine : Engine) (credits : Delays) (now : ℕ) (p : IsPaced image input setting engine credits now) where
   abbrev x : Experiment Guest
-  x = experiment_with image input setting
+  x = experiment_of_image image input setting
 
   abbrev d : Delayed Guest
   d = standing x (events_of engine)
@@ -288,7 +288,7 @@ module _ (image : ImageParts) (input : List ℕ) (setting : Setting) (engine : E
         let budget : setting.choice.budget ≤ 10 ^ 12 = p.valid.few in
         omega (arith, wakes_few, a.retired, a.wakes)
 
-    -- where the run goes on, what it started can begin
+    -- if the run goes on, what it started can begin
     pub can_begin : new.ending ≡ None → CanBegin stopped new.guest h fate new.started new.selected
     can_begin none =
         let idle = begin_idle none in
@@ -386,8 +386,8 @@ module _ (image : ImageParts) (input : List ℕ) (setting : Setting) (engine : E
         let by = steps_is x IsOrderly law (events_of engine) t (ending_now ∙ goes) next.turn in
         subst (λ (n : ℕ). Steps x d (standing x n)) (sym next_count) (by.retires (ap (λ (g : Guest). x.guest.is_sleeping g h) agree.guest ∙ was_awake)).1
 
-    pub can_settle : CanSettle credits new h fate later_now
-    can_settle = record { below = hart_below; later = is_later; running = hart_runs; unpaused = hart_unpaused; can = can_begin }
+    pub can_account_retirement : CanAccountRetirement credits new h fate later_now
+    can_account_retirement = record { below = hart_below; later = is_later; running = hart_runs; unpaused = hart_unpaused; can = can_begin }
 
   -- a wake
   module _ (new : Engine) (h due : ℕ) (delay : ℕ) (given : delay ≡ credits.raised) (goes : engine.ending ≡ None) (a : IsWoken setting engine h due new) where
@@ -520,9 +520,9 @@ module _ (image : ImageParts) (input : List ℕ) (setting : Setting) (engine : E
   event_count new (Woke turn) delay given goes a = count_wake new turn.hart.0 turn.due delay given goes a
   event_count new (Retired retired) delay given goes a = omega (arith, a.retired, a.wakes)
 
-  pub can_follow : (new : Engine) (event : Event) (delay : ℕ) → delay ≡ credits.raised → engine.ending ≡ None → IsAdvance setting engine event delay new → CanFollow event credits new (moment_of event new + delay)
+  pub can_follow : (new : Engine) (event : Event) (delay : ℕ) → delay ≡ credits.raised → engine.ending ≡ None → IsAdvance setting engine event delay new → CanAccount event credits new (moment_of event new + delay)
   can_follow new (Woke turn) delay given goes a = can_wake new turn.hart.0 turn.due delay given goes a
-  can_follow new (Retired retired) delay given goes a = can_settle new retired.hart.0 retired.fate delay given goes a
+  can_follow new (Retired retired) delay given goes a = can_account_retirement new retired.hart.0 retired.fate delay given goes a
 
   pub paced_event : (new : Engine) (event : Event) (delay : ℕ) → delay ≡ credits.raised → engine.ending ≡ None → IsAdvance setting engine event delay new
       → (after : Delays) → after ≡ credited_by event new (raise_ticks new.guest setting.choice.speedup) (moment_of event new + delay) credits → IsPaced image input setting new after (moment_of event new + delay)
@@ -577,7 +577,7 @@ total_within now delay a (Some l) None e = elim e [ ]
 -- what the methods that change nothing give
 module _ (image : ImageParts) (input : List ℕ) (setting : Setting) (engine : Engine) (credits : Delays) (now : ℕ) (p : IsPaced image input setting engine credits now) where
   abbrev seen : Delayed Guest
-  seen = standing (experiment_with image input setting) (events_of engine)
+  seen = standing (experiment_of_image image input setting) (events_of engine)
 
   pub due_ended : (h : ℕ) (e : Ending) → engine.ending ≡ Some e → None ≡ net_due_of seen h
   due_ended h e is = rw (ending_now image input setting engine credits now p, is) refl
@@ -587,7 +587,7 @@ module _ (image : ImageParts) (input : List ℕ) (setting : Setting) (engine : E
       let hart : Hart = get_or seen.harts h idle_hart in
       rw (ending_now image input setting engine credits now p, none)
       (p.reached.reached.dues h
-      ∙ due_of seen.now seen.delay hart.account hart.load (get_or (shortened (experiment_with image input setting) (events_of engine)).dues h None) ((agree image input setting engine credits now p).harts h))
+      ∙ due_of seen.now seen.delay hart.account hart.load (get_or (shortened (experiment_of_image image input setting) (events_of engine)).dues h None) ((agree image input setting engine credits now p).harts h))
 
   pub latest_now : credits.latest ≡ now
   latest_now = p.holds.latest ∙ sym p.moment
@@ -605,7 +605,7 @@ module _ (image : ImageParts) (input : List ℕ) (setting : Setting) (engine : E
       let hart : Hart = get_or seen.harts h idle_hart in
       let same : account_as given ≡ hart.account = is ∙ ap (λ (c : Delays). (hart_at c h).account) (at_latest credits now latest_now) ∙ ap (λ (o : Hart). o.account) (p.holds.harts h) ∙ account_held hart in
       subst (λ (a : Account). total a ≤ seen.delay) (sym same)
-      (total_within seen.now seen.delay hart.account hart.load (get_or (shortened (experiment_with image input setting) (events_of engine)).dues h None) ((agree image input setting engine credits now p).harts h))
+      (total_within seen.now seen.delay hart.account hart.load (get_or (shortened (experiment_of_image image input setting) (events_of engine)).dues h None) ((agree image input setting engine credits now p).harts h))
 
   pub account_none : (h : ℕ) → length engine.guest.harts ≤ h → ◌≡◌ {A = Option Account} None (account_in seen h)
   account_none h past =
@@ -614,11 +614,11 @@ module _ (image : ImageParts) (input : List ℕ) (setting : Setting) (engine : E
 
   pub harts_few : length engine.guest.harts ≤ 256
   harts_few =
-      let good : IsOrderly seen.guest = standing_good (experiment_with image input setting) IsOrderly (lawful_with image input setting p.valid) (events_of engine) in
+      let good : IsOrderly seen.guest = standing_good (experiment_of_image image input setting) IsOrderly (lawful_with image input setting p.valid) (events_of engine) in
       subst (λ (g : Guest). length g.harts ≤ 256) (guest_now image input setting engine credits now p) good.few
 
   pub visits_in_time : All (λ (v : Visit). v.delay ≤ v.time) seen.visits
-  visits_in_time = in_time (experiment_with image input setting) IsOrderly (lawful_with image input setting p.valid) (events_of engine)
+  visits_in_time = in_time (experiment_of_image image input setting) IsOrderly (lawful_with image input setting p.valid) (events_of engine)
 
   pub kept_in_time : All (λ (v : GivenVisit). v.delay ≤ v.time) engine.visits.kept
   kept_in_time = given_in_time engine.visits.kept (subst (All (λ (v : Visit). v.delay ≤ v.time)) (sym p.visits) visits_in_time)
@@ -671,7 +671,7 @@ module _ (image : ImageParts) (input : List ℕ) (setting : Setting) (engine : E
   pub agrees_seen : (v : Seen (Delayed Guest)) → seen_of image input setting engine ≡ v → Agrees v.state (shortened (experiment_of v) (events v.state))
   agrees_seen v view =
       subst (λ (v : Seen (Delayed Guest)). Agrees v.state (shortened (experiment_of v) (events v.state))) view
-      (subst (λ (n : ℕ). Agrees (standing (experiment_with image input setting) (events_of engine)) (shortened (experiment_with image input setting) n)) (sym (events_now image input setting engine credits now p)) (agree image input setting engine credits now p))
+      (subst (λ (n : ℕ). Agrees (standing (experiment_of_image image input setting) (events_of engine)) (shortened (experiment_of_image image input setting) n)) (sym (events_now image input setting engine credits now p)) (agree image input setting engine credits now p))
 
   pub goes_seen : (v : Seen (Delayed Guest)) → seen_of image input setting engine ≡ v → v.state.ending ≡ None → engine.ending ≡ None
   goes_seen v view none = sym (ending_now image input setting engine credits now p) ∙ ap (λ (v : Seen (Delayed Guest)). v.state.ending) view ∙ none
@@ -681,12 +681,12 @@ module _ (image : ImageParts) (input : List ℕ) (setting : Setting) (engine : E
   count_seen v n view is =
       is ∙ ap (λ (m : ℕ). m + 1) (sym (events_now image input setting engine credits now p) ∙ ap (λ (v : Seen (Delayed Guest)). events v.state) view)
 
-  pub next_seen : (v : Seen (Delayed Guest)) (n : ℕ) → seen_of image input setting engine ≡ v → n ≡ events_of engine + 1 → standing (experiment_with image input setting) n ≡ standing (experiment_of v) (events v.state + 1)
+  pub next_seen : (v : Seen (Delayed Guest)) (n : ℕ) → seen_of image input setting engine ≡ v → n ≡ events_of engine + 1 → standing (experiment_of_image image input setting) n ≡ standing (experiment_of v) (events v.state + 1)
   next_seen v n view is =
-      subst (λ (v : Seen (Delayed Guest)). standing (experiment_with image input setting) n ≡ standing (experiment_of v) (events v.state + 1)) view
-      (ap (standing (experiment_with image input setting)) (is ∙ ap (λ (m : ℕ). m + 1) (sym (events_now image input setting engine credits now p))))
+      subst (λ (v : Seen (Delayed Guest)). standing (experiment_of_image image input setting) n ≡ standing (experiment_of v) (events v.state + 1)) view
+      (ap (standing (experiment_of_image image input setting)) (is ∙ ap (λ (m : ℕ). m + 1) (sym (events_now image input setting engine credits now p))))
 
-  pub happens_seen : (v : Seen (Delayed Guest)) (event : Event) (d : Delayed Guest) → seen_of image input setting engine ≡ v → Happens (experiment_with image input setting) event (standing (experiment_with image input setting) (events_of engine)) d
+  pub happens_seen : (v : Seen (Delayed Guest)) (event : Event) (d : Delayed Guest) → seen_of image input setting engine ≡ v → Happens (experiment_of_image image input setting) event (standing (experiment_of_image image input setting) (events_of engine)) d
       → Happens (experiment_of v) event v.state d
   happens_seen v event d view happens = subst (λ (v : Seen (Delayed Guest)). Happens (experiment_of v) event v.state d) view happens
 
@@ -696,7 +696,7 @@ only_first k e = eqb-true k 0 (one_bit (k == 0) e)
 -- what contracts see of a run between two steps
 module _ (image : ImageParts) (input : List ℕ) (setting : Setting) (engine : Engine) (credits : Delays) (now : ℕ) (p : IsPaced image input setting engine credits now) where
   abbrev paced_x : Experiment Guest
-  paced_x = experiment_with image input setting
+  paced_x = experiment_of_image image input setting
 
   pub stands_seen : (v : Seen (Delayed Guest)) → seen_of image input setting engine ≡ v → v.state ≡ standing (experiment_of v) (events v.state)
   stands_seen v view =
@@ -709,7 +709,7 @@ module _ (image : ImageParts) (input : List ℕ) (setting : Setting) (engine : E
       subst (λ (v : Seen (Delayed Guest)). key_of engine.schedule h ≡ key_of (shortened (experiment_of v) (events v.state)).dues h) view
       (p.reached.reached.dues h ∙ ap (λ (n : ℕ). key_of (shortened paced_x n).dues h) (sym (events_now image input setting engine credits now p)))
 
-  -- of a run that goes on, a hart has a key exactly where it runs or sleeps
+  -- of a run that goes on, a hart has a key exactly if it runs or sleeps
   pub timed_seen : (v : Seen (Delayed Guest)) (h : ℕ) → seen_of image input setting engine ≡ v → v.state.ending ≡ None → is_some (key_of engine.schedule h) ≡ is_timed (experiment_of v).guest v.state.guest h
   timed_seen v h view =
       subst (λ (v : Seen (Delayed Guest)). v.state.ending ≡ None → is_some (key_of engine.schedule h) ≡ is_timed (experiment_of v).guest v.state.guest h) view
@@ -735,7 +735,7 @@ module _ (image : ImageParts) (input : List ℕ) (setting : Setting) (engine : E
 -- as a run begins
 module _ (image : ImageParts) (input : List ℕ) (setting : Setting) (engine : Engine) (valid : IsChoice setting.choice) (f : IsFirst setting image input engine) where
   abbrev begun_x : Experiment Guest
-  begun_x = experiment_with image input setting
+  begun_x = experiment_of_image image input setting
 
   short_first : (shortened begun_x 0).guest ≡ begun_x.first
   unfolding shortened short.begin short.unbegun
@@ -839,7 +839,7 @@ pub going_first : (image : ImageParts) (input : List ℕ) (setting : Setting) (e
 going_first image input setting engine credits now p v view =
     subst (λ (v : Seen (Delayed Guest)). IsGoing v v) view
     (record {
-      at = record { valid = p.valid; rest = refl; stands = ap (standing (experiment_with image input setting)) (sym (events_now image input setting engine credits now p)) };
+      at = record { valid = p.valid; rest = refl; stands = ap (standing (experiment_of_image image input setting)) (sym (events_now image input setting engine credits now p)) };
       within = rw (retired_now image input setting engine credits now p) p.reached.retired;
     })
 

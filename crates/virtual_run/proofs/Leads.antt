@@ -17,7 +17,7 @@ use Rattle.run_engine.specs.declared.choice.Choice.{Choice}
 use Rattle.run_engine.specs.declared.choice.Setting.{Setting}
 use Rattle.run_engine.specs.declared.engine.Engine.{Engine}
 use Rattle.virtual_run.specs.DelayedRun.{IsPaced}
-use Rattle.run_engine.specs.Seen.{Seen, experiment_with, experiment_of}
+use Rattle.run_engine.specs.Seen.{Seen, experiment_of_image, experiment_of}
 use Rattle.run_engine.specs.Run.{IsChoice}
 use Rattle.run_engine.proofs.Choices.{valid_at, valid_with}
 use Rattle.run_engine.specs.Engine.{events_of}
@@ -29,7 +29,7 @@ use Rattle.virtual_run.proofs.Again.{lined_setting}
 abbrev pub started_none : Seen (Delayed Guest) → ℕ → Type 0
 started_none old n = (before (experiment_of old) n).state.starts ≡ 0
 
--- where it goes on with no start counted
+-- if it goes on with no start counted
 unstarted_goes : (o : Option Ending) (n : ℕ) → (not (is_some o) && (n == 0)) ≡ true → (o ≡ None) × (n ≡ 0)
 unstarted_goes None n e = (refl, eqb-true n 0 e)
 unstarted_goes (Some a) n e = absurd (let no : false ≡ true = e in cc)
@@ -70,7 +70,7 @@ module _ (old now : Seen (Delayed Guest)) (l : IsLed old now) (unstarted : is_un
 -- what contracts see of a fork
 module _ (image : ImageParts) (input : List ℕ) (setting : Setting) (engine : Engine) (credits : Delays) (now : ℕ) (p : IsPaced image input setting engine credits now) (v : Seen (Delayed Guest)) (view : seen_of image input setting engine ≡ v) where
   abbrev x : Experiment Guest
-  x = experiment_with image input setting
+  x = experiment_of_image image input setting
 
   pub whole_seen : v.choice.speedup ≡ 0 → setting.choice.speedup ≡ 0
   whole_seen whole = ap (λ (v : Seen (Delayed Guest)). v.choice.speedup) view ∙ whole
@@ -92,8 +92,8 @@ module _ (image : ImageParts) (input : List ℕ) (setting : Setting) (engine : E
   pub again_seen : (line : LineId) (new : Engine) → events_of new ≡ events_of engine → events_of engine ≡ 0
       → let seen : Seen (Delayed Guest) = seen_of image input (lined_setting line setting) new in seen ≡ record v { choice = record v.choice { selected = Some line }; state = standing (experiment_of seen) 0 }
   again_seen line new is zeroth =
-      subst (λ (v : Seen (Delayed Guest)). seen_of image input (lined_setting line setting) new ≡ record v { choice = record v.choice { selected = Some line }; state = standing (experiment_with image input (lined_setting line setting)) 0 }) view
-      (ap (λ (n : ℕ). record (seen_of image input setting engine) { choice = record setting.choice { selected = Some line }; state = standing (experiment_with image input (lined_setting line setting)) n }) (is ∙ zeroth))
+      subst (λ (v : Seen (Delayed Guest)). seen_of image input (lined_setting line setting) new ≡ record v { choice = record v.choice { selected = Some line }; state = standing (experiment_of_image image input (lined_setting line setting)) 0 }) view
+      (ap (λ (n : ℕ). record (seen_of image input setting engine) { choice = record setting.choice { selected = Some line }; state = standing (experiment_of_image image input (lined_setting line setting)) n }) (is ∙ zeroth))
 
   pub unstarted_seen : (not (is_some engine.ending) && (engine.starts == 0)) ≡ is_unstarted v.state
   unstarted_seen =
@@ -138,7 +138,7 @@ module _ (m : Seen (Delayed Guest)) (l : IsLead m) where
   pub next_is_start : starts_next m_x stood ≡ not (m.state.starts == 0)
   next_is_start = any_of (filter (m_x.guest.is_selected stood.state.guest) stood.harts) ∙ ap (λ (n : ℕ). not (n == 0)) (sym starts_counted)
 
-  -- where it has ended no start is next
+  -- if it has ended, no start is next
   none_over : (e : Ending) → m.state.ending ≡ Some e → starts_next m_x stood ≡ false
   none_over e over =
       ap (λ (hs : List ℕ). is_any (filter (m_x.guest.is_selected stood.state.guest) hs)) (ended_begins m_x (events m.state) e (ap (λ (d : Delayed Guest). d.ending) (sym l.stands) ∙ over))

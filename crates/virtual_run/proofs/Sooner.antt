@@ -97,7 +97,7 @@ pub among_filtered : (test : ℕ → Bool) (k : ℕ) (hs : List ℕ) → is_amon
 among_filtered test k [] = refl
 among_filtered test k (h ∷ hs) = among_by k h (test h) test hs refl (among_filtered test k hs) (cases_eq k h)
 
--- by its ticks where it is among them and passes the test
+-- by its ticks if it is among them and passes the test
 pub ticks_by : (b c : Bool) (ticks cut : ℕ) → (c ≡ true → ticks ≡ cut) → (if (if b then c else false) then ticks else 0) ≡ (if b then (if c then cut else 0) else 0)
 ticks_by true true ticks cut same = same refl
 ticks_by true false ticks cut same = refl

@@ -69,7 +69,7 @@ AllBelow c hs = (k : ℕ) → is_among k hs ≡ true → k < length c.harts
 abbrev pub AllMade : Guest → List ℕ → Type 0
 AllMade g hs = (k : ℕ) → is_among k hs ≡ true → IsMade g k
 
--- the ticks by which a hart's next instruction raises the delay where it is selected,
+-- the ticks by which a hart's next instruction raises the delay if it is selected,
 -- at a speedup in per cent
 abbrev pub raise_ticks : Guest → ℕ → ℕ → ℕ
 raise_ticks g speedup hart = raise_of (cycles_of (next_of g hart)) speedup
@@ -94,7 +94,7 @@ abbrev pub credits_after : Option Ending → (ℕ → ℕ) → ℕ → Fate → 
 credits_after None ticks hart fate others selected c = with_begun ticks hart fate others selected c
 credits_after (Some ending) ticks hart fate others selected c = c
 
--- what the harts and the credits must be where it goes on
+-- what the harts and the credits must be if it goes on
 pub record CanBegin (c : Delays) (g : Guest) (hart : ℕ) (fate : Fate)
     (others raisers : List ℕ) : Type 0 where
   -- the hart that retired has all that was raised, and those that it made or woke don't run
@@ -123,7 +123,7 @@ pub record CanWake (c : Delays) (engine : Engine) (hart now : ℕ) : Type 0 wher
   pub few : c.raised + MAX_RAISE * length engine.selected ≤ 10 ^ 17
 
 -- and for one to have retired
-pub record CanSettle (c : Delays) (engine : Engine) (hart : ℕ) (fate : Fate)
+pub record CanAccountRetirement (c : Delays) (engine : Engine) (hart : ℕ) (fate : Fate)
     (now : ℕ) : Type 0 where
   pub below : hart < length c.harts
   pub later : c.latest ≤ now
@@ -132,9 +132,9 @@ pub record CanSettle (c : Delays) (engine : Engine) (hart : ℕ) (fate : Fate)
   pub can : engine.ending ≡ None
       → CanBegin (with_rest hart fate now c) engine.guest hart fate engine.started engine.selected
 
-abbrev pub CanFollow : Event → Delays → Engine → ℕ → Type 0
-CanFollow (Woke turn) c engine now = CanWake c engine turn.hart.0 now
-CanFollow (Retired retired) c engine now = CanSettle c engine retired.hart.0 retired.fate now
+abbrev pub CanAccount : Event → Delays → Engine → ℕ → Type 0
+CanAccount (Woke turn) c engine now = CanWake c engine turn.hart.0 now
+CanAccount (Retired retired) c engine now = CanAccountRetirement c engine retired.hart.0 retired.fate now
 
 -- the net moment of an event, after which the engine is so
 abbrev pub moment_of : Event → Engine → ℕ

@@ -7,7 +7,7 @@ ghost use Rattle.machines.specs.Delayed.{is_running, total};
 ghost use Rattle.machines.specs.Guest.{goes_on};
 ghost use Rattle.delay_credits.specs.Delays.{hart_at, pause_of, at, with_stop};
 ghost use Rattle.guest_calls.specs.Guest.{IsMade};
-ghost use Rattle.virtual_run.specs.Credited.{raise_ticks, with_credits, with_starts, with_raises, with_begun, with_rest, with_wake, credits_after, moment_of, credited_by, CanFollow, AllRest, AllBelow, AllRun, AllMade, CanBegin, IsAlone};
+ghost use Rattle.virtual_run.specs.Credited.{raise_ticks, with_credits, with_starts, with_raises, with_begun, with_rest, with_wake, credits_after, moment_of, credited_by, CanAccount, AllRest, AllBelow, AllRun, AllMade, CanBegin, IsAlone};
 
 use cost_table::raise;
 use coz_types::{HartId, Tick};
@@ -51,8 +51,8 @@ fn start_each(credits: &mut Credits, harts: &[HartId], now: Tick)
     }
 }
 
-/// The ticks by which a hart's next instruction raises the delay where it is selected,
-/// at a speedup in per cent.
+/// The ticks by which a hart's next instruction raises the delay if it is selected, at a
+/// speedup in per cent.
 pub fn raised_by(guest: &Guest, hart: HartId, speedup: u8) -> Tick
     requires made { IsMade guest.now hart.0 }
     requires speedup { speedup ≤ MAX_SPEEDUP }
@@ -125,8 +125,8 @@ fn is_alone(engine: &Engine) -> bool
     engine.ending.is_none() && engine.started.harts().is_empty()
 }
 
-/// The hart that retired goes on, and nothing else begins: it still runs, and raises the delay
-/// if it is selected.
+/// A hart that retired goes on, and nothing else begins: it still runs, and raises the delay if it
+/// is selected.
 #[inline(always)]
 fn go_on(credits: &mut Credits, engine: &Engine, hart: HartId, speedup: u8, now: Tick)
     requires alone { IsAlone engine.now.ending Fate.Goes engine.now.started }
@@ -146,10 +146,10 @@ fn go_on(credits: &mut Credits, engine: &Engine, hart: HartId, speedup: u8, now:
     }
 }
 
-/// The hart that retired stops at a moment. One that sleeps counts as one that runs,
-/// so it starts again at once.
+/// A hart that retired stops at a moment. A hart that sleeps counts as one that runs, so it starts
+/// again at once.
 #[inline(never)]
-fn rest(credits: &mut Credits, hart: HartId, fate: Fate, now: Tick)
+fn stop_retired(credits: &mut Credits, hart: HartId, fate: Fate, now: Tick)
     requires below { hart.0 < length credits.old.harts }
     requires later { credits.old.latest ≤ now }
     requires running { IsTrue (is_running (hart_at credits.old hart.0)) }
@@ -180,7 +180,7 @@ fn wake_up(credits: &mut Credits, engine: &Engine, hart: HartId, speedup: u8, no
 }
 
 /// What a retirement at a moment and the starts after it make of the accounts and pauses:
-/// the hart stops, and where the run goes on what it started begins.
+/// the hart stops, and if the run goes on, what it started begins.
 #[inline(never)]
 fn account_retirement(
     credits: &mut Credits,
@@ -201,14 +201,14 @@ fn account_retirement(
         retired.hart.0 retired.fate engine.now.started engine.now.selected
         (with_rest retired.hart.0 retired.fate now credits.old) }
 {
-    rest(credits, retired.hart, retired.fate, now);
+    stop_retired(credits, retired.hart, retired.fate, now);
     if engine.ending.is_none() {
         credit_started(credits, engine, retired, speedup, now);
     }
 }
 
-/// The same for a hart that goes on, with a shorter way where nothing else begins,
-/// as after most retirements.
+/// What a retirement of a hart that goes on makes of the accounts and pauses. It has a shorter way
+/// if nothing else begins, as after most retirements.
 #[inline(always)]
 fn account_plain(credits: &mut Credits, engine: &Engine, hart: HartId, speedup: u8, now: Tick)
     requires below { hart.0 < length credits.old.harts }
@@ -234,17 +234,17 @@ fn account_plain(credits: &mut Credits, engine: &Engine, hart: HartId, speedup: 
     }
 }
 
-/// What an event and the starts after it make of the accounts and pauses, where so much was raised
-/// before it. Gives its real moment.
+/// What an event and the starts after it make of the accounts and pauses, if `raised` ticks were
+/// raised before it. Returns the real moment of the event.
 #[inline(always)]
-pub fn follow(
+pub fn account_event(
     credits: &mut Credits,
     engine: &Engine,
     event: Event,
     speedup: u8,
     raised: Tick,
 ) -> Tick
-    requires can { CanFollow event credits.old engine.now (moment_of event engine.now + raised) }
+    requires can { CanAccount event credits.old engine.now (moment_of event engine.now + raised) }
     requires few { moment_of event engine.now + raised ≤ 10 ^ 17 }
     requires speedup { speedup ≤ MAX_SPEEDUP }
     ensures moment { result ≡ moment_of event engine.now + raised }

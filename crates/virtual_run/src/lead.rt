@@ -12,15 +12,16 @@ use run_engine::Choice;
 use std::alloc::{AllocError, Global};
 use std::marker::Model;
 
-/// The delayed run of a program before a beginning, while no instruction of the selected line
-/// was begun. It is the same at every speedup, so each one is forked from it.
+/// A checkpoint of the delayed run of a program, while no instruction of the selected line was
+/// begun. Up to there the run is the same at every speedup, so the run at each speedup is forked
+/// from it.
 ///
 /// Contracts see as its state what stands before the beginning, and the harts that begin next.
 #[derive(Drop)]
 pub struct Lead<'a> {
     /// The run at speedup 0, after that beginning: its starts are counted, and raise nothing.
     machine: Machine<'a>,
-    /// The speedup that was given. A lead has no use for it.
+    /// The speedup that was passed to `new`. A lead does not use it.
     speedup: u8,
 }
 
@@ -106,7 +107,7 @@ impl<'a> Lead<'a> {
     }
 
     /// Makes a machine the run of this lead's line at a speedup, after the beginning
-    /// that comes next. Where the lead has ended, none comes, and the machine has ended likewise.
+    /// that comes next. If the lead has ended, none comes, and the machine has ended likewise.
     pub fn fork(&self, machine: &mut Machine<'a>, speedup: u8)
         requires speedup { speedup ≤ MAX_SPEEDUP }
         requires arguments { arguments machine.old ≡ arguments self.now }

@@ -9,7 +9,7 @@ ghost use Rattle.virtual_run.specs.Lead.{arguments, is_unstarted};
 ghost use Rattle.virtual_run.specs.DelayedRun.{net_due_of, account_in, outcome_of, IsSmall, Happens, AgreesThroughout, EndsOnce};
 ghost use Rattle.machines.specs.KeptVisits.{visit_as};
 
-use crate::accounts::{follow, raise_harts, raise_selected};
+use crate::accounts::{account_event, raise_harts, raise_selected};
 use crate::hasten::hasten_selected;
 use coz_types::{Account, Ending, HARTS, HartId, Image, LineId, Outcome, Tick, Visit};
 use delay_credits::Credits;
@@ -26,8 +26,9 @@ fn is_unstarted(engine: &Engine) -> bool
     engine.ending.is_none() && engine.starts == 0
 }
 
-/// The delayed run of a program: as an instruction of the selected line starts, every other hart
-/// that runs or sleeps is made to pause for what that instruction is to be spared.
+/// The delayed run of a program: whenever an instruction of the selected line starts, every other
+/// hart that runs or sleeps gets a pause of the ticks that the speedup would take off that
+/// instruction.
 #[derive(Drop)]
 pub struct Machine<'a> {
     image: &'a Image<'a>,
@@ -142,7 +143,7 @@ impl<'a> Machine<'a> {
     {
         let raised = self.credits.raised();
         let event = self.engine.advance(&self.setting, raised);
-        self.moment = follow(
+        self.moment = account_event(
             &mut self.credits,
             &self.engine,
             event,
@@ -152,7 +153,7 @@ impl<'a> Machine<'a> {
         event
     }
 
-    /// Runs to the end, and gives it. A further run changes nothing and gives the same.
+    /// Runs to the end, and returns the ending. A further run changes nothing and returns the same.
     pub fn run(&mut self) -> Ending
         ensures ended { self.new.state.ending ≡ Some result }
         ensures record { let x = experiment_of self.old in
@@ -193,7 +194,7 @@ impl<'a> Machine<'a> {
     }
 
     /// Runs up to the first beginning that counts a start, or to the end.
-    /// None where a start is counted.
+    /// None if a start is counted.
     pub(crate) fn lead(&mut self) -> Option<Ending>
         requires none { (before (experiment_of self.old) (events self.old.state)).state.starts ≡ 0 }
         ensures ended { result ≡ self.new.state.ending }
@@ -273,7 +274,7 @@ impl<'a> Machine<'a> {
         self.credits.raised()
     }
 
-    /// When a hart retires or wakes next, in net ticks; None exactly where it neither runs
+    /// When a hart retires or wakes next, in net ticks; None exactly if it neither runs
     /// nor sleeps, or the run has ended.
     pub fn net_due(&self, hart: HartId) -> Option<Tick>
         ensures due { result ≡ net_due_of self.now.state hart.0 }
@@ -290,7 +291,7 @@ impl<'a> Machine<'a> {
         }
     }
 
-    /// A hart's account, whose three parts together are at most the global delay; None where
+    /// A hart's account, whose three parts together are at most the global delay; None if
     /// the hart was never made.
     pub fn account(&self, hart: HartId) -> Option<Account>
         ensures account { option_map account_as result ≡ account_in self.now.state hart.0 }

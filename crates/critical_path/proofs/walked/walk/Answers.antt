@@ -10,7 +10,7 @@ use Rattle.critical_chains.specs.declared.event.Trace.{Trace}
 use Rattle.critical_chains.specs.Path.{event_at, last_of, Linked}
 use Rattle.critical_path.specs.Events.{events_of, AreBefores}
 use Rattle.critical_path.specs.Walk.{plain, IsMadeOf}
-use Rattle.critical_path.proofs.Walking.{IsDone, first_is, steady_now, more_left, can_follow, walked_on, count_on, done, plain_is, traced_done}
+use Rattle.critical_path.proofs.Walking.{IsDone, first_is, steady_now, more_left, can_record, walked_on, count_on, done, plain_is, traced_done}
 use Rattle.critical_path.proofs.walked.walk.Goals as goal
 use Rattle.critical_path.proofs.walked.walk.Goals.{In-Some}
 
@@ -23,14 +23,14 @@ address_due-address-requires c = steady_now _ _ _ _ _ _ c.loop-setting.invariant
 pub advance-moved-requires-clause-steady : goal.advance-moved-requires-clause-steady
 advance-moved-requires-clause-steady c = steady_now _ _ _ _ _ _ c.loop-setting.invariant (sym c.ending.ensures ∙ none_is c.ending.result c.is_none.result c.is_none.ensures c.loop-setting-test.true)
 
-pub follow-requires : goal.follow-requires
-follow-requires c =
-    can_follow _ _ _ _ _ _ c.loop-setting.invariant (sym c.ending.ensures ∙ none_is c.ending.result c.is_none.result c.is_none.ensures c.loop-setting-test.true) c.advance-moved.new.self c.advance-moved.result c.advance-moved.ensures
+pub record_move-requires : goal.record_move-requires
+record_move-requires c =
+    can_record _ _ _ _ _ _ c.loop-setting.invariant (sym c.ending.ensures ∙ none_is c.ending.result c.is_none.result c.is_none.ensures c.loop-setting-test.true) c.advance-moved.new.self c.advance-moved.result c.advance-moved.ensures
 
 pub loop-setting-preserved : goal.loop-setting-preserved
 loop-setting-preserved c =
     walked_on _ _ _ _ _ _ c.loop-setting.invariant (sym c.ending.ensures ∙ none_is c.ending.result c.is_none.result c.is_none.ensures c.loop-setting-test.true) c.advance-moved.new.self c.advance-moved.result c.advance-moved.ensures
-    c.address_due-address.result c.address_due-address.ensures c.follow.new.walked.causes.items c.follow.new.walked.events.items (c.in_ok-follow.ensures.room ∙ c.loop-setting.invariant.room) c.in_ok-follow.ensures.follows
+    c.address_due-address.result c.address_due-address.ensures c.record_move.new.walked.causes.items c.record_move.new.walked.events.items (c.in_ok-record_move.ensures.room ∙ c.loop-setting.invariant.room) c.in_ok-record_move.ensures.recorded
 
 pub loop-setting-smaller : goal.loop-setting-smaller
 loop-setting-smaller c =

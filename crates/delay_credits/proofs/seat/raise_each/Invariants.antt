@@ -3,8 +3,8 @@ use Rattle.delay_credits.specs.declared.seat.Seat.{Seat}
 use Rattle.delay_credits.specs.Seats.{IsRaised}
 use Rattle.delay_credits.proofs.seat.raise_each.Given as goal
 
-abbrev pub invariant-loop-place : goal.invariant-loop-place
-invariant-loop-place l = record {
-  done : (k : ℕ) → k < l.place → (d : Seat) → IsRaised l.ticks l.now l.raiser k (slice_index_or l.initial.seats k d) (slice_index_or l.seats k d);
-  rest : (k : ℕ) → l.place ≤ k → (d : Seat) → slice_index_or l.seats k d ≡ slice_index_or l.initial.seats k d;
+abbrev pub invariant-loop-index : goal.invariant-loop-index
+invariant-loop-index l = record {
+  done : (k : ℕ) → k < l.index → (d : Seat) → IsRaised l.ticks l.now l.raiser k (slice_index_or l.initial.seats k d) (slice_index_or l.seats k d);
+  rest : (k : ℕ) → l.index ≤ k → (d : Seat) → slice_index_or l.seats k d ≡ slice_index_or l.initial.seats k d;
 }

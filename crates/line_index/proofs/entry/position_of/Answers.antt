@@ -7,7 +7,7 @@ use Rattle.line_index.proofs.entry.position_of.Goals as goal
 
 pub returns-in-Ok : goal.returns-in-Ok
 returns-in-Ok c = λ paths are.
-    placed_at paths c.args.positions.now c.args.entries.now c.entry_of.result c.in-Ok.place _ c.requires.as_many c.in-Ok.ensures.bound (c.in-Ok.ensures.ok _) are
+    placed_at paths c.args.positions.now c.args.entries.now c.entry_of.result c.in-Ok.at _ c.requires.as_many c.in-Ok.ensures.bound (c.in-Ok.ensures.ok _) are
     ∙ ap (λ (entry : Entry). option_map Some (entry_path (entry_view entry))) c.entry_of.ensures
 
 pub returns-in-Err : goal.returns-in-Err

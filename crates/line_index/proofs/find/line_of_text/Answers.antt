@@ -13,9 +13,9 @@ pub returns-in-Ok : goal.returns-in-Ok
 returns-in-Ok c =
     let equal = c.in-Ok.ensures.position (λ (other : Vec ℕ). slice_cmp nat_cmp other.items c.args.path.now) (always_returns_same _ _ _ (λ a r q k. search rules)) in
     c.line_of_path.ensures
-    ∙ text_line (texts c.args.paths.now) c.args.keys.now c.args.path.now c.in-Ok.place c.args.number (sorted_map (λ (path : Vec ℕ). path.items) (slice_cmp nat_cmp) c.args.paths.now c.requires.paths_in_order) c.requires.have_paths
-    (subst (λ n. c.in-Ok.place < n) (sym (length-map c.args.paths.now (λ (path : Vec ℕ). path.items))) c.in-Ok.ensures.bound)
-    (path_at c.args.paths.now c.in-Ok.place c.args.path.now c.in-Ok.ensures.bound equal)
+    ∙ text_line (texts c.args.paths.now) c.args.keys.now c.args.path.now c.in-Ok.at c.args.number (sorted_map (λ (path : Vec ℕ). path.items) (slice_cmp nat_cmp) c.args.paths.now c.requires.paths_in_order) c.requires.have_paths
+    (subst (λ n. c.in-Ok.at < n) (sym (length-map c.args.paths.now (λ (path : Vec ℕ). path.items))) c.in-Ok.ensures.bound)
+    (path_at c.args.paths.now c.in-Ok.at c.args.path.now c.in-Ok.ensures.bound equal)
 
 pub returns-in-Err : goal.returns-in-Err
 returns-in-Err c =

@@ -7,7 +7,7 @@ use Rattle.guest_futex.proofs.queue.Queue.copy_from.Goals as goal
 pub unreachable-requires : goal.unreachable-requires
 unreachable-requires c =
     let few = length-apart _ c.other.invariant.0 in
-    let places = length-map c.other.inside.places.items waiter_of in
+    let waiters = length-map c.other.inside.waiters.items waiter_of in
     let given = ap length c.deref.ensures.value in
     let many = c.self.invariant.1 in
     let room = c.clear.ensures.capacity in

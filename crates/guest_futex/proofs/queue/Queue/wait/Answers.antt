@@ -10,8 +10,8 @@ unreachable-requires c =
     let apart : AreApart c.args.self.now = subst AreApart c.self.view_is c.self.invariant.0 in
     let room : length c.args.self.now < 256 = length-others c.args.hart.0 c.args.self.now c.requires.low (others_from_all c.args.hart.0 c.args.self.now c.requires.apart) apart in
     let same = ap length c.self.view_is in
-    let places = length-map c.self.inside.places.items waiter_of in
-    let held = c.self.inside.places.ok.0 in
+    let waiters = length-map c.self.inside.waiters.items waiter_of in
+    let held = c.self.inside.waiters.ok.0 in
     let many = c.self.invariant.1 in
     let full = c.in_default.ensures.full in
     omega arith

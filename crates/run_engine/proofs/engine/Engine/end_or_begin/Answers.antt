@@ -6,7 +6,7 @@ use Rattle.run_engine.specs.declared.choice.Setting.{Setting}
 use Rattle.run_engine.specs.declared.engine.Engine.{Engine}
 use Rattle.run_engine.specs.Begin.{started_by, many, AreIdle, AreBegun}
 use Rattle.run_engine.specs.Run.{ticks_in}
-use Rattle.run_engine.specs.Advance.{IsSettled}
+use Rattle.run_engine.specs.Advance.{IsCompleted}
 use Rattle.run_engine.proofs.Begin.{left_again}
 use Rattle.run_engine.proofs.Law.{none_when, some_when}
 use Rattle.run_engine.proofs.Advance.{not_some, told_left}
@@ -18,9 +18,9 @@ begin_started-requires-clause-idle c =
     let h : ℕ = c.args.hart.0 in
     let fate : Fate = c.args.fate in
     let setting : Setting = c.args.setting.now in
-    let same = told_left setting s fate h c.leave.new.schedule c.leave.ensures in
+    let same = told_left setting s fate h c.reschedule.new.schedule c.reschedule.ensures in
     let none = sym same ∙ none_when _ (sym c.ends_with.ensures ∙ c.if-ends_with.false) in
-    subst (λ (keys : Keys). AreIdle s.guest keys (started_by h fate s.started)) (sym (left_again fate h s.schedule c.leave.new.schedule c.leave.ensures)) (c.requires.idle none)
+    subst (λ (keys : Keys). AreIdle s.guest keys (started_by h fate s.started)) (sym (left_again fate h s.schedule c.reschedule.new.schedule c.reschedule.ensures)) (c.requires.idle none)
 
 pub returns-else-ends_with : goal.returns-else-ends_with
 returns-else-ends_with c =
@@ -28,9 +28,9 @@ returns-else-ends_with c =
     let h : ℕ = c.args.hart.0 in
     let fate : Fate = c.args.fate in
     let setting : Setting = c.args.setting.now in
-    let same = told_left setting s fate h c.leave.new.schedule c.leave.ensures in
-    let again = left_again fate h s.schedule c.leave.new.schedule c.leave.ensures in
-    let IsNext : Engine → Type 0 = λ engine. IsSettled setting s h fate engine in
+    let same = told_left setting s fate h c.reschedule.new.schedule c.reschedule.ensures in
+    let again = left_again fate h s.schedule c.reschedule.new.schedule c.reschedule.ensures in
+    let IsNext : Engine → Type 0 = λ engine. IsCompleted setting s h fate engine in
     let b = c.begin_started in
     let none = none_when _ (sym c.ends_with.ensures ∙ c.if-ends_with.false) in
     subst IsNext (sym b.ensures.rest)
@@ -53,12 +53,12 @@ returns-then-ends_with c =
     let h : ℕ = c.args.hart.0 in
     let fate : Fate = c.args.fate in
     let setting : Setting = c.args.setting.now in
-    let same = told_left setting s fate h c.leave.new.schedule c.leave.ensures in
-    let again = left_again fate h s.schedule c.leave.new.schedule c.leave.ensures in
-    let IsNext : Engine → Type 0 = λ engine. IsSettled setting s h fate engine in
+    let same = told_left setting s fate h c.reschedule.new.schedule c.reschedule.ensures in
+    let again = left_again fate h s.schedule c.reschedule.new.schedule c.reschedule.ensures in
+    let IsNext : Engine → Type 0 = λ engine. IsCompleted setting s h fate engine in
     let e : Option Ending = c.ending_after-self.result in
     let some = some_when e (ap is_some c.ending_after-self.ensures ∙ sym c.ends_with.ensures ∙ c.if-ends_with.true) in
-    subst (λ (keys : Keys). IsNext (record s { schedule = keys; ending = e })) (sym (c.leave_ended.ensures ∙ again))
+    subst (λ (keys : Keys). IsNext (record s { schedule = keys; ending = e })) (sym (c.reschedule_ended.ensures ∙ again))
     (record {
       ending = c.ending_after-self.ensures ∙ same;
       ended = λ _. refl;

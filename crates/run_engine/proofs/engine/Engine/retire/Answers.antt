@@ -10,8 +10,8 @@ use Rattle.run_engine.proofs.engine.Engine.retire.Goals as goal
 pub keep_visit-requires-clause-hart : goal.keep_visit-requires-clause-hart
 keep_visit-requires-clause-hart c = subst (λ (n : ℕ). c.args.turn.hart.0 < n) c.requires.steady.room (has_place c.args.self.now.schedule c.args.turn.hart.0 c.args.turn.due c.requires.turn)
 
-pub settle-requires : goal.settle-requires
-settle-requires c =
+pub complete-requires : goal.complete-requires
+complete-requires c =
     let h : ℕ = c.args.turn.hart.0 in
     let keys : Keys = c.args.self.now.schedule in
     let fate : Fate = c.retire_due-fate.result in
@@ -45,7 +45,7 @@ settle-requires c =
 
 pub returns-clause-retired : goal.returns-clause-retired
 returns-clause-retired c =
-    settled c.args.setting.now c.args.self.now c.args.turn.hart.0 c.args.turn.due c.args.delay c.retire_due-fate.new.guest c.retire_due-fate.result c.retire_due-fate.new.started c.clear-2.new.self c.keep_visit.new.visits c.pc-address.result c.settle.new.self c.requires.speedup c.clear-2.ensures
+    settled c.args.setting.now c.args.self.now c.args.turn.hart.0 c.args.turn.due c.args.delay c.retire_due-fate.new.guest c.retire_due-fate.result c.retire_due-fate.new.started c.clear-2.new.self c.keep_visit.new.visits c.pc-address.result c.complete.new.self c.requires.speedup c.clear-2.ensures
     (λ e is. record {
       steady = c.requires.steady;
       running = c.requires.running;
@@ -57,4 +57,4 @@ returns-clause-retired c =
       keeps = c.keep_visit.ensures;
       ends = is;
     })
-    c.settle.ensures
+    c.complete.ensures

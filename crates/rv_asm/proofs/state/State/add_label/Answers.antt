@@ -11,4 +11,4 @@ returns-in-None c =
     let old = c.args.self.now in
     labelled (state_of old) _ c.args.name.now c.args.column (absent old.labels c.args.name (sym c.in_ok-insert.ensures.old ∙ c.in-None.is))
     (ap (λ labels. record { labels = labels; section = old.section; text = old.text; content = old.content; puts = map put_of old.puts.items })
-    (one_more_label old.labels c.insert.new.self c.args.name _ c.in_ok-insert.ensures.updates ∙ ap (λ place. update bytes_eq (labels_of old.labels) c.args.name.now (Some place)) c.next_place-place.ensures))
+    (one_more_label old.labels c.insert.new.self c.args.name _ c.in_ok-insert.ensures.updates ∙ ap (λ location. update bytes_eq (labels_of old.labels) c.args.name.now (Some location)) c.next_location-location.ensures))

@@ -1,7 +1,7 @@
 use Rattle.std.proofs.Common.{◌≡◌, ℕ, ◌+◌, ◌*◌, ◌^◌, ◌≤◌, None, subst, sym, ◌∙◌, arith}
 use Rattle.machines.specs.Standing.{standing}
 use Rattle.virtual_run.specs.Credited.{moment_of}
-use Rattle.run_engine.specs.Seen.{experiment_with}
+use Rattle.run_engine.specs.Seen.{experiment_of_image}
 use Rattle.run_engine.specs.Engine.{events_of}
 use Rattle.virtual_run.specs.DelayedRun.{IsPaced}
 use Rattle.virtual_run.proofs.CreditedRun.{goes_seen, next_seen, count_seen, happens_seen, events_now, is_steady, raised_few, event_few, event_count, can_follow, paced_event, happens_event}
@@ -18,8 +18,8 @@ advance-event-requires-clause-delay c =
     let few : m.credits.raised ≤ 10 ^ 16 = raised_few m.image.now m.input.now m.setting m.engine m.credits m.moment c.self.invariant in
     omega (arith, c.raised-raised.ensures)
 
-pub follow-self-inside-requires-clause-few : goal.follow-self-inside-requires-clause-few
-follow-self-inside-requires-clause-few c =
+pub account_event-self-inside-requires-clause-few : goal.account_event-self-inside-requires-clause-few
+account_event-self-inside-requires-clause-few c =
     let m = c.self.inside in
     let new = c.advance-event.new.self in
     let event = c.advance-event.result in
@@ -29,8 +29,8 @@ follow-self-inside-requires-clause-few c =
     let time : moment_of event new ≤ 2 * 10 ^ 16 = event_few m.image.now m.input.now m.setting m.engine m.credits m.moment c.self.invariant new event delay c.raised-raised.ensures none c.advance-event.ensures in
     omega (arith, c.raised-raised.ensures)
 
-pub follow-self-inside-requires-clause-can : goal.follow-self-inside-requires-clause-can
-follow-self-inside-requires-clause-can c =
+pub account_event-self-inside-requires-clause-can : goal.account_event-self-inside-requires-clause-can
+account_event-self-inside-requires-clause-can c =
     let m = c.self.inside in
     let new = c.advance-event.new.self in
     let event = c.advance-event.result in
@@ -45,9 +45,9 @@ invariant_of-self c =
     let event = c.advance-event.result in
     let delay : ℕ = c.raised-raised.result in
     let none : m.engine.ending ≡ None = goes_seen m.image.now m.input.now m.setting m.engine m.credits m.moment c.self.invariant c.args.self.now c.self.view_is c.requires in
-    subst (λ (now : ℕ). IsPaced m.image.now m.input.now m.setting new c.follow-self-inside.new.credits now) (sym c.follow-self-inside.ensures.moment)
-    (paced_event m.image.now m.input.now m.setting m.engine m.credits m.moment c.self.invariant new event delay c.raised-raised.ensures none c.advance-event.ensures c.follow-self-inside.new.credits
-    c.follow-self-inside.ensures.credits)
+    subst (λ (now : ℕ). IsPaced m.image.now m.input.now m.setting new c.account_event-self-inside.new.credits now) (sym c.account_event-self-inside.ensures.moment)
+    (paced_event m.image.now m.input.now m.setting m.engine m.credits m.moment c.self.invariant new event delay c.raised-raised.ensures none c.advance-event.ensures c.account_event-self-inside.new.credits
+    c.account_event-self-inside.ensures.credits)
 
 pub returns-clause-next : goal.returns-clause-next
 returns-clause-next c =
@@ -65,10 +65,10 @@ returns-clause-count c =
     let event = c.advance-event.result in
     let delay : ℕ = c.raised-raised.result in
     let none : m.engine.ending ≡ None = goes_seen m.image.now m.input.now m.setting m.engine m.credits m.moment c.self.invariant c.args.self.now c.self.view_is c.requires in
-    let after : IsPaced m.image.now m.input.now m.setting new c.follow-self-inside.new.credits (moment_of event new + delay) =
-    paced_event m.image.now m.input.now m.setting m.engine m.credits m.moment c.self.invariant new event delay c.raised-raised.ensures none c.advance-event.ensures c.follow-self-inside.new.credits
-    c.follow-self-inside.ensures.credits in
-    events_now m.image.now m.input.now m.setting new c.follow-self-inside.new.credits (moment_of event new + delay) after
+    let after : IsPaced m.image.now m.input.now m.setting new c.account_event-self-inside.new.credits (moment_of event new + delay) =
+    paced_event m.image.now m.input.now m.setting m.engine m.credits m.moment c.self.invariant new event delay c.raised-raised.ensures none c.advance-event.ensures c.account_event-self-inside.new.credits
+    c.account_event-self-inside.ensures.credits in
+    events_now m.image.now m.input.now m.setting new c.account_event-self-inside.new.credits (moment_of event new + delay) after
     ∙ count_seen m.image.now m.input.now m.setting m.engine m.credits m.moment c.self.invariant c.args.self.now (events_of new) c.self.view_is (event_count m.image.now m.input.now m.setting m.engine m.credits m.moment c.self.invariant new event delay c.raised-raised.ensures none c.advance-event.ensures)
 
 pub returns-clause-happens : goal.returns-clause-happens
@@ -78,4 +78,4 @@ returns-clause-happens c =
     let event = c.advance-event.result in
     let delay : ℕ = c.raised-raised.result in
     let none : m.engine.ending ≡ None = goes_seen m.image.now m.input.now m.setting m.engine m.credits m.moment c.self.invariant c.args.self.now c.self.view_is c.requires in
-    happens_seen m.image.now m.input.now m.setting m.engine m.credits m.moment c.self.invariant c.args.self.now event (standing (experiment_with m.image.now m.input.now m.setting) (events_of new)) c.self.view_is (happens_event m.image.now m.input.now m.setting m.engine m.credits m.moment c.self.invariant new event delay c.raised-raised.ensures none c.advance-event.ensures)
+    happens_seen m.image.now m.input.now m.setting m.engine m.credits m.moment c.self.invariant c.args.self.now event (standing (experiment_of_image m.image.now m.input.now m.setting) (events_of new)) c.self.view_is (happens_event m.image.now m.input.now m.setting m.engine m.credits m.moment c.self.invariant new event delay c.raised-raised.ensures none c.advance-event.ensures)

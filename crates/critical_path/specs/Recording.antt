@@ -22,27 +22,27 @@ abbrev pub ticks_from : Keys → ℕ → ℕ → ℕ
 ticks_from keys moment hart = unwrap_or (key_of keys hart) 0 - moment
 
 -- a move has led to this engine, and what is known before it can be brought up to it
-abbrev pub CanFollow : Engine → moves.Event → List Cause → List Event → Type 0
-CanFollow engine (Woke turn) causes events =
+abbrev pub CanRecord : Engine → moves.Event → List Cause → List Event → Type 0
+CanRecord engine (Woke turn) causes events =
     (length causes ≡ HARTS) × (turn.hart.0 < HARTS)
     × ((cause_at causes turn.hart.0).slept + (cause_at causes turn.hart.0).cost < 2 ^ 64)
     × IsBegun engine.schedule turn.due turn.hart.0
-CanFollow engine (Retired retired) causes events =
+CanRecord engine (Retired retired) causes events =
     (length causes ≡ HARTS) × (retired.hart.0 < HARTS) × (length events < 2 ^ 32)
     × IsLater engine.time retired.fate
     × (engine.ending ≡ None → (k : ℕ)
     → is_among k (started_by retired.hart.0 retired.fate engine.started) ≡ true
     → (k < HARTS) × IsBegun engine.schedule engine.time k)
 
--- it was, where the hart was at this address before
-abbrev pub IsFollowed : Engine → moves.Event → ℕ → List Cause → List Event → List Cause → List Event
+-- the causes and events after the event, if the hart was at this address before
+abbrev pub IsRecorded : Engine → moves.Event → ℕ → List Cause → List Event → List Cause → List Event
     → Type 0
-IsFollowed engine (Woke turn) address causes events new_causes new_events =
+IsRecorded engine (Woke turn) address causes events new_causes new_events =
     (new_events ≡ events) × ((k : ℕ) → cause_at new_causes k
     ≡ (if k == turn.hart.0
     then woken_with (ticks_from engine.schedule turn.due k) (cause_at causes k)
     else cause_at causes k))
-IsFollowed engine (Retired retired) address causes events new_causes new_events =
+IsRecorded engine (Retired retired) address causes events new_causes new_events =
     (new_events ≡ events ++ record {
       hart = retired.hart;
       address = address;

@@ -15,7 +15,7 @@ use Rattle.critical_chains.specs.declared.TheConstants.{MAX_EVENTS}
 use Rattle.critical_chains.specs.declared.event.Event.{Event}
 use Rattle.critical_chains.specs.Path.{event_at, last_of, Linked}
 use Rattle.critical_path.specs.Causes.{no_cause, after_own, at_rest, started_with, woken_with}
-use Rattle.critical_path.specs.Events.{Traced, AreBefores, work, event_of, retired, woken, follow, follow_by, untraced, traced, events_of}
+use Rattle.critical_path.specs.Events.{Traced, AreBefores, work, event_of, retired, woken, after_move, after_move_by, untraced, traced, events_of}
 use Rattle.critical_path.proofs.Turns.{turn_least}
 use Rattle.critical_path.proofs.Grown.{Hangs, more_length, new_at, hangs_more}
 use Rattle.critical_path.proofs.Traced.{IsCaused, AreCaused, HaveLatest, before_after, rest_before, comes, have_latest, before_now, started_caused, rests_caused, others_caused}
@@ -203,24 +203,24 @@ module _ {G : Type 0} (x : Experiment G) (Good : G → Type 0) (law : IsLawful x
   }
 
   -- a run that has ended follows nothing more
-  pub ended_follows : (s : Shortened G) (a : Ending) (w : Traced) → s.ending ≡ Some a → follow x place s w ≡ w
-  ended_follows s a w is = ap (λ (o : Option Ending). follow_by x place o (next_turn s.dues) s.guest w) is
+  pub ended_after : (s : Shortened G) (a : Ending) (w : Traced) → s.ending ≡ Some a → after_move x place s w ≡ w
+  ended_after s a w is = ap (λ (o : Option Ending). after_move_by x place o (next_turn s.dues) s.guest w) is
 
-  pub turn_follows : (s : Shortened G) (t : Turn) (w : Traced) → s.ending ≡ None → next_turn s.dues ≡ Some t → follow x place s w ≡ (if x.guest.is_sleeping s.guest t.hart then woken x place t s.guest w else retired x place t s.guest w)
-  turn_follows s t w none is = ap (λ (o : Option Ending). follow_by x place o (next_turn s.dues) s.guest w) none ∙ ap (λ (o : Option Turn). follow_by x place None o s.guest w) is
+  pub turn_after : (s : Shortened G) (t : Turn) (w : Traced) → s.ending ≡ None → next_turn s.dues ≡ Some t → after_move x place s w ≡ (if x.guest.is_sleeping s.guest t.hart then woken x place t s.guest w else retired x place t s.guest w)
+  turn_after s t w none is = ap (λ (o : Option Ending). after_move_by x place o (next_turn s.dues) s.guest w) none ∙ ap (λ (o : Option Turn). after_move_by x place None o s.guest w) is
 
   pub stands_at : (n : ℕ) → Stands (shortened x n) (traced x place n)
   unfolding traced
   stands_at zero = stands_first
   stands_at (suc n) = go (goes_or_ended x Good law n) (stands_at n)
     where
-      go : HasEnded x Good law n ⊎ GoesOn x Good law n → Stands (shortened x n) (traced x place n) → Stands (shortened x (suc n)) (follow x place (shortened x n) (traced x place n))
+      go : HasEnded x Good law n ⊎ GoesOn x Good law n → Stands (shortened x n) (traced x place n) → Stands (shortened x (suc n)) (after_move x place (shortened x n) (traced x place n))
       go (inl over) stands =
-          subst (λ (w : Traced). Stands (shortened x (suc n)) w) (sym (ended_follows (shortened x n) over.0 (traced x place n) over.1))
+          subst (λ (w : Traced). Stands (shortened x (suc n)) w) (sym (ended_after (shortened x n) over.0 (traced x place n) over.1))
           (subst (λ (s : Shortened G). Stands s (traced x place n)) (sym (next_is x Good law n ∙ move_over x Good law (shortened x n) over.0 over.1)) stands)
       go (inr g) stands =
           let turn = turn_by (shortened x n).dues g.lives.some_hart.0 g.lives.some_hart.1 (next_turn (shortened x n).dues) refl in
-          subst (λ (w : Traced). Stands (shortened x (suc n)) w) (sym (turn_follows (shortened x n) turn.0 (traced x place n) g.none turn.1))
+          subst (λ (w : Traced). Stands (shortened x (suc n)) w) (sym (turn_after (shortened x n) turn.0 (traced x place n) g.none turn.1))
           (subst (λ (s : Shortened G). Stands s (if x.guest.is_sleeping (shortened x n).guest turn.0.hart then woken x place turn.0 (shortened x n).guest (traced x place n) else retired x place turn.0 (shortened x n).guest (traced x place n))) (sym (next_is x Good law n ∙ move_is x Good law (shortened x n) turn.0 g.none turn.1))
           (turned_stands (shortened x n) turn.0 (traced x place n) stands g.lives g.none turn.1))
 

@@ -5,7 +5,7 @@ ghost use Rattle.machines.specs.Places.{is_among};
 ghost use Rattle.machines.specs.Guest.{IsLater};
 ghost use Rattle.run_engine.specs.Begin.{started_by};
 ghost use Rattle.critical_path.specs.Causes.{cause_at, started_with, woken_with, turned};
-ghost use Rattle.critical_path.specs.Follow.{ticks_from, IsBegun, CanFollow, IsFollowed};
+ghost use Rattle.critical_path.specs.Recording.{ticks_from, IsBegun, CanRecord, IsRecorded};
 
 use crate::cause::{Cause, go_on, leave, start, wake_up};
 use coz_types::{Address, HARTS, HartId, Tick};
@@ -14,7 +14,7 @@ use machines::Fate;
 use run_engine::{Engine, Event as Move, Retired, Turn};
 use std::alloc::{AllocError, Global};
 
-/// The ticks for which a hart was begun at a moment.
+/// How many ticks the instruction takes that a hart began at a moment.
 pub fn ticks_from(engine: &Engine, moment: Tick, hart: HartId) -> Tick
     requires { IsBegun engine.now.schedule moment hart.0 }
     ensures { result ≡ ticks_from engine.now.schedule moment hart.0 }
@@ -62,7 +62,7 @@ fn start_each(engine: &Engine, harts: &[HartId], causes: &mut [Cause], event: u3
 }
 
 /// A hart has retired by this event.
-fn follow_retired(engine: &Engine, retired: Retired, causes: &mut [Cause], event: u32)
+fn record_retired(engine: &Engine, retired: Retired, causes: &mut [Cause], event: u32)
     requires room { length causes.old ≡ HARTS }
     requires below { retired.hart.0 < HARTS }
     requires later { IsLater engine.now.time retired.fate }
@@ -85,16 +85,16 @@ pub struct Walked {
     pub events: Vec<Event>,
 }
 
-/// Brings it up to the move that has led to this engine, where the hart was at that address
+/// Brings it up to the move that has led to this engine. The hart was at `address`
 /// before. Fails only when out of memory.
-pub fn follow(
+pub fn record_move(
     engine: &Engine,
     moved: Move,
     address: Address,
     walked: &mut Walked,
 ) -> Result<(), AllocError>
-    requires { CanFollow engine.now moved walked.old.causes.items walked.old.events.items }
-    ensures follows { OnOk result (IsFollowed engine.now moved address
+    requires { CanRecord engine.now moved walked.old.causes.items walked.old.events.items }
+    ensures recorded { OnOk result (IsRecorded engine.now moved address
         walked.old.causes.items walked.old.events.items
         walked.new.causes.items walked.new.events.items) }
     ensures room { OnOk result (length walked.new.causes.items
@@ -119,7 +119,7 @@ pub fn follow(
                 due: engine.time(),
             })?;
             if engine.ending().is_none() {
-                follow_retired(engine, retired, &mut walked.causes, number);
+                record_retired(engine, retired, &mut walked.causes, number);
             }
             Ok(())
         }

@@ -3,9 +3,9 @@ use Rattle.coz_types.specs.declared.HartId.{HartId}
 use Rattle.machines.specs.Places.{is_among}
 use Rattle.critical_path.specs.declared.cause.Cause.{Cause}
 use Rattle.critical_path.specs.Causes.{cause_at, started_with}
-use Rattle.critical_path.specs.Follow.{ticks_from}
+use Rattle.critical_path.specs.Recording.{ticks_from}
 use Rattle.critical_path.proofs.Begun.{set_at, begun_step, still_among, self_among, numbers_from}
-use Rattle.critical_path.proofs.follow.start_each.Goals as goal
+use Rattle.critical_path.proofs.recording.start_each.Goals as goal
 
 pub loop-hart-preserved : goal.loop-hart-preserved
 loop-hart-preserved c =

@@ -2,9 +2,9 @@ use Rattle.std.proofs.Common.{◌≡◌, ℕ, ◌∙◌, if◌then◌else◌, tr
 use Rattle.machines.specs.Places.{is_among}
 use Rattle.critical_path.specs.declared.cause.Cause.{Cause}
 use Rattle.critical_path.specs.Causes.{cause_at, started_with}
-use Rattle.critical_path.specs.Follow.{ticks_from}
+use Rattle.critical_path.specs.Recording.{ticks_from}
 use Rattle.critical_path.proofs.Begun.{all_turned, other_started, self_started}
-use Rattle.critical_path.proofs.follow.follow_retired.Goals as goal
+use Rattle.critical_path.proofs.recording.record_retired.Goals as goal
 
 pub go_on_or_leave-requires-clause-begun : goal.go_on_or_leave-requires-clause-begun
 go_on_or_leave-requires-clause-begun c = λ k among. (c.requires.begun k (self_started c.args.retired.hart.0 c.args.retired.fate c.args.engine.now.started k among)).1
