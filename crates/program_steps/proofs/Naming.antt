@@ -1,22 +1,19 @@
 -- The lines that are named, one after the other.
-use Rattle.std.proofs.Common.{◌≡◌, ℕ, zero, suc, ◌+◌, ◌<◌, List, [], ◌∷◌, ◌++◌, map, take, length, Bool, cond, refl, sym, ap, ◌∙◌, subst, arith}
-use Rattle.std.specs.Prelude.{Some, Result, Ok, Err, IfOk, get_or, slice_get, ◌==◌}
+use Rattle.std.proofs.Common.{◌≡◌, ℕ, zero, suc, ◌+◌, ◌<◌, List, [], ◌∷◌, ◌++◌, map, length, Bool, cond, refl, sym, ap, ◌∙◌, subst, arith}
+use Rattle.std.specs.Prelude.{Result, Ok, Err, IfOk, get_or, ◌==◌}
 use Rattle.std.specs.declared.cmp.Ordering.TheVariants.{Less, Equal, Greater}
 use Rattle.std.specs.List.{All, AllByRecursion, range_with_len, slice_index_or}
 use Rattle.std.specs.List.Sorted.{IsStrictlySortedBy}
 use Rattle.std.specs.Ordering.{nat_cmp}
 use Rattle.std.proofs.lemmas.Bool.{lt-ltb}
-use Rattle.std.proofs.lemmas.List.{map-append, take_more}
+use Rattle.std.proofs.lemmas.List.{map-append}
 use Rattle.std.proofs.lemmas.List.Elements.{All-map}
 use Rattle.std.proofs.lemmas.List.FromFn.{map-range_with_len_more, get_or-range_with_len, length-range_with_len}
-use Rattle.std.proofs.lemmas.Option.{slice_get_within, get_or_from_slice_get}
 use Rattle.coz_types.specs.declared.LineId.{LineId}
-use Rattle.line_index.specs.Lines.{Line, label}
 use Rattle.line_index.specs.Index.{Index}
 use Rattle.progress_points.specs.Points.{Points, IsPoints}
 use Rattle.experiment_plan.specs.Selected.{id_of, ids}
 use Rattle.program_steps.specs.declared.fault.Fault.{Fault}
-use Rattle.program_steps.specs.Selection.{label_at}
 
 -- ---- all lines
 
@@ -67,20 +64,6 @@ all_below lines n are = λ k d below.
         go (l ∷ ls) (suc k) = go ls k
 
 -- ---- labels of points
-
--- each of the numbers is below
-pub one_below : (most k n : ℕ) (ns : List ℕ) → All (λ n. n < most) ns → slice_get ns k ≡ Some n → n < most
-one_below most k n ns all is = subst (λ m. m < most) (get_or_from_slice_get ns k n n is) (all k n (slice_get_within ns k n is))
-
--- one label more
-pub one_label : (lines : List Line) (points : List ℕ) (k line : ℕ) (labels new : List (List ℕ)) (text : List ℕ) → slice_get points k ≡ Some line
-    → labels ≡ map (label_at lines) (take k points) → slice_get (map label lines) line ≡ Some text → new ≡ labels ++ text ∷ []
-    → new ≡ map (label_at lines) (take (k + 1) points)
-one_label lines points k line labels new text is are labelled more =
-    more
-    ∙ ap (λ (ls : List (List ℕ)). ls ++ text ∷ []) are
-    ∙ ap (λ (t : List ℕ). map (label_at lines) (take k points) ++ t ∷ []) (sym (get_or_from_slice_get (map label lines) line text [] labelled) ∙ ap (label_at lines) (sym (get_or_from_slice_get points k line line is)))
-    ∙ sym (ap (map (label_at lines)) (take_more points k line (slice_get_within points k line is)) ∙ map-append (label_at lines) (take k points) (get_or points k line ∷ []))
 
 -- ---- points
 

@@ -1,5 +1,5 @@
--- The lines of the faults of a program, of its line table, of a selection, a plan,
--- a source and a profile.
+-- The texts of the faults of a program, of its line table, of a selection, a plan, a source
+-- and a profile, behind the program's name.
 use Rattle.std.specs.Prelude.{ℕ, List, ◌++◌, codes, decimal}
 use Rattle.elf_load.specs.declared.ElfKind.{ElfKind}
 use Rattle.elf_load.specs.declared.ElfKind.TheVariants.{NotElf, NotClass64, NotLittle, NotExec, NotRiscv, Compressed, HeaderOut, PackedLines, Interp, SizeOrder, AddressOut, WritableCode, SharedPage, TooMuch, EntryOut}
@@ -10,8 +10,7 @@ use Rattle.dwarf_lines.specs.declared.LineFault.{LineFault}
 use Rattle.asm_tokens.specs.declared.AsmKind.{AsmKind}
 use Rattle.asm_tokens.specs.declared.AsmKind.TheVariants.{Lines, Byte, Token, Twice, Name, Section, Operand, Range, Much, Missing, Far, Empty}
 use Rattle.rv_asm.specs.declared.AsmFault.{AsmFault}
-use Rattle.profile_reader.specs.declared.fault.BookFault.{BookFault}
-use Rattle.profile_reader.specs.ItemNames.{item_name}
+pub use Rattle.profile_reader.specs.ItemNames.{book_line}
 
 abbrev pub elf_kind_name : ElfKind → List ℕ
 elf_kind_name NotElf = codes "NotElf"
@@ -32,7 +31,7 @@ elf_kind_name EntryOut = codes "EntryOut"
 
 abbrev pub program_line : ElfFault → List ℕ
 program_line fault =
-    codes "coz: program: " ++ elf_kind_name fault.kind ++ codes " at " ++ decimal fault.place
+    codes "program: " ++ elf_kind_name fault.kind ++ codes " at " ++ decimal fault.place
 
 abbrev pub line_kind_name : LineKind → List ℕ
 line_kind_name Short = codes "Short"
@@ -52,7 +51,7 @@ line_kind_name TextOut = codes "TextOut"
 
 abbrev pub table_line : LineFault → List ℕ
 table_line fault =
-    codes "coz: lines: " ++ line_kind_name fault.kind ++ codes " at " ++ decimal fault.place
+    codes "lines: " ++ line_kind_name fault.kind ++ codes " at " ++ decimal fault.place
 
 abbrev pub asm_kind_name : AsmKind → List ℕ
 asm_kind_name Lines = codes "Lines"
@@ -70,18 +69,14 @@ asm_kind_name Empty = codes "Empty"
 
 abbrev pub source_line : AsmFault → List ℕ
 source_line fault =
-    codes "coz: source: " ++ asm_kind_name fault.kind ++ codes " at line " ++ decimal fault.line
+    codes "source: " ++ asm_kind_name fault.kind ++ codes " at line " ++ decimal fault.line
     ++ codes " column " ++ decimal fault.column
 
 abbrev pub no_line_line : List ℕ → List ℕ
-no_line_line piece = codes "coz: selection: no line " ++ piece
+no_line_line piece = codes "selection: no line " ++ piece
 
 abbrev pub points_line : ℕ → List ℕ
-points_line count = codes "coz: selection: " ++ decimal count ++ codes " points"
+points_line count = codes "selection: " ++ decimal count ++ codes " points"
 
 abbrev pub plan_line : ℕ → List ℕ
-plan_line count = codes "coz: plan: " ++ decimal count ++ codes " experiments"
-
-abbrev pub book_line : BookFault → List ℕ
-book_line fault =
-    codes "coz: profile: " ++ item_name fault.field ++ codes " at " ++ decimal fault.place
+plan_line count = codes "plan: " ++ decimal count ++ codes " experiments"

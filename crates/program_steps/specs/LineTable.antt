@@ -6,7 +6,7 @@ use Rattle.dwarf_lines.specs.Registers.{Table}
 use Rattle.dwarf_lines.specs.Names.{Strings, strings}
 use Rattle.dwarf_lines.specs.Reading.{reading}
 
--- the bytes of its section of this name, none where it has no such section
+-- the bytes of its section of this name, none if it has no such section
 abbrev pub bytes_in : List ℕ → List ℕ → List ℕ
 bytes_in file name = unwrap_or (section file name) []
 

@@ -1,8 +1,10 @@
--- What the steps that commands share give, and what follows each.
-use Rattle.std.specs.Prelude.{ℕ, List, ◌++◌, length, nat_lt, codes, Option, None, Some, Result, Ok, Err, if◌then◌else◌}
+-- What the steps that commands share give, and what follows each. The line of a verdict is what
+-- stands after the program's name.
+use Rattle.std.specs.Prelude.{ℕ, List, length, nat_lt, Result, Ok, Err, if◌then◌else◌}
 use Rattle.coz_types.specs.declared.TheConstants.{MAX_POINTS}
 use Rattle.coz_types.specs.Image.{ImageParts}
 pub use Rattle.coz_files.specs.Verdict.{Verdict, refusal, text_verdict}
+pub use Rattle.file_steps.specs.Reading.{read_verdict}
 use Rattle.coz_words.specs.Said.{Text}
 use Rattle.elf_load.specs.declared.ElfFault.{ElfFault}
 use Rattle.elf_load.specs.Loaded.{load_answer}
@@ -36,10 +38,3 @@ abbrev pub points_verdict : List ℕ → (List ℕ → Verdict) → Verdict
 points_verdict points next =
     if nat_lt MAX_POINTS (length points) then refusal 7 (points_line (length points))
     else next points
-
--- of a path's file that may have at most `most` bytes, and of what follows if it does
--- there and has no more
-abbrev pub read_verdict : ℕ → List ℕ → Option (List ℕ) → (List ℕ → Verdict) → Verdict
-read_verdict most path None next = refusal 5 (codes "coz: read: " ++ path)
-read_verdict most path (Some file) next =
-    if nat_lt most (length file) then refusal 8 (codes "coz: long: " ++ path) else next file

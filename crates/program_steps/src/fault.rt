@@ -1,11 +1,13 @@
-//! Why nothing is printed, and which errors of the layers below that is.
+//! Why nothing is printed, by the errors of the layers below.
 ghost use Rattle.std.specs.Prelude.{◌≡◌};
-ghost use Rattle.program_steps.specs.declared.fault.Fault.TheVariants.{Memory};
+ghost use Rattle.file_steps.specs.declared.fault.FileFault.TheVariants.{Memory};
+ghost use Rattle.program_steps.specs.declared.fault.Fault.TheVariants.{File};
 ghost use Rattle.program_steps.specs.Causes.{assembling_fault, loading_fault, planning_fault, points_fault, profile_fault, reading_fault};
 
 use dwarf_lines::{LineError, LineFault};
 use elf_load::{ElfFault, LoadError};
 use experiment_plan::PlanError;
+use file_steps::FileFault;
 use profile_reader::{BookError, BookFault};
 use progress_points::PointsError;
 use rv_asm::{AsmError, AsmFault};
@@ -14,37 +16,37 @@ use std::alloc::AllocError;
 /// Why nothing is printed.
 #[derive(Clone, Copy)]
 pub enum Fault<'a> {
-    /// The words ask for nothing.
-    Usage,
+    /// The words, a file that is read, the output or memory is the cause.
+    File(FileFault<'a>),
     /// The file is no program.
     Program(ElfFault),
     /// The program's line table can't be read.
     Lines(LineFault),
-    /// The file of this path could not be read.
-    Read(&'a str),
-    /// The output could not be written.
-    Write,
     /// A line that is named is none of the program's.
     NoLine(&'a [u8]),
     /// The number of progress points, which exceeds 64.
     ManyPoints(u64),
-    /// The file of this path is longer than such a file may be.
-    Long(&'a str),
     /// The number of runs of the plan, which exceeds 100,000.
     ManyExperiments(u64),
-    /// Out of memory.
-    Memory,
     /// The source isn't assembled.
     Source(AsmFault),
     /// The text is no profile's.
     Profile(BookFault),
 }
 
+impl<'a> From<FileFault<'a>> for Fault<'a> {
+    ghost from_gives = { λ of fault. fault ≡ File of };
+
+    fn from(fault: FileFault<'a>) -> Fault<'a> {
+        Fault::File(fault)
+    }
+}
+
 impl<'a> From<AllocError> for Fault<'a> {
-    ghost from_gives = { λ _ fault. fault ≡ Memory };
+    ghost from_gives = { λ _ fault. fault ≡ File Memory };
 
     fn from(_: AllocError) -> Fault<'a> {
-        Fault::Memory
+        Fault::File(FileFault::Memory)
     }
 }
 
@@ -54,7 +56,7 @@ impl<'a> From<LoadError> for Fault<'a> {
     fn from(error: LoadError) -> Fault<'a> {
         match error {
             LoadError::Fault(fault) => Fault::Program(fault),
-            LoadError::Memory => Fault::Memory,
+            LoadError::Memory => Fault::File(FileFault::Memory),
         }
     }
 }
@@ -65,7 +67,7 @@ impl<'a> From<LineError> for Fault<'a> {
     fn from(error: LineError) -> Fault<'a> {
         match error {
             LineError::Fault(fault) => Fault::Lines(fault),
-            LineError::Memory => Fault::Memory,
+            LineError::Memory => Fault::File(FileFault::Memory),
         }
     }
 }
@@ -76,7 +78,7 @@ impl<'a> From<PointsError> for Fault<'a> {
     fn from(error: PointsError) -> Fault<'a> {
         match error {
             PointsError::TooMany(count) => Fault::ManyPoints(count),
-            PointsError::Memory => Fault::Memory,
+            PointsError::Memory => Fault::File(FileFault::Memory),
         }
     }
 }
@@ -87,7 +89,7 @@ impl<'a> From<PlanError> for Fault<'a> {
     fn from(error: PlanError) -> Fault<'a> {
         match error {
             PlanError::TooMany(count) => Fault::ManyExperiments(count),
-            PlanError::Memory => Fault::Memory,
+            PlanError::Memory => Fault::File(FileFault::Memory),
         }
     }
 }
@@ -98,7 +100,7 @@ impl<'a> From<AsmError> for Fault<'a> {
     fn from(error: AsmError) -> Fault<'a> {
         match error {
             AsmError::Fault(fault) => Fault::Source(fault),
-            AsmError::Memory => Fault::Memory,
+            AsmError::Memory => Fault::File(FileFault::Memory),
         }
     }
 }
@@ -109,7 +111,7 @@ impl<'a> From<BookError> for Fault<'a> {
     fn from(error: BookError) -> Fault<'a> {
         match error {
             BookError::Fault(fault) => Fault::Profile(fault),
-            BookError::Memory => Fault::Memory,
+            BookError::Memory => Fault::File(FileFault::Memory),
         }
     }
 }

@@ -1,5 +1,5 @@
-//! The steps that commands share: a file that is read, a program with its lines, and the lines
-//! that arguments name; and why nothing is printed.
+//! The steps that commands share: a program with its lines, and the lines that arguments name;
+//! and why nothing is printed.
 #![tactic(auto)]
 
 mod fault;
@@ -11,7 +11,7 @@ mod selection;
 
 pub use fault::Fault;
 pub use fault_lines::tell;
-pub use program::{Program, read_file, read_program};
+pub use program::{Program, read_program};
 pub use selection::{
     bytes_of, line_named, listed_lines, points_of, progress_points, selected_lines,
 };

@@ -1,53 +1,21 @@
-//! The steps that commands share: a file is read, and a program with its lines.
-ghost use Rattle.std.specs.Prelude.{◌≡◌, ◌≤◌, ℕ, List, length, Ok, IfOk, IfErr, IfSome, IfNone};
+//! The program that a file is, with its lines.
+ghost use Rattle.std.specs.Prelude.{◌≡◌, ◌≤◌, length, Ok, IfOk};
 ghost use Rattle.coz_types.specs.declared.TheConstants.{MAX_PROGRAM};
 ghost use Rattle.coz_types.specs.Image.{ImageParts};
-ghost use Rattle.coz_files.specs.Faults.{Rose};
-ghost use Rattle.coz_files.specs.Held.{file_at};
 ghost use Rattle.elf_load.specs.Loaded.{load_answer};
 ghost use Rattle.dwarf_lines.specs.Registers.{Table, view};
 ghost use Rattle.line_index.specs.Index.{IsIndex};
 ghost use Rattle.program_steps.specs.LineTable.{table_in};
-ghost use Rattle.program_steps.specs.Verdict.{Verdict, program_verdict, read_verdict};
-ghost use Rattle.program_steps.specs.Answer.{verdict_after, IsMemory, IsOfPath, IsRead, SettlesThen};
+ghost use Rattle.program_steps.specs.Verdict.{Verdict, program_verdict};
+ghost use Rattle.program_steps.specs.Answer.{verdict_after, IsMemory, IsRead};
 
 use crate::fault::Fault;
 use crate::line_table::read_table;
-use coz_files::{FileAnswer, Files};
 use coz_types::Image;
 use dwarf_lines::LineTable;
 use elf_load::load;
 use line_index::{LineIndex, build};
 use std::alloc::Global;
-
-/// The bytes of a path's file, if they are at most `most`.
-/// Err says that it can't be read or is longer, or that it is out of memory.
-pub fn read_file<'a, F: Files>(
-    alloc: Global,
-    files: &mut F,
-    path: &'a str,
-    most: u64,
-) -> Result<Vec<u8>, Fault<'a>>
-    ensures same { F.held files.new ≡ F.held files.old }
-    ensures short { IfOk result (λ file. length file.items ≤ most) }
-    ensures of_path { IfErr result (IsOfPath path.now) }
-    ensures settled { IfSome (F.held files.old) (λ held.
-        (IsMemory result → ⊥) → (next : List ℕ → Verdict) →
-        SettlesThen (λ file. next file.items)
-        (read_verdict most path.now (file_at held path.now) next)
-        (F.faults files.old) (F.faults files.new) result) }
-    ensures untold { IsRead result
-        → IfNone (F.held files.old) (Rose (F.faults files.old) (F.faults files.new)) }
-    ensures no_fault { (IsRead result → ⊥) → F.faults files.new ≡ F.faults files.old }
-{
-    let mut file = Vec::new(alloc);
-    match files.read_whole(path, most, &mut file) {
-        FileAnswer::Whole => Ok(file),
-        FileAnswer::Longer => Err(Fault::Long(path)),
-        FileAnswer::Failed => Err(Fault::Read(path)),
-        FileAnswer::Memory => Err(Fault::Memory),
-    }
-}
 
 /// A program, its line table and the index of its lines.
 #[derive(Drop)]

@@ -15,6 +15,7 @@ use crate::fault::Fault;
 use coz_types::LineId;
 use coz_words::Word;
 use experiment_plan::{SelectError, line_found, select};
+use file_steps::FileFault;
 use line_index::LineIndex;
 use progress_points::Points;
 use std::alloc::{AllocError, Global};
@@ -67,7 +68,7 @@ fn lines_of<'r>(alloc: Global, index: &LineIndex, list: &'r [u8]) -> Result<Vec<
             let piece = &list[start as usize..(start + length) as usize];
             Err(Fault::NoLine(piece))
         }
-        Err(SelectError::Memory) => Err(Fault::Memory),
+        Err(SelectError::Memory) => Err(Fault::File(FileFault::Memory)),
     }
 }
 
@@ -85,7 +86,7 @@ fn all_lines(alloc: Global, index: &LineIndex) -> Result<Vec<LineId>, AllocError
     Ok(lines)
 }
 
-/// The lines that are selected in turn: those of a list, or all where there is none.
+/// The lines that are selected in turn: those of a list, or all if there is none.
 pub fn selected_lines<'r>(
     alloc: Global,
     index: &LineIndex,

@@ -1,11 +1,9 @@
-use Rattle.coz_files.proofs.PutsLemmas.{continues_then, continues_whole}
+use Rattle.coz_files.proofs.PutsLemmas.{continues_then}
 use Rattle.program_steps.proofs.fault_lines.put_source.Goals as goal
 
 pub returns : goal.returns
 returns g c =
-    continues_whole
-    (continues_then
-    (continues_then
+    continues_then
     (continues_then
     (continues_then
     (continues_then
@@ -13,5 +11,4 @@ returns g c =
     c.put_next-answer-3.ensures)
     c.put_number-answer.ensures)
     c.put_next-answer-4.ensures)
-    c.put_number-answer-2.ensures)
-    c.put_next.ensures)
+    c.put_number.ensures

@@ -1,0 +1,5 @@
+pub mod Faults
+pub mod Indexed
+pub mod Judged
+mod Reading
+mod Numbers
