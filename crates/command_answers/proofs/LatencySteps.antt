@@ -1,8 +1,7 @@
 -- The verdict of latencies, by what is found of the line, the points and the runs.
 use Rattle.std.proofs.Common.{◌≡◌, ℕ, ◌+◌, ◌≤◌, ◌<◌, List, [], ◌∷◌, ◌++◌, length, take, get_or, nat_le, Bool, true, false, ◌&&◌, refl, sym, ap, ap₂, ◌∙◌, Option, Some}
-use Rattle.std.proofs.lemmas.List.{append_assoc, append-nil, take_more}
+use Rattle.std.proofs.lemmas.List.{take_more}
 use Rattle.std.proofs.lemmas.List.Folds.{list_all-append}
-use Rattle.std.proofs.lemmas.Grind.{flat_map-append}
 use Rattle.std.proofs.Math.Path.{fun_ext}
 use Rattle.std.specs.List.{All, list_all}
 use Rattle.coz_types.specs.Image.{ImageParts}
@@ -25,14 +24,14 @@ use Rattle.coz_words.specs.Said.{Text}
 use Rattle.coz_words.specs.declared.request.Request.{Request}
 use Rattle.program_steps.specs.Selection.{line_named, lines_named}
 use Rattle.program_steps.specs.Verdict.{Verdict, named_verdict, points_verdict}
-use Rattle.command_answers.specs.Experiment.{Runs, runs_in}
+use Rattle.program_inputs.specs.Experiment.{Runs, runs_in}
 use Rattle.command_answers.specs.Latencies.{latency_printed, latency_verdict, marked_verdict, net_at_each, speedups_of}
 use Rattle.coz_types.specs.declared.PointId.{PointId}
 use Rattle.latency_points.specs.Moments.{numbers_of}
-use Rattle.printed_texts.specs.LatencyText.{latency_line, latency_text, run_line}
+use Rattle.printed_texts.specs.LatencyText.{latency_line, run_line}
 use Rattle.command_answers.specs.declared.measuring.RunLatency.{RunLatency}
 use Rattle.command_answers.specs.Measured.{measured_in, run_at}
-use Rattle.command_answers.proofs.Indexed.{experiment_is}
+use Rattle.program_inputs.proofs.Indexed.{experiment_is}
 use Rattle.command_answers.proofs.Profiling.{few_speedups}
 
 -- ---- speedups
@@ -101,7 +100,7 @@ module _ (asked : Request) (lines : List Line) (runs : Runs) where
 
 -- ---- points
 
--- the points of both lists, where there are few
+-- the points of both lists, if there are few
 pub marks_are : (arrive depart lines found a d : List ℕ) (next : List ℕ → List ℕ → List ℕ → Verdict) → lines ≡ rising_numbers (arrive ++ depart) → found ≡ lines → a ≡ places_among lines arrive → d ≡ places_among lines depart
     → ((n : List ℕ → Verdict) → n found ≡ points_verdict lines n) → next found a d ≡ marked_verdict arrive depart next
 marks_are arrive depart lines found a d next both same is_a is_d judged =
@@ -109,7 +108,7 @@ marks_are arrive depart lines found a d next both same is_a is_d judged =
     ∙ judged (λ points. next points (places_among points arrive) (places_among points depart))
     ∙ ap (λ (ls : List ℕ). points_verdict ls (λ points. next points (places_among points arrive) (places_among points depart))) both
 
--- and where there are not
+-- and if there are too many
 pub no_marks : (arrive depart lines : List ℕ) (v : Verdict) (next : List ℕ → List ℕ → List ℕ → Verdict) → lines ≡ rising_numbers (arrive ++ depart)
     → ((n : List ℕ → Verdict) → v ≡ points_verdict lines n) → v ≡ marked_verdict arrive depart next
 no_marks arrive depart lines v next both judged =
@@ -122,23 +121,7 @@ and_true : (b : Bool) → b ≡ (b && true)
 and_true true = refl
 and_true false = refl
 
-module _ (arrive depart : List ℕ) (run : ℕ → NetRecord) (speedups : List ℕ) (i d : ℕ) (below : i < length speedups) where
-  abbrev lines_to : List ℕ → List ℕ
-  lines_to ss = latency_text arrive depart run ss
-
-  -- the line of one speedup more
-  pub line_more : (before text new : List ℕ) → text ≡ before ++ latency_text arrive depart run (take i speedups)
-      → new ≡ text ++ run_line arrive depart (get_or speedups i d) (run (get_or speedups i d)) → new ≡ before ++ latency_text arrive depart run (take (i + 1) speedups)
-  line_more before text new so_far is =
-      let one = run_line arrive depart (get_or speedups i d) (run (get_or speedups i d)) in
-      is
-      ∙ ap (λ (t : List ℕ). t ++ one) so_far
-      ∙ append_assoc before (lines_to (take i speedups)) one
-      ∙ ap (λ (t : List ℕ). before ++ t)
-      (ap (λ (t : List ℕ). lines_to (take i speedups) ++ t) (sym (append-nil one))
-      ∙ sym (flat_map-append (λ speedup. run_line arrive depart speedup (run speedup)) (take i speedups) (get_or speedups i d ∷ []))
-      ∙ ap lines_to (sym (take_more speedups i d below)))
-
+module _ (speedups : List ℕ) (i d : ℕ) (below : i < length speedups) where
   -- whether one run more exited
   pub exited_more : (p : ℕ → Bool) (all : Bool) → all ≡ list_all p (take i speedups) → (all && p (get_or speedups i d)) ≡ list_all p (take (i + 1) speedups)
   exited_more p all so_far =

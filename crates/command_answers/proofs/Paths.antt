@@ -1,5 +1,5 @@
 -- The critical path of a program's run is that of the run that is asked for.
-use Rattle.std.proofs.Common.{◌≡◌, ℕ, List, [], length, Option, None, Result, Ok, Err, IfOk, refl, sym, ap, ap₂, ◌∙◌}
+use Rattle.std.proofs.Common.{◌≡◌, ℕ, List, [], length, None, Result, Ok, Err, IfOk, refl, sym, ap, ap₂, ◌∙◌}
 use Rattle.std.specs.declared.alloc.AllocError.{AllocError}
 use Rattle.coz_types.specs.Image.{ImageParts}
 use Rattle.coz_types.specs.declared.ending.Ending.{Ending}
@@ -17,7 +17,7 @@ use Rattle.critical_path.specs.Walk.{plain}
 use Rattle.critical_path.proofs.Walking.{plain_is}
 use Rattle.path_texts.specs.declared.texts.CriticalPath.{CriticalPath}
 use Rattle.path_texts.specs.PathText.{events_on, path_text, written_path}
-use Rattle.command_answers.specs.Experiment.{choice_of, runs_in}
+use Rattle.program_inputs.specs.Experiment.{choice_of, runs_in}
 use Rattle.command_answers.specs.CriticalPath.{path_printed, plain_run}
 use Rattle.command_answers.specs.Verdict.{Verdict, ended_verdict}
 

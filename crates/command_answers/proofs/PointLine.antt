@@ -1,6 +1,5 @@
 -- Each line of a program's words is the line of an address of its written file, and so it is found.
 use Rattle.std.proofs.Common.{◌≡◌, ℕ, zero, suc, ◌+◌, ◌*◌, ◌<◌, ◌≤◌, Bool, true, false, List, [], ◌∷◌, length, get_or, Some, None, refl, sym, ap, ◌∙◌, arith, nat_lt, ◌==◌, lt-ltb, ltb-true, ltb-false, eq-eqb, cond, Contains, bytes_eq, position}
-use Rattle.std.specs.Prelude.{◌&&◌}
 use Rattle.std.specs.List.{position_or_len}
 use Rattle.std.proofs.lemmas.List.Sums.{fails_before_first}
 use Rattle.std.proofs.lemmas.List.Elements.{All-contains}

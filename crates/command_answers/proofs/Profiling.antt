@@ -27,11 +27,11 @@ use Rattle.profile_pool.specs.Summaries.{summary_in, summaries_of}
 use Rattle.experiment_plan.proofs.Pairing.{speedups_few}
 use Rattle.coz_words.specs.Said.{Text}
 use Rattle.coz_words.specs.declared.request.Request.{Request}
-use Rattle.command_answers.specs.Experiment.{Runs, runs_in}
+use Rattle.program_inputs.specs.Experiment.{Runs, runs_in}
 use Rattle.program_steps.specs.Selection.{lines_named}
-use Rattle.command_answers.specs.Profiled.{all_lines, experiment_on, label_at, pairs_of, profile_of, summary_on}
+use Rattle.command_answers.specs.Profiled.{all_lines, experiment_of_pair, label_at, pairs_of, profile_of, summary_on}
 use Rattle.profile_book.specs.declared.profile.Profile.{Profile}
-use Rattle.command_answers.proofs.Indexed.{experiment_is}
+use Rattle.program_inputs.proofs.Indexed.{experiment_is}
 use Rattle.command_answers.specs.Verdict.{Verdict, named_verdict, plan_verdict, points_verdict, profile_verdict, profiled_verdict, refusal}
 
 -- ---- the plan
@@ -78,7 +78,7 @@ speedups_small positions speedups fit = speedups_few (map (λ (l : ℕ). record 
 -- the summaries of a plan's runs by an index are those by its lines and runs
 pub summaries_are : (image : ImageParts) (index : Index) (points : Points) (input : List ℕ) (budget : ℕ) (pairs : List Pair) → IsPoints index points.lines points
     → summaries_of image index points input budget pairs
-    ≡ map (λ pair. summary_on index.lines points.lines pair (delayed_record (experiment_on (runs_in image index input) budget points.lines pair))) pairs
+    ≡ map (λ pair. summary_on index.lines points.lines pair (delayed_record (experiment_of_pair (runs_in image index input) budget points.lines pair))) pairs
 unfolding summary_in
 summaries_are image index points input budget pairs are =
     ap (λ (f : Pair → Summary). map f pairs)
@@ -88,7 +88,7 @@ summaries_are image index points input budget pairs are =
 
 -- the profile of these labels and summaries
 pub same_profile : (lines : List Line) (runs : Runs) (budget : ℕ) (points : List ℕ) (pairs : List Pair) (labels : List (List ℕ)) (summaries : List Summary) → labels ≡ map (label_at lines) points
-    → summaries ≡ map (λ pair. summary_on lines points pair (delayed_record (experiment_on runs budget points pair))) pairs
+    → summaries ≡ map (λ pair. summary_on lines points pair (delayed_record (experiment_of_pair runs budget points pair))) pairs
     → ◌≡◌ {A = Profile} (record { budget = budget; points = labels; summaries = summaries }) (profile_of runs lines budget points pairs)
 same_profile lines runs budget points pairs labels summaries named ran =
     ap₂ (λ (ls : List (List ℕ)) (ss : List Summary). record { budget = budget; points = ls; summaries = ss }) named ran

@@ -45,21 +45,19 @@ use Rattle.image_write.proofs.LineSection.{no_texts, unit_found}
 use Rattle.image_write.proofs.Loading.{written_loads, written_short}
 use Rattle.image_write.proofs.Written.{unit_is_read}
 use Rattle.program_steps.specs.declared.fault.Fault.{Fault}
-use Rattle.coz_words.specs.declared.command.Command.{Command}
-use Rattle.coz_words.specs.declared.command.Command.TheVariants.{Trial}
 use Rattle.command_answers.specs.Answer.{IsMemoryFault, fault_verdict}
 use Rattle.program_steps.specs.Causes.{assembling_fault, planning_fault}
-use Rattle.command_answers.specs.Experiment.{Runs, experiment_by_table, runs_in}
+use Rattle.program_inputs.specs.Experiment.{Runs, experiment_by_table, runs_in}
 use Rattle.profile_pool.specs.Summaries.{summaries_of}
-use Rattle.command_answers.specs.Profiled.{experiment_on, label_at, pairs_of, summary_on}
+use Rattle.command_answers.specs.Profiled.{experiment_of_pair, label_at, pairs_of, summary_on}
 use Rattle.program_steps.specs.LineTable.{table_in}
 use Rattle.command_answers.specs.Trial.{IsTrialFile, tenths, trial_file, trial_name, trial_plan, trial_point, trial_profile, trial_program}
 use Rattle.command_answers.specs.Verdict.{Verdict, assembled_verdict, file_verdict, named_verdict, text_verdict, program_verdict, trial_judging, trial_printed, trial_verdict}
 use Rattle.program_steps.proofs.Files.{whole_program}
-use Rattle.command_answers.proofs.Indexed.{indexed}
+use Rattle.program_inputs.proofs.Indexed.{indexed}
 use Rattle.command_answers.proofs.PointLine.{word_found}
 use Rattle.command_answers.proofs.Profiling.{pairs_are, same_profile, summaries_are}
-use Rattle.command_answers.proofs.Faults.{is_memory}
+use Rattle.program_inputs.proofs.Faults.{is_memory}
 
 same_ok : {A E : Type 0} {x y : A} → (let r : Result A E = Ok x in r ≡ Ok y) → x ≡ y
 same_ok e = cc
@@ -236,7 +234,7 @@ label_one lines k text is = sym (get_or_from_slice_get (map label lines) k text 
 
 module _ (image : ImageParts) (index : Index) (points : Points) (point : ℕ) (pairs : List Pair) where
   abbrev on_points : List ℕ → List Pair → List Summary
-  on_points ps all = map (λ pair. summary_on index.lines ps pair (delayed_record (experiment_on (runs_in image index []) 100000000 ps pair))) all
+  on_points ps all = map (λ pair. summary_on index.lines ps pair (delayed_record (experiment_of_pair (runs_in image index []) 100000000 ps pair))) all
 
   pub summaries_of_trial : (summaries : List Summary) → IsPoints index (point ∷ []) points → pairs ≡ trial_plan index.lines
       → summaries ≡ summaries_of image index points [] 100000000 pairs
@@ -254,7 +252,7 @@ module _ (runs : Runs) (lines : List Line) (point : ℕ) where
 
   pub as_many : length (trial_profile runs lines point).summaries ≡ length (trial_plan lines)
   unfolding trial_profile
-  as_many = length-map (trial_plan lines) (λ (pair : Pair). summary_on lines (point ∷ []) pair (delayed_record (experiment_on runs 100000000 (point ∷ []) pair)))
+  as_many = length-map (trial_plan lines) (λ (pair : Pair). summary_on lines (point ∷ []) pair (delayed_record (experiment_of_pair runs 100000000 (point ∷ []) pair)))
 
 -- ---- the verdict
 

@@ -1,10 +1,10 @@
 -- What is known of an answer before it is written.
-use Rattle.std.specs.Prelude.{◌≡◌, ◌⊎◌, ℕ, ◌≤◌, List, Option, None, Some, Result, Ok, Err, IfOk, IfErr}
+use Rattle.std.specs.Prelude.{◌≡◌, ℕ, ◌≤◌, Result, Ok, Err, IfOk, IfErr}
 use Rattle.printed_texts.specs.declared.printed.Printed.{Printed}
 pub use Rattle.printed_texts.specs.Printed.{text_bytes, printed_verdict}
 pub use Rattle.program_steps.specs.Answer.{fault_status, fault_line, fault_verdict, verdict_after, IsReadFault, IsRead, IsMemoryFault, IsMemory, SettlesThen}
 use Rattle.program_steps.specs.declared.fault.Fault.{Fault}
-use Rattle.program_steps.specs.declared.fault.Fault.TheVariants.{Usage, Read, Write, Long, Memory}
+pub use Rattle.program_inputs.specs.Answer.{Names, IsOfRequest}
 use Rattle.coz_words.specs.declared.request.Request.{Request}
 use Rattle.command_answers.specs.Verdict.{Verdict}
 
@@ -16,26 +16,10 @@ Answer = Result Printed Fault
 abbrev pub verdict_of : Answer → Verdict
 verdict_of answer = verdict_after answer printed_verdict
 
--- the path is one of those that a request names: the program's or the source's, or the input's
-abbrev pub Names : Option Request → List ℕ → Type 0
-Names None path = ⊥
-Names (Some asked) path = (path ≡ asked.target) ⊎ (asked.input ≡ Some path)
-
 -- which answers a request may have
 abbrev pub Suits : Request → Answer → Type 0
 Suits asked (Ok printed) = printed.status ≤ 1
-Suits asked (Err Usage) = ⊥
-Suits asked (Err (Read path)) = Names (Some asked) path.now
-Suits asked (Err (Long path)) = Names (Some asked) path.now
-Suits asked (Err Write) = ⊥
-Suits asked (Err _) = Unit {0}
-
--- the faults that the reading of a request's files may have
-abbrev pub IsOfFiles : Request → Fault → Type 0
-IsOfFiles asked (Read path) = Names (Some asked) path.now
-IsOfFiles asked (Long path) = Names (Some asked) path.now
-IsOfFiles asked Memory = Unit {0}
-IsOfFiles asked _ = ⊥
+Suits asked (Err fault) = IsOfRequest asked fault
 
 -- an answer is this verdict's, or that of a read that failed with a counted fault
 abbrev pub Settles : Verdict → ℕ → ℕ → Answer → Type 0

@@ -12,14 +12,14 @@ use Rattle.coz_types.specs.Labels.{Text}
 use Rattle.path_texts.specs.PathText.{events_on, path_text}
 use Rattle.printed_texts.specs.Printed.{ended_verdict}
 use Rattle.program_steps.specs.Verdict.{Verdict, program_verdict}
-use Rattle.command_answers.specs.Experiment.{Runs, choice_of, experiment_by_table}
+use Rattle.program_inputs.specs.Experiment.{Runs, choice_of, experiment_by_table}
 
 -- no line is selected, and there are no points
 abbrev pub plain_run : Runs → ℕ → Experiment Guest
 plain_run runs budget = runs (choice_of None 0 budget) []
 
 -- the text of these events, of which the path is this chain, and of the record that they left,
--- where each address has its line among these
+-- if `line_of` gives each address its line among these
 abbrev pub path_of_run : NetRecord → List Event → List ℕ → (ℕ → Option ℕ) → List Line → Text
 path_of_run run events chain line_of lines =
     path_text run.ending run.time run.retired (events_on events chain) line_of lines

@@ -1,6 +1,6 @@
 -- What a request for latencies asks for: the lines whose visits are arrivals and departures,
 -- the runs at each speedup, and what is printed of them.
-use Rattle.std.specs.Prelude.{ℕ, List, [], ◌∷◌, ◌++◌, Some, None, Option, if◌then◌else◌}
+use Rattle.std.specs.Prelude.{ℕ, List, [], ◌∷◌, ◌++◌, Option, if◌then◌else◌}
 use Rattle.std.specs.List.{list_all}
 use Rattle.machines.specs.Guest.{Experiment}
 use Rattle.machines.specs.Records.{NetRecord, net}
@@ -14,7 +14,7 @@ use Rattle.printed_texts.specs.Printed.{has_exited}
 use Rattle.printed_texts.specs.LatencyText.{latency_text}
 use Rattle.program_steps.specs.Verdict.{Verdict, named_verdict, points_verdict}
 use Rattle.program_steps.specs.Selection.{line_named, lines_named}
-use Rattle.command_answers.specs.Experiment.{Runs}
+use Rattle.program_inputs.specs.Experiment.{Runs}
 
 -- the lines that are points: those of both lists, as they rise and each once
 abbrev pub lines_of_both : List ℕ → List ℕ → List ℕ

@@ -1,4 +1,3 @@
-pub mod Experiment
 pub mod Profiled
 pub mod Trial
 pub mod CriticalPath

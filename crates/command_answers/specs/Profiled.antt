@@ -10,15 +10,15 @@ use Rattle.profile_book.specs.declared.profile.Profile.{Profile}
 use Rattle.run_engine.specs.Choices.{choice_of}
 pub use Rattle.profile_pool.specs.Profiles.{label_at, pairs_of, profile_with, summary_on}
 pub use Rattle.program_steps.specs.Selection.{all_lines}
-use Rattle.command_answers.specs.Experiment.{Runs}
+use Rattle.program_inputs.specs.Experiment.{Runs}
 
 -- the experiment of a pair
-abbrev pub experiment_on : Runs → ℕ → List ℕ → Pair → Experiment Guest
-experiment_on runs budget points pair =
+abbrev pub experiment_of_pair : Runs → ℕ → List ℕ → Pair → Experiment Guest
+experiment_of_pair runs budget points pair =
     runs (choice_of (Some pair.line.0) pair.speedup budget) points
 
 -- the profile of the pairs' delayed runs
 abbrev pub profile_of : Runs → List Line → ℕ → List ℕ → List Pair → Profile
 profile_of runs lines budget points pairs =
-    profile_with (λ pair. delayed_record (experiment_on runs budget points pair))
+    profile_with (λ pair. delayed_record (experiment_of_pair runs budget points pair))
     lines budget points pairs

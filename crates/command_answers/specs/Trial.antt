@@ -12,7 +12,7 @@ use Rattle.profile_book.specs.declared.profile.Profile.{Profile}
 use Rattle.coz_types.specs.declared.TheConstants.{MIN_VERSION}
 use Rattle.command_answers.specs.declared.trial.TheConstants.{BUDGET, SELECTED}
 use Rattle.coz_words.specs.Said.{Text}
-use Rattle.command_answers.specs.Experiment.{Runs}
+use Rattle.program_inputs.specs.Experiment.{Runs}
 use Rattle.command_answers.specs.Profiled.{pairs_of, profile_of}
 use Rattle.printed_texts.specs.TrialText.{trial_lines}
 
@@ -37,7 +37,7 @@ pub record IsTrialFile (source : Source) (file : List ℕ) : Type 0 where
   pub has_point : Contains program.lines source.point
   pub written : file ≡ trial_file program
 
--- the position of the line of the progress point; or the name, where no line is found
+-- the position of the line of the progress point; or the name, if no line is found
 unfoldable pub trial_point : ℕ → List Line → Result ℕ Text
 trial_point point lines = elim (position_named trial_name point lines) [
   | Some line ↦ Ok line

@@ -2,7 +2,6 @@
 -- and a line for the errors.
 use Rattle.std.specs.Prelude.{ℕ, List, [], length, nat_lt, Option, None, Some, Result, Ok, Err, if◌then◌else◌}
 use Rattle.std.specs.List.{list_all}
-use Rattle.command_answers.specs.declared.inputs.TheConstants.{MAX_INPUT}
 use Rattle.asm_tokens.specs.declared.TheConstants.{MAX_SOURCE}
 use Rattle.experiment_plan.specs.declared.experiment.TheConstants.{MAX_PAIRS}
 use Rattle.coz_types.specs.declared.TheConstants.{MAX_PROGRAM}
@@ -22,7 +21,6 @@ use Rattle.machines.specs.Records.{Record, NetRecord, shortened_record}
 use Rattle.machines.specs.Standing.{delayed_record}
 use Rattle.guest_calls.specs.Guest.{Guest}
 use Rattle.line_index.specs.Lines.{Line}
-use Rattle.line_index.specs.Listed.{lines_in}
 use Rattle.experiment_plan.specs.declared.experiment.Experiment.{Experiment as Pair}
 use Rattle.profile_book.specs.Profile.{profile_text}
 use Rattle.profile_reader.specs.declared.TheConstants.{MAX_PROFILE}
@@ -32,7 +30,8 @@ use Rattle.profile_reader.specs.declared.fault.BookFault.{BookFault}
 use Rattle.profile_book.specs.declared.profile.Profile.{Profile as Book}
 use Rattle.printed_texts.specs.Text.{run_text, really_text, lines_text, plot_text}
 use Rattle.program_steps.specs.Selection.{line_named, lines_named}
-use Rattle.command_answers.specs.Experiment.{Runs, choice_of, experiment_by_table}
+use Rattle.program_inputs.specs.Experiment.{choice_of}
+pub use Rattle.program_inputs.specs.Verdict.{Judging, file_verdict, bytes_verdict, files_verdict}
 use Rattle.command_answers.specs.CriticalPath.{path_on}
 use Rattle.program_steps.specs.FaultLines.{source_line, plan_line, book_line}
 use Rattle.command_answers.specs.Profiled.{all_lines, pairs_of, profile_of}
@@ -54,10 +53,6 @@ profile_verdict p = record {
   text = profile_text p;
   line = [];
 }
-
--- of a program's lines and its runs
-abbrev pub Judging : Type 0
-Judging = List Line → Runs → Verdict
 
 -- of an experiment: what `run` prints of it
 abbrev pub run_printed : Experiment Guest → Verdict
@@ -88,27 +83,6 @@ profiled_verdict asked lines runs =
     points_verdict named (λ points.
     plan_verdict (pairs_of selected asked.speedups) (λ pairs.
     profile_verdict (profile_of runs lines asked.budget points pairs)))))
-
--- on a program's file and an input
-abbrev pub file_verdict : Judging → List ℕ → List ℕ → Verdict
-file_verdict next file input =
-    program_verdict file (λ image table.
-    next (lines_in table image.areas) (experiment_by_table image table input))
-
--- of the input, which is empty where none is named
-abbrev pub input_verdict : Option (List ℕ) → Held → (List ℕ → Verdict) → Verdict
-input_verdict None held next = next []
-input_verdict (Some path) held next = read_verdict MAX_INPUT path (file_at held path) next
-
--- of the program and the input that a request names, and of what follows their bytes
-abbrev pub bytes_verdict : Request → Held → (List ℕ → List ℕ → Verdict) → Verdict
-bytes_verdict asked held next =
-    read_verdict MAX_PROGRAM asked.target (file_at held asked.target) (λ file.
-    input_verdict asked.input held (next file))
-
--- of the program and the input that a request names, and of what follows
-abbrev pub files_verdict : Request → Held → Judging → Verdict
-files_verdict asked held next = bytes_verdict asked held (file_verdict next)
 
 -- of the critical path that a request asks for
 abbrev pub path_verdict : Request → Held → Verdict

@@ -9,23 +9,23 @@ ghost use Rattle.machines.specs.Guest.{Experiment};
 ghost use Rattle.guest_calls.specs.Guest.{Guest};
 ghost use Rattle.run_engine.specs.Run.{IsChoice, experiment};
 ghost use Rattle.coz_words.specs.Request.{IsFit};
-ghost use Rattle.command_answers.specs.Experiment.{runs_in, runs_on};
+ghost use Rattle.program_inputs.specs.Experiment.{runs_in, runs_on};
 ghost use Rattle.command_answers.specs.Verdict.{Verdict, asked_verdict, file_verdict, files_verdict, really_printed, run_printed};
 ghost use Rattle.command_answers.specs.Answer.{verdict_of, verdict_after, IsMemory, IsRead, Suits, Settles};
 
 use crate::answer::Answer;
-use crate::inputs::read_inputs;
 use crate::runs::{really_answer, run_answer};
 use coz_files::Files;
 use coz_words::Request;
 use line_index::LineIndex;
+use program_inputs::read_inputs;
 use program_steps::{Fault, Program, bytes_of, line_named, progress_points, read_program};
 use progress_points::Points;
 use std::alloc::Global;
 use virtual_run::Choice;
 
 /// What is written of the delayed run of the program that a request names.
-/// Err is the first fault of the files, the program and its lines, or `Fault::Memory`.
+/// Err is the first fault of the files, the program and its lines, or out of memory.
 pub fn judge_run<'r, F: Files>(alloc: Global, request: &'r Request, files: &mut F) -> Answer<'r>
     requires fit { IsFit request.now }
     requires some_budget { 1 ≤ request.now.budget }
@@ -56,7 +56,7 @@ fn run_of_file<'r>(alloc: Global, file: &[u8], input: &[u8], request: &'r Reques
 }
 
 /// What is written of the shortened run of the program that a request names.
-/// Err is the first fault of the files, the program and its lines, or `Fault::Memory`.
+/// Err is the first fault of the files, the program and its lines, or out of memory.
 pub fn judge_really<'r, F: Files>(alloc: Global, request: &'r Request, files: &mut F) -> Answer<'r>
     requires fit { IsFit request.now }
     requires some_budget { 1 ≤ request.now.budget }

@@ -1,9 +1,15 @@
-//! The command `latency`.
-ghost use Rattle.std.specs.Prelude.{◌≡◌, ◌&&◌, ◌≤◌, ◌<◌, ◌++◌, ℕ, List, length, All, Some, IsSome, IfOk, IfSome, IfNone, if◌then◌else◌};
+//! The command `latency`: how long requests are under way, at each speedup of a line.
+//!
+//! The points are the lines of both lists (`experiment_plan::joined`), and `places_among` finds those
+//! of each list among them. One lead runs to the line's first start. Each speedup is forked from it
+//! onto one machine, which runs to its end. `latency_points::measure` passes each net visit to a
+//! `Flow`, which is closed at the run's net time.
+ghost use Rattle.std.specs.Prelude.{◌≡◌, ◌&&◌, ◌≤◌, ◌<◌, ℕ, List, length, All, Some, IsSome, IfOk, IfSome, IfNone, if◌then◌else◌};
 ghost use Rattle.std.specs.List.{list_all};
 ghost use Rattle.coz_types.specs.declared.LineId.{LineId};
 ghost use Rattle.coz_types.specs.declared.TheConstants.{MAX_BUDGET, MAX_PROGRAM, MAX_SPEEDUP};
 ghost use Rattle.coz_files.specs.Faults.{Rose};
+ghost use Rattle.coz_files.specs.Gathered.{Gathers};
 ghost use Rattle.progress_points.specs.Points.{IsPoints};
 ghost use Rattle.experiment_plan.specs.Selected.{ids};
 ghost use Rattle.latency_points.specs.Moments.{numbers_of};
@@ -11,24 +17,25 @@ ghost use Rattle.run_engine.specs.Run.{IsChoice};
 ghost use Rattle.virtual_run.specs.Lead.{arguments};
 ghost use Rattle.coz_words.specs.Request.{IsFit};
 ghost use Rattle.printed_texts.specs.LatencyText.{latency_text};
-ghost use Rattle.command_answers.specs.Experiment.{Runs, runs_on};
+ghost use Rattle.program_inputs.specs.Experiment.{Runs, runs_on};
 ghost use Rattle.command_answers.specs.Latencies.{latency_printed, latency_verdict, marked_verdict, net_at_each};
 ghost use Rattle.command_answers.specs.Measured.{arguments_of, run_at};
 ghost use Rattle.command_answers.specs.Verdict.{Verdict, file_verdict, files_verdict, has_exited};
 ghost use Rattle.command_answers.specs.Answer.{verdict_of, verdict_after, IsMemory, IsRead, Suits, Settles};
 
 use crate::answer::Answer;
-use crate::inputs::read_inputs;
 use crate::measuring::latency_at;
-use coz_files::Files;
+use coz_files::{Files, PutBuffer, Sink};
 use coz_types::{LineId, PointId};
 use coz_words::Request;
 use experiment_plan::{joined, places_among, rising_speedups};
 use line_index::LineIndex;
-use printed_texts::{Printed, Text, has_exited, push_latency};
+use printed_texts::{Printed, Text, has_exited, put_latency};
+use profile_book::TextWriter;
+use program_inputs::read_inputs;
 use program_steps::{Fault, Program, bytes_of, line_named, listed_lines, points_of, read_program};
 use progress_points::Points;
-use std::alloc::{AllocError, Global};
+use std::alloc::Global;
 use virtual_run::{Choice, Lead, Machine};
 
 /// The points of two lists of lines, and which of them each list names.
@@ -116,37 +123,39 @@ fn both(first: bool, second: bool) -> bool
     first && second
 }
 
-/// Appends the line of the run at each speedup, forked from a lead onto a machine, and gives
-/// whether each run exited. Err: out of memory.
-fn push_latencies<'a>(
-    text: &mut Vec<u8>,
+/// Puts the line of the run at each speedup, forked from a lead onto a machine, and returns
+/// whether each run exited.
+fn put_latencies<'a, O: Sink>(
+    to: &mut PutBuffer,
+    out: &mut O,
     lead: &Lead<'a>,
     machine: &mut Machine<'a>,
     speedups: &[u8],
     arrive: &[PointId],
     depart: &[PointId],
-) -> Result<bool, AllocError>
+) -> bool
     requires small { All (λ speedup. speedup ≤ MAX_SPEEDUP) speedups.now }
     requires arguments { arguments machine.old ≡ arguments lead.now }
-    ensures text { IfOk result (λ _. text.new.items ≡ text.old.items
-        ++ latency_text (numbers_of arrive.now) (numbers_of depart.now)
+    ensures text { Gathers O.holds O.faults out.old out.new to.old to.new
+        (latency_text (numbers_of arrive.now) (numbers_of depart.now)
         (run_at lead.now) speedups.now) }
-    ensures exited { IfOk result (λ all. all
-        ≡ list_all (λ speedup. has_exited (run_at lead.now speedup).ending) speedups.now) }
+    ensures exited { result
+        ≡ list_all (λ speedup. has_exited (run_at lead.now speedup).ending) speedups.now }
 {
     let mut all = true;
     for speedup in speedups {
         let measured = latency_at(lead, machine, *speedup, arrive, depart);
-        push_latency(
-            text,
+        put_latency(
+            to,
+            out,
             *speedup,
             measured.ending,
             measured.net,
             measured.latency,
-        )?;
+        );
         all = both(all, has_exited(measured.ending));
     }
-    Ok(all)
+    all
 }
 
 /// The status of runs: 0 if each exited.
@@ -171,18 +180,20 @@ fn leads_answer<'r, 'a>(
         (run_at lead.old) asked.now.speedups.items }
 {
     lead.run();
-    let mut text = Vec::new(alloc);
-    let all = push_latencies(
-        &mut text,
+    let mut text = TextWriter::new(alloc);
+    let all = put_latencies(
+        &mut text.to,
+        &mut text.out,
         lead,
         machine,
         &asked.speedups,
         &asked.marked.arrive,
         &asked.marked.depart,
-    )?;
+    );
+    let bytes = text.finish()?;
     Ok(Printed {
         status: status_of(all),
-        text: Text::Bytes(text),
+        text: Text::Bytes(bytes),
     })
 }
 
@@ -261,7 +272,7 @@ fn latency_answer<'r>(
 }
 
 /// What is written of the latencies of the program that a request names.
-/// Err is the first fault of the files, the program and its lines, or `Fault::Memory`.
+/// Err is the first fault of the files, the program and its lines, or out of memory.
 pub fn judge_latency<'r, F: Files>(alloc: Global, request: &'r Request, files: &mut F) -> Answer<'r>
     requires fit { IsFit request.now }
     requires line { IsSome request.now.line }

@@ -3,7 +3,6 @@
 
 mod answer;
 mod experiment;
-mod inputs;
 mod latency;
 mod lines;
 mod measuring;

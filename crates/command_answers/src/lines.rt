@@ -1,4 +1,4 @@
-//! The command `lines`.
+//! The command `lines`: reads the program with `read_program`, and makes the text of its lines.
 ghost use Rattle.std.specs.Prelude.{◌≡◌, ◌≤◌, length, IfSome, IfNone};
 ghost use Rattle.coz_types.specs.declared.TheConstants.{MAX_PROGRAM};
 ghost use Rattle.coz_files.specs.Faults.{Rose};
@@ -10,12 +10,13 @@ use crate::answer::Answer;
 use coz_files::Files;
 use coz_types::MAX_PROGRAM;
 use coz_words::Request;
+use file_steps::read_file;
 use printed_texts::{Printed, Text, lines_text};
-use program_steps::{read_file, read_program};
+use program_steps::read_program;
 use std::alloc::Global;
 
 /// What is written of the lines of the program that the request names.
-/// Err is the first fault of the file, the program or its line table, or `Fault::Memory`.
+/// Err is the first fault of the file, the program or its line table, or out of memory.
 pub fn judge_lines<'r, F: Files>(alloc: Global, request: &'r Request, files: &mut F) -> Answer<'r>
     ensures same { F.held files.new ≡ F.held files.old }
     ensures suits { Suits request.now result }

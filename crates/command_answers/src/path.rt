@@ -1,23 +1,30 @@
-//! The command `path`.
+//! The command `path`: the critical path of a run.
+//!
+//! `critical_path::walk` runs `run_engine::Engine` event by event. For each hart it keeps a `Cause`:
+//! the event that began its instruction or its sleep, its own event before, and its ticks of work and
+//! of sleep. `critical_chains::longest` goes back from the last event, and
+//! `path_texts::shares_of_path` adds up the ticks of each line. The text is written without
+//! allocating.
 ghost use Rattle.std.specs.Prelude.{◌≡◌, ◌≤◌, length, IfOk, IfSome, IfNone};
 ghost use Rattle.coz_types.specs.declared.TheConstants.{MAX_PROGRAM};
 ghost use Rattle.coz_files.specs.Faults.{Rose};
 ghost use Rattle.line_index.specs.Index.{position_at};
 ghost use Rattle.critical_chains.specs.declared.TheConstants.{MAX_EVENTS};
 ghost use Rattle.path_texts.specs.PathText.{written_path};
-ghost use Rattle.command_answers.specs.Experiment.{runs_on};
+ghost use Rattle.program_inputs.specs.Experiment.{runs_on};
 ghost use Rattle.command_answers.specs.CriticalPath.{path_on, path_printed, plain_run};
 ghost use Rattle.command_answers.specs.Verdict.{ended_verdict, path_verdict};
 ghost use Rattle.command_answers.specs.Answer.{verdict_of, printed_verdict, IsMemory, IsRead, Suits, Settles};
 
 use crate::answer::Answer;
-use crate::inputs::read_inputs;
 use coz_files::Files;
 use coz_words::Request;
 use critical_path::walk;
+use file_steps::FileFault;
 use line_index::LineIndex;
 use path_texts::{CriticalPath, path_of};
 use printed_texts::{Printed, Text, ending_status};
+use program_inputs::read_inputs;
 use program_steps::{Fault, Program, read_program};
 use run_engine::Choice;
 use std::alloc::{AllocError, Global};
@@ -56,7 +63,7 @@ fn path_of_file<'r>(alloc: Global, file: &[u8], input: &[u8], budget: u64) -> An
         Err(_) => {
             // By one call, since a drop in place is proved part by part.
             drop(program);
-            Err(Fault::Memory)
+            Err(Fault::File(FileFault::Memory))
         }
     }
 }

@@ -1,4 +1,5 @@
-//! The command `plot`.
+//! The command `plot`: reads a profile with `profile_reader::read_profile`, and ranks its curves with
+//! `causal_curves::curves`. Their text is written without allocating.
 ghost use Rattle.std.specs.Prelude.{◌≡◌, IfSome, IfNone};
 ghost use Rattle.coz_files.specs.Faults.{Rose};
 ghost use Rattle.coz_words.specs.declared.command.Command.TheVariants.{Plot};
@@ -9,13 +10,13 @@ use crate::answer::Answer;
 use causal_curves::curves;
 use coz_files::Files;
 use coz_words::Request;
+use file_steps::read_file;
 use printed_texts::{Printed, Text};
 use profile_reader::{MAX_PROFILE, read_profile};
-use program_steps::read_file;
 use std::alloc::Global;
 
 /// What is written of the profile that the request names.
-/// Err is the first fault of the file or of its text, or `Fault::Memory`.
+/// Err is the first fault of the file or of its text, or out of memory.
 pub fn judge_plot<'r, F: Files>(alloc: Global, request: &'r Request, files: &mut F) -> Answer<'r>
     ensures same { F.held files.new ≡ F.held files.old }
     ensures suits { Suits request.now result }

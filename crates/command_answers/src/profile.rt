@@ -11,13 +11,12 @@ ghost use Rattle.progress_points.specs.Points.{IsPoints};
 ghost use Rattle.experiment_plan.specs.declared.experiment.Experiment.{Experiment};
 ghost use Rattle.experiment_plan.specs.Selected.{ids};
 ghost use Rattle.coz_words.specs.Request.{IsFit};
-ghost use Rattle.command_answers.specs.Experiment.{Runs, runs_on};
+ghost use Rattle.program_inputs.specs.Experiment.{Runs, runs_on};
 ghost use Rattle.command_answers.specs.Profiled.{label_at, pairs_of, profile_of};
 ghost use Rattle.command_answers.specs.Verdict.{Verdict, file_verdict, files_verdict, has_exited, plan_verdict, profile_verdict, profiled_verdict};
 ghost use Rattle.command_answers.specs.Answer.{verdict_of, verdict_after, printed_verdict, IsMemory, IsRead, Suits, Settles};
 
 use crate::answer::Answer;
-use crate::inputs::read_inputs;
 use coz_files::{Files, Gate};
 use coz_lists::Items;
 use coz_types::{Ending, Label, LineId, PointId, Summary};
@@ -27,6 +26,7 @@ use line_index::LineIndex;
 use printed_texts::{Printed, Text, has_exited};
 use profile_book::Profile;
 use profile_pool::run_plan;
+use program_inputs::read_inputs;
 use program_steps::{Fault, Program, bytes_of, progress_points, read_program, selected_lines};
 use progress_points::Points;
 use std::alloc::{AllocError, Global};
@@ -203,7 +203,7 @@ fn profile_answer<'r, R: Threads + Sync, G: Gate>(
 }
 
 /// What is written of the profile of the program that a request names.
-/// Err is the first fault of the files, the program, its lines and the plan, or `Fault::Memory`.
+/// Err is the first fault of the files, the program, its lines and the plan, or out of memory.
 pub fn judge_profile<'r, R: Threads + Sync, F: Files, G: Gate>(
     rt: &R,
     alloc: Global,

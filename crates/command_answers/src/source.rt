@@ -1,4 +1,5 @@
-//! The command `asm`.
+//! The command `asm`: reads the source, assembles it with `rv_asm::assemble`, and makes the ELF file
+//! with `image_write::write_elf`.
 ghost use Rattle.std.specs.Prelude.{◌≡◌, ◌≤◌, length, IfSome, IfNone};
 ghost use Rattle.asm_tokens.specs.declared.TheConstants.{MAX_SOURCE};
 ghost use Rattle.coz_files.specs.Faults.{Rose};
@@ -12,14 +13,14 @@ use crate::answer::Answer;
 use asm_tokens::MAX_SOURCE;
 use coz_files::Files;
 use coz_words::Request;
+use file_steps::read_file;
 use image_write::write_elf;
 use printed_texts::{Printed, Text};
-use program_steps::read_file;
 use rv_asm::assemble;
 use std::alloc::Global;
 
 /// What is written of the source that the request names.
-/// Err is the first fault of the file or of the source, or `Fault::Memory`.
+/// Err is the first fault of the file or of the source, or out of memory.
 pub fn judge_source<'r, F: Files>(alloc: Global, request: &'r Request, files: &mut F) -> Answer<'r>
     requires named { IsName request.now.target }
     requires version { IsVersion request.now.dwarf }

@@ -1,4 +1,8 @@
-//! A trial: a program that a number makes, and its profile over some of its lines.
+//! The command `trial`: the profile of a program that a number makes, over some of its lines.
+//!
+//! No file is read. The source of `work_gen::source` is assembled, written as an ELF file in memory,
+//! and read from there with `read_program`, as any program is. `tenths` selects the lines, and
+//! `profile_pool::run_plan` runs the plan. Lengths, digests and the first curve are printed.
 ghost use Rattle.std.specs.Prelude.{◌≡◌, ◌<◌, ◌≤◌, [], ◌∷◌, Ok, All, length, map, IsOk, IfOk, IfErr};
 ghost use Rattle.std.specs.List.{AllByRecursion};
 ghost use Rattle.std.specs.List.Sorted.{IsStrictlySortedBy};
@@ -11,7 +15,7 @@ ghost use Rattle.work_gen.specs.Text.{view};
 ghost use Rattle.work_gen.specs.Accepted.{IsAccepted};
 ghost use Rattle.experiment_plan.specs.Selected.{ids};
 ghost use Rattle.experiment_plan.specs.declared.experiment.Experiment.{Experiment};
-ghost use Rattle.command_answers.specs.Experiment.{runs_on};
+ghost use Rattle.program_inputs.specs.Experiment.{runs_on};
 ghost use Rattle.command_answers.specs.Profiled.{label_at};
 ghost use Rattle.command_answers.specs.declared.trial.TheConstants.{SELECTED};
 ghost use Rattle.command_answers.specs.Trial.{IsTrialFile, tenths, trial_plan, trial_point, trial_profile};
@@ -44,7 +48,7 @@ const SELECTED: u64 = 10;
 
 static SPEEDUPS: [u8; 4] = [0, 25, 50, 75];
 
-/// What each run of a trial is let retire.
+/// The most instructions that each run of a trial retires.
 const BUDGET: u64 = 100_000_000;
 
 /// The program file of a trial's source.
@@ -176,7 +180,7 @@ fn trial_profile<'r, R: Threads + Sync, G: Gate>(
     })
 }
 
-/// What is written of a trial that came to this profile.
+/// What is written of a trial with this profile.
 fn printed_trial<'r>(
     alloc: Global,
     source: &Generated,

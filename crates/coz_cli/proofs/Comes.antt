@@ -1,15 +1,13 @@
 -- What a verdict of 0 or 1 is of: a program and an input that are there, and lines that are named; and what is so of each run of them.
-use Rattle.std.proofs.Common.{◌≡◌, ℕ, ◌≤◌, List, [], length, codes, ◌++◌, Option, Some, None, Result, Ok, Err, true, false, Bool, cond, nat_lt, refl, sym, ap, subst, ◌∙◌, arith}
-use Rattle.std.specs.Io.KnownBytes.{Appends}
-use Rattle.std.specs.List.{All, slice_index_or}
+use Rattle.std.proofs.Common.{◌≡◌, ℕ, ◌≤◌, List, [], length, codes, ◌++◌, Option, Some, None, Result, Ok, Err, true, false, Bool, cond, nat_lt, refl, sym, subst, ◌∙◌, arith}
 use Rattle.std.proofs.lemmas.Bool.{ltb-false}
 use Rattle.coz_types.specs.Image.{ImageParts}
 use Rattle.coz_files.specs.Held.{Held, file_at}
+use Rattle.coz_files.specs.Verdict.{step_verdict}
 use Rattle.elf_load.specs.declared.ElfFault.{ElfFault}
 use Rattle.elf_load.specs.Loaded.{load_answer}
 use Rattle.dwarf_lines.specs.declared.LineFault.{LineFault}
 use Rattle.dwarf_lines.specs.Registers.{Table}
-use Rattle.line_index.specs.Lines.{Line}
 use Rattle.line_index.specs.Listed.{lines_in, position_in}
 use Rattle.experiment_plan.specs.declared.experiment.Experiment.{Experiment as Pair}
 use Rattle.machines.specs.Guest.{Experiment, IsLawful}
@@ -22,24 +20,16 @@ use Rattle.guest_calls.specs.Guest.{Guest}
 use Rattle.guest_calls.specs.Orderly.{IsOrderly}
 use Rattle.guest_calls.proofs.Law.{lawful}
 use Rattle.run_engine.specs.Run.{selected_line, has_selected}
-use Rattle.coz_words.specs.Request.{IsFit, is_runner}
+use Rattle.coz_words.specs.Request.{IsFit}
 use Rattle.coz_words.specs.Said.{Text}
 use Rattle.coz_words.specs.declared.request.Request.{Request}
-use Rattle.coz_words.specs.declared.command.Command.{Command}
-use Rattle.coz_words.specs.declared.command.Command.TheVariants.{Run, Profile, Really}
-use Rattle.coz_words.proofs.Exact.{exact_back}
-use Rattle.coz_words.proofs.Fit.{fit_in}
-use Rattle.coz_words.specs.Slow.{request_of}
 use Rattle.program_steps.specs.LineTable.{table_in}
-use Rattle.program_steps.specs.Selection.{line_named, lines_named}
 use Rattle.progress_points.specs.Points.{point_in}
-use Rattle.command_answers.specs.Experiment.{Runs, choice_of, entries_of, experiment_by_table}
-use Rattle.command_answers.specs.Profiled.{all_lines, experiment_on, pairs_of, profile_of}
+use Rattle.program_inputs.specs.Experiment.{choice_of, entries_of, experiment_by_table}
 use Rattle.program_steps.specs.FaultLines.{plan_line, points_line}
-use Rattle.command_answers.proofs.Profiling.{speedups_small}
-use Rattle.command_answers.specs.Verdict.{Verdict, Judging, refusal, bytes_verdict, command_verdict, program_verdict, read_verdict, input_verdict, files_verdict, asked_verdict, named_verdict, points_verdict, plan_verdict, profile_verdict, profiled_verdict, loaded_verdict, table_verdict, run_verdict, really_verdict}
-use Rattle.coz_cli.specs.Verdict.{verdict, request_verdict}
-use Rattle.coz_cli.specs.Headline.{IsAsked, PrintsRun, PrintsProfile, PrintsReally, PrintsShortened, IsInput}
+use Rattle.command_answers.specs.Verdict.{Verdict, Judging, refusal, bytes_verdict, program_verdict, read_verdict, files_verdict, named_verdict, points_verdict, plan_verdict, loaded_verdict, table_verdict}
+use Rattle.program_inputs.specs.Verdict.{input_verdict}
+use Rattle.coz_cli.specs.Headline.{IsAsked, IsInput}
 
 -- ---- the experiments of a request
 
@@ -125,7 +115,8 @@ module _ (held : Held) (asked : Request) (on_table : OnTable) (v : Verdict) (low
   loaded_comes file input found given (Ok image) program is = table_comes file input image found given program (table_in file) refl is
 
 -- of a file that is there and short enough, the verdict is what follows
-short_enough : (most : ℕ) (path file : List ℕ) (next : List ℕ → Verdict) (long : Bool) → (cond long (refusal 8 (codes "coz: long: " ++ path)) (next file)).status ≤ 1 → cond long (refusal 8 (codes "coz: long: " ++ path)) (next file) ≡ next file
+short_enough : (most : ℕ) (path file : List ℕ) (next : List ℕ → Verdict) (long : Bool) → (step_verdict (λ refused. refused) (cond long (Err (refusal 8 (codes "long: " ++ path))) (Ok file)) next).status ≤ 1
+    → step_verdict (λ refused. refused) (cond long (Err (refusal 8 (codes "long: " ++ path))) (Ok file)) next ≡ next file
 short_enough most path file next true low = absurd (omega arith)
 short_enough most path file next false low = refl
 

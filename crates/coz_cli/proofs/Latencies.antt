@@ -1,5 +1,5 @@
 -- A verdict of 0 or 1 prints the latencies of runs whose net parts are the shortened runs.
-use Rattle.std.proofs.Common.{◌≡◌, ℕ, ◌≤◌, List, [], Option, refl, sym, subst}
+use Rattle.std.proofs.Common.{ℕ, ◌≤◌, List, [], Option, refl, sym, subst}
 use Rattle.std.specs.Io.KnownBytes.{Appends}
 use Rattle.std.specs.List.{All, slice_index_or}
 use Rattle.coz_files.specs.Held.{Held}
@@ -13,7 +13,7 @@ use Rattle.guest_calls.specs.Guest.{Guest}
 use Rattle.coz_words.specs.Request.{IsFit}
 use Rattle.coz_words.specs.declared.request.Request.{Request}
 use Rattle.program_steps.specs.Selection.{line_named, lines_named}
-use Rattle.command_answers.specs.Experiment.{Runs, experiment_by_table}
+use Rattle.program_inputs.specs.Experiment.{Runs, experiment_by_table}
 use Rattle.command_answers.specs.Latencies.{at_each, latency_printed as printed_of, latency_verdict, lines_of_both, marked_verdict, net_at_each, speedups_of}
 use Rattle.command_answers.specs.Verdict.{Verdict, files_verdict, named_verdict}
 use Rattle.command_answers.proofs.LatencySteps.{few_rising}

@@ -17,9 +17,9 @@ use Rattle.critical_chains.specs.Path.{chain_of, weight, Sound}
 use Rattle.critical_chains.proofs.Chains.{sound_of}
 use Rattle.critical_chains.proofs.Heaviest.{none_heavier}
 use Rattle.critical_path.specs.Events.{events_of}
-use Rattle.critical_path.proofs.Followed.{last_due, linked}
+use Rattle.critical_path.proofs.Recorded.{last_due, linked}
 use Rattle.coz_words.specs.declared.request.Request.{Request}
-use Rattle.command_answers.specs.Experiment.{experiment_by_table}
+use Rattle.program_inputs.specs.Experiment.{experiment_by_table}
 use Rattle.command_answers.specs.CriticalPath.{path_of_run, path_printed, plain_run}
 use Rattle.command_answers.specs.Verdict.{Verdict, path_verdict}
 use Rattle.coz_cli.specs.Headline.{PrintsPath}

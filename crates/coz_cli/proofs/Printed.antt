@@ -1,43 +1,27 @@
 -- A verdict of 0 or 1 prints a run whose net part is the shortened run.
-use Rattle.std.proofs.Common.{◌≡◌, ℕ, ◌≤◌, List, [], length, codes, ◌++◌, Option, Some, None, Result, Ok, Err, true, false, Bool, cond, nat_lt, refl, sym, ap, subst, ◌∙◌, arith}
+use Rattle.std.proofs.Common.{◌≡◌, ℕ, ◌≤◌, List, [], Option, Some, refl, sym, ap, subst, ◌∙◌}
 use Rattle.std.specs.Io.KnownBytes.{Appends}
 use Rattle.std.specs.List.{All, slice_index_or}
-use Rattle.std.proofs.lemmas.Bool.{ltb-false}
-use Rattle.coz_types.specs.Image.{ImageParts}
-use Rattle.coz_files.specs.Held.{Held, file_at}
-use Rattle.elf_load.specs.declared.ElfFault.{ElfFault}
-use Rattle.elf_load.specs.Loaded.{load_answer}
-use Rattle.dwarf_lines.specs.declared.LineFault.{LineFault}
-use Rattle.dwarf_lines.specs.Registers.{Table}
+use Rattle.coz_files.specs.Held.{Held}
 use Rattle.line_index.specs.Lines.{Line}
-use Rattle.line_index.specs.Listed.{lines_in, position_in}
+use Rattle.line_index.specs.Listed.{lines_in}
 use Rattle.experiment_plan.specs.declared.experiment.Experiment.{Experiment as Pair}
-use Rattle.machines.specs.Guest.{Experiment, IsLawful}
-use Rattle.machines.specs.Records.{net, IsDelayed, IsShortened, shortened_record}
+use Rattle.machines.specs.Guest.{Experiment}
+use Rattle.machines.specs.Records.{net, IsShortened, shortened_record}
 use Rattle.machines.specs.Standing.{delayed_record}
-use Rattle.machines.proofs.Ends.{record_is}
-use Rattle.machines.proofs.Standing.{delayed_is, net_is}
-use Rattle.guest_memory.specs.Regions.{usual}
 use Rattle.guest_calls.specs.Guest.{Guest}
-use Rattle.guest_calls.specs.Orderly.{IsOrderly}
-use Rattle.guest_calls.proofs.Law.{lawful}
-use Rattle.run_engine.specs.Run.{selected_line, has_selected}
 use Rattle.coz_words.specs.Request.{IsFit, greatest_budget, is_runner}
-use Rattle.coz_words.specs.Said.{Text}
 use Rattle.coz_words.specs.declared.request.Request.{Request}
 use Rattle.coz_words.specs.declared.command.Command.{Command}
 use Rattle.coz_words.specs.declared.command.Command.TheVariants.{Run, Profile, Really, Latency, Path}
 use Rattle.coz_words.proofs.Exact.{exact_back}
 use Rattle.coz_words.proofs.Fit.{fit_in}
 use Rattle.coz_words.specs.Slow.{request_of}
-use Rattle.program_steps.specs.LineTable.{table_in}
 use Rattle.program_steps.specs.Selection.{line_named, lines_named}
-use Rattle.progress_points.specs.Points.{point_in}
-use Rattle.command_answers.specs.Experiment.{Runs, choice_of, entries_of, experiment_by_table}
-use Rattle.command_answers.specs.Profiled.{all_lines, experiment_on, pairs_of, profile_of}
-use Rattle.program_steps.specs.FaultLines.{plan_line, points_line}
+use Rattle.program_inputs.specs.Experiment.{Runs, choice_of, experiment_by_table}
+use Rattle.command_answers.specs.Profiled.{all_lines, experiment_of_pair, pairs_of, profile_of}
 use Rattle.command_answers.proofs.Profiling.{speedups_small}
-use Rattle.command_answers.specs.Verdict.{Verdict, Judging, refusal, command_verdict, read_verdict, input_verdict, file_verdict, files_verdict, asked_verdict, named_verdict, points_verdict, plan_verdict, profile_verdict, profiled_verdict, loaded_verdict, table_verdict, run_verdict, really_verdict}
+use Rattle.command_answers.specs.Verdict.{Verdict, command_verdict, files_verdict, asked_verdict, named_verdict, points_verdict, plan_verdict, profile_verdict, profiled_verdict, run_verdict, really_verdict}
 use Rattle.coz_cli.specs.Verdict.{verdict, request_verdict}
 use Rattle.coz_cli.specs.Headline.{IsAsked, PrintsRun, PrintsProfile, PrintsReally, PrintsLatency, PrintsPath, PrintsShortened}
 use Rattle.coz_cli.proofs.Comes.{IsLike, Found, files_come, few_pairs, few_points, like, like_asked, low_of, named_is}
@@ -90,13 +74,13 @@ module _ (held : Held) (asked : Request) (fit : IsFit asked) (some : 1 ≤ asked
   abbrev runs_on : Runs
   runs_on = experiment_by_table on.image on.table on.input
 
-  pair_like : (pair : Pair) → pair.speedup ≤ 95 → IsLike (experiment_on runs_on asked.budget points pair)
+  pair_like : (pair : Pair) → pair.speedup ≤ 95 → IsLike (experiment_of_pair runs_on asked.budget points pair)
   pair_like pair small = like on.image on.table on.input (Some pair.line.0) pair.speedup asked.budget points small some
 
-  net_shortened : (pair : Pair) → pair.speedup ≤ 95 → IsShortened (experiment_on runs_on asked.budget points pair) (net (delayed_record (experiment_on runs_on asked.budget points pair)))
+  net_shortened : (pair : Pair) → pair.speedup ≤ 95 → IsShortened (experiment_of_pair runs_on asked.budget points pair) (net (delayed_record (experiment_of_pair runs_on asked.budget points pair)))
   net_shortened pair small =
       let like = pair_like pair small in
-      subst (IsShortened (experiment_on runs_on asked.budget points pair)) (sym like.same) like.shortened
+      subst (IsShortened (experiment_of_pair runs_on asked.budget points pair)) (sym like.same) like.shortened
 
 profile_printed : (held : Held) (asked : Request) (before now : Option (List ℕ)) → IsFit asked → 1 ≤ asked.budget
     → (files_verdict asked held (profiled_verdict asked)).status ≤ 1 → Appends before now (files_verdict asked held (profiled_verdict asked)).text → PrintsProfile held asked before now
@@ -139,7 +123,7 @@ profile_printed held asked before now fit some low gained =
         planned = refl;
         few_pairs = planned.0;
       };
-      run = λ pair. delayed_record (experiment_on runs asked.budget points pair);
+      run = λ pair. delayed_record (experiment_of_pair runs asked.budget points pair);
       delayed = λ k d below. (pair_like held asked fit some on points (slice_index_or pairs k d) (small k d below)).delayed;
       shortened = λ k d below. net_shortened held asked fit some on points (slice_index_or pairs k d) (small k d below);
       printed = subst (λ (w : Verdict). Appends before now w.text) planned.1 gained;
@@ -207,6 +191,6 @@ module _ (words : List (List ℕ)) (held : Held) (before now : Option (List ℕ)
       let few : asked.budget ≤ 4000000 = subst (λ (c : Command). asked.budget ≤ greatest_budget c) is fit.budget in
       path_prints held asked before now (fit.some_budget (ap is_runner is)) few (low_of _ _ same low) (gained_as _ same)
 
-  -- where the verdict's status is 0 or 1 and its text was gained, the words' run is printed
+  -- if the verdict's status is 0 or 1 and its text was made, the words' run is printed
   pub prints_shortened : PrintsShortened words held before now
   prints_shortened = record { runs = prints_run; profiles = prints_profile; really = prints_really; latencies = prints_latency; paths = prints_path }

@@ -1,5 +1,5 @@
 -- What the top call leaves, by the answer that its words came to.
-use Rattle.std.proofs.Common.{◌≡◌, ◌≤◌, ℕ, List, Option, Some, None, IfSome, Ok, Err, refl, ap, sym, ◌∙◌, subst, arith, codes, inl, inr}
+use Rattle.std.proofs.Common.{◌≡◌, ◌≤◌, ℕ, List, ◌++◌, Option, Some, None, IfSome, Ok, Err, refl, ap, sym, ◌∙◌, subst, arith, codes, inl, inr}
 use Rattle.std.specs.Prelude.{IfNone, IsSomeAnd, ◌⊎◌}
 use Rattle.std.specs.Io.KnownBytes.{Appends}
 use Rattle.coz_files.specs.Faults.{Rose}
@@ -8,7 +8,8 @@ use Rattle.coz_files.specs.Puts.{AppendsPrefix}
 use Rattle.coz_words.specs.declared.request.Request.{Request}
 use Rattle.printed_texts.specs.declared.printed.Printed.{Printed}
 use Rattle.program_steps.specs.declared.fault.Fault.{Fault}
-use Rattle.program_steps.specs.declared.fault.Fault.TheVariants.{Usage, Program, Lines, Read, Write, NoLine, ManyPoints, Long, ManyExperiments, Memory, Source, Profile}
+use Rattle.file_steps.specs.declared.fault.FileFault.TheVariants.{Usage, Read, Write, Long, Memory}
+use Rattle.program_steps.specs.declared.fault.Fault.TheVariants.{File, Program, Lines, NoLine, ManyPoints, ManyExperiments, Source, Profile}
 use Rattle.coz_words.specs.Slow.{request_of}
 use Rattle.command_answers.specs.Verdict.{Verdict, command_verdict}
 use Rattle.coz_cli.specs.Verdict.{request_verdict, verdict}
@@ -16,7 +17,7 @@ use Rattle.command_answers.specs.Answer.{Answer, IsMemory, IsMemoryFault, IsRead
 use Rattle.coz_cli.specs.Headline.{PrintsForAnyWorkers, PrintsShortened}
 use Rattle.coz_cli.specs.Serve.{IsLine}
 use Rattle.coz_cli.proofs.Printed.{prints_shortened}
-use Rattle.command_answers.proofs.Faults.{memory_status}
+use Rattle.program_inputs.proofs.Faults.{memory_status}
 use Rattle.coz_cli.proofs.Told.{IsOf, told_line}
 use Rattle.coz_cli.proofs.Workers.{printed_alike}
 
@@ -35,16 +36,16 @@ printed_run words held before after printed is gained low =
 
 -- no other fault has the status of a read
 is_read : (fault : Fault) → fault_status fault ≡ 5 → IsReadFault fault
-is_read Usage five = absurd (omega (arith, five))
+is_read (File Usage) five = absurd (omega (arith, five))
 is_read (Program fault) five = absurd (omega (arith, five))
 is_read (Lines fault) five = absurd (omega (arith, five))
-is_read (Read path) five = tt
-is_read Write five = absurd (omega (arith, five))
+is_read (File (Read path)) five = tt
+is_read (File Write) five = absurd (omega (arith, five))
 is_read (NoLine piece) five = absurd (omega (arith, five))
 is_read (ManyPoints count) five = absurd (omega (arith, five))
-is_read (Long path) five = absurd (omega (arith, five))
+is_read (File (Long path)) five = absurd (omega (arith, five))
 is_read (ManyExperiments count) five = absurd (omega (arith, five))
-is_read Memory five = absurd (omega (arith, five))
+is_read (File Memory) five = absurd (omega (arith, five))
 is_read (Source fault) five = absurd (omega (arith, five))
 is_read (Profile fault) five = absurd (omega (arith, five))
 
@@ -56,17 +57,17 @@ module _ (words : List (List ℕ)) (faults now : ℕ) where
   abbrev IsSettled : Option Held → Option Request → Answer → Type 0
   IsSettled told request answer = IfSome told (λ held. (IsMemory answer → ⊥) → Settles (request_verdict request held) faults now answer)
 
-  no_request : (told : Option Held) → IsSettled told None (Err Usage)
+  no_request : (told : Option Held) → IsSettled told None (Err (File Usage))
   no_request None = tt
   no_request (Some held) = λ _. inl refl
 
   pub usage_line : (told : Option Held) → None ≡ request_of words → IsLine 2 words told faults now (codes "coz: usage")
   usage_line told none =
-      told_line 2 words told faults now Usage
+      told_line 2 words told faults now (File Usage)
       (record {
         status_is = refl;
-        of_words = subst (λ request. IsOf request Usage) none refl;
-        settled = subst (λ request. IsSettled told request (Err Usage)) none (no_request told);
+        of_words = subst (λ request. IsOf request (File Usage)) none refl;
+        settled = subst (λ request. IsSettled told request (Err (File Usage))) none (no_request told);
         untold = λ never. absurd never;
       })
 
@@ -83,7 +84,7 @@ module _ (words : List (List ℕ)) (faults now : ℕ) where
   module _ (asked : Request) (makes : Some asked ≡ request_of words) where
     pub fault_told : (told : Option Held) (fault : Fault) → Suits asked (Err fault)
         → IfSome told (λ held. (IsMemory {A = Printed} (Err fault) → ⊥) → Settles (command_verdict asked.command asked held) faults now (Err fault))
-        → (IsReadFault fault → IfNone told (Rose faults now)) → IsLine (fault_status fault) words told faults now (fault_line fault)
+        → (IsReadFault fault → IfNone told (Rose faults now)) → IsLine (fault_status fault) words told faults now (codes "coz: " ++ fault_line fault)
     fault_told told fault suits settled untold =
         told_line (fault_status fault) words told faults now fault
         (record {
@@ -116,7 +117,7 @@ module _ (words : List (List ℕ)) (faults now : ℕ) where
           | inr failed ↦ absurd failed.0
         ]
 
-    -- what was put where a write failed begins the verdict's text
+    -- what was put before a write failed begins the verdict's text
     pub torn : (told before after : Option _) (printed : Printed) (status : ℕ)
         → IfSome told (λ held. (IsMemory {A = Printed} (Ok printed) → ⊥) → Settles (command_verdict asked.command asked held) faults now (Ok printed))
         → AppendsPrefix before after (text_bytes printed.text) → IfSome told (λ held. status ≡ 6 → AppendsPrefix before after (verdict words held).text)

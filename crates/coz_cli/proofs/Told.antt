@@ -1,11 +1,12 @@
 -- What is known of the line of a fault.
-use Rattle.std.proofs.Common.{◌≡◌, ◌≢◌, ◌==◌, false, ◌∙◌, ℕ, List, Option, Some, None, IfSome, Err, refl, sym, ap, ◌⊎◌, inl, inr}
+use Rattle.std.proofs.Common.{◌≡◌, ◌≢◌, ◌==◌, false, ◌∙◌, ℕ, List, ◌++◌, codes, Option, Some, None, IfSome, Err, refl, sym, ap, ◌⊎◌, inl, inr}
 use Rattle.std.specs.Prelude.{IfNone, IsSomeAnd}
 use Rattle.std.proofs.lemmas.Bool.{eqb-false}
 use Rattle.coz_files.specs.Faults.{Rose}
 use Rattle.coz_files.specs.Held.{Held}
 use Rattle.program_steps.specs.declared.fault.Fault.{Fault}
-use Rattle.program_steps.specs.declared.fault.Fault.TheVariants.{Usage, Program, Lines, Read, Write, NoLine, ManyPoints, Long, ManyExperiments, Memory, Source, Profile}
+use Rattle.file_steps.specs.declared.fault.FileFault.TheVariants.{Usage, Read, Write, Long, Memory}
+use Rattle.program_steps.specs.declared.fault.Fault.TheVariants.{File, Program, Lines, NoLine, ManyPoints, ManyExperiments, Source, Profile}
 use Rattle.coz_words.specs.declared.request.Request.{Request}
 use Rattle.command_answers.specs.Answer.{Names}
 use Rattle.coz_words.specs.Slow.{request_of}
@@ -16,14 +17,14 @@ use Rattle.coz_cli.specs.Serve.{IsLine}
 
 -- a fault of the words themselves, or one that suits their request
 abbrev pub IsOf : Option Request → Fault → Type 0
-IsOf None fault = fault ≡ Usage
+IsOf None fault = fault ≡ File Usage
 IsOf (Some asked) fault = Suits asked (Err fault)
 
-names_path : (request : Option Request) (path : _) → IsOf request (Read path) → Names request path.now
+names_path : (request : Option Request) (path : _) → IsOf request (File (Read path)) → Names request path.now
 names_path None path is = let no : ⊥ = cc in absurd no
 names_path (Some asked) path suits = suits
 
-no_write : (request : Option Request) → IsOf request Write → ⊥
+no_write : (request : Option Request) → IsOf request (File Write) → ⊥
 no_write None is = let no : ⊥ = cc in no
 no_write (Some asked) suits = suits
 
@@ -37,10 +38,10 @@ pub record IsKnown (fault : Fault) (status : ℕ) (words : List (List ℕ)) (tol
 module _ (status : ℕ) (words : List (List ℕ)) (told : Option Held) (before now : ℕ) where
   -- a fault that is neither of a read nor out of memory is the verdict's
   of_verdict : (fault : Fault) (o : Option Held) → (IsReadFault fault → ⊥) → (IsMemoryFault fault → ⊥)
-      → IfSome o (λ held. (IsMemoryFault fault → ⊥) → Settles (verdict words held) before now (Err fault)) → IfSome o (λ held. fault_line fault ≡ (verdict words held).line)
+      → IfSome o (λ held. (IsMemoryFault fault → ⊥) → Settles (verdict words held) before now (Err fault)) → IfSome o (λ held. codes "coz: " ++ fault_line fault ≡ codes "coz: " ++ (verdict words held).line)
   of_verdict fault None no_read no_memory settled = tt
   of_verdict fault (Some held) no_read no_memory settled =
-      elim (settled no_memory) [ inl is ↦ ap (λ (v : Verdict). v.line) is | inr failed ↦ absurd (no_read failed.0) ]
+      elim (settled no_memory) [ inl is ↦ ap (λ (v : Verdict). codes "coz: " ++ v.line) is | inr failed ↦ absurd (no_read failed.0) ]
 
   -- the status is that of no other fault
   apart : (fault : Fault) (other : ℕ) → IsKnown fault status words told before now → (fault_status fault == other) ≡ false → status ≢ other
@@ -48,7 +49,7 @@ module _ (status : ℕ) (words : List (List ℕ)) (told : Option Held) (before n
 
   plain : (fault : Fault) → IsKnown fault status words told before now
       → (fault_status fault == 2) ≡ false → (fault_status fault == 5) ≡ false → (fault_status fault == 6) ≡ false → (fault_status fault == 10) ≡ false
-      → (IsReadFault fault → ⊥) → (IsMemoryFault fault → ⊥) → IsLine status words told before now (fault_line fault)
+      → (IsReadFault fault → ⊥) → (IsMemoryFault fault → ⊥) → IsLine status words told before now (codes "coz: " ++ fault_line fault)
   plain fault k two five six ten no_read no_memory = record {
     usage = λ is. absurd (apart fault 2 k two is);
     write = λ is. absurd (apart fault 6 k six is);
@@ -59,43 +60,43 @@ module _ (status : ℕ) (words : List (List ℕ)) (told : Option Held) (before n
   }
 
   -- a read that failed with a counted fault, or the path that has no file
-  absent_by : (path : _) (o : Option Held) → IfNone o (Rose before now) → IfSome o (λ held. (IsMemoryFault (Read path) → ⊥) → Settles (verdict words held) before now (Err (Read path)))
-      → Rose before now ⊎ IsSomeAnd o (λ held. fault_line (Read path) ≡ (verdict words held).line)
+  absent_by : (path : _) (o : Option Held) → IfNone o (Rose before now) → IfSome o (λ held. (IsMemoryFault (File (Read path)) → ⊥) → Settles (verdict words held) before now (Err (File (Read path))))
+      → Rose before now ⊎ IsSomeAnd o (λ held. codes "coz: " ++ fault_line (File (Read path)) ≡ codes "coz: " ++ (verdict words held).line)
   absent_by path None untold settled = inl untold
   absent_by path (Some held) untold settled =
-      elim (settled (λ no. no)) [ inl is ↦ inr (ap (λ (v : Verdict). v.line) is) | inr failed ↦ inl failed.1 ]
+      elim (settled (λ no. no)) [ inl is ↦ inr (ap (λ (v : Verdict). codes "coz: " ++ v.line) is) | inr failed ↦ inl failed.1 ]
 
-  pub told_line : (fault : Fault) → IsKnown fault status words told before now → IsLine status words told before now (fault_line fault)
-  told_line Usage k = record {
+  pub told_line : (fault : Fault) → IsKnown fault status words told before now → IsLine status words told before now (codes "coz: " ++ fault_line fault)
+  told_line (File Usage) k = record {
     usage = λ is. refl;
-    write = λ is. absurd (apart Usage 6 k refl is);
-    memory = λ is. absurd (apart Usage 10 k refl is);
-    read = λ is. absurd (apart Usage 5 k refl is);
-    absent = λ is. absurd (apart Usage 5 k refl is);
-    verdict = λ of. of_verdict Usage told (λ no. no) (λ no. no) k.settled;
+    write = λ is. absurd (apart (File Usage) 6 k refl is);
+    memory = λ is. absurd (apart (File Usage) 10 k refl is);
+    read = λ is. absurd (apart (File Usage) 5 k refl is);
+    absent = λ is. absurd (apart (File Usage) 5 k refl is);
+    verdict = λ of. of_verdict (File Usage) told (λ no. no) (λ no. no) k.settled;
   }
-  told_line (Read path) k = record {
-    usage = λ is. absurd (apart (Read path) 2 k refl is);
-    write = λ is. absurd (apart (Read path) 6 k refl is);
-    memory = λ is. absurd (apart (Read path) 10 k refl is);
+  told_line (File (Read path)) k = record {
+    usage = λ is. absurd (apart (File (Read path)) 2 k refl is);
+    write = λ is. absurd (apart (File (Read path)) 6 k refl is);
+    memory = λ is. absurd (apart (File (Read path)) 10 k refl is);
     read = λ is. (path.now, names_path (request_of words) path k.of_words, refl);
     absent = λ is. absent_by path told (k.untold tt) k.settled;
     verdict = λ of. absurd (of.no_read k.status_is);
   }
-  told_line Write k = absurd (no_write (request_of words) k.of_words)
-  told_line Memory k = record {
-    usage = λ is. absurd (apart Memory 2 k refl is);
-    write = λ is. absurd (apart Memory 6 k refl is);
+  told_line (File Write) k = absurd (no_write (request_of words) k.of_words)
+  told_line (File Memory) k = record {
+    usage = λ is. absurd (apart (File Memory) 2 k refl is);
+    write = λ is. absurd (apart (File Memory) 6 k refl is);
     memory = λ is. refl;
-    read = λ is. absurd (apart Memory 5 k refl is);
-    absent = λ is. absurd (apart Memory 5 k refl is);
+    read = λ is. absurd (apart (File Memory) 5 k refl is);
+    absent = λ is. absurd (apart (File Memory) 5 k refl is);
     verdict = λ of. absurd (of.no_memory k.status_is);
   }
   told_line (Program fault) k = plain (Program fault) k refl refl refl refl (λ no. no) (λ no. no)
   told_line (Lines fault) k = plain (Lines fault) k refl refl refl refl (λ no. no) (λ no. no)
   told_line (NoLine piece) k = plain (NoLine piece) k refl refl refl refl (λ no. no) (λ no. no)
   told_line (ManyPoints count) k = plain (ManyPoints count) k refl refl refl refl (λ no. no) (λ no. no)
-  told_line (Long path) k = plain (Long path) k refl refl refl refl (λ no. no) (λ no. no)
+  told_line (File (Long path)) k = plain (File (Long path)) k refl refl refl refl (λ no. no) (λ no. no)
   told_line (ManyExperiments count) k = plain (ManyExperiments count) k refl refl refl refl (λ no. no) (λ no. no)
   told_line (Source fault) k = plain (Source fault) k refl refl refl refl (λ no. no) (λ no. no)
   told_line (Profile fault) k = plain (Profile fault) k refl refl refl refl (λ no. no) (λ no. no)

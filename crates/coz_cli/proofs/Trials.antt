@@ -9,7 +9,7 @@ use Rattle.program_steps.specs.declared.fault.Fault.{Fault}
 use Rattle.coz_words.specs.Slow.{request_of}
 use Rattle.command_answers.specs.Answer.{Answer, IsMemory, IsOfTrial, IsRead, IsReadFault, Settles, Suits}
 use Rattle.command_answers.specs.Verdict.{Verdict, command_verdict, trial_verdict}
-use Rattle.command_answers.proofs.Faults.{memory_is}
+use Rattle.program_inputs.proofs.Faults.{memory_is}
 use Rattle.coz_cli.specs.Serve.{AskTrial}
 
 pub trial_suits : (asked : Request) (v : Verdict) (answer : Answer) → IsOfTrial v answer → Suits asked answer

@@ -28,7 +28,7 @@ alike words others held asks =
     ∙ same_command asks.asked.command asks.asked asks.workers held
     ∙ ap (λ (request : Option Request). request_verdict request held) (sym asks.those)
 
--- where a status is above a run's, nothing is said of the output
+-- if a status is above a run's, nothing is said of the output
 pub not_printed : (words : List (List ℕ)) (told before after : _) (status : ℕ) → 2 ≤ status → IfSome told (λ held. PrintsForAnyWorkers words held status before after)
 not_printed words None before after status high = tt
 not_printed words (Some held) before after status high =

@@ -1,7 +1,7 @@
 -- The main theorem. For every program, input, selected line and speedup:
---     net (what is printed of the delayed run) = the record of the shortened run,
--- where `net` subtracts from each time the global delay at that time, and the shortened run has a
--- selected line that really costs less, and no delays. For any number of workers the printed bytes
+--     net (what is printed of the delayed run) = the record of the shortened run.
+-- `net` subtracts from each time the global delay at that time. In the shortened run the selected
+-- line really costs less, and there are no delays. For any number of workers the printed bytes
 -- are those of one worker.
 -- Read machines/specs first: Delayed.antt and Shortened.antt (the two machines), then Records.antt
 -- (`net`, `IsDelayed`, `IsShortened`), then the records below, each of which is one command.
@@ -31,15 +31,15 @@ use Rattle.coz_words.specs.declared.command.Command.TheVariants.{Run, Really, Pr
 use Rattle.coz_words.specs.Slow.{request_of}
 use Rattle.program_steps.specs.LineTable.{table_in}
 use Rattle.program_steps.specs.Selection.{line_named, lines_named}
-use Rattle.command_answers.specs.Experiment.{Runs, choice_of, experiment_by_table}
+use Rattle.program_inputs.specs.Experiment.{Runs, choice_of, experiment_by_table}
 use Rattle.command_answers.specs.CriticalPath.{path_of_run, plain_run}
-use Rattle.command_answers.specs.Profiled.{all_lines, experiment_on, pairs_of, profile_with}
+use Rattle.command_answers.specs.Profiled.{all_lines, experiment_of_pair, pairs_of, profile_with}
 use Rattle.command_answers.specs.Latencies.{at_each, lines_of_both, speedups_of}
 use Rattle.printed_texts.specs.LatencyText.{latency_text}
 use Rattle.printed_texts.specs.Text.{run_text, really_text}
 use Rattle.coz_cli.specs.Verdict.{verdict}
 
--- the bytes of the input that is named, and none where none is
+-- the bytes of the input that is named, and none if none is
 abbrev pub IsInput : Held → Option (List ℕ) → List ℕ → Type 0
 IsInput held None input = input ≡ []
 IsInput held (Some path) input = file_at held path ≡ Some input
@@ -120,9 +120,9 @@ pub record PrintsProfile (held : Held) (asked : Request)
   pub is_planned : IsPlanned held asked runs lines points pairs
   pub run : Pair → Record
   pub delayed : All (λ pair.
-      IsDelayed (experiment_on runs asked.budget points pair) (run pair)) pairs
+      IsDelayed (experiment_of_pair runs asked.budget points pair) (run pair)) pairs
   pub shortened : All (λ pair.
-      IsShortened (experiment_on runs asked.budget points pair) (net (run pair))) pairs
+      IsShortened (experiment_of_pair runs asked.budget points pair) (net (run pair))) pairs
   pub printed : Appends before now (profile_text (profile_with run lines asked.budget points pairs))
 
 -- The run that a request for a critical path asks for: its path names a file that is a program

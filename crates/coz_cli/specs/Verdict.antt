@@ -1,5 +1,5 @@
 -- What the arguments give, with the files that the paths hold: a status, a text for the output
--- and a line for the errors.
+-- and a line for the errors, behind the program's name.
 use Rattle.std.specs.Prelude.{ℕ, List, codes, Option, None, Some}
 use Rattle.coz_files.specs.Held.{Held}
 use Rattle.coz_words.specs.declared.request.Request.{Request}
@@ -9,7 +9,7 @@ use Rattle.command_answers.specs.Verdict.{command_verdict}
 
 -- of what the words ask for
 abbrev pub request_verdict : Option Request → Held → Verdict
-request_verdict None held = refusal 2 (codes "coz: usage")
+request_verdict None held = refusal 2 (codes "usage")
 request_verdict (Some asked) held = command_verdict asked.command asked held
 
 abbrev pub verdict : List (List ℕ) → Held → Verdict

@@ -2,6 +2,7 @@
 #![tactic(auto)]
 
 mod answer;
+mod fault_line;
 mod top;
 
 pub use top::serve;

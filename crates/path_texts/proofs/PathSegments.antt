@@ -10,7 +10,7 @@ use Rattle.path_texts.specs.declared.texts.Segment.{Segment}
 use Rattle.path_texts.specs.PathText.{first_segment, next_segment, segments_from, segments_of, segment_line, events_on}
 use Rattle.path_texts.specs.Segments.{after, closed}
 
--- one more, where an event ends a segment
+-- one more, if an event ends a segment
 abbrev pub ends : Segment → Event → ℕ
 ends s e = if e.hart.0 == s.hart.0 then 0 else 1
 
@@ -32,7 +32,7 @@ count_step s e es = count_by (e.hart.0 == s.hart.0) s e es
 text_step : (s : Segment) (e : Event) (es : List Event) → flat_map segment_line (segments_from s (e ∷ es)) ≡ closed s e ++ flat_map segment_line (segments_from (after s e) es)
 text_step s e es = text_by (e.hart.0 == s.hart.0) s e es
 
--- the events from one place on
+-- the events from one index on
 on_from : (events : List Event) (chain : List ℕ) (i : ℕ) → i < length chain → events_on events (drop i chain) ≡ event_at events (get_or chain i 0) ∷ events_on events (drop (i + 1) chain)
 on_from events chain i below =
     ap (events_on events) (drop-cons chain i 0 below ∙ ap (λ (j : ℕ). get_or chain i 0 ∷ drop j chain) (sym (add-one i)))

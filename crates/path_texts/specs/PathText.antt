@@ -1,13 +1,13 @@
 -- What `path` prints: the segments of a critical path, which are its maximal runs on one hart,
 -- how much of it each line has, and how long it slept.
-use Rattle.std.specs.Prelude.{ℕ, Bool, false, ◌==◌, nat_lt, List, [], ◌∷◌, ◌++◌, length, map, flat_map, get_or, sum_by, Option, Some, None, is_none, if◌then◌else◌, codes, decimal}
+use Rattle.std.specs.Prelude.{ℕ, Bool, false, ◌==◌, nat_lt, List, [], ◌∷◌, ◌++◌, length, map, flat_map, get_or, sum_by, Option, Some, None, is_none, if◌then◌else◌, codes}
 use Rattle.std.specs.List.{filter, range_with_len}
 use Rattle.std.specs.Ordering.{is_lt, nat_cmp}
-use Rattle.coz_types.specs.Endings.{ending_text}
 use Rattle.coz_types.specs.Labels.{Text}
 use Rattle.coz_types.specs.declared.ending.Ending.{Ending}
 use Rattle.line_index.specs.Lines.{Line, label}
 use Rattle.line_index.specs.Index.{Index}
+use Rattle.profile_book.specs.Pieces.{named, number_line, end_line}
 use Rattle.profile_lists.specs.Sorted.{sorted_by}
 use Rattle.critical_chains.specs.declared.event.Event.{Event}
 use Rattle.critical_chains.specs.Path.{event_at}
@@ -81,10 +81,6 @@ by_text Start = codes "start"
 by_text Clone = codes "clone"
 by_text Wake = codes "wake"
 
--- a name and a number
-abbrev pub named : Text → ℕ → Text
-named name n = name ++ decimal n
-
 abbrev pub segment_line : Segment → Text
 segment_line s = named (codes "segment ") s.hart.0
     ++ named (codes " from ") s.start
@@ -99,16 +95,12 @@ abbrev pub share_line : List Line → Share → Text
 share_line lines s =
     (codes "share " ++ name_at lines s.line) ++ named (codes " ") s.ticks ++ codes "\n"
 
--- a name and a number on a line
-abbrev pub number_line : Text → ℕ → Text
-number_line name n = named name n ++ codes "\n"
-
--- the same, unless the number is 0
+-- a name and a number on a line, unless the number is 0
 abbrev pub amount_line : Text → ℕ → Text
 amount_line name n = if n == 0 then [] else number_line name n
 
 abbrev pub head_lines : Ending → ℕ → ℕ → ℕ → Text
-head_lines ending net retired segments = codes "end " ++ ending_text ending ++ codes "\n"
+head_lines ending net retired segments = end_line ending
     ++ number_line (codes "net ") net
     ++ number_line (codes "retired ") retired
     ++ number_line (codes "segments ") segments
@@ -126,7 +118,7 @@ path_lines ending net retired path lines shares none sleep =
     ++ flat_map segment_line (segments_of path)
     ++ share_lines lines shares none sleep
 
--- what `path` prints of it, where each address has its line among these
+-- what `path` prints of it, if each address has its line among these
 unfoldable pub path_text : Ending → ℕ → ℕ → List Event → (ℕ → Option ℕ) → List Line → Text
 path_text ending net retired path line_of lines =
     path_lines ending net retired path lines (shares_of line_of (length lines) path)

@@ -5,7 +5,7 @@ use Rattle.critical_chains.specs.declared.event.Event.{Event}
 use Rattle.path_texts.specs.declared.texts.Segment.{Segment}
 use Rattle.path_texts.specs.PathText.{next_segment, segment_line}
 
--- the segment that an event is in, where the one ahead of it is in this one
+-- the segment that an event is in, if the one ahead of it is in this one
 abbrev pub after : Segment → Event → Segment
 after s e = if e.hart.0 == s.hart.0 then record s { end = e.due } else next_segment s e
 

@@ -45,7 +45,7 @@ pub struct Sums {
     pub sleep: Tick,
 }
 
-/// Stands where there is no event.
+/// What stands in place of an event if there is none.
 const NO_EVENT: Event = Event {
     hart: HartId(0),
     address: 0,
@@ -86,15 +86,15 @@ pub struct Found {
     line: Option<u32>,
 }
 
-/// The place of an address among those that are kept: instructions are four bytes apart.
-fn place_of(address: Address) -> usize
+/// The slot of an address among those that are kept: instructions are four bytes apart.
+fn slot_of(address: Address) -> usize
     ensures { result < KEPT_ADDRESSES }
 {
     (address / 4 % KEPT_ADDRESSES) as usize
 }
 
-/// The position of the line of an address, which is looked up in the index only where another
-/// address stands at its place.
+/// The position of the line of an address, which is looked up in the index only if another
+/// address is in its slot.
 fn line_of(index: &LineIndex, found: &mut Vec<Found>, address: Address) -> Option<u32>
     requires room { length found.old.items ≡ KEPT_ADDRESSES }
     requires right { All (IsFound (position_at index.now)) found.old.items }
@@ -102,12 +102,12 @@ fn line_of(index: &LineIndex, found: &mut Vec<Found>, address: Address) -> Optio
     ensures room { length found.new.items ≡ KEPT_ADDRESSES }
     ensures right { All (IsFound (position_at index.now)) found.new.items }
 {
-    let place = place_of(address);
-    if found[place].address == address {
-        return found[place].line;
+    let slot = slot_of(address);
+    if found[slot].address == address {
+        return found[slot].line;
     }
     let line = position_of(index, address);
-    found[place] = Found { address, line };
+    found[slot] = Found { address, line };
     line
 }
 

@@ -4,7 +4,6 @@ ghost use Rattle.coz_files.specs.Gathered.{Gathers};
 ghost use Rattle.coz_files.specs.Puts.{Puts};
 ghost use Rattle.line_index.specs.Index.{position_at};
 ghost use Rattle.critical_chains.specs.Path.{event_at, last_of, chain_of, Linked};
-ghost use Rattle.path_texts.specs.PathText.{number_line};
 ghost use Rattle.path_texts.specs.PathText.{amount_line, by_text, events_on, first_segment, handover, head_lines, name_at, path_text, segment_line, segments_of, share_line, share_lines, written_path};
 ghost use Rattle.path_texts.specs.Segments.{after, closed};
 
@@ -13,7 +12,7 @@ use coz_files::{PutAnswer, PutBuffer, Sink};
 use coz_types::{HartId, LineId, Tick};
 use critical_chains::{Event, Trace, longest};
 use line_index::LineIndex;
-use profile_book::{put_ending, put_field, put_number};
+use profile_book::{put_end, put_field, put_line, put_number};
 use std::alloc::{AllocError, Global};
 
 /// How a hart came to carry a path.
@@ -85,7 +84,7 @@ fn taken_by(event: &Event) -> Handover
     }
 }
 
-/// The segment that an event is in, where the one ahead of it is in this one.
+/// The segment that an event is in, if the one ahead of it is in this one.
 fn after(segment: Segment, event: &Event) -> Segment
     ensures { result ≡ after segment event.now }
 {
@@ -239,18 +238,8 @@ fn put_amount<O: Sink>(to: &mut PutBuffer, out: &mut O, name: &[u8], number: u64
         (amount_line name.now number) }
 {
     if number > 0 {
-        put_number(to, out, name, number);
-        to.push(out, b"\n");
+        put_line(to, out, name, number);
     }
-}
-
-/// A line of a name and a number.
-fn put_line<O: Sink>(to: &mut PutBuffer, out: &mut O, name: &[u8], number: u64)
-    ensures { Gathers O.holds O.faults out.old out.new to.old to.new
-        (number_line name.now number) }
-{
-    put_number(to, out, name, number);
-    to.push(out, b"\n");
 }
 
 /// The lines ahead of the segments, of which there are this many.
@@ -258,9 +247,7 @@ fn put_head<O: Sink>(to: &mut PutBuffer, out: &mut O, path: &CriticalPath, segme
     ensures { Gathers O.holds O.faults out.old out.new to.old to.new
         (head_lines path.now.trace.ending path.now.net (length path.now.trace.events) segments) }
 {
-    to.push(out, b"end ");
-    put_ending(to, out, path.trace.ending);
-    to.push(out, b"\n");
+    put_end(to, out, path.trace.ending);
     put_line(to, out, b"net ", path.net);
     put_line(to, out, b"retired ", path.trace.events.len() as u64);
     put_line(to, out, b"segments ", segments);

@@ -1,5 +1,6 @@
 -- The text of an index of a program's table is that of the table.
-use Rattle.std.proofs.Common.{◌≡◌, ℕ, zero, suc, ◌+◌, List, [], ◌∷◌, ◌++◌, map, drop, refl, sym, ap, ap₂, ◌∙◌, codes, Some, append_assoc, add-one}
+use Rattle.std.proofs.Common.{◌≡◌, ◌≤◌, ℕ, zero, suc, ◌+◌, List, [], ◌∷◌, ◌++◌, length, map, take, refl, sym, subst, ap, ap₂, ◌∙◌, codes, Some, append_assoc, add-one, arith}
+use Rattle.std.proofs.lemmas.List.{append-nil}
 use Rattle.std.specs.Prelude.{slice_get}
 use Rattle.std.specs.List.{flat_map}
 use Rattle.coz_types.specs.declared.image.Area.{Area}
@@ -8,7 +9,8 @@ use Rattle.line_index.specs.Lines.{Line, label}
 use Rattle.line_index.specs.Index.{Index, IsIndex}
 use Rattle.line_index.specs.Listed.{lines_in, entries_in}
 use Rattle.line_index.proofs.Listed.{lines_are, entries_are}
-use Rattle.printed_texts.specs.Text.{line_text, labelled_text, number_line, lines_text}
+use Rattle.profile_book.specs.Pieces.{number_line}
+use Rattle.printed_texts.specs.Text.{line_text, labelled_text, lines_text}
 use Rattle.printed_texts.specs.LinesText.{each_text, index_text, HasLine}
 
 -- lines and the entries of each, side by side
@@ -22,26 +24,31 @@ listed table areas index is =
     ap (λ (text : List ℕ). number_line (codes "skipped ") table.skipped ++ text)
     (ap₂ each_text (lines_are is) (entries_are is) ∙ sides (entries_in table areas) (lines_in table areas))
 
--- the lines from a position on are the one there and those after it
+-- the lines up to a position, and the one there
 each_step : (lines : List Line) (entries : List (List ℕ)) (k : ℕ) (l : Line) (es : List ℕ) → slice_get lines k ≡ Some l → slice_get entries k ≡ Some es
-    → each_text (drop k lines) (drop k entries) ≡ line_text l es ++ each_text (drop (suc k) lines) (drop (suc k) entries)
+    → each_text (take k lines) (take k entries) ++ line_text l es ≡ each_text (take (suc k) lines) (take (suc k) entries)
 each_step [] entries k l es is are = let no : ⊥ = cc in absurd no
 each_step (line ∷ lines) [] k l es is are = let no : ⊥ = cc in absurd no
 each_step (line ∷ lines) (e ∷ entries) zero l es is are =
-    let same : line ≡ l = cc in
-    let same_es : e ≡ es = cc in
-    ap₂ (λ (m : Line) (fs : List ℕ). line_text m fs ++ each_text lines entries) same same_es
-each_step (line ∷ lines) (e ∷ entries) (suc k) l es is are = each_step lines entries k l es is are
+    let same : l ≡ line = cc in
+    let same_es : es ≡ e = cc in
+    ap₂ line_text same same_es ∙ sym (append-nil (line_text line e))
+each_step (line ∷ lines) (e ∷ entries) (suc k) l es is are =
+    append_assoc (line_text line e) (each_text (take k lines) (take k entries)) (line_text l es)
+    ∙ ap (λ (text : List ℕ). line_text line e ++ text) (each_step lines entries k l es is are)
 
-pub one_more : (index : Index) (k : ℕ) (old new whole : List ℕ) → HasLine index k old new → old ++ each_text (drop k index.lines) (drop k index.entries) ≡ whole
-    → new ++ each_text (drop (k + 1) index.lines) (drop (k + 1) index.entries) ≡ whole
-one_more index k old new whole has so_far =
-    let step = each_step index.lines index.entries k has.line has.addresses has.is_line has.are_entries in
-    ap (λ (n : ℕ). new ++ each_text (drop n index.lines) (drop n index.entries)) (add-one k)
-    ∙ ap (λ (text : List ℕ). text ++ each_text (drop (suc k) index.lines) (drop (suc k) index.entries)) has.pushed
-    ∙ append_assoc old (line_text has.line has.addresses) (each_text (drop (suc k) index.lines) (drop (suc k) index.entries))
-    ∙ ap (λ (text : List ℕ). old ++ text) (sym step)
-    ∙ so_far
+pub each_more : (lines : List Line) (entries : List (List ℕ)) (k : ℕ) (l : Line) (es : List ℕ) → slice_get lines k ≡ Some l → slice_get entries k ≡ Some es
+    → each_text (take k lines) (take k entries) ++ line_text l es ≡ each_text (take (k + 1) lines) (take (k + 1) entries)
+each_more lines entries k l es is are =
+    each_step lines entries k l es is are ∙ ap (λ (n : ℕ). each_text (take n lines) (take n entries)) (sym (add-one k))
+
+-- the lines up to a position after the last are all
+pub each_whole : (lines : List Line) (entries : List (List ℕ)) (k : ℕ) → length lines ≤ k → each_text (take k lines) (take k entries) ≡ each_text lines entries
+each_whole [] entries zero le = refl
+each_whole [] entries (suc k) le = refl
+each_whole (line ∷ lines) entries zero le = let no : ⊥ = omega arith in absurd no
+each_whole (line ∷ lines) [] (suc k) le = refl
+each_whole (line ∷ lines) (e ∷ entries) (suc k) le = ap (λ (text : List ℕ). line_text line e ++ text) (each_whole lines entries k (omega arith))
 
 -- the line of a label
 record IsLabelled (lines : List Line) (k : ℕ) (text : List ℕ) : Type 0 where
@@ -54,14 +61,14 @@ labelled [] k text is = let no : ⊥ = cc in absurd no
 labelled (line ∷ lines) zero text is = record { line = line; is = refl; same = cc }
 labelled (line ∷ lines) (suc k) text is = let rest = labelled lines k text is in record { line = rest.line; is = rest.is; same = rest.same }
 
-pub has_line : (index : Index) (k : ℕ) (text addresses old new : List ℕ) → slice_get (map label index.lines) k ≡ Some text → slice_get index.entries k ≡ Some addresses
-    → new ≡ old ++ labelled_text text addresses → HasLine index k old new
-has_line index k text addresses old new named are pushed =
+pub has_line : {IsPut : List ℕ → Type 0} (index : Index) (k : ℕ) (text addresses : List ℕ) → slice_get (map label index.lines) k ≡ Some text → slice_get index.entries k ≡ Some addresses
+    → IsPut (labelled_text text addresses) → HasLine index k IsPut
+has_line {IsPut = IsPut} index k text addresses named are put =
     let l = labelled index.lines k text named in
     record {
       line = l.line;
       addresses = addresses;
       is_line = l.is;
       are_entries = are;
-      pushed = pushed ∙ ap (λ (t : List ℕ). old ++ labelled_text t addresses) (sym l.same);
+      put = subst (λ (t : List ℕ). IsPut (labelled_text t addresses)) (sym l.same) put;
     }

@@ -2,7 +2,8 @@
 use Rattle.std.specs.Prelude.{◌≡◌, ℕ, List, [], ◌∷◌, ◌++◌, codes, slice_get, Some}
 use Rattle.line_index.specs.Lines.{Line}
 use Rattle.line_index.specs.Index.{Index}
-use Rattle.printed_texts.specs.Text.{line_text, number_line}
+use Rattle.profile_book.specs.Pieces.{number_line}
+use Rattle.printed_texts.specs.Text.{line_text}
 
 -- of each line with its entries
 abbrev pub each_text : List Line → List (List ℕ) → List ℕ
@@ -14,10 +15,10 @@ abbrev pub index_text : ℕ → Index → List ℕ
 index_text skipped index =
     number_line (codes "skipped ") skipped ++ each_text index.lines index.entries
 
--- a text has got the line at this position, with its entries
-pub record HasLine (index : Index) (k : ℕ) (old new : List ℕ) : Type 0 where
+-- the line at this position was put, with its entries
+pub record HasLine (index : Index) (k : ℕ) (IsPut : List ℕ → Type 0) : Type 0 where
   pub line : Line
   pub addresses : List ℕ
   pub is_line : slice_get index.lines k ≡ Some line
   pub are_entries : slice_get index.entries k ≡ Some addresses
-  pub pushed : new ≡ old ++ line_text line addresses
+  pub put : IsPut (line_text line addresses)

@@ -1,7 +1,7 @@
 -- The printed texts.
-use Rattle.std.specs.Prelude.{ℕ, ◌+◌, ◌-◌, List, [], ◌∷◌, ◌++◌, length, codes, decimal}
+use Rattle.std.specs.Prelude.{ℕ, ◌+◌, ◌-◌, List, [], ◌∷◌, ◌++◌, length, codes}
 use Rattle.std.specs.List.{flat_map}
-use Rattle.coz_types.specs.Endings.{address_text, ending_text}
+use Rattle.coz_types.specs.Endings.{address_text}
 use Rattle.coz_types.specs.declared.image.Area.{Area}
 use Rattle.machines.specs.Delayed.{Account, Visit}
 use Rattle.machines.specs.Shortened.{NetVisit}
@@ -9,16 +9,13 @@ use Rattle.machines.specs.Records.{Record, NetRecord}
 use Rattle.dwarf_lines.specs.Registers.{Table}
 use Rattle.line_index.specs.Lines.{Line, label}
 use Rattle.line_index.specs.Listed.{lines_in, entries_in}
+use Rattle.profile_book.specs.Pieces.{named, number_line, end_line}
 use Rattle.profile_book.specs.declared.profile.Profile.{Profile}
 use Rattle.causal_curves.specs.Curves.{curves_of, ranked_curves}
 use Rattle.causal_curves.specs.Texts.{curve_text}
 
--- a name and a number on a line
-abbrev pub number_line : List ℕ → ℕ → List ℕ
-number_line name n = name ++ decimal n ++ codes "\n"
-
 unfoldable pub outcome_text : Record → List ℕ
-outcome_text r = codes "end " ++ ending_text r.ending ++ codes "\n"
+outcome_text r = end_line r.ending
     ++ number_line (codes "time ") r.time
     ++ number_line (codes "delay ") r.delay
     ++ number_line (codes "net ") (r.time - r.delay)
@@ -26,22 +23,25 @@ outcome_text r = codes "end " ++ ending_text r.ending ++ codes "\n"
     ++ number_line (codes "starts ") r.starts
 
 unfoldable pub hart_text : ℕ → Account → List ℕ
-hart_text number account = codes "hart " ++ decimal number
-    ++ codes " own " ++ decimal account.own
-    ++ codes " paused " ++ decimal account.paused
-    ++ codes " credited " ++ decimal account.credited ++ codes "\n"
+hart_text number account = named (codes "hart ") number
+    ++ named (codes " own ") account.own
+    ++ named (codes " paused ") account.paused
+    ++ number_line (codes " credited ") account.credited
 
 unfoldable pub harts_text : ℕ → List Account → List ℕ
 harts_text number [] = []
 harts_text number (account ∷ accounts) =
     hart_text number account ++ harts_text (number + 1) accounts
 
+-- the point of a visit and its hart
+abbrev pub visit_head : ℕ → ℕ → List ℕ
+visit_head point hart = named (codes "visit ") point ++ named (codes " hart ") hart
+
 unfoldable pub visit_text : Visit → List ℕ
-visit_text v = codes "visit " ++ decimal v.point
-    ++ codes " hart " ++ decimal v.hart
-    ++ codes " time " ++ decimal v.time
-    ++ codes " delay " ++ decimal v.delay
-    ++ codes " net " ++ decimal (v.time - v.delay) ++ codes "\n"
+visit_text v = visit_head v.point v.hart
+    ++ named (codes " time ") v.time
+    ++ named (codes " delay ") v.delay
+    ++ number_line (codes " net ") (v.time - v.delay)
 
 unfoldable pub visits_text : List Visit → List ℕ
 visits_text [] = []
@@ -58,15 +58,13 @@ run_text r =
 -- ---- of a run that knows no delays
 
 unfoldable pub net_outcome_text : NetRecord → List ℕ
-net_outcome_text r = codes "end " ++ ending_text r.ending ++ codes "\n"
+net_outcome_text r = end_line r.ending
     ++ number_line (codes "net ") r.time
     ++ number_line (codes "retired ") r.retired
     ++ number_line (codes "starts ") r.starts
 
 unfoldable pub net_visit_text : NetVisit → List ℕ
-net_visit_text v = codes "visit " ++ decimal v.point
-    ++ codes " hart " ++ decimal v.hart
-    ++ codes " net " ++ decimal v.time ++ codes "\n"
+net_visit_text v = visit_head v.point v.hart ++ number_line (codes " net ") v.time
 
 unfoldable pub net_visits_text : List NetVisit → List ℕ
 net_visits_text [] = []
@@ -78,15 +76,14 @@ really_text r = net_outcome_text r ++ net_visits_text r.visits ++ output_text r.
 
 -- ---- of a program's lines
 
--- each address after a comma
-unfoldable pub more_addresses : List ℕ → List ℕ
-more_addresses [] = []
-more_addresses (a ∷ more) = codes "," ++ address_text a ++ more_addresses more
+-- an address after a comma
+abbrev pub more_address : ℕ → List ℕ
+more_address address = codes "," ++ address_text address
 
 -- the addresses with a comma between each two
 unfoldable pub addresses_text : List ℕ → List ℕ
 addresses_text [] = []
-addresses_text (a ∷ more) = address_text a ++ more_addresses more
+addresses_text (a ∷ more) = address_text a ++ flat_map more_address more
 
 unfoldable pub labelled_text : List ℕ → List ℕ → List ℕ
 labelled_text label addresses = label ++ codes "\t" ++ addresses_text addresses ++ codes "\n"

@@ -1,25 +1,25 @@
 -- The five lines of a trial.
-use Rattle.std.specs.Prelude.{ℕ, List, [], ◌∷◌, ◌++◌, length, Option, None, Some, codes, decimal, ℤ}
+use Rattle.std.specs.Prelude.{ℕ, List, [], ◌∷◌, ◌++◌, length, Option, None, Some, codes, ℤ}
 use Rattle.std.specs.Fmt.{signed_decimal}
 use Rattle.sha2.specs.Sha256.{sha256}
 use Rattle.coz_types.specs.Labels.{Text}
 use Rattle.work_gen.specs.Text.{Source}
 use Rattle.line_index.specs.Lines.{Line}
 use Rattle.profile_book.specs.declared.profile.Profile.{Profile}
+use Rattle.profile_book.specs.Pieces.{named, number_line}
 use Rattle.profile_book.specs.Profile.{hex_text, profile_text}
 use Rattle.causal_curves.specs.Curves.{curves_of, ranked_curves}
 use Rattle.causal_curves.specs.declared.curve.Curve.{Curve}
-use Rattle.path_texts.specs.PathText.{number_line}
 
 -- the length of some bytes, and their digest
 abbrev pub digest_line : Text → List ℕ → Text
 digest_line name bytes =
-    name ++ decimal (length bytes) ++ codes " " ++ hex_text (sha256 bytes) ++ codes "\n"
+    named name (length bytes) ++ (codes " " ++ hex_text (sha256 bytes)) ++ codes "\n"
 
 abbrev pub gain_line : Text → Option ℤ → Text
 gain_line label None = codes "best none\n"
 gain_line label (Some gain) =
-    codes "best " ++ label ++ codes " " ++ signed_decimal gain ++ codes "\n"
+    (codes "best " ++ label) ++ (codes " " ++ signed_decimal gain) ++ codes "\n"
 
 -- of the first of ranked curves
 abbrev pub best_line : List Curve → Text

@@ -1,71 +1,64 @@
 //! The line of the latency of a run.
-ghost use Rattle.std.specs.Prelude.{◌≡◌, ◌++◌, decimal, OnOk};
+ghost use Rattle.std.specs.Prelude.{◌++◌, codes};
+ghost use Rattle.coz_files.specs.Gathered.{Gathers};
 ghost use Rattle.printed_texts.specs.LatencyText.{latency_line, run_part, counts_part, area_part, mean_text};
 
-use crate::text::{push_ending, push_named};
+use coz_files::{PutBuffer, Sink};
 use coz_types::{Ending, Tick};
-use itoa::Buffer;
 use latency_points::Latency;
-use std::alloc::AllocError;
+use profile_book::{put_ending, put_large, put_number};
 
-/// Appends a name and a large number in decimal.
-fn push_large(text: &mut Vec<u8>, name: &[u8], n: u128) -> Result<(), AllocError>
-    ensures { OnOk result (text.new.items ≡ text.old.items ++ (name.now ++ decimal n)) }
-{
-    text.extend_from_slice(name)?;
-    let mut buffer = Buffer::new();
-    text.extend_from_slice(buffer.format(n).as_bytes())
-}
-
-fn push_mean(text: &mut Vec<u8>, mean: Option<u128>) -> Result<(), AllocError>
-    ensures { OnOk result (text.new.items ≡ text.old.items ++ mean_text mean) }
+fn put_mean<O: Sink>(to: &mut PutBuffer, out: &mut O, mean: Option<u128>)
+    ensures { Gathers O.holds O.faults out.old out.new to.old to.new
+        (codes " mean " ++ mean_text mean) }
 {
     match mean {
-        Some(mean) => push_large(text, b"", mean),
-        None => text.extend_from_slice(b"absent"),
+        Some(mean) => put_large(to, out, b" mean ", mean),
+        None => to.push(out, b" mean absent"),
     }
 }
 
-fn push_run(text: &mut Vec<u8>, speedup: u8, ending: Ending, net: Tick) -> Result<(), AllocError>
-    ensures { OnOk result (text.new.items ≡ text.old.items ++ run_part speedup ending net) }
+fn put_run<O: Sink>(to: &mut PutBuffer, out: &mut O, speedup: u8, ending: Ending, net: Tick)
+    ensures { Gathers O.holds O.faults out.old out.new to.old to.new
+        (run_part speedup ending net) }
 {
-    push_named(text, b"latency speedup ", speedup as u64)?;
-    text.extend_from_slice(b" end ")?;
-    push_ending(text, ending)?;
-    push_named(text, b" net ", net)
+    put_number(to, out, b"latency speedup ", speedup as u64);
+    to.push(out, b" end ");
+    put_ending(to, out, ending);
+    put_number(to, out, b" net ", net);
 }
 
-fn push_counts(text: &mut Vec<u8>, latency: Latency) -> Result<(), AllocError>
-    ensures { OnOk result (text.new.items ≡ text.old.items ++ counts_part latency) }
+fn put_counts<O: Sink>(to: &mut PutBuffer, out: &mut O, latency: Latency)
+    ensures { Gathers O.holds O.faults out.old out.new to.old to.new (counts_part latency) }
 {
-    push_named(text, b" arrivals ", latency.arrivals)?;
-    push_named(text, b" departures ", latency.departures)?;
-    push_named(text, b" stray ", latency.stray)?;
-    push_named(text, b" open ", latency.unended)
+    put_number(to, out, b" arrivals ", latency.arrivals);
+    put_number(to, out, b" departures ", latency.departures);
+    put_number(to, out, b" stray ", latency.stray);
+    put_number(to, out, b" open ", latency.unended);
 }
 
-fn push_area(text: &mut Vec<u8>, latency: Latency) -> Result<(), AllocError>
-    ensures { OnOk result (text.new.items ≡ text.old.items ++ area_part latency) }
+fn put_area<O: Sink>(to: &mut PutBuffer, out: &mut O, latency: Latency)
+    ensures { Gathers O.holds O.faults out.old out.new to.old to.new (area_part latency) }
 {
-    push_large(text, b" area ", latency.area)?;
-    text.extend_from_slice(b" mean ")?;
-    push_mean(text, latency.mean)?;
-    text.extend_from_slice(b"\n")
+    put_large(to, out, b" area ", latency.area);
+    put_mean(to, out, latency.mean);
+    to.push(out, b"\n");
 }
 
-/// Appends the line of a run at a speedup, with times in net ticks. Err: out of memory.
-#[tactic(auto, unfolding(crate::specs::LatencyText::latency_line))]
-pub fn push_latency(
-    text: &mut Vec<u8>,
+/// Puts the line of a run at a speedup in percent: how it ended, its net time, and the latency of
+/// its requests up to then, in net ticks.
+pub fn put_latency<O: Sink>(
+    to: &mut PutBuffer,
+    out: &mut O,
     speedup: u8,
     ending: Ending,
     net: Tick,
     latency: Latency,
-) -> Result<(), AllocError>
-    ensures { OnOk result
-        (text.new.items ≡ text.old.items ++ latency_line speedup ending net latency) }
+)
+    ensures { Gathers O.holds O.faults out.old out.new to.old to.new
+        (latency_line speedup ending net latency) }
 {
-    push_run(text, speedup, ending, net)?;
-    push_counts(text, latency)?;
-    push_area(text, latency)
+    put_run(to, out, speedup, ending, net);
+    put_counts(to, out, latency);
+    put_area(to, out, latency);
 }

@@ -1,65 +1,86 @@
 //! The text of a program's lines.
-ghost use Rattle.std.specs.Prelude.{◌≡◌, ◌++◌, ◌<◌, length, OnOk, IfOk};
-ghost use Rattle.printed_texts.specs.Text.{addresses_text, more_addresses, labelled_text};
-ghost use Rattle.printed_texts.specs.LinesText.{index_text, HasLine};
+ghost use Rattle.std.specs.Prelude.{◌≡◌, ◌<◌, flat_map, length, IfOk};
+ghost use Rattle.coz_files.specs.Gathered.{Gathers};
+ghost use Rattle.printed_texts.specs.Text.{addresses_text, more_address, labelled_text};
+ghost use Rattle.printed_texts.specs.LinesText.{each_text, index_text, HasLine};
 
-use crate::text::{push_address, push_line};
+use coz_files::{PutBuffer, Sink};
 use coz_types::{Address, LineId};
 use line_index::LineIndex;
+use profile_book::{TextWriter, put_address, put_line};
 use std::alloc::{AllocError, Global};
 
-/// Pushes each address after a comma.
-#[tactic(auto, unfolding(crate::specs::Text::more_addresses))]
-fn push_more(text: &mut Vec<u8>, addresses: &[Address]) -> Result<(), AllocError>
-    ensures { OnOk result (text.new.items ≡ text.old.items ++ more_addresses addresses.now) }
+/// Puts an address after a comma.
+fn put_more<O: Sink>(to: &mut PutBuffer, out: &mut O, address: Address)
+    ensures { Gathers O.holds O.faults out.old out.new to.old to.new (more_address address) }
+{
+    to.push(out, b",");
+    put_address(to, out, address);
+}
+
+/// Puts each address after a comma.
+fn put_each<O: Sink>(to: &mut PutBuffer, out: &mut O, addresses: &[Address])
+    ensures { Gathers O.holds O.faults out.old out.new to.old to.new
+        (flat_map more_address addresses.now) }
 {
     for address in addresses {
-        text.extend_from_slice(b",")?;
-        push_address(text, *address)?;
+        put_more(to, out, *address);
     }
-    Ok(())
 }
 
 #[tactic(auto, unfolding(crate::specs::Text::addresses_text))]
-fn push_addresses(text: &mut Vec<u8>, addresses: &[Address]) -> Result<(), AllocError>
-    ensures { OnOk result (text.new.items ≡ text.old.items ++ addresses_text addresses.now) }
+fn put_addresses<O: Sink>(to: &mut PutBuffer, out: &mut O, addresses: &[Address])
+    ensures { Gathers O.holds O.faults out.old out.new to.old to.new
+        (addresses_text addresses.now) }
 {
-    match addresses {
-        [] => Ok(()),
-        [first, more @ ..] => {
-            push_address(text, *first)?;
-            push_more(text, more)
-        }
+    if let Some((first, more)) = addresses.split_first() {
+        put_address(to, out, *first);
+        put_each(to, out, more);
     }
 }
 
-#[tactic(auto, unfolding(crate::specs::Text::labelled_text))]
-fn push_labelled(text: &mut Vec<u8>, label: &[u8], addresses: &[Address]) -> Result<(), AllocError>
-    ensures { OnOk result
-        (text.new.items ≡ text.old.items ++ labelled_text label.now addresses.now) }
+fn put_labelled<O: Sink>(to: &mut PutBuffer, out: &mut O, label: &[u8], addresses: &[Address])
+    ensures { Gathers O.holds O.faults out.old out.new to.old to.new
+        (labelled_text label.now addresses.now) }
 {
-    text.extend_from_slice(label)?;
-    text.extend_from_slice(b"\t")?;
-    push_addresses(text, addresses)?;
-    text.extend_from_slice(b"\n")
+    to.push(out, label);
+    to.push(out, b"\t");
+    put_addresses(to, out, addresses);
+    to.push(out, b"\n");
 }
 
-fn push_index_line(text: &mut Vec<u8>, index: &LineIndex, line: LineId) -> Result<(), AllocError>
+fn put_index_line<O: Sink>(to: &mut PutBuffer, out: &mut O, index: &LineIndex, line: LineId)
     requires { line.0 < length index.now.lines }
-    ensures { OnOk result (HasLine index.now line.0 text.old.items text.new.items) }
+    ensures { HasLine index.now line.0
+        (Gathers O.holds O.faults out.old out.new to.old to.new) }
 {
     let label = index.label(line);
-    push_labelled(text, label.bytes(), index.entries(line))
+    put_labelled(to, out, label.bytes(), index.entries(line));
+}
+
+/// Puts the line of each line of an index, with its entry addresses.
+fn put_index_lines<O: Sink>(to: &mut PutBuffer, out: &mut O, index: &LineIndex)
+    ensures { Gathers O.holds O.faults out.old out.new to.old to.new
+        (each_text index.now.lines index.now.entries) }
+{
+    for line in 0..index.count() {
+        put_index_line(to, out, index, LineId(line));
+    }
+}
+
+fn put_lines<O: Sink>(to: &mut PutBuffer, out: &mut O, skipped: u32, index: &LineIndex)
+    ensures { Gathers O.holds O.faults out.old out.new to.old to.new
+        (index_text skipped index.now) }
+{
+    put_line(to, out, b"skipped ", skipped as u64);
+    put_index_lines(to, out, index);
 }
 
 /// What `lines` prints of an index whose table had `skipped` units of another version.
 pub fn lines_text(alloc: Global, skipped: u32, index: &LineIndex) -> Result<Vec<u8>, AllocError>
     ensures { IfOk result (λ text. text.items ≡ index_text skipped index.now) }
 {
-    let mut text = Vec::new(alloc);
-    push_line(&mut text, b"skipped ", skipped as u64)?;
-    for line in 0..index.count() {
-        push_index_line(&mut text, index, LineId(line))?;
-    }
-    Ok(text)
+    let mut text = TextWriter::new(alloc);
+    put_lines(&mut text.to, &mut text.out, skipped, index);
+    text.finish()
 }

@@ -1,160 +1,109 @@
 //! The text of the record of a run.
-ghost use Rattle.std.specs.Prelude.{◌≡◌, ◌++◌, ◌≤◌, codes, decimal, map, OnOk, IfOk, All};
+ghost use Rattle.std.specs.Prelude.{◌≡◌, ◌≤◌, map, IfOk, All};
+ghost use Rattle.coz_files.specs.Gathered.{Gathers};
 ghost use Rattle.delay_credits.specs.Delays.{account_as};
 ghost use Rattle.machines.specs.KeptVisits.{visit_as};
-ghost use Rattle.coz_types.specs.Endings.{address_text, ending_text};
-ghost use Rattle.printed_texts.specs.Text.{number_line, outcome_text, hart_text, harts_text, visit_text, visits_text, output_text, run_text};
+ghost use Rattle.printed_texts.specs.Text.{outcome_text, hart_text, harts_text, visit_text, visit_head, visits_text, output_text, run_text};
 ghost use Rattle.printed_texts.specs.Record.{record_of};
-ghost use Rattle.coz_types.specs.declared.ending.Ending.TheVariants.{Trapped};
 ghost use Rattle.coz_types.specs.declared.record.Visit.{Visit};
 
 use crate::record::RunRecord;
-use coz_types::{Account, Ending, HexDigits, Trap, Visit};
-use itoa::Buffer;
+use coz_files::{PutBuffer, Sink};
+use coz_types::{Account, Visit};
+use profile_book::{TextWriter, put_end, put_line, put_number};
 use std::alloc::{AllocError, Global};
 
-/// Appends a number in decimal.
-fn push_number(text: &mut Vec<u8>, n: u64) -> Result<(), AllocError>
-    ensures { OnOk result (text.new.items ≡ text.old.items ++ decimal n) }
-{
-    let mut buffer = Buffer::new();
-    text.extend_from_slice(buffer.format(n).as_bytes())
-}
-
-/// Appends a name and a number in decimal.
-pub fn push_named(text: &mut Vec<u8>, name: &[u8], n: u64) -> Result<(), AllocError>
-    ensures { OnOk result (text.new.items ≡ text.old.items ++ (name.now ++ decimal n)) }
-{
-    text.extend_from_slice(name)?;
-    push_number(text, n)
-}
-
-/// Appends a line of a name and a number.
-pub fn push_line(text: &mut Vec<u8>, name: &[u8], n: u64) -> Result<(), AllocError>
-    ensures { OnOk result (text.new.items ≡ text.old.items ++ number_line name.now n) }
-{
-    push_named(text, name, n)?;
-    text.extend_from_slice(b"\n")
-}
-
-/// Appends an address in hexadecimal.
-pub fn push_address(text: &mut Vec<u8>, address: u64) -> Result<(), AllocError>
-    ensures { OnOk result (text.new.items ≡ text.old.items ++ address_text address) }
-{
-    text.extend_from_slice(b"0x")?;
-    text.extend_from_slice(HexDigits::new(address).bytes())
-}
-
-/// Appends what a trap is of.
-fn push_trap(text: &mut Vec<u8>, trap: Trap) -> Result<(), AllocError>
-    ensures { OnOk result (text.new.items ≡ text.old.items ++ ending_text (Trapped trap)) }
-{
-    text.extend_from_slice(b"trapped:")?;
-    text.extend_from_slice(trap.cause.name())?;
-    push_named(text, b":", trap.hart.0 as u64)?;
-    text.extend_from_slice(b":")?;
-    push_address(text, trap.pc)
-}
-
-/// Appends how a run ended.
-pub fn push_ending(text: &mut Vec<u8>, ending: Ending) -> Result<(), AllocError>
-    ensures { OnOk result (text.new.items ≡ text.old.items ++ ending_text ending) }
-{
-    match ending {
-        Ending::Exited(code) => push_named(text, b"exited:", code as u64),
-        Ending::Trapped(trap) => push_trap(text, trap),
-        Ending::Unsupported(number) => push_named(text, b"unsupported:", number),
-        Ending::Clock => text.extend_from_slice(b"clock"),
-        Ending::OutputFull => text.extend_from_slice(b"output-full"),
-        Ending::VisitsFull => text.extend_from_slice(b"visits-full"),
-        Ending::Stalled => text.extend_from_slice(b"stalled"),
-        Ending::Spent => text.extend_from_slice(b"spent"),
-    }
-}
-
-#[tactic(auto, unfolding(crate::specs::Text::outcome_text))]
-fn push_outcome<'a>(text: &mut Vec<u8>, run: RunRecord<'a>) -> Result<(), AllocError>
+fn put_outcome<'a, O: Sink>(to: &mut PutBuffer, out: &mut O, run: RunRecord<'a>)
     requires { run.outcome.delay ≤ run.outcome.time }
-    ensures { OnOk result (text.new.items ≡ text.old.items ++ outcome_text (record_of run.entry)) }
+    ensures { Gathers O.holds O.faults out.old out.new to.old to.new
+        (outcome_text (record_of run.entry)) }
 {
     let outcome = run.outcome;
-    text.extend_from_slice(b"end ")?;
-    push_ending(text, outcome.ending)?;
-    text.extend_from_slice(b"\n")?;
-    push_line(text, b"time ", outcome.time)?;
-    push_line(text, b"delay ", outcome.delay)?;
-    push_line(text, b"net ", outcome.time - outcome.delay)?;
-    push_line(text, b"retired ", outcome.retired)?;
-    push_line(text, b"starts ", outcome.starts)
+    put_end(to, out, outcome.ending);
+    put_line(to, out, b"time ", outcome.time);
+    put_line(to, out, b"delay ", outcome.delay);
+    put_line(to, out, b"net ", outcome.time - outcome.delay);
+    put_line(to, out, b"retired ", outcome.retired);
+    put_line(to, out, b"starts ", outcome.starts);
 }
 
-#[tactic(auto, unfolding(crate::specs::Text::hart_text))]
-fn push_hart(text: &mut Vec<u8>, number: u64, account: Account) -> Result<(), AllocError>
-    ensures { OnOk result
-        (text.new.items ≡ text.old.items ++ hart_text number (account_as account)) }
+fn put_hart<O: Sink>(to: &mut PutBuffer, out: &mut O, number: u64, account: Account)
+    ensures { Gathers O.holds O.faults out.old out.new to.old to.new
+        (hart_text number (account_as account)) }
 {
-    push_named(text, b"hart ", number)?;
-    push_named(text, b" own ", account.own)?;
-    push_named(text, b" paused ", account.paused)?;
-    push_line(text, b" credited ", account.credited)
+    put_number(to, out, b"hart ", number);
+    put_number(to, out, b" own ", account.own);
+    put_number(to, out, b" paused ", account.paused);
+    put_line(to, out, b" credited ", account.credited);
 }
 
-#[tactic(auto, unfolding(crate::specs::Text::harts_text))]
-fn push_harts(text: &mut Vec<u8>, accounts: &[Account]) -> Result<(), AllocError>
-    ensures { OnOk result
-        (text.new.items ≡ text.old.items ++ harts_text 0 (map account_as accounts.now)) }
+fn put_harts<O: Sink>(to: &mut PutBuffer, out: &mut O, accounts: &[Account])
+    ensures { Gathers O.holds O.faults out.old out.new to.old to.new
+        (harts_text 0 (map account_as accounts.now)) }
 {
     for (number, account) in accounts.iter().enumerate() {
-        push_hart(text, number as u64, *account)?;
+        put_hart(to, out, number as u64, *account);
     }
-    Ok(())
 }
 
-#[tactic(auto, unfolding(crate::specs::Text::visit_text))]
-fn push_visit(text: &mut Vec<u8>, visit: Visit) -> Result<(), AllocError>
-    requires { visit.delay ≤ visit.time }
-    ensures { OnOk result (text.new.items ≡ text.old.items ++ visit_text (visit_as visit)) }
+/// Puts the point of a visit and its hart.
+pub fn put_visit_head<O: Sink>(to: &mut PutBuffer, out: &mut O, visit: Visit)
+    ensures { Gathers O.holds O.faults out.old out.new to.old to.new
+        (visit_head visit.point.0 visit.hart.0) }
 {
-    push_named(text, b"visit ", visit.point.0 as u64)?;
-    push_named(text, b" hart ", visit.hart.0 as u64)?;
-    push_named(text, b" time ", visit.time)?;
-    push_named(text, b" delay ", visit.delay)?;
-    push_line(text, b" net ", visit.time - visit.delay)
+    put_number(to, out, b"visit ", visit.point.0 as u64);
+    put_number(to, out, b" hart ", visit.hart.0 as u64);
 }
 
-#[tactic(auto, unfolding(crate::specs::Text::visits_text))]
-fn push_visits(text: &mut Vec<u8>, visits: &[Visit]) -> Result<(), AllocError>
+fn put_visit<O: Sink>(to: &mut PutBuffer, out: &mut O, visit: Visit)
+    requires { visit.delay ≤ visit.time }
+    ensures { Gathers O.holds O.faults out.old out.new to.old to.new
+        (visit_text (visit_as visit)) }
+{
+    put_visit_head(to, out, visit);
+    put_number(to, out, b" time ", visit.time);
+    put_number(to, out, b" delay ", visit.delay);
+    put_line(to, out, b" net ", visit.time - visit.delay);
+}
+
+fn put_visits<O: Sink>(to: &mut PutBuffer, out: &mut O, visits: &[Visit])
     requires { All (λ (v : Visit). v.delay ≤ v.time) visits.now }
-    ensures { OnOk result
-        (text.new.items ≡ text.old.items ++ visits_text (map visit_as visits.now)) }
+    ensures { Gathers O.holds O.faults out.old out.new to.old to.new
+        (visits_text (map visit_as visits.now)) }
 {
     for visit in visits {
-        push_visit(text, *visit)?;
+        put_visit(to, out, *visit);
     }
-    Ok(())
 }
 
-/// Appends the output and its length.
-#[tactic(auto, unfolding(crate::specs::Text::output_text))]
-pub fn push_output(text: &mut Vec<u8>, output: &[u8]) -> Result<(), AllocError>
-    ensures { OnOk result (text.new.items ≡ text.old.items ++ output_text output.now) }
+/// Puts the output and its length.
+pub fn put_output<O: Sink>(to: &mut PutBuffer, out: &mut O, output: &[u8])
+    ensures { Gathers O.holds O.faults out.old out.new to.old to.new (output_text output.now) }
 {
-    push_line(text, b"output ", output.len() as u64)?;
-    text.extend_from_slice(output)?;
-    text.extend_from_slice(b"\n")
+    put_line(to, out, b"output ", output.len() as u64);
+    to.push(out, output);
+    to.push(out, b"\n");
+}
+
+fn put_run<'a, O: Sink>(to: &mut PutBuffer, out: &mut O, run: RunRecord<'a>)
+    requires net { run.outcome.delay ≤ run.outcome.time }
+    requires net_visits { All (λ (v : Visit). v.delay ≤ v.time) run.visits.now }
+    ensures { Gathers O.holds O.faults out.old out.new to.old to.new
+        (run_text (record_of run.entry)) }
+{
+    put_outcome(to, out, run);
+    put_harts(to, out, run.accounts);
+    put_visits(to, out, run.visits);
+    put_output(to, out, run.output);
 }
 
 /// What `run` prints.
-#[tactic(auto, unfolding(crate::specs::Text::run_text))]
 pub fn run_text<'a>(alloc: Global, run: RunRecord<'a>) -> Result<Vec<u8>, AllocError>
     requires net { run.outcome.delay ≤ run.outcome.time }
     requires net_visits { All (λ (v : Visit). v.delay ≤ v.time) run.visits.now }
     ensures { IfOk result (λ text. text.items ≡ run_text (record_of run.entry)) }
 {
-    let mut text = Vec::new(alloc);
-    push_outcome(&mut text, run)?;
-    push_harts(&mut text, run.accounts)?;
-    push_visits(&mut text, run.visits)?;
-    push_output(&mut text, run.output)?;
-    Ok(text)
+    let mut text = TextWriter::new(alloc);
+    put_run(&mut text.to, &mut text.out, run);
+    text.finish()
 }

@@ -15,6 +15,10 @@ use Rattle.std.proofs.lemmas.Bool.{agree_below, agree_below_at}
 pub gathers_as : {S : Type 0} {holds : S → Option Text} {faults : S → ℕ} {old new : S} {rest left : Rest} {xs ys : Text} → xs ≡ ys → Gathers holds faults old new rest left xs → Gathers holds faults old new rest left ys
 gathers_as {holds = holds} {faults = faults} {old = old} {new = new} {rest = rest} {left = left} e all = subst (Gathers holds faults old new rest left) e all
 
+-- from a buffer that is known
+pub gathers_from : {S : Type 0} {holds : S → Option Text} {faults : S → ℕ} {old new : S} {rest start left : Rest} {xs : Text} → rest ≡ start → Gathers holds faults old new rest left xs → Gathers holds faults old new start left xs
+gathers_from {holds = holds} {faults = faults} {old = old} {new = new} {left = left} {xs = xs} e all = subst (λ (r : Rest). Gathers holds faults old new r left xs) e all
+
 -- one more line of a list
 pub line_more : {X : Type 0} {S : Type 0} {holds : S → Option Text} {faults : S → ℕ} {old mid new : S} {rest between left : Rest} (f : X → Text) (xs : List X) (i : ℕ) (x : X) → i < length xs → get_or xs i x ≡ x → Gathers holds faults old mid rest between (flat_map f (take i xs)) → Gathers holds faults mid new between left (f x) → Gathers holds faults old new rest left (flat_map f (take (i + 1) xs))
 line_more f xs i x lt e before more =

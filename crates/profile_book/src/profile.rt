@@ -2,7 +2,7 @@
 use coz_lists::Items;
 use coz_types::{Label, Summary};
 
-/// What a profile says.
+/// A profile: the budget, the progress points, and the summary of each run.
 #[derive(Debug, Drop)]
 pub struct Profile {
     /// How many instructions each run may retire.

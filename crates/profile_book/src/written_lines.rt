@@ -3,6 +3,7 @@ ghost use Rattle.std.specs.Prelude.{flat_map};
 ghost use Rattle.std.specs.List.{enumerate_from};
 ghost use Rattle.coz_files.specs.Gathered.{Gathers};
 ghost use Rattle.coz_types.specs.Endings.{ending_text};
+ghost use Rattle.profile_book.specs.Pieces.{end_line};
 ghost use Rattle.profile_book.specs.Profile.{head_line, point_line, experiment_line, output_line, count_line, visits_line, block};
 
 use crate::pieces::{put_address, put_digest, put_field, put_number};
@@ -10,7 +11,7 @@ use crate::profile::Profile;
 use coz_files::{PutBuffer, Sink};
 use coz_types::{Ending, Label, Summary, Trap};
 
-/// The first line.
+/// Puts the first line: the version, the budget and the number of points.
 pub fn put_head<O: Sink>(to: &mut PutBuffer, out: &mut O, profile: &Profile)
     ensures { Gathers O.holds O.faults out.old out.new to.old to.new (head_line profile.now) }
 {
@@ -29,7 +30,7 @@ fn put_point<O: Sink>(to: &mut PutBuffer, out: &mut O, index: usize, label: &Lab
     to.push(out, b"\n");
 }
 
-/// The line of each point.
+/// Puts the line of each point.
 pub fn put_points<O: Sink>(to: &mut PutBuffer, out: &mut O, points: &[Label])
     ensures { Gathers O.holds O.faults out.old out.new to.old to.new
         (flat_map point_line (enumerate_from 0 points.now)) }
@@ -49,7 +50,7 @@ fn put_trap<O: Sink>(to: &mut PutBuffer, out: &mut O, trap: Trap)
     put_address(to, out, trap.pc);
 }
 
-/// How a run ended.
+/// Puts how a run ended.
 pub fn put_ending<O: Sink>(to: &mut PutBuffer, out: &mut O, ending: Ending)
     ensures { Gathers O.holds O.faults out.old out.new to.old to.new (ending_text ending) }
 {
@@ -63,6 +64,15 @@ pub fn put_ending<O: Sink>(to: &mut PutBuffer, out: &mut O, ending: Ending)
         Ending::Stalled => to.push(out, b"stalled"),
         Ending::Spent => to.push(out, b"spent"),
     }
+}
+
+/// Puts a line of how a run ended.
+pub fn put_end<O: Sink>(to: &mut PutBuffer, out: &mut O, ending: Ending)
+    ensures { Gathers O.holds O.faults out.old out.new to.old to.new (end_line ending) }
+{
+    to.push(out, b"end ");
+    put_ending(to, out, ending);
+    to.push(out, b"\n");
 }
 
 fn put_experiment<O: Sink>(to: &mut PutBuffer, out: &mut O, summary: &Summary)
@@ -120,7 +130,7 @@ fn put_block<O: Sink>(to: &mut PutBuffer, out: &mut O, summary: &Summary)
     put_visits(to, out, summary);
 }
 
-/// The block of each summary.
+/// Puts the block of each summary.
 pub fn put_blocks<O: Sink>(to: &mut PutBuffer, out: &mut O, summaries: &[Summary])
     ensures { Gathers O.holds O.faults out.old out.new to.old to.new
         (flat_map block summaries.now) }

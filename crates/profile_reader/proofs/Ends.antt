@@ -1,4 +1,4 @@
--- Where nothing is ahead.
+-- If nothing is ahead.
 use Rattle.std.proofs.Common.{◌≡◌, ℕ, suc, true, false, ◌==◌, [], ◌∷◌, length, refl, sym, ap, ◌∙◌, arith, add-zero}
 use Rattle.coz_types.specs.Labels.{Text}
 use Rattle.profile_reader.specs.Items.{items_of}

@@ -122,7 +122,7 @@ line_after Digest (digest ∷ item ∷ before) =
     if is_kind Length item.0 then count_or_visits (digest ∷ item ∷ before) else Experiment
 line_after kind before = point_or_block before
 
--- the kind of the next item: by the latest kinds, and, where a line may come again,
+-- the kind of the next item: by the latest kinds, and, if a line may come again,
 -- by how many points, names and counts there are
 abbrev pub expected_field : Before → BookField
 expected_field [] = Head
@@ -221,7 +221,7 @@ is_right Newline before item = bytes_eq item (codes "\n")
 
 -- ---- the fault
 
--- the text may end where a block may follow
+-- the text may end if a block may follow
 abbrev pub may_end : BookField → Bool
 may_end Experiment = true
 may_end _ = false

@@ -1,5 +1,6 @@
--- The names of a profile's items in the lines of faults.
-use Rattle.std.specs.Prelude.{ℕ, List, codes}
+-- The line of the first wrong item of a profile's text, after the program's name.
+use Rattle.std.specs.Prelude.{ℕ, List, ◌++◌, codes, decimal}
+use Rattle.profile_reader.specs.declared.fault.BookFault.{BookFault}
 use Rattle.profile_reader.specs.declared.fault.BookField.{BookField}
 use Rattle.profile_reader.specs.declared.fault.BookField.TheVariants.{Head, Version, Budget, Points, Point, Index, Name, Experiment, Selected, Speedup, End, Time, Delay, Retired, Starts, Output, Length, Digest, Throughput, Delta, Visits, Newline}
 
@@ -26,3 +27,8 @@ item_name Throughput = codes "Throughput"
 item_name Delta = codes "Delta"
 item_name Visits = codes "Visits"
 item_name Newline = codes "Newline"
+
+-- the name of the item and its offset
+abbrev pub book_line : BookFault → List ℕ
+book_line fault =
+    codes "profile: " ++ item_name fault.field ++ codes " at " ++ decimal fault.place

@@ -9,8 +9,8 @@ abbrev pub IsError : Failure BookFault → Option BookFault → Type 0
 IsError errors.Memory fault = Unit {0}
 IsError (errors.Fault f) fault = fault ≡ Some f
 
--- there is none where the answer is a value, and this one where it is a fault; nothing is said
--- where memory ran out
+-- there is none if the answer is a value, and this one if it is a fault; nothing is said
+-- if memory ran out
 abbrev pub IsJudged : {X : Type 0} → Result X (Failure BookFault) → Option BookFault → Type 0
 IsJudged (Ok x) fault = fault ≡ None
 IsJudged (Err e) fault = IsError e fault

@@ -35,7 +35,7 @@ abbrev pub ◌>>=◌ : {A B : Type 0} → Result A BookFault
     → (A → Result B BookFault) → Result B BookFault
 r >>= f = bind r f
 
--- what a test of a text answers: the value where it passes
+-- what a test of a text answers: the value if it passes
 abbrev pub Tells : {X Y : Type 0} → (X → Y) → Bool → Y → Option X → Type 0
 Tells view passes value None = passes ≡ false
 Tells view passes value (Some x) = (passes ≡ true) × (view x ≡ value)

@@ -10,7 +10,7 @@ abbrev pub or_nothing : Result Profile BookFault → Profile
 or_nothing (Ok p) = p
 or_nothing (Err fault) = record { budget = 0; points = []; summaries = [] }
 
--- the profile of which the bytes are the text, read off their items; where they are no profile's
+-- the profile of which the bytes are the text, read off their items; if they are no profile's
 -- text, one of nothing
 unfoldable pub told : Text → Profile
 told bytes = or_nothing (profile_at (length bytes) (items_of bytes))

@@ -85,7 +85,7 @@ impl BookField {
     }
 }
 
-/// The first item that isn't right, or the end of the text where one is missing.
+/// The first item that isn't right, or the end of the text if one is missing.
 #[derive(Clone, Copy, PartialEq, Eq, Debug)]
 pub struct BookFault {
     /// What is expected there.

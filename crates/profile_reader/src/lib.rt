@@ -7,6 +7,7 @@ mod cursor;
 mod digests;
 mod endings;
 mod fault;
+mod fault_line;
 mod field_values;
 mod fields;
 mod item;
@@ -16,6 +17,7 @@ mod reader;
 mod scan;
 
 pub use fault::{BookError, BookFault, BookField};
+pub use fault_line::put_book_fault;
 pub use reader::{
     labels_rise_or_fall, read_profile, texts_have_no_fault, texts_tell_their_profile,
 };

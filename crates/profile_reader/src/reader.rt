@@ -47,7 +47,7 @@ pub fn read_profile(alloc: Global, bytes: &[u8]) -> Result<Profile, BookError>
     parse_profile(alloc, bytes)
 }
 
-/// There is no fault exactly where the bytes are the text of a profile.
+/// There is no fault exactly if the bytes are the text of a profile.
 pub fn texts_have_no_fault()
     ensures { (bytes : List ℕ) → (book_fault bytes ≡ None) ↔ ((p : Profile) × IsTextOf p bytes) }
 {}

@@ -6,11 +6,11 @@ use Rattle.line_index.specs.Lines.{Line}
 use Rattle.experiment_plan.specs.Selected.{id_of}
 use Rattle.coz_words.specs.Said.{Text}
 use Rattle.coz_words.specs.declared.request.Request.{Request}
-use Rattle.command_answers.specs.Experiment.{Runs, choice_of, runs_in}
+use Rattle.program_inputs.specs.Experiment.{Runs, choice_of, runs_in}
 use Rattle.program_steps.specs.Selection.{line_named, lines_named}
 use Rattle.command_answers.specs.Verdict.{Verdict, asked_verdict, named_verdict, points_verdict}
 use Rattle.command_answers.proofs.Budgets.{few_budget}
-use Rattle.command_answers.proofs.Indexed.{experiment_is}
+use Rattle.program_inputs.proofs.Indexed.{experiment_is}
 use Rattle.command_answers.proofs.experiment.asked_of.Goals as goal
 
 module _ (asked : Request) (print : Experiment Guest → Verdict) (lines : List Line) (runs : Runs) where

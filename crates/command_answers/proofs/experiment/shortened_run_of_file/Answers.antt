@@ -1,9 +1,9 @@
 use Rattle.std.proofs.Common.{◌∙◌}
 use Rattle.dwarf_lines.specs.Registers.{view}
 use Rattle.line_index.specs.Listed.{lines_in}
-use Rattle.command_answers.specs.Experiment.{experiment_by_table}
+use Rattle.program_inputs.specs.Experiment.{experiment_by_table}
 use Rattle.command_answers.specs.Verdict.{asked_verdict, really_printed}
-use Rattle.command_answers.proofs.Indexed.{indexed}
+use Rattle.program_inputs.proofs.Indexed.{indexed}
 use Rattle.command_answers.proofs.experiment.shortened_run_of_file.Goals as goal
 
 pub returns-clause-settled : goal.returns-clause-settled

@@ -1,6 +1,6 @@
 use Rattle.std.proofs.Common.{◌∙◌}
 use Rattle.std.proofs.lemmas.Result.{err_from_is_err_and}
-use Rattle.command_answers.specs.Experiment.{runs_in}
+use Rattle.program_inputs.specs.Experiment.{runs_in}
 use Rattle.command_answers.proofs.latency.latency_answer.Goals as goal
 
 pub returns-in_err-asked-clause-settled : goal.returns-in_err-asked-clause-settled

@@ -1,4 +1,4 @@
-use Rattle.std.proofs.Common.{◌≡◌, None, Option, ap, ◌∙◌, is_some}
+use Rattle.std.proofs.Common.{None, Option, ap, ◌∙◌, is_some}
 use Rattle.coz_types.specs.declared.ending.Ending.{Ending}
 use Rattle.line_index.specs.Index.{position_at}
 use Rattle.progress_points.specs.Points.{point_of}

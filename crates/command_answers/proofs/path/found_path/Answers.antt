@@ -2,7 +2,7 @@ use Rattle.std.proofs.Common.{◌≡◌, ◌≤◌, None, subst, sym}
 use Rattle.run_engine.specs.Run.{IsChoice}
 use Rattle.run_engine.specs.declared.choice.Choice.{Choice}
 use Rattle.critical_path.specs.Walk.{plain_choice}
-use Rattle.command_answers.specs.Experiment.{choice_of}
+use Rattle.program_inputs.specs.Experiment.{choice_of}
 use Rattle.command_answers.proofs.Paths.{both_ok, path_is}
 use Rattle.command_answers.proofs.path.found_path.Goals as goal
 

@@ -1,9 +1,9 @@
-use Rattle.std.proofs.Common.{◌≡◌, ◌∙◌}
+use Rattle.std.proofs.Common.{◌∙◌}
 use Rattle.dwarf_lines.specs.Registers.{view}
 use Rattle.line_index.specs.Listed.{lines_in, position_in}
-use Rattle.command_answers.specs.Experiment.{experiment_by_table}
+use Rattle.program_inputs.specs.Experiment.{experiment_by_table}
 use Rattle.command_answers.specs.CriticalPath.{path_printed, plain_run}
-use Rattle.command_answers.proofs.Indexed.{indexed_at}
+use Rattle.program_inputs.proofs.Indexed.{indexed_at}
 use Rattle.command_answers.proofs.path.path_of_file.Goals as goal
 
 pub returns-in-Ok-clause-settled : goal.returns-in-Ok-clause-settled

@@ -1,5 +1,5 @@
 use Rattle.std.proofs.Common.{◌∙◌, ap}
-use Rattle.command_answers.specs.Experiment.{runs_in}
+use Rattle.program_inputs.specs.Experiment.{runs_in}
 use Rattle.command_answers.specs.Verdict.{profile_verdict}
 use Rattle.command_answers.proofs.Profiling.{same_profile, summaries_are}
 use Rattle.command_answers.proofs.profile.plan_answer.Goals as goal

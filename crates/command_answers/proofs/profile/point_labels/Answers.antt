@@ -1,5 +1,5 @@
 use Rattle.std.proofs.Common.{◌∙◌, ◌++◌, ◌∷◌, [], length, ap}
-use Rattle.program_steps.proofs.Naming.{one_below, one_label}
+use Rattle.command_answers.proofs.Labels.{one_below, one_label}
 use Rattle.command_answers.proofs.profile.point_labels.Goals as goal
 
 pub label-requires : goal.label-requires

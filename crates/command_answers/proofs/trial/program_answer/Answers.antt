@@ -3,7 +3,7 @@ use Rattle.std.specs.List.{AllByRecursion}
 use Rattle.coz_types.specs.Ranges.{IsSummary}
 use Rattle.work_gen.specs.Text.{view}
 use Rattle.command_answers.specs.Answer.{IsOfTrial}
-use Rattle.command_answers.specs.Experiment.{runs_in}
+use Rattle.program_inputs.specs.Experiment.{runs_in}
 use Rattle.command_answers.specs.Verdict.{Verdict, trial_printed}
 use Rattle.command_answers.proofs.Trials.{judged_as}
 use Rattle.command_answers.proofs.trial.program_answer.Goals as goal

@@ -1,5 +1,5 @@
 use Rattle.std.proofs.Common.{◌∙◌, [], ap, length}
-use Rattle.command_answers.specs.Experiment.{runs_in}
+use Rattle.program_inputs.specs.Experiment.{runs_in}
 use Rattle.command_answers.proofs.Trials.{as_many, profile_is}
 use Rattle.command_answers.proofs.trial.trial_profile.Goals as goal
 

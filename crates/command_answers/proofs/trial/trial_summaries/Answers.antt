@@ -4,7 +4,7 @@ use Rattle.std.proofs.lemmas.List.Elements.{recursion_from_All}
 use Rattle.std.proofs.lemmas.Result.{err_from_is_err_and}
 use Rattle.coz_types.specs.Ranges.{IsSummary}
 use Rattle.command_answers.specs.Verdict.{text_verdict}
-use Rattle.command_answers.proofs.Faults.{is_memory}
+use Rattle.program_inputs.proofs.Faults.{is_memory}
 use Rattle.command_answers.proofs.Trials.{summaries_of_trial}
 use Rattle.command_answers.proofs.trial.trial_summaries.Goals as goal
 

@@ -2,7 +2,7 @@ use Rattle.std.proofs.Common.{◌≡◌, ◌≤◌, true, ap, subst, sym, refl}
 use Rattle.coz_words.specs.Request.{greatest_budget, has_option, is_runner, size_name, workers_name}
 use Rattle.coz_words.specs.declared.command.Command.{Command}
 use Rattle.command_answers.specs.Verdict.{trial_verdict}
-use Rattle.coz_cli.proofs.Names.{named, some_line, version}
+use Rattle.coz_cli.proofs.Names.{named, version}
 use Rattle.coz_cli.proofs.Trials.{trial_no_read, trial_settled, trial_suits}
 use Rattle.coz_cli.proofs.answer.judge.Goals as goal
 

@@ -1,5 +1,4 @@
-use Rattle.printed_texts.proofs.IndexText.{one_more}
 use Rattle.printed_texts.proofs.listing.lines_text.Goals as goal
 
-pub loop-line-preserved : goal.loop-line-preserved
-loop-line-preserved c = one_more c.args.index.now c.loop-line.line _ _ _ c.in_ok-push_index_line.ensures c.loop-line.invariant
+pub returns : goal.returns
+returns c = c.finish.ensures c.new-text.result _ c.new-text.ensures.buffer c.new-text.ensures.text c.put_lines.ensures
