@@ -38,7 +38,7 @@ use Rattle.run_engine.specs.Ending.{ending_of}
 use Rattle.virtual_run.specs.DelayedRun.{IsOfAHart}
 use Rattle.run_engine.specs.Engine.{events_of, IsReached, IsFirst}
 use Rattle.run_engine.specs.Run.{IsChoice}
-use Rattle.run_engine.specs.Seen.{experiment_with}
+use Rattle.run_engine.specs.Seen.{experiment_of_image}
 use Rattle.run_engine.specs.Visits.{Visits, visits_of}
 use Rattle.run_engine.proofs.Keys.{has_place, next_is}
 use Rattle.run_engine.proofs.Law.{first_made, lawful_run, reached_next, reached_woken, steady, events_below, within_enough}
@@ -71,7 +71,7 @@ first_begun : (x : Experiment Guest) (place : Guest → ℕ → Option ℕ) (cou
 unfolding begun before unbegun
 first_begun x place count = one_more x place count [] (no_counts count) (first_counts x place count) x.first 0
 
--- an ending is of a hart if it is where it is a trap
+-- an ending is of a hart if each trap is
 of_a_hart : (e : Ending) → ((trap : Trap) → e ≡ Trapped trap → trap.hart.0 < 256) → IsOfAHart e
 of_a_hart (Exited code) low = tt
 of_a_hart (Trapped trap) low = low trap refl
@@ -100,7 +100,7 @@ trap_fate (Ends e) o v r n b trap is = let same : e ≡ Trapped trap = cc in ap 
 
 module _ (image : ImageParts) (input : List ℕ) (setting : Setting) where
   abbrev pub x : Experiment Guest
-  x = experiment_with image input setting
+  x = experiment_of_image image input setting
 
   abbrev index : Index
   index = setting.index.now

@@ -10,7 +10,7 @@ ghost use Rattle.virtual_run.specs.DelayedRun.{outcome_of, IsSmall};
 ghost use Rattle.run_counts.specs.Beginnings.{begun, starts_among, cost_among};
 ghost use Rattle.counted_run.specs.CountedRun.{plain_choice, selecting_line, on_line, on_none, AreUndelayed};
 
-use crate::follow::{count, count_begun};
+use crate::beginning::{count, count_begun};
 use coz_types::{Ending, Image, LineId, Outcome, Tick, Visit};
 use line_index::LineIndex;
 use progress_points::Points;
@@ -93,7 +93,7 @@ impl<'a> Counted<'a> {
         })
     }
 
-    /// Runs to the end, and gives it. A further run changes nothing and gives the same.
+    /// Runs to the end, and returns the ending. A further run changes nothing and returns the same.
     pub fn run(&mut self) -> Ending
         ensures ended { self.new.state.ending ≡ Some result }
         ensures record { let x = experiment_of self.old in
@@ -114,9 +114,9 @@ impl<'a> Counted<'a> {
         }
     }
 
-    /// How many instructions of a line were begun. Once the run has ended, the run that selects
-    /// the line at speedup 0 has as many starts, and all else as this one. If there are none, the
-    /// run that selects the line is this one at every speedup. At most 10^17.
+    /// How many instructions of a line were begun, at most 10^17. Once the run has ended, this is
+    /// the number of starts of the run that selects the line at speedup 0, which otherwise equals
+    /// this run. If it is 0, the run that selects the line equals this run at every speedup.
     pub fn starts(&self, line: LineId) -> u64
         requires { line.0 < length self.now.index.lines }
         ensures begun { let x = experiment_of self.now in result

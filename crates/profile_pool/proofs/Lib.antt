@@ -3,3 +3,4 @@ pub mod Summing
 mod Lines
 mod Making
 pub mod PlainRun
+mod Long

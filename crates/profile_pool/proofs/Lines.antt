@@ -2,7 +2,7 @@
 use Rattle.std.proofs.Common.{◌≡◌, ℕ, zero, suc, ◌+◌, ◌<◌, List, [], ◌∷◌, ◌++◌, map, take, length, get_or, slice_get, Some, sym, refl, ap, ◌∙◌, subst, arith}
 use Rattle.std.specs.List.{All, flat_map, range_with_len}
 use Rattle.std.proofs.Math.Seq.{take-append_seam, drop-append_seam}
-use Rattle.std.proofs.lemmas.List.{length-map, map-append, take_more}
+use Rattle.std.proofs.lemmas.List.{length-map, map-append, nil_from_length, take_more}
 use Rattle.std.proofs.lemmas.List.Elements.{All-take, All-drop, All-head, All-weaker}
 use Rattle.std.proofs.lemmas.List.Folds.{flat_map-map}
 use Rattle.std.proofs.lemmas.List.FromFn.{fill_by_all}
@@ -50,6 +50,12 @@ line_by_line s runs =
 pub plan_by_line : (s : Experiment → Summary) (plan : List Experiment)
     → flat_map (λ i. map s (get_or (by_line plan) i [])) (range_with_len 0 (length (by_line plan))) ≡ map s plan
 plan_by_line s plan = line_by_line s (by_line plan) ∙ ap (map s) (joined_again plan)
+
+-- a plan with no line has no pair
+pub no_lines : (s : Experiment → Summary) (plan : List Experiment) → length (by_line plan) ≡ 0 → [] ≡ map s plan
+no_lines s plan none =
+    let empty : by_line plan ≡ [] = nil_from_length (by_line plan) none in
+    ap (map s) (sym (ap all_pairs empty) ∙ joined_again plan)
 
 -- what is so of all pairs is so of those of a line
 pub of_all : (P : Experiment → Type 0) (runs : List (List Experiment)) (i : ℕ) (line : List Experiment)

@@ -1,5 +1,5 @@
 -- What leads and machines are made with, taken up and forked.
-use Rattle.std.proofs.Common.{◌≡◌, ◌<◌, ◌≤◌, ◌^◌, ℕ, [], ◌∷◌, length, All, Option, Some, None, refl, sym, ap, ◌∙◌, subst}
+use Rattle.std.proofs.Common.{◌≡◌, ◌<◌, ◌≤◌, ◌^◌, ℕ, [], ◌∷◌, length, All, Option, Some, None, IfSome, refl, sym, ap, ◌∙◌, subst}
 use Rattle.coz_types.specs.declared.LineId.{LineId}
 use Rattle.machines.specs.Delayed.{unbegun}
 use Rattle.machines.specs.Lead.{Before}
@@ -57,7 +57,7 @@ made_lead work choice = record {
 
 pub work_of : (work : Work) (choice : Choice) → All (λ (pair : Experiment). pair.line.0 < length work.index.now.lines) work.plan.now
     → 1 ≤ work.budget → work.budget ≤ 10 ^ 12 → work.first.now ≡ made_lead work choice → choice ≡ choice_of (Some 0) 0 work.budget
-    → IsPlain work.image.now work.index.now work.points.now work.input.now work.budget work.plain.now → IsWork work
+    → IfSome work.plain.now (IsPlain work.image.now work.index.now work.points.now work.input.now work.budget) → IsWork work
 work_of work choice lines some few led chosen plain =
     let P : Seen (Before Guest) → Type 0 = λ lead. lead.state ≡ record { state = unbegun (experiment_of lead); harts = 0 ∷ [] } in
     record {

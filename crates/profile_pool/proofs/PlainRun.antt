@@ -1,10 +1,8 @@
 -- What the run with no line selected says of the runs that select one.
-use Rattle.std.proofs.Common.{◌≡◌, ◌≤◌, ◌<◌, ◌^◌, ◌⊎◌, inl, inr, ℕ, true, List, [], map, length, get_or, subst, Result, Ok, Err, IfOk, Option, Some, None, sym, ap, ap₂, refl, ◌∙◌, arith}
+use Rattle.std.proofs.Common.{◌≡◌, ◌≤◌, ◌<◌, ◌^◌, ◌⊎◌, inl, inr, ℕ, true, List, [], map, length, get_or, Result, Ok, Err, IfOk, Some, None, sym, ap, ap₂, refl, ◌∙◌, arith}
 use Rattle.std.specs.declared.alloc.AllocError.{AllocError}
 use Rattle.std.proofs.lemmas.List.{length-map}
-use Rattle.coz_types.specs.declared.LineId.{LineId}
 use Rattle.coz_types.specs.declared.record.Outcome.{Outcome}
-use Rattle.coz_types.specs.declared.record.Summary.{Summary}
 use Rattle.coz_types.specs.declared.record.Visit.{Visit}
 use Rattle.coz_types.specs.Image.{ImageParts}
 use Rattle.coz_types.specs.Labels.{is_label}

@@ -3,3 +3,4 @@ pub mod Made
 pub mod Work
 pub mod Profiles
 pub mod Plain
+pub mod Worth

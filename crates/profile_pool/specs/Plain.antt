@@ -1,7 +1,6 @@
 -- The run with no line selected, and what it gives of the runs that select one.
-use Rattle.std.specs.Prelude.{◌≡◌, ℕ, ◌<◌, ◌≤◌, ◌^◌, ◌⊎◌, true, List, [], map, length, get_or, slice_index_or}
+use Rattle.std.specs.Prelude.{◌≡◌, ℕ, ◌<◌, ◌≤◌, ◌^◌, ◌⊎◌, true, List, [], map, length, get_or, slice_index_or, Option, option_map}
 use Rattle.coz_types.specs.declared.TheConstants.{MAX_SPEEDUP}
-use Rattle.coz_types.specs.declared.LineId.{LineId}
 use Rattle.coz_types.specs.declared.record.Summary.{Summary}
 use Rattle.coz_types.specs.Image.{ImageParts}
 use Rattle.coz_types.specs.Labels.{is_label}
@@ -28,6 +27,10 @@ relabelled label speedup starts s = record s {
 
 abbrev pub starts_at : Plain → ℕ → ℕ
 starts_at plain line = slice_index_or plain.starts.items line 0
+
+-- if the run was made
+abbrev pub starts_in : Option Plain → ℕ → Option ℕ
+starts_in plain line = option_map (λ plain. starts_at plain line) plain
 
 -- what a run with no line selected says of the line at this position, which starts so often
 pub record SaysOf (seen : Seen (Delayed Guest)) (line starts : ℕ) : Type 0 where

@@ -1,13 +1,15 @@
 //! The work of a claim: the runs of all pairs of a line.
-ghost use Rattle.std.specs.Prelude.{◌≡◌, ◌<◌, ◌≤◌, ◌⊎◌, [], Some, length, map, All, IfOk};
+ghost use Rattle.std.specs.Prelude.{◌≡◌, ◌<◌, ◌≤◌, [], Some, length, map, All, IfOk, MatchOption};
 ghost use Rattle.coz_types.specs.declared.TheConstants.{MAX_SPEEDUP};
 ghost use Rattle.coz_types.specs.Ranges.{IsSummary};
 ghost use Rattle.experiment_plan.specs.ByLine.{by_line};
 ghost use Rattle.experiment_plan.specs.declared.experiment.Experiment.{Experiment};
 ghost use Rattle.profile_pool.specs.Made.{parts_made, made_for, IsFor, AreFor};
-ghost use Rattle.profile_pool.specs.Plain.{starts_at};
-ghost use Rattle.profile_pool.specs.Work.{summary_of_pair, work_at, IsWork, IsLed};
+ghost use Rattle.profile_pool.specs.Plain.{starts_in};
+ghost use Rattle.profile_pool.specs.Work.{summary_of_pair, work_at, IsTakenFrom, IsWork, IsLed};
 
+use crate::known::{KnownOutput, no_output};
+use crate::plain::Plain;
 use crate::summary::summarise;
 use crate::work::{Runner, Work};
 use claim_workers::ClaimWork;
@@ -17,7 +19,7 @@ use experiment_plan::Experiment;
 use std::alloc::{AllocError, Global};
 use virtual_run::{Choice, Lead, Machine};
 
-/// Has a lead stand before the first start of a line.
+/// Brings a lead up to the first start of a line.
 fn lead_up<'a>(work: &Work<'a>, lead: &mut Lead<'a>, line: LineId)
     requires work { IsWork work.now }
     requires lead { IsFor work.now lead.old }
@@ -27,7 +29,7 @@ fn lead_up<'a>(work: &Work<'a>, lead: &mut Lead<'a>, line: LineId)
     lead.run();
 }
 
-/// Has a lead stand before the first start of a line, if the line starts.
+/// Brings a lead up to the first start of a line, unless it is known that the line never starts.
 fn take_up<'a>(work: &Work<'a>, lead: &mut Lead<'a>, line: LineId)
     requires work { IsWork work.now }
     requires line { line.0 < length work.now.index.now.lines }
@@ -35,34 +37,61 @@ fn take_up<'a>(work: &Work<'a>, lead: &mut Lead<'a>, line: LineId)
     ensures lead { IsFor work.now lead.new }
     ensures led { IsLed work.now lead.new line.0 }
 {
-    let starts = starts_of(work, line);
-    if starts == 0 {
+    if let Some(0) = starts_of(work, line) {
         return;
     }
     lead_up(work, lead, line);
 }
 
-/// How often a line starts at speedup 0.
-fn starts_of(work: &Work, line: LineId) -> u64
+/// How often a line starts at speedup 0, if that is known.
+fn starts_of(work: &Work, line: LineId) -> Option<u64>
     requires work { IsWork work.now }
     requires line { line.0 < length work.now.index.now.lines }
-    ensures { result ≡ starts_at work.now.plain.now line.0 }
+    ensures { result ≡ starts_in work.now.plain.now line.0 }
 {
-    work.plain.starts[line.0 as usize]
+    match work.plain {
+        Some(plain) => Some(plain.starts[line.0 as usize]),
+        None => None,
+    }
 }
 
-/// The summary of the run of a pair that is the run with no line selected but for its label, its
-/// speedup and its starts: at speedup 0, and if the line never starts.
-fn plain_pair(alloc: Global, work: &Work, pair: Experiment) -> Result<Summary, AllocError>
+/// What the run with no line selected left, if the run of a pair differs from it only in its label,
+/// its speedup and its starts: at speedup 0, and if the line never starts.
+fn plain_of<'a>(work: &Work<'a>, pair: Experiment) -> Option<&'a Plain>
     requires work { IsWork work.now }
     requires line { pair.line.0 < length work.now.index.now.lines }
+    ensures { MatchOption result (¬ (starts_in work.now.plain.now pair.line.0 ≡ Some 0))
+        (λ plain. IsTakenFrom work.now plain.now pair) }
+{
+    match work.plain {
+        Some(plain) => {
+            let starts = plain.starts[pair.line.0 as usize];
+            if pair.speedup == 0 || starts == 0 {
+                Some(plain)
+            } else {
+                None
+            }
+        }
+        None => None,
+    }
+}
+
+/// The summary of the run of a pair that differs from the run with no line selected only in its
+/// label, its speedup and its starts.
+fn plain_pair(
+    alloc: Global,
+    work: &Work,
+    plain: &Plain,
+    pair: Experiment,
+) -> Result<Summary, AllocError>
+    requires line { pair.line.0 < length work.now.index.now.lines }
     requires speedup { pair.speedup ≤ MAX_SPEEDUP }
-    requires plain { (pair.speedup ≡ 0) ⊎ (starts_at work.now.plain.now pair.line.0 ≡ 0) }
+    requires plain { IsTakenFrom work.now plain.now pair }
     ensures summary { IfOk result (λ summary. summary ≡ summary_of_pair work.now pair) }
     ensures ranges { IfOk result (IsSummary (length work.now.points.now.lines)) }
 {
-    let starts = starts_of(work, pair.line);
-    let summary = &work.plain.summary;
+    let starts = plain.starts[pair.line.0 as usize];
+    let summary = &plain.summary;
     let selected = Label::copy(alloc, work.index.label(pair.line).bytes())?;
     let counts = Vec::from_slice(alloc, summary.counts.as_slice())?;
     Ok(Summary {
@@ -85,6 +114,7 @@ fn run_pair<'a>(
     work: &Work<'a>,
     lead: &Lead<'a>,
     machine: &mut Machine<'a>,
+    known: &mut KnownOutput,
     pair: Experiment,
 ) -> Result<Summary, AllocError>
     requires line { pair.line.0 < length work.now.index.now.lines }
@@ -103,6 +133,7 @@ fn run_pair<'a>(
         work.index.label(pair.line),
         pair.speedup,
         work.points,
+        known,
     )
 }
 
@@ -112,6 +143,7 @@ fn make_pair<'a>(
     work: &Work<'a>,
     lead: &Lead<'a>,
     machine: &mut Machine<'a>,
+    known: &mut KnownOutput,
     pair: Experiment,
 ) -> Result<Summary, AllocError>
     requires work { IsWork work.now }
@@ -123,14 +155,10 @@ fn make_pair<'a>(
     ensures summary { IfOk result (λ summary. summary ≡ summary_of_pair work.now pair) }
     ensures ranges { IfOk result (IsSummary (length work.now.points.now.lines)) }
 {
-    if pair.speedup == 0 {
-        return plain_pair(alloc, work, pair);
+    match plain_of(work, pair) {
+        Some(plain) => plain_pair(alloc, work, plain, pair),
+        None => run_pair(alloc, work, lead, machine, known, pair),
     }
-    let starts = starts_of(work, pair.line);
-    if starts == 0 {
-        return plain_pair(alloc, work, pair);
-    }
-    run_pair(alloc, work, lead, machine, pair)
 }
 
 /// Adds the summary of the run of each of some pairs, forked from the lead of their line.
@@ -139,6 +167,7 @@ fn run_pairs<'a>(
     work: &Work<'a>,
     lead: &Lead<'a>,
     machine: &mut Machine<'a>,
+    known: &mut KnownOutput,
     pairs: &[Experiment],
     summaries: &mut Vec<Summary>,
 ) -> Result<(), AllocError>
@@ -157,7 +186,7 @@ fn run_pairs<'a>(
         All (IsSummary (length work.now.points.now.lines)) summaries.new.items) }
 {
     for pair in pairs {
-        let summary = make_pair(alloc, work, lead, machine, *pair)?;
+        let summary = make_pair(alloc, work, lead, machine, known, *pair)?;
         summaries.push(summary)?;
     }
     Ok(())
@@ -200,7 +229,11 @@ impl<'a> ClaimWork for Work<'a> {
             self.input,
             choice,
         ) {
-            Ok(machine) => Ok(Runner { lead, machine }),
+            Ok(machine) => Ok(Runner {
+                lead,
+                machine,
+                known: no_output(alloc),
+            }),
             Err(error) => {
                 // By one call, since a drop in place is proved part by part.
                 drop(lead);
@@ -225,6 +258,7 @@ impl<'a> ClaimWork for Work<'a> {
             self,
             lead,
             &mut runner.machine,
+            &mut runner.known,
             pairs,
             &mut summaries,
         ) {

@@ -7,8 +7,8 @@ use counted_run::Counted;
 use coz_types::{Ending, Outcome};
 use virtual_run::Machine;
 
-/// The same ending. A trap is of one of `HARTS` harts, and the other numbers are within their types
-/// once they are read.
+/// Returns the ending itself. By the match a proof knows that each of its numbers is within its
+/// type; a trap is of a hart below `HARTS`.
 fn in_range(ending: Ending) -> Ending
     requires { IsOfAHart ending }
     ensures same { result ≡ ending }

@@ -1,5 +1,5 @@
 //! The run with no line selected, which is the run of each line at speedup 0 but for its starts.
-ghost use Rattle.std.specs.Prelude.{◌≡◌, ℕ, ◌<◌, ◌≤◌, ◌^◌, List, [], true, length, get_or, IfOk, IsSome, Some};
+ghost use Rattle.std.specs.Prelude.{◌≡◌, ℕ, ◌<◌, ◌≤◌, ◌^◌, List, [], true, length, get_or, IfOk, IfSome, IsSome, Some, is_some};
 ghost use Rattle.coz_types.specs.declared.TheConstants.{MAX_BUDGET, MAX_SPEEDUP};
 ghost use Rattle.coz_types.specs.declared.ending.Ending.{Ending};
 ghost use Rattle.coz_types.specs.Labels.{is_label};
@@ -8,8 +8,10 @@ ghost use Rattle.machines.specs.Records.{record_of};
 ghost use Rattle.run_engine.specs.Seen.{experiment_of};
 ghost use Rattle.profile_pool.specs.Summaries.{summary_of};
 ghost use Rattle.profile_pool.specs.Plain.{relabelled, starts_at, SaysOf, IsPlain};
+ghost use Rattle.profile_pool.specs.Worth.{is_worth};
 
 use crate::outcomes::counted_outcome;
+use crate::worth::is_worth;
 use counted_run::Counted;
 use coz_lists::Items;
 use coz_types::{Image, Label, LineId, Outcome, Summary};
@@ -105,7 +107,7 @@ fn plain_in(
 }
 
 /// What is kept of the run of a program with no line selected.
-pub fn plain_run(
+fn plain_run(
     alloc: Global,
     image: &Image,
     index: &LineIndex,
@@ -124,4 +126,31 @@ pub fn plain_run(
     // By one call, since a drop in place is proved part by part.
     drop(counted);
     plain
+}
+
+/// What is kept of the run of a program with no line selected, if that saves time in a plan of this
+/// many lines. Fails only when out of memory.
+pub fn plain_if_worth(
+    alloc: Global,
+    image: &Image,
+    index: &LineIndex,
+    points: &Points,
+    input: &[u8],
+    lines: u32,
+    budget: u64,
+) -> Result<Option<Plain>, AllocError>
+    requires some_budget { 1 ≤ budget }
+    requires few { budget ≤ MAX_BUDGET }
+    ensures made { IfOk result (λ plain. is_some plain
+        ≡ is_worth image.now index.now points.now input.now lines budget) }
+    ensures plain { IfOk result (λ plain.
+        IfSome plain (IsPlain image.now index.now points.now input.now budget)) }
+{
+    if !is_worth(alloc, image, index, points, input, lines, budget)? {
+        return Ok(None);
+    }
+    match plain_run(alloc, image, index, points, input, budget) {
+        Ok(plain) => Ok(Some(plain)),
+        Err(error) => Err(error),
+    }
 }

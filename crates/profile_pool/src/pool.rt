@@ -1,12 +1,12 @@
 //! The runs of a plan, by workers.
-ghost use Rattle.std.specs.Prelude.{◌≡◌, ◌<◌, ◌≤◌, IfOk, length, All};
+ghost use Rattle.std.specs.Prelude.{◌≡◌, ◌<◌, ◌≤◌, IfOk, IfSome, length, All};
 ghost use Rattle.coz_types.specs.declared.TheConstants.{MAX_BUDGET, MAX_WORKERS};
 ghost use Rattle.coz_types.specs.Ranges.{IsSummary};
 ghost use Rattle.experiment_plan.specs.declared.experiment.Experiment.{Experiment};
 ghost use Rattle.profile_pool.specs.Plain.{IsPlain};
 ghost use Rattle.profile_pool.specs.Summaries.{summaries_of};
 
-use crate::plain::{Plain, plain_run};
+use crate::plain::{Plain, plain_if_worth};
 use crate::work::Work;
 use claim_workers::run_claims;
 use coz_files::Gate;
@@ -18,7 +18,8 @@ use std::alloc::{AllocError, Global};
 use std::thread::Threads;
 use virtual_run::{Choice, Lead};
 
-/// The summary of the run of each pair of a plan, by workers, after the run with no line selected.
+/// The summary of the run of each pair of a plan, by workers, after the run with no line selected
+/// if that was made.
 fn run_from<R: Threads + Sync, G: Gate>(
     rt: &R,
     alloc: Global,
@@ -30,14 +31,15 @@ fn run_from<R: Threads + Sync, G: Gate>(
     budget: u64,
     workers: u32,
     gate: &G,
-    plain: &Plain,
+    plain: &Option<Plain>,
 ) -> Result<Vec<Summary>, AllocError>
     requires lines { All (λ (pair : Experiment). pair.line.0 < length index.now.lines) plan.now }
     requires some_budget { 1 ≤ budget }
     requires few { budget ≤ MAX_BUDGET }
     requires some_workers { 1 ≤ workers }
     requires few_workers { workers ≤ MAX_WORKERS }
-    requires plain { IsPlain image.now index.now points.now input.now budget plain.now }
+    requires plain { IfSome plain.now
+        (IsPlain image.now index.now points.now input.now budget) }
     ensures summaries { IfOk result (λ summaries.
         summaries.items ≡ summaries_of image.now index.now points.now input.now budget plan.now) }
     ensures ranges { IfOk result (λ summaries.
@@ -86,7 +88,13 @@ pub fn run_plan<R: Threads + Sync, G: Gate>(
     ensures ranges { IfOk result (λ summaries.
         All (IsSummary (length points.now.lines)) summaries.items) }
 {
-    let plain = plain_run(alloc, image, index, points, input, budget)?;
+    let lines = plan.line_count();
+    if lines == 0 {
+        return Ok(Vec::new(alloc));
+    }
+    let plain = plain_if_worth(alloc, image, index, points, input, lines, budget)?;
+    // A worker with no line would make its machines for nothing.
+    let workers = workers.min(lines);
     let summaries = run_from(
         rt, alloc, image, index, points, input, plan, budget, workers, gate, &plain,
     );

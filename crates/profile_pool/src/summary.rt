@@ -8,22 +8,25 @@ ghost use Rattle.machines.specs.Records.{record_of};
 ghost use Rattle.run_engine.specs.Seen.{experiment_of};
 ghost use Rattle.profile_pool.specs.Summaries.{summary_of};
 
+use crate::known::{KnownOutput, digest_of_output};
 use crate::outcomes::outcome;
 use coz_lists::Items;
 use coz_types::{Label, Summary};
-use net_visits::{counts_of_visits, digest_of_bytes, digest_of_visits};
+use net_visits::{counts_of_visits, digest_of_visits};
 use progress_points::Points;
 use std::alloc::{AllocError, Global};
 use virtual_run::Machine;
 
 /// What a profile keeps of a run that has ended, of a machine that was made with these points:
-/// its outcome, its output and visits as digests, and how often each point was visited.
+/// its outcome, its output and visits as digests, and how often each point was visited. `known` is
+/// what an earlier run wrote; its digest is taken if this run wrote the same.
 pub fn summarise(
     alloc: Global,
     machine: &Machine,
     label: &Label,
     speedup: u8,
     points: &Points,
+    known: &mut KnownOutput,
 ) -> Result<Summary, AllocError>
     requires points { machine.now.points ≡ points.now }
     requires ended { IsSome machine.now.state.ending }
@@ -36,6 +39,7 @@ pub fn summarise(
 {
     let visits = machine.visits();
     let output = machine.output();
+    let digest = digest_of_output(alloc, known, output)?;
     let selected = Label::copy(alloc, label.bytes())?;
     let counts = counts_of_visits(alloc, points.count(), visits)?;
     Ok(Summary {
@@ -43,7 +47,7 @@ pub fn summarise(
         speedup,
         outcome: outcome(machine),
         length: output.len() as u64,
-        output: digest_of_bytes(output),
+        output: digest,
         counts: Items::new(counts),
         visits: digest_of_visits(visits),
     })

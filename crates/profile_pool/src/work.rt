@@ -1,4 +1,5 @@
-//! What the runs of a plan are made of, and what a worker makes them by.
+//! What workers share for the runs of a plan, and the state of a worker.
+use crate::known::KnownOutput;
 use crate::plain::Plain;
 use coz_types::Image;
 use experiment_plan::Plan;
@@ -6,7 +7,7 @@ use line_index::LineIndex;
 use progress_points::Points;
 use virtual_run::{Lead, Machine};
 
-/// The runs that are to be made of a program: what workers share, and nobody writes.
+/// The runs that are to be made of a program: what workers share, and none writes.
 #[derive(Clone, Copy)]
 pub struct Work<'a> {
     /// The program.
@@ -19,19 +20,22 @@ pub struct Work<'a> {
     pub input: &'a [u8],
     /// Which lines are selected, and at which speedups.
     pub plan: &'a Plan,
-    /// A lead that stands where it was made. Each line is taken up from it.
+    /// A lead that has not run. The lead of each line begins as a copy of it.
     pub first: &'a Lead<'a>,
-    /// What the run with no line selected left.
-    pub plain: &'a Plain,
+    /// What the run with no line selected left, if it was made.
+    pub plain: &'a Option<Plain>,
     /// How many instructions each run may retire.
     pub budget: u64,
 }
 
-/// What a worker runs lines by: a lead, and a machine that is forked from it. They are made once.
+/// The state of a worker: a lead, a machine that is forked from it, and what the machine wrote
+/// last. The lead and the machine are made once.
 #[derive(Drop)]
 pub struct Runner<'a> {
-    /// What goes up to the first start of a line.
+    /// The lead, which runs up to the first start of a line.
     pub lead: Lead<'a>,
-    /// What runs the pairs of the line from there.
+    /// The machine, which runs each pair of the line from there.
     pub machine: Machine<'a>,
+    /// What the machine wrote last.
+    pub known: KnownOutput,
 }

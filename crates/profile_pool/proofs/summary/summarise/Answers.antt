@@ -19,7 +19,7 @@ returns-clause-summary c = λ ending ended.
     (c.in_ok-selected.ensures ∙ c.bytes.ensures)
     (outcome_is d ending c.outcome.result c.outcome.ensures.outcome ended)
     (ap length c.output-output.ensures.bytes)
-    (c.digest_of_bytes.ensures ∙ ap sha256 c.output-output.ensures.bytes)
+    (c.in_ok-digest.ensures ∙ ap sha256 c.output-output.ensures.bytes)
     (c.new.ensures ∙ c.in_ok-counts.ensures ∙ ap (λ n. counts_of n (map net_of visits)) c.count.ensures)
     c.digest_of_visits.ensures
 

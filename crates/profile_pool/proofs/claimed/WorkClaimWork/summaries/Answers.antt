@@ -1,14 +1,12 @@
-use Rattle.std.proofs.Common.{◌≡◌, ◌∙◌, ◌<◌, [], length, map, Some, ap, sym, arith, All}
+use Rattle.std.proofs.Common.{◌∙◌, ◌<◌, [], length, map, ap, sym, arith, All}
 use Rattle.std.proofs.lemmas.List.Elements.{All-same}
 use Rattle.std.proofs.lemmas.Option.{get_or_from_slice_get}
 use Rattle.experiment_plan.specs.ByLine.{by_line, all_pairs}
 use Rattle.experiment_plan.specs.declared.experiment.Experiment.{Experiment}
 use Rattle.experiment_plan.proofs.Lines.{joined_again}
 use Rattle.coz_types.specs.declared.LineId.{LineId}
-use Rattle.profile_pool.specs.Made.{parts_made, made_for}
 use Rattle.profile_pool.specs.Work.{summary_of_pair, IsLed}
 use Rattle.profile_pool.proofs.Lines.{of_all, of_one_line}
-use Rattle.profile_pool.proofs.Making.{for_any}
 use Rattle.profile_pool.proofs.claimed.WorkClaimWork.summaries.Goals as goal
 
 pub run_pairs-requires-clause-lines : goal.run_pairs-requires-clause-lines

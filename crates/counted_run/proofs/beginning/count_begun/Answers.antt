@@ -6,7 +6,7 @@ use Rattle.run_engine.specs.Begin.{started_by}
 use Rattle.run_engine.proofs.Law.{none_is}
 use Rattle.counted_run.specs.Begun.{unless_ended, begun_by}
 use Rattle.counted_run.proofs.Folding.{self_among, others_few}
-use Rattle.counted_run.proofs.follow.count_begun.Goals as goal
+use Rattle.counted_run.proofs.beginning.count_begun.Goals as goal
 
 pub count-requires-clause-made : goal.count-requires-clause-made
 count-requires-clause-made c =

@@ -70,7 +70,7 @@ fn count_started(tallies: &mut Tallies, index: &LineIndex, engine: &Engine, reti
     count_each(tallies, index, &engine.guest, engine.started());
 }
 
-/// The harts begin that the event has started which has led to this engine.
+/// Counts what each hart begins that the last event of this engine started.
 pub fn count_begun(tallies: &mut Tallies, index: &LineIndex, engine: &Engine, event: Event)
     requires made { (k : ℕ) → is_among k (begun_by engine.now event) ≡ true
         → IsMade engine.now.guest k }

@@ -6,7 +6,7 @@ use Rattle.run_engine.specs.Begin.{started_by}
 use Rattle.run_counts.specs.Counts.{Counts, counts_of, IsWithin}
 use Rattle.counted_run.specs.Begun.{with_hart}
 use Rattle.counted_run.proofs.Folding.{fold_within, fold_begun, both_folded, one_at_most, other_started, self_started}
-use Rattle.counted_run.proofs.follow.count_started.Goals as goal
+use Rattle.counted_run.proofs.beginning.count_started.Goals as goal
 
 pub count_again-requires-clause-made : goal.count_again-requires-clause-made
 count_again-requires-clause-made c = λ k among. c.requires.made k (self_started c.args.retired.hart.0 c.args.retired.fate c.args.engine.now.started k among)

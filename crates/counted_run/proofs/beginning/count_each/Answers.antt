@@ -4,7 +4,7 @@ use Rattle.coz_types.specs.declared.HartId.{HartId}
 use Rattle.run_counts.specs.Counts.{Counts, counts_of, IsWithin}
 use Rattle.counted_run.specs.Begun.{with_hart}
 use Rattle.counted_run.proofs.Folding.{hart_within, hart_begun, numbers_from, number_among}
-use Rattle.counted_run.proofs.follow.count_each.Goals as goal
+use Rattle.counted_run.proofs.beginning.count_each.Goals as goal
 
 pub loop-hart-init : goal.loop-hart-init
 loop-hart-init c = (c.requires.within, omega arith, refl)

@@ -2,7 +2,7 @@ use Rattle.std.proofs.Common.{◌≡◌, ◌+◌, fold, map, drop}
 use Rattle.coz_types.specs.declared.HartId.{HartId}
 use Rattle.run_counts.specs.Counts.{counts_of, IsWithin}
 use Rattle.counted_run.specs.Begun.{with_hart}
-use Rattle.counted_run.proofs.follow.count_each.Given as goal
+use Rattle.counted_run.proofs.beginning.count_each.Given as goal
 
 -- once the harts that are left are counted, all are
 abbrev pub invariant-loop-hart : goal.invariant-loop-hart

@@ -3,7 +3,7 @@ use Rattle.machines.specs.declared.Fate.{Fate}
 use Rattle.machines.specs.Places.{is_among}
 use Rattle.run_engine.specs.Begin.{started_by}
 use Rattle.counted_run.proofs.Folding.{self_among}
-use Rattle.counted_run.proofs.follow.count_again.Goals as goal
+use Rattle.counted_run.proofs.beginning.count_again.Goals as goal
 
 pub count-requires-clause-made : goal.count-requires-clause-made
 count-requires-clause-made c =
