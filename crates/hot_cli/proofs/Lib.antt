@@ -1,0 +1,5 @@
+mod Budgets
+mod Judged
+mod Printing
+mod Telling
+mod Served

@@ -1,0 +1,42 @@
+-- What is printed of a run that counted, by the index of a program's lines.
+use Rattle.std.proofs.Common.{◌≡◌, ℕ, List, [], Option, ap, ap₂, ◌∙◌}
+use Rattle.coz_types.specs.Image.{ImageParts}
+use Rattle.machines.specs.Standing.{delayed_record}
+use Rattle.line_index.specs.Index.{Index, position_at}
+use Rattle.progress_points.specs.Points.{Points, IsPoints}
+use Rattle.run_engine.specs.Run.{experiment}
+use Rattle.coz_words.specs.Said.{Text}
+use Rattle.program_steps.specs.Selection.{lines_named}
+use Rattle.hot_cli.specs.declared.asked.HotRequest.{HotRequest}
+use Rattle.hot_run.specs.declared.left.HotRun.{HotRun}
+use Rattle.hot_run.specs.HotRun.{hot_text, hot_written, plain_run, runs_of}
+use Rattle.hot_run.specs.HotRun as counting
+use Rattle.program_inputs.specs.Experiment.{runs_in}
+use Rattle.hot_cli.specs.Verdict.{Verdict, ended_verdict, hot_judging, hot_printed, named_verdict, points_verdict}
+use Rattle.program_inputs.proofs.Indexed.{points_are}
+
+module _ (asked : HotRequest) (image : ImageParts) (index : Index) (input : List ℕ) where
+  -- with these points
+  abbrev pub of_points : List ℕ → Verdict
+  of_points points = hot_printed asked (λ choice. runs_in image index input choice points) (position_at index) index.lines
+
+  -- of the points that a list names
+  abbrev pub of_list : Option Text → Verdict
+  of_list list = named_verdict (lines_named index.lines [] list) (λ named. points_verdict named of_points)
+
+  pub list_is : (list : Option Text) → list ≡ asked.run.progress → of_list list ≡ hot_judging asked (position_at index) index.lines (runs_in image index input)
+  list_is list is = ap of_list is
+
+  printed_is : (runs : counting.Runs) (run : HotRun) → run.ending ≡ (delayed_record (plain_run runs asked.run.budget)).ending
+      → hot_written asked.names index.lines run ≡ hot_text asked.names asked.top asked.run.budget runs (position_at index) index.lines
+      → ended_verdict run.ending (hot_written asked.names index.lines run) ≡ hot_printed asked runs (position_at index) index.lines
+  unfolding hot_printed
+  printed_is runs run ending text = ap₂ ended_verdict ending text
+
+  pub run_is : (points : Points) (run : HotRun) → IsPoints index points.lines points
+      → run.ending ≡ (delayed_record (plain_run (runs_of image index points input) asked.run.budget)).ending
+      → hot_written asked.names index.lines run ≡ hot_text asked.names asked.top asked.run.budget (runs_of image index points input) (position_at index) index.lines
+      → ended_verdict run.ending (hot_written asked.names index.lines run) ≡ of_points points.lines
+  run_is points run are ending text =
+      printed_is (runs_of image index points input) run ending text
+      ∙ ap (λ (point : ℕ → Option ℕ). hot_printed asked (λ choice. experiment image (position_at index) point input choice) (position_at index) index.lines) (points_are index points.lines points are)

@@ -1,0 +1,5 @@
+use Rattle.hot_cli.proofs.Judged.{suits_file}
+use Rattle.hot_cli.proofs.judge.judge_hot.Goals as goal
+
+pub returns-clause-suits : goal.returns-clause-suits
+returns-clause-suits g c = suits_file c.args.asked.now _ _ c.hot_of_file.result c.hot_of_file.ensures.no_read c.hot_of_file.ensures.settled

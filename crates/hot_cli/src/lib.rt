@@ -1,0 +1,13 @@
+//! The program that lists the lines which cost most: its arguments, its answer and its top call.
+//!
+//! Its arguments are those of the command `run` with no line, beside two options of its own.
+#![tactic(auto)]
+
+mod asked;
+mod hot;
+mod judge;
+mod scan;
+mod told;
+mod top;
+
+pub use top::serve_hot;

@@ -1,0 +1,4 @@
+mod Costs
+mod Leaving
+mod Ranking
+mod Visits

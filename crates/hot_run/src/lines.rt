@@ -1,0 +1,40 @@
+//! Lines with what was begun of them, and their order.
+ghost use Rattle.std.specs.Prelude.{◌≡◌, ◌≤◌, ◌++◌, ℕ, [], ◌∷◌, if◌then◌else◌, All, IfOk, OnOk};
+ghost use Rattle.hot_run.specs.Lines.{has_started, rank};
+
+use coz_types::Tick;
+use std::alloc::AllocError;
+use std::cmp::Reverse;
+
+/// What was begun of a line.
+#[derive(Clone, Copy, Debug)]
+pub struct HotLine {
+    /// The line, by its position.
+    pub line: u32,
+    /// How many of its instructions.
+    pub starts: u64,
+    /// Their work, in ticks.
+    pub cost: Tick,
+}
+
+/// Appends a line if some of its instructions were begun. Fails only when out of memory.
+pub fn push_started(lines: &mut Vec<HotLine>, line: HotLine) -> Result<(), AllocError>
+    ensures { OnOk result (lines.new.items
+        ≡ lines.old.items ++ (if has_started line then line ∷ [] else [])) }
+{
+    if line.starts > 0 {
+        lines.push(line)?;
+    }
+    Ok(())
+}
+
+/// These lines by falling cost, and those of one cost in the order that they had.
+/// Fails only when out of memory.
+pub fn ranked(mut lines: Vec<HotLine>) -> Result<Vec<HotLine>, AllocError>
+    ensures ranked { IfOk result (λ ranked. ranked.items ≡ rank lines.items) }
+    ensures within { (most : ℕ) → All (λ (line : HotLine). line.cost ≤ most) lines.items
+        → IfOk result (λ ranked. All (λ (line : HotLine). line.cost ≤ most) ranked.items) }
+{
+    lines.sort_by_key(|line| Reverse(line.cost))?;
+    Ok(lines)
+}
