@@ -1,5 +1,6 @@
 -- The profiles in the files of paths, one more at a time.
-use Rattle.std.proofs.Common.{◌≡◌, ℕ, zero, suc, ◌+◌, ◌<◌, List, [], ◌∷◌, ◌++◌, map, take, drop, length, length-append, get_or, slice_get, string_bytes, All, Option, None, Some, IfSome, Result, Ok, Err, IfErr, inl, inr, refl, sym, ap, ap₂, subst, ◌∙◌, arith}
+use Rattle.std.proofs.Common.{◌≡◌, ℕ, zero, suc, ◌+◌, ◌<◌, List, [], ◌∷◌, ◌++◌, map, take, drop, length, length-append, get_or, string_bytes, All, Option, None, Some, IfSome, Result, Ok, Err, IfErr, inl, inr, refl, sym, ap, ap₂, subst, ◌∙◌, arith}
+use Rattle.std.specs.Global.{Vec}
 use Rattle.std.specs.declared.string.String.{String}
 use Rattle.std.specs.declared.alloc.Global.{Global}
 use Rattle.std.proofs.lemmas.List.Elements.{All-push}
@@ -8,6 +9,9 @@ use Rattle.std.proofs.lemmas.List.{take_more, drop_more, take-append-drop}
 use Rattle.coz_types.specs.Labels.{Text}
 use Rattle.coz_files.specs.Held.{Held, file_at}
 use Rattle.coz_files.specs.Verdict.{Verdict}
+use Rattle.file_steps.specs.Reading as reading
+use Rattle.file_steps.specs.Reading.{read_verdict}
+use Rattle.file_steps.proofs.ReadBytes.{told_by}
 use Rattle.profile_book.specs.declared.profile.Profile.{Profile as Book}
 use Rattle.profile_reader.specs.Grammar.{book_fault}
 use Rattle.profile_reader.specs.Told.{told}
@@ -16,14 +20,43 @@ use Rattle.profile_reader.proofs.Only.{told_is}
 use Rattle.profile_book.specs.Profile.{IsProfile, IsTextOf}
 use Rattle.join_answers.specs.declared.fault.Fault.{Fault}
 use Rattle.join_answers.specs.declared.fault.Fault.TheVariants as faults
-use Rattle.join_answers.specs.Answer.{fault_verdict, judged, IsMemory, IsReadAt, IsOfPath, IsOfPaths, Settles}
-use Rattle.join_answers.specs.Verdict.{book_in, part_in, part_before, parts_in}
+use Rattle.file_steps.specs.declared.fault.FileFault.{FileFault}
+use Rattle.file_steps.specs.declared.fault.FileFault.TheVariants as file
+use Rattle.join_answers.specs.Answer.{fault_verdict, judged, IsMemory, IsOfPath, IsOfPaths, Settles}
+use Rattle.join_answers.specs.Verdict.{book_in, book_of, part_in, part_before, parts_in}
 
 -- the profile that was read is the text's
 pub book_read : (path bytes : Text) (p : Book) → book_fault bytes ≡ None → IsTextOf p bytes → ◌≡◌ {A = Result Book Verdict} (Ok p) (book_in path (book_fault bytes) (told bytes))
 book_read path bytes p none is =
     ap (λ (q : Book). book_in path None q) (sym (told_is bytes p is))
     ∙ ap (λ (fault : Option BookFault). book_in path fault (told bytes)) (sym none)
+
+-- ---- one file
+
+module _ (path : Text) where
+  -- what is known of the reading of the path's file
+  abbrev pub ReadsFile : Option Held → ℕ → ℕ → Result (Vec ℕ) FileFault → Type 0
+  ReadsFile known before now step =
+      IfSome known (λ held. (reading.IsMemory step → ⊥) → (next : Text → Verdict) → reading.SettlesThen (λ file. next file.items) (read_verdict 268435456 path (file_at held path) next) before now step)
+
+  pub unread : (known : Option Held) (before now : ℕ) (fault : FileFault) → ReadsFile known before now (Err fault)
+      → IfSome known (λ held. (IsMemory {A = Book} (Err (faults.File fault)) → ⊥) → Settles {A = Book} (λ (p : Book). p) (part_in path (file_at held path)) before now (Err (faults.File fault)))
+  unread None before now fault reads = tt
+  unread (Some held) before now fault reads = λ other. elim (told_by (λ (file : Vec ℕ). file.items) 268435456 path (file_at held path) before now (Err fault) (reads other)) [
+    | inl is ↦ inl (ap (book_of path) is)
+    | inr failed ↦ inr failed
+  ]
+
+  pub part_of_file : (known : Option Held) (before now : ℕ) (file : Vec ℕ) (answer : Result Book Fault) → ReadsFile known before now (Ok file)
+      → ((IsMemory answer → ⊥) → judged (λ (p : Book). p) answer ≡ book_in path (book_fault file.items) (told file.items))
+      → IfSome known (λ held. (IsMemory answer → ⊥) → Settles (λ (p : Book). p) (part_in path (file_at held path)) before now answer)
+  part_of_file None before now file answer reads is = tt
+  part_of_file (Some held) before now file answer reads is = λ other. elim (told_by (λ (file : Vec ℕ). file.items) 268435456 path (file_at held path) before now (Ok file) (reads (λ no. no))) [
+    | inl same ↦ inl (is other ∙ ap (book_of path) same)
+    | inr failed ↦ absurd failed.0
+  ]
+
+-- ---- files one after the other
 
 -- parts before others
 abbrev both : Result (List Book) Verdict → Result (List Book) Verdict → Result (List Book) Verdict
@@ -85,15 +118,15 @@ module _ (paths : List Text) (i : ℕ) (path : Text) (parts : List Book) (lt : i
 
   -- a fault of a path is one of the paths
   pub of_paths : (told : Option Held) (fault : Fault) → SoFar told → IsOfPath path fault → IsOfPaths paths told fault
-  of_paths told (faults.Read p) so_far is = record {
+  of_paths told (faults.File (file.Read p)) so_far is = record {
     place = i;
     at = slice_get-get_or paths i [] lt ∙ ap (λ (t : Text). Some t) (at ∙ sym is);
     before = read_so_far told so_far;
   }
-  of_paths told faults.Usage so_far is = absurd is
-  of_paths told faults.Write so_far is = absurd is
-  of_paths told (faults.Long p) so_far is = tt
-  of_paths told faults.Memory so_far is = tt
+  of_paths told (faults.File file.Usage) so_far is = absurd is
+  of_paths told (faults.File file.Write) so_far is = absurd is
+  of_paths told (faults.File (file.Long p)) so_far is = tt
+  of_paths told (faults.File file.Memory) so_far is = tt
   of_paths told (faults.Profile f p) so_far is = tt
   of_paths told (faults.Parts k p) so_far is = absurd is
 

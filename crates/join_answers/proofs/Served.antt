@@ -1,25 +1,25 @@
 -- What the top call leaves, by the answer that its words came to.
-use Rattle.std.proofs.Common.{◌≡◌, ◌≢◌, ◌↔◌, ◌⊎◌, ℕ, ◌≤◌, ◌++◌, Bool, true, false, cond, List, get_or, take, slice_get, Option, Some, None, IfSome, IsSomeAnd, IfNone, Result, Ok, Err, IfErr, refl, sym, ap, subst, ◌∙◌, arith, codes, inl, inr}
+use Rattle.std.proofs.Common.{◌≡◌, ◌≢◌, ◌↔◌, ◌⊎◌, ℕ, ◌≤◌, ◌++◌, Bool, true, false, cond, List, Option, Some, None, IfSome, IsSomeAnd, IfNone, Result, Ok, Err, refl, sym, subst, ◌∙◌, arith, codes, inl, inr}
 use Rattle.std.specs.List.{list_all}
 use Rattle.coz_types.specs.Labels.{Text}
 use Rattle.coz_types.specs.declared.record.Summary.{Summary}
 use Rattle.coz_files.specs.Faults.{Rose}
 use Rattle.coz_files.specs.Held.{Held}
-use Rattle.coz_files.specs.Verdict.{Verdict, IsOfVerdict, refusal}
+use Rattle.coz_files.specs.Verdict.{Verdict, IsOfVerdict}
+use Rattle.file_steps.specs.declared.fault.FileFault.TheVariants.{Usage, Read, Write, Long, Memory}
 use Rattle.profile_book.specs.declared.profile.Profile.{Profile as Book}
-use Rattle.profile_join.specs.declared.fault.PartKind.{PartKind}
 use Rattle.join_answers.specs.declared.fault.Fault.{Fault}
-use Rattle.join_answers.specs.declared.fault.Fault.TheVariants.{Usage, Read, Write, Long, Memory, Profile, Parts}
+use Rattle.join_answers.specs.declared.fault.Fault.TheVariants.{File, Profile, Parts}
 use Rattle.join_answers.specs.Words.{paths_in}
 use Rattle.join_answers.specs.Verdict.{parts_in, profile_verdict, profile_status, has_exited, IsVerdict, IsPathsVerdict, IsPartsVerdict, IsJoinVerdict}
-use Rattle.join_answers.specs.Answer.{judged, verdict_of, fault_verdict, fault_status, fault_line, IsMemory, IsMemoryFault, IsRead, IsReadFault, IsReadAt, IsOfPaths, Settles, Suits, IsSettled}
+use Rattle.join_answers.specs.Answer.{verdict_of, fault_verdict, fault_status, fault_line, IsMemory, IsMemoryFault, IsRead, IsReadFault, IsReadAt, Settles, Suits, IsSettled}
 use Rattle.join_answers.specs.Serve.{VerdictHas, IsLine}
 
 -- ---- the verdict of the words
 
 module _ (words : List Text) (held : Held) where
-  pub usage_verdict : paths_in words ≡ None → IsVerdict words held (fault_verdict Usage)
-  usage_verdict none = subst (λ (ps : Option (List Text)). IsPathsVerdict ps held (fault_verdict Usage)) (sym none) refl
+  pub usage_verdict : paths_in words ≡ None → IsVerdict words held (fault_verdict (File Usage))
+  usage_verdict none = subst (λ (ps : Option (List Text)). IsPathsVerdict ps held (fault_verdict (File Usage))) (sym none) refl
 
   module _ (paths : List Text) (named : paths_in words ≡ Some paths) where
     of_parts : (v : Verdict) → IsPartsVerdict paths (parts_in paths held) v → IsVerdict words held v
@@ -47,18 +47,18 @@ apart : (status : ℕ) (ps : List Text) → (status ≡ 2 → ⊥) → (status �
 apart status ps other = (λ is. absurd (other is), λ none. let no : ⊥ = cc in absurd no)
 
 usage_of : (paths : Option (List Text)) (told : Option Held) (fault : Fault) → Suits paths told (Err fault) → (fault_status fault ≡ 2) ↔ (paths ≡ None)
-usage_of None told Usage suits = (λ is. refl, λ none. refl)
-usage_of None told (Read q) suits = absurd suits
-usage_of None told Write suits = absurd suits
-usage_of None told (Long q) suits = absurd suits
-usage_of None told Memory suits = absurd suits
+usage_of None told (File Usage) suits = (λ is. refl, λ none. refl)
+usage_of None told (File (Read q)) suits = absurd suits
+usage_of None told (File Write) suits = absurd suits
+usage_of None told (File (Long q)) suits = absurd suits
+usage_of None told (File Memory) suits = absurd suits
 usage_of None told (Profile fault q) suits = absurd suits
 usage_of None told (Parts kind q) suits = absurd suits
-usage_of (Some ps) told Usage suits = absurd suits
-usage_of (Some ps) told (Read q) suits = apart 5 ps (λ is. omega (arith, is))
-usage_of (Some ps) told Write suits = absurd suits
-usage_of (Some ps) told (Long q) suits = apart 8 ps (λ is. omega (arith, is))
-usage_of (Some ps) told Memory suits = apart 10 ps (λ is. omega (arith, is))
+usage_of (Some ps) told (File Usage) suits = absurd suits
+usage_of (Some ps) told (File (Read q)) suits = apart 5 ps (λ is. omega (arith, is))
+usage_of (Some ps) told (File Write) suits = absurd suits
+usage_of (Some ps) told (File (Long q)) suits = apart 8 ps (λ is. omega (arith, is))
+usage_of (Some ps) told (File Memory) suits = apart 10 ps (λ is. omega (arith, is))
 usage_of (Some ps) told (Profile fault q) suits = apart 12 ps (λ is. omega (arith, is))
 usage_of (Some ps) told (Parts kind q) suits = apart 14 ps (λ is. omega (arith, is))
 
@@ -93,20 +93,20 @@ module _ (words : List Text) (before now : ℕ) where
   has_no_read held fault P settled other no_read p = elim (fault_has held fault P settled other p) [ inl has ↦ has | inr failed ↦ absurd (no_read failed.0) ]
 
   no_memory : (fault : Fault) → fault_status fault ≢ 10 → IsMemoryFault fault → ⊥
-  no_memory Memory other is = other refl
-  no_memory Usage other is = is
-  no_memory (Read p) other is = is
-  no_memory Write other is = is
-  no_memory (Long p) other is = is
+  no_memory (File Memory) other is = other refl
+  no_memory (File Usage) other is = is
+  no_memory (File (Read p)) other is = is
+  no_memory (File Write) other is = is
+  no_memory (File (Long p)) other is = is
   no_memory (Profile f p) other is = is
   no_memory (Parts k p) other is = is
 
   no_read : (fault : Fault) → fault_status fault ≢ 5 → IsReadFault fault → ⊥
-  no_read (Read p) other is = other refl
-  no_read Memory other is = is
-  no_read Usage other is = is
-  no_read Write other is = is
-  no_read (Long p) other is = is
+  no_read (File (Read p)) other is = other refl
+  no_read (File Memory) other is = is
+  no_read (File Usage) other is = is
+  no_read (File Write) other is = is
+  no_read (File (Long p)) other is = is
   no_read (Profile f p) other is = is
   no_read (Parts k p) other is = is
 
@@ -121,11 +121,11 @@ module _ (words : List Text) (before now : ℕ) where
       elim (fault_has held fault P settled (no_memory fault (λ ten. other (is ∙ ten))) p) [ inl has ↦ has | inr failed ↦ absurd (steady failed.1) ]
 
   is_read : (fault : Fault) → fault_status fault ≡ 5 → IsReadFault fault
-  is_read (Read p) is = tt
-  is_read Memory is = absurd (omega (arith, is))
-  is_read Usage is = absurd (omega (arith, is))
-  is_read Write is = absurd (omega (arith, is))
-  is_read (Long p) is = absurd (omega (arith, is))
+  is_read (File (Read p)) is = tt
+  is_read (File Memory) is = absurd (omega (arith, is))
+  is_read (File Usage) is = absurd (omega (arith, is))
+  is_read (File Write) is = absurd (omega (arith, is))
+  is_read (File (Long p)) is = absurd (omega (arith, is))
   is_read (Profile f p) is = absurd (omega (arith, is))
   is_read (Parts k p) is = absurd (omega (arith, is))
 
@@ -135,28 +135,28 @@ module _ (words : List Text) (before now : ℕ) where
   fault_read status (Some held) fault is settled untold five =
       elim (fault_has held fault (λ v. v.status ≡ 5) settled (no_memory fault (λ ten. omega (arith, ten, is, five))) (sym is ∙ five)) [ inl has ↦ inr has | inr failed ↦ inl failed.1 ]
 
-  -- the line that is told
+  -- the line of the fault
   path_of : (paths : Option (List Text)) (told : Option Held) (fault : Fault) → fault_status fault ≡ 5 → Suits paths told (Err fault)
-      → (ps : List Text) × (path : Text) × (paths ≡ Some ps) × IsReadAt ps told path × (fault_line fault ≡ codes "coz-join: read: " ++ path)
-  path_of None told (Read p) five suits = absurd suits
-  path_of (Some ps) told (Read p) five suits = (ps, p.now, refl, suits, refl)
-  path_of paths told Memory five suits = absurd (omega (arith, five))
-  path_of paths told Usage five suits = absurd (omega (arith, five))
-  path_of paths told Write five suits = absurd (omega (arith, five))
-  path_of paths told (Long p) five suits = absurd (omega (arith, five))
+      → (ps : List Text) × (path : Text) × (paths ≡ Some ps) × IsReadAt ps told path × (codes "coz-join: " ++ fault_line fault ≡ codes "coz-join: read: " ++ path)
+  path_of None told (File (Read p)) five suits = absurd suits
+  path_of (Some ps) told (File (Read p)) five suits = (ps, p.now, refl, suits, refl)
+  path_of paths told (File Memory) five suits = absurd (omega (arith, five))
+  path_of paths told (File Usage) five suits = absurd (omega (arith, five))
+  path_of paths told (File Write) five suits = absurd (omega (arith, five))
+  path_of paths told (File (Long p)) five suits = absurd (omega (arith, five))
   path_of paths told (Profile f p) five suits = absurd (omega (arith, five))
   path_of paths told (Parts k p) five suits = absurd (omega (arith, five))
 
-  line_of : (fault : Fault) (n : ℕ) → fault_status fault ≡ n → (n ≡ 2 → fault_line fault ≡ codes "coz-join: usage") × (n ≡ 6 → fault_line fault ≡ codes "coz-join: write") × (n ≡ 10 → fault_line fault ≡ codes "coz-join: memory")
-  line_of Memory n is = (λ e. absurd (omega (arith, e, is)), λ e. absurd (omega (arith, e, is)), λ e. refl)
-  line_of Usage n is = (λ e. refl, λ e. absurd (omega (arith, e, is)), λ e. absurd (omega (arith, e, is)))
-  line_of Write n is = (λ e. absurd (omega (arith, e, is)), λ e. refl, λ e. absurd (omega (arith, e, is)))
-  line_of (Read p) n is = (λ e. absurd (omega (arith, e, is)), λ e. absurd (omega (arith, e, is)), λ e. absurd (omega (arith, e, is)))
-  line_of (Long p) n is = (λ e. absurd (omega (arith, e, is)), λ e. absurd (omega (arith, e, is)), λ e. absurd (omega (arith, e, is)))
+  line_of : (fault : Fault) (n : ℕ) → fault_status fault ≡ n → (n ≡ 2 → codes "coz-join: " ++ fault_line fault ≡ codes "coz-join: usage") × (n ≡ 6 → codes "coz-join: " ++ fault_line fault ≡ codes "coz-join: write") × (n ≡ 10 → codes "coz-join: " ++ fault_line fault ≡ codes "coz-join: memory")
+  line_of (File Memory) n is = (λ e. absurd (omega (arith, e, is)), λ e. absurd (omega (arith, e, is)), λ e. refl)
+  line_of (File Usage) n is = (λ e. refl, λ e. absurd (omega (arith, e, is)), λ e. absurd (omega (arith, e, is)))
+  line_of (File Write) n is = (λ e. absurd (omega (arith, e, is)), λ e. refl, λ e. absurd (omega (arith, e, is)))
+  line_of (File (Read p)) n is = (λ e. absurd (omega (arith, e, is)), λ e. absurd (omega (arith, e, is)), λ e. absurd (omega (arith, e, is)))
+  line_of (File (Long p)) n is = (λ e. absurd (omega (arith, e, is)), λ e. absurd (omega (arith, e, is)), λ e. absurd (omega (arith, e, is)))
   line_of (Profile f p) n is = (λ e. absurd (omega (arith, e, is)), λ e. absurd (omega (arith, e, is)), λ e. absurd (omega (arith, e, is)))
   line_of (Parts k p) n is = (λ e. absurd (omega (arith, e, is)), λ e. absurd (omega (arith, e, is)), λ e. absurd (omega (arith, e, is)))
 
-  pub fault_told : (status : ℕ) (told : Option Held) (fault : Fault) → status ≡ fault_status fault → Suits (paths_in words) told (Err fault) → IsSettledIn told (Err fault) → IsLine status words told (fault_line fault)
+  pub fault_told : (status : ℕ) (told : Option Held) (fault : Fault) → status ≡ fault_status fault → Suits (paths_in words) told (Err fault) → IsSettledIn told (Err fault) → IsLine status words told (codes "coz-join: " ++ fault_line fault)
   fault_told status told fault is suits settled =
       let lines = line_of fault status (sym is) in
       record {
@@ -167,19 +167,19 @@ module _ (words : List Text) (before now : ℕ) where
         verdict = λ of. by told settled of;
       }
     where
-      by : (told : Option Held) → IsSettledIn told (Err fault) → IsOfVerdict status → IfSome told (λ held. VerdictHas words held (λ v. (status ≡ v.status) × (fault_line fault ≡ v.line)))
+      by : (told : Option Held) → IsSettledIn told (Err fault) → IsOfVerdict status → IfSome told (λ held. VerdictHas words held (λ v. (status ≡ v.status) × (codes "coz-join: " ++ fault_line fault ≡ codes "coz-join: " ++ v.line)))
       by None settled of = tt
-      by (Some held) settled of = fault_verdict_has status (Some held) fault (λ v. (status ≡ v.status) × (fault_line fault ≡ v.line)) is settled (is, refl) of
+      by (Some held) settled of = fault_verdict_has status (Some held) fault (λ v. (status ≡ v.status) × (codes "coz-join: " ++ fault_line fault ≡ codes "coz-join: " ++ v.line)) is settled (is, refl) of
 
 -- ---- an answer of the words is never that the output could not be written
 
 never_by : (paths : Option (List Text)) (told : Option Held) (fault : Fault) → Suits paths told (Err fault) → fault_status fault ≡ 6 → ⊥
-never_by None told Write suits is = suits
-never_by (Some ps) told Write suits is = suits
-never_by paths told Usage suits is = omega (arith, is)
-never_by paths told (Read p) suits is = omega (arith, is)
-never_by paths told (Long p) suits is = omega (arith, is)
-never_by paths told Memory suits is = omega (arith, is)
+never_by None told (File Write) suits is = suits
+never_by (Some ps) told (File Write) suits is = suits
+never_by paths told (File Usage) suits is = omega (arith, is)
+never_by paths told (File (Read p)) suits is = omega (arith, is)
+never_by paths told (File (Long p)) suits is = omega (arith, is)
+never_by paths told (File Memory) suits is = omega (arith, is)
 never_by paths told (Profile f p) suits is = omega (arith, is)
 never_by paths told (Parts k p) suits is = omega (arith, is)
 

@@ -1,10 +1,10 @@
 -- The verdict of the profiles of lists of a program's lines.
-use Rattle.std.proofs.Common.{◌≡◌, ℕ, suc, ◌<◌, ◌≤◌, Bool, true, false, cond, nat_le, nat_cmp, Ordering, inl, inr, List, [], ◌∷◌, ◌++◌, codes, string_bytes, map, length, get_or, All, Option, None, Some, Result, Ok, Err, refl, sym, ap, ap₂, subst, ◌∙◌, arith}
+use Rattle.std.proofs.Common.{◌≡◌, ℕ, ◌<◌, ◌≤◌, Bool, true, false, cond, nat_cmp, inl, inr, List, [], ◌∷◌, ◌++◌, codes, string_bytes, map, length, get_or, All, Option, None, Some, Result, Ok, Err, refl, sym, ap, ap₂, subst, ◌∙◌, arith}
 use Rattle.std.specs.List.{AllByRecursion, list_all}
 use Rattle.std.specs.Str.{bytes_eq}
 use Rattle.std.specs.declared.string.String.{String}
 use Rattle.std.specs.declared.alloc.Global.{Global}
-use Rattle.std.proofs.lemmas.Bool.{cases_order, le-leb}
+use Rattle.std.proofs.lemmas.Bool.{cases_order, le-ltb}
 use Rattle.std.proofs.lemmas.List.{length-map}
 use Rattle.std.proofs.lemmas.List.Elements.{recursion_from_All}
 use Rattle.std.specs.List.Sorted.{IsStrictlySortedBy}
@@ -14,20 +14,17 @@ use Rattle.coz_files.specs.Held.{Held, file_at}
 use Rattle.coz_files.specs.Verdict.{Verdict, refusal}
 use Rattle.profile_book.specs.Profile.{IsProfile, profile_text}
 use Rattle.profile_book.specs.declared.profile.Profile.{Profile}
-use Rattle.profile_reader.specs.Grammar.{book_fault}
 use Rattle.profile_reader.specs.Told.{told}
 use Rattle.profile_reader.specs.declared.fault.BookFault.{BookFault}
 use Rattle.profile_reader.proofs.Only.{no_fault_of_text, told_is}
-use Rattle.profile_join.specs.Parts.{IsJoin}
-use Rattle.profile_join.specs.declared.fault.PartFault.{PartFault}
 use Rattle.profile_join.specs.declared.fault.PartKind.{PartKind}
 use Rattle.profile_join.specs.declared.fault.PartKind.TheVariants.{Twice}
 use Rattle.profile_join.specs.declared.fault.JoinError.TheVariants.{Unlike}
 use Rattle.profile_shards.specs.Shards.{AreBlocks, AreLines, AreTogether, AreDisjoint, IsTwice, holders, profile_at}
 use Rattle.profile_shards.proofs.Law.{shards_join}
 use Rattle.join_answers.specs.Words.{paths_in, are_paths, as_paths, dashes, is_plain}
-use Rattle.join_answers.specs.Verdict.{book_in, book_of, file_in, part_in, part_before, parts_in, parts_line, profile_verdict, unlike_verdict, IsPathsVerdict, IsPartsVerdict, IsJoinVerdict, IsVerdict}
-use Rattle.join_answers.specs.Shards.{HoldProfiles, IsShardsVerdict, ShardsVerdict, twice_line}
+use Rattle.join_answers.specs.Verdict.{book_in, book_of, part_in, part_before, parts_in, parts_line, profile_verdict, IsPathsVerdict, IsPartsVerdict, IsJoinVerdict}
+use Rattle.join_answers.specs.Shards.{IsShardsVerdict, ShardsVerdict, twice_line}
 
 -- ---- reading
 
@@ -35,8 +32,8 @@ use Rattle.join_answers.specs.Shards.{HoldProfiles, IsShardsVerdict, ShardsVerdi
 part_of_text : (path : Text) (p : Profile) → IsProfile p → length (profile_text p) ≤ 268435456 → part_in path (Some (profile_text p)) ≡ Ok p
 part_of_text path p right short =
     let text : Text = profile_text p in
-    let long : Result Text Verdict = Err (refusal 8 (codes "coz-join: long: " ++ path)) in
-    ap (λ (b : Bool). book_of path (cond b (Ok text) long)) (le-leb (length text) 268435456 short)
+    let long : Result Text Verdict = Err (refusal 8 (codes "long: " ++ path)) in
+    ap (λ (b : Bool). book_of path (cond b long (Ok text))) (le-ltb 268435456 (length text) short)
     ∙ ap (λ (fault : Option BookFault). book_in path fault (told text)) (no_fault_of_text text p (right, refl))
     ∙ ap (λ (q : Profile). book_in path None q) (told_is text p (right, refl))
 

@@ -1,38 +1,31 @@
 -- What is known of an answer before it is written.
-use Rattle.std.specs.Prelude.{◌≡◌, ℕ, ◌⊎◌, ◌++◌, codes, List, take, slice_get, Option, Some, None, IfSome, Result, Ok, Err, IfErr, IsErrAnd}
+use Rattle.std.specs.Prelude.{◌≡◌, ℕ, ◌⊎◌, List, take, slice_get, Option, Some, None, IfSome, Result, Ok, Err, IfErr, IsErrAnd}
 use Rattle.coz_types.specs.Labels.{Text}
 use Rattle.coz_files.specs.Faults.{Rose}
 use Rattle.coz_files.specs.Held.{Held}
-use Rattle.failures.specs.declared.Failure.{Failure}
-use Rattle.failures.specs.declared.Failure.TheVariants as book
+use Rattle.file_steps.specs.declared.fault.FileFault.TheVariants.{Usage, Read, Write}
+use Rattle.file_steps.specs.Faults.{file_status, file_line}
+use Rattle.file_steps.specs.Reading as reading
 use Rattle.profile_book.specs.declared.profile.Profile.{Profile as Book}
-use Rattle.profile_reader.specs.declared.fault.BookFault.{BookFault}
 use Rattle.join_answers.specs.declared.fault.Fault.{Fault}
-use Rattle.join_answers.specs.declared.fault.Fault.TheVariants.{Usage, Read, Write, Long, Memory, Profile, Parts}
+use Rattle.join_answers.specs.declared.fault.Fault.TheVariants.{File, Profile, Parts}
 use Rattle.join_answers.specs.Verdict.{Verdict, refusal, profile_line, parts_line, parts_in, profile_verdict, IsVerdict}
 
 abbrev pub fault_status : Fault → ℕ
-fault_status Usage = 2
-fault_status (Read path) = 5
-fault_status Write = 6
-fault_status (Long path) = 8
-fault_status Memory = 10
+fault_status (File fault) = file_status fault
 fault_status (Profile fault path) = 12
 fault_status (Parts kind path) = 14
 
+-- the text of a fault, after the program's name
 abbrev pub fault_line : Fault → Text
-fault_line Usage = codes "coz-join: usage"
-fault_line (Read path) = codes "coz-join: read: " ++ path.now
-fault_line Write = codes "coz-join: write"
-fault_line (Long path) = codes "coz-join: long: " ++ path.now
-fault_line Memory = codes "coz-join: memory"
+fault_line (File fault) = file_line fault
 fault_line (Profile fault path) = profile_line path.now fault
 fault_line (Parts kind path) = parts_line kind path.now
 
 abbrev pub fault_verdict : Fault → Verdict
 fault_verdict fault = refusal (fault_status fault) (fault_line fault)
 
--- what a step came to, with the verdict of its fault
+-- the result of a step, with the verdict of its fault
 abbrev pub judged : {A B : Type 0} → (A → B) → Result A Fault → Result B Verdict
 judged view (Ok value) = Ok (view value)
 judged view (Err fault) = Err (fault_verdict fault)
@@ -43,14 +36,14 @@ verdict_of (Ok joined) = profile_verdict joined
 verdict_of (Err fault) = fault_verdict fault
 
 abbrev pub IsReadFault : Fault → Type 0
-IsReadFault (Read path) = Unit {0}
+IsReadFault (File fault) = reading.IsReadFault fault
 IsReadFault _ = ⊥
 
 abbrev pub IsRead : {A : Type 0} → Result A Fault → Type 0
 IsRead step = IsErrAnd step IsReadFault
 
 abbrev pub IsMemoryFault : Fault → Type 0
-IsMemoryFault Memory = Unit {0}
+IsMemoryFault (File fault) = reading.IsMemoryFault fault
 IsMemoryFault _ = ⊥
 
 abbrev pub IsMemory : {A : Type 0} → Result A Fault → Type 0
@@ -69,22 +62,20 @@ pub record IsReadAt (paths : List Text) (told : Option Held) (path : Text) : Typ
 
 -- the faults that the reading of a path's file may have
 abbrev pub IsOfPath : Text → Fault → Type 0
-IsOfPath path (Read p) = p.now ≡ path
-IsOfPath path (Long p) = p.now ≡ path
-IsOfPath path Memory = Unit {0}
+IsOfPath path (File fault) = reading.IsOfPath path fault
 IsOfPath path (Profile fault p) = p.now ≡ path
 IsOfPath path _ = ⊥
 
 -- the faults that the reading of the files of these paths may have
 abbrev pub IsOfPaths : List Text → Option Held → Fault → Type 0
-IsOfPaths paths told (Read path) = IsReadAt paths told path.now
-IsOfPaths paths told Usage = ⊥
-IsOfPaths paths told Write = ⊥
+IsOfPaths paths told (File (Read path)) = IsReadAt paths told path.now
+IsOfPaths paths told (File Usage) = ⊥
+IsOfPaths paths told (File Write) = ⊥
 IsOfPaths paths told _ = Unit {0}
 
 -- which answers the words that name these paths, or none, may have
 abbrev pub Suits : Option (List Text) → Option Held → Result Book Fault → Type 0
-Suits None told (Err Usage) = Unit {0}
+Suits None told (Err (File Usage)) = Unit {0}
 Suits None told _ = ⊥
 Suits (Some paths) told (Ok joined) = Unit {0}
 Suits (Some paths) told (Err fault) = IsOfPaths paths told fault

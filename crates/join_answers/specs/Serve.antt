@@ -17,9 +17,9 @@ pub record IsLine (status : ℕ) (words : List Text) (told : Option Held) (line 
   pub usage : status ≡ 2 → line ≡ codes "coz-join: usage"
   pub write : status ≡ 6 → line ≡ codes "coz-join: write"
   pub memory : status ≡ 10 → line ≡ codes "coz-join: memory"
-  -- a path that the words name, where each file before its own holds a profile
+  -- a path that the words name, if each file before its own holds a profile
   pub read : status ≡ 5
       → (paths : List Text) × (path : Text) × (paths_in words ≡ Some paths)
       × IsReadAt paths told path × (line ≡ codes "coz-join: read: " ++ path)
   pub verdict : IsOfVerdict status → IfSome told (λ held.
-      VerdictHas words held (λ v. (status ≡ v.status) × (line ≡ v.line)))
+      VerdictHas words held (λ v. (status ≡ v.status) × (line ≡ codes "coz-join: " ++ v.line)))

@@ -1,5 +1,5 @@
 -- The join of files that hold the profiles of lists of a program's lines.
-use Rattle.std.specs.Prelude.{◌≡◌, ℕ, ◌≤◌, List, [], map, length, get_or, All, Option, Some}
+use Rattle.std.specs.Prelude.{◌≡◌, ℕ, ◌≤◌, List, [], map, length, get_or, All, Some}
 use Rattle.std.specs.List.Sorted.{IsStrictlySortedBy}
 use Rattle.std.specs.Ordering.{nat_cmp}
 use Rattle.coz_types.specs.Labels.{Text}

@@ -1,6 +1,6 @@
--- What the words and the files that their paths hold come to: a status, a text for the output
--- and a line for the errors.
-use Rattle.std.specs.Prelude.{◌≡◌, ℕ, ◌⊎◌, Bool, true, false, List, [], ◌∷◌, ◌++◌, length, nat_le, codes, decimal, get_or, Option, Some, None, Result, Ok, Err, if◌then◌else◌}
+-- The verdict of the arguments, with the files of their paths: a status, a text for the output
+-- and a line for the errors, after the program's name.
+use Rattle.std.specs.Prelude.{◌≡◌, ℕ, ◌⊎◌, Bool, true, false, List, [], ◌∷◌, ◌++◌, codes, get_or, Option, Some, None, Result, Ok, Err, if◌then◌else◌}
 use Rattle.std.specs.List.{list_all}
 use Rattle.coz_types.specs.Labels.{Text}
 use Rattle.coz_types.specs.declared.ending.Ending.{Ending}
@@ -8,13 +8,14 @@ use Rattle.coz_types.specs.declared.ending.Ending.TheVariants.{Exited}
 use Rattle.coz_types.specs.declared.record.Summary.{Summary}
 use Rattle.coz_files.specs.Held.{Held, file_at}
 pub use Rattle.coz_files.specs.Verdict.{Verdict, bytes_of, refusal}
+use Rattle.file_steps.specs.Reading.{file_in}
 use Rattle.profile_book.specs.Profile.{profile_text}
 use Rattle.profile_book.specs.declared.profile.Profile.{Profile as Book}
 use Rattle.profile_reader.specs.declared.TheConstants.{MAX_PROFILE}
 use Rattle.profile_reader.specs.Grammar.{book_fault}
 use Rattle.profile_reader.specs.Told.{told}
 use Rattle.profile_reader.specs.declared.fault.BookFault.{BookFault}
-use Rattle.profile_reader.specs.ItemNames.{item_name}
+use Rattle.profile_reader.specs.ItemNames.{book_line}
 use Rattle.profile_join.specs.Parts.{IsJoin}
 use Rattle.profile_join.specs.declared.fault.PartFault.{PartFault}
 use Rattle.profile_join.specs.declared.fault.PartKind.{PartKind}
@@ -25,29 +26,20 @@ use Rattle.join_answers.specs.Words.{paths_in}
 -- ---- a part
 
 abbrev pub profile_line : Text → BookFault → Text
-profile_line path fault =
-    codes "coz-join: profile: " ++ item_name fault.field ++ codes " at " ++ decimal fault.place
-    ++ codes " in " ++ path
+profile_line path fault = book_line fault ++ codes " in " ++ path
 
 -- the profile whose text it is, if the text has no fault
 abbrev pub book_in : Text → Option BookFault → Book → Result Book Verdict
 book_in path None p = Ok p
 book_in path (Some fault) p = Err (refusal 12 (profile_line path fault))
 
--- the bytes of the file of a path, if there are at most 268,435,456
-abbrev pub file_in : Text → Option Text → Result Text Verdict
-file_in path None = Err (refusal 5 (codes "coz-join: read: " ++ path))
-file_in path (Some bytes) =
-    if nat_le (length bytes) MAX_PROFILE then Ok bytes
-    else Err (refusal 8 (codes "coz-join: long: " ++ path))
-
 abbrev pub book_of : Text → Result Text Verdict → Result Book Verdict
 book_of path (Err refused) = Err refused
 book_of path (Ok bytes) = book_in path (book_fault bytes) (told bytes)
 
--- the profile in the file of a path
+-- the profile in the file of a path, which has at most 268,435,456 bytes
 abbrev pub part_in : Text → Option Text → Result Book Verdict
-part_in path file = book_of path (file_in path file)
+part_in path file = book_of path (file_in MAX_PROFILE path file)
 
 -- a part before others, if all are there
 abbrev pub part_before : Result Book Verdict → Result (List Book) Verdict → Result (List Book) Verdict
@@ -83,7 +75,7 @@ kind_text Baseline = codes "Baseline"
 kind_text (Twice label) = codes "Twice " ++ label
 
 abbrev pub parts_line : PartKind → Text → Text
-parts_line kind path = codes "coz-join: parts: " ++ kind_text kind ++ codes " in " ++ path
+parts_line kind path = codes "parts: " ++ kind_text kind ++ codes " in " ++ path
 
 -- the profiles of these paths are no parts of one: the status, and the path of the unlike part
 abbrev pub unlike_verdict : List Text → PartFault → Verdict
@@ -102,7 +94,7 @@ IsPartsVerdict paths (Err refused) v = v ≡ refused
 IsPartsVerdict paths (Ok parts) v = IsJoinVerdict paths parts v
 
 abbrev pub IsPathsVerdict : Option (List Text) → Held → Verdict → Type 0
-IsPathsVerdict None held v = v ≡ refusal 2 (codes "coz-join: usage")
+IsPathsVerdict None held v = v ≡ refusal 2 (codes "usage")
 IsPathsVerdict (Some paths) held v = IsPartsVerdict paths (parts_in paths held) v
 
 -- the verdict of these words, over files with these contents

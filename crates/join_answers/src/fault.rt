@@ -1,7 +1,9 @@
 //! Why there is no joined profile.
 ghost use Rattle.std.specs.Prelude.{◌≡◌};
-ghost use Rattle.join_answers.specs.declared.fault.Fault.TheVariants.{Memory};
+ghost use Rattle.file_steps.specs.declared.fault.FileFault.TheVariants.{Memory};
+ghost use Rattle.join_answers.specs.declared.fault.Fault.TheVariants.{File};
 
+use file_steps::FileFault;
 use profile_join::PartKind;
 use profile_reader::BookFault;
 use std::alloc::{AllocError, AllocFailed};
@@ -9,34 +11,34 @@ use std::alloc::{AllocError, AllocFailed};
 /// Why there is no joined profile.
 #[derive(Drop)]
 pub enum Fault<'a> {
-    /// The words are not one path or more.
-    Usage,
-    /// The file of this path could not be read.
-    Read(&'a str),
-    /// The output could not be written.
-    Write,
-    /// The file of this path is longer than a profile may be.
-    Long(&'a str),
-    /// Out of memory.
-    Memory,
+    /// The words, a file that is read, the output or memory is the cause.
+    File(FileFault<'a>),
     /// The text in the file of this path is no profile's.
     Profile(BookFault, &'a str),
     /// The profile in the file of this path doesn't belong to the same profile as those before it.
     Parts(PartKind, &'a str),
 }
 
+impl<'a> From<FileFault<'a>> for Fault<'a> {
+    ghost from_gives = { λ of fault. fault ≡ File of };
+
+    fn from(fault: FileFault<'a>) -> Fault<'a> {
+        Fault::File(fault)
+    }
+}
+
 impl<'a> From<AllocError> for Fault<'a> {
-    ghost from_gives = { λ _ fault. fault ≡ Memory };
+    ghost from_gives = { λ _ fault. fault ≡ File Memory };
 
     fn from(_: AllocError) -> Fault<'a> {
-        Fault::Memory
+        Fault::File(FileFault::Memory)
     }
 }
 
 impl<'a, T: Drop> From<AllocFailed<T>> for Fault<'a> {
-    ghost from_gives = { λ _ fault. fault ≡ Memory };
+    ghost from_gives = { λ _ fault. fault ≡ File Memory };
 
     fn from(_: AllocFailed<T>) -> Fault<'a> {
-        Fault::Memory
+        Fault::File(FileFault::Memory)
     }
 }

@@ -1,4 +1,4 @@
-//! What the words and the files that they name come to.
+//! Judges the arguments and the files that they name.
 ghost use Rattle.std.specs.Prelude.{◌≡◌, ℕ, List, IfSome, IfNone};
 ghost use Rattle.coz_files.specs.Faults.{Rose};
 ghost use Rattle.join_answers.specs.Words.{paths_in};
@@ -9,11 +9,12 @@ use crate::fault::Fault;
 use crate::parts::{joined, read_parts};
 use crate::words::paths_in;
 use coz_files::Files;
+use file_steps::FileFault;
 use profile_book::Profile;
 use std::alloc::Global;
 
 /// Returns the profile that the files of the named paths hold parts of.
-/// Err is the first fault of the words, of a file, or of the parts, or `Fault::Memory`.
+/// Err is the first fault of the words, of a file, or of the parts, or out of memory.
 pub fn judge<'w, F: Files>(
     alloc: Global,
     words: &'w [String],
@@ -28,7 +29,7 @@ pub fn judge<'w, F: Files>(
     ensures no_fault { (IsRead result → ⊥) → F.faults files.new ≡ F.faults files.old }
 {
     let Some(paths) = paths_in(words) else {
-        return Err(Fault::Usage);
+        return Err(Fault::File(FileFault::Usage));
     };
     match read_parts(alloc, files, paths) {
         Ok(parts) => joined(alloc, parts, paths),

@@ -1,5 +1,5 @@
-//! Joins the profiles in files: which paths the words name, what their files hold, and what is
-//! printed and told.
+//! Joins the profiles in files: the paths that the arguments name, what their files hold, and what
+//! is printed.
 #![tactic(auto)]
 
 mod fault;

@@ -6,39 +6,16 @@ ghost use Rattle.coz_files.specs.Held.{file_at};
 ghost use Rattle.profile_book.specs.Profile.{IsProfile};
 ghost use Rattle.profile_reader.specs.Grammar.{book_fault};
 ghost use Rattle.profile_reader.specs.Told.{told};
-ghost use Rattle.join_answers.specs.Verdict.{bytes_of, book_in, file_in, part_in, parts_in, IsJoinVerdict};
+ghost use Rattle.join_answers.specs.Verdict.{bytes_of, book_in, part_in, parts_in, IsJoinVerdict};
 ghost use Rattle.join_answers.specs.Answer.{judged, verdict_of, IsMemory, IsRead, IsOfPath, IsOfPaths, Settles};
 
 use crate::fault::Fault;
-use coz_files::{FileAnswer, Files};
+use coz_files::Files;
+use file_steps::{FileFault, read_file};
 use profile_book::Profile;
 use profile_join::{JoinError, join};
 use profile_reader::{BookError, MAX_PROFILE, read_profile};
 use std::alloc::Global;
-
-/// Returns the bytes of the file of a path.
-fn read_file<'w, F: Files>(
-    alloc: Global,
-    files: &mut F,
-    path: &'w str,
-) -> Result<Vec<u8>, Fault<'w>>
-    ensures same { F.held files.new ≡ F.held files.old }
-    ensures of_path { IfErr result (IsOfPath path.now) }
-    ensures settled { IfSome (F.held files.old) (λ held. (IsMemory result → ⊥) →
-        Settles (λ (bytes : Vec ℕ). bytes.items) (file_in path.now (file_at held path.now))
-        (F.faults files.old) (F.faults files.new) result) }
-    ensures untold { IsRead result
-        → IfNone (F.held files.old) (Rose (F.faults files.old) (F.faults files.new)) }
-    ensures no_fault { (IsRead result → ⊥) → F.faults files.new ≡ F.faults files.old }
-{
-    let mut file = Vec::new(alloc);
-    match files.read_whole(path, MAX_PROFILE, &mut file) {
-        FileAnswer::Whole => Ok(file),
-        FileAnswer::Longer => Err(Fault::Long(path)),
-        FileAnswer::Failed => Err(Fault::Read(path)),
-        FileAnswer::Memory => Err(Fault::Memory),
-    }
-}
 
 /// Returns the profile of which the bytes are the text, if they are one's.
 fn book<'w>(alloc: Global, bytes: &[u8], path: &'w str) -> Result<Profile, Fault<'w>>
@@ -51,7 +28,7 @@ fn book<'w>(alloc: Global, bytes: &[u8], path: &'w str) -> Result<Profile, Fault
     match read_profile(alloc, bytes) {
         Ok(profile) => Ok(profile),
         Err(BookError::Fault(fault)) => Err(Fault::Profile(fault, path)),
-        Err(BookError::Memory) => Err(Fault::Memory),
+        Err(BookError::Memory) => Err(Fault::File(FileFault::Memory)),
     }
 }
 
@@ -71,7 +48,7 @@ fn read_part<'w, F: Files>(
         → IfNone (F.held files.old) (Rose (F.faults files.old) (F.faults files.new)) }
     ensures no_fault { (IsRead result → ⊥) → F.faults files.new ≡ F.faults files.old }
 {
-    let file = read_file(alloc, files, path)?;
+    let file = read_file(alloc, files, path, MAX_PROFILE)?;
     book(alloc, &file, path)
 }
 
@@ -131,6 +108,6 @@ pub fn joined<'w>(
             let path = path_at(paths, fault.part);
             Err(Fault::Parts(fault.kind, path))
         }
-        Err(JoinError::Memory) => Err(Fault::Memory),
+        Err(JoinError::Memory) => Err(Fault::File(FileFault::Memory)),
     }
 }

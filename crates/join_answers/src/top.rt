@@ -14,6 +14,7 @@ use crate::fault_line::tell;
 use crate::judge::judge;
 use coz_files::{Files, PutAnswer, Sink};
 use coz_types::{Ending, Summary};
+use file_steps::FileFault;
 use profile_book::{Profile, write_profile};
 use std::alloc::Global;
 
@@ -100,7 +101,7 @@ pub fn serve_parts<F: Files, O: Sink, E: Sink>(
     match judge(alloc, words, files) {
         Ok(joined) => match write_profile(&joined, out) {
             PutAnswer::Done => profile_status(&joined),
-            PutAnswer::Failed => tell(err, &Fault::Write),
+            PutAnswer::Failed => tell(err, &Fault::File(FileFault::Write)),
         },
         Err(fault) => tell(err, &fault),
     }

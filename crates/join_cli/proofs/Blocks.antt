@@ -1,5 +1,5 @@
 -- The blocks of a program's lines, by position and speedup.
-use Rattle.std.proofs.Common.{◌≡◌, ℕ, ◌<◌, ◌≤◌, nat_cmp, Ordering, List, [], ◌∷◌, ◌++◌, map, flat_map, length, get_or, slice_get, Some, true, refl, sym, ap, ap₂, ◌∙◌, arith}
+use Rattle.std.proofs.Common.{◌≡◌, ℕ, ◌<◌, nat_cmp, Ordering, List, [], ◌∷◌, ◌++◌, map, length, slice_get, Some, refl, ap, ap₂, ◌∙◌, arith}
 use Rattle.std.specs.declared.cmp.Ordering.TheVariants.{Less, Equal, Greater}
 use Rattle.std.specs.Cmp.{nat_cmp_total}
 use Rattle.std.specs.List.Sorted.{IsStrictlySortedBy}
@@ -8,10 +8,9 @@ use Rattle.std.proofs.lemmas.List.{length-map, map-append}
 use Rattle.std.proofs.lemmas.Simd.{map-map}
 use Rattle.std.proofs.lemmas.Option.{slice_get-get_or}
 use Rattle.coz_types.specs.Image.{ImageParts}
-use Rattle.coz_types.specs.Labels.{Text, is_label, label_before}
 use Rattle.coz_types.specs.declared.LineId.{LineId}
 use Rattle.coz_types.specs.declared.record.Summary.{Summary}
-use Rattle.line_index.specs.Lines.{Line, label}
+use Rattle.line_index.specs.Lines.{label}
 use Rattle.line_index.specs.Index.{Index}
 use Rattle.line_index.specs.Listed.{in_order, with_element}
 use Rattle.line_index.proofs.Labelled.{labels_rise, right_label}
@@ -21,11 +20,11 @@ use Rattle.experiment_plan.specs.declared.experiment.Experiment.{Experiment as P
 use Rattle.experiment_plan.specs.Pairs.{at_speedup}
 use Rattle.experiment_plan.specs.Pairs as pairs
 use Rattle.experiment_plan.specs.Selected.{rising_numbers}
-use Rattle.profile_book.specs.declared.profile.Profile.{Profile}
 use Rattle.profile_shards.specs.Shards.{AreBlocks, blocks_at, profile_at}
 use Rattle.profile_pool.specs.Summaries.{summary_of}
 use Rattle.profile_pool.specs.Profiles.{label_at, record_in, summary_on, profile_of_lines}
 use Rattle.join_cli.specs.Shards.{AreIndexed}
+use Rattle.join_cli.proofs.Indexed.{rise, right}
 use Rattle.join_cli.proofs.Baselines.{pair_at, same_baseline}
 
 -- ---- speedups
@@ -80,11 +79,11 @@ module _ (image : ImageParts) (index : Index) (points : Points) (input : List �
   unfolding summary_of
   speedup_is line speedup = refl
 
-  pub are_blocks : AreIndexed index → AreBlocks (length index.lines) (label_at index.lines) block_at
+  pub are_blocks : AreIndexed image index → AreBlocks (length index.lines) (label_at index.lines) block_at
   are_blocks are = record {
     selected = selected_is;
     speedup = speedup_is;
     alike = same_baseline image index points input budget index.lines;
-    right = λ line lt. right_label index.lines line (label_at index.lines line) are.right (label_there line lt);
-    rise = λ line other lt below. labels_rise index.lines line other (label_at index.lines line) (label_at index.lines other) are.rise are.right lt (label_there line (omega (arith, lt, below))) (label_there other below);
+    right = λ line lt. right_label index.lines line (label_at index.lines line) (right image index are) (label_there line lt);
+    rise = λ line other lt below. labels_rise index.lines line other (label_at index.lines line) (label_at index.lines other) (rise image index are) (right image index are) lt (label_there line (omega (arith, lt, below))) (label_there other below);
   }

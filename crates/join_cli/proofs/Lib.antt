@@ -1,3 +1,12 @@
+pub mod Tables
+pub mod Righted
+pub mod Indexed
 pub mod Baselines
 pub mod Blocks
+pub mod Moves
+pub mod Words
+pub mod Executing
+pub mod Guests
+pub mod Runs
+pub mod Profiles
 pub mod Shards

@@ -1,5 +1,5 @@
 -- The files of profiles of lists of a program's lines are joined to the profile of all their lines.
-use Rattle.std.proofs.Common.{◌≡◌, ℕ, ◌≤◌, Bool, true, false, cond, List, [], ◌∷◌, map, length, All, Option, None, Some, IfSome, refl, sym, ap, subst, ◌∙◌, arith}
+use Rattle.std.proofs.Common.{◌≡◌, ℕ, ◌≤◌, Bool, true, false, cond, List, ◌∷◌, ◌++◌, codes, map, length, All, Option, None, Some, IfSome, sym, ap, subst, ◌∙◌, arith}
 use Rattle.std.proofs.Math.Path.{fun_ext}
 use Rattle.std.specs.List.{list_all}
 use Rattle.std.specs.Io.KnownBytes.{Appends}
@@ -8,7 +8,7 @@ use Rattle.coz_types.specs.Labels.{Text}
 use Rattle.coz_types.specs.declared.record.Summary.{Summary}
 use Rattle.coz_files.specs.Held.{Held, file_at}
 use Rattle.coz_files.specs.Puts.{AppendsPrefix}
-use Rattle.coz_files.specs.Verdict.{Verdict, IsOfVerdict, refusal}
+use Rattle.coz_files.specs.Verdict.{Verdict, IsOfVerdict}
 use Rattle.line_index.specs.Index.{Index}
 use Rattle.progress_points.specs.Points.{Points}
 use Rattle.experiment_plan.specs.Selected.{rising_numbers}
@@ -16,12 +16,14 @@ use Rattle.profile_book.specs.Profile.{IsProfile, profile_text}
 use Rattle.profile_book.specs.declared.profile.Profile.{Profile}
 use Rattle.profile_shards.specs.Shards.{AreLines, AreTogether, AreDisjoint, IsTwice, profile_at}
 use Rattle.profile_pool.specs.Profiles.{label_at, profile_of_lines}
-use Rattle.join_answers.specs.Verdict.{IsVerdict, has_exited, profile_status, profile_verdict}
+use Rattle.join_answers.specs.Verdict.{IsVerdict, has_exited, profile_status}
 use Rattle.join_answers.specs.Serve.{IsLine, VerdictHas}
 use Rattle.join_answers.specs.Shards.{HoldProfiles, IsShardsVerdict, twice_line}
 use Rattle.join_answers.proofs.Sharded.{shards_verdict}
-use Rattle.join_cli.specs.Shards.{AreIndexed, JoinsShards, JoinsAllShards}
+use Rattle.join_cli.specs.Shards.{AreIndexed, IsAsked, HoldTexts, JoinsShards, JoinsAllShards}
+use Rattle.join_cli.specs.Ranges.{ProfilesAreRight}
 use Rattle.join_cli.proofs.Blocks.{are_blocks, block_at, profile_is, some_speedups, speedups_rise}
+use Rattle.join_cli.proofs.Profiles.{profile_right, profiles_right}
 
 -- ---- the verdict
 
@@ -35,24 +37,31 @@ module _ (image : ImageParts) (index : Index) (points : Points) (input : List �
   same_profiles : made_of ≡ blocks_of
   same_profiles = fun_ext (λ (lines : List ℕ). profile_is image index points input budget speedups lines)
 
-  holds_blocks : (words : List Text) (held : Held) (lists : List (List ℕ)) → HoldProfiles words held (map made_of lists) → HoldProfiles words held (map blocks_of lists)
-  holds_blocks words held lists hold =
+  holds_blocks : (words : List Text) (held : Held) (lists : List (List ℕ)) → All IsProfile (map blocks_of lists) → HoldTexts words held (map made_of lists) → HoldProfiles words held (map blocks_of lists)
+  holds_blocks words held lists right hold =
       let same : map made_of lists ≡ map blocks_of lists = ap (λ (f : List ℕ → Profile). map f lists) same_profiles in
       record {
         paths = hold.paths;
         named = hold.named;
         files = subst (λ (ps : List Profile). map (file_at held) hold.paths ≡ map (λ (p : Profile). Some (profile_text p)) ps) same hold.files;
-        right = subst (λ (ps : List Profile). All IsProfile ps) same hold.right;
+        right = right;
         short = subst (λ (ps : List Profile). All (λ (p : Profile). length (profile_text p) ≤ 268435456) ps) same hold.short;
       }
 
-  verdict_is : (words : List Text) (held : Held) (lists : List (List ℕ)) (whole : List ℕ) → AreIndexed index → All (AreLines (length index.lines)) lists → AreTogether (length index.lines) lists whole
-      → (hold : HoldProfiles words held (map made_of lists)) → (v : Verdict) → IsVerdict words held v → IsShardsVerdict lists (made_of whole) (label_at index.lines) hold.paths v
+  verdict_is : (words : List Text) (held : Held) (lists : List (List ℕ)) (whole : List ℕ) → AreIndexed image index → IsAsked index points input budget speedups → All (AreLines (length index.lines)) lists → AreTogether (length index.lines) lists whole
+      → (hold : HoldTexts words held (map made_of lists)) → (v : Verdict) → IsVerdict words held v → IsShardsVerdict lists (made_of whole) (label_at index.lines) hold.paths v
   unfolding holds_blocks
-  verdict_is words held lists whole are lines together hold v is =
+  verdict_is words held lists whole are asked lines together hold v is =
+      let right : All IsProfile (map blocks_of lists) = profiles_right image index points input budget speedups are asked lists lines in
       let law = shards_verdict (length index.lines) (label_at index.lines) (block_at image index points input budget) (are_blocks image index points input budget are) budget (map (label_at index.lines) points.lines)
-      (rising_numbers (0 ∷ speedups)) lists whole (some_speedups speedups) (speedups_rise speedups) lines together words held (holds_blocks words held lists hold) v is in
+      (rising_numbers (0 ∷ speedups)) lists whole (some_speedups speedups) (speedups_rise speedups) lines together words held (holds_blocks words held lists right hold) v is in
       subst (λ (p : Profile). IsShardsVerdict lists p (label_at index.lines) hold.paths v) (sym (profile_is image index points input budget speedups whole)) law
+
+-- ---- the ranges
+
+pub profiles_are_right : ProfilesAreRight
+profiles_are_right image index points input budget speedups lines are asked rise =
+    subst IsProfile (sym (profile_is image index points input budget speedups lines)) (profile_right image index points input budget speedups are asked lines rise)
 
 -- ---- what is left
 
@@ -88,11 +97,11 @@ module _ (words : List Text) (Tells : Text → Type 0) (before now : Option Text
         let v = text small in
         subst (λ (w : Verdict). Appends before now w.text) ((law v.0 v.1).joined disjoint) v.2.1
 
-    told_of : (place part : ℕ) → IsTwice lists place part → IsOfVerdict status → status ≡ 14 → Tells (twice_line (label place) paths part)
+    told_of : (place part : ℕ) → IsTwice lists place part → IsOfVerdict status → status ≡ 14 → Tells (codes "coz-join: " ++ twice_line (label place) paths part)
     told_of place part two of high =
         let told = line (omega (arith, high)) in
         let v = told.1.verdict of in
-        subst Tells (v.2.1 ∙ ap (λ (w : Verdict). w.line) ((law v.0 v.1).twice place part two)) told.2
+        subst Tells (v.2.1 ∙ ap (λ (w : Verdict). codes "coz-join: " ++ w.line) ((law v.0 v.1).twice place part two)) told.2
 
     joins : JoinsShards lists whole label paths Tells before now status
     joins = record {
@@ -112,6 +121,6 @@ module _ (words : List Text) (Tells : Text → Type 0) (before now : Option Text
       → IfSome told (λ held. JoinsAllShards words held Tells before now status)
   joins_shards None of_verdict text torn line = tt
   joins_shards (Some held) of_verdict text torn line =
-      λ image index points input budget speedups lists whole are lines together hold.
+      λ image index points input budget speedups lists whole are asked lines together hold.
       joins held of_verdict text torn line lists (profile_of_lines image index points input budget speedups whole) (label_at index.lines) hold.paths
-      (verdict_is image index points input budget speedups words held lists whole are lines together hold)
+      (verdict_is image index points input budget speedups words held lists whole are asked lines together hold)

@@ -33,7 +33,7 @@ is_less Less e = refl
 is_less Equal e = absurd cc
 is_less Greater e = absurd cc
 
--- by label, or by speedup where the labels are one
+-- by label, or by speedup if the labels are one
 parts_of : (p q r : Bool) → (p || (q && r)) ≡ true → (p ≡ true) ⊎ ((q ≡ true) × (r ≡ true))
 parts_of true q r e = inl refl
 parts_of false q r e = inr (and_parts q r e)
@@ -79,7 +79,7 @@ blocks_strict = record { itself = itself; chain = chain }
         go (inr x) (inl y) = by_label (label_before a.selected c.selected) (bytes_eq a.selected c.selected && nat_lt a.speedup c.speedup) (subst (λ t. label_before t c.selected ≡ true) (sym (one a.selected b.selected x.0)) y)
         go (inr x) (inr y) = by_speedup (label_before a.selected c.selected) (bytes_eq a.selected c.selected) (nat_lt a.speedup c.speedup) (subst (λ t. bytes_eq a.selected t ≡ true) (one b.selected c.selected y.0) x.0) (lower a.speedup b.speedup c.speedup x.1 y.1)
 
--- where a block is less by its order, it comes before in a profile
+-- if a block is less by its order, it comes before in a profile
 pub before_by_order : (s t : Summary) → is_label s.selected ≡ true → is_label t.selected ≡ true → is_lt (block_cmp s t) ≡ true → summary_before s t ≡ true
 before_by_order s t right other less = go (label_cmp s.selected t.selected) refl (is_less (block_cmp s t) less)
   where
@@ -91,3 +91,17 @@ before_by_order s t right other less = go (label_cmp s.selected t.selected) refl
         ((bytes_eq-Decides s.selected t.selected).1 (tied_are_one s.selected t.selected right other e))
         (grind (arith, nat_tests, speedups))
     go Greater e less = absurd (let no : ◌≡◌ {A = Ordering} Greater Less = sym (ap (λ o. ordering_then o (nat_cmp s.speedup t.speedup)) e) ∙ less in cc)
+
+-- if a block comes before in a profile, it is less by its order
+pub less_by_place : (s t : Summary) → summary_before s t ≡ true → is_lt (block_cmp s t) ≡ true
+less_by_place s t e = go (parts_of (label_before s.selected t.selected) (bytes_eq s.selected t.selected) (nat_lt s.speedup t.speedup) e)
+  where
+    go : (label_before s.selected t.selected ≡ true) ⊎ ((bytes_eq s.selected t.selected ≡ true) × (nat_lt s.speedup t.speedup ≡ true)) → is_lt (block_cmp s t) ≡ true
+    go (inl x) = ap (λ o. is_lt (ordering_then o (nat_cmp s.speedup t.speedup))) (is_less (label_cmp s.selected t.selected) x)
+    go (inr x) =
+        let same : s.selected ≡ t.selected = (bytes_eq-Decides s.selected t.selected).0 x.0 in
+        let lower = x.1 in
+        let less : nat_cmp s.speedup t.speedup ≡ Less = grind (arith, nat_tests, lower) in
+        ap (λ u. is_lt (ordering_then (label_cmp s.selected u) (nat_cmp s.speedup t.speedup))) (sym same)
+        ∙ ap (λ o. is_lt (ordering_then o (nat_cmp s.speedup t.speedup))) (tied_itself label_cmp_total s.selected)
+        ∙ ap is_lt less

@@ -1,11 +1,11 @@
 -- Blocks in order with none twice are those of the joined profile.
-use Rattle.std.proofs.Common.{◌≡◌, ℕ, suc, ◌+◌, ◌<◌, ◌≤◌, ◌-◌, drop, inr, option_map, Ok, Err, add-zero, append_assoc, length-append, Bool, true, false, ◌&&◌, if◌then◌else◌, List, [], ◌∷◌, ◌++◌, length, map, get_or, All, Option, Some, None, refl, sym, ap, ap₂, subst, ◌∙◌, arith}
+use Rattle.std.proofs.Common.{◌≡◌, ℕ, suc, ◌+◌, ◌<◌, ◌≤◌, ◌-◌, drop, inr, option_map, Ok, Err, add-zero, length-append, Bool, true, false, ◌&&◌, if◌then◌else◌, List, [], ◌∷◌, ◌++◌, length, map, get_or, All, Option, Some, None, refl, sym, ap, ap₂, subst, ◌∙◌, arith}
 use Rattle.std.specs.List.{AllByRecursion, list_all}
 use Rattle.std.specs.Ordering.{is_lt, is_eq, ordering_reverse}
 use Rattle.std.specs.declared.cmp.Ordering.{Ordering}
 use Rattle.std.specs.declared.cmp.Ordering.TheVariants.{Less, Equal, Greater}
 use Rattle.std.specs.List.Sorted.{IsPermutation}
-use Rattle.std.proofs.lemmas.List.{map-append, append-nil, length-drop}
+use Rattle.std.proofs.lemmas.List.{map-append, length-drop}
 use Rattle.std.proofs.lemmas.List.Elements.{All-contains, All-get_or, All-weaker}
 use Rattle.std.proofs.lemmas.List.Sorted.{IsPermutation-map, IsPermutation-sym}
 use Rattle.coz_types.specs.declared.TheConstants.{MAX_POINTS, MAX_NUMBER}
@@ -14,14 +14,15 @@ use Rattle.coz_types.specs.Ranges.{IsSummary}
 use Rattle.coz_types.specs.declared.record.Summary.{Summary}
 use Rattle.profile_book.specs.declared.profile.Profile.{Profile}
 use Rattle.profile_book.specs.Profile.{is_rising, summary_before, IsProfile}
-use Rattle.profile_lists.specs.Sorted.{sorted_by}
 use Rattle.profile_lists.proofs.Sorting.{Rises, sorted_rises}
 use Rattle.profile_join.specs.Order.{block_cmp, tag_before, are_alike}
-use Rattle.profile_join.specs.Parts.{blocks_of, tag, tagged, first_alike, head_of, IsKind, IsJoin, twice, twice_at, in_order}
+use Rattle.profile_join.specs.Parts.{blocks_of, tag, tagged, numbered, first_alike, head_of, IsKind, IsJoin, twice, twice_at, in_order}
 use Rattle.profile_join.specs.declared.fault.PartKind.TheVariants.{Twice}
 use Rattle.profile_join.specs.declared.fault.JoinError.TheVariants.{Unlike}
 use Rattle.profile_join.proofs.Among.{Among, among_moved, among_map, from_among, out_of_all, each_of, one_of}
+use Rattle.profile_join.specs.declared.tagged.NumberedPart.{NumberedPart}
 use Rattle.profile_join.specs.declared.tagged.Tagged.{Tagged}
+use Rattle.profile_join.proofs.InOrder.{sorted_moved}
 use Rattle.profile_join.proofs.Blocks.{blocks_total, tags_rank, before_by_order}
 
 untag_tag : (n : ℕ) (ss : List Summary) → map (λ (t : Tagged). t.summary) (map (tag n) ss) ≡ ss
@@ -62,7 +63,7 @@ apart_or : (b : Bool) (t : Tagged) (o : Option Tagged) → (if b then Some t els
 apart_or true t o e = absurd cc
 apart_or false t o e = (refl, e)
 
--- where none is alike with the one before it, they rise strictly
+-- if none is alike with the one before it, they rise strictly
 pub rise : (tags : List Tagged) → Rises tag_before tags_rank tags → AreLabelled tags → first_alike tags ≡ None → is_rising summary_before (map (λ (t : Tagged). t.summary) tags) ≡ true
 rise [] up right none = refl
 rise (a ∷ []) up right none = refl
@@ -81,20 +82,19 @@ pub ends_short : (tags : List Tagged) (i : ℕ) → 1 ≤ i → length tags ≤ 
 ends_short tags i some le = let e : length (drop (i - 1) tags) ≡ length tags - (i - 1) = length-drop (i - 1) tags in omega (arith, e, some, le)
 
 -- one part more
-pub tagged_more : (n : ℕ) (parts : List Profile) (p : Profile) → tagged n (parts ++ p ∷ []) ≡ tagged n parts ++ map (tag (n + length parts)) p.summaries
-tagged_more n [] p = append-nil (map (tag n) p.summaries) ∙ ap (λ m. map (tag m) p.summaries) (sym (add-zero n))
-tagged_more n (q ∷ parts) p =
-    ap (λ (l : List Tagged). map (tag n) q.summaries ++ l) (tagged_more (suc n) parts p)
-    ∙ sym (append_assoc (map (tag n) q.summaries) (tagged (suc n) parts) (map (tag (suc n + length parts)) p.summaries))
-    ∙ ap (λ m. (map (tag n) q.summaries ++ tagged (suc n) parts) ++ map (tag m) p.summaries) (omega arith)
+numbered_more : (n : ℕ) (parts : List Profile) (p : Profile) → numbered n (parts ++ p ∷ []) ≡ numbered n parts ++ record { number = n + length parts; summaries = p.summaries } ∷ []
+numbered_more n [] p = ap (λ m. record { number = m; summaries = p.summaries } ∷ []) (sym (add-zero n))
+numbered_more n (q ∷ parts) p =
+    ap (λ (l : List NumberedPart). record { number = n; summaries = q.summaries } ∷ l)
+    (numbered_more (suc n) parts p ∙ ap (λ m. numbered (suc n) parts ++ record { number = m; summaries = p.summaries } ∷ []) (omega arith))
 
 pub count_next : (yielded : List Profile) (part : Profile) (number : ℕ) → number ≡ length yielded → number + 1 ≡ length (yielded ++ part ∷ [])
 count_next yielded part number e = let more = length-append yielded (part ∷ []) in omega (arith, e, more)
 
-pub tags_next : (yielded : List Profile) (part : Profile) (tags new : List Tagged) (number : ℕ) (ss : List Summary) → new ≡ tags ++ map (tag number) ss → tags ≡ tagged 0 yielded → number ≡ length yielded → ss ≡ part.summaries → new ≡ tagged 0 (yielded ++ part ∷ [])
-tags_next yielded part tags new number ss is so_far count same =
+pub numbered_next : (yielded : List Profile) (part : Profile) (made new : List NumberedPart) (number : ℕ) → new ≡ made ++ record { number = number; summaries = part.summaries } ∷ [] → made ≡ numbered 0 yielded → number ≡ length yielded → new ≡ numbered 0 (yielded ++ part ∷ [])
+numbered_next yielded part made new number is so_far count =
     let at : number ≡ 0 + length yielded = omega (arith, count) in
-    is ∙ ap₂ (λ (a b : List Tagged). a ++ b) so_far (ap₂ (λ n (l : List Summary). map (tag n) l) at same) ∙ sym (tagged_more 0 yielded part)
+    is ∙ ap₂ (λ (l : List NumberedPart) m. l ++ record { number = m; summaries = part.summaries } ∷ []) so_far at ∙ sym (numbered_more 0 yielded part)
 
 module _ (parts : List Profile) (some : 0 < length parts) (right : All IsProfile parts) (fine : All (λ (p : Profile). IsKind (head_of parts) p None) parts) where
   -- each block of the joined list is right
@@ -107,12 +107,12 @@ module _ (parts : List Profile) (some : 0 < length parts) (right : All IsProfile
       let same = All-contains (λ (p : Profile). IsKind (head_of parts) p None) parts p fine there in
       subst (λ ns. IsSummary (length ns) s) same.1 (one_of (IsSummary (length p.points)) s p.summaries whole.summaries at.2)
 
-  pub joins : (tags : List Tagged) → IsPermutation (tagged 0 parts) tags → tags ≡ sorted_by tag_before (tagged 0 parts) → None ≡ first_alike tags
+  pub joins : (tags : List Tagged) → tags ≡ in_order parts → None ≡ first_alike tags
       → (budget : ℕ) (points : List Text) (ss : List Summary) → budget ≡ (head_of parts).budget → points ≡ (head_of parts).points → ss ≡ map (λ (t : Tagged). t.summary) tags
       → IsJoin parts (Ok (record { budget = budget; points = points; summaries = ss }))
   unfolding twice in_order
-  joins tags moved is none budget points ss eb ep es =
-      let all : IsPermutation (blocks_of parts) ss = subst (λ l. IsPermutation (blocks_of parts) l) (sym es) (all_blocks parts tags moved) in
+  joins tags is none budget points ss eb ep es =
+      let all : IsPermutation (blocks_of parts) ss = subst (λ l. IsPermutation (blocks_of parts) l) (sym es) (all_blocks parts tags (subst (IsPermutation (tagged 0 parts)) (sym is) (sorted_moved (tagged 0 parts)))) in
       let first : Profile = get_or parts 0 (record { budget = 0; points = []; summaries = [] }) in
       let whole : IsProfile first = All-get_or IsProfile parts 0 (record { budget = 0; points = []; summaries = [] }) some right in
       let each : (s : Summary) → Among s ss → IsSummary (length (head_of parts).points) s = block_right ss all in
@@ -136,7 +136,7 @@ module _ (parts : List Profile) (some : 0 < length parts) (right : All IsProfile
       )
 
   -- a block that stands twice is the fault
-  pub twice_is : (tags : List Tagged) (t : Tagged) → tags ≡ sorted_by tag_before (tagged 0 parts) → Some t ≡ first_alike tags → (label : Text) → label ≡ t.summary.selected
+  pub twice_is : (tags : List Tagged) (t : Tagged) → tags ≡ in_order parts → Some t ≡ first_alike tags → (label : Text) → label ≡ t.summary.selected
       → IsJoin parts (Err (Unlike (record { kind = Twice label; part = t.part })))
   unfolding twice in_order
   twice_is tags t is found label e =

@@ -1,20 +1,10 @@
 -- What the loops keep.
-use Rattle.std.proofs.Common.{◌≡◌, ℕ, zero, suc, ◌+◌, ◌<◌, Bool, List, [], ◌∷◌, length, take, drop, get_or, All, Ordering, Bor, refl, sym, ap, subst, ◌∙◌, arith}
-use Rattle.std.specs.Fn.{Mut, Called, ComparesAs}
-use Rattle.std.specs.Cmp.{IsStrictWeakOrder}
-use Rattle.std.specs.Ordering.{is_lt}
-use Rattle.std.specs.List.Sorted.{IsSortedBy, IsStableBy}
-use Rattle.std.proofs.lemmas.Fn.{always_returns_same}
+use Rattle.std.proofs.Common.{◌≡◌, ℕ, zero, suc, ◌+◌, ◌<◌, List, [], ◌∷◌, length, take, drop, get_or, All, refl, sym, ap, subst, ◌∙◌, arith}
 use Rattle.std.proofs.lemmas.List.{length-map, get_or-map, take_more_same}
 use Rattle.std.proofs.lemmas.List.Elements.{All-cons, All-head, All-nil, All-tail}
 use Rattle.coz_types.specs.declared.record.Summary.{Summary}
 use Rattle.profile_lists.specs.Groups.{groups_by, groups}
-use Rattle.profile_lists.specs.Sorted.{sorted_by}
-use Rattle.profile_lists.proofs.Sorting.{stable_is_one}
-use Rattle.profile_join.specs.Order.{block_cmp, tag_before}
 use Rattle.profile_join.specs.Parts.{speedups_in, AreTimes}
-use Rattle.profile_join.specs.declared.tagged.Tagged.{Tagged}
-use Rattle.profile_join.proofs.Blocks.{tags_rank}
 
 any_default : {X : Type 0} (xs : List X) (i : ℕ) (d e : X) → i < length xs → get_or xs i d ≡ get_or xs i e
 any_default [] i d e lt = absurd (omega (arith, lt))
@@ -68,13 +58,3 @@ no_groups = refl
 pub no_times : (speedups : List ℕ) (rest : List Summary) → length rest ≡ 0 → AreTimes speedups rest
 no_times speedups [] none = subst (All (HasSpeedups speedups)) (sym no_groups) (All-nil (HasSpeedups speedups))
 no_times speedups (s ∷ rest) none = absurd (omega (arith, none))
-
--- a stable sort by the blocks' order
-pub sorted_tags : {F : Type 0} {g : Mut F (Bor Tagged × (Bor Tagged × Unit {0})) Ordering} {f : F} (xs ys : List Tagged)
-    → ((lt : Tagged → Tagged → Bool) → IsStrictWeakOrder lt → ComparesAs g lt f → IsSortedBy lt ys)
-    → ((lt : Tagged → Tagged → Bool) → IsStrictWeakOrder lt → ComparesAs g lt f → IsStableBy lt xs ys)
-    → ((a : Bor Tagged × (Bor Tagged × Unit {0})) (r : Ordering) (f' : F) → Called g f a r f' → (r ≡ block_cmp a.0.now.summary a.1.0.now.summary) × (f' ≡ f))
-    → ys ≡ sorted_by tag_before xs
-sorted_tags {g = g} {f = f} xs ys sorted stable h =
-    let compares : ComparesAs g tag_before f = always_returns_same g (λ a r. is_lt r ≡ tag_before a.0.now a.1.0.now) f (λ a r f' k. (ap is_lt (h a r f' k).0, (h a r f' k).1)) in
-    stable_is_one tag_before tags_rank xs ys (sorted tag_before tags_rank compares) (stable tag_before tags_rank compares)

@@ -14,6 +14,13 @@ block_cmp s t =
 abbrev pub tag_before : Tagged → Tagged → Bool
 tag_before a b = is_lt (block_cmp a.summary b.summary)
 
+-- by block, then by the number of the part
+abbrev pub tag_cmp : Tagged → Tagged → Ordering
+tag_cmp a b = ordering_then (block_cmp a.summary b.summary) (nat_cmp a.part b.part)
+
+abbrev pub comes_before : Tagged → Tagged → Bool
+comes_before a b = is_lt (tag_cmp a b)
+
 -- of one label and one speedup
 abbrev pub are_alike : Tagged → Tagged → Bool
 are_alike a b = is_eq (block_cmp a.summary b.summary)

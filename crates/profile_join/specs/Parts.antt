@@ -14,6 +14,7 @@ use Rattle.profile_join.specs.declared.fault.PartKind.{PartKind}
 use Rattle.profile_join.specs.declared.fault.PartKind.TheVariants.{Budget, Points, Speedups, Baseline, Twice}
 use Rattle.profile_join.specs.declared.fault.JoinError.{JoinError}
 use Rattle.profile_join.specs.declared.fault.JoinError.TheVariants.{Unlike, Memory}
+use Rattle.profile_join.specs.declared.tagged.NumberedPart.{NumberedPart}
 use Rattle.profile_join.specs.declared.tagged.Tagged.{Tagged}
 
 -- ---- parts that are unlike
@@ -40,7 +41,7 @@ is_baseline s = s.speedup == 0
 abbrev pub unlabelled : Summary → Summary
 unlabelled s = record s { selected = []; outcome = record s.outcome { starts = 0 } }
 
--- a block at speedup 0 came out as the first one, where there is one
+-- a block at speedup 0 came out as the first one, if there is one
 abbrev pub CameAs : Option Summary → Summary → Type 0
 CameAs None s = Unit {0}
 CameAs (Some first) s = s.speedup ≡ 0 → unlabelled s ≡ unlabelled first
@@ -100,6 +101,15 @@ abbrev pub tagged : ℕ → List Profile → List Tagged
 tagged n [] = []
 tagged n (p ∷ parts) = map (tag n) p.summaries ++ tagged (suc n) parts
 
+-- the blocks of parts, which are numbered from n on
+abbrev pub numbered : ℕ → List Profile → List NumberedPart
+numbered n [] = []
+numbered n (p ∷ parts) =
+    record { number = n; summaries = p.summaries } ∷ numbered (suc n) parts
+
+abbrev pub tags_of : NumberedPart → List Tagged
+tags_of part = map (tag part.number) part.summaries
+
 -- all blocks by label and speedup, those of one label and speedup by part
 unfoldable pub in_order : List Profile → List Tagged
 in_order parts = sorted_by tag_before (tagged 0 parts)
@@ -133,7 +143,7 @@ pub record IsJoined (parts : List Profile) (joined : Profile) : Type 0 where
   pub right : IsProfile joined
   pub blocks : IsPermutation (blocks_of parts) joined.summaries
 
--- a fault exactly where there is one
+-- a fault exactly if there is one
 abbrev pub IsJoin : List Profile → Result Profile JoinError → Type 0
 IsJoin parts (Ok joined) = IsPartFault parts None × IsJoined parts joined
 IsJoin parts (Err (Unlike fault)) = IsPartFault parts (Some fault)

@@ -1,18 +1,19 @@
 //! The join of profiles.
-ghost use Rattle.std.specs.Prelude.{◌≡◌, ◌<◌, ◌++◌, List, map, length, option_copied, All, IfOk, OnOk, Some, None};
-ghost use Rattle.std.specs.List.Sorted.{IsPermutation};
+ghost use Rattle.std.specs.Prelude.{◌≡◌, ◌<◌, ◌++◌, List, map, flat_map, length, option_copied, All, IfOk, OnOk, Some, None, Err};
+ghost use Rattle.std.specs.List.Sorted.{IsPermutation, IsSortedBy};
 ghost use Rattle.coz_types.specs.declared.record.Summary.{Summary};
 ghost use Rattle.profile_book.specs.declared.profile.Profile.{Profile};
 ghost use Rattle.profile_book.specs.Profile.{IsProfile};
-ghost use Rattle.profile_join.specs.Parts.{tag, tagged, first_alike, IsJoin, IsJoined};
-ghost use Rattle.profile_join.specs.Order.{tag_before};
-ghost use Rattle.profile_lists.specs.Sorted.{sorted_by};
+ghost use Rattle.profile_join.specs.Parts.{tag, tags_of, numbered, in_order, first_alike, IsJoin, IsJoined};
+ghost use Rattle.profile_join.specs.Order.{comes_before};
+ghost use Rattle.profile_join.specs.declared.fault.PartFault.{PartFault};
+ghost use Rattle.profile_join.specs.declared.fault.JoinError.TheVariants.{Unlike};
 ghost use Rattle.profile_join.specs.declared.tagged.Tagged.{Tagged};
 
 use crate::fault::{JoinError, PartFault, PartKind};
 use crate::likeness::unlike;
-use crate::order::block_order;
-use crate::tagged::Tagged;
+use crate::order::{block_order, first_block_order, tag_order};
+use crate::tagged::{NumberedPart, Tagged};
 use coz_lists::Items;
 use coz_types::{Label, Summary};
 use profile_book::Profile;
@@ -31,12 +32,12 @@ fn untagged(alloc: Global, tags: Vec<Tagged>) -> Result<Vec<Summary>, AllocError
     Ok(summaries)
 }
 
-/// Returns the blocks sorted by label and speedup; equal ones keep their order.
+/// Returns the blocks sorted by label and speedup, those of one label and speedup by part.
 fn sorted(mut tags: Vec<Tagged>) -> Result<Vec<Tagged>, AllocError>
-    ensures sorted { IfOk result (λ sorted. sorted.items ≡ sorted_by tag_before tags.items) }
+    ensures sorted { IfOk result (λ sorted. IsSortedBy comes_before sorted.items) }
     ensures moved { IfOk result (λ sorted. IsPermutation tags.items sorted.items) }
 {
-    tags.sort_by(|a, b| block_order(&a.summary, &b.summary))?;
+    tags.sort_by(|a, b| tag_order(a, b))?;
     Ok(tags)
 }
 
@@ -63,10 +64,22 @@ fn first_alike(tags: &[Tagged]) -> Option<&Tagged>
 }
 
 /// Returns all blocks, part by part, each with the number of its part.
-fn all_tags(alloc: Global, parts: Vec<Profile>) -> Result<Vec<Tagged>, AllocError>
-    ensures { IfOk result (λ tags. tags.items ≡ tagged 0 parts.items) }
+fn all_tags(alloc: Global, parts: Vec<NumberedPart>) -> Result<Vec<Tagged>, AllocError>
+    ensures { IfOk result (λ tags. tags.items ≡ flat_map tags_of parts.items) }
 {
     let mut tags = Vec::new(alloc);
+    for part in parts {
+        let NumberedPart { number, summaries } = part;
+        push_tags(number, summaries.into_vec(), &mut tags)?;
+    }
+    Ok(tags)
+}
+
+/// Returns the blocks of each part with its number.
+fn numbered(alloc: Global, parts: Vec<Profile>) -> Result<Vec<NumberedPart>, AllocError>
+    ensures { IfOk result (λ made. made.items ≡ numbered 0 parts.items) }
+{
+    let mut numbered = Vec::new(alloc);
     let mut number = 0;
     for part in parts {
         let Profile {
@@ -75,9 +88,27 @@ fn all_tags(alloc: Global, parts: Vec<Profile>) -> Result<Vec<Tagged>, AllocErro
             summaries,
         } = part;
         drop(points);
-        push_tags(number, summaries.into_vec(), &mut tags)?;
+        numbered.push(NumberedPart { number, summaries })?;
         number += 1;
     }
+    Ok(numbered)
+}
+
+/// Returns the parts by their first blocks: blocks of parts that don't overlap are then in order.
+fn by_first_block(mut parts: Vec<NumberedPart>) -> Result<Vec<NumberedPart>, AllocError>
+    ensures moved { IfOk result (λ moved. IsPermutation parts.items moved.items) }
+{
+    parts.sort_by(|a, b| first_block_order(a, b))?;
+    Ok(parts)
+}
+
+/// Returns all blocks by label and speedup, those of one label and speedup by part.
+fn ordered(alloc: Global, parts: Vec<Profile>) -> Result<Vec<Tagged>, AllocError>
+    requires right { All IsProfile parts.items }
+    ensures ordered { IfOk result (λ tags. tags.items ≡ in_order parts.items) }
+{
+    let parts = by_first_block(numbered(alloc, parts)?)?;
+    let tags = sorted(all_tags(alloc, parts)?)?;
     Ok(tags)
 }
 
@@ -102,6 +133,8 @@ pub fn join(alloc: Global, parts: Vec<Profile>) -> Result<Profile, JoinError>
     requires right { All IsProfile parts.items }
     // The fault is the defined one, and what is joined is the profile of the parts.
     ensures join { IsJoin parts.items result }
+    // The part that the fault names is one of these.
+    ensures within { (fault : PartFault) → result ≡ Err (Unlike fault) → fault.part < length parts.items }
     // The parts in any order have this profile, and no other.
     ensures one { IfOk result (λ joined. (others : List Profile) (other : Profile)
         → IsPermutation parts.items others → IsJoined others other → other ≡ joined) }
@@ -111,7 +144,7 @@ pub fn join(alloc: Global, parts: Vec<Profile>) -> Result<Profile, JoinError>
     }
     let budget = parts[0].budget;
     let points = copied(alloc, parts[0].points.as_slice())?;
-    let tags = sorted(all_tags(alloc, parts)?)?;
+    let tags = ordered(alloc, parts)?;
     if let Some(tag) = first_alike(&tags) {
         let label = Label::copy(alloc, tag.summary.selected.bytes())?;
         return Err(JoinError::Unlike(PartFault {

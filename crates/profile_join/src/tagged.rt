@@ -1,5 +1,15 @@
 //! Blocks with the parts that they come from.
+use coz_lists::Items;
 use coz_types::Summary;
+
+/// The blocks of a part.
+#[derive(Drop)]
+pub struct NumberedPart {
+    /// The number of the part, from 0.
+    pub number: usize,
+    /// The blocks of the part.
+    pub summaries: Items<Summary>,
+}
 
 /// A block and the part that it comes from.
 #[derive(Drop)]

@@ -1,4 +1,4 @@
--- Profiles of lists of lines are joined exactly where no line is in two lists.
+-- Profiles of lists of lines are joined exactly if no line is in two lists.
 use Rattle.std.proofs.Common.{◌≡◌, ℕ, ◌<◌, inl, inr, List, [], ◌∷◌, map, get_or, All, Option, Some, None, option_map, Result, Ok, Err, refl, sym, ap, subst, ◌∙◌, arith}
 use Rattle.std.specs.List.{AllByRecursion}
 use Rattle.std.specs.List.Sorted.{IsStrictlySortedBy}

@@ -95,7 +95,7 @@ short xs ys e le = subst (λ zs. length zs ≤ 1) (sym e) le
 one_long : (a : Tagged) (xs : List Tagged) → xs ≡ [] → length (a ∷ xs) ≤ 1
 one_long a xs e = short (a ∷ xs) (a ∷ []) (ap (λ ys. a ∷ ys) e) (omega arith)
 
--- where none is alike with the one before it, at most one ties with one
+-- if none is alike with the one before it, at most one ties with one
 pub single : (xs : List Tagged) (z : Tagged) → Up xs → first_alike xs ≡ None → length (filter (ties tag_before z) xs) ≤ 1
 single [] z up none = omega arith
 single (a ∷ []) z up none = by (ties tag_before z a) refl

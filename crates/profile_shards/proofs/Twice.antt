@@ -136,7 +136,7 @@ module _ {count : ℕ} {label : ℕ → Text} {block : ℕ → ℕ → Summary} 
           ap (λ (t : Tagged). t.summary.selected) (sym of.is) ∙ are.selected of.line of.speedup,
         )
 
-    -- where none is alike with the one before it, no line is in two lists
+    -- if none is alike with the one before it, no line is in two lists
     pub none_is_twice : (q : ℕ) → Among q qs → first_alike (in_order (parts_at lists)) ≡ None → AreDisjoint lists
     unfolding in_order
     none_is_twice q there none line = by (nat_lt line count) refl

@@ -35,7 +35,7 @@ above_both : (s : Summary) (ss ts : List Summary) → IsAbove s ss → IsAbove s
 above_both s [] ts one two = two
 above_both s (t ∷ ss) ts one two = (one.0, above_both s ss ts one.1 two)
 
-and_true : (p q : Bool) → p ≡ true → q ≡ true → (p && q) ≡ true
+pub and_true : (p q : Bool) → p ≡ true → q ≡ true → (p && q) ≡ true
 and_true p q e f = ap₂ (λ a b. a && b) e f
 
 rising_of : (ss : List Summary) → AllRise ss → is_rising summary_before ss ≡ true
@@ -79,6 +79,10 @@ module _ {count : ℕ} {label : ℕ → Text} {block : ℕ → ℕ → Summary} 
     lines_rise (l ∷ lines) up below =
         line_first l qs (blocks_at block qs lines) below.0 rising (lines_rise lines up.1 below.1) (λ q. of_others l q lines below.0 below.1 up.0)
 
+    -- the blocks of rising lines rise
+    pub blocks_rise : (lines : List ℕ) → IsStrictlySortedBy nat_cmp lines → AllByRecursion (λ line. line < count) lines → is_rising summary_before (blocks_at block qs lines) ≡ true
+    blocks_rise lines up below = rising_of (blocks_at block qs lines) (lines_rise lines up below)
+
     module _ (budget : ℕ) (points : List Text) where
       abbrev parts : List (List ℕ) → List Profile
       parts lists = map (profile_at budget points block qs) lists
@@ -112,7 +116,7 @@ module _ {count : ℕ} {label : ℕ → Text} {block : ℕ → ℕ → Summary} 
           let eb : joined.budget ≡ budget = sym (All-head (λ (p : Profile). p.budget ≡ joined.budget) (profile_at budget points block qs list) (parts more) is.budget) in
           let ep : joined.points ≡ points = sym (All-head (λ (p : Profile). p.points ≡ joined.points) (profile_at budget points block qs list) (parts more) is.points) in
           let es : joined.summaries ≡ blocks_at block qs whole =
-          same_rising summary_before blocks_strict joined.summaries (blocks_at block qs whole) is.right.blocks_rise (rising_of (blocks_at block qs whole) (lines_rise whole right.rise right.below))
+          same_rising summary_before blocks_strict joined.summaries (blocks_at block qs whole) is.right.blocks_rise (blocks_rise whole right.rise right.below)
           (λ s h. into lists whole (λ l m. among_of l whole ((together.each l).1 (from_among l (flat_map (λ (lines : List ℕ). lines) lists) m))) s (among_moved joined.summaries (blocks_of (parts lists)) s (IsPermutation-sym (blocks_of (parts lists)) joined.summaries is.blocks) h))
           (λ s h. among_moved (blocks_of (parts lists)) joined.summaries s is.blocks (back lists whole (λ l m. among_of l (flat_map (λ (lines : List ℕ). lines) lists) ((together.each l).0 (from_among l whole m))) s h))
           in

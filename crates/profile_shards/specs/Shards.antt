@@ -67,7 +67,7 @@ profile_at budget points block speedups lines = record {
 
 -- ---- their join
 
--- where no line is in two lists, the profile of all their lines; else the label of the first
+-- if no line is in two lists, the profile of all their lines; else the label of the first
 -- line that is in two, and the second list that has it
 abbrev pub IsShardsJoin : List (List ℕ) → Profile → (ℕ → Text) → Result Profile JoinError → Type 0
 IsShardsJoin lists whole label (Ok joined) = AreDisjoint lists × (joined ≡ whole)
@@ -76,7 +76,7 @@ IsShardsJoin lists whole label (Err (Unlike fault)) =
 IsShardsJoin lists whole label (Err Memory) = Unit {0}
 
 -- profiles of lists of lines at the same speedups, each list rising, are joined into the profile
--- of all their lines exactly where no line is in two lists
+-- of all their lines exactly if no line is in two lists
 abbrev pub ShardsJoin : Type 0
 ShardsJoin =
     (count : ℕ) (label : ℕ → Text) (block : ℕ → ℕ → Summary) → AreBlocks count label block

@@ -1,4 +1,4 @@
-use Rattle.std.proofs.Common.{rules, ◌≡◌, ◌<◌, length, get_or, string_bytes, arith, List, ◌∙◌}
+use Rattle.std.proofs.Common.{rules, ◌<◌, length, string_bytes, arith, ◌∙◌}
 use Rattle.std.proofs.lemmas.List.{length-map}
 use Rattle.std.specs.Global.{Vec}
 use Rattle.profile_book.specs.declared.profile.Profile.{Profile}

@@ -1,6 +1,5 @@
-use Rattle.std.proofs.Common.{◌≡◌, codes, refl, sym}
+use Rattle.std.proofs.Common.{◌≡◌, codes, refl}
 use Rattle.std.specs.Io.KnownBytes.{Appends}
-use Rattle.coz_files.specs.Puts.{AppendsPrefix}
 use Rattle.join_answers.specs.Words.{paths_in}
 use Rattle.join_answers.specs.Verdict.{bytes_of}
 use Rattle.join_answers.proofs.Served.{joined_has, joined_complete, fault_verdict_has, fault_complete, fault_read, fault_told, never_write, none_has, write_line}

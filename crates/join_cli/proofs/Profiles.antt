@@ -1,0 +1,133 @@
+-- The profile of some of a program's lines is within the ranges and orders of profiles.
+use Rattle.std.proofs.Common.{◌≡◌, ℕ, ◌^◌, ◌≤◌, ◌<◌, true, nat_cmp, Ordering, List, [], ◌∷◌, map, length, All, Some, refl, sym, subst, arith}
+use Rattle.std.specs.declared.cmp.Ordering.TheVariants.{Less, Equal, Greater}
+use Rattle.std.specs.List.{AllByRecursion, list_all}
+use Rattle.std.specs.List.Sorted.{IsStrictlySortedBy}
+use Rattle.std.specs.FinMap.Entries.{by_order}
+use Rattle.std.proofs.lemmas.List.{length-map}
+use Rattle.std.proofs.lemmas.List.Elements.{recursion_from_All, All-from_recursion}
+use Rattle.coz_types.specs.Image.{ImageParts}
+use Rattle.coz_types.specs.Labels.{Text, is_label, label_before}
+use Rattle.coz_types.specs.Ranges.{IsSummary}
+use Rattle.coz_types.specs.declared.record.Summary.{Summary}
+use Rattle.experiment_plan.specs.Selected.{rising_numbers}
+use Rattle.experiment_plan.proofs.Rising.{less}
+use Rattle.guest_memory.specs.Regions.{IsLayout, usual}
+use Rattle.line_index.specs.Index.{Index, position_at}
+use Rattle.line_index.specs.Listed.{in_order, with_element}
+use Rattle.progress_points.specs.Points.{Points, point_of}
+use Rattle.profile_book.specs.Profile.{is_rising, IsProfile}
+use Rattle.profile_shards.specs.Shards.{AreBlocks, AreLines, blocks_at, profile_at}
+use Rattle.profile_shards.proofs.Whole.{and_true, blocks_rise}
+use Rattle.profile_pool.specs.Profiles.{label_at, record_in}
+use Rattle.profile_pool.proofs.Within.{summary_is}
+use Rattle.run_engine.specs.Choices.{choice_of}
+use Rattle.run_engine.specs.Run.{IsChoice}
+use Rattle.join_cli.specs.Shards.{AreIndexed, IsAsked}
+use Rattle.join_cli.proofs.Tables.{both}
+use Rattle.join_cli.proofs.Runs.{in_ranges}
+use Rattle.join_cli.proofs.Blocks.{are_blocks, block_at, speedups_rise}
+
+-- ---- lists
+
+order_all : (P : ℕ → Type 0) (o : Ordering) (x y : ℕ) (ys more : List ℕ) → P x → P y → AllByRecursion P ys → AllByRecursion P more → AllByRecursion P (by_order o (x ∷ y ∷ ys) (y ∷ ys) (y ∷ more))
+order_all P Less x y ys more px py pys rest = (px, (py, pys))
+order_all P Equal x y ys more px py pys rest = (py, pys)
+order_all P Greater x y ys more px py pys rest = (py, rest)
+
+element_all : (P : ℕ → Type 0) (x : ℕ) (xs : List ℕ) → P x → AllByRecursion P xs → AllByRecursion P (with_element nat_cmp x xs)
+element_all P x [] one all = (one, tt)
+element_all P x (y ∷ ys) one all = order_all P (nat_cmp x y) x y ys (with_element nat_cmp x ys) one all.0 all.1 (element_all P x ys one all.1)
+
+ordered_all : (P : ℕ → Type 0) (xs : List ℕ) → AllByRecursion P xs → AllByRecursion P (in_order nat_cmp xs)
+ordered_all P [] all = tt
+ordered_all P (x ∷ xs) all = element_all P x (in_order nat_cmp xs) all.0 (ordered_all P xs all.1)
+
+-- ---- labels
+
+module _ {count : ℕ} {label : ℕ → Text} {block : ℕ → ℕ → Summary} (are : AreBlocks count label block) where
+  names_right : (lines : List ℕ) → AllByRecursion (λ line. line < count) lines → list_all is_label (map label lines) ≡ true
+  names_right [] below = refl
+  names_right (l ∷ lines) below = and_true (is_label (label l)) (list_all is_label (map label lines)) (are.right l below.0) (names_right lines below.1)
+
+  names_rise : (lines : List ℕ) → IsStrictlySortedBy nat_cmp lines → AllByRecursion (λ line. line < count) lines → is_rising label_before (map label lines) ≡ true
+  unfolding IsStrictlySortedBy
+  names_rise [] up below = refl
+  names_rise (l ∷ []) up below = refl
+  names_rise (l ∷ m ∷ lines) up below =
+      and_true (label_before (label l) (label m)) (is_rising label_before (map label (m ∷ lines))) (are.rise l m (less l m up.0.0) below.1.0) (names_rise (m ∷ lines) up.1 below.1)
+
+-- ---- the usual choice
+
+usual_fits : IsLayout usual
+usual_fits = record {
+  whole_brk = refl;
+  whole_map = refl;
+  whole_stack = refl;
+  brk = omega arith;
+  map = omega arith;
+  stack = omega arith;
+  some_stack = omega arith;
+}
+
+valid_choice : (line speedup budget : ℕ) → 1 ≤ budget → budget ≤ 10 ^ 12 → speedup ≤ 95 → IsChoice (choice_of (Some line) speedup budget)
+valid_choice line speedup budget some few slow = record {
+  speedup = slow;
+  some_budget = some;
+  few = few;
+  some_output = omega arith;
+  output = omega arith;
+  some_visits = omega arith;
+  visits = omega arith;
+  layout = usual_fits;
+}
+
+-- ---- the profile
+
+module _ (image : ImageParts) (index : Index) (points : Points) (input : List ℕ) (budget : ℕ) (speedups : List ℕ) (are : AreIndexed image index) (asked : IsAsked index points input budget speedups) where
+  abbrev block : ℕ → ℕ → Summary
+  block line speedup = block_at image index points input budget line speedup
+
+  blocks : AreBlocks (length index.lines) (label_at index.lines) block
+  blocks = are_blocks image index points input budget are
+
+  abbrev rates : List ℕ
+  rates = rising_numbers (0 ∷ speedups)
+
+  block_right : (line speedup : ℕ) → line < length index.lines → speedup ≤ 95 → IsSummary (length points.lines) (block line speedup)
+  unfolding record_in
+  block_right line speedup below slow =
+      let valid : IsChoice (choice_of (Some line) speedup budget) = valid_choice line speedup budget asked.some_budget asked.small_budget slow in
+      let ranges = in_ranges image (position_at index) (point_of points) input (choice_of (Some line) speedup budget) valid (recursion_from_All (λ b. b < 256) image.file are.bytes) are.entry (recursion_from_All (λ b. b < 256) input asked.bytes) in
+      summary_is (label_at index.lines line) speedup (length points.lines) _ ranges.within ranges.output ranges.visits (blocks.right line below) slow
+
+  line_right : (line : ℕ) (qs : List ℕ) → line < length index.lines → AllByRecursion (λ q. q ≤ 95) qs → AllByRecursion (IsSummary (length points.lines)) (map (block line) qs)
+  line_right line [] below slow = tt
+  line_right line (q ∷ qs) below slow = (block_right line q below slow.0, line_right line qs below slow.1)
+
+  lines_right : (lines : List ℕ) → AllByRecursion (λ line. line < length index.lines) lines → AllByRecursion (IsSummary (length points.lines)) (blocks_at block rates lines)
+  lines_right [] below = tt
+  lines_right (line ∷ lines) below =
+      both (IsSummary (length points.lines)) (map (block line) rates) (blocks_at block rates lines)
+      (line_right line rates below.0 (ordered_all (λ q. q ≤ 95) (0 ∷ speedups) (omega arith, recursion_from_All (λ q. q ≤ 95) speedups asked.slow)))
+      (lines_right lines below.1)
+
+  pub profile_right : (lines : List ℕ) → AreLines (length index.lines) lines → IsProfile (profile_at budget (map (label_at index.lines) points.lines) block rates lines)
+  profile_right lines rise =
+      let points_below = recursion_from_All (λ line. line < length index.lines) points.lines asked.lines.below in
+      let as_many : length (map (label_at index.lines) points.lines) ≡ length points.lines = length-map points.lines (label_at index.lines) in
+      record {
+        budget = let few : budget ≤ 10 ^ 12 = asked.small_budget in omega arith;
+        points = let few : length points.lines ≤ 64 = asked.few in omega arith;
+        names = names_right blocks points.lines points_below;
+        names_rise = names_rise blocks points.lines asked.lines.rise points_below;
+        summaries = subst (λ (n : ℕ). AllByRecursion (IsSummary n) (blocks_at block rates lines)) (sym as_many) (lines_right lines (recursion_from_All (λ line. line < length index.lines) lines rise.below));
+        blocks_rise = blocks_rise blocks rates (speedups_rise speedups) lines rise.rise (recursion_from_All (λ line. line < length index.lines) lines rise.below);
+      }
+
+  all_by : (lists : List (List ℕ)) → AllByRecursion (AreLines (length index.lines)) lists → AllByRecursion IsProfile (map (profile_at budget (map (label_at index.lines) points.lines) block rates) lists)
+  all_by [] all = tt
+  all_by (lines ∷ lists) all = (profile_right lines all.0, all_by lists all.1)
+
+  pub profiles_right : (lists : List (List ℕ)) → All (AreLines (length index.lines)) lists → All IsProfile (map (profile_at budget (map (label_at index.lines) points.lines) block rates) lists)
+  profiles_right lists all = All-from_recursion IsProfile (map (profile_at budget (map (label_at index.lines) points.lines) block rates) lists) (all_by lists (recursion_from_All (AreLines (length index.lines)) lists all))
