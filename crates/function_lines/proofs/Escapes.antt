@@ -1,7 +1,7 @@
 -- With what a written path begins.
-use Rattle.std.proofs.Common.{◌≡◌, ◌≢◌, ◌<◌, ◌≤◌, inl, inr, ℕ, zero, suc, ◌+◌, ◌-◌, ◌*◌, ◌/◌, ◌%◌, Bool, true, false, ◌&&◌, ◌||◌, List, [], ◌∷◌, ◌++◌, length, drop, get_or, Option, Some, None, refl, sym, ap, ap₂, subst, ◌∙◌, arith, ◌==◌, nat_lt, nat_le, eqb-true, eq-eqb, ne_eqb, lt-ltb, le-ltb, ltb-true, leb-true, if◌then◌else◌}
+use Rattle.std.proofs.Common.{◌≡◌, ◌≢◌, ◌<◌, ◌≤◌, inl, inr, ℕ, ◌+◌, ◌-◌, ◌*◌, ◌/◌, ◌%◌, Bool, true, false, ◌&&◌, ◌||◌, List, [], ◌∷◌, ◌++◌, length, drop, get_or, Some, None, refl, sym, ap, ap₂, subst, ◌∙◌, arith, nat_le, ne_eqb, lt-ltb, le-ltb, leb-true, if◌then◌else◌}
 use Rattle.std.specs.Prelude.{◌⊎◌}
-use Rattle.coz_types.specs.Labels.{Scan, hex_digit, hex_value, is_escaped, is_hex_digit, escape_of, scan_step, is_scanned, is_written}
+use Rattle.coz_types.specs.Labels.{hex_digit, hex_value, is_escaped, is_hex_digit, escape_of, is_scanned, is_written}
 
 -- a digit, and the digit of its value
 pub record IsDigit (b : ℕ) : Type 0 where

@@ -2,3 +2,10 @@ pub mod SameProgram
 pub mod WithLines
 pub mod Symbols
 pub mod Labels
+pub mod Code
+pub mod Marks
+pub mod Sound
+pub mod Sequences
+pub mod ByFunction
+pub mod Regions
+pub mod Lines

@@ -3,7 +3,8 @@ use Rattle.std.specs.Prelude.{ℕ, ◌+◌, ◌/◌, ◌%◌, Bool, not, ◌&&�
 use Rattle.std.specs.Int.{w16, w32, w64}
 use Rattle.std.specs.Ordering.{nat_cmp}
 use Rattle.std.specs.BTreeMap.{insert_entry}
-use Rattle.coz_types.specs.declared.TheConstants.{LOAD_END}
+use Rattle.std.specs.List.{list_any}
+use Rattle.coz_types.specs.declared.image.Area.{Area}
 use Rattle.elf_load.specs.Tables.{number, places}
 use Rattle.function_lines.specs.declared.symbols.Symbol.{Symbol}
 
@@ -43,23 +44,30 @@ name_of names s = take_while (λ b. not (b == 0)) (drop s.name names)
 
 -- ---- functions
 
--- a defined symbol of type STT_FUNC of some bytes, at an instruction, with a name
-abbrev pub is_function : List ℕ → Symbol → Bool
-is_function names s =
+-- all bytes of the symbol lie in the area, whose words may be executed
+abbrev pub is_in_area : Symbol → Area → Bool
+is_in_area s area =
+    area.rights.execute
+    && (nat_le area.start s.address && nat_le (s.address + s.size) (area.start + area.size))
+
+-- a defined symbol of type STT_FUNC of some bytes within an executable area, at an instruction,
+-- with a name
+abbrev pub is_function : List Area → List ℕ → Symbol → Bool
+is_function areas names s =
     s.kind == 2
     && (not (s.section == 0) && (not (s.size == 0) && (s.address % 4 == 0
-    && (nat_le (s.address + s.size) LOAD_END && has_name names s))))
+    && (has_name names s && list_any (is_in_area s) areas))))
 
 -- in place of another one at its address, if it is a function
-abbrev pub with_function : List ℕ → Symbol → List (ℕ × Symbol) → List (ℕ × Symbol)
-with_function names s found =
-    if is_function names s then insert_entry nat_cmp found s.address s else found
+abbrev pub with_function : List Area → List ℕ → Symbol → List (ℕ × Symbol) → List (ℕ × Symbol)
+with_function areas names s found =
+    if is_function areas names s then insert_entry nat_cmp found s.address s else found
 
 -- by their addresses, rising: of several with one address the first counts
-abbrev pub by_address : List ℕ → List Symbol → List (ℕ × Symbol)
-by_address names [] = []
-by_address names (s ∷ more) = with_function names s (by_address names more)
+abbrev pub by_address : List Area → List ℕ → List Symbol → List (ℕ × Symbol)
+by_address areas names [] = []
+by_address areas names (s ∷ more) = with_function areas names s (by_address areas names more)
 
--- of a symbol table and of the section that holds its names
-unfoldable pub functions : List ℕ → List ℕ → List (ℕ × Symbol)
-functions table names = by_address (ended names) (symbols table)
+-- of a program's areas, of a symbol table and of the section that holds its names
+unfoldable pub functions : List Area → List ℕ → List ℕ → List (ℕ × Symbol)
+functions areas table names = by_address areas (ended names) (symbols table)

@@ -1,4 +1,4 @@
--- A file with another line table behind it.
+-- A file with another line table after its bytes.
 use Rattle.std.specs.Prelude.{◌≡◌, ℕ, ◌+◌, Bool, false, ◌&&◌, List, ◌++◌, take, drop, length, bytes_eq, Option, Some, None, option_map, codes}
 use Rattle.coz_types.specs.Image.{ImageParts}
 use Rattle.elf_load.specs.Loaded.{load_answer, section, section_place}
@@ -7,8 +7,8 @@ use Rattle.function_lines.specs.declared.relined.LinesError.TheVariants.{NoLines
 use Rattle.function_lines.specs.SameProgram.{is_same_program}
 use Rattle.line_unit.specs.Unit.{double}
 
--- the file and behind it the unit, with the section header at a place that names the unit:
--- sh_offset is 24 bytes behind the place, and sh_size 32
+-- the file and after it the unit, with the section header at an offset that names the unit:
+-- sh_offset is 24 bytes after the header's offset, and sh_size 32
 abbrev pub with_section : List ℕ → List ℕ → ℕ → List ℕ
 with_section file unit place =
     take (place + 24) file

@@ -1,11 +1,12 @@
 //! The line that a function is.
 
-ghost use Rattle.std.specs.Prelude.{◌≡◌, ◌++◌, ◌∷◌, true, IfOk, IfSome};
+ghost use Rattle.std.specs.Prelude.{◌≡◌, ◌<◌, ◌+◌, ◌^◌, ◌++◌, ◌∷◌, ◌==◌, not, true, false, length, IfOk, IfSome};
+ghost use Rattle.std.specs.List.{AllPass};
 ghost use Rattle.coz_types.specs.Labels.{is_written, written};
 ghost use Rattle.function_lines.specs.Labels.{labelled, lines_of};
-ghost use Rattle.function_lines.specs.declared.labels.Place.{Place};
+ghost use Rattle.function_lines.specs.Marks.{IsText, has_zero};
 ghost use Rattle.line_unit.specs.Lines.{line_of_sequence};
-ghost use Rattle.line_unit.specs.Unit.{view};
+ghost use Rattle.line_unit.specs.Unit.{IsWritable, view};
 
 use crate::raw_paths::unwritten;
 use crate::symbols::Symbol;
@@ -22,9 +23,14 @@ pub struct Place<'a> {
 }
 
 /// The path of a name below the path that is written so.
+#[tactic(auto, using(crate::proofs::Texts::joined_text))]
 fn path_below(alloc: Global, path: &[u8], name: &[u8]) -> Result<Vec<u8>, AllocError>
-    requires { is_written path.now ≡ true }
-    ensures { IfOk result (λ v. written v.items ≡ path.now ++ 47 ∷ written name.now) }
+    requires written { is_written path.now ≡ true }
+    requires path { has_zero path.now ≡ false }
+    requires name { AllPass (λ b. not (b == 0)) name.now }
+    ensures written { IfOk result (λ v. written v.items ≡ path.now ++ 47 ∷ written name.now) }
+    ensures named { IfOk result (λ v. 0 < length v.items) }
+    ensures text { IfOk result (λ v. AllPass (λ b. not (b == 0)) v.items) }
 {
     let mut out = unwritten(alloc, path)?;
     out.push(b'/')?;
@@ -41,11 +47,15 @@ pub fn function_sequence(
     name: &[u8],
     place: Option<Place>,
 ) -> Result<Sequence, AllocError>
-    requires { IfSome place (λ place. is_written place.path.now ≡ true) }
+    requires place { IfSome place IsText }
+    requires named { 0 < length name.now }
+    requires text { AllPass (λ b. not (b == 0)) name.now }
+    requires within { symbol.now.address + symbol.now.size < 2 ^ 64 }
     ensures line { IfOk result (λ s.
         line_of_sequence (view s) ≡ labelled name.now (lines_of place.entry)) }
     ensures address { IfOk result (λ s. s.address ≡ symbol.now.address) }
     ensures size { IfOk result (λ s. s.size ≡ symbol.now.size) }
+    ensures writable { IfOk result (λ s. IsWritable (view s)) }
 {
     let (path, number) = match place {
         Some(place) => (path_below(alloc, place.path, name)?, place.number),

@@ -1,4 +1,4 @@
-//! A file with another line table behind it.
+//! A file with another line table after its bytes.
 
 ghost use Rattle.std.specs.Prelude.{◌≡◌, ◌≤◌, ◌+◌, ◌&&◌, true, None, Some, codes, ◌++◌, length, IfOk, IfErr};
 ghost use Rattle.std.specs.Option.{option_copied};
@@ -37,7 +37,7 @@ impl From<AllocError> for LinesError {
 }
 
 /// The name of the section of the line table.
-const LINES: &[u8] = b".debug_line";
+pub const LINES: &[u8] = b".debug_line";
 
 /// Appends a number of eight bytes, the lowest first.
 #[tactic(auto, unfolding(line_unit::specs::Unit::double))]
@@ -49,7 +49,7 @@ fn push_double(out: &mut Vec<u8>, n: u64) -> Result<(), AllocError>
     out.extend_from_slice(&bytes)
 }
 
-/// The file and behind it the unit, which the section header at a place names.
+/// The file and after it the unit, which the section header at an offset names.
 fn with_section(
     alloc: Global,
     file: &[u8],
@@ -98,7 +98,7 @@ fn has_lines(alloc: Global, image: &Image, unit: &[u8], file: &[u8]) -> Result<b
     }
 }
 
-/// Returns the file of a program with another line table: behind the file's bytes stands the unit,
+/// Returns the file of a program with another line table: the unit follows the file's bytes,
 /// and the header of the section `.debug_line` names it. All other bytes are as they were. The
 /// image is that of a file without a fault.
 ///

@@ -1,12 +1,15 @@
 //! The functions of a symbol table (ELF-64 Object File Format, version 1.5, "Symbol Table").
 
-ghost use Rattle.std.specs.Prelude.{◌≡◌, ◌==◌, not, take_while, ◌≤◌, ◌<◌, ◌+◌, ◌*◌, length, IfOk};
+ghost use Rattle.std.specs.Prelude.{◌≡◌, ◌==◌, not, take_while, ◌≤◌, ◌<◌, ◌+◌, ◌*◌, length, All, AllPairs, IfOk};
+ghost use Rattle.coz_types.specs.Image.{AreApart};
 ghost use Rattle.std.specs.Int.{w16, w32, w64};
 ghost use Rattle.elf_load.specs.Tables.{number};
+ghost use Rattle.function_lines.specs.Code.{IsSpan};
 ghost use Rattle.function_lines.specs.Symbols.{ended, functions, has_name, is_function, name_of, symbol_at, with_function};
 
+use crate::code::Code;
 use byteorder::{ByteOrder, LittleEndian};
-use coz_types::{Address, LOAD_END};
+use coz_types::{Address, Area};
 use std::alloc::{AllocError, Global};
 use std::collections::BTreeMap;
 
@@ -17,7 +20,7 @@ pub struct Symbol {
     pub name: u32,
     /// The type, the low four bits of st_info.
     pub kind: u8,
-    /// st_shndx: the number of its section, 0 where it is not defined.
+    /// st_shndx: the number of its section, 0 if it is not defined.
     pub section: u16,
     /// st_value: its first address.
     pub address: Address,
@@ -102,45 +105,64 @@ fn has_name(names: &[u8], symbol: &Symbol) -> bool
     place < names.len() && names[place] != 0
 }
 
-fn is_function(names: &[u8], symbol: &Symbol) -> bool
-    ensures { result ≡ is_function names.now symbol.now }
+fn is_function(code: &Code, names: &[u8], symbol: &Symbol) -> bool
+    ensures { result ≡ is_function code.now names.now symbol.now }
 {
     symbol.kind == STT_FUNC
         && symbol.section != 0
         && symbol.size != 0
         && symbol.address % 4 == 0
-        && symbol.address <= LOAD_END
-        && symbol.size <= LOAD_END - symbol.address
         && has_name(names, symbol)
+        && code.has(symbol)
 }
 
 /// Adds a symbol, if it is a function, in place of another one at its address.
-fn add_function(found: &mut Functions, names: &[u8], symbol: Symbol) -> Result<(), AllocError>
+fn add_function(
+    found: &mut Functions,
+    code: &Code,
+    names: &[u8],
+    symbol: Symbol,
+) -> Result<(), AllocError>
     ensures { IfOk result (λ _.
-        found.new.entries ≡ with_function names.now symbol found.old.entries) }
+        found.new.entries ≡ with_function code.now names.now symbol found.old.entries) }
 {
-    if is_function(names, &symbol) {
+    if is_function(code, names, &symbol) {
         found.insert(symbol.address, symbol)?;
     }
     Ok(())
 }
 
-/// Returns the functions of a symbol table, whose names are in this section, by their first
-/// addresses: the defined symbols of type STT_FUNC that have bytes below 0x20_0000_0000, begin at
-/// a multiple of 4 and have a name that a zero byte ends. Of several with one address the first
-/// counts. What follows the last whole entry is passed over.
+/// The functions of a symbol table, whose names are in this section, by their first addresses.
 #[tactic(auto, unfolding(crate::specs::Symbols::functions))]
-pub fn functions(alloc: Global, table: &[u8], names: &[u8]) -> Result<Functions, AllocError>
-    ensures { IfOk result (λ found. found.entries ≡ functions table.now names.now) }
+fn found_in(alloc: Global, code: &Code, table: &[u8], names: &[u8]) -> Result<Functions, AllocError>
+    ensures { IfOk result (λ found. found.entries ≡ functions code.now table.now names.now) }
 {
     let strings = ended(names);
     let mut found = BTreeMap::new(alloc);
     let mut left = table.len() / SYM_SIZE;
     while left > 0 {
         left -= 1;
-        add_function(&mut found, strings, symbol_at(table, SYM_SIZE * left))?;
+        add_function(&mut found, code, strings, symbol_at(table, SYM_SIZE * left))?;
     }
     Ok(found)
+}
+
+/// Returns the functions of a symbol table, whose names are in this section, by their first
+/// addresses: the defined symbols of type STT_FUNC that have bytes, all in one executable area,
+/// begin at a multiple of 4 and have a name that a zero byte ends. Of several with one address the
+/// first counts. What follows the last whole entry is passed over. The areas share no page.
+pub fn functions(
+    alloc: Global,
+    areas: &[Area],
+    table: &[u8],
+    names: &[u8],
+) -> Result<Functions, AllocError>
+    requires spans { All IsSpan areas.now }
+    requires apart { AllPairs AreApart areas.now }
+    ensures { IfOk result (λ found. found.entries ≡ functions areas.now table.now names.now) }
+{
+    let code = Code::new(alloc, areas)?;
+    found_in(alloc, &code, table, names)
 }
 
 /// Returns the name of a symbol among names that `ended` returned: the bytes up to the next zero

@@ -16,7 +16,7 @@ text_header p = loaded_header 64 5 4096 0x10000 (length p.text)
 abbrev pub data_header : Program → Segment
 data_header p = loaded_header 120 6 (4096 + whole_pages p) (0x10000 + whole_pages p) (length p.content)
 
--- the section headers, from the first one's place on
+-- the section headers, from the first one's offset on
 abbrev pub no_section : List ℕ → Program → Section
 no_section unit p = section_header (headers_place unit p) 0 0 0 0 0
 
@@ -71,9 +71,9 @@ length-front : (unit : List ℕ) (p : Program) → length (front unit p) ≡ 409
 unfolding front
 length-front unit p = length-filled_up 4096 (file_header p.entry (headers_place unit p) (segment_count p) ++ segments p) (headers_short p.entry (headers_place unit p) (segment_count p) p)
 
-pub length-section : (name kind flags place size align : ℕ) → length (section name kind flags place size align) ≡ 64
+pub length-section : (name kind flags offset size align : ℕ) → length (section name kind flags offset size align) ≡ 64
 unfolding section
-length-section name kind flags place size align = simp (length-append, length-word, length-double)
+length-section name kind flags offset size align = simp (length-append, length-word, length-double)
 
 -- what is before the unit, and before the section headers
 abbrev pub before_unit : List ℕ → Program → List ℕ

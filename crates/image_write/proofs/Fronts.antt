@@ -4,9 +4,9 @@ use Rattle.rv_asm.specs.Assembled.{Program}
 use Rattle.image_write.specs.File.{file_header, segment, segments, has_content, whole_pages}
 use Rattle.image_write.proofs.Lengths.{length-half, length-word, length-double}
 
-pub length-segment : (flags place address size : ℕ) → length (segment flags place address size) ≡ 56
+pub length-segment : (flags offset address size : ℕ) → length (segment flags offset address size) ≡ 56
 unfolding segment
-length-segment flags place address size = simp (length-append, length-word, length-double)
+length-segment flags offset address size = simp (length-append, length-word, length-double)
 
 pub length-segments : (p : Program) → length (segments p) ≤ 112
 unfolding segments

@@ -8,33 +8,9 @@ use Rattle.image_write.proofs.Lengths.{length-groups}
 use Rattle.std.specs.List.{list_any, AllByRecursion}
 use Rattle.std.proofs.lemmas.Bool.{ltb-true, lt-ltb, le-ltb, cases_Bool}
 use Rattle.std.proofs.lemmas.Nat.{pow-add}
-use Rattle.leb_cursor.specs.Numbers.{IsOneNumber, low_bits, SpellsUnsigned, signed_number, SpellsSigned}
+use Rattle.leb_cursor.specs.Numbers.{SpellsUnsigned, signed_number, SpellsSigned}
+use Rattle.line_unit.proofs.Leb.{groups_one, groups_value}
 use Rattle.image_write.specs.Unit.{groups, fewest, uleb, sleb}
-
-group_front : (k n : ℕ) → (c : ℕ) × (cs : List ℕ) × (groups (suc k) n ≡ c ∷ cs)
-group_front zero n = (n % 128, [], refl)
-group_front (suc k) n = (n % 128 + 128, groups (suc k) (n / 128), refl)
-
-before_more : (b c : ℕ) (bs cs : List ℕ) → bs ≡ c ∷ cs → 128 ≤ b → IsOneNumber bs → IsOneNumber (b ∷ bs)
-before_more b c bs cs e large one = subst (λ xs. IsOneNumber (b ∷ xs)) (sym e) (large, subst IsOneNumber e one)
-
-pub groups_one : (k n : ℕ) → IsOneNumber (groups (suc k) n)
-groups_one zero n = omega arith
-groups_one (suc k) n =
-    let f = group_front k (n / 128) in
-    before_more (n % 128 + 128) f.0 (groups (suc k) (n / 128)) f.1 f.2 (omega arith) (groups_one k (n / 128))
-
-one_group_more : (k : ℕ) → 2 ^ (7 * suc (suc k)) ≡ 128 * 2 ^ (7 * suc k)
-one_group_more k =
-    let seven : 7 * suc (suc k) ≡ 7 + 7 * suc k = omega arith in
-    ap (λ (i : ℕ). 2 ^ i) seven ∙ pow-add 2 7 (7 * suc k)
-
-pub groups_value : (k n : ℕ) → n < 2 ^ (7 * suc k) → low_bits (groups (suc k) n) ≡ n
-groups_value zero n below = omega arith
-groups_value (suc k) n below =
-    let more = one_group_more k in
-    let less : n / 128 < 2 ^ (7 * suc k) = omega (arith, more) in
-    omega (arith, groups_value k (n / 128) less)
 
 -- the count that is found passes the test, if one does
 found_passes : (test : ℕ → Bool) (xs : List ℕ) → list_any test xs ≡ true → test (unwrap_or (find test xs) 10) ≡ true

@@ -21,9 +21,9 @@ from_unit b u n z s = simp append_assoc
 from_names : (b u n z s : List ℕ) → b ++ u ++ n ++ z ++ s ≡ (b ++ u) ++ (n ++ (z ++ s))
 from_names b u n z s = simp append_assoc
 
-part_of : (x y rest whole : List ℕ) (place size : ℕ) → whole ≡ x ++ (y ++ rest) → length x ≡ place → length y ≡ size → take size (drop place whole) ≡ y
-part_of x y rest whole place size is at long =
-    ap (λ (zs : List ℕ). take size (drop place zs)) is ∙ ap (λ (zs : List ℕ). take size zs) (drop_at x (y ++ rest) place at) ∙ take_at y rest size long
+part_of : (x y rest whole : List ℕ) (offset size : ℕ) → whole ≡ x ++ (y ++ rest) → length x ≡ offset → length y ≡ size → take size (drop offset whole) ≡ y
+part_of x y rest whole offset size is at long =
+    ap (λ (zs : List ℕ). take size (drop offset zs)) is ∙ ap (λ (zs : List ℕ). take size zs) (drop_at x (y ++ rest) offset at) ∙ take_at y rest size long
 
 gap : List ℕ → Program → List ℕ
 gap u p = replicate (headers_place u p - names_end u p) 0
@@ -45,9 +45,9 @@ names_by f i n s = if nat_lt 0 i && nat_lt i n && has_bytes s then bytes_of f s 
 
 names_read : (u : List ℕ) (p : Program) (f : List ℕ) → IsLaid u p f → tables.names f ≡ bytes_of f (names_section u p)
 names_read u p f is =
-    let place : headers_place u p + 64 * 4 ≡ headers_place u p + 64 + 64 + 64 + 64 = omega arith in
+    let offset : headers_place u p + 64 * 4 ≡ headers_place u p + 64 + 64 + 64 + 64 = omega arith in
     let header : section_at f (shoff f + 64 * shstrndx f) ≡ names_section u p =
-    ap₂ (λ (a b : ℕ). section_at f (a + 64 * b)) is.is_headed.has_shoff is.is_headed.has_shstrndx ∙ ap (λ (n : ℕ). section_at f n) place ∙ is.section_4 in
+    ap₂ (λ (a b : ℕ). section_at f (a + 64 * b)) is.is_headed.has_shoff is.is_headed.has_shstrndx ∙ ap (λ (n : ℕ). section_at f n) offset ∙ is.section_4 in
     λ i. names_by f (is.is_headed.has_shstrndx i) (is.is_headed.has_shnum i) (header i)
 
 abbrev search_by : List ℕ → List Section → Option Section

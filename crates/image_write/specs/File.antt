@@ -53,7 +53,7 @@ headers_place unit p = up_to_multiple 8 (names_end unit p)
 abbrev pub segment_count : Program → ℕ
 segment_count p = if has_content p then 2 else 1
 
--- the entry, the place of the section headers and how many segments there are
+-- the entry, the offset of the section headers and how many segments there are
 unfoldable pub file_header : ℕ → ℕ → ℕ → List ℕ
 file_header entry headers segments =
     0x7F ∷ 0x45 ∷ 0x4C ∷ 0x46 ∷ 2 ∷ 1 ∷ 1 ∷ replicate 9 0
@@ -72,10 +72,10 @@ file_header entry headers segments =
     ++ half 4
 
 unfoldable pub segment : ℕ → ℕ → ℕ → ℕ → List ℕ
-segment flags place address size =
+segment flags offset address size =
     word 1
     ++ word flags
-    ++ double place
+    ++ double offset
     ++ double address
     ++ double address
     ++ double size
@@ -89,12 +89,12 @@ segments p =
     then segment 6 (PAGE + whole_pages p) (TEXT_START + whole_pages p) (length p.content) else [])
 
 unfoldable pub section : ℕ → ℕ → ℕ → ℕ → ℕ → ℕ → List ℕ
-section name kind flags place size align =
+section name kind flags offset size align =
     word name
     ++ word kind
     ++ double flags
     ++ double 0
-    ++ double place
+    ++ double offset
     ++ double size
     ++ word 0
     ++ word 0

@@ -36,7 +36,7 @@ row_at version address line ends = record {
   ends = ends;
 }
 
--- from the word at this address on, after a word of this line: a row where the line changes,
+-- from the word at this address on, after a word of this line: a row whenever the line changes,
 -- and one that ends the text
 abbrev pub rows_from : ℕ → ℕ → ℕ → List ℕ → List Row
 rows_from version address line [] = row_at version address line true ∷ []
@@ -61,7 +61,7 @@ table_of lines name version = record {
 
 -- ---- the lines of a file's words
 
--- what the section of lines is read as, where all texts are in that section
+-- what the section of lines is read as, if all texts are in that section
 abbrev pub read_table : List ℕ → Option (Result Table LineFault)
 read_table file = option_map (reading (strings [] [])) (section file (codes ".debug_line"))
 

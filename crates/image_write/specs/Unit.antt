@@ -1,27 +1,11 @@
 -- The line unit of a written file, of version 4 or 5.
-use Rattle.std.specs.Prelude.{ℕ, zero, suc, ◌+◌, ◌*◌, ◌/◌, ◌%◌, ◌^◌, Bool, List, [], ◌∷◌, ◌++◌, length, find, ℤ, pos, ◌-ℤ◌, unwrap_or, nat_lt, ◌==◌, if◌then◌else◌}
-use Rattle.std.specs.Int.{w16, w32, w64, to_le_bytes}
+use Rattle.std.specs.Prelude.{ℕ, ◌+◌, ◌*◌, ◌^◌, Bool, List, [], ◌∷◌, ◌++◌, find, ℤ, pos, ◌-ℤ◌, unwrap_or, nat_lt, ◌==◌, if◌then◌else◌}
 use Rattle.rv_decode.specs.Fields.{twos_complement, is_signed}
 use Rattle.rv_asm.specs.declared.TheConstants.{TEXT_START}
-
--- ---- numbers, the lowest byte first
-
-unfoldable pub half : ℕ → List ℕ
-half n = to_le_bytes w16 n
-
-unfoldable pub word : ℕ → List ℕ
-word n = to_le_bytes w32 n
-
-unfoldable pub double : ℕ → List ℕ
-double n = to_le_bytes w64 n
+unfoldable pub use Rattle.line_unit.specs.Unit.{half, word, double}
+pub use Rattle.line_unit.specs.Unit.{groups, with_count, numbers, set_address, end_sequence}
 
 -- ---- LEB128 in the shortest form
-
--- a number of groups of seven bits, the lowest first; all but the last have the upper bit
-abbrev pub groups : ℕ → ℕ → List ℕ
-groups zero n = []
-groups (suc zero) n = n % 128 ∷ []
-groups (suc (suc k)) n = (n % 128 + 128) ∷ groups (suc k) (n / 128)
 
 -- the first count of bytes, from 1 to 10, that the test takes
 unfoldable pub fewest : (ℕ → Bool) → ℕ
@@ -37,12 +21,6 @@ sleb z =
     groups count (twos_complement (7 * count) z)
 
 -- ---- the program
-
-abbrev pub set_address : ℕ → List ℕ
-set_address a = 0 ∷ 9 ∷ 2 ∷ [] ++ double a
-
-abbrev pub end_sequence : List ℕ
-end_sequence = 0 ∷ 1 ∷ 1 ∷ []
 
 -- by `words` words
 abbrev pub advance_pc : ℕ → List ℕ
@@ -68,13 +46,6 @@ line_program (l ∷ more) = set_address TEXT_START ++ row 0 1 l ++ rows 1 l more
 
 -- ---- the unit
 
--- minimum_instruction_length 4, line_base -5, line_range 14, opcode_base 13, and the lengths
--- of opcodes 1 to 12
-abbrev pub numbers : List ℕ
-numbers =
-    4 ∷ 1 ∷ 1 ∷ 0xFB ∷ 14 ∷ 13 ∷ []
-    ++ 0 ∷ 1 ∷ 1 ∷ 1 ∷ 1 ∷ 0 ∷ 0 ∷ 0 ∷ 1 ∷ 0 ∷ 0 ∷ 1 ∷ []
-
 -- the sizes of an address and of a segment, in version 5 alone
 abbrev pub sizes : ℕ → List ℕ
 sizes version = if version == 5 then 8 ∷ 0 ∷ [] else []
@@ -91,10 +62,6 @@ counted_files name =
 
 abbrev pub files : ℕ → List ℕ → List ℕ
 files version name = if version == 5 then counted_files name else ended_files name
-
--- the bytes, after their count in four bytes
-abbrev pub with_count : List ℕ → List ℕ
-with_count bytes = word (length bytes) ++ bytes
 
 -- the version, the header after its length, and the program
 abbrev pub unit_body : List ℕ → List ℕ → ℕ → List ℕ

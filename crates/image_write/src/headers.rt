@@ -4,9 +4,9 @@ ghost use Rattle.std.specs.Prelude.{◌≡◌, ◌<◌, ◌≤◌, ◌+◌, ◌^
 ghost use Rattle.rv_asm.specs.Assembled.{up_to_multiple, view};
 ghost use Rattle.image_write.specs.File.{IsWritable, has_content, whole_pages, text_room, content_place, unit_place, names_place, names_end, headers_place, segment_count, file_header, segment, segments, section, sections};
 
-use crate::numbers::{push_double, push_half, push_word};
 use coz_types::PAGE;
 use elf_load::codes::{EHDR_SIZE, EM_RISCV, ET_EXEC, PHDR_SIZE, PT_LOAD, SHDR_SIZE};
+use line_unit::{push_double, push_half, push_word};
 use rv_asm::{Assembled, TEXT_START};
 use std::alloc::{AllocError, Global};
 
@@ -15,13 +15,13 @@ pub const NAMES: [u8; 35] = *b"\0.text\0.data\0.debug_line\0.shstrtab\0";
 
 // The places of the names.
 
-/// That of `.text`.
+/// The offset of `.text` in `NAMES`.
 const TEXT_NAME: u32 = 1;
-/// That of `.data`.
+/// The offset of `.data` in `NAMES`.
 const DATA_NAME: u32 = 7;
-/// That of `.debug_line`.
+/// The offset of `.debug_line` in `NAMES`.
 const LINES_NAME: u32 = 13;
-/// That of `.shstrtab`.
+/// The offset of `.shstrtab` in `NAMES`.
 const NAMES_NAME: u32 = 25;
 
 /// How many sections there are, with the null one.
@@ -181,16 +181,16 @@ pub fn file_header(
 fn segment(
     alloc: Global,
     flags: u32,
-    place: u64,
+    offset: u64,
     address: u64,
     size: u64,
 ) -> Result<Vec<u8>, AllocError>
-    ensures { IfOk result (λ v. v.items ≡ segment flags place address size) }
+    ensures { IfOk result (λ v. v.items ≡ segment flags offset address size) }
 {
     let mut out = Vec::new(alloc);
     push_word(&mut out, PT_LOAD)?;
     push_word(&mut out, flags)?;
-    push_double(&mut out, place)?;
+    push_double(&mut out, offset)?;
     push_double(&mut out, address)?;
     push_double(&mut out, address)?;
     push_double(&mut out, size)?;
@@ -228,18 +228,18 @@ fn section(
     name: u32,
     kind: u32,
     flags: u64,
-    place: u64,
+    offset: u64,
     size: u64,
     align: u64,
 ) -> Result<Vec<u8>, AllocError>
-    ensures { IfOk result (λ v. v.items ≡ section name kind flags place size align) }
+    ensures { IfOk result (λ v. v.items ≡ section name kind flags offset size align) }
 {
     let mut out = Vec::new(alloc);
     push_word(&mut out, name)?;
     push_word(&mut out, kind)?;
     push_double(&mut out, flags)?;
     push_double(&mut out, 0)?;
-    push_double(&mut out, place)?;
+    push_double(&mut out, offset)?;
     push_double(&mut out, size)?;
     push_word(&mut out, 0)?;
     push_word(&mut out, 0)?;

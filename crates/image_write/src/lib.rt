@@ -40,8 +40,8 @@ fn both_headers(alloc: Global, assembled: &Assembled, unit: &[u8]) -> Result<Vec
         v.items ≡ file_header assembled.now.entry (headers_place unit.now (view assembled.now))
         (segment_count (view assembled.now)) ++ segments (view assembled.now)) }
 {
-    let place = headers_place(assembled, unit);
-    let mut out = file_header(alloc, assembled.entry, place, segment_count(assembled))?;
+    let offset = headers_place(assembled, unit);
+    let mut out = file_header(alloc, assembled.entry, offset, segment_count(assembled))?;
     out.extend_from_slice(&segments(alloc, assembled)?)?;
     Ok(out)
 }

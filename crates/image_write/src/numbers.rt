@@ -1,41 +1,10 @@
-//! Numbers as bytes: of fixed width, the lowest byte first, and LEB128 in the shortest form.
+//! Zeros, and LEB128 numbers in the shortest form.
 
 ghost use Rattle.std.specs.Prelude.{◌≡◌, ◌<◌, ◌≤◌, ◌+◌, ◌^◌, ◌*◌, ◌-◌, ◌++◌, length, replicate, IfOk, nat_lt, pos, neg_ℤ, ◌-ℤ◌, ◌≤ℤ◌};
 ghost use Rattle.rv_decode.specs.Fields.{twos_complement, is_signed};
-ghost use Rattle.image_write.specs.Unit.{half, word, double, groups, fewest, uleb, sleb};
+ghost use Rattle.image_write.specs.Unit.{groups, fewest, uleb, sleb};
 
-use byteorder::{ByteOrder, LittleEndian};
 use std::alloc::AllocError;
-
-/// A number of two bytes.
-#[tactic(auto, unfolding(crate::specs::Unit::half))]
-pub fn push_half(out: &mut Vec<u8>, n: u16) -> Result<(), AllocError>
-    ensures { IfOk result (λ _. out.new.items ≡ out.old.items ++ half n) }
-{
-    let mut bytes = [0; 2];
-    LittleEndian::write_u16(&mut bytes, n);
-    out.extend_from_slice(&bytes)
-}
-
-/// A number of four bytes.
-#[tactic(auto, unfolding(crate::specs::Unit::word))]
-pub fn push_word(out: &mut Vec<u8>, n: u32) -> Result<(), AllocError>
-    ensures { IfOk result (λ _. out.new.items ≡ out.old.items ++ word n) }
-{
-    let mut bytes = [0; 4];
-    LittleEndian::write_u32(&mut bytes, n);
-    out.extend_from_slice(&bytes)
-}
-
-/// A number of eight bytes.
-#[tactic(auto, unfolding(crate::specs::Unit::double))]
-pub fn push_double(out: &mut Vec<u8>, n: u64) -> Result<(), AllocError>
-    ensures { IfOk result (λ _. out.new.items ≡ out.old.items ++ double n) }
-{
-    let mut bytes = [0; 8];
-    LittleEndian::write_u64(&mut bytes, n);
-    out.extend_from_slice(&bytes)
-}
 
 /// Appends `count` zeros.
 pub fn push_zeros(out: &mut Vec<u8>, count: u32) -> Result<(), AllocError>
@@ -76,7 +45,7 @@ fn unsigned_groups(n: u64) -> u32
     }
 }
 
-/// A number without sign in as few bytes as hold it.
+/// Appends a number without sign in as few bytes as hold it.
 pub fn push_uleb(out: &mut Vec<u8>, n: u64) -> Result<(), AllocError>
     requires { n < 2 ^ 21 }
     ensures { IfOk result (λ _. out.new.items ≡ out.old.items ++ uleb n) }
@@ -124,7 +93,7 @@ fn signed_groups(n: i64) -> u32
     }
 }
 
-/// A number with a sign in as few bytes as hold it.
+/// Appends a number with a sign in as few bytes as hold it.
 pub fn push_sleb(out: &mut Vec<u8>, n: i64) -> Result<(), AllocError>
     requires low { neg_ℤ (pos (2 ^ 33)) ≤ℤ n }
     requires high { n ≤ℤ pos (2 ^ 33 - 1) }

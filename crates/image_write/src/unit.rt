@@ -1,12 +1,11 @@
 //! The line unit of a written file (DWARF 4 and 5, section 6.2).
 
 ghost use Rattle.std.specs.Prelude.{◌≡◌, ◌<◌, ◌≤◌, ◌+◌, ◌*◌, ◌^◌, ◌++◌, length, IfOk};
-ghost use Rattle.image_write.specs.Unit.{set_address, end_sequence, advance_pc, advance_line, row, rows, line_program, numbers, sizes, ended_files, counted_files, files, with_count, unit_body, unit};
+ghost use Rattle.image_write.specs.Unit.{set_address, end_sequence, advance_pc, advance_line, row, rows, line_program, numbers, sizes, ended_files, counted_files, files, unit_body, unit};
 
-use crate::numbers::{push_double, push_half, push_sleb, push_uleb, push_word};
-use dwarf_lines::codes::{
-    DW_LNE_END_SEQUENCE, DW_LNE_SET_ADDRESS, DW_LNS_ADVANCE_LINE, DW_LNS_ADVANCE_PC, DW_LNS_COPY,
-};
+use crate::numbers::{push_sleb, push_uleb};
+use dwarf_lines::codes::{DW_LNS_ADVANCE_LINE, DW_LNS_ADVANCE_PC, DW_LNS_COPY};
+use line_unit::{END_SEQUENCE, SET_ADDRESS, counted, push_double, push_half};
 use rv_asm::TEXT_START;
 use std::alloc::{AllocError, Global};
 
@@ -23,13 +22,7 @@ const TWO_FILES: [u8; 6] = [2, 1, 8, 2, 11, 2];
 /// The sizes of an address and of a segment.
 const SIZES: [u8; 2] = [8, 0];
 
-/// The end of the sequence: an extended opcode of one byte.
-const END_SEQUENCE: [u8; 3] = [0, 1, DW_LNE_END_SEQUENCE];
-
-/// The head of the extended opcode of 9 bytes that sets the address.
-const SET_ADDRESS: [u8; 3] = [0, 9, DW_LNE_SET_ADDRESS];
-
-/// Advances the address by `words` words.
+/// Appends the opcode that advances the address by `words` words.
 fn push_advance_pc(out: &mut Vec<u8>, words: u32) -> Result<(), AllocError>
     requires { words < 2 ^ 21 }
     ensures { IfOk result (λ _. out.new.items ≡ out.old.items ++ advance_pc words) }
@@ -41,7 +34,7 @@ fn push_advance_pc(out: &mut Vec<u8>, words: u32) -> Result<(), AllocError>
     push_uleb(out, u64::from(words))
 }
 
-/// The line changes.
+/// Appends the opcode that changes the line.
 fn push_advance_line(out: &mut Vec<u8>, old: u32, new: u32) -> Result<(), AllocError>
     ensures { IfOk result (λ _. out.new.items ≡ out.old.items ++ advance_line old new) }
 {
@@ -52,7 +45,7 @@ fn push_advance_line(out: &mut Vec<u8>, old: u32, new: u32) -> Result<(), AllocE
     push_sleb(out, i64::from(new) - i64::from(old))
 }
 
-/// A row `words` words after the last one.
+/// Appends a row `words` words after the last one.
 fn push_row(out: &mut Vec<u8>, words: u32, old: u32, new: u32) -> Result<(), AllocError>
     requires { words < 2 ^ 21 }
     ensures { IfOk result (λ _. out.new.items ≡ out.old.items ++ row words old new) }
@@ -135,17 +128,6 @@ fn push_ended_files(out: &mut Vec<u8>, name: &[u8]) -> Result<(), AllocError>
     out.extend_from_slice(&[0, 0, 0, 0])?;
     out.push(0)?;
     Ok(())
-}
-
-/// The bytes, after their count.
-fn counted(alloc: Global, bytes: &[u8]) -> Result<Vec<u8>, AllocError>
-    requires { length bytes.now < 2 ^ 32 }
-    ensures { IfOk result (λ v. v.items ≡ with_count bytes.now) }
-{
-    let mut out = Vec::new(alloc);
-    push_word(&mut out, bytes.len() as u32)?;
-    out.extend_from_slice(bytes)?;
-    Ok(out)
 }
 
 /// The unit, after its length.

@@ -1,4 +1,4 @@
--- The five bytes of a number are a spelling of it, with a sign and without.
+-- Groups of seven bits are a spelling of their number, and the five bytes of a number one with a sign and without.
 use Rattle.std.proofs.Common.{◌≡◌, ◌≤◌, ◌<◌, ℕ, zero, suc, ◌+◌, ◌*◌, ◌/◌, ◌%◌, ◌^◌, List, [], ◌∷◌, refl, ap, subst, ◌∙◌, sym, arith}
 use Rattle.std.specs.Prelude.{pos, ◌-ℤ◌, if◌then◌else◌, Bool}
 use Rattle.std.proofs.lemmas.Bool.{lt-ltb}
@@ -13,7 +13,7 @@ group_front (suc k) n = (n % 128 + 128, groups (suc k) (n / 128), refl)
 before_more : (b c : ℕ) (bs cs : List ℕ) → bs ≡ c ∷ cs → 128 ≤ b → IsOneNumber bs → IsOneNumber (b ∷ bs)
 before_more b c bs cs e large one = subst (λ xs. IsOneNumber (b ∷ xs)) (sym e) (large, subst IsOneNumber e one)
 
-groups_one : (k n : ℕ) → IsOneNumber (groups (suc k) n)
+pub groups_one : (k n : ℕ) → IsOneNumber (groups (suc k) n)
 groups_one zero n = omega arith
 groups_one (suc k) n =
     let f = group_front k (n / 128) in
@@ -24,7 +24,7 @@ one_group_more k =
     let seven : 7 * suc (suc k) ≡ 7 + 7 * suc k = omega arith in
     ap (λ (i : ℕ). 2 ^ i) seven ∙ pow-add 2 7 (7 * suc k)
 
-groups_value : (k n : ℕ) → n < 2 ^ (7 * suc k) → low_bits (groups (suc k) n) ≡ n
+pub groups_value : (k n : ℕ) → n < 2 ^ (7 * suc k) → low_bits (groups (suc k) n) ≡ n
 groups_value zero n below = omega arith
 groups_value (suc k) n below =
     let more = one_group_more k in

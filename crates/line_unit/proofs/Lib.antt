@@ -1,4 +1,4 @@
-mod Leb
+pub mod Leb
 mod LineProgram
 mod Lengths
 mod LineOf

@@ -37,7 +37,7 @@ at all done address file line = stated (map file_of all) done address file line
 abbrev pub between : List Sequence → List Row → State
 between all done = at all done 0 1 (pos 1)
 
--- so many sequences have ended
+-- this number of sequences have ended
 abbrev HasEnded : ℕ → List Row → Type 0
 HasEnded k done = count_by (λ (r : Row). r.ends) done ≡ k
 

@@ -17,9 +17,10 @@ ghost use Rattle.line_unit.specs.Lines.{GivesLines};
 ghost use Rattle.line_unit.specs.Unit.{IsWritable, views, body, unit, with_count};
 
 use crate::header::header;
-use crate::numbers::{push_half, push_word};
 use crate::program::program;
 use coz_types::{Address, MAX_PROGRAM};
+pub use numbers::{push_double, push_half, push_word};
+pub use program::{END_SEQUENCE, SET_ADDRESS};
 use std::alloc::{AllocError, Global};
 
 /// Consecutive addresses that have one line.
@@ -58,8 +59,8 @@ const COUNTS: usize = 10;
 /// The version of the unit.
 const VERSION: u16 = 4;
 
-/// The bytes, after their count.
-fn counted(alloc: Global, bytes: &[u8]) -> Result<Vec<u8>, AllocError>
+/// The bytes, after their count in four bytes.
+pub fn counted(alloc: Global, bytes: &[u8]) -> Result<Vec<u8>, AllocError>
     requires { length bytes.now < 2 ^ 32 }
     ensures { IfOk result (λ v. v.items ≡ with_count bytes.now) }
 {

@@ -6,7 +6,7 @@ ghost use Rattle.line_unit.specs.Unit.{half, word, double, leb};
 use byteorder::{ByteOrder, LittleEndian};
 use std::alloc::AllocError;
 
-/// Appends a number of two bytes.
+/// Appends a number of two bytes, the lowest byte first.
 #[tactic(auto, unfolding(crate::specs::Unit::half))]
 pub fn push_half(out: &mut Vec<u8>, n: u16) -> Result<(), AllocError>
     ensures { IfOk result (λ _. out.new.items ≡ out.old.items ++ half n) }
@@ -16,7 +16,7 @@ pub fn push_half(out: &mut Vec<u8>, n: u16) -> Result<(), AllocError>
     out.extend_from_slice(&bytes)
 }
 
-/// Appends a number of four bytes.
+/// Appends a number of four bytes, the lowest byte first.
 #[tactic(auto, unfolding(crate::specs::Unit::word))]
 pub fn push_word(out: &mut Vec<u8>, n: u32) -> Result<(), AllocError>
     ensures { IfOk result (λ _. out.new.items ≡ out.old.items ++ word n) }
@@ -26,7 +26,7 @@ pub fn push_word(out: &mut Vec<u8>, n: u32) -> Result<(), AllocError>
     out.extend_from_slice(&bytes)
 }
 
-/// Appends a number of eight bytes.
+/// Appends a number of eight bytes, the lowest byte first.
 #[tactic(auto, unfolding(crate::specs::Unit::double))]
 pub fn push_double(out: &mut Vec<u8>, n: u64) -> Result<(), AllocError>
     ensures { IfOk result (λ _. out.new.items ≡ out.old.items ++ double n) }

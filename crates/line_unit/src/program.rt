@@ -11,11 +11,12 @@ use dwarf_lines::codes::{
 };
 use std::alloc::{AllocError, Global};
 
-/// The end of the sequence: an extended opcode of one byte.
-const END_SEQUENCE: [u8; 3] = [0, 1, DW_LNE_END_SEQUENCE];
+/// The end of a sequence: the extended opcode DW_LNE_end_sequence (DWARF 4, section 6.2.5.3).
+pub const END_SEQUENCE: [u8; 3] = [0, 1, DW_LNE_END_SEQUENCE];
 
-/// The head of the extended opcode of 9 bytes that sets the address.
-const SET_ADDRESS: [u8; 3] = [0, 9, DW_LNE_SET_ADDRESS];
+/// What begins the extended opcode DW_LNE_set_address, before the eight bytes of the address
+/// (DWARF 4, section 6.2.5.3).
+pub const SET_ADDRESS: [u8; 3] = [0, 9, DW_LNE_SET_ADDRESS];
 
 /// Appends the opcode that sets the address.
 fn push_address(out: &mut Vec<u8>, address: u64) -> Result<(), AllocError>

@@ -1,4 +1,3 @@
-use Rattle.std.proofs.Common.{sym}
 use Rattle.function_lines.proofs.Escapes.{form_back}
 use Rattle.function_lines.proofs.raw_paths.next_byte.Goals as goal
 

@@ -1,0 +1,88 @@
+-- The file with a unit in which each function is one line.
+use Rattle.std.proofs.Common.{◌≡◌, ℕ, ◌+◌, ◌<◌, ◌≤◌, true, List, [], ◌++◌, length, take, drop, Option, Some, None, option_map, Result, Ok, refl, sym, ap, ◌∙◌, arith, if◌then◌else◌, length-append, length-drop}
+use Rattle.std.specs.Prelude.{All, IfSome, codes, is_some, unwrap_or}
+use Rattle.std.specs.List.{AllByRecursion}
+use Rattle.std.proofs.lemmas.List.{length-take-le}
+use Rattle.std.proofs.lemmas.List.Elements.{All-map, All-weaker, recursion_from_All}
+use Rattle.coz_types.specs.declared.TheConstants.{MAX_PROGRAM}
+use Rattle.coz_types.specs.Image.{ImageParts, IsImage}
+use Rattle.dwarf_lines.specs.Names.{Strings, strings}
+use Rattle.dwarf_lines.specs.Reading.{reading}
+use Rattle.dwarf_lines.specs.Registers.{Table}
+use Rattle.elf_load.specs.Loaded.{section, section_place}
+use Rattle.line_index.specs.Index.{Index}
+use Rattle.line_index.specs.Lines.{is_executable, line_of}
+use Rattle.line_unit.specs.Lines.{GivesLines, table}
+use Rattle.line_unit.specs.Unit.{Sequence, double, unit}
+use Rattle.function_lines.specs.ByFunction.{IsByFunction, IsLongWith, IsRead, IsUnit, ReadsAs}
+use Rattle.function_lines.specs.declared.marks.Mark.{Mark as coded_mark}
+use Rattle.function_lines.specs.Marks.{IsMark, Mark, mark_of, marks_of}
+use Rattle.function_lines.specs.Sequences.{bytes_in}
+use Rattle.function_lines.specs.Sound.{IsIndexOf}
+use Rattle.function_lines.specs.WithLines.{with_section, with_lines}
+use Rattle.function_lines.proofs.FirstLines.{sequences_line}
+use Rattle.function_lines.proofs.Soundness.{sound}
+
+-- ---- the line table
+
+section_is : (file unit : List ℕ) → section file (codes ".debug_line") ≡ Some unit → bytes_in file (codes ".debug_line") ≡ unit
+section_is file unit e = ap (λ o. unwrap_or o []) e
+
+same_ok : {E : Type 0} (x y : Table) → (let r : Result Table E = Ok x in r ≡ Ok y) → x ≡ y
+same_ok x y e = cc
+
+unit_as : (file unit : List ℕ) (all : List Sequence) → section file (codes ".debug_line") ≡ Some unit → GivesLines all unit → ReadsAs file (table all)
+unit_as file unit all is gives strings = ap (reading strings) (section_is file unit is) ∙ gives.read strings
+
+pub unit_read : (image : ImageParts) (index : Index) (marks : List Mark) (file unit : List ℕ) → IsUnit image index marks unit → section file (codes ".debug_line") ≡ Some unit → IsRead file
+unfolding table
+unit_read image index marks file unit has is = record {
+  table = table has.sequences;
+  reads = unit_as file unit has.sequences is has.gives;
+  whole = refl;
+}
+
+within_marks : (index : Index) (marks : List Mark) → All (λ (m : Mark). m.position < length index.lines) marks → AllByRecursion (λ (m : Mark). m.position < length index.lines) marks
+within_marks index marks all = recursion_from_All (λ (m : Mark). m.position < length index.lines) marks all
+
+pub unit_lines : (image : ImageParts) (index : Index) (marks : List Mark) (file unit : List ℕ) → IsImage image → IsIndexOf image.areas index → All (λ (m : Mark). m.position < length index.lines) marks
+    → IsUnit image index marks unit → section file (codes ".debug_line") ≡ Some unit → IsByFunction image index marks file
+unit_lines image index marks file unit valid indexed within has is read reading_as a =
+    let none : Strings = strings [] [] in
+    let same : read ≡ table has.sequences = same_ok read (table has.sequences) (sym (reading_as none) ∙ unit_as file unit has.sequences is has.gives none) in
+    ap (λ t. line_of t image.areas a) same
+    ∙ has.gives.lines image.areas a
+    ∙ ap (λ l. if is_executable image.areas a then l else None) (sequences_line image index (sound image index valid indexed) marks (within_marks index marks within) has.sequences has.are a)
+
+-- ---- lengths
+
+length-numbers : (a b : ℕ) (rest : List ℕ) → length (double a ++ (double b ++ rest)) ≡ 16 + length rest
+unfolding double
+length-numbers a b rest = omega (arith, length-append (double a) (double b ++ rest), length-append (double b) rest)
+
+pub length-with_section : (file unit : List ℕ) (place : ℕ) → place + 64 ≤ length file → length (with_section file unit place) ≡ length file + length unit
+length-with_section file unit place within =
+    omega (arith, length-append (take (place + 24) file) (double (length file) ++ (double (length unit) ++ (drop (place + 40) file ++ unit))), length-take-le (place + 24) file (omega arith), length-numbers (length file) (length unit) (drop (place + 40) file ++ unit), length-append (drop (place + 40) file) unit, length-drop (place + 40) file)
+
+pub long_with : (file unit : List ℕ) (found : Option ℕ) → found ≡ section_place file (codes ".debug_line") → is_some found ≡ true → IfSome found (λ place. place + 64 ≤ length file) → MAX_PROGRAM < length file + length unit → IsLongWith file unit
+long_with file unit None is some within long = absurd cc
+long_with file unit (Some place) is some within long =
+    (with_section file unit place, ap (option_map (with_section file unit)) (sym is), omega (arith, long, length-with_section file unit place within))
+
+some_file : (x y : List ℕ) → Some x ≡ Some y → x ≡ y
+some_file x y e = cc
+
+pub short_with : (file unit written : List ℕ) (found : Option ℕ) → found ≡ section_place file (codes ".debug_line") → is_some found ≡ true → IfSome found (λ place. place + 64 ≤ length file) → with_lines file unit ≡ Some written → length file + length unit ≤ MAX_PROGRAM → length written ≤ MAX_PROGRAM
+short_with file unit written None is some within made short = absurd cc
+short_with file unit written (Some place) is some within made short =
+    let same : with_section file unit place ≡ written = some_file (with_section file unit place) written (ap (option_map (with_section file unit)) is ∙ made) in
+    omega (arith, short, length-with_section file unit place within, ap (λ (xs : List ℕ). length xs) same)
+
+pub long_unit : (file unit : List ℕ) (found : Option ℕ) → found ≡ section_place file (codes ".debug_line") → is_some found ≡ true → IfSome found (λ place. place + 64 ≤ length file) → MAX_PROGRAM < length unit → IsLongWith file unit
+long_unit file unit found is some within long = long_with file unit found is some within (omega (arith, long))
+
+-- ---- marks
+
+pub marks_within : (index : Index) (marks : List coded_mark) → All (IsMark index) marks → All (λ (m : Mark). m.position < length index.lines) (marks_of marks)
+marks_within index marks all =
+    All-map (λ (m : Mark). m.position < length index.lines) mark_of marks (All-weaker (IsMark index) (λ (m : coded_mark). m.line.0 < length index.lines) (λ m is. is.within) marks all)

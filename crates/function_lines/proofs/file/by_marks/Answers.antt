@@ -1,0 +1,48 @@
+use Rattle.std.proofs.Common.{◌≡◌, ℕ, true, not, List, Some, sym, ap, subst, ◌∙◌}
+use Rattle.std.specs.Global.{Vec}
+use Rattle.std.specs.Prelude.{codes, is_some}
+use Rattle.std.proofs.lemmas.Result.{IfOk-weaker}
+use Rattle.elf_load.specs.Loaded.{section}
+use Rattle.line_unit.specs.Unit.{unit}
+use Rattle.line_unit.specs.declared.UnitError.{UnitError}
+use Rattle.function_lines.specs.ByFunction.{IsByFunction, IsLongUnit, IsRead, IsUnit, IsUnitCause}
+use Rattle.function_lines.specs.Marks.{marks_of}
+use Rattle.function_lines.proofs.Soundness.{sound}
+use Rattle.function_lines.proofs.Whole.{long_unit, marks_within, unit_lines, unit_read}
+use Rattle.function_lines.proofs.file.by_marks.Goals as goal
+
+pub unit_of-requires-clause-sound : goal.unit_of-requires-clause-sound
+unit_of-requires-clause-sound c = sound c.args.image.now c.args.index.now c.in_ok-symbols.ensures.valid c.requires.indexed
+
+pub returns-in-Ok-clause-reads : goal.returns-in-Ok-clause-reads
+returns-in-Ok-clause-reads c =
+    let image = c.args.image.now in
+    let index = c.args.index.now in
+    let marks = marks_of c.args.marks.now in
+    let bytes = c.deref-in-Ok.result.now in
+    let is_unit : IsUnit image index marks bytes = subst (λ (bs : List ℕ). IsUnit image index marks bs) (sym c.deref-in-Ok.ensures.value) c.in-Ok.ensures.unit in
+    IfOk-weaker c.file_of.result (λ (v : Vec ℕ). section v.items (codes ".debug_line") ≡ Some bytes) (λ (v : Vec ℕ). IsRead v.items)
+    (λ v is. unit_read image index marks v.items bytes is_unit is) c.file_of.ensures.lines
+
+pub returns-in-Ok-clause-lines : goal.returns-in-Ok-clause-lines
+returns-in-Ok-clause-lines c =
+    let image = c.args.image.now in
+    let index = c.args.index.now in
+    let marks = marks_of c.args.marks.now in
+    let bytes = c.deref-in-Ok.result.now in
+    let is_unit : IsUnit image index marks bytes = subst (λ (bs : List ℕ). IsUnit image index marks bs) (sym c.deref-in-Ok.ensures.value) c.in-Ok.ensures.unit in
+    IfOk-weaker c.file_of.result (λ (v : Vec ℕ). section v.items (codes ".debug_line") ≡ Some bytes) (λ (v : Vec ℕ). IsByFunction image index marks v.items)
+    (λ v is. unit_lines image index marks v.items bytes c.in_ok-symbols.ensures.valid c.requires.indexed (marks_within index c.args.marks.now c.requires.marks) is_unit is) c.file_of.ensures.lines
+
+pub returns-in-Err-TooLong-clause-cause : goal.returns-in-Err-TooLong-clause-cause
+returns-in-Err-TooLong-clause-cause c =
+    let image = c.args.image.now in
+    let index = c.args.index.now in
+    let marks = marks_of c.args.marks.now in
+    let long : IsLongUnit image index marks = subst (λ (error : UnitError). IsUnitCause image index marks error) c.in-Err-TooLong.field-0-is c.in-Err-TooLong.ensures.too_long in
+    let some : is_some c.section_place.result ≡ true = c.is_none.ensures ∙ ap not c.if-is_none.false in
+    record {
+      sequences = long.sequences;
+      are = long.are;
+      long = long_unit image.file (unit long.sequences) c.section_place.result c.section_place.ensures.place some c.section_place.ensures.within long.long;
+    }

@@ -1,0 +1,88 @@
+//! Marks of the lines of regions.
+
+ghost use Rattle.std.specs.Prelude.{◌≡◌, ◌<◌, ◌^◌, ◌++◌, ◌∷◌, ℕ, [], true, false, None, length, All, AllPairs, IfOk, IfSome};
+ghost use Rattle.std.specs.List.{filter_map};
+ghost use Rattle.function_lines.specs.declared.lines.Region.{Region};
+ghost use Rattle.function_lines.specs.declared.labels.Place.{Place};
+ghost use Rattle.function_lines.specs.declared.marks.Mark.{Mark};
+ghost use Rattle.function_lines.specs.Labels.{line_of_place};
+ghost use Rattle.function_lines.specs.Lines.{IsBefore, IsMarkOf, IsSpelled, first_number, line_in, lines_at, mark_with, number_at};
+ghost use Rattle.function_lines.specs.Marks.{IsText, has_zero, marks_of};
+ghost use Rattle.function_lines.specs.Regions.{region_mark, region_marks, regions_of};
+
+use crate::claims::Claims;
+use crate::labels::Place;
+use crate::lines::{Lines, Region, span_of};
+use crate::marks::{Mark, has_zero};
+use coz_types::LineId;
+use std::alloc::{AllocError, Global};
+
+/// For each line the number with which the first region begins that has it.
+fn claims_of(alloc: Global, places: &[Place], regions: &[Region]) -> Result<Claims, AllocError>
+    requires few { length places.now < 2 ^ 32 }
+    requires rising { AllPairs IsBefore (lines_at places.now) }
+    ensures as_many { IfOk result (λ claims. length claims ≡ length places.now) }
+    ensures numbers { IfOk result (λ claims. (k : ℕ) → k < length places.now → number_at claims k
+        ≡ first_number (regions_of regions.now) (line_in (lines_at places.now) k)) }
+{
+    let mut claims = Claims::new(alloc, places.len())?;
+    for region in regions {
+        let span = span_of(places, region);
+        claims.claim_all(span.start, span.end, region.first);
+    }
+    Ok(claims)
+}
+
+/// Adds the mark of a line that this number stands for, if one does.
+fn push_mark<'a>(
+    marks: &mut Vec<Mark<'a>>,
+    place: &Place<'a>,
+    line: u32,
+    number: Option<u32>,
+) -> Result<(), AllocError>
+    requires right { IsSpelled place.now }
+    requires numbered { IfSome number (λ number. 0 < number) }
+    ensures marks { IfOk result (λ _. marks_of marks.new.items
+        ≡ marks_of marks.old.items ++ mark_with place.now line number) }
+    ensures right { (count : ℕ) → line < count → IfOk result (λ _.
+        All (IsMarkOf count) marks.old.items → All (IsMarkOf count) marks.new.items) }
+{
+    let Some(number) = number else {
+        return Ok(());
+    };
+    if has_zero(place.path) {
+        return Ok(());
+    }
+    let place = Place {
+        path: place.path,
+        number,
+    };
+    marks.push(Mark {
+        line: LineId(line),
+        place,
+    })?;
+    Ok(())
+}
+
+impl<'a> Lines<'a> {
+    /// Returns the marks of the lines of regions, in the order of the lines. A line of several
+    /// regions has the mark of the first of them. A line in whose path a zero byte stands has none.
+    pub fn marks(&self, alloc: Global, regions: &[Region]) -> Result<Vec<Mark<'a>>, AllocError>
+        requires { All (λ (region : Region). 0 < region.first) regions.now }
+        ensures marks { IfOk result (λ marks.
+            marks_of marks.items ≡ region_marks self.now (regions_of regions.now)) }
+        ensures right { IfOk result (λ marks. All (IsMarkOf (length self.now)) marks.items) }
+    {
+        let claims = claims_of(alloc, &self.places, regions)?;
+        let mut marks = Vec::new(alloc);
+        for line in 0..self.places.len() {
+            push_mark(
+                &mut marks,
+                &self.places[line],
+                line as u32,
+                claims.number(line),
+            )?;
+        }
+        Ok(marks)
+    }
+}

@@ -1,0 +1,5 @@
+pub mod Regions
+pub mod Words
+pub mod Verdict
+pub mod Answer
+pub mod Serve

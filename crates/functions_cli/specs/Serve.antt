@@ -1,0 +1,58 @@
+-- What the top call leaves.
+use Rattle.std.specs.Prelude.{◌≡◌, ℕ, List, [], ◌++◌, codes, Option, Some, Ok, IfSome}
+use Rattle.coz_types.specs.Image.{ImageParts}
+use Rattle.coz_types.specs.Labels.{Text}
+use Rattle.coz_files.specs.Held.{Held, file_at}
+pub use Rattle.coz_files.specs.Puts.{IsPut}
+pub use Rattle.coz_files.specs.Verdict.{IsOfVerdict}
+use Rattle.dwarf_lines.specs.Registers.{Table}
+use Rattle.elf_load.specs.Loaded.{load_answer}
+use Rattle.line_index.specs.Index.{Index, IsIndex}
+use Rattle.function_lines.specs.Marks.{Mark, spelled_lines}
+use Rattle.function_lines.specs.Regions.{Region, chosen_marks}
+use Rattle.program_steps.specs.LineTable.{table_in}
+use Rattle.program_steps.specs.Selection.{lines_named}
+use Rattle.functions_cli.specs.Regions.{regions_named}
+use Rattle.functions_cli.specs.Words.{Request, request_in}
+use Rattle.functions_cli.specs.Verdict.{Verdict, IsVerdict}
+
+-- the words have a verdict of which this holds
+abbrev pub VerdictHas : List Text → Held → (Verdict → Type 0) → Type 0
+VerdictHas words held P = (v : Verdict) × IsVerdict words held v × P v
+
+-- the program that the words name, an index of its lines, and the marks of the kept ones and of
+-- those of the regions
+pub record IsNamed (words : List Text) (held : Held) (image : ImageParts) (index : Index)
+    (marks : List Mark) : Type 0 where
+  pub request : Request
+  pub asked : request_in words ≡ Some request
+  pub file : List ℕ
+  pub there : file_at held request.target ≡ Some file
+  pub loads : load_answer file ≡ Ok image
+  pub table : Table
+  pub reads : table_in file ≡ Ok table
+  pub indexed : IsIndex table image.areas index
+  pub kept : List ℕ
+  pub lines : lines_named index.lines [] request.keep ≡ Ok kept
+  pub regions : List Region
+  pub named : regions_named (spelled_lines index) request.regions ≡ Ok regions
+  pub chosen : marks ≡ chosen_marks index kept regions
+
+-- of the program that the words name, an index of its lines and the marks of lines this holds
+abbrev pub ProgramHas : List Text → Held → (ImageParts → Index → List Mark → Type 0) → Type 0
+ProgramHas words held P =
+    (image : ImageParts) × (index : Index) × (marks : List Mark)
+    × IsNamed words held image index marks × P image index marks
+
+-- what is known of the line of a status
+pub record IsLine (status : ℕ) (words : List Text) (told : Option Held) (line : Text) : Type 0 where
+  pub usage : status ≡ 2 → line ≡ codes "coz-functions: usage"
+  pub write : status ≡ 6 → line ≡ codes "coz-functions: write"
+  pub memory : status ≡ 10 → line ≡ codes "coz-functions: memory"
+  -- the path that the words name
+  pub read : status ≡ 5
+      → (request : Request) × (request_in words ≡ Some request)
+      × (line ≡ codes "coz-functions: read: " ++ request.target)
+  pub verdict : IsOfVerdict status → IfSome told (λ held.
+      VerdictHas words held (λ v.
+      (status ≡ v.status) × (line ≡ codes "coz-functions: " ++ v.line)))
