@@ -13,7 +13,7 @@ right : List ℕ
 right = decimal (place_across 100)
 
 -- from above, the places of the upper end, of the middle of the upper half, of 0
--- and of the lower end, where the upper end is 100 per cent
+-- and of the lower end, if the upper end is 100 per cent
 upper : List ℕ
 upper = decimal (height 10000 (pos 10000))
 

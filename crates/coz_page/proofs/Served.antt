@@ -1,65 +1,63 @@
--- What the top call leaves, by the answer that its words came to.
-use Rattle.std.proofs.Common.{◌≡◌, ◌↔◌, ℕ, List, Option, Some, None, IfSome, Ok, Err, refl, sym, subst, arith, codes, inl, inr}
+-- What the top call leaves, by the answer that its words gave.
+use Rattle.std.proofs.Common.{◌≡◌, ◌≢◌, ℕ, List, ◌++◌, Option, Some, None, IfSome, Ok, Err, refl, sym, ap, ◌∙◌, subst, arith, codes, inl, inr}
+use Rattle.std.specs.Prelude.{option_map}
 use Rattle.std.specs.Io.KnownBytes.{Appends}
 use Rattle.coz_types.specs.Labels.{Text}
 use Rattle.coz_files.specs.Held.{Held}
 use Rattle.coz_files.specs.Puts.{AppendsPrefix}
+use Rattle.coz_files.specs.declared.outside.PutAnswer.{PutAnswer}
+use Rattle.coz_files.specs.declared.outside.PutAnswer.TheVariants.{Done, Failed}
+use Rattle.file_steps.specs.declared.fault.FileFault.TheVariants.{Usage, Read, Write, Long, Memory}
+use Rattle.causal_curves.specs.declared.curve.Curve.{Curve}
+use Rattle.page_words.specs.Words.{Request, asked_of, request_in}
+use Rattle.page_sources.specs.Sources.{Answers}
 use Rattle.coz_page.specs.declared.judge.Ranked.{Ranked}
 use Rattle.coz_page.specs.declared.fault.Fault.{Fault}
-use Rattle.coz_page.specs.declared.fault.Fault.TheVariants.{Usage, Read, Write, Long, Memory, Profile}
-use Rattle.coz_page.specs.Verdict.{Verdict, verdict}
-use Rattle.coz_page.specs.Answer.{IsMemory, Settles, Suits, fault_status, ranked_page}
-use Rattle.coz_page.specs.Serve.{IsLine}
-
--- ---- usage
-
-not_none : (path : Option Text) (r : Ranked) → Suits path (Ok r) → path ≡ None → ⊥
-not_none None r suits is = suits
-not_none (Some p) r suits is = let no : ⊥ = cc in no
-
--- a status of a profile that was read is another one
-pub usage_apart : (status : ℕ) (path : Option Text) (r : Ranked) → Suits path (Ok r) → (status ≡ 2 → ⊥) → (status ≡ 2) ↔ (path ≡ None)
-usage_apart status path r suits other = (λ is. absurd (other is), λ none. absurd (not_none path r suits none))
-
-apart : (status : ℕ) (p : Text) → (status ≡ 2 → ⊥) → (status ≡ 2) ↔ (Some p ≡ None)
-apart status p other = (λ is. absurd (other is), λ none. let no : ⊥ = cc in absurd no)
-
-told : (path : Option Text) (fault : Fault) → Suits path (Err fault) → (fault_status fault ≡ 2) ↔ (path ≡ None)
-told None Usage suits = (λ is. refl, λ none. refl)
-told None (Read q) suits = absurd suits
-told None Write suits = absurd suits
-told None (Long q) suits = absurd suits
-told None Memory suits = absurd suits
-told None (Profile fault) suits = absurd suits
-told (Some p) Usage suits = absurd suits
-told (Some p) (Read q) suits = apart 5 p (λ is. omega (arith, is))
-told (Some p) Write suits = absurd suits
-told (Some p) (Long q) suits = apart 8 p (λ is. omega (arith, is))
-told (Some p) Memory suits = apart 10 p (λ is. omega (arith, is))
-told (Some p) (Profile fault) suits = apart 12 p (λ is. omega (arith, is))
-
-pub usage_told : (status : ℕ) (path : Option Text) (fault : Fault) → status ≡ fault_status fault → Suits path (Err fault) → (status ≡ 2) ↔ (path ≡ None)
-usage_told status path fault is suits = subst (λ (n : ℕ). (n ≡ 2) ↔ (path ≡ None)) (sym is) (told path fault suits)
+use Rattle.coz_page.specs.declared.fault.Fault.TheVariants.{File, Profile}
+use Rattle.coz_page.specs.Page.{page_curves}
+use Rattle.coz_page.specs.Verdict.{AreNamed, AreRead, Verdict, book_at, verdict}
+use Rattle.coz_page.specs.Answer.{IsMemory, IsMemoryFault, IsReadFault, IsShown, Settles, Suits, fault_line, fault_status}
+use Rattle.coz_page.specs.Serve.{IsLine, IsOfVerdict, Prints, PrintsPrefix}
 
 -- ---- the page
 
-module _ (words : List Text) (faults now : ℕ) where
-  abbrev IsSettled : Option Held → Ranked → Type 0
-  IsSettled held r = IfSome held (λ h. (IsMemory {A = Ranked} (Ok r) → ⊥) → Settles (verdict words h) faults now (Ok r))
+are_read : (h : Held) (before now : ℕ) (answers : Answers) (asked : Option Request) (r : Ranked) → Suits asked (Ok r) → r.curves ≡ page_curves (asked_of r.asked).file (book_at h r.asked.profile.now)
+    → AreNamed (asked_of r.asked).source h before now r.curves answers → AreRead asked h before now answers
+are_read h before now answers None r suits curves named = absurd suits
+are_read h before now answers (Some asked) r suits curves named =
+    subst (λ (q : Request). AreNamed q.source h before now (page_curves q.file (book_at h q.profile)) answers) suits
+    (subst (λ (cs : List Curve). AreNamed (asked_of r.asked).source h before now cs answers) curves named)
 
-  pub page_put : (held : Option Held) (before after : Option Text) (r : Ranked) (status : ℕ) → IsSettled held r → Appends before after (ranked_page r)
-      → IfSome held (λ h. status ≡ 0 → Appends before after (verdict words h).text)
-  page_put None before after r status settled gained = tt
-  page_put (Some h) before after r status settled gained =
-      λ _. elim (settled (λ no. no)) [ inl same ↦ subst (λ (v : Verdict). Appends before after v.text) same gained | inr failed ↦ absurd failed.0 ]
+module _ (words : List Text) (before mid now : ℕ) (same : mid ≡ before) (r : Ranked) (suits : Suits (request_in words) (Ok r)) where
+  abbrev IsSettled : Option Held → Type 0
+  IsSettled held = IfSome held (λ h. (IsMemory {A = Ranked} (Ok r) → ⊥) → (answers : Answers) → Settles answers (verdict words h answers) before mid (Ok r))
 
-  pub page_torn : (held : Option Held) (before after : Option Text) (r : Ranked) (status : ℕ) → IsSettled held r → AppendsPrefix before after (ranked_page r)
-      → IfSome held (λ h. status ≡ 6 → AppendsPrefix before after (verdict words h).text)
-  page_torn None before after r status settled gained = tt
-  page_torn (Some h) before after r status settled gained =
-      λ _. elim (settled (λ no. no)) [ inl same ↦ subst (λ (v : Verdict). AppendsPrefix before after v.text) same gained | inr failed ↦ absurd failed.0 ]
+  abbrev HasCurves : Option Held → Type 0
+  HasCurves held = IfSome held (λ h. r.curves ≡ page_curves (asked_of r.asked).file (book_at h r.asked.profile.now))
 
--- ---- the line of a page that could not be written
+  pub page_put : {S : Type 0} {holds : S → Option Text} {faults : S → ℕ} {old new : S} (held : Option Held) (answer : PutAnswer) (status : ℕ) → answer ≡ Done → IsSettled held → HasCurves held → IsShown held mid now holds faults old new r answer
+      → IfSome held (λ h. status ≡ 0 → Prints words h before now (holds old) (holds new))
+  page_put None answer status is settled curves shown = tt
+  page_put {holds = holds} {old = old} {new = new} (Some h) answer status is settled curves shown = λ _. record {
+    answers = shown.answers;
+    read = are_read h before now shown.answers (request_in words) r suits curves (subst (λ (n : ℕ). AreNamed (asked_of r.asked).source h n now r.curves shown.answers) same shown.read);
+    whole = elim (settled (λ no. no) shown.answers) [ inl page ↦ subst (λ (v : Verdict). Appends (holds old) (holds new) v.text) page (shown.puts.done is) | inr failed ↦ absurd failed.0 ];
+  }
+
+  pub page_torn : {S : Type 0} {holds : S → Option Text} {faults : S → ℕ} {old new : S} (held : Option Held) (answer : PutAnswer) (status : ℕ) → answer ≡ Failed → IsSettled held → HasCurves held → IsShown held mid now holds faults old new r answer
+      → IfSome held (λ h. status ≡ 6 → PrintsPrefix words h before now (holds old) (holds new))
+  page_torn None answer status is settled curves shown = tt
+  page_torn {holds = holds} {old = old} {new = new} (Some h) answer status is settled curves shown = λ _. record {
+    answers = shown.answers;
+    read = are_read h before now shown.answers (request_in words) r suits curves (subst (λ (n : ℕ). AreNamed (asked_of r.asked).source h n now r.curves shown.answers) same shown.read);
+    prefix = elim (settled (λ no. no) shown.answers) [ inl page ↦ subst (λ (v : Verdict). AppendsPrefix (holds old) (holds new) v.text) page (shown.puts.torn is) | inr failed ↦ absurd failed.0 ];
+  }
+
+-- ---- a page that could not be written, and one without memory for its source files
+
+pub failed_verdict : (words : List Text) (held : Option Held) (status : ℕ) → status ≡ 6 → IfSome held (λ h. IsOfVerdict status → (answers : Answers) → status ≡ (verdict words h answers).status)
+failed_verdict words None status six = tt
+failed_verdict words (Some h) status six = λ of. absurd (of.no_write six)
 
 pub write_line : (status : ℕ) (words : List Text) (held : Option Held) → status ≡ 6 → IsLine status words held (codes "coz-page: write")
 write_line status words held six = record {
@@ -69,3 +67,70 @@ write_line status words held six = record {
   read = λ is. absurd (omega (arith, is, six));
   verdict = λ of. absurd (of.no_write six);
 }
+
+pub memory_line : (status : ℕ) (words : List Text) (held : Option Held) → status ≡ 10 → IsLine status words held (codes "coz-page: memory")
+memory_line status words held ten = record {
+  usage = λ is. absurd (omega (arith, is, ten));
+  write = λ is. absurd (omega (arith, is, ten));
+  memory = λ is. refl;
+  read = λ is. absurd (omega (arith, is, ten));
+  verdict = λ of. absurd (of.no_memory ten);
+}
+
+-- ---- the line of a fault
+
+no_memory : (fault : Fault) → fault_status fault ≢ 10 → IsMemoryFault fault → ⊥
+no_memory (File Memory) other is = other refl
+no_memory (File Usage) other is = is
+no_memory (File (Read q)) other is = is
+no_memory (File Write) other is = is
+no_memory (File (Long q)) other is = is
+no_memory (Profile f) other is = is
+
+no_read : (fault : Fault) → fault_status fault ≢ 5 → IsReadFault fault → ⊥
+no_read (File (Read q)) other is = other refl
+no_read (File Memory) other is = is
+no_read (File Usage) other is = is
+no_read (File Write) other is = is
+no_read (File (Long q)) other is = is
+no_read (Profile f) other is = is
+
+line_of : (fault : Fault) (n : ℕ) → fault_status fault ≡ n → (n ≡ 2 → codes "coz-page: " ++ fault_line fault ≡ codes "coz-page: usage") × (n ≡ 6 → codes "coz-page: " ++ fault_line fault ≡ codes "coz-page: write") × (n ≡ 10 → codes "coz-page: " ++ fault_line fault ≡ codes "coz-page: memory")
+line_of (File Usage) n is = (λ e. refl, λ e. absurd (omega (arith, e, is)), λ e. absurd (omega (arith, e, is)))
+line_of (File Write) n is = (λ e. absurd (omega (arith, e, is)), λ e. refl, λ e. absurd (omega (arith, e, is)))
+line_of (File Memory) n is = (λ e. absurd (omega (arith, e, is)), λ e. absurd (omega (arith, e, is)), λ e. refl)
+line_of (File (Read q)) n is = (λ e. absurd (omega (arith, e, is)), λ e. absurd (omega (arith, e, is)), λ e. absurd (omega (arith, e, is)))
+line_of (File (Long q)) n is = (λ e. absurd (omega (arith, e, is)), λ e. absurd (omega (arith, e, is)), λ e. absurd (omega (arith, e, is)))
+line_of (Profile f) n is = (λ e. absurd (omega (arith, e, is)), λ e. absurd (omega (arith, e, is)), λ e. absurd (omega (arith, e, is)))
+
+path_of : (asked : Option Request) (fault : Fault) → fault_status fault ≡ 5 → Suits asked (Err fault)
+    → (p : Text) × (option_map (λ (q : Request). q.profile) asked ≡ Some p) × (codes "coz-page: " ++ fault_line fault ≡ codes "coz-page: read: " ++ p)
+path_of None (File (Read p)) five suits = absurd suits
+path_of (Some asked) (File (Read p)) five suits = (asked.profile, refl, ap (λ (t : Text). codes "coz-page: read: " ++ t) suits)
+path_of asked (File Usage) five suits = absurd (omega (arith, five))
+path_of asked (File Write) five suits = absurd (omega (arith, five))
+path_of asked (File Memory) five suits = absurd (omega (arith, five))
+path_of asked (File (Long p)) five suits = absurd (omega (arith, five))
+path_of asked (Profile f) five suits = absurd (omega (arith, five))
+
+module _ (words : List Text) (faults now status : ℕ) (fault : Fault) (is : status ≡ fault_status fault) where
+  abbrev IsSettledAt : Option Held → Type 0
+  IsSettledAt held = IfSome held (λ h. (IsMemory {A = Ranked} (Err fault) → ⊥) → (answers : Answers) → Settles answers (verdict words h answers) faults now (Err fault))
+
+  of_verdict : (held : Option Held) → IsSettledAt held → IsOfVerdict status → IfSome held (λ h. (answers : Answers) → codes "coz-page: " ++ fault_line fault ≡ codes "coz-page: " ++ (verdict words h answers).line)
+  of_verdict None settled of = tt
+  of_verdict (Some h) settled of = λ answers. elim (settled (no_memory fault (λ ten. of.no_memory (is ∙ ten))) answers) [
+    | inl same ↦ ap (λ (v : Verdict). codes "coz-page: " ++ v.line) same
+    | inr failed ↦ absurd (no_read fault (λ five. of.no_read (is ∙ five)) failed.0)
+  ]
+
+  pub fault_told : (held : Option Held) → Suits (request_in words) (Err fault) → IsSettledAt held → IsLine status words held (codes "coz-page: " ++ fault_line fault)
+  fault_told held suits settled =
+      let lines = line_of fault status (sym is) in
+      record {
+        usage = lines.0;
+        write = lines.1;
+        memory = lines.2;
+        read = λ five. path_of (request_in words) fault (sym is ∙ five) suits;
+        verdict = λ of. of_verdict held settled of;
+      }

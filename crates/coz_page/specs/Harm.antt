@@ -1,5 +1,5 @@
 -- The least values of curves, and the lines that hurt.
-use Rattle.std.specs.Prelude.{ℕ, Bool, ◌&&◌, ◌||◌, ◌==◌, true, false, List, [], ◌∷◌, Option, Some, None, is_none, is_some, ℤ, negsuc, if◌then◌else◌}
+use Rattle.std.specs.Prelude.{Bool, ◌&&◌, ◌||◌, ◌==◌, true, false, List, [], ◌∷◌, Option, Some, None, is_none, is_some, ℤ, negsuc, if◌then◌else◌}
 use Rattle.std.specs.List.{filter}
 use Rattle.std.specs.Ordering.{is_lt, nat_cmp, int_cmp, ordering_then}
 use Rattle.std.specs.Option.{option_cmp}

@@ -1,5 +1,5 @@
 -- What a page says of the runs.
-use Rattle.std.specs.Prelude.{ℕ, ◌-◌, Bool, not, ◌==◌, List, [], ◌++◌, length, find, get_or, codes, decimal, Option, Some, None, if◌then◌else◌}
+use Rattle.std.specs.Prelude.{ℕ, ◌-◌, Bool, ◌==◌, List, [], ◌++◌, length, find, codes, decimal, Option, Some, None, if◌then◌else◌}
 use Rattle.std.specs.List.{filter}
 use Rattle.std.specs.Str.{bytes_eq}
 use Rattle.coz_types.specs.Labels.{Text}
@@ -30,7 +30,7 @@ count_of kind summaries = length (filter (ended_so kind) summaries)
 abbrev pub others_of : List Summary → ℕ
 others_of summaries = length summaries - count_of (codes "exited") summaries
 
--- nothing where no run ended so
+-- nothing if no run ended so
 abbrev pub kind_text : List Summary → Text → Text
 kind_text summaries kind =
     if count_of kind summaries == 0 then []
@@ -49,7 +49,7 @@ warned others summaries =
     codes "<p class=\"warning\">Warning: runs that did not exit: " ++ decimal others
     ++ codes ". " ++ kinds_text summaries ++ codes "</p>\n"
 
--- a warning where a run did not exit
+-- a warning if a run did not exit
 abbrev pub warning_text : List Summary → Text
 warning_text summaries =
     if others_of summaries == 0 then [] else warned (others_of summaries) summaries

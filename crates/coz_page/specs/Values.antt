@@ -1,5 +1,5 @@
 -- Values in a page, and where they stand in a picture.
-use Rattle.std.specs.Prelude.{ℕ, ◌+◌, ◌-◌, ◌*◌, ◌/◌, ◌%◌, nat_le, nat_lt, min, Bool, false, ◌||◌, List, [], ◌∷◌, ◌++◌, codes, decimal, Option, Some, None, ℤ, pos, negsuc, nat_abs, if◌then◌else◌}
+use Rattle.std.specs.Prelude.{ℕ, ◌+◌, ◌-◌, ◌*◌, ◌/◌, ◌%◌, nat_le, nat_lt, min, Bool, false, List, [], ◌∷◌, ◌++◌, codes, decimal, Option, Some, None, ℤ, pos, negsuc, nat_abs, if◌then◌else◌}
 use Rattle.coz_types.specs.Labels.{Text}
 
 -- ---- in per cent
@@ -40,7 +40,7 @@ first_above n (top ∷ rest) = if nat_le n top then top else first_above n rest
 abbrev pub top_above : ℕ → ℕ
 top_above n = first_above n tops
 
--- the upper end of the axis of values, where this is the greatest gain
+-- the upper end of the axis of values, if this is the greatest gain
 abbrev pub top_for : Option ℤ → ℕ
 top_for (Some (pos n)) = top_above n
 top_for _ = 100

@@ -1,48 +1,75 @@
 -- What the arguments give, with the files that the paths hold: a status, a text for the output
--- and a line for the errors.
-use Rattle.std.specs.Prelude.{List, [], ◌∷◌, ◌++◌, length, nat_le, codes, decimal, Option, Some, None, if◌then◌else◌}
-use Rattle.coz_types.specs.Labels.{Text, is_empty}
+-- and a line for the errors, after the program's name.
+use Rattle.std.specs.Prelude.{ℕ, List, [], codes, Option, Some, None, option_map, unwrap_or}
+use Rattle.std.specs.List.{All}
+use Rattle.coz_types.specs.Labels.{Text, path_of}
 use Rattle.coz_files.specs.Held.{Held, file_at}
 pub use Rattle.coz_files.specs.Verdict.{Verdict, bytes_of, refusal, text_verdict}
+use Rattle.file_steps.specs.Reading.{read_verdict}
 use Rattle.profile_reader.specs.declared.TheConstants.{MAX_PROFILE}
 use Rattle.profile_reader.specs.Grammar.{book_fault}
 use Rattle.profile_reader.specs.Told.{told}
 use Rattle.profile_book.specs.declared.profile.Profile.{Profile as Book}
 use Rattle.profile_reader.specs.declared.fault.BookFault.{BookFault}
-use Rattle.profile_reader.specs.ItemNames.{item_name}
-use Rattle.coz_page.specs.Page.{page_text}
+use Rattle.profile_reader.specs.ItemNames.{book_line}
+use Rattle.causal_curves.specs.declared.curve.Curve.{Curve}
+use Rattle.page_words.specs.Words.{Request, request_in}
+use Rattle.page_sources.specs.Sources.{Answers, IsAnswer, source_in}
+use Rattle.coz_page.specs.Page.{page_curves, page_text}
 
 -- ---- the words
 
--- the path of the profile: the only word, if it isn't empty
+-- the path of the profile, if the words ask for a page
 abbrev pub path_in : List Text → Option Text
-path_in (path ∷ []) = if is_empty path then None else Some path
-path_in _ = None
+path_in words = option_map (λ (asked : Request). asked.profile) (request_in words)
+
+-- the folder of the source files, if the words name one
+abbrev pub folder_of : Option Request → Option Text
+folder_of None = None
+folder_of (Some asked) = asked.source
 
 -- ---- the profile
 
-abbrev pub profile_line : BookFault → Text
-profile_line fault =
-    codes "coz-page: profile: " ++ item_name fault.field ++ codes " at " ++ decimal fault.place
-
 -- of the profile whose text it is, if the text has no fault
-abbrev pub book_verdict : Option BookFault → Book → Verdict
-book_verdict None p = text_verdict (page_text p)
-book_verdict (Some fault) p = refusal 12 (profile_line fault)
+abbrev pub book_verdict : Request → Answers → Option BookFault → Book → Verdict
+book_verdict asked answers None p = text_verdict (page_text asked answers p)
+book_verdict asked answers (Some fault) p = refusal 12 (book_line fault)
 
-abbrev pub profile_verdict : Text → Verdict
-profile_verdict bytes = book_verdict (book_fault bytes) (told bytes)
+abbrev pub profile_verdict : Request → Answers → Text → Verdict
+profile_verdict asked answers bytes = book_verdict asked answers (book_fault bytes) (told bytes)
 
--- of the file of a path, which has at most 268,435,456 bytes
-abbrev pub file_verdict : Text → Option Text → Verdict
-file_verdict path None = refusal 5 (codes "coz-page: read: " ++ path)
-file_verdict path (Some bytes) =
-    if nat_le (length bytes) MAX_PROFILE then profile_verdict bytes
-    else refusal 8 (codes "coz-page: long: " ++ path)
+-- of the file of the path, which has at most 268,435,456 bytes
+abbrev pub request_verdict : Option Request → Held → Answers → Verdict
+request_verdict None held answers = refusal 2 (codes "usage")
+request_verdict (Some asked) held answers =
+    read_verdict MAX_PROFILE asked.profile (file_at held asked.profile)
+    (profile_verdict asked answers)
 
-abbrev pub path_verdict : Option Text → Held → Verdict
-path_verdict None held = refusal 2 (codes "coz-page: usage")
-path_verdict (Some path) held = file_verdict path (file_at held path)
+-- the verdict, if this is what the source files are; its status and line do not depend on them
+abbrev pub verdict : List Text → Held → Answers → Verdict
+verdict words held answers = request_verdict (request_in words) held answers
 
-abbrev pub verdict : List Text → Held → Verdict
-verdict words held = path_verdict (path_in words) held
+-- ---- the source files
+
+-- the file of the path of each of these lines is the one below the folder, or has no bytes
+-- because a read failed with a counted fault
+abbrev pub AreSources : Held → Text → ℕ → ℕ → List Curve → Answers → Type 0
+AreSources held folder before now curves answers =
+    All (λ (c : Curve). IsAnswer (source_in held folder (path_of c.selected)) before now
+    (answers (path_of c.selected))) curves
+
+-- nothing is said if no folder is named
+abbrev pub AreNamed : Option Text → Held → ℕ → ℕ → List Curve → Answers → Type 0
+AreNamed None held before now curves answers = Unit {0}
+AreNamed (Some folder) held before now curves answers =
+    AreSources held folder before now curves answers
+
+-- the profile that the file of a path is the text of
+abbrev pub book_at : Held → Text → Book
+book_at held path = told (unwrap_or (file_at held path) [])
+
+abbrev pub AreRead : Option Request → Held → ℕ → ℕ → Answers → Type 0
+AreRead None held before now answers = Unit {0}
+AreRead (Some asked) held before now answers =
+    AreNamed asked.source held before now (page_curves asked.file (book_at held asked.profile))
+    answers

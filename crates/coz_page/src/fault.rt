@@ -1,33 +1,35 @@
 //! Why there is no page.
 ghost use Rattle.std.specs.Prelude.{◌≡◌};
+ghost use Rattle.file_steps.specs.declared.fault.FileFault.TheVariants.{Memory};
 ghost use Rattle.coz_page.specs.Answer.{profile_fault};
-ghost use Rattle.coz_page.specs.declared.fault.Fault.TheVariants.{Memory};
+ghost use Rattle.coz_page.specs.declared.fault.Fault.TheVariants.{File};
 
+use file_steps::FileFault;
 use profile_reader::{BookError, BookFault};
 use std::alloc::AllocError;
 
 /// Why there is no page.
 #[derive(Clone, Copy)]
 pub enum Fault<'a> {
-    /// The words are not one path.
-    Usage,
-    /// The file of this path could not be read.
-    Read(&'a str),
-    /// The output could not be written.
-    Write,
-    /// The file of this path is longer than a profile may be.
-    Long(&'a str),
-    /// Out of memory.
-    Memory,
+    /// The words, the file, the output or memory is the cause.
+    File(FileFault<'a>),
     /// The text is no profile's.
     Profile(BookFault),
 }
 
+impl<'a> From<FileFault<'a>> for Fault<'a> {
+    ghost from_gives = { λ of fault. fault ≡ File of };
+
+    fn from(fault: FileFault<'a>) -> Fault<'a> {
+        Fault::File(fault)
+    }
+}
+
 impl<'a> From<AllocError> for Fault<'a> {
-    ghost from_gives = { λ _ fault. fault ≡ Memory };
+    ghost from_gives = { λ _ fault. fault ≡ File Memory };
 
     fn from(_: AllocError) -> Fault<'a> {
-        Fault::Memory
+        Fault::File(FileFault::Memory)
     }
 }
 
@@ -37,7 +39,7 @@ impl<'a> From<BookError> for Fault<'a> {
     fn from(error: BookError) -> Fault<'a> {
         match error {
             BookError::Fault(fault) => Fault::Profile(fault),
-            BookError::Memory => Fault::Memory,
+            BookError::Memory => Fault::File(FileFault::Memory),
         }
     }
 }

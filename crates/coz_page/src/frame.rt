@@ -48,9 +48,15 @@ Its cost is what its own instructions take, on all threads, as a part of the net
 A dot tells its value when it is pointed at; a red ring stands for a value outside the axis. \
 <a href=\"#reading\">How to read a curve</a></p>\n";
 
-/// What stands there where there is no curve.
+/// What stands in place of the curves if there are none.
 pub const NOTHING: &[u8] =
     b"<p>This profile has no curves: it has no progress point, or no line was selected.</p>\n";
+
+/// What stands before the lines at all progress points.
+pub const LINES: &[u8] = b"<details open><summary>Lines at all progress points</summary>\n\
+<p>From the table of each progress point, the lines that gain most at that point, \
+each with its curves at all points side by side, over one axis. \
+Lines whose curves are all flat are not shown.</p>\n";
 
 /// How to read a curve, and the end of the page.
 pub const FOOT: &[u8] = b"<h2 id=\"reading\">How to read a curve</h2>\n\

@@ -23,7 +23,7 @@ fn is_faster(step: &CurveStep) -> bool
 }
 
 /// The least value of a curve at a speedup over 0, in hundredths of a per cent.
-/// None where all of these are absent.
+/// None if all of these are absent.
 pub fn worst_of(steps: &[CurveStep]) -> Option<i128>
     ensures { result ≡ worst_of steps.now }
 {

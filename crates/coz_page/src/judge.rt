@@ -1,99 +1,94 @@
 //! What the arguments and the file that they name give.
-ghost use Rattle.std.specs.Prelude.{◌≡◌, ℕ, List, None, Some, MatchOption, IfErr, IfSome, IfNone};
+ghost use Rattle.std.specs.Prelude.{◌≡◌, Some, IfOk, IfSome, IfNone};
+ghost use Rattle.std.specs.Option.{option_copied};
 ghost use Rattle.coz_files.specs.Faults.{Rose};
-ghost use Rattle.coz_files.specs.Held.{file_at};
-ghost use Rattle.coz_page.specs.Verdict.{Verdict, bytes_of, path_in, verdict, file_verdict, profile_verdict};
-ghost use Rattle.coz_page.specs.Answer.{verdict_of, IsMemory, IsRead, IsOfPath, Suits, Settles, SettlesThen};
+ghost use Rattle.profile_reader.specs.Told.{told};
+ghost use Rattle.page_words.specs.Words.{asked_of, request_in};
+ghost use Rattle.page_sources.specs.Sources.{Answers};
+ghost use Rattle.coz_page.specs.Page.{chosen_curves, page_curves};
+ghost use Rattle.coz_page.specs.Verdict.{bytes_of, book_at, verdict, profile_verdict};
+ghost use Rattle.coz_page.specs.Answer.{verdict_of, IsMemory, IsRead, Suits, Settles};
 
 use crate::fault::Fault;
 use crate::harm::harmful;
 use causal_curves::{Curve, curves};
-use coz_files::{FileAnswer, Files};
+use coz_files::Files;
 use coz_lists::Items;
+use file_steps::{FileFault, read_file};
+use page_sources::is_of_file;
+use page_words::{Asked, read_page};
 use profile_book::Profile;
 use profile_reader::{MAX_PROFILE, read_profile};
 use std::alloc::Global;
 
-/// A profile and its curves by rank.
+/// A request, with the profile that it names and the curves of the chosen lines by rank.
 #[derive(Drop)]
-pub struct Ranked {
+pub struct Ranked<'w> {
+    /// What the words ask for.
+    pub asked: Asked<'w>,
     /// The profile that was read.
     pub profile: Profile,
-    /// Its curves, the one that gains most first.
+    /// The curves of the chosen lines, the one that gains most first.
     pub curves: Items<Curve>,
     /// Those of the lines that hurt, the one that hurts most first.
     pub harmful: Items<Curve>,
+    /// How many curves the profile has.
+    pub all: u64,
 }
 
-/// A profile with its curves, or why there is no page. A fault borrows from the words.
-pub type Answer<'w> = Result<Ranked, Fault<'w>>;
+/// A profile with its curves, or why there is no page. A request and a fault borrow from the words.
+pub type Answer<'w> = Result<Ranked<'w>, Fault<'w>>;
 
-fn path_in(words: &[String]) -> Option<&str>
-    ensures { MatchOption result
-        (path_in (bytes_of words.now) ≡ None)
-        (λ path. path_in (bytes_of words.now) ≡ Some path.now) }
+/// The curves of the lines of these files.
+fn chosen(file: Option<&[u8]>, curves: Items<Curve>) -> Items<Curve>
+    ensures { result ≡ chosen_curves (option_copied file.entry) curves }
 {
-    if words.len() != 1 || words[0].is_empty() {
-        return None;
-    }
-    Some(words[0].as_str())
-}
-
-fn read_file<'a, F: Files>(
-    alloc: Global,
-    files: &mut F,
-    path: &'a str,
-) -> Result<Vec<u8>, Fault<'a>>
-    ensures same { F.held files.new ≡ F.held files.old }
-    ensures of_path { IfErr result (IsOfPath path.now) }
-    ensures settled { IfSome (F.held files.old) (λ held. (IsMemory result → ⊥) →
-        SettlesThen (λ file. profile_verdict file.items)
-        (file_verdict path.now (file_at held path.now))
-        (F.faults files.old) (F.faults files.new) result) }
-    ensures untold { IsRead result
-        → IfNone (F.held files.old) (Rose (F.faults files.old) (F.faults files.new)) }
-    ensures no_fault { (IsRead result → ⊥) → F.faults files.new ≡ F.faults files.old }
-{
-    let mut file = Vec::new(alloc);
-    match files.read_whole(path, MAX_PROFILE, &mut file) {
-        FileAnswer::Whole => Ok(file),
-        FileAnswer::Longer => Err(Fault::Long(path)),
-        FileAnswer::Failed => Err(Fault::Read(path)),
-        FileAnswer::Memory => Err(Fault::Memory),
-    }
+    let mut curves = curves.into_vec();
+    curves.retain(|curve| is_of_file(file, curve.selected.bytes()));
+    Items::new(curves)
 }
 
 /// The curves of the profile of which the bytes are the text, if they are one's.
-fn rank<'w>(alloc: Global, bytes: &[u8]) -> Answer<'w>
+fn rank<'w>(alloc: Global, asked: Asked<'w>, bytes: &[u8]) -> Answer<'w>
     ensures no_read { IsRead result → ⊥ }
-    ensures settled { (IsMemory result → ⊥) → verdict_of result ≡ profile_verdict bytes.now }
+    ensures settled { (IsMemory result → ⊥) → (answers : Answers) → verdict_of answers result
+        ≡ profile_verdict (asked_of asked.entry) answers bytes.now }
+    ensures suits { Suits (Some (asked_of asked.entry)) result }
+    ensures ranked { IfOk result (λ ranked.
+        ranked.curves ≡ page_curves (asked_of asked.entry).file (told bytes.now)) }
 {
     let profile = read_profile(alloc, bytes)?;
-    let all = curves(alloc, &profile)?;
-    let harmful = harmful(all)?;
-    let curves = curves(alloc, &profile)?;
+    let harmful = harmful(chosen(asked.file, curves(alloc, &profile)?))?;
+    let ranked = curves(alloc, &profile)?;
+    let all = ranked.len() as u64;
+    let curves = chosen(asked.file, ranked);
     Ok(Ranked {
+        asked,
         profile,
         curves,
         harmful,
+        all,
     })
 }
 
 /// The profile that the words name, with its curves.
-/// Err is the first fault of the arguments, the file or its text, or `Fault::Memory`.
+/// Err is the first fault of the arguments, the file or its text, or out of memory.
 pub fn judge<'w, F: Files>(alloc: Global, words: &'w [String], files: &mut F) -> Answer<'w>
     ensures same { F.held files.new ≡ F.held files.old }
-    ensures suits { Suits (path_in (bytes_of words.now)) result }
-    ensures settled { IfSome (F.held files.old) (λ held. (IsMemory result → ⊥) →
-        Settles (verdict (bytes_of words.now) held)
+    ensures suits { Suits (request_in (bytes_of words.now)) result }
+    ensures settled { IfSome (F.held files.old) (λ held. (IsMemory result → ⊥)
+        → (answers : Answers) → Settles answers (verdict (bytes_of words.now) held answers)
         (F.faults files.old) (F.faults files.new) result) }
+    ensures ranked { IfSome (F.held files.old) (λ held. IfOk result (λ ranked.
+        ranked.curves ≡ page_curves (asked_of ranked.asked).file
+        (book_at held ranked.asked.profile.now))) }
     ensures untold { IsRead result
         → IfNone (F.held files.old) (Rose (F.faults files.old) (F.faults files.new)) }
     ensures no_fault { (IsRead result → ⊥) → F.faults files.new ≡ F.faults files.old }
 {
-    let Some(path) = path_in(words) else {
-        return Err(Fault::Usage);
+    let Some(asked) = read_page(words) else {
+        return Err(Fault::File(FileFault::Usage));
     };
-    let file = read_file(alloc, files, path)?;
-    rank(alloc, &file)
+    let file = read_file(alloc, files, asked.profile, MAX_PROFILE)?;
+    rank(alloc, asked, &file)
 }

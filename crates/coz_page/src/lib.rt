@@ -1,5 +1,5 @@
 //! The page of a profile: its curves as tables and pictures, in one HTML text
-//! that needs nothing else.
+//! that needs nothing else. The text of the lines is read from source files, if they are there.
 #![tactic(auto)]
 
 mod chart;
@@ -14,9 +14,11 @@ mod label;
 mod page;
 mod percent;
 mod runs;
+mod sides;
+mod sources;
 mod tables;
 mod top;
+mod view;
 
 pub use label::no_markup;
-pub use page::write_page;
 pub use top::serve;

@@ -30,7 +30,7 @@ fn ended_so(kind: &[u8], summary: &Summary) -> bool
     kind_of(summary.outcome.ending) == kind
 }
 
-/// The count, with one more where the run ended so.
+/// The count, with one more if the run ended so.
 fn counted(count: u64, kind: &[u8], summary: &Summary) -> u64
     requires { count < 18446744073709551615 }
     ensures { result ≡ count + cond (ended_so kind.now summary.now) 1 0 }
@@ -106,7 +106,7 @@ fn put_warning<O: Sink>(to: &mut PutBuffer, out: &mut O, summaries: &[Summary])
     }
 }
 
-/// What was run, with a warning where a run did not exit.
+/// What was run, with a warning if a run did not exit.
 pub fn put_runs<O: Sink>(to: &mut PutBuffer, out: &mut O, profile: &Profile)
     ensures { Gathers O.holds O.faults out.old out.new to.old to.new (runs_text profile.now) }
 {

@@ -2,7 +2,9 @@
 ghost use Rattle.std.specs.Prelude.{◌≡◌, take, length, flat_map};
 ghost use Rattle.coz_types.specs.Labels.{Text};
 ghost use Rattle.coz_files.specs.Gathered.{Gathers};
-ghost use Rattle.coz_page.specs.Page.{IsTop, most_shown, row_text, rows_text, figure_text, figure_at, count_text, step_text, steps_text, values_text, pictures_text, point_name, point_number, top_of, harm_top, point_text, harm_text};
+ghost use Rattle.page_sources.specs.Sources.{look_up};
+ghost use Rattle.coz_files.specs.InMemory.{entries};
+ghost use Rattle.coz_page.specs.Page.{IsTop, view_of, source_text, row_text, rows_text, figure_text, figure_at, count_text, step_text, steps_text, values_text, pictures_text, point_name, point_number, top_of, harm_top, point_text, harm_text};
 
 use crate::chart::{harm_top_for, is_notable, put_chart, put_small, top_for};
 use crate::cost::cost_of;
@@ -10,21 +12,38 @@ use crate::harm::worst_of;
 use crate::label::put_label;
 use crate::percent::{put_cost, put_value};
 use crate::runs::put_visits;
+use crate::view::View;
 use causal_curves::{Curve, CurveStep};
-use coz_files::{PutBuffer, Sink};
+use coz_files::{HeldFile, PutBuffer, Sink};
 use coz_types::{Label, Summary};
+use page_sources::line_of;
 use profile_book::{Profile, put_number};
 
-/// How many lines each table shows.
-const MAX_SHOWN: usize = 20;
+/// The text of a line, if it has one.
+fn put_source<O: Sink>(to: &mut PutBuffer, out: &mut O, line: &[u8])
+    ensures { Gathers O.holds O.faults out.old out.new to.old to.new (source_text line.now) }
+{
+    if !line.is_empty() {
+        put_label(to, out, b"<br><code>", line);
+        to.push(out, b"</code>");
+    }
+}
 
-fn put_row<O: Sink>(to: &mut PutBuffer, out: &mut O, top: u64, summaries: &[Summary], curve: &Curve)
+fn put_row<O: Sink>(
+    to: &mut PutBuffer,
+    out: &mut O,
+    top: u64,
+    sources: &[HeldFile],
+    summaries: &[Summary],
+    curve: &Curve,
+)
     requires { IsTop top }
     ensures { Gathers O.holds O.faults out.old out.new to.old to.new
-        (row_text top summaries.now curve.now) }
+        (row_text top (look_up (entries sources.now)) summaries.now curve.now) }
 {
     let label = curve.selected.bytes();
     put_label(to, out, b"<tr><td>", label);
+    put_source(to, out, line_of(sources, label));
     to.push(out, b"</td><td>");
     put_cost(to, out, cost_of(summaries, label));
     to.push(out, b"</td><td>");
@@ -40,23 +59,26 @@ fn put_rows<O: Sink>(
     to: &mut PutBuffer,
     out: &mut O,
     top: u64,
+    sources: &[HeldFile],
     summaries: &[Summary],
     curves: &[Curve],
 )
     requires { IsTop top }
     ensures { Gathers O.holds O.faults out.old out.new to.old to.new
-        (flat_map (row_text top summaries.now) curves.now) }
+        (flat_map (row_text top (look_up (entries sources.now)) summaries.now) curves.now) }
 {
     for curve in curves {
-        put_row(to, out, top, summaries, curve);
+        put_row(to, out, top, sources, summaries, curve);
     }
 }
 
-fn put_figure<O: Sink>(to: &mut PutBuffer, out: &mut O, top: u64, curve: &Curve)
+/// A large picture of a curve, with a name.
+pub fn put_figure<O: Sink>(to: &mut PutBuffer, out: &mut O, top: u64, name: &[u8], curve: &Curve)
     requires { IsTop top }
-    ensures { Gathers O.holds O.faults out.old out.new to.old to.new (figure_text top curve.now) }
+    ensures { Gathers O.holds O.faults out.old out.new to.old to.new
+        (figure_text top name.now curve.now) }
 {
-    put_label(to, out, b"<figure><figcaption>", curve.selected.bytes());
+    put_label(to, out, b"<figure><figcaption>", name);
     to.push(out, b": ");
     put_value(to, out, curve.gain);
     to.push(out, b"</figcaption>");
@@ -69,7 +91,7 @@ fn put_figure_at<O: Sink>(to: &mut PutBuffer, out: &mut O, top: u64, curve: &Cur
     ensures { Gathers O.holds O.faults out.old out.new to.old to.new (figure_at top curve.now) }
 {
     if is_notable(top, curve) {
-        put_figure(to, out, top, curve);
+        put_figure(to, out, top, curve.selected.bytes(), curve);
     }
 }
 
@@ -83,40 +105,42 @@ fn put_figures<O: Sink>(to: &mut PutBuffer, out: &mut O, top: u64, curves: &[Cur
     }
 }
 
-fn put_count<O: Sink>(to: &mut PutBuffer, out: &mut O, lines: u64)
-    ensures { Gathers O.holds O.faults out.old out.new to.old to.new (count_text lines) }
+fn put_count<O: Sink>(to: &mut PutBuffer, out: &mut O, most: u64, lines: u64)
+    ensures { Gathers O.holds O.faults out.old out.new to.old to.new (count_text most lines) }
 {
-    let shown = lines.min(MAX_SHOWN as u64);
+    let shown = lines.min(most);
     put_number(to, out, b"</table>\n<p>Lines: ", lines);
     put_number(to, out, b". Shown: ", shown);
     put_number(to, out, b". Not shown: ", lines - shown);
     to.push(out, b".</p>\n");
 }
 
-/// The first of the curves, at most as many as a table shows.
-fn shown(curves: &[Curve]) -> &[Curve]
-    ensures { result.now ≡ take most_shown curves.now }
+/// The first of the curves, at most this many.
+pub fn shown(curves: &[Curve], most: u64) -> &[Curve]
+    ensures { result.now ≡ take most curves.now }
 {
-    &curves[..MAX_SHOWN.min(curves.len())]
+    &curves[..most.min(curves.len() as u64) as usize]
 }
 
 fn put_table<O: Sink>(
     to: &mut PutBuffer,
     out: &mut O,
     top: u64,
+    view: &View,
     summaries: &[Summary],
     curves: &[Curve],
 )
     requires { IsTop top }
     ensures { Gathers O.holds O.faults out.old out.new to.old to.new
-        (rows_text top summaries.now curves.now) }
+        (rows_text top (view_of view.now) summaries.now curves.now) }
 {
     to.push(
         out,
         b"\">\n<tr><th>Line</th><th>Cost</th><th>Gain</th><th>Worst</th><th>Curve</th></tr>\n",
     );
-    put_rows(to, out, top, summaries, shown(curves));
-    put_count(to, out, curves.len() as u64);
+    let first = shown(curves, view.most);
+    put_rows(to, out, top, view.sources, summaries, first);
+    put_count(to, out, view.most, curves.len() as u64);
 }
 
 fn put_step<O: Sink>(to: &mut PutBuffer, out: &mut O, label: &[u8], step: &CurveStep)
@@ -171,15 +195,15 @@ fn put_values<O: Sink>(to: &mut PutBuffer, out: &mut O, curves: &[Curve])
 }
 
 /// The large pictures of a table's lines, and their values.
-fn put_pictures<O: Sink>(to: &mut PutBuffer, out: &mut O, top: u64, curves: &[Curve])
+fn put_pictures<O: Sink>(to: &mut PutBuffer, out: &mut O, top: u64, most: u64, curves: &[Curve])
     requires { IsTop top }
     ensures { Gathers O.holds O.faults out.old out.new to.old to.new
-        (pictures_text top curves.now) }
+        (pictures_text top most curves.now) }
 {
     to.push(out, b"<div class=\"charts\">\n");
-    put_figures(to, out, top, shown(curves));
+    put_figures(to, out, top, shown(curves, most));
     to.push(out, b"</div>\n");
-    put_values(to, out, shown(curves));
+    put_values(to, out, shown(curves, most));
     to.push(out, b"</details>\n");
 }
 
@@ -204,7 +228,8 @@ fn point_number(curves: &[Curve]) -> u64
     }
 }
 
-fn top_of(curves: &[Curve]) -> u64
+/// The upper end of the axis of values of the point that these curves are of.
+pub fn top_of(curves: &[Curve]) -> u64
     ensures top { result ≡ top_of curves.now }
     ensures range { IsTop result }
 {
@@ -225,9 +250,15 @@ fn harm_top(curves: &[Curve]) -> u64
 }
 
 /// What the page has of the point that these curves are of.
-pub fn put_point<O: Sink>(to: &mut PutBuffer, out: &mut O, profile: &Profile, curves: &[Curve])
+pub fn put_point<O: Sink>(
+    to: &mut PutBuffer,
+    out: &mut O,
+    view: &View,
+    profile: &Profile,
+    curves: &[Curve],
+)
     ensures { Gathers O.holds O.faults out.old out.new to.old to.new
-        (point_text profile.now curves.now) }
+        (point_text (view_of view.now) profile.now curves.now) }
 {
     let summaries = profile.summaries.as_slice();
     let point = point_number(curves);
@@ -242,14 +273,20 @@ pub fn put_point<O: Sink>(to: &mut PutBuffer, out: &mut O, profile: &Profile, cu
     to.push(out, b"</summary>\n");
     put_visits(to, out, summaries, point);
     put_number(to, out, b"<table id=\"p", point);
-    put_table(to, out, top, summaries, curves);
-    put_pictures(to, out, top, curves);
+    put_table(to, out, top, view, summaries, curves);
+    put_pictures(to, out, top, view.most, curves);
 }
 
 /// The lines that hurt the point that these curves are of.
-pub fn put_harm<O: Sink>(to: &mut PutBuffer, out: &mut O, profile: &Profile, curves: &[Curve])
+pub fn put_harm<O: Sink>(
+    to: &mut PutBuffer,
+    out: &mut O,
+    view: &View,
+    profile: &Profile,
+    curves: &[Curve],
+)
     ensures { Gathers O.holds O.faults out.old out.new to.old to.new
-        (harm_text profile.now curves.now) }
+        (harm_text (view_of view.now) profile.now curves.now) }
 {
     let top = harm_top(curves);
     let name = point_name(profile.points.as_slice(), curves);
@@ -260,6 +297,6 @@ pub fn put_harm<O: Sink>(to: &mut PutBuffer, out: &mut O, profile: &Profile, cur
         name,
     );
     put_number(to, out, b"</summary>\n<table id=\"h", point_number(curves));
-    put_table(to, out, top, profile.summaries.as_slice(), curves);
-    put_pictures(to, out, top, curves);
+    put_table(to, out, top, view, profile.summaries.as_slice(), curves);
+    put_pictures(to, out, top, view.most, curves);
 }

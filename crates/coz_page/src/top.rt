@@ -1,17 +1,45 @@
 //! The top call.
-ghost use Rattle.std.specs.Prelude.{◌≡◌, ◌≢◌, ◌↔◌, ◌⊎◌, ◌++◌, ◌≤◌, None, codes, IfSome, IsSomeAnd};
-ghost use Rattle.std.specs.Io.KnownBytes.{Appends};
+ghost use Rattle.std.specs.Prelude.{◌≡◌, ◌≢◌, ◌↔◌, ◌⊎◌, ◌++◌, ◌≤◌, None, codes, IfOk, IfSome, IsSomeAnd, OnErr};
 ghost use Rattle.coz_files.specs.Faults.{Rose};
-ghost use Rattle.coz_files.specs.Puts.{AppendsPrefix};
-ghost use Rattle.coz_page.specs.Verdict.{bytes_of, path_in, verdict};
-ghost use Rattle.coz_page.specs.Serve.{IsOfVerdict, IsPut, IsLine};
+ghost use Rattle.coz_files.specs.Puts.{Puts};
+ghost use Rattle.page_words.specs.Words.{asked_of, request_in};
+ghost use Rattle.page_sources.specs.Sources.{Answers};
+ghost use Rattle.coz_page.specs.Answer.{IsShown};
+ghost use Rattle.coz_page.specs.Verdict.{bytes_of, folder_of, verdict};
+ghost use Rattle.coz_page.specs.Serve.{IsOfVerdict, IsPut, IsLine, Prints, PrintsPrefix};
 
 use crate::fault::Fault;
 use crate::fault_line::tell;
-use crate::judge::judge;
+use crate::judge::{Ranked, judge};
 use crate::page::write_page;
+use crate::sources::read_sources;
+use crate::view::View;
 use coz_files::{Files, PutAnswer, Sink};
-use std::alloc::Global;
+use file_steps::FileFault;
+use std::alloc::{AllocError, Global};
+
+/// Reads the source files of a page and puts the page. Fails only when out of memory.
+fn show<F: Files, O: Sink>(
+    alloc: Global,
+    ranked: &Ranked,
+    files: &mut F,
+    out: &mut O,
+) -> Result<PutAnswer, AllocError>
+    ensures same { F.held files.new ≡ F.held files.old }
+    ensures unread { (asked_of ranked.now.asked).source ≡ None
+        → F.faults files.new ≡ F.faults files.old }
+    ensures shown { IfOk result (λ answer. IsShown (F.held files.old) (F.faults files.old)
+        (F.faults files.new) O.holds O.faults out.old out.new ranked.now answer) }
+    ensures nothing { OnErr result (out.new ≡ out.old) }
+{
+    let curves = ranked.curves.as_slice();
+    let sources = read_sources(alloc, files, ranked.asked.source, curves)?;
+    let view = View {
+        most: ranked.asked.top,
+        sources: sources.as_slice(),
+    };
+    Ok(write_page(&view, ranked, out))
+}
 
 /// All that the program does.
 pub fn serve<F: Files, O: Sink, E: Sink>(
@@ -22,7 +50,7 @@ pub fn serve<F: Files, O: Sink, E: Sink>(
     err: &mut E,
 ) -> u8
     // The words alone decide on usage.
-    ensures usage { (result ≡ 2) ↔ (path_in (bytes_of words.now) ≡ None) }
+    ensures usage { (result ≡ 2) ↔ (request_in (bytes_of words.now) ≡ None) }
 
     // No other status is answered.
     ensures known { result ≤ 12 }
@@ -30,21 +58,26 @@ pub fn serve<F: Files, O: Sink, E: Sink>(
     // If the files are known, the status is the verdict's, unless a fault is counted
     // or it is out of memory.
     ensures verdict { IfSome (F.held files.old) (λ held.
-        IsOfVerdict result → result ≡ (verdict (bytes_of words.now) held).status) }
+        IsOfVerdict result → (answers : Answers)
+        → result ≡ (verdict (bytes_of words.now) held answers).status) }
 
     // A failed read and a failed write have a cause outside.
     ensures read { result ≡ 5 → Rose (F.faults files.old) (F.faults files.new)
-        ⊎ IsSomeAnd (F.held files.old) (λ held. (verdict (bytes_of words.now) held).status ≡ 5) }
+        ⊎ IsSomeAnd (F.held files.old) (λ held. (answers : Answers)
+        → (verdict (bytes_of words.now) held answers).status ≡ 5) }
     ensures write { result ≡ 6 → Rose (O.faults out.old) (O.faults out.new) }
     ensures write_last { IfSome (F.held files.old) (λ held.
-        result ≡ 6 → (verdict (bytes_of words.now) held).status ≡ 0) }
+        result ≡ 6 → (answers : Answers)
+        → (verdict (bytes_of words.now) held answers).status ≡ 0) }
 
-    // What is printed: the page of the profile that the file is the text of.
+    // What is printed: the page of the profile that the file is the text of, with the lines of
+    // the source files below the folder, if one is named.
     ensures text { IfSome (F.held files.old) (λ held. result ≡ 0 →
-        Appends (O.holds out.old) (O.holds out.new) (verdict (bytes_of words.now) held).text) }
+        Prints (bytes_of words.now) held (F.faults files.old) (F.faults files.new)
+        (O.holds out.old) (O.holds out.new)) }
     ensures torn { IfSome (F.held files.old) (λ held. result ≡ 6 →
-        AppendsPrefix (O.holds out.old) (O.holds out.new)
-        (verdict (bytes_of words.now) held).text) }
+        PrintsPrefix (bytes_of words.now) held (F.faults files.old) (F.faults files.new)
+        (O.holds out.old) (O.holds out.new)) }
     ensures nothing { result ≢ 0 → result ≢ 6 → O.holds out.new ≡ O.holds out.old }
 
     // The line on the error sink.
@@ -53,20 +86,18 @@ pub fn serve<F: Files, O: Sink, E: Sink>(
         × IsLine result (bytes_of words.now) (F.held files.old) line
         × IsPut E.holds E.faults err.old err.new (line ++ codes "\n") }
 
-    // The first fault ends the call.
-    ensures read_count { result ≢ 5 → F.faults files.new ≡ F.faults files.old }
+    // The first fault ends the call, except for a fault of a source file.
+    ensures read_count { result ≢ 5 → folder_of (request_in (bytes_of words.now)) ≡ None
+        → F.faults files.new ≡ F.faults files.old }
     ensures write_count { result ≢ 6 → O.faults out.new ≡ O.faults out.old }
     ensures files { F.held files.new ≡ F.held files.old }
 {
     match judge(alloc, words, files) {
-        Ok(ranked) => {
-            let curves = ranked.curves.as_slice();
-            let harmful = ranked.harmful.as_slice();
-            match write_page(&ranked.profile, curves, harmful, out) {
-                PutAnswer::Done => 0,
-                PutAnswer::Failed => tell(err, Fault::Write),
-            }
-        }
+        Ok(ranked) => match show(alloc, &ranked, files, out) {
+            Ok(PutAnswer::Done) => 0,
+            Ok(PutAnswer::Failed) => tell(err, Fault::File(FileFault::Write)),
+            Err(_) => tell(err, Fault::File(FileFault::Memory)),
+        },
         Err(fault) => tell(err, fault),
     }
 }

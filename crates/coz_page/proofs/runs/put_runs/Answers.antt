@@ -1,4 +1,4 @@
-use Rattle.std.proofs.Common.{ℕ, List, ◌++◌, length, codes, decimal, ap, ◌∙◌}
+use Rattle.std.proofs.Common.{List, ◌++◌, length, codes, decimal, ap}
 use Rattle.coz_types.specs.declared.record.Summary.{Summary}
 use Rattle.coz_files.proofs.GatheredLemmas.{gathers_then}
 use Rattle.profile_book.proofs.Gathering.{gathers_as}

@@ -5,7 +5,7 @@ use Rattle.coz_files.proofs.GatheredLemmas.{gathers_then}
 use Rattle.profile_book.proofs.Gathering.{gathers_as}
 use Rattle.coz_page.specs.Labels.{html}
 use Rattle.coz_page.specs.Runs.{visits_text}
-use Rattle.coz_page.specs.Page.{point_name, point_number, rows_text, pictures_text}
+use Rattle.coz_page.specs.Page.{point_name, point_number, rows_text, pictures_text, view_of}
 use Rattle.coz_page.proofs.Pieces.{two_then}
 use Rattle.coz_page.proofs.tables.put_point.Goals as goal
 
@@ -17,6 +17,6 @@ returns g c =
     let visits = gathers_as (ap₂ (λ (ss : List Summary) (n : ℕ). visits_text ss n) c.as_slice-summaries.ensures c.point_number-point.ensures) c.put_visits.ensures in
     let number = gathers_as (ap (λ (n : ℕ). codes "<table id=\"p" ++ decimal n) c.point_number-point.ensures) c.put_number.ensures in
     let head = two_then (codes "<table id=\"p") (decimal (point_number curves)) (gathers_then (gathers_then name c.push.ensures.gathers) visits) number in
-    let rows = gathers_as (ap₂ (λ (top : ℕ) (ss : List Summary). rows_text top ss curves) c.top_of-top.ensures.top c.as_slice-summaries.ensures) c.put_table.ensures in
-    let pictures = gathers_as (ap (λ (top : ℕ). pictures_text top curves) c.top_of-top.ensures.top) c.put_pictures.ensures in
+    let rows = gathers_as (ap₂ (λ (top : ℕ) (ss : List Summary). rows_text top (view_of c.args.view.now) ss curves) c.top_of-top.ensures.top c.as_slice-summaries.ensures) c.put_table.ensures in
+    let pictures = gathers_as (ap (λ (top : ℕ). pictures_text top c.args.view.now.most curves) c.top_of-top.ensures.top) c.put_pictures.ensures in
     gathers_then (gathers_then head rows) pictures

@@ -1,41 +1,46 @@
-use Rattle.std.proofs.Common.{◌≡◌, List, codes, refl, arith, subst, ap₂}
-use Rattle.std.specs.Io.KnownBytes.{Appends}
-use Rattle.coz_files.specs.Puts.{AppendsPrefix}
-use Rattle.causal_curves.specs.declared.curve.Curve.{Curve}
-use Rattle.coz_page.specs.Page.{curves_page}
-use Rattle.coz_page.specs.Answer.{ranked_page}
-use Rattle.coz_page.specs.Verdict.{bytes_of, path_in}
-use Rattle.coz_page.proofs.Served.{page_put, page_torn, usage_apart, usage_told, write_line}
+use Rattle.std.proofs.Common.{rules, ◌++◌, Option, codes, subst}
+use Rattle.coz_files.specs.Held.{Held}
+use Rattle.coz_page.specs.Answer.{IsShown, fault_line}
+use Rattle.coz_page.specs.Verdict.{bytes_of}
+use Rattle.coz_page.proofs.Served.{failed_verdict, fault_told, memory_line, page_put, page_torn, write_line}
 use Rattle.coz_page.proofs.top.serve.Goals as goal
 
-pub returns-in-Done-clause-usage : goal.returns-in-Done-clause-usage
-returns-in-Done-clause-usage g c = usage_apart 0 (path_in (bytes_of c.args.words.now)) c.in-Ok.ranked c.in-Ok.ensures.suits (λ is. omega (arith, is))
+pub returns-in-Ok-Done-clause-text : goal.returns-in-Ok-Done-clause-text
+returns-in-Ok-Done-clause-text g c =
+    let judged = c.in-Ok.ensures in
+    let mid = g.F.Files.faults c.judge.new.files in
+    let now = g.F.Files.faults c.show.new.files in
+    page_put (bytes_of c.args.words.now) (g.F.Files.faults c.args.files.now) mid now (judged.no_fault (λ no. no)) c.in-Ok.ranked judged.suits (g.F.Files.held c.args.files.now) c.in-Ok-Done.field-0 0 (search rules) judged.settled judged.ranked
+    (subst (λ (known : Option Held). IsShown known mid now g.O.Sink.holds g.O.Sink.faults c.args.out.now c.show.new.out c.in-Ok.ranked c.in-Ok-Done.field-0) judged.same c.in-Ok-Done.ensures.shown)
 
-pub returns-in-Done-clause-text : goal.returns-in-Done-clause-text
-returns-in-Done-clause-text g c =
-    let page : curves_page c.in-Ok.ranked.profile c.as_slice-curves.result.now c.as_slice-harmful.result.now ≡ ranked_page c.in-Ok.ranked = ap₂ (λ (cs hs : List Curve). curves_page c.in-Ok.ranked.profile cs hs) c.as_slice-curves.ensures c.as_slice-harmful.ensures in
-    page_put (bytes_of c.args.words.now) (g.F.Files.faults c.args.files.now) (g.F.Files.faults c.judge.new.files) (g.F.Files.held c.args.files.now) (g.O.Sink.holds c.args.out.now) (g.O.Sink.holds c.write_page.new.out) c.in-Ok.ranked 0
-    c.in-Ok.ensures.settled
-    (subst (Appends (g.O.Sink.holds c.args.out.now) (g.O.Sink.holds c.write_page.new.out)) page (c.in-Done.ensures.done refl))
+pub returns-in-Ok-Failed-clause-verdict : goal.returns-in-Ok-Failed-clause-verdict
+returns-in-Ok-Failed-clause-verdict g c = failed_verdict (bytes_of c.args.words.now) (g.F.Files.held c.args.files.now) c.tell.result c.tell.ensures.status
 
-pub returns-in-Ok-clause-usage : goal.returns-in-Ok-clause-usage
-returns-in-Ok-clause-usage g c =
-    let six = c.tell.ensures.status in
-    usage_apart c.tell.result (path_in (bytes_of c.args.words.now)) c.in-Ok.ranked c.in-Ok.ensures.suits (λ is. omega (arith, is, six))
+pub returns-in-Ok-Failed-clause-torn : goal.returns-in-Ok-Failed-clause-torn
+returns-in-Ok-Failed-clause-torn g c =
+    let judged = c.in-Ok.ensures in
+    let mid = g.F.Files.faults c.judge.new.files in
+    let now = g.F.Files.faults c.show.new.files in
+    page_torn (bytes_of c.args.words.now) (g.F.Files.faults c.args.files.now) mid now (judged.no_fault (λ no. no)) c.in-Ok.ranked judged.suits (g.F.Files.held c.args.files.now) c.in-Ok-Failed.field-0 c.tell.result (search rules) judged.settled judged.ranked
+    (subst (λ (known : Option Held). IsShown known mid now g.O.Sink.holds g.O.Sink.faults c.args.out.now c.show.new.out c.in-Ok.ranked c.in-Ok-Failed.field-0) judged.same c.in-Ok-Failed.ensures.shown)
 
-pub returns-in-Ok-clause-torn : goal.returns-in-Ok-clause-torn
-returns-in-Ok-clause-torn g c =
-    let page : curves_page c.in-Ok.ranked.profile c.as_slice-curves.result.now c.as_slice-harmful.result.now ≡ ranked_page c.in-Ok.ranked = ap₂ (λ (cs hs : List Curve). curves_page c.in-Ok.ranked.profile cs hs) c.as_slice-curves.ensures c.as_slice-harmful.ensures in
-    page_torn (bytes_of c.args.words.now) (g.F.Files.faults c.args.files.now) (g.F.Files.faults c.judge.new.files) (g.F.Files.held c.args.files.now) (g.O.Sink.holds c.args.out.now) (g.O.Sink.holds c.write_page.new.out) c.in-Ok.ranked c.tell.result
-    c.in-Ok.ensures.settled
-    (subst (AppendsPrefix (g.O.Sink.holds c.args.out.now) (g.O.Sink.holds c.write_page.new.out)) page (c.in-Failed.ensures.torn refl))
-
-pub returns-in-Ok-clause-line : goal.returns-in-Ok-clause-line
-returns-in-Ok-clause-line g c = λ _. (
+pub returns-in-Ok-Failed-clause-line : goal.returns-in-Ok-Failed-clause-line
+returns-in-Ok-Failed-clause-line g c = λ _. (
   codes "coz-page: write",
   write_line c.tell.result (bytes_of c.args.words.now) (g.F.Files.held c.args.files.now) c.tell.ensures.status,
   c.tell.ensures.line,
 )
 
-pub returns-clause-usage : goal.returns-clause-usage
-returns-clause-usage g c = usage_told c.tell-in-Err.result (path_in (bytes_of c.args.words.now)) c.in-Err.fault c.tell-in-Err.ensures.status c.in-Err.ensures.suits
+pub returns-in-Ok-clause-line : goal.returns-in-Ok-clause-line
+returns-in-Ok-clause-line g c = λ _. (
+  codes "coz-page: memory",
+  memory_line c.tell-in-Err-show.result (bytes_of c.args.words.now) (g.F.Files.held c.args.files.now) c.tell-in-Err-show.ensures.status,
+  c.tell-in-Err-show.ensures.line,
+)
+
+pub returns-clause-line : goal.returns-clause-line
+returns-clause-line g c = λ _. (
+  codes "coz-page: " ++ fault_line c.in-Err.fault,
+  fault_told (bytes_of c.args.words.now) (g.F.Files.faults c.args.files.now) (g.F.Files.faults c.judge.new.files) c.tell-in-Err.result c.in-Err.fault c.tell-in-Err.ensures.status (g.F.Files.held c.args.files.now) c.in-Err.ensures.suits c.in-Err.ensures.settled,
+  c.tell-in-Err.ensures.line,
+)

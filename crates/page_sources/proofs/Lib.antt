@@ -1,0 +1,3 @@
+mod Newlines
+mod Rights
+mod Utf8
