@@ -3,53 +3,116 @@ ghost use Rattle.std.specs.Prelude.{◌≤◌};
 
 use coz_types::{Area, Rights};
 use elf_load::ElfKind::*;
+use elf_load::codes::{
+    E_ENTRY, E_FLAGS, E_MACHINE, E_PHENTSIZE, E_PHNUM, E_PHOFF, E_SHENTSIZE, E_SHNUM, E_SHOFF,
+    E_SHSTRNDX, E_TYPE, EHDR_SIZE, EI_CLASS, EI_DATA, ELFCLASS64, ELFDATA2LSB, P_FILESZ, P_FLAGS,
+    P_MEMSZ, P_OFFSET, P_TYPE, P_VADDR, PHDR_SIZE, SH_FLAGS, SH_NAME, SH_OFFSET, SH_SIZE, SH_TYPE,
+};
 use elf_load::{ElfFault, ElfKind, LoadError, load, section};
 use std::alloc::{AllocError, Global};
 use std::process::Abort;
 use std::test::Fail;
 
-/// Bytes and where they go.
+/// An offset and the bytes that go there.
 type Change = (usize, &'static [u8]);
 
 const ONES: [u8; 8] = [255; 8];
 
-// What isn't zero in a file of 4,536 bytes: three instructions at 0x10000, four sections.
-static GOOD: [Change; 27] = [
-    (0, b"\x7FELF\x02\x01\x01"),
-    (16, &[2, 0, 243, 0, 1]),
-    (26, &[1]),
-    (32, &[64]),
-    (40, &[0x78, 0x10]),
-    (52, &[64, 0, 56, 0, 1, 0, 64, 0, 5, 0, 4]),
-    (64, &[1, 0, 0, 0, 5]),
-    (73, &[16]),
-    (82, &[1]),
-    (90, &[1]),
-    (96, &[12]),
-    (104, &[12]),
-    (113, &[16]),
-    (4096, &[0x13, 5, 0, 0, 0x93, 8, 0xD0, 5, 0x73]),
+// Fields that nothing reads: of the file's header, of a program header and of a section header.
+const EI_VERSION: usize = 6;
+
+const E_VERSION: usize = 20;
+
+const E_EHSIZE: usize = 52;
+
+const P_PADDR: usize = 24;
+
+const P_ALIGN: usize = 48;
+
+// The offsets of the program headers: that of the good file, and a second one.
+const FIRST_HEADER: usize = EHDR_SIZE;
+
+const SECOND_HEADER: usize = EHDR_SIZE + PHDR_SIZE;
+
+// The offsets of what the good file has after the header of its text: the instructions, the names
+// of the sections, the name `.debug_line` among them, and the section headers.
+const TEXT: usize = 4096;
+
+const NAMES: usize = 4174;
+
+const NAME_OF_LINES: usize = 4187;
+
+const TEXT_HEADER: usize = 4280;
+
+const DATA_HEADER: usize = 4344;
+
+const LINES_HEADER: usize = 4408;
+
+const NAMES_HEADER: usize = 4472;
+
+// What isn't zero in a file of 4,536 bytes: three instructions at 0x10000, four sections. Numbers
+// have their lowest byte first.
+static GOOD: [Change; 44] = [
+    (0, b"\x7FELF"),
+    (EI_CLASS, &[ELFCLASS64]),
+    (EI_DATA, &[ELFDATA2LSB]),
+    (EI_VERSION, &[1]),
+    (E_TYPE, &[2]),
+    (E_MACHINE, &[243]),
+    (E_VERSION, &[1]),
+    (E_ENTRY, &[0, 0, 1]),
+    (E_PHOFF, &[64]),
+    (E_SHOFF, &[0x78, 0x10]),
+    (E_EHSIZE, &[64]),
+    (E_PHENTSIZE, &[56]),
+    (E_PHNUM, &[1]),
+    (E_SHENTSIZE, &[64]),
+    (E_SHNUM, &[5]),
+    (E_SHSTRNDX, &[4]),
+    // PT_LOAD, with PF_R and PF_X.
+    (FIRST_HEADER + P_TYPE, &[1]),
+    (FIRST_HEADER + P_FLAGS, &[5]),
+    (FIRST_HEADER + P_OFFSET, &[0, 0x10]),
+    (FIRST_HEADER + P_VADDR, &[0, 0, 1]),
+    (FIRST_HEADER + P_PADDR, &[0, 0, 1]),
+    (FIRST_HEADER + P_FILESZ, &[12]),
+    (FIRST_HEADER + P_MEMSZ, &[12]),
+    (FIRST_HEADER + P_ALIGN, &[0, 0x10]),
+    // addi a0, x0, 0; addi a7, x0, 93; ecall.
+    (TEXT, &[0x13, 5, 0, 0, 0x93, 8, 0xD0, 5, 0x73]),
+    // The unit_length of `.debug_line`.
     (4108, &[62]),
-    (4174, b"\0.text\0.data\0.debug_line\0.shstrtab\0"),
-    (4280, &[1, 0, 0, 0, 1, 0, 0, 0, 6]),
-    (4305, &[16]),
-    (4312, &[12]),
-    (4344, &[7, 0, 0, 0, 1, 0, 0, 0, 3]),
-    (4368, &[12, 16]),
-    (4408, &[13, 0, 0, 0, 1]),
-    (4432, &[12, 16]),
-    (4440, &[66]),
-    (4472, &[25, 0, 0, 0, 3]),
-    (4496, &[78, 16]),
-    (4504, &[35]),
+    (NAMES, b"\0.text\0.data\0.debug_line\0.shstrtab\0"),
+    // SHT_PROGBITS, with SHF_ALLOC and SHF_EXECINSTR.
+    (TEXT_HEADER + SH_NAME, &[1]),
+    (TEXT_HEADER + SH_TYPE, &[1]),
+    (TEXT_HEADER + SH_FLAGS, &[6]),
+    (TEXT_HEADER + SH_OFFSET, &[0, 0x10]),
+    (TEXT_HEADER + SH_SIZE, &[12]),
+    // SHT_PROGBITS, with SHF_WRITE and SHF_ALLOC, and no bytes.
+    (DATA_HEADER + SH_NAME, &[7]),
+    (DATA_HEADER + SH_TYPE, &[1]),
+    (DATA_HEADER + SH_FLAGS, &[3]),
+    (DATA_HEADER + SH_OFFSET, &[0x0C, 0x10]),
+    // SHT_PROGBITS.
+    (LINES_HEADER + SH_NAME, &[13]),
+    (LINES_HEADER + SH_TYPE, &[1]),
+    (LINES_HEADER + SH_OFFSET, &[0x0C, 0x10]),
+    (LINES_HEADER + SH_SIZE, &[66]),
+    // SHT_STRTAB.
+    (NAMES_HEADER + SH_NAME, &[25]),
+    (NAMES_HEADER + SH_TYPE, &[3]),
+    (NAMES_HEADER + SH_OFFSET, &[0x4E, 0x10]),
+    (NAMES_HEADER + SH_SIZE, &[35]),
 ];
 
 // A second program header: a page at 0x20000 that may be written, with one byte of memory.
-const SECOND: [Change; 4] = [
-    (56, &[2]),
-    (120, &[1, 0, 0, 0, 2]),
-    (138, &[2]),
-    (160, &[1]),
+const SECOND: [Change; 5] = [
+    (E_PHNUM, &[2]),
+    (SECOND_HEADER + P_TYPE, &[1]),
+    (SECOND_HEADER + P_FLAGS, &[2]),
+    (SECOND_HEADER + P_VADDR, &[0, 0, 2]),
+    (SECOND_HEADER + P_MEMSZ, &[1]),
 ];
 
 fn put(file: &mut [u8], place: usize, bytes: &[u8]) {
@@ -78,77 +141,182 @@ fn fault(kind: ElfKind, place: u64) -> Option<LoadError> {
     Some(LoadError::Fault(ElfFault { kind, place }))
 }
 
-/// Changes of the good file, and the fault that they make.
-type Fault = (&'static [Change], ElfKind, u64);
+/// Changes of the good file, and the fault that they make, with its offset.
+type Fault = (&'static [Change], ElfKind, usize);
 
 /// Faults of the header and of the sections.
 static HEADERS: [Fault; 22] = [
     (&[(1, &[0])], NotElf, 0),
-    (&[(4, &[1])], NotClass64, 4),
-    (&[(5, &[2])], NotLittle, 5),
-    (&[(16, &[3])], NotExec, 16),
-    (&[(18, &[62])], NotRiscv, 18),
-    (&[(48, &[1])], Compressed, 48),
-    (&[(56, &[255, 255])], HeaderOut, 56),
-    (&[(54, &[55])], HeaderOut, 54),
-    (&[(56, &[80])], HeaderOut, 32),
-    (&[(32, &ONES)], HeaderOut, 32),
-    (&[(58, &[63])], HeaderOut, 58),
-    (&[(60, &[6])], HeaderOut, 40),
-    (&[(40, &[192]), (41, &[255; 7])], HeaderOut, 40),
-    (&[(62, &[5])], HeaderOut, 62),
-    (&[(97, &[32])], HeaderOut, 64),
-    (&[(72, &[252]), (73, &[255; 7])], HeaderOut, 64),
-    (&[(4442, &[1])], HeaderOut, 4408),
-    (&[(4440, &ONES)], HeaderOut, 4408),
-    (&[(4417, &[8])], PackedLines, 4408),
-    // The name counts, though a NOBITS section can't be found by it.
-    (&[(4412, &[8]), (4417, &[8])], PackedLines, 4408),
-    // The two sections of texts.
-    (&[(4187, b".debug_str\0"), (4417, &[8])], PackedLines, 4408),
+    (&[(EI_CLASS, &[1])], NotClass64, EI_CLASS),
+    (&[(EI_DATA, &[2])], NotLittle, EI_DATA),
+    (&[(E_TYPE, &[3])], NotExec, E_TYPE),
+    (&[(E_MACHINE, &[62])], NotRiscv, E_MACHINE),
+    (&[(E_FLAGS, &[1])], Compressed, E_FLAGS),
+    (&[(E_PHNUM, &[255, 255])], HeaderOut, E_PHNUM),
+    (&[(E_PHENTSIZE, &[55])], HeaderOut, E_PHENTSIZE),
+    (&[(E_PHNUM, &[80])], HeaderOut, E_PHOFF),
+    (&[(E_PHOFF, &ONES)], HeaderOut, E_PHOFF),
+    (&[(E_SHENTSIZE, &[63])], HeaderOut, E_SHENTSIZE),
+    (&[(E_SHNUM, &[6])], HeaderOut, E_SHOFF),
+    // 2^64 - 64, and one header of 64 bytes.
     (
-        &[(4187, b".debug_line_str\0"), (4417, &[8])],
+        &[(E_SHOFF, &[192, 255, 255, 255, 255, 255, 255, 255])],
+        HeaderOut,
+        E_SHOFF,
+    ),
+    (&[(E_SHSTRNDX, &[5])], HeaderOut, E_SHSTRNDX),
+    (
+        &[(FIRST_HEADER + P_FILESZ, &[12, 32])],
+        HeaderOut,
+        FIRST_HEADER,
+    ),
+    // 2^64 - 4, and 12 bytes.
+    (
+        &[(
+            FIRST_HEADER + P_OFFSET,
+            &[252, 255, 255, 255, 255, 255, 255, 255],
+        )],
+        HeaderOut,
+        FIRST_HEADER,
+    ),
+    (
+        &[(LINES_HEADER + SH_SIZE, &[66, 0, 1])],
+        HeaderOut,
+        LINES_HEADER,
+    ),
+    (&[(LINES_HEADER + SH_SIZE, &ONES)], HeaderOut, LINES_HEADER),
+    // SHF_COMPRESSED.
+    (
+        &[(LINES_HEADER + SH_FLAGS, &[0, 8])],
         PackedLines,
-        4408,
+        LINES_HEADER,
+    ),
+    // The name counts, though a NOBITS section can't be found by it.
+    (
+        &[
+            (LINES_HEADER + SH_TYPE, &[8]),
+            (LINES_HEADER + SH_FLAGS, &[0, 8]),
+        ],
+        PackedLines,
+        LINES_HEADER,
+    ),
+    // The two sections of texts.
+    (
+        &[
+            (NAME_OF_LINES, b".debug_str\0"),
+            (LINES_HEADER + SH_FLAGS, &[0, 8]),
+        ],
+        PackedLines,
+        LINES_HEADER,
+    ),
+    (
+        &[
+            (NAME_OF_LINES, b".debug_line_str\0"),
+            (LINES_HEADER + SH_FLAGS, &[0, 8]),
+        ],
+        PackedLines,
+        LINES_HEADER,
     ),
 ];
 
 /// Faults of the program headers and of the entry.
 static SEGMENTS: [Fault; 12] = [
-    (&[(64, &[3])], Interp, 64),
-    (&[(104, &[11])], SizeOrder, 64),
-    (&[(82, &[0])], AddressOut, 64),
-    (&[(84, &[32])], AddressOut, 64),
-    (&[(80, &ONES)], AddressOut, 64),
-    (&[(68, &[7])], WritableCode, 64),
+    // PT_INTERP.
+    (&[(FIRST_HEADER + P_TYPE, &[3])], Interp, FIRST_HEADER),
+    (&[(FIRST_HEADER + P_MEMSZ, &[11])], SizeOrder, FIRST_HEADER),
     (
-        &[(56, &[2]), (120, &[1]), (136, &[16, 0, 1]), (160, &[1])],
+        &[(FIRST_HEADER + P_VADDR, &[0, 0, 0])],
+        AddressOut,
+        FIRST_HEADER,
+    ),
+    (
+        &[(FIRST_HEADER + P_VADDR, &[0, 0, 1, 0, 32])],
+        AddressOut,
+        FIRST_HEADER,
+    ),
+    (&[(FIRST_HEADER + P_VADDR, &ONES)], AddressOut, FIRST_HEADER),
+    (
+        &[(FIRST_HEADER + P_FLAGS, &[7])],
+        WritableCode,
+        FIRST_HEADER,
+    ),
+    (
+        &[
+            (E_PHNUM, &[2]),
+            (SECOND_HEADER + P_TYPE, &[1]),
+            (SECOND_HEADER + P_VADDR, &[16, 0, 1]),
+            (SECOND_HEADER + P_MEMSZ, &[1]),
+        ],
         SharedPage,
-        120,
+        SECOND_HEADER,
     ),
     (
-        &[(56, &[2]), (120, &[1]), (138, &[2]), (163, &[4])],
+        &[
+            (E_PHNUM, &[2]),
+            (SECOND_HEADER + P_TYPE, &[1]),
+            (SECOND_HEADER + P_VADDR, &[0, 0, 2]),
+            (SECOND_HEADER + P_MEMSZ, &[0, 0, 0, 4]),
+        ],
         TooMuch,
-        120,
+        SECOND_HEADER,
     ),
-    (&[(24, &[2])], EntryOut, 24),
-    (&[(24, &[12])], EntryOut, 24),
-    (&[(68, &[4])], EntryOut, 24),
+    (&[(E_ENTRY, &[2])], EntryOut, E_ENTRY),
+    (&[(E_ENTRY, &[12])], EntryOut, E_ENTRY),
+    (&[(FIRST_HEADER + P_FLAGS, &[4])], EntryOut, E_ENTRY),
     // The last page that a program may have.
-    (&[(80, &[0, 240, 255, 255, 31])], EntryOut, 24),
+    (
+        &[(FIRST_HEADER + P_VADDR, &[0, 240, 255, 255, 31])],
+        EntryOut,
+        E_ENTRY,
+    ),
 ];
 
 /// Two faults: the earlier row counts, then the earlier entry.
 static TWICE: [Fault; 6] = [
-    (&[(48, &[1]), (68, &[7])], Compressed, 48),
-    (&[(4417, &[8]), (64, &[3])], PackedLines, 4408),
-    (&[(104, &[11]), (82, &[0])], SizeOrder, 64),
-    (&[(68, &[7]), (24, &[2])], WritableCode, 64),
-    (&[(56, &[2]), (104, &[11]), (120, &[3])], Interp, 120),
     (
-        &[(56, &[2]), (104, &[11]), (120, &[1]), (152, &[1])],
+        &[(E_FLAGS, &[1]), (FIRST_HEADER + P_FLAGS, &[7])],
+        Compressed,
+        E_FLAGS,
+    ),
+    (
+        &[
+            (LINES_HEADER + SH_FLAGS, &[0, 8]),
+            (FIRST_HEADER + P_TYPE, &[3]),
+        ],
+        PackedLines,
+        LINES_HEADER,
+    ),
+    (
+        &[
+            (FIRST_HEADER + P_MEMSZ, &[11]),
+            (FIRST_HEADER + P_VADDR, &[0, 0, 0]),
+        ],
         SizeOrder,
-        64,
+        FIRST_HEADER,
+    ),
+    (
+        &[(FIRST_HEADER + P_FLAGS, &[7]), (E_ENTRY, &[2])],
+        WritableCode,
+        FIRST_HEADER,
+    ),
+    (
+        &[
+            (E_PHNUM, &[2]),
+            (FIRST_HEADER + P_MEMSZ, &[11]),
+            (SECOND_HEADER + P_TYPE, &[3]),
+        ],
+        Interp,
+        SECOND_HEADER,
+    ),
+    (
+        &[
+            (E_PHNUM, &[2]),
+            (FIRST_HEADER + P_MEMSZ, &[11]),
+            (SECOND_HEADER + P_TYPE, &[1]),
+            (SECOND_HEADER + P_FILESZ, &[1]),
+        ],
+        SizeOrder,
+        FIRST_HEADER,
     ),
 ];
 
@@ -156,7 +324,7 @@ static TWICE: [Fault; 6] = [
 fn check_faults(rt: &impl Abort, alloc: Global, rows: &[Fault]) -> Result<(), AllocError> {
     for &(changes, kind, place) in rows {
         let file = changed(alloc, changes)?;
-        assert_eq!(rt; fault_of(alloc, &file), fault(kind, place));
+        assert_eq!(rt; fault_of(alloc, &file), fault(kind, place as u64));
     }
     Ok(())
 }
@@ -173,8 +341,8 @@ fn each_fault_has_its_place(rt: HostRuntime) -> Result<(), Fail> {
 fn fault_of_cut(len: usize) -> Option<LoadError> {
     match len {
         0..64 => fault(NotElf, len as u64),
-        64..120 => fault(HeaderOut, 32),
-        _ => fault(HeaderOut, 40),
+        64..120 => fault(HeaderOut, E_PHOFF as u64),
+        _ => fault(HeaderOut, E_SHOFF as u64),
     }
 }
 
@@ -187,31 +355,36 @@ fn a_file_that_is_cut_has_a_fault(rt: HostRuntime) -> Result<(), Fail> {
     Ok(())
 }
 
-/// A program header at that place, with one byte of memory in that page.
-fn put_header(file: &mut [u8], place: usize, page: u32)
+/// Puts a PT_LOAD with PF_R and PF_X at an offset, with one byte of memory at this address.
+fn put_header(file: &mut [u8], place: usize, vaddr: u64)
     requires { place ≤ 3670000 }
 {
-    put(file, place, &[1, 0, 0, 0, 5]);
-    put(file, place + 17, &page.to_le_bytes());
-    put(file, place + 40, &[1]);
+    put(file, place + P_TYPE, &[1]);
+    put(file, place + P_FLAGS, &[5]);
+    put(file, place + P_VADDR, &vaddr.to_le_bytes());
+    put(file, place + P_MEMSZ, &[1]);
 }
 
 /// As many program headers as there may be, each with a page of its own.
 fn put_headers(file: &mut [u8]) {
     for index in 0..65534u32 {
-        put_header(file, 64 + 56 * index as usize, 0x100000 - 16 * index);
+        let place = EHDR_SIZE + PHDR_SIZE * index as usize;
+        put_header(file, place, 0x1000_0000 - 4096 * index as u64);
     }
 }
 
-/// The good file's header, and those program headers.
+/// The good file's header with no sections, and those program headers.
 fn many_headers(alloc: Global) -> Result<Vec<u8>, AllocError> {
     let mut file = vec![in alloc; 0u8; 64 + 56 * 65534]?;
     for &(place, bytes) in &GOOD {
-        if place < 64 {
+        if place < EHDR_SIZE {
             put(&mut file, place, bytes);
         }
     }
-    put(&mut file, 56, &[254, 255, 0, 0, 0, 0, 0]);
+    put(&mut file, E_PHNUM, &[254, 255]);
+    put(&mut file, E_SHENTSIZE, &[0]);
+    put(&mut file, E_SHNUM, &[0]);
+    put(&mut file, E_SHSTRNDX, &[0]);
     put_headers(&mut file);
     Ok(file)
 }
@@ -223,7 +396,11 @@ fn many_headers_have_their_fault(rt: HostRuntime) -> Result<(), Fail> {
         fault_of(rt.alloc(), &many),
         fault(TooMuch, 64 + 56 * 16384)
     );
-    put(&mut many, 64 + 56 * 65533 + 17, &0x100000u32.to_le_bytes());
+    put(
+        &mut many,
+        64 + 56 * 65533 + P_VADDR,
+        &0x1000_0000u64.to_le_bytes(),
+    );
     assert_eq!(rt;
         fault_of(rt.alloc(), &many),
         fault(SharedPage, 64 + 56 * 65533)
@@ -274,7 +451,7 @@ const LARGE: Area = Area {
     ..WRITABLE
 };
 
-/// Changes of the good file, its areas, where its program headers are, and how many
+/// Changes of the good file, its areas, the address of its program headers, and how many
 /// bytes of lines it has.
 type Loaded = (&'static [Change], &'static [Area], u64, usize);
 
@@ -284,10 +461,11 @@ static LOADED: [Loaded; 8] = [
     // The areas have 64 MiB together.
     (
         &[
-            (56, &[2]),
-            (120, &[1, 0, 0, 0, 2]),
-            (138, &[2]),
-            (161, &[240, 255, 3]),
+            (E_PHNUM, &[2]),
+            (SECOND_HEADER + P_TYPE, &[1]),
+            (SECOND_HEADER + P_FLAGS, &[2]),
+            (SECOND_HEADER + P_VADDR, &[0, 0, 2]),
+            (SECOND_HEADER + P_MEMSZ, &[0, 240, 255, 3]),
         ],
         &[FIRST, LARGE],
         0,
@@ -295,7 +473,11 @@ static LOADED: [Loaded; 8] = [
     ),
     // The program headers are loaded.
     (
-        &[(73, &[0]), (96, &[184, 17]), (104, &[184, 17])],
+        &[
+            (FIRST_HEADER + P_OFFSET, &[0, 0]),
+            (FIRST_HEADER + P_FILESZ, &[0xB8, 0x11]),
+            (FIRST_HEADER + P_MEMSZ, &[0xB8, 0x11]),
+        ],
         &[WHOLE],
         0x10040,
         66,
@@ -303,20 +485,21 @@ static LOADED: [Loaded; 8] = [
     // No bytes run past nothing, wherever they are.
     (
         &[
-            (56, &[2]),
-            (120, &[1, 0, 0, 0, 2]),
-            (128, &ONES),
-            (138, &[2]),
-            (160, &[1]),
+            (E_PHNUM, &[2]),
+            (SECOND_HEADER + P_TYPE, &[1]),
+            (SECOND_HEADER + P_FLAGS, &[2]),
+            (SECOND_HEADER + P_OFFSET, &ONES),
+            (SECOND_HEADER + P_VADDR, &[0, 0, 2]),
+            (SECOND_HEADER + P_MEMSZ, &[1]),
         ],
         &[FIRST, FAR],
         0,
         66,
     ),
-    (&[(40, &ONES), (60, &[0])], &[FIRST], 0, 0),
-    (&[(4368, &ONES)], &[FIRST], 0, 66),
+    (&[(E_SHOFF, &ONES), (E_SHNUM, &[0])], &[FIRST], 0, 0),
+    (&[(DATA_HEADER + SH_OFFSET, &ONES)], &[FIRST], 0, 66),
     // A name that runs past the names is none.
-    (&[(4408, &[34])], &[FIRST], 0, 0),
+    (&[(LINES_HEADER + SH_NAME, &[34])], &[FIRST], 0, 0),
 ];
 
 /// How many bytes of lines a file has.
@@ -338,7 +521,7 @@ fn right_files_are_loaded(rt: HostRuntime) -> Result<(), Fail> {
 }
 
 /// Names, and where the bytes of the section of that name begin and end in the good file.
-static NAMES: [(&str, Option<(usize, usize)>); 7] = [
+static FOUND: [(&str, Option<(usize, usize)>); 7] = [
     (".text", Some((4096, 4108))),
     (".data", Some((4108, 4108))),
     ("", None),
@@ -363,7 +546,7 @@ fn is_section(
 #[test]
 fn sections_are_found_by_name(rt: HostRuntime) -> Result<(), Fail> {
     let file = changed(rt.alloc(), &[])?;
-    for &(name, places) in &NAMES {
+    for &(name, places) in &FOUND {
         assert_eq!(rt;
             is_section(rt.alloc(), &file, name, places),
             Ok(true),

@@ -10,19 +10,96 @@ use std::test::Fail;
 /// A unit of version 5: the directory `.`, twice the file `one.s`, of which the rows have
 /// the second. Its program begins at 56. llvm-dwarfdump prints its rows.
 static FIVE: [u8; 83] = [
-    0x4F, 0x00, 0x00, 0x00, 0x05, 0x00, 0x08, 0x00, 0x2C, 0x00, 0x00, 0x00, 0x04, 0x01, 0x01, 0xFB,
-    0x0E, 0x0D, 0x00, 0x01, 0x01, 0x01, 0x01, 0x00, 0x00, 0x00, 0x01, 0x00, 0x00, 0x01, 0x01, 0x01,
-    0x08, 0x01, 0x2E, 0x00, 0x02, 0x01, 0x08, 0x02, 0x0B, 0x02, 0x6F, 0x6E, 0x65, 0x2E, 0x73, 0x00,
-    0x00, 0x6F, 0x6E, 0x65, 0x2E, 0x73, 0x00, 0x00, 0x00, 0x09, 0x02, 0x00, 0x00, 0x01, 0x00, 0x00,
-    0x00, 0x00, 0x00, 0x01, 0x02, 0x01, 0x03, 0x01, 0x01, 0x02, 0x01, 0x03, 0x01, 0x01, 0x02, 0x01,
-    0x00, 0x01, 0x01,
+    // unit_length, version, address_size, segment_selector_size, header_length.
+    0x4F, 0x00, 0x00, 0x00, 0x05, 0x00, 0x08, 0x00, 0x2C, 0x00, 0x00, 0x00,
+    // minimum_instruction_length, maximum_operations_per_instruction, default_is_stmt, line_base,
+    // line_range, opcode_base, standard_opcode_lengths.
+    0x04, 0x01, 0x01, 0xFB, 0x0E, 0x0D, 0x00, 0x01, 0x01, 0x01, 0x01, 0x00, 0x00, 0x00, 0x01, 0x00,
+    0x00, 0x01,
+    // One directory, whose path is a string: `.`.
+    0x01, 0x01, 0x08, 0x01, 0x2E, 0x00,
+    // Two files, each with its path, a string, and its directory's index, one byte: `one.s` in 0.
+    0x02, 0x01, 0x08, 0x02, 0x0B, 0x02, 0x6F, 0x6E, 0x65, 0x2E, 0x73, 0x00, 0x00, 0x6F, 0x6E, 0x65,
+    0x2E, 0x73, 0x00, 0x00,
+    // DW_LNE_set_address 0x10000, DW_LNS_copy.
+    0x00, 0x09, 0x02, 0x00, 0x00, 0x01, 0x00, 0x00, 0x00, 0x00, 0x00, 0x01,
+    // DW_LNS_advance_pc 1, DW_LNS_advance_line 1, DW_LNS_copy; twice.
+    0x02, 0x01, 0x03, 0x01, 0x01, 0x02, 0x01, 0x03, 0x01, 0x01,
+    // DW_LNS_advance_pc 1, DW_LNE_end_sequence.
+    0x02, 0x01, 0x00, 0x01, 0x01,
 ];
+
+// The offsets of fields in `FIVE`.
+const VERSION: usize = 4;
+
+const ADDRESS_SIZE: usize = 6;
+
+const SEGMENT_SELECTOR_SIZE: usize = 7;
+
+const DIRECTORY_FORMATS: usize = 30;
+
+const DIRECTORY_CONTENT: usize = 31;
+
+const DIRECTORY_FORM: usize = 32;
+
+const FILE_FORMATS: usize = 36;
+
+const SECOND_CONTENT: usize = 39;
+
+const SECOND_FORM: usize = 40;
+
+// Contents of fields (DWARF 5, 7.22, DW_LNCT).
+const PATH: u8 = 1;
+
+const DIRECTORY_INDEX: u8 = 2;
+
+const TIMESTAMP: u8 = 3;
+
+const MD5: u8 = 5;
+
+// Forms of fields (DWARF 5, 7.5.6, DW_FORM).
+const DATA2: u8 = 0x05;
+
+const DATA4: u8 = 0x06;
+
+const DATA8: u8 = 0x07;
+
+const STRING: u8 = 0x08;
+
+const BLOCK: u8 = 0x09;
+
+const DATA1: u8 = 0x0B;
+
+const STRP: u8 = 0x0E;
+
+const UDATA: u8 = 0x0F;
+
+const STRX: u8 = 0x1A;
+
+const DATA16: u8 = 0x1E;
+
+const LINE_STRP: u8 = 0x1F;
+
+// Opcodes (DWARF 5, 7.22). The last two are extended: DW_LNE.
+const COPY: u8 = 1;
+
+const SET_FILE: u8 = 4;
+
+const END_SEQUENCE: u8 = 1;
+
+const DEFINE_FILE: u8 = 3;
 
 /// The general section of texts; its last text has no end.
 const GENERAL: &[u8] = b"xy\0z";
 
 /// The section of lines' texts.
 const LINE: &[u8] = b"l\0";
+
+/// No directories.
+const NONE: &[u8] = &[0, 0];
+
+/// The directories `.` and `d`, each a path, which is a string.
+const TWO: &[u8] = b"\x01\x01\x08\x02.\0d\0";
 
 /// How a section is made.
 enum Made {
@@ -31,8 +108,10 @@ enum Made {
     Cut(usize, usize),
     /// The unit with a byte set.
     Set(usize, u8),
-    /// A unit whose directories and files are these bytes, from place 18 on, without a program.
-    Names(&'static [u8]),
+    /// A unit without a program. From offset 18 on its header has these bytes: the formats of
+    /// directories and the directories; the formats of files; and the files. Each list stands
+    /// after its count.
+    Names(&'static [u8], &'static [u8], &'static [u8]),
     /// The unit with this program.
     Program(&'static [u8]),
     /// The unit between one of version 4 and one of version 6.
@@ -86,239 +165,320 @@ static CASES: [(Made, Wanted); 88] = [
             0,
         ),
     ),
-    (Made::Set(6, 4), Wanted::Fault(LineKind::AddressSize, 6)),
-    (Made::Set(7, 1), Wanted::Fault(LineKind::SegmentSize, 7)),
-    (Made::Set(32, 26), Wanted::Fault(LineKind::FormOut, 32)),
-    (Made::Set(32, 14), Wanted::Fault(LineKind::TextOut, 34)),
-    (Made::Set(32, 31), Wanted::Fault(LineKind::TextOut, 34)),
-    (Made::Set(31, 2), Wanted::Fault(LineKind::FormOut, 32)),
     (
-        Made::Set(39, 3),
+        Made::Set(ADDRESS_SIZE, 4),
+        Wanted::Fault(LineKind::AddressSize, 6),
+    ),
+    (
+        Made::Set(SEGMENT_SELECTOR_SIZE, 1),
+        Wanted::Fault(LineKind::SegmentSize, 7),
+    ),
+    (
+        Made::Set(DIRECTORY_FORM, STRX),
+        Wanted::Fault(LineKind::FormOut, 32),
+    ),
+    (
+        Made::Set(DIRECTORY_FORM, STRP),
+        Wanted::Fault(LineKind::TextOut, 34),
+    ),
+    (
+        Made::Set(DIRECTORY_FORM, LINE_STRP),
+        Wanted::Fault(LineKind::TextOut, 34),
+    ),
+    (
+        Made::Set(DIRECTORY_CONTENT, DIRECTORY_INDEX),
+        Wanted::Fault(LineKind::FormOut, 32),
+    ),
+    (
+        Made::Set(SECOND_CONTENT, TIMESTAMP),
         Wanted::Table(
             &[(b"", b"one.s"), (b"", b"one.s")],
             &[(Some(1), 1), (Some(1), 2), (Some(1), 3), (Some(1), 3)],
             0,
         ),
     ),
-    (Made::Set(40, 5), Wanted::Fault(LineKind::Short, 55)),
-    (Made::Set(30, 0), Wanted::Fault(LineKind::EmptyEntries, 31)),
-    (Made::Set(36, 0), Wanted::Fault(LineKind::EmptyEntries, 37)),
-    (Made::Set(4, 6), Wanted::Table(&[], &[], 1)),
+    (
+        Made::Set(SECOND_FORM, DATA2),
+        Wanted::Fault(LineKind::Short, 55),
+    ),
+    (
+        Made::Set(DIRECTORY_FORMATS, 0),
+        Wanted::Fault(LineKind::EmptyEntries, 31),
+    ),
+    (
+        Made::Set(FILE_FORMATS, 0),
+        Wanted::Fault(LineKind::EmptyEntries, 37),
+    ),
+    (Made::Set(VERSION, 6), Wanted::Table(&[], &[], 1)),
     // Each form under a path.
     (
-        Made::Names(&[0, 0, 1, 1, 8, 1, 97, 0]),
+        Made::Names(NONE, &[1, PATH, STRING], b"\x01a\0"),
         Wanted::Table(&[(b"", b"a")], &[], 0),
     ),
     (
-        Made::Names(&[0, 0, 1, 1, 14, 1, 1, 0, 0, 0]),
+        Made::Names(NONE, &[1, PATH, STRP], &[1, 1, 0, 0, 0]),
         Wanted::Table(&[(b"", b"y")], &[], 0),
     ),
     (
-        Made::Names(&[0, 0, 1, 1, 31, 1, 0, 0, 0, 0]),
+        Made::Names(NONE, &[1, PATH, LINE_STRP], &[1, 0, 0, 0, 0]),
         Wanted::Table(&[(b"", b"l")], &[], 0),
     ),
     (
-        Made::Names(&[0, 0, 1, 1, 11, 1, 0]),
+        Made::Names(NONE, &[1, PATH, DATA1], &[1, 0]),
         Wanted::Fault(LineKind::FormOut, 22),
     ),
     (
-        Made::Names(&[0, 0, 1, 1, 5, 1, 1, 0]),
+        Made::Names(NONE, &[1, PATH, DATA2], &[1, 1, 0]),
         Wanted::Fault(LineKind::FormOut, 22),
     ),
     (
-        Made::Names(&[0, 0, 1, 1, 6, 1, 7, 7, 7, 7]),
+        Made::Names(NONE, &[1, PATH, DATA4], &[1, 7, 7, 7, 7]),
         Wanted::Fault(LineKind::FormOut, 22),
     ),
     (
-        Made::Names(&[0, 0, 1, 1, 7, 1, 7, 7, 7, 7, 7, 7, 7, 7]),
+        Made::Names(NONE, &[1, PATH, DATA8], &[1, 7, 7, 7, 7, 7, 7, 7, 7]),
         Wanted::Fault(LineKind::FormOut, 22),
     ),
     (
-        Made::Names(&[
-            0, 0, 1, 1, 30, 1, 7, 7, 7, 7, 7, 7, 7, 7, 7, 7, 7, 7, 7, 7, 7, 7,
-        ]),
+        Made::Names(
+            NONE,
+            &[1, PATH, DATA16],
+            &[1, 7, 7, 7, 7, 7, 7, 7, 7, 7, 7, 7, 7, 7, 7, 7, 7],
+        ),
         Wanted::Fault(LineKind::FormOut, 22),
     ),
     (
-        Made::Names(&[0, 0, 1, 1, 15, 1, 128, 1]),
+        Made::Names(NONE, &[1, PATH, UDATA], &[1, 128, 1]),
         Wanted::Fault(LineKind::FormOut, 22),
     ),
     (
-        Made::Names(&[0, 0, 1, 1, 9, 1, 2, 7, 7]),
+        Made::Names(NONE, &[1, PATH, BLOCK], &[1, 2, 7, 7]),
         Wanted::Fault(LineKind::FormOut, 22),
     ),
     // Each form under a directory's number, the directories being `.` and `d`.
     (
-        Made::Names(&[1, 1, 8, 2, 46, 0, 100, 0, 2, 1, 8, 2, 8, 1, 97, 0, 97, 0]),
+        Made::Names(
+            TWO,
+            &[2, PATH, STRING, DIRECTORY_INDEX, STRING],
+            b"\x01a\0a\0",
+        ),
         Wanted::Fault(LineKind::FormOut, 30),
     ),
     (
-        Made::Names(&[
-            1, 1, 8, 2, 46, 0, 100, 0, 2, 1, 8, 2, 14, 1, 97, 0, 1, 0, 0, 0,
-        ]),
+        Made::Names(
+            TWO,
+            &[2, PATH, STRING, DIRECTORY_INDEX, STRP],
+            b"\x01a\0\x01\0\0\0",
+        ),
         Wanted::Fault(LineKind::FormOut, 30),
     ),
     (
-        Made::Names(&[
-            1, 1, 8, 2, 46, 0, 100, 0, 2, 1, 8, 2, 31, 1, 97, 0, 0, 0, 0, 0,
-        ]),
+        Made::Names(
+            TWO,
+            &[2, PATH, STRING, DIRECTORY_INDEX, LINE_STRP],
+            b"\x01a\0\0\0\0\0",
+        ),
         Wanted::Fault(LineKind::FormOut, 30),
     ),
     (
-        Made::Names(&[1, 1, 8, 2, 46, 0, 100, 0, 2, 1, 8, 2, 11, 1, 97, 0, 1]),
+        Made::Names(
+            TWO,
+            &[2, PATH, STRING, DIRECTORY_INDEX, DATA1],
+            b"\x01a\0\x01",
+        ),
         Wanted::Table(&[(b"d", b"a")], &[], 0),
     ),
     (
-        Made::Names(&[1, 1, 8, 2, 46, 0, 100, 0, 2, 1, 8, 2, 5, 1, 97, 0, 1, 0]),
+        Made::Names(
+            TWO,
+            &[2, PATH, STRING, DIRECTORY_INDEX, DATA2],
+            b"\x01a\0\x01\0",
+        ),
         Wanted::Table(&[(b"d", b"a")], &[], 0),
     ),
     (
-        Made::Names(&[
-            1, 1, 8, 2, 46, 0, 100, 0, 2, 1, 8, 2, 6, 1, 97, 0, 7, 7, 7, 7,
-        ]),
+        Made::Names(
+            TWO,
+            &[2, PATH, STRING, DIRECTORY_INDEX, DATA4],
+            b"\x01a\0\x07\x07\x07\x07",
+        ),
         Wanted::Fault(LineKind::FormOut, 30),
     ),
     (
-        Made::Names(&[
-            1, 1, 8, 2, 46, 0, 100, 0, 2, 1, 8, 2, 7, 1, 97, 0, 7, 7, 7, 7, 7, 7, 7, 7,
-        ]),
+        Made::Names(
+            TWO,
+            &[2, PATH, STRING, DIRECTORY_INDEX, DATA8],
+            b"\x01a\0\x07\x07\x07\x07\x07\x07\x07\x07",
+        ),
         Wanted::Fault(LineKind::FormOut, 30),
     ),
     (
-        Made::Names(&[
-            1, 1, 8, 2, 46, 0, 100, 0, 2, 1, 8, 2, 30, 1, 97, 0, 7, 7, 7, 7, 7, 7, 7, 7, 7, 7, 7,
-            7, 7, 7, 7, 7,
-        ]),
+        Made::Names(
+            TWO,
+            &[2, PATH, STRING, DIRECTORY_INDEX, DATA16],
+            b"\x01a\0\x07\x07\x07\x07\x07\x07\x07\x07\x07\x07\x07\x07\x07\x07\x07\x07",
+        ),
         Wanted::Fault(LineKind::FormOut, 30),
     ),
     (
-        Made::Names(&[1, 1, 8, 2, 46, 0, 100, 0, 2, 1, 8, 2, 15, 1, 97, 0, 129, 0]),
+        Made::Names(
+            TWO,
+            &[2, PATH, STRING, DIRECTORY_INDEX, UDATA],
+            &[1, 97, 0, 129, 0],
+        ),
         Wanted::Table(&[(b"d", b"a")], &[], 0),
     ),
     (
-        Made::Names(&[1, 1, 8, 2, 46, 0, 100, 0, 2, 1, 8, 2, 9, 1, 97, 0, 2, 7, 7]),
+        Made::Names(
+            TWO,
+            &[2, PATH, STRING, DIRECTORY_INDEX, BLOCK],
+            b"\x01a\0\x02\x07\x07",
+        ),
         Wanted::Fault(LineKind::FormOut, 30),
     ),
     // Each form under a content that is passed.
     (
-        Made::Names(&[0, 0, 1, 5, 8, 1, 97, 0]),
+        Made::Names(NONE, &[1, MD5, STRING], b"\x01a\0"),
         Wanted::Table(&[(b"", b"")], &[], 0),
     ),
     (
-        Made::Names(&[0, 0, 1, 5, 14, 1, 1, 0, 0, 0]),
+        Made::Names(NONE, &[1, MD5, STRP], &[1, 1, 0, 0, 0]),
         Wanted::Table(&[(b"", b"")], &[], 0),
     ),
     (
-        Made::Names(&[0, 0, 1, 5, 31, 1, 0, 0, 0, 0]),
+        Made::Names(NONE, &[1, MD5, LINE_STRP], &[1, 0, 0, 0, 0]),
         Wanted::Table(&[(b"", b"")], &[], 0),
     ),
     (
-        Made::Names(&[0, 0, 1, 5, 11, 1, 0]),
+        Made::Names(NONE, &[1, MD5, DATA1], &[1, 0]),
         Wanted::Table(&[(b"", b"")], &[], 0),
     ),
     (
-        Made::Names(&[0, 0, 1, 5, 5, 1, 1, 0]),
+        Made::Names(NONE, &[1, MD5, DATA2], &[1, 1, 0]),
         Wanted::Table(&[(b"", b"")], &[], 0),
     ),
     (
-        Made::Names(&[0, 0, 1, 5, 6, 1, 7, 7, 7, 7]),
+        Made::Names(NONE, &[1, MD5, DATA4], &[1, 7, 7, 7, 7]),
         Wanted::Table(&[(b"", b"")], &[], 0),
     ),
     (
-        Made::Names(&[0, 0, 1, 5, 7, 1, 7, 7, 7, 7, 7, 7, 7, 7]),
+        Made::Names(NONE, &[1, MD5, DATA8], &[1, 7, 7, 7, 7, 7, 7, 7, 7]),
         Wanted::Table(&[(b"", b"")], &[], 0),
     ),
     (
-        Made::Names(&[
-            0, 0, 1, 5, 30, 1, 7, 7, 7, 7, 7, 7, 7, 7, 7, 7, 7, 7, 7, 7, 7, 7,
-        ]),
+        Made::Names(
+            NONE,
+            &[1, MD5, DATA16],
+            &[1, 7, 7, 7, 7, 7, 7, 7, 7, 7, 7, 7, 7, 7, 7, 7, 7],
+        ),
         Wanted::Table(&[(b"", b"")], &[], 0),
     ),
     (
-        Made::Names(&[0, 0, 1, 5, 15, 1, 128, 1]),
+        Made::Names(NONE, &[1, MD5, UDATA], &[1, 128, 1]),
         Wanted::Table(&[(b"", b"")], &[], 0),
     ),
     (
-        Made::Names(&[0, 0, 1, 5, 9, 1, 2, 7, 7]),
+        Made::Names(NONE, &[1, MD5, BLOCK], &[1, 2, 7, 7]),
         Wanted::Table(&[(b"", b"")], &[], 0),
     ),
     // Two paths, and an entry without a path, with and without a directory.
     (
-        Made::Names(&[0, 0, 2, 1, 8, 1, 8, 1, 97, 0, 98, 0]),
+        Made::Names(NONE, &[2, PATH, STRING, PATH, STRING], b"\x01a\0b\0"),
         Wanted::Table(&[(b"", b"b")], &[], 0),
     ),
     (
-        Made::Names(&[1, 1, 8, 2, 46, 0, 100, 0, 1, 2, 11, 1, 1]),
+        Made::Names(TWO, &[1, DIRECTORY_INDEX, DATA1], &[1, 1]),
         Wanted::Table(&[(b"d", b"")], &[], 0),
     ),
     (
-        Made::Names(&[0, 0, 1, 5, 11, 1, 7]),
+        Made::Names(NONE, &[1, MD5, DATA1], &[1, 7]),
         Wanted::Table(&[(b"", b"")], &[], 0),
     ),
     // The directories 0, 1 and one past the last.
     (
-        Made::Names(&[1, 1, 8, 2, 46, 0, 100, 0, 2, 1, 8, 2, 11, 1, 97, 0, 0]),
+        Made::Names(
+            TWO,
+            &[2, PATH, STRING, DIRECTORY_INDEX, DATA1],
+            b"\x01a\0\0",
+        ),
         Wanted::Table(&[(b"", b"a")], &[], 0),
     ),
     (
-        Made::Names(&[1, 1, 8, 2, 46, 0, 100, 0, 2, 1, 8, 2, 11, 1, 97, 0, 1]),
+        Made::Names(
+            TWO,
+            &[2, PATH, STRING, DIRECTORY_INDEX, DATA1],
+            b"\x01a\0\x01",
+        ),
         Wanted::Table(&[(b"d", b"a")], &[], 0),
     ),
     (
-        Made::Names(&[1, 1, 8, 2, 46, 0, 100, 0, 2, 1, 8, 2, 11, 1, 97, 0, 2]),
+        Made::Names(
+            TWO,
+            &[2, PATH, STRING, DIRECTORY_INDEX, DATA1],
+            b"\x01a\0\x02",
+        ),
         Wanted::Table(&[(b"", b"a")], &[], 0),
     ),
     // A place past a section of texts, at its end, without a zero byte after it,
     // and in the other section.
     (
-        Made::Names(&[0, 0, 1, 1, 31, 1, 3, 0, 0, 0]),
+        Made::Names(NONE, &[1, PATH, LINE_STRP], &[1, 3, 0, 0, 0]),
         Wanted::Fault(LineKind::TextOut, 24),
     ),
     (
-        Made::Names(&[0, 0, 1, 1, 31, 1, 2, 0, 0, 0]),
+        Made::Names(NONE, &[1, PATH, LINE_STRP], &[1, 2, 0, 0, 0]),
         Wanted::Fault(LineKind::TextOut, 24),
     ),
     (
-        Made::Names(&[0, 0, 1, 1, 31, 1, 1, 0, 0, 0]),
+        Made::Names(NONE, &[1, PATH, LINE_STRP], &[1, 1, 0, 0, 0]),
         Wanted::Table(&[(b"", b"")], &[], 0),
     ),
     (
-        Made::Names(&[0, 0, 1, 1, 14, 1, 3, 0, 0, 0]),
+        Made::Names(NONE, &[1, PATH, STRP], &[1, 3, 0, 0, 0]),
         Wanted::Fault(LineKind::TextOut, 24),
     ),
     (
-        Made::Names(&[0, 0, 1, 1, 14, 1, 2, 0, 0, 0]),
+        Made::Names(NONE, &[1, PATH, STRP], &[1, 2, 0, 0, 0]),
         Wanted::Table(&[(b"", b"")], &[], 0),
     ),
     (
-        Made::Names(&[0, 0, 1, 5, 14, 1, 3, 0, 0, 0]),
+        Made::Names(NONE, &[1, MD5, STRP], &[1, 3, 0, 0, 0]),
         Wanted::Fault(LineKind::TextOut, 24),
     ),
     // Counts of 0 and of 2^64 - 1, with and without a format.
-    (Made::Names(&[0, 0, 0, 0]), Wanted::Table(&[], &[], 0)),
-    (Made::Names(&[0, 0, 1, 1, 8, 0]), Wanted::Table(&[], &[], 0)),
+    (Made::Names(NONE, &[0], &[0]), Wanted::Table(&[], &[], 0)),
     (
-        Made::Names(&[
-            0, 0, 1, 1, 8, 255, 255, 255, 255, 255, 255, 255, 255, 255, 1, 97, 0, 98, 0,
-        ]),
+        Made::Names(NONE, &[1, PATH, STRING], &[0]),
+        Wanted::Table(&[], &[], 0),
+    ),
+    (
+        Made::Names(
+            NONE,
+            &[1, PATH, STRING],
+            &[255, 255, 255, 255, 255, 255, 255, 255, 255, 1, 97, 0, 98, 0],
+        ),
         Wanted::Fault(LineKind::Short, 37),
     ),
     (
-        Made::Names(&[0, 0, 0, 1]),
+        Made::Names(NONE, &[0], &[1]),
         Wanted::Fault(LineKind::EmptyEntries, 21),
     ),
     (
-        Made::Names(&[0, 1, 0, 0]),
+        Made::Names(&[0, 1], &[0], &[0]),
         Wanted::Fault(LineKind::EmptyEntries, 19),
     ),
     (
-        Made::Names(&[0, 255, 255, 255, 255, 255, 255, 255, 255, 255, 1, 0, 0]),
+        Made::Names(
+            &[0, 255, 255, 255, 255, 255, 255, 255, 255, 255, 1],
+            &[0],
+            &[0],
+        ),
         Wanted::Fault(LineKind::EmptyEntries, 19),
     ),
     // The file registers 0, 1 and 2, which is past the end, and an extended opcode
     // 3, which is passed.
     (
-        Made::Program(&[4, 0, 1, 0, 1, 1]),
+        Made::Program(&[SET_FILE, 0, COPY, 0, 1, END_SEQUENCE]),
         Wanted::Table(
             &[(b"", b"one.s"), (b"", b"one.s")],
             &[(Some(0), 1), (Some(0), 1)],
@@ -326,7 +486,7 @@ static CASES: [(Made, Wanted); 88] = [
         ),
     ),
     (
-        Made::Program(&[4, 1, 1, 0, 1, 1]),
+        Made::Program(&[SET_FILE, 1, COPY, 0, 1, END_SEQUENCE]),
         Wanted::Table(
             &[(b"", b"one.s"), (b"", b"one.s")],
             &[(Some(1), 1), (Some(1), 1)],
@@ -334,7 +494,7 @@ static CASES: [(Made, Wanted); 88] = [
         ),
     ),
     (
-        Made::Program(&[4, 2, 1, 0, 1, 1]),
+        Made::Program(&[SET_FILE, 2, COPY, 0, 1, END_SEQUENCE]),
         Wanted::Table(
             &[(b"", b"one.s"), (b"", b"one.s")],
             &[(None, 1), (None, 1)],
@@ -342,7 +502,19 @@ static CASES: [(Made, Wanted); 88] = [
         ),
     ),
     (
-        Made::Program(&[0, 3, 3, 98, 0, 4, 2, 1, 0, 1, 1]),
+        Made::Program(&[
+            0,
+            3,
+            DEFINE_FILE,
+            b'b',
+            0,
+            SET_FILE,
+            2,
+            COPY,
+            0,
+            1,
+            END_SEQUENCE,
+        ]),
         Wanted::Table(
             &[(b"", b"one.s"), (b"", b"one.s")],
             &[(None, 1), (None, 1)],
@@ -393,10 +565,16 @@ fn section_of(alloc: Global, made: &Made, length: usize) -> Result<Vec<u8>, Line
             }
             Ok(section)
         }
-        Made::Names(names) => {
-            let size = names.len().min(200) as u8 + 6;
+        Made::Names(directories, formats, files) => {
+            let size = directories.len().min(60) as u8
+                + formats.len().min(60) as u8
+                + files.len().min(60) as u8
+                + 6;
+            // unit_length, version, address_size, segment_selector_size, header_length,
+            // minimum_instruction_length, maximum_operations_per_instruction, default_is_stmt,
+            // line_base, line_range, opcode_base.
             let header = [0, 0, 0, 0, 5, 0, 8, 0, size, 0, 0, 0, 4, 1, 1, 251, 14, 1];
-            counted(alloc, &[&header, names])
+            counted(alloc, &[&header, directories, formats, files])
         }
         Made::Program(program) => counted(alloc, &[&FIVE[..56], program]),
         Made::Between => {

@@ -266,7 +266,7 @@ static ROWS: [(u16, Instr, u64, u64, Step, u64, Address); 67] = [
     (0, SD, READ_ALONE - 4, 1, ACCESS, KEPT, HERE),
     (0, LD, READ_ALONE - 4, 0, DONE, 0, NEXT),
     (0, LD, READ_ALONE + 0xFFC, 0, ACCESS, KEPT, HERE),
-    // Misaligned is judged before Access. `sc` needs the right to write also where it would fail.
+    // Misaligned is judged before Access. `sc` needs the right to write also if it would fail.
     (0, SC_D, READ_ALONE + 4, 0, MISALIGNED, KEPT, HERE),
     (0, SC_D, READ_ALONE, 0, ACCESS, KEPT, HERE),
     (0, LR_D, READ_ALONE, 0, DONE, 0, NEXT),

@@ -12,6 +12,9 @@ pub(crate) struct Served {
     pub(crate) err: Vec<u8>,
 }
 
+/// A program of three instructions that exits.
+pub(crate) const ONE_SOURCE: &[u8] = b"    addi a0, x0, 0\n    addi a7, x0, 93\n    ecall\n";
+
 /// The room of a sink, in bytes.
 pub(crate) const ROOM: u64 = 10000;
 
@@ -52,4 +55,14 @@ pub(crate) fn one_file(
         bytes: bytes.to_vec(alloc)?,
     };
     Ok(MemoryFiles::new(vec![in alloc; file]?, fails.to_vec(alloc)?))
+}
+
+/// The program of a source.
+pub(crate) fn assembled<R: Threads + Sync + AllocGlobal>(
+    rt: &R,
+    path: &str,
+    source: &[u8],
+) -> Result<Vec<u8>, AllocError> {
+    let mut files = one_file(rt.alloc(), path, source, &[])?;
+    Ok(call(rt, &["asm", path], &mut files)?.out)
 }

@@ -2,26 +2,11 @@
 use crate::calls::{Served, texts};
 use crate::join_files::{all_files, text_named};
 use crate::large::{BIG, Large};
-use coz_files::{Files, MemorySink};
+use crate::sinks::{ONE_FAILS, Room, SHUT, WIDE, first_texts, sink};
+use coz_files::Files;
 use join_cli::serve_join;
 use std::alloc::{AllocError, Global};
 use std::test::Fail;
-
-/// A sink with room for this many bytes, of which the puts with these numbers fail.
-#[derive(Clone, Copy)]
-struct Room {
-    bytes: u64,
-    fails: &'static [u64],
-}
-
-const WIDE: Room = Room {
-    bytes: 10000,
-    fails: &[],
-};
-
-fn sink(alloc: Global, room: Room) -> Result<MemorySink, AllocError> {
-    MemorySink::new(alloc, room.bytes, room.fails.to_vec(alloc)?)
-}
 
 fn joined<F: Files>(
     alloc: Global,
@@ -43,7 +28,7 @@ fn joined<F: Files>(
 /// The words, the status, the profile that is printed, and the line on the error stream.
 type Row = (&'static [&'static str], u8, &'static str, &'static [u8]);
 
-static ROWS: [Row; 29] = [
+static ROWS: [Row; 30] = [
     (&["a", "b"], 0, "all", b""),
     (&["b", "a"], 0, "all", b""),
     (&["--", "a", "b"], 0, "all", b""),
@@ -93,6 +78,12 @@ static ROWS: [Row; 29] = [
         "",
         b"coz-join: parts: Twice one.s:2 in c\n",
     ),
+    (
+        &["c", "b"],
+        14,
+        "",
+        b"coz-join: parts: Twice one.s:2 in b\n",
+    ),
 ];
 
 #[test]
@@ -114,11 +105,6 @@ const NARROW: Room = Room {
     fails: &[],
 };
 
-const SHUT: Room = Room {
-    bytes: 10000,
-    fails: &[0, 1, 2, 3, 4],
-};
-
 /// The words, the reads that fail, both sinks, the status, how many bytes of the profile of all
 /// lines are printed, and the line on the error stream.
 type Fault = (
@@ -130,7 +116,7 @@ type Fault = (
     &'static [u8],
 );
 
-static FAULTS: [Fault; 7] = [
+static FAULTS: [Fault; 12] = [
     (
         &["a", "b"],
         &[],
@@ -157,8 +143,31 @@ static FAULTS: [Fault; 7] = [
         b"coz-join: read: b\n",
     ),
     (&["a", "b"], &[2], (WIDE, WIDE), 0, 1584, b""),
+    (
+        &["a", "b", "c"],
+        &[2],
+        (WIDE, WIDE),
+        5,
+        0,
+        b"coz-join: read: c\n",
+    ),
     (&["a", "a"], &[], (WIDE, SHUT), 14, 0, b""),
     (&["n"], &[], (WIDE, SHUT), 12, 0, b""),
+    (&["-x"], &[], (WIDE, SHUT), 2, 0, b""),
+    (&["absent"], &[], (WIDE, SHUT), 5, 0, b""),
+    (&["a", "b"], &[1], (WIDE, SHUT), 5, 0, b""),
+    (&["a", "b"], &[], (NARROW, SHUT), 6, 100, b""),
+];
+
+/// The line of `a a`, by the texts that are put one after another.
+static TWICE: [&[u8]; 7] = [
+    b"coz-join: ",
+    b"parts: ",
+    b"Twice ",
+    b"one.s:1",
+    b" in ",
+    b"a",
+    b"\n",
 ];
 
 /// The first bytes of a text, as many as `size` or all of them.
@@ -179,6 +188,25 @@ fn faults_of_files_and_sinks_decide(rt: HostRuntime) -> Result<(), Fail> {
         assert_eq!(rt;
             (served.status, served.out.as_slice(), served.err.as_slice()),
             (*status, first_bytes(&whole, *size), *line)
+        );
+    }
+    Ok(())
+}
+
+#[test]
+fn the_status_stays_if_a_put_of_the_line_fails(rt: HostRuntime) -> Result<(), Fail> {
+    let alloc = rt.alloc();
+    for (put, room) in ONE_FAILS.iter().enumerate() {
+        let served = joined(
+            alloc,
+            &["a", "a"],
+            &mut all_files(alloc, &[])?,
+            (WIDE, *room),
+        )?;
+        let line = first_texts(alloc, &TWICE, put)?;
+        assert_eq!(rt;
+            (served.status, served.out.len(), served.err.as_slice()),
+            (14, 0, line.as_slice())
         );
     }
     Ok(())

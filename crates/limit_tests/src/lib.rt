@@ -1,9 +1,15 @@
-//! Tests of the top calls over files of the greatest sizes, and of the join of profiles, and
-//! nothing else.
+//! Tests of the top calls over files of the greatest sizes, of the join of profiles, of the
+//! lines by cost and of programs by function, and nothing else.
 #![tactic(auto)]
 
 #[cfg(test)]
 mod calls;
+#[cfg(test)]
+mod functions_tests;
+#[cfg(test)]
+mod hot_files;
+#[cfg(test)]
+mod hot_tests;
 #[cfg(test)]
 mod join_files;
 #[cfg(test)]
@@ -14,3 +20,5 @@ mod large;
 mod limit_tests;
 #[cfg(test)]
 mod page_tests;
+#[cfg(test)]
+mod sinks;

@@ -1,12 +1,9 @@
 //! Files that have as many bytes as they may have, and one more.
-use crate::calls::{call, one_file};
+use crate::calls::{ONE_SOURCE, assembled, call};
 use crate::large::Large;
 use std::test::Fail;
 
-/// A program of three instructions that exits.
-const ONE_SOURCE: &[u8] = b"    addi a0, x0, 0\n    addi a7, x0, 93\n    ecall\n";
-
-/// What `run` prints of it.
+/// What `run` prints of the program of three instructions.
 const ONE: &[u8] =
     b"end exited:0\ntime 4200\ndelay 0\nnet 4200\nretired 3\nstarts 0\nhart 0 own 0 paused 0 credited 0\noutput 0\n\n";
 
@@ -45,12 +42,11 @@ static LIMITS: [(&[&str], u64, u8, &[u8], &[u8]); 8] = [
 
 #[test]
 fn one_byte_over_the_limit_is_too_long(rt: HostRuntime) -> Result<(), Fail> {
-    let mut source = one_file(rt.alloc(), "one.s", ONE_SOURCE, &[])?;
-    let made = call(&rt, &["asm", "one.s"], &mut source)?;
+    let one = assembled(&rt, "one.s", ONE_SOURCE)?;
     for (words, size, status, out, err) in &LIMITS {
         let mut files = Large {
             size: *size,
-            program: made.out.as_slice(),
+            program: one.as_slice(),
         };
         let served = call(&rt, *words, &mut files)?;
         assert_eq!(rt;

@@ -127,7 +127,8 @@ fn stands<'a>(lead: &mut Lead<'a>, machine: &mut Machine<'a>, speedup: u8) -> (S
     (forked, standing_of(machine))
 }
 
-/// The same of the fork at the choice's speedup.
+/// Where the machine stands as the fork of the lead at the choice's speedup, and where it stands
+/// after a step.
 fn fork_stands<'a>(
     alloc: Global,
     program: &Program<'a>,

@@ -67,7 +67,7 @@ fn give(flow: &mut Flow, arrives: bool, net: Tick)
 }
 
 /// The latency of some calls. None if their moments fall, or are over the edge,
-/// or where there are too many.
+/// or if there are too many.
 fn latency_of(calls: &[(bool, Tick)], end: Tick) -> Option<Latency> {
     if calls.len() as u64 > MAX_CALLS {
         return None;

@@ -264,7 +264,8 @@ fn answer_of<'a>(lead: &mut Lead<'a>, first: &Lead<'a>, line: LineId) -> Option<
     if once == again { Some(again) } else { None }
 }
 
-fn with_line(choice: Choice, line: LineId) -> Choice
+/// With a line selected.
+pub(crate) fn with_line(choice: Choice, line: LineId) -> Choice
     requires { IsChoice choice }
     ensures { IsChoice result }
 {

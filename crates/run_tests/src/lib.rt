@@ -2,6 +2,8 @@
 #![tactic(auto)]
 
 #[cfg(test)]
+mod counted_tests;
+#[cfg(test)]
 mod delay_credits_tests;
 #[cfg(test)]
 mod experiment_claims_tests;

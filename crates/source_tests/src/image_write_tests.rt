@@ -20,25 +20,51 @@ fn a_source_is_written(rt: HostRuntime) -> Result<(), Fail> {
     Ok(())
 }
 
-// The bytes of the small program's file were told by an implementation that was written
-// apart from this one.
+// The bytes of the small program's file are those of an implementation that was written apart from
+// this one.
 
 const HEADER: [u8; 64] = [
-    0x7F, 0x45, 0x4C, 0x46, 2, 1, 1, 0, 0, 0, 0, 0, 0, 0, 0, 0, 2, 0, 0xF3, 0, 1, 0, 0, 0, 0, 0, 1,
-    0, 0, 0, 0, 0, 0x40, 0, 0, 0, 0, 0, 0, 0, 0x78, 0x10, 0, 0, 0, 0, 0, 0, 0, 0, 0, 0, 0x40, 0,
-    0x38, 0, 1, 0, 0x40, 0, 5, 0, 4, 0,
+    // e_ident.
+    0x7F, 0x45, 0x4C, 0x46, 2, 1, 1, 0, 0, 0, 0, 0, 0, 0, 0, 0,
+    // e_type ET_EXEC, e_machine EM_RISCV, e_version.
+    2, 0, 0xF3, 0, 1, 0, 0, 0,
+    // e_entry 0x10000, e_phoff 64, e_shoff 0x1078.
+    0, 0, 1, 0, 0, 0, 0, 0, 0x40, 0, 0, 0, 0, 0, 0, 0, 0x78, 0x10, 0, 0, 0, 0, 0, 0,
+    // e_flags, e_ehsize, e_phentsize, e_phnum, e_shentsize, e_shnum, e_shstrndx.
+    0, 0, 0, 0, 0x40, 0, 0x38, 0, 1, 0, 0x40, 0, 5, 0, 4, 0,
 ];
 
 const UNIT: [u8; 66] = [
-    0x3E, 0, 0, 0, 4, 0, 0x1D, 0, 0, 0, 4, 1, 1, 0xFB, 0x0E, 0x0D, 0, 1, 1, 1, 1, 0, 0, 0, 1, 0, 0,
-    1, 0, 0x6F, 0x6E, 0x65, 0x2E, 0x73, 0, 0, 0, 0, 0, 0, 9, 2, 0, 0, 1, 0, 0, 0, 0, 0, 1, 2, 1, 3,
-    1, 1, 2, 1, 3, 1, 1, 2, 1, 0, 1, 1,
+    // unit_length, version, header_length.
+    0x3E, 0, 0, 0, 4, 0, 0x1D, 0, 0, 0,
+    // minimum_instruction_length, maximum_operations_per_instruction, default_is_stmt, line_base,
+    // line_range, opcode_base, standard_opcode_lengths.
+    4, 1, 1, 0xFB, 0x0E, 0x0D, 0, 1, 1, 1, 1, 0, 0, 0, 1, 0, 0, 1,
+    // include_directories, which are none; file_names: `one.s`.
+    0, 0x6F, 0x6E, 0x65, 0x2E, 0x73, 0, 0, 0, 0, 0,
+    // DW_LNE_set_address 0x10000, DW_LNS_copy.
+    0, 9, 2, 0, 0, 1, 0, 0, 0, 0, 0, 1,
+    // DW_LNS_advance_pc 1, advance_line 1, copy; twice.
+    2, 1, 3, 1, 1, 2, 1, 3, 1, 1,
+    // DW_LNS_advance_pc 1, DW_LNE_end_sequence.
+    2, 1, 0, 1, 1,
 ];
 
 const UNIT_5: [u8; 83] = [
-    0x4F, 0, 0, 0, 5, 0, 8, 0, 0x2C, 0, 0, 0, 4, 1, 1, 0xFB, 0x0E, 0x0D, 0, 1, 1, 1, 1, 0, 0, 0, 1,
-    0, 0, 1, 1, 1, 8, 1, 0x2E, 0, 2, 1, 8, 2, 0x0B, 2, 0x6F, 0x6E, 0x65, 0x2E, 0x73, 0, 0, 0x6F,
-    0x6E, 0x65, 0x2E, 0x73, 0, 0, 0, 9, 2, 0, 0, 1, 0, 0, 0, 0, 0, 1, 2, 1, 3, 1, 1, 2, 1, 3, 1, 1,
+    // unit_length, version, address_size, segment_selector_size, header_length.
+    0x4F, 0, 0, 0, 5, 0, 8, 0, 0x2C, 0, 0, 0,
+    // minimum_instruction_length, maximum_operations_per_instruction, default_is_stmt, line_base,
+    // line_range, opcode_base, standard_opcode_lengths.
+    4, 1, 1, 0xFB, 0x0E, 0x0D, 0, 1, 1, 1, 1, 0, 0, 0, 1, 0, 0, 1,
+    // One directory, whose path is a string: `.`.
+    1, 1, 8, 1, 0x2E, 0,
+    // Two files, each with its path, a string, and its directory's index, one byte: `one.s` in 0.
+    2, 1, 8, 2, 0x0B, 2, 0x6F, 0x6E, 0x65, 0x2E, 0x73, 0, 0, 0x6F, 0x6E, 0x65, 0x2E, 0x73, 0, 0,
+    // DW_LNE_set_address 0x10000, DW_LNS_copy.
+    0, 9, 2, 0, 0, 1, 0, 0, 0, 0, 0, 1,
+    // DW_LNS_advance_pc 1, advance_line 1, copy; twice.
+    2, 1, 3, 1, 1, 2, 1, 3, 1, 1,
+    // DW_LNS_advance_pc 1, DW_LNE_end_sequence.
     2, 1, 0, 1, 1,
 ];
 

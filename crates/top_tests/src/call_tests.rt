@@ -9,12 +9,12 @@ use std::thread::Threads;
 static INPUT: [u8; 11] = *b"first hello";
 
 /// Does what the rows after it say. A row has the number of a hart, what the hart does, the number
-/// of the call, a0 to a4, and a0 as it is to be after. Where it is another, the run ends with
+/// of the call, a0 to a4, and a0 as it is to be after. If it is another, the run ends with
 /// the number of the row, from 1 on, as its code.
 ///
 /// Each hart spins until the next row is its own. It yields, for the 40 cycles that the call
 /// of the row before takes, and moves on to the next row before its own call, since it may wait
-/// there. Behind the call the letter of its row, from `A` on, is kept, so that `kept` tells
+/// there. After the call the letter of its row, from `A` on, is kept, so that `kept` tells
 /// in which order the calls came back. A child goes on after the clone, with the number
 /// that its parent's answer is to name.
 ///
@@ -261,7 +261,7 @@ const THREADS: &str = "
 ";
 
 /// Four harts wait in another order than that of their numbers, and are woken by their age. Those
-/// of one wake go on at one moment, where the hart of the least number is first.
+/// of one wake go on at one moment, the hart of the least number first.
 const AGES: &str = "
 .dword 0, call, 220, 0x10F00, 0, 0, 0, 0, 2
 .dword 0, call, 220, 0x10F00, 0, 0, 0, 0, 3

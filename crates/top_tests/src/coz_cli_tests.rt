@@ -10,11 +10,19 @@ use std::thread::Threads;
 
 /// The fixed parts of the two headers of a program of three words.
 const HEADERS: [u8; 120] = [
-    0x7F, 0x45, 0x4C, 0x46, 2, 1, 1, 0, 0, 0, 0, 0, 0, 0, 0, 0, 2, 0, 243, 0, 1, 0, 0, 0, 0, 0, 1,
-    0, 0, 0, 0, 0, 64, 0, 0, 0, 0, 0, 0, 0, 0, 0, 0, 0, 0, 0, 0, 0, 0, 0, 0, 0, 64, 0, 56, 0, 1, 0,
-    64, 0, 0, 0, 0, 0, 1, 0, 0, 0, 5, 0, 0, 0, 0, 0x10, 0, 0, 0, 0, 0, 0, 0, 0, 1, 0, 0, 0, 0, 0,
-    0, 0, 1, 0, 0, 0, 0, 0, 12, 0, 0, 0, 0, 0, 0, 0, 12, 0, 0, 0, 0, 0, 0, 0, 0, 0x10, 0, 0, 0, 0,
-    0, 0,
+    // e_ident.
+    0x7F, 0x45, 0x4C, 0x46, 2, 1, 1, 0, 0, 0, 0, 0, 0, 0, 0, 0,
+    // e_type ET_EXEC, e_machine EM_RISCV, e_version.
+    2, 0, 243, 0, 1, 0, 0, 0,
+    // e_entry 0x10000, e_phoff 64, e_shoff.
+    0, 0, 1, 0, 0, 0, 0, 0, 64, 0, 0, 0, 0, 0, 0, 0, 0, 0, 0, 0, 0, 0, 0, 0,
+    // e_flags, e_ehsize, e_phentsize, e_phnum, e_shentsize, e_shnum, e_shstrndx.
+    0, 0, 0, 0, 64, 0, 56, 0, 1, 0, 64, 0, 0, 0, 0, 0,
+    // p_type PT_LOAD, p_flags PF_R and PF_X, p_offset 4096, p_vaddr 0x10000, p_paddr.
+    1, 0, 0, 0, 5, 0, 0, 0, 0, 0x10, 0, 0, 0, 0, 0, 0, 0, 0, 1, 0, 0, 0, 0, 0, 0, 0, 1, 0, 0, 0, 0,
+    0,
+    // p_filesz 12, p_memsz 12, p_align 4096.
+    12, 0, 0, 0, 0, 0, 0, 0, 12, 0, 0, 0, 0, 0, 0, 0, 0, 0x10, 0, 0, 0, 0, 0, 0,
 ];
 
 /// A program of these 12 bytes of text.
@@ -55,6 +63,7 @@ static TEXTS: [(&str, [u8; 12]); 7] = [
 fn compressed(alloc: Global) -> Result<Vec<u8>, AllocError> {
     let mut file = Vec::new(alloc);
     file.extend_from_slice(&HEADERS[..48])?;
+    // e_flags: EF_RISCV_RVC.
     file.push(1)?;
     file.extend_from_slice(&HEADERS[49..])?;
     Ok(file)
@@ -64,6 +73,7 @@ fn compressed(alloc: Global) -> Result<Vec<u8>, AllocError> {
 fn doubled(alloc: Global) -> Result<Vec<u8>, AllocError> {
     let mut file = Vec::new(alloc);
     file.extend_from_slice(&HEADERS[..56])?;
+    // e_phnum.
     file.push(2)?;
     file.extend_from_slice(&HEADERS[57..])?;
     file.extend_from_slice(&HEADERS[64..])?;
@@ -390,7 +400,7 @@ fn faults_of_the_error_sink_change_nothing(rt: HostRuntime) -> Result<(), Fail> 
             ..plain_case(&["walk"], 2, b"", b"")
         },
         Case {
-            tell_fails: &[2],
+            tell_fails: &[3],
             ..plain_case(&["walk"], 2, b"", b"coz: usage")
         },
     ];

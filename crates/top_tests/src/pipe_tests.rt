@@ -2,8 +2,8 @@
 use crate::calls::{asked, assembled};
 use std::test::Fail;
 
-/// Programs of one hart that reads to the end of a pipe, that writes where no end reads, and that
-/// reads where nobody writes; and of more: a hart reads what another writes; it waits at an end
+/// Programs of one hart that reads to the end of a pipe, that writes to a pipe that no end reads,
+/// and that reads from one that no end writes; and of more: a hart reads what another writes; it waits at an end
 /// that is closed meanwhile; two wait for one byte; and one writes more than a pipe holds.
 static PIPED: [(&str, &[u8]); 7] = [
     (

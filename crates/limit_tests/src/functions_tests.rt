@@ -1,0 +1,377 @@
+//! Programs by function over files in memory.
+use crate::calls::{Served, call, one_file, texts};
+use crate::large::Large;
+use crate::sinks::{ONE_FAILS, Room, SHUT, WIDE, first_texts, sink};
+use coz_files::{Files, HeldFile, MemoryFiles};
+use functions_cli::serve_functions;
+use std::alloc::{AllocError, Global};
+use std::process::Abort;
+use std::test::Fail;
+use std::thread::Threads;
+
+/// A program of eight instructions from 0x10078 on: the function `main` of four, which has the
+/// lines 1 to 4 of `a/m.c`, and the function `work` of four, which has the lines 3 to 6 of `b/m.c`.
+static SMALL: &[u8] =
+    b"\x7FELF\x02\x01\x01\0\0\0\0\0\0\0\0\0\x02\0\xF3\0\x01\0\0\0x\0\x01\0\0\0\0\0@\0\0\0\0\0\0\0\
+\x90\x01\0\0\0\0\0\0\0\0\0\0@\08\0\x01\0@\0\x05\0\x04\0\x01\0\0\0\x05\0\0\0\0\0\0\0\0\0\0\0\
+\0\0\x01\0\0\0\0\0\0\0\x01\0\0\0\0\0\x98\0\0\0\0\0\0\0\x98\0\0\0\0\0\0\0\0\x10\0\0\0\0\0\0\
+\x13\x05\0\0\x93\x08\xD0\x05s\0\0\0\x13\0\0\0\x13\0\0\0\x13\0\0\0\x13\0\0\0\x13\0\0\0\0\0\0\
+\0\0\0\0\0\0\0\0\0\0\0\0\0\0\0\0\0\0\0\0\0\x01\0\0\0\x12\0\x01\0x\0\x01\0\0\0\0\0\x10\0\0\0\
+\0\0\0\0\x06\0\0\0\x12\0\x01\0\x88\0\x01\0\0\0\0\0\x10\0\0\0\0\0\0\0\0main\0work\0\0\0\0\0\0\
+r\0\0\0\x04\0&\0\0\0\x01\x01\x01\xFB\x0E\x0D\0\x01\x01\x01\x01\0\0\0\x01\0\0\x01\0a/m.c\0\0\
+\0\0b/m.c\0\0\0\0\0\0\x09\x02x\0\x01\0\0\0\0\0\x04\x01\x01\x02\x04\x03\x01\x01\x02\x04\x03\
+\x01\x01\x02\x04\x03\x01\x01\x02\x04\0\x01\x01\0\x09\x02\x88\0\x01\0\0\0\0\0\x04\x02\x03\x02\
+\x01\x02\x04\x03\x01\x01\x02\x04\x03\x01\x01\x02\x04\x03\x01\x01\x02\x04\0\x01\x01\0\0\0.sym\
+tab\0.strtab\0.debug_line\0.shstrtab\0\0\0\0\0\0\0\0\0\0\0\0\0\0\0\0\0\0\0\0\0\0\0\0\0\0\0\0\
+\0\0\0\0\0\0\0\0\0\0\0\0\0\0\0\0\0\0\0\0\0\0\0\0\0\0\0\0\0\0\0\0\0\0\0\0\0\0\x01\0\0\0\x02\0\
+\0\0\0\0\0\0\0\0\0\0\0\0\0\0\0\0\0\0\x98\0\0\0\0\0\0\0H\0\0\0\0\0\0\0\x02\0\0\0\0\0\0\0\x01\
+\0\0\0\0\0\0\0\x18\0\0\0\0\0\0\0\x09\0\0\0\x03\0\0\0\0\0\0\0\0\0\0\0\0\0\0\0\0\0\0\0\xE0\0\0\
+\0\0\0\0\0\x0B\0\0\0\0\0\0\0\0\0\0\0\0\0\0\0\x01\0\0\0\0\0\0\0\0\0\0\0\0\0\0\0\x11\0\0\0\x01\
+\0\0\0\0\0\0\0\0\0\0\0\0\0\0\0\0\0\0\0\xF0\0\0\0\0\0\0\0v\0\0\0\0\0\0\0\0\0\0\0\0\0\0\0\x01\
+\0\0\0\0\0\0\0\0\0\0\0\0\0\0\0\x1D\0\0\0\x03\0\0\0\0\0\0\0\0\0\0\0\0\0\0\0\0\0\0\0h\x01\0\0\
+\0\0\0\0'\0\0\0\0\0\0\0\0\0\0\0\0\0\0\0\x01\0\0\0\0\0\0\0\0\0\0\0\0\0\0\0";
+
+/// Programs that differ from it in a few bytes, each with its offset.
+static CHANGED: [(&str, &[(usize, u8)]); 7] = [
+    // The header says that there are compressed instructions.
+    ("compressed", &[(48, 1)]),
+    // The line table ends within the header of its unit.
+    ("short", &[(624, 9)]),
+    // There are no sections, and so no functions.
+    ("bare", &[(40, 0), (41, 0), (60, 0), (62, 0)]),
+    // The section of the line table has another name.
+    ("lineless", &[(378, b'x')]),
+    // The section of the names has another name.
+    ("nameless", &[(369, b'x')]),
+    // `main` is an object, and `work` ends behind the executable area.
+    ("objects", &[(180, 0x11), (218, 1)]),
+    // All of the file is loaded.
+    ("loaded", &[(96, 0xD0), (97, 2), (104, 0xD0), (105, 2)]),
+];
+
+/// A file with some of its bytes changed.
+fn changed(alloc: Global, file: &[u8], bytes: &[(usize, u8)]) -> Result<Vec<u8>, AllocError> {
+    let mut file = file.to_vec(alloc)?;
+    for (at, byte) in bytes {
+        if *at < file.len() {
+            file[*at] = *byte;
+        }
+    }
+    Ok(file)
+}
+
+fn held(alloc: Global, path: &str, bytes: Vec<u8>) -> Result<HeldFile, AllocError> {
+    Ok(HeldFile {
+        path: path.as_bytes().to_vec(alloc)?,
+        bytes,
+    })
+}
+
+/// The programs, of which the reads with these numbers fail.
+fn programs(alloc: Global, fails: &[u64]) -> Result<MemoryFiles, AllocError> {
+    let mut files = Vec::new(alloc);
+    files.push(held(alloc, "small", SMALL.to_vec(alloc)?)?)?;
+    for (path, bytes) in &CHANGED {
+        files.push(held(alloc, path, changed(alloc, SMALL, bytes)?)?)?;
+    }
+    Ok(MemoryFiles::new(files, fails.to_vec(alloc)?))
+}
+
+fn by_function<F: Files>(
+    alloc: Global,
+    words: &[&str],
+    files: &mut F,
+    rooms: (Room, Room),
+) -> Result<Served, AllocError> {
+    let words = texts(alloc, words)?;
+    let mut out = sink(alloc, rooms.0)?;
+    let mut err = sink(alloc, rooms.1)?;
+    let status = serve_functions(alloc, &words, files, &mut out, &mut err);
+    Ok(Served {
+        status,
+        out: out.held().to_vec(alloc)?,
+        err: err.held().to_vec(alloc)?,
+    })
+}
+
+/// The lines of the program that was written, if one was.
+fn lines_of<R: Threads + Sync + AllocGlobal>(rt: &R, file: &[u8]) -> Result<Vec<u8>, AllocError> {
+    if file.is_empty() {
+        return Ok(Vec::new(rt.alloc()));
+    }
+    let mut files = one_file(rt.alloc(), "written", file, &[])?;
+    Ok(call(rt, &["lines", "written"], &mut files)?.out)
+}
+
+const USAGE: &[u8] = b"coz-functions: usage\n";
+
+/// The words, the status, the lines of what is written, and the line on the error stream.
+type Row = (&'static [&'static str], u8, &'static [u8], &'static [u8]);
+
+fn all_come_out<R: Threads + Sync + AllocGlobal + Abort>(rt: &R, rows: &[Row]) -> Result<(), Fail> {
+    let alloc = rt.alloc();
+    for (words, status, lines, err) in rows {
+        let mut files = programs(alloc, &[])?;
+        let served = by_function(alloc, *words, &mut files, (WIDE, WIDE))?;
+        let written = lines_of(rt, &served.out)?;
+        assert_eq!(rt;
+            (served.status, written.as_slice(), served.err.as_slice()),
+            (*status, *lines, *err)
+        );
+    }
+    Ok(())
+}
+
+/// Words that ask for nothing.
+static WRONG: [Row; 18] = [
+    (&[], 2, b"", USAGE),
+    (&[""], 2, b"", USAGE),
+    (&["-small"], 2, b"", USAGE),
+    (&["small", "small"], 2, b"", USAGE),
+    (&["--keep", "m.c:1"], 2, b"", USAGE),
+    (&["small", "--keep"], 2, b"", USAGE),
+    (&["small", "--keep", "m.c"], 2, b"", USAGE),
+    (&["small", "--keep="], 2, b"", USAGE),
+    (&["small", "--keep=m.c:1", "--keep", "m.c:1"], 2, b"", USAGE),
+    (&["small", "--regions"], 2, b"", USAGE),
+    (&["small", "--regions", "m.c:1"], 2, b"", USAGE),
+    (&["small", "--regions", "m.c:0-1"], 2, b"", USAGE),
+    (&["small", "--regions", "m.c:1-0"], 2, b"", USAGE),
+    (&["small", "--regions", "m.c:1-4294967296"], 2, b"", USAGE),
+    (&["small", "--regions", "m.c:1-2,"], 2, b"", USAGE),
+    (&["small", "--regions", "m.c:1-2-3"], 2, b"", USAGE),
+    (
+        &["small", "--regions=m.c:1-2", "--regions=m.c:3-4"],
+        2,
+        b"",
+        USAGE,
+    ),
+    (&["small", "--lines", "m.c:1"], 2, b"", USAGE),
+];
+
+#[test]
+fn wrong_words_are_rejected(rt: HostRuntime) -> Result<(), Fail> {
+    all_come_out(&rt, &WRONG)
+}
+
+const WHOLE: &[u8] = b"skipped 0\na/m.c/main:1\t0x10078\nb/m.c/work:3\t0x10088\n";
+
+static WRITTEN: [Row; 11] = [
+    (&["small"], 0, WHOLE, b""),
+    (
+        &["--keep", "m.c:4", "small"],
+        0,
+        b"skipped 0\na/m.c:4\t0x10084\na/m.c/main:1\t0x10078\nb/m.c/work:3\t0x10088\n",
+        b"",
+    ),
+    // A region of one line is that line.
+    (
+        &["small", "--regions", "m.c:4-4"],
+        0,
+        b"skipped 0\na/m.c:4\t0x10084\na/m.c/main:1\t0x10078\nb/m.c/work:3\t0x10088\n",
+        b"",
+    ),
+    // `a/m.c` has no such line.
+    (
+        &["small", "--regions=m.c:5-9"],
+        0,
+        b"skipped 0\na/m.c/main:1\t0x10078\nb/m.c:5\t0x10090\nb/m.c/work:3\t0x10088\n",
+        b"",
+    ),
+    // No line has its first number.
+    (
+        &["--regions", "b/m.c:1-4", "small"],
+        0,
+        b"skipped 0\na/m.c/main:1\t0x10078\nb/m.c:1\t0x10088\nb/m.c/work:3\t0x10090\n",
+        b"",
+    ),
+    // Of two regions that overlap, the first counts.
+    (
+        &["small", "--regions", "m.c:2-3,m.c:1-9"],
+        0,
+        b"skipped 0\na/m.c:1\t0x10078,0x10084\na/m.c:2\t0x1007c\nb/m.c/work:3\t0x10088\n",
+        b"",
+    ),
+    (
+        &["small", "--regions", "m.c:1-9,m.c:2-3"],
+        0,
+        b"skipped 0\na/m.c:1\t0x10078\nb/m.c/work:3\t0x10088\n",
+        b"",
+    ),
+    // A line that is kept is in no region.
+    (
+        &["--regions", "a/m.c:2-3", "small", "--keep", "m.c:3"],
+        0,
+        b"skipped 0\na/m.c:2\t0x1007c\na/m.c:3\t0x10080\na/m.c/main:1\t0x10078,0x10084\nb/m.c/work:3\t0x10088\n",
+        b"",
+    ),
+    (
+        &["small", "--keep=m.c:3", "--regions=b/m.c:4-5,a/m.c:2-4"],
+        0,
+        b"skipped 0\na/m.c:2\t0x1007c,0x10084\na/m.c:3\t0x10080\na/m.c/main:1\t0x10078\nb/m.c:4\t0x1008c\nb/m.c/work:3\t0x10088,0x10094\n",
+        b"",
+    ),
+    (
+        &["objects", "--regions", "m.c:1-1"],
+        14,
+        b"",
+        b"coz-functions: no functions\n",
+    ),
+    (&["nameless"], 14, b"", b"coz-functions: no functions\n"),
+];
+
+#[test]
+fn lines_are_kept_before_regions_and_functions(rt: HostRuntime) -> Result<(), Fail> {
+    all_come_out(&rt, &WRITTEN)
+}
+
+/// Where a row has two faults, the first is told.
+static FAULTY: [Row; 10] = [
+    (&["absent"], 5, b"", b"coz-functions: read: absent\n"),
+    (
+        &["compressed", "--keep", "m.c:9"],
+        3,
+        b"",
+        b"coz-functions: program: Compressed at 48\n",
+    ),
+    (
+        &["short", "--regions", "m.c:8-9"],
+        4,
+        b"",
+        b"coz-functions: lines: Short at 0\n",
+    ),
+    (
+        &["bare", "--keep", "m.c:1"],
+        7,
+        b"",
+        b"coz-functions: selection: no line m.c:1\n",
+    ),
+    (
+        &["small", "--regions", "m.c:8-9", "--keep", "m.c:1,m.c:9"],
+        7,
+        b"",
+        b"coz-functions: selection: no line m.c:9\n",
+    ),
+    (
+        &["bare", "--regions", "m.c:8-9"],
+        7,
+        b"",
+        b"coz-functions: selection: no line m.c:8-9\n",
+    ),
+    (
+        &["small", "--regions", "m.c:1-2,m.c:4-3,m.c:8-9"],
+        7,
+        b"",
+        b"coz-functions: selection: no line m.c:4-3\n",
+    ),
+    (&["bare"], 14, b"", b"coz-functions: no functions\n"),
+    (&["lineless"], 14, b"", b"coz-functions: no lines\n"),
+    (
+        &["loaded"],
+        14,
+        b"",
+        b"coz-functions: section headers are loaded\n",
+    ),
+];
+
+#[test]
+fn the_first_fault_is_told(rt: HostRuntime) -> Result<(), Fail> {
+    all_come_out(&rt, &FAULTY)
+}
+
+const TEN: Room = Room {
+    bytes: 10,
+    fails: &[],
+};
+
+/// The words, the reads that fail, both sinks, the status, how many bytes are written, and the line
+/// on the error stream.
+type Fault = (
+    &'static [&'static str],
+    &'static [u64],
+    (Room, Room),
+    u8,
+    usize,
+    &'static [u8],
+);
+
+const WRITE: &[u8] = b"coz-functions: write\n";
+
+static FAULTS: [Fault; 7] = [
+    (
+        &["small"],
+        &[0],
+        (WIDE, WIDE),
+        5,
+        0,
+        b"coz-functions: read: small\n",
+    ),
+    // The file is read once.
+    (&["small"], &[1], (WIDE, WIDE), 0, 854, b""),
+    (&["small"], &[], (TEN, WIDE), 6, 10, WRITE),
+    (&["small"], &[], (SHUT, WIDE), 6, 0, WRITE),
+    (&["small"], &[], (TEN, SHUT), 6, 10, b""),
+    (
+        &["small", "--regions", "m.c:8-9"],
+        &[],
+        (WIDE, SHUT),
+        7,
+        0,
+        b"",
+    ),
+    (&["bare"], &[], (WIDE, SHUT), 14, 0, b""),
+];
+
+#[test]
+fn faults_of_files_and_sinks_decide(rt: HostRuntime) -> Result<(), Fail> {
+    let alloc = rt.alloc();
+    for (words, fails, rooms, status, written, err) in &FAULTS {
+        let mut files = programs(alloc, *fails)?;
+        let served = by_function(alloc, *words, &mut files, *rooms)?;
+        assert_eq!(rt;
+            (served.status, served.out.len(), served.err.as_slice()),
+            (*status, *written, *err)
+        );
+    }
+    Ok(())
+}
+
+/// The line of `bare`, by the texts that are put one after another.
+static BARE: [&[u8]; 3] = [b"coz-functions: ", b"no functions", b"\n"];
+
+#[test]
+fn the_status_stays_if_a_put_of_the_line_fails(rt: HostRuntime) -> Result<(), Fail> {
+    let alloc = rt.alloc();
+    for (put, room) in ONE_FAILS.iter().enumerate() {
+        let mut files = programs(alloc, &[])?;
+        let served = by_function(alloc, &["bare"], &mut files, (WIDE, *room))?;
+        let line = first_texts(alloc, &BARE, put)?;
+        assert_eq!(rt;
+            (served.status, served.out.len(), served.err.as_slice()),
+            (14, 0, line.as_slice())
+        );
+    }
+    Ok(())
+}
+
+/// How many zeros the file has, the status, and the line on the error stream.
+static LIMITS: [(u64, u8, &[u8]); 2] = [
+    (33_554_432, 3, b"coz-functions: program: NotElf at 0\n"),
+    (33_554_433, 8, b"coz-functions: long: big\n"),
+];
+
+#[test]
+fn one_byte_over_the_limit_is_too_long(rt: HostRuntime) -> Result<(), Fail> {
+    for (size, status, err) in &LIMITS {
+        let mut files = Large {
+            size: *size,
+            program: b"",
+        };
+        let served = by_function(rt.alloc(), &["big"], &mut files, (WIDE, WIDE))?;
+        assert_eq!(rt;
+            (served.status, served.out.len(), served.err.as_slice()),
+            (*status, 0, *err)
+        );
+    }
+    Ok(())
+}
