@@ -1,11 +1,12 @@
-# make         proves and builds the programs, and leaves them as build/coz, build/coz-page and
-#              build/coz-join
+# make         proves and builds the programs, and leaves them as build/coz, build/coz-page,
+#              build/coz-join, build/coz-hot and build/coz-functions
 # make test    runs the merge gate, and then checks the man pages and that machines take no memory and,
 #              if the programs are built, the outputs that README and TUTORIAL show and an example's profile
 # make try ARGS="run examples/one"    runs the program with no proof, in some minutes
 # make guests  builds, with Debian's packages, what guests/coz-cc links programs with
 # make examples    builds the examples in C as they stand, with a C library of their own
-# make page    the same of build/coz-page alone; make join the same of build/coz-join
+# make page    the same of build/coz-page alone; make join of build/coz-join, make hot of build/coz-hot,
+#              make functions of build/coz-functions
 # make install PREFIX=DIR    puts the programs and their man pages below DIR; make uninstall takes them away
 
 ARGS ?= run examples/one
@@ -13,9 +14,9 @@ PREFIX ?= /usr/local
 
 EXAMPLES = longer ledger
 
-.PHONY: build page join test try guests examples install uninstall clean
+.PHONY: build page join hot functions test try guests examples install uninstall clean
 
-build: page join
+build: page join hot functions
 	cd crates/coz && rt run -- run data/one > /dev/null
 	mkdir -p build
 	cp crates/coz/out/coz build/coz
@@ -29,6 +30,16 @@ join:
 	cd crates/coz_join && rt run -- data/a data/b > /dev/null
 	mkdir -p build
 	cp crates/coz_join/out/coz_join build/coz-join
+
+hot:
+	cd crates/coz_hot && rt run -- data/one > /dev/null
+	mkdir -p build
+	cp crates/coz_hot/out/coz_hot build/coz-hot
+
+functions:
+	cd crates/coz_functions_main && rt run -- ../../examples/longer > /dev/null
+	mkdir -p build
+	cp crates/coz_functions_main/out/coz_functions_main build/coz-functions
 
 test:
 	bash .ci/run
@@ -52,16 +63,22 @@ install: build
 	install -D -m 755 build/coz $(DESTDIR)$(PREFIX)/bin/coz
 	install -D -m 755 build/coz-page $(DESTDIR)$(PREFIX)/bin/coz-page
 	install -D -m 755 build/coz-join $(DESTDIR)$(PREFIX)/bin/coz-join
+	install -D -m 755 build/coz-hot $(DESTDIR)$(PREFIX)/bin/coz-hot
+	install -D -m 755 build/coz-functions $(DESTDIR)$(PREFIX)/bin/coz-functions
 	install -D -m 755 tools/coz-study $(DESTDIR)$(PREFIX)/bin/coz-study
 	install -D -m 644 docs/coz.1 $(DESTDIR)$(PREFIX)/share/man/man1/coz.1
 	install -D -m 644 docs/coz-page.1 $(DESTDIR)$(PREFIX)/share/man/man1/coz-page.1
 	install -D -m 644 docs/coz-join.1 $(DESTDIR)$(PREFIX)/share/man/man1/coz-join.1
+	install -D -m 644 docs/coz-hot.1 $(DESTDIR)$(PREFIX)/share/man/man1/coz-hot.1
+	install -D -m 644 docs/coz-functions.1 $(DESTDIR)$(PREFIX)/share/man/man1/coz-functions.1
 	install -D -m 644 docs/coz-study.1 $(DESTDIR)$(PREFIX)/share/man/man1/coz-study.1
 
 uninstall:
 	rm -f $(DESTDIR)$(PREFIX)/bin/coz $(DESTDIR)$(PREFIX)/share/man/man1/coz.1
 	rm -f $(DESTDIR)$(PREFIX)/bin/coz-page $(DESTDIR)$(PREFIX)/share/man/man1/coz-page.1
 	rm -f $(DESTDIR)$(PREFIX)/bin/coz-join $(DESTDIR)$(PREFIX)/share/man/man1/coz-join.1
+	rm -f $(DESTDIR)$(PREFIX)/bin/coz-hot $(DESTDIR)$(PREFIX)/share/man/man1/coz-hot.1
+	rm -f $(DESTDIR)$(PREFIX)/bin/coz-functions $(DESTDIR)$(PREFIX)/share/man/man1/coz-functions.1
 	rm -f $(DESTDIR)$(PREFIX)/bin/coz-study $(DESTDIR)$(PREFIX)/share/man/man1/coz-study.1
 
 clean:

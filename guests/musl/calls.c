@@ -27,7 +27,7 @@ static long net_time(struct timespec *to) {
 
 // ---- The beginning ----
 
-// The words with which the program begins: those of coz-args where there are some. They lie as on a
+// The words with which the program begins: those of coz-args, if there are some. They lie as on a
 // stack, with room for the auxiliary pairs behind the environment.
 hidden long *__coz_start(long *stack) {
     long *words = __coz_args.words;

@@ -38,7 +38,7 @@ typedef long coz_answer(long *a);
 // it was.
 hidden _Noreturn void __coz_unsupported(long number, long *a);
 
-// Moves the pages of an anonymous mapping of so many bytes here, or answers an error below 0.
+// Moves the pages of an anonymous mapping of `bytes` bytes here, or returns an error below 0.
 hidden long __coz_pages(long bytes);
 
 // Waits until the 32 bits at the address aren't the value, by sleeping and looking again: 0, or

@@ -115,7 +115,7 @@ static enum kind device(const char *name, int *number) {
 
 // ---- Ends ----
 
-// What an end stands for, or none where it is the profiler's own or isn't open.
+// What an end is open as, or null if it is the profiler's own or isn't open.
 static struct opened *at(long end) {
     if (end >= 0 && end < 3) return standard[end];
     return end >= FIRST_END && end < FIRST_END + MOST_ENDS ? ends[end - FIRST_END] : 0;
@@ -215,7 +215,7 @@ long __coz_close(long *a) {
     return end >= 0 && end < FIRST_END ? __coz_ecall(SYS_close, end, 0, 0, 0, 0, 0) : -EBADF;
 }
 
-// What an end stands for, made for one of the profiler's own where it isn't there.
+// What an end is open as. An end of the profiler's own gets an entry, if it has none.
 static struct opened *shared(long end) {
     struct opened *o = at(end);
     if (o || end < 0 || end > 2 || !(o = new_opened())) return o;
