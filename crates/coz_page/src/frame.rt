@@ -42,10 +42,10 @@ th:first-child, td:first-child { grid-column: 1 / -1; }\n\
 </head>\n\
 <body>\n\
 <h1>Which lines are worth making faster</h1>\n\
-<p>A curve says of one line how much less time a visit of the progress point takes where the line costs so much less. \
+<p>A curve shows how much less time a visit of the progress point takes if its line costs less. \
 Its gain is the greatest value at a speedup over 0, its worst the least: below 0 the line hurts. \
 Its cost is what its own instructions take, on all threads, as a part of the net time without a speedup. \
-A dot tells its value when it is pointed at; a red ring stands for a value outside the axis. \
+A dot shows its value when it is pointed at; a red ring marks a value outside the axis. \
 <a href=\"#reading\">How to read a curve</a></p>\n";
 
 /// What stands in place of the curves if there are none.

@@ -65,13 +65,13 @@ IsIn lines region k = is_in region (line_in lines k) ≡ true
 abbrev pub IsBelow : List Line → Region → ℕ → Type 0
 IsBelow lines region k = is_below region (line_in lines k) ≡ true
 
--- the least of so many offsets of which something holds, if it holds of one
+-- the least offset below a count of which something holds, if it holds of one
 abbrev pub IsFirst : ℕ → (ℕ → Type 0) → Option ℕ → Type 0
 IsFirst count Holds None = (k : ℕ) → k < count → Holds k → ⊥
 IsFirst count Holds (Some first) =
     (first < count) × Holds first × ((k : ℕ) → k < first → Holds k → ⊥)
 
--- ---- the number that stands for each line
+-- ---- the number in each line's mark
 
 -- the number with which the first region begins that has the line
 abbrev pub first_number : List Region → Line → Option ℕ
@@ -94,14 +94,14 @@ abbrev pub claimed : List (Option ℕ) → ℕ → ℕ → List (Option ℕ)
 claimed numbers line number =
     slice_set numbers line (or_else (number_at numbers line) (Some number))
 
--- the mark of a line by its place, if a number stands for it
+-- the mark of a line with a number, if there is one
 abbrev pub mark_with : Place → ℕ → Option ℕ → List Mark
 mark_with place line None = []
 mark_with place line (Some number) =
     if has_zero place.path.now then []
     else record { position = line; line = record { path = place.path.now; number = number } } ∷ []
 
--- a mark of one of so many lines
+-- a mark of a line below a count
 pub record IsMarkOf (count : ℕ) (m : coded) : Type 0 where
   pub within : m.line.0 < count
   pub text : IsText m.place

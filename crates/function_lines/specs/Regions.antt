@@ -45,7 +45,7 @@ abbrev pub region_found : List Line → Region → Option Region
 region_found lines region =
     option_map (λ (line : Line). record region { path = line.path }) (first_of lines region)
 
--- ---- the line that stands for its lines
+-- ---- the one line of a region
 
 -- Of the line's path, and numbered as the first region begins that has the line. None has a line
 -- in whose path a zero byte stands.

@@ -33,7 +33,7 @@ fn claims_of(alloc: Global, places: &[Place], regions: &[Region]) -> Result<Clai
     Ok(claims)
 }
 
-/// Adds the mark of a line that this number stands for, if one does.
+/// Adds the mark of a line with this number, if there is one.
 fn push_mark<'a>(
     marks: &mut Vec<Mark<'a>>,
     place: &Place<'a>,

@@ -14,7 +14,7 @@ use Rattle.hot_run.specs.HotRun.{Runs, hot_text, plain_run}
 use Rattle.hot_cli.specs.declared.asked.HotRequest.{HotRequest}
 use Rattle.hot_cli.specs.Words.{hot_request}
 
--- of a run that counted, and at most so many of its lines
+-- of a run that counted, and at most a given number of its lines
 unfoldable pub hot_printed : HotRequest → Runs → (ℕ → Option ℕ) → List Line → Verdict
 hot_printed asked runs position lines =
     ended_verdict (delayed_record (plain_run runs asked.run.budget)).ending

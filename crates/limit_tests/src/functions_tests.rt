@@ -225,7 +225,7 @@ fn lines_are_kept_before_regions_and_functions(rt: HostRuntime) -> Result<(), Fa
     all_come_out(&rt, &WRITTEN)
 }
 
-/// Where a row has two faults, the first is told.
+/// If a row has two faults, the first one is reported.
 static FAULTY: [Row; 10] = [
     (&["absent"], 5, b"", b"coz-functions: read: absent\n"),
     (
