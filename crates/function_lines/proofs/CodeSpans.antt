@@ -41,7 +41,7 @@ not_less a b e =
       | inr le ↦ le
     ]
 
--- ---- the last area that begins below a place
+-- ---- the last area that begins below a offset
 
 last_decides : (g : ℕ → Option ℕ) (low high first end : ℕ) → AreSpans g → g first ≡ Some end → ((q v : ℕ) → q < high → g q ≡ Some v → q ≤ first) → HasWithin g low high → low < end
 last_decides g low high first end spans there greatest (q, v, held, before, shared) =
@@ -69,12 +69,12 @@ decided g low high first end spans held below greatest = (
 area_span : (areas : List Area) (k : ℕ) (area : Area) → All IsSpan areas → k < length areas → get_or areas k area ≡ area → IsSpan area
 area_span areas k area all lt is = subst IsSpan is (All-get_or IsSpan areas k area lt all)
 
-same_place : (areas : List Area) (i j : ℕ) (a b : Area) → i ≡ j → i < length areas → get_or areas i a ≡ a → get_or areas j b ≡ b → a ≡ b
-same_place areas i j a b same lt is_a is_b =
+same_area : (areas : List Area) (i j : ℕ) (a b : Area) → i ≡ j → i < length areas → get_or areas i a ≡ a → get_or areas j b ≡ b → a ≡ b
+same_area areas i j a b same lt is_a is_b =
     sym is_a ∙ get_or_default areas i a b lt ∙ ap (λ (k : ℕ). get_or areas k b) same ∙ is_b
 
-apart_places : (areas : List Area) (i j : ℕ) (a b : Area) → AllPairs AreApart areas → i < j → j < length areas → get_or areas i a ≡ a → get_or areas j b ≡ b → AreApart a b
-apart_places areas i j a b apart less lt is_a is_b =
+apart_areas : (areas : List Area) (i j : ℕ) (a b : Area) → AllPairs AreApart areas → i < j → j < length areas → get_or areas i a ≡ a → get_or areas j b ≡ b → AreApart a b
+apart_areas areas i j a b apart less lt is_a is_b =
     let at_b : get_or areas j a ≡ b = get_or_default areas j a b lt ∙ is_b in
     subst (λ (y : Area). AreApart a y) at_b (subst (λ (x : Area). AreApart x (get_or areas j a)) is_a (apart i j a less lt))
 
@@ -82,14 +82,14 @@ turned : (a b : Area) → AreApart a b → AreApart b a
 turned a b (inl before) = inr before
 turned a b (inr behind) = inl behind
 
--- areas at two places
+-- areas at two indexes
 two_apart : (areas : List Area) (i j : ℕ) (a b : Area) → AllPairs AreApart areas → i ≢ j → i < length areas → j < length areas → get_or areas i a ≡ a → get_or areas j b ≡ b → AreApart a b
 two_apart areas i j a b apart other lt lt' is_a is_b =
     elim (cases_lt i j) [
-      | inl less ↦ apart_places areas i j a b apart less lt' is_a is_b
+      | inl less ↦ apart_areas areas i j a b apart less lt' is_a is_b
       | inr le ↦
           let less : j < i = omega (arith, other) in
-          turned b a (apart_places areas j i b a apart less lt is_b is_a)
+          turned b a (apart_areas areas j i b a apart less lt is_b is_a)
     ]
 
 some_span : (areas : List Area) (g : ℕ → Option ℕ) → IsCode areas g → (first end : ℕ) → g first ≡ Some end → first < end
@@ -117,7 +117,7 @@ apart_spans areas g is first end later last there there' less =
     let (j, b, lt', at', of') = is.ends.only later last there' in
     elim (cases_eq i j) [
       | inl same ↦
-          let one : a ≡ b = same_place areas i j a b same lt at at' in
+          let one : a ≡ b = same_area areas i j a b same lt at at' in
           let starts : a.start ≡ b.start = ap (λ (x : Area). x.start) one in
           let s = of.starts in
           let s' = of'.starts in

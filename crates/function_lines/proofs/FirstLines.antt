@@ -119,11 +119,11 @@ module _ (index : Index) (m : Mark) (a : ℕ) where
 
 -- ---- kept lines
 
-no_marks : (place : Option ℕ) → None ≡ option_and_then (marked []) place
+no_marks : (position : Option ℕ) → None ≡ option_and_then (marked []) position
 no_marks None = refl
 no_marks (Some k) = refl
 
-one_mark : (m : Mark) (more : List Mark) (place : Option ℕ) → or_else (if (elim place as (λ _. Bool) [ None ↦ false | Some j ↦ j == m.position ]) then Some m.line else None) (option_and_then (marked more) place) ≡ option_and_then (marked (m ∷ more)) place
+one_mark : (m : Mark) (more : List Mark) (position : Option ℕ) → or_else (if (elim position as (λ _. Bool) [ None ↦ false | Some j ↦ j == m.position ]) then Some m.line else None) (option_and_then (marked more) position) ≡ option_and_then (marked (m ∷ more)) position
 one_mark m more None = refl
 one_mark m more (Some j) = by (j == m.position)
   where

@@ -1,14 +1,15 @@
 -- The first line of a region.
-use Rattle.std.proofs.Common.{◌≡◌, ℕ, ◌+◌, ◌<◌, ◌≤◌, ◌⊎◌, inl, inr, ⊎_elim, zero, suc, Bool, true, false, List, [], ◌∷◌, length, get_or, find, Option, Some, None, option_map, refl, sym, ap, ◌∙◌, subst, arith, nat_le, cond}
-use Rattle.std.specs.Prelude.{bytes_eq}
-use Rattle.std.proofs.lemmas.Bool.{and_parts, and_from, cases_eq, false_from_ne_true, leb-true, leb-false}
-use Rattle.std.proofs.lemmas.List.{get_or-map, get_or_default}
-use Rattle.std.proofs.lemmas.Slice.Eq.{bytes_eq-Decides}
+use Rattle.std.proofs.Common.{◌≡◌, ℕ, ◌+◌, ◌<◌, ◌≤◌, ◌⊎◌, ⊎_elim, zero, suc, Bool, true, false, List, [], ◌∷◌, length, get_or, find, Option, Some, None, option_map, refl, sym, ap, ◌∙◌, subst, arith, nat_le, le-leb, cond}
+use Rattle.std.proofs.lemmas.Bool.{and_parts, and_from, false_from_ne_true, leb-true, leb-false}
+use Rattle.std.proofs.lemmas.List.{get_or-map}
 use Rattle.line_index.specs.Changes.{least}
 use Rattle.line_index.specs.Lines.{Line, ends_with}
 use Rattle.line_index.specs.Backwards.{IsStretch}
-use Rattle.function_lines.specs.declared.labels.Place.{Place}
-use Rattle.function_lines.specs.Lines.{AreHeads, IsBelow, IsFirst, IsIn, line_in, lines_at, path_at, paths_at}
+use Rattle.function_lines.specs.declared.labels.Location.{Location}
+use Rattle.function_lines.specs.declared.tree.Node.{Node}
+use Rattle.function_lines.specs.declared.tree.Rectangle.{Rectangle}
+use Rattle.function_lines.specs.Tree.{IsHeld, point_at}
+use Rattle.function_lines.specs.Lines.{AreNodes, IsBelow, IsFirst, line_in, lines_at, number_at_location, path_at, paths_at}
 use Rattle.function_lines.specs.Regions.{Region, is_numbered}
 use Rattle.function_lines.proofs.Spans.{line_there, many}
 
@@ -32,55 +33,75 @@ pub same_first : (count : ℕ) (P Q : ℕ → Type 0) (a : Option ℕ) → ((k :
 same_first count P Q None to back a = λ k lt q. a k lt (back k lt q)
 same_first count P Q (Some x) to back a = (a.0, to x a.0 a.1, λ k less q. a.2 k less (back k (omega (arith, less, a.0)) q))
 
--- ---- the paths of some ranks
+-- ---- the lines below a path
 
-abbrev pub of_head : List Place → List ℕ → Region → ℕ → Region
-of_head places heads region rank = record region { path = path_at places (get_or heads rank 0) }
+zero_path : (locations : List Location) (k : ℕ) → k < length locations → (line_in (lines_at locations) k).path ≡ path_at locations k
+zero_path locations k lt =
+    let zero_location : Location = record { path = record { ref_ptr = (0, 0); now = [] }; number = 0 } in
+    ap (λ (l : Line). l.path) (line_there locations k zero_location (record { path = []; number = 0 }) lt)
+    ∙ sym (get_or-map (λ (location : Location). location.path.now) locations k zero_location [] lt)
 
--- the line has the path of one of the ranks from one up to another
-abbrev pub IsAmong : List Place → List ℕ → Region → ℕ → ℕ → ℕ → Type 0
-IsAmong places heads region start end k = (rank : ℕ) × (start ≤ rank) × (rank < end) × IsIn (lines_at places) (of_head places heads region rank) k
+zero_number : (locations : List Location) (k : ℕ) → k < length locations → (line_in (lines_at locations) k).number ≡ number_at_location locations k
+zero_number locations k lt =
+    let zero_location : Location = record { path = record { ref_ptr = (0, 0); now = [] }; number = 0 } in
+    ap (λ (l : Line). l.number) (line_there locations k zero_location (record { path = []; number = 0 }) lt)
+    ∙ sym (get_or-map (λ (location : Location). location.number) locations k zero_location 0 lt)
 
-pub none_among : (places : List Place) (heads : List ℕ) (region : Region) (start count : ℕ) → IsFirst count (IsAmong places heads region start start) None
-none_among places heads region start count = λ k lt among. absurd (omega (arith, among.1, among.2))
+module _ (locations : List Location) (heads : List ℕ) (nodes : List Node) (region : Region) (wanted : Rectangle) (start end : ℕ) (are : AreNodes locations heads nodes) (stretch : IsStretch (paths_at locations) heads region.path start end)
+    (least_rank : wanted.ranks.least ≡ start) (greatest_rank : wanted.ranks.greatest + 1 ≡ end) (first : wanted.numbers.least ≡ region.first) (last : wanted.numbers.greatest ≡ region.last) where
+  held_below : (k : ℕ) → IsHeld nodes wanted 0 (length nodes) k → (k < length locations) × IsBelow (lines_at locations) region k
+  held_below k (i, _, lt, (rank, number), same) =
+      let point = point_at nodes i in
+      let is = are.own i lt in
+      let within : k < length locations = omega (arith, is.within, same) in
+      let line = line_in (lines_at locations) k in
+      let path : line.path ≡ path_at locations (get_or heads point.rank 0) = zero_path locations k within ∙ ap (path_at locations) (sym same) ∙ sym is.rank.1 in
+      let its : point.number ≡ line.number = is.number ∙ ap (number_at_location locations) same ∙ sym (zero_number locations k within) in (
+        within,
+        and_from (ends_with line.path region.path) (is_numbered region line)
+            (ap (λ p. ends_with p region.path) path ∙ (stretch point.rank is.rank.0).0 (omega (arith, rank.0, least_rank), omega (arith, rank.1, greatest_rank)))
+            (and_from (nat_le region.first line.number) (nat_le line.number region.last) (le-leb region.first line.number (omega (arith, number.0, first, its))) (le-leb line.number region.last (omega (arith, number.1, last, its)))),
+      )
 
-pub one_more : (places : List Place) (heads : List ℕ) (region whole : Region) (start rank : ℕ) (found one : Option ℕ) → start ≤ rank → whole ≡ of_head places heads region rank
-    → IsFirst (length places) (IsAmong places heads region start rank) found → IsFirst (length places) (IsIn (lines_at places) whole) one → IsFirst (length places) (IsAmong places heads region start (rank + 1)) (least found one)
-one_more places heads region whole start rank found one le is a b =
-    least_first (length places) (IsAmong places heads region start rank) (IsIn (lines_at places) (of_head places heads region rank)) (IsAmong places heads region start (rank + 1)) found one a
-    (subst (λ (r : Region). IsFirst (length places) (IsIn (lines_at places) r) one) is b)
-    (λ k among. (among.0, among.1, omega (arith, among.2), among.3))
-    (λ k inside. (rank, le, omega arith, inside))
-    (λ k among. elim (cases_eq among.0 rank) [
-      | inl same ↦ inr (subst (λ (r : ℕ). IsIn (lines_at places) (of_head places heads region r) k) same among.3)
-      | inr other ↦ inl (among.0, among.1, omega (arith, among.2, other), among.3)
-    ])
+  below_held : (k : ℕ) → k < length locations → IsBelow (lines_at locations) region k → IsHeld nodes wanted 0 (length nodes) k
+  below_held k within below =
+      let line = line_in (lines_at locations) k in
+      let has = are.each k within in
+      let i = has.0 in
+      let point = point_at nodes i in
+      let is = are.own i has.1 in
+      let same : point.line ≡ k = has.2 in
+      let path : line.path ≡ path_at locations (get_or heads point.rank 0) = zero_path locations k within ∙ ap (path_at locations) (sym same) ∙ sym is.rank.1 in
+      let its : point.number ≡ line.number = is.number ∙ ap (number_at_location locations) same ∙ sym (zero_number locations k within) in
+      let parts = and_parts (ends_with line.path region.path) (is_numbered region line) below in
+      let numbers = and_parts (nat_le region.first line.number) (nat_le line.number region.last) parts.1 in
+      let among = (stretch point.rank is.rank.0).1 (ap (λ p. ends_with p region.path) (sym path) ∙ parts.0) in
+      let low : region.first ≤ line.number = leb-true region.first line.number numbers.0 in
+      let high : line.number ≤ region.last = leb-true line.number region.last numbers.1 in (
+        i,
+        omega arith,
+        has.1,
+        ((omega (arith, among.0, least_rank), omega (arith, among.1, greatest_rank)), (omega (arith, low, first, its), omega (arith, high, last, its))),
+        same,
+      )
 
-zero_path : (places : List Place) (k : ℕ) → k < length places → (line_in (lines_at places) k).path ≡ path_at places k
-zero_path places k lt =
-    let zero_place : Place = record { path = record { ref_ptr = (0, 0); now = [] }; number = 0 } in
-    ap (λ (l : Line). l.path) (line_there places k zero_place (record { path = []; number = 0 }) lt)
-    ∙ sym (get_or-map (λ (place : Place). place.path.now) places k zero_place [] lt)
+  pub first_below_of : (count : ℕ) (a : Option ℕ) → length locations ≤ count → IsFirst count (IsHeld nodes wanted 0 (length nodes)) a → IsFirst (length locations) (IsBelow (lines_at locations) region) a
+  first_below_of count None few none = λ k lt below. none k (omega (arith, lt, few)) (below_held k lt below)
+  first_below_of count (Some x) few (small, held, before) =
+      let is = held_below x held in
+      (is.0, is.1, λ k less below. before k less (below_held k (omega (arith, less, is.0)) below))
 
-pub among_below : (places : List Place) (heads : List ℕ) (region : Region) (start end : ℕ) → IsStretch (paths_at places) heads region.path start end → end ≤ length heads → (k : ℕ) → k < length places → IsAmong places heads region start end k → IsBelow (lines_at places) region k
-among_below places heads region start end stretch within k lt (rank, from, before, inside) =
-    let line = line_in (lines_at places) k in
-    let head = path_at places (get_or heads rank 0) in
-    let parts = and_parts (bytes_eq line.path head) (is_numbered region line) inside in
-    let same : line.path ≡ head = (bytes_eq-Decides line.path head).0 parts.0 in
-    and_from (ends_with line.path region.path) (is_numbered region line) (ap (λ p. ends_with p region.path) same ∙ (stretch rank (omega arith)).0 (from, before)) parts.1
-
-pub below_among : (places : List Place) (heads : List ℕ) (region : Region) (start end : ℕ) → AreHeads places heads → IsStretch (paths_at places) heads region.path start end → (k : ℕ) → k < length places → IsBelow (lines_at places) region k → IsAmong places heads region start end k
-below_among places heads region start end are stretch k lt below =
-    let line = line_in (lines_at places) k in
-    let has = are.each k lt in
-    let head = has.0 in
-    let rank = has.1.0 in
-    let there : get_or heads rank 0 ≡ head = get_or_default heads rank 0 head has.1.1 ∙ has.1.2 in
-    let same : path_at places (get_or heads rank 0) ≡ line.path = ap (path_at places) there ∙ has.2 ∙ sym (zero_path places k lt) in
+-- no path ends so
+pub none_below : (locations : List Location) (heads : List ℕ) (nodes : List Node) (region : Region) (start end : ℕ) → AreNodes locations heads nodes → IsStretch (paths_at locations) heads region.path start end → end ≤ start → IsFirst (length locations) (IsBelow (lines_at locations) region) None
+none_below locations heads nodes region start end are stretch empty k within below =
+    let line = line_in (lines_at locations) k in
+    let has = are.each k within in
+    let point = point_at nodes has.0 in
+    let is = are.own has.0 has.1 in
+    let path : line.path ≡ path_at locations (get_or heads point.rank 0) = zero_path locations k within ∙ ap (path_at locations) (sym has.2) ∙ sym is.rank.1 in
     let parts = and_parts (ends_with line.path region.path) (is_numbered region line) below in
-    let among = (stretch rank has.1.1).1 (ap (λ p. ends_with p region.path) same ∙ parts.0) in
-    (rank, among.0, among.1, and_from (bytes_eq line.path (path_at places (get_or heads rank 0))) (is_numbered region line) ((bytes_eq-Decides line.path (path_at places (get_or heads rank 0))).1 (sym same)) parts.1)
+    let among = (stretch point.rank is.rank.0).1 (ap (λ p. ends_with p region.path) (sym path) ∙ parts.0) in
+    omega (arith, among.0, among.1, empty)
 
 -- ---- what a search finds
 
@@ -96,5 +117,5 @@ found_by (l ∷ ls) test None a =
 found_by (l ∷ ls) test (Some zero) a = ap (λ t. cond t (Some l) (find test ls)) a.1
 found_by (l ∷ ls) test (Some (suc x)) a = ap (λ t. cond t (Some l) (find test ls)) (false_from_ne_true (test l) (λ e. a.2 0 (omega arith) e)) ∙ found_by ls test (Some x) (omega (arith, a.0), a.1, λ k less holds. a.2 (suc k) (omega (arith, less)) holds)
 
-pub first_in_lines : (places : List Place) (test : Line → Bool) (a : Option ℕ) → IsFirst (length places) (IsPassed (lines_at places) test) a → find test (lines_at places) ≡ option_map (line_in (lines_at places)) a
-first_in_lines places test a is = found_by (lines_at places) test a (subst (λ (n : ℕ). IsFirst n (IsPassed (lines_at places) test) a) (sym (many places)) is)
+pub first_in_lines : (locations : List Location) (test : Line → Bool) (a : Option ℕ) → IsFirst (length locations) (IsPassed (lines_at locations) test) a → find test (lines_at locations) ≡ option_map (line_in (lines_at locations)) a
+first_in_lines locations test a is = found_by (lines_at locations) test a (subst (λ (n : ℕ). IsFirst n (IsPassed (lines_at locations) test) a) (sym (many locations)) is)

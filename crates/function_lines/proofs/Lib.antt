@@ -7,7 +7,9 @@ mod Found
 mod Heads
 mod Loaded
 mod Named
+mod Nodes
 mod Marking
+mod Ranks
 mod SameAreas
 mod Soundness
 mod Spans

@@ -8,9 +8,9 @@ use Rattle.std.proofs.lemmas.List.FromFn.{map-range_with_len_more}
 use Rattle.std.proofs.lemmas.Option.{slice_get-get_or}
 use Rattle.line_index.specs.Changes.{or_else}
 use Rattle.line_index.specs.Lines.{Line}
-use Rattle.function_lines.specs.declared.labels.Place.{Place}
+use Rattle.function_lines.specs.declared.labels.Location.{Location}
 use Rattle.function_lines.specs.declared.lines.Region.{Region as coded}
-use Rattle.function_lines.specs.Labels.{line_of_place}
+use Rattle.function_lines.specs.Labels.{line_of_location}
 use Rattle.function_lines.specs.Lines.{IsSpan, first_number, line_in, lines_at, mark_with, number_at}
 use Rattle.function_lines.specs.Marks.{Mark, has_zero}
 use Rattle.function_lines.specs.Regions.{Region, is_in, region_line, region_mark, region_marks, region_of, regions_of}
@@ -40,13 +40,13 @@ or_none None = refl
 or_none (Some x) = refl
 
 -- the numbers after one region more
-pub one_region : (places : List Place) (regions : List coded) (i : ℕ) (r : coded) (old new : List (Option ℕ)) (start end : ℕ) → i < length regions → r ≡ get_or regions i r
-    → ((k : ℕ) → k < length places → number_at old k ≡ first_number (regions_of (take i regions)) (line_in (lines_at places) k))
-    → IsSpan (lines_at places) (region_of r) start end
+pub one_region : (locations : List Location) (regions : List coded) (i : ℕ) (r : coded) (old new : List (Option ℕ)) (start end : ℕ) → i < length regions → r ≡ get_or regions i r
+    → ((k : ℕ) → k < length locations → number_at old k ≡ first_number (regions_of (take i regions)) (line_in (lines_at locations) k))
+    → IsSpan (lines_at locations) (region_of r) start end
     → ((k : ℕ) → start ≤ k → k < end → number_at new k ≡ or_else (number_at old k) (Some r.first))
     → ((k : ℕ) → (start ≤ k → k < end → ⊥) → number_at new k ≡ number_at old k)
-    → (k : ℕ) → k < length places → number_at new k ≡ first_number (regions_of (take (i + 1) regions)) (line_in (lines_at places) k)
-one_region places regions i r old new start end lt is before span within others k less =
+    → (k : ℕ) → k < length locations → number_at new k ≡ first_number (regions_of (take (i + 1) regions)) (line_in (lines_at locations) k)
+one_region locations regions i r old new start end lt is before span within others k less =
     by (is_in region line) refl
     ∙ sym (first_number_more (regions_of (take i regions)) region line)
     ∙ ap (λ rs. first_number rs line) (sym (map-append region_of (take i regions) (r ∷ [])))
@@ -56,10 +56,10 @@ one_region places regions i r old new start end lt is before span within others 
     region = region_of r
 
     line : Line
-    line = line_in (lines_at places) k
+    line = line_in (lines_at locations) k
 
-    here : (k : ℕ) → k < length places → ((start ≤ k) × (k < end)) ↔ (is_in region (line_in (lines_at places) k) ≡ true)
-    here k less = span k (record { path = []; number = 0 }) (omega (arith, less, many places))
+    here : (k : ℕ) → k < length locations → ((start ≤ k) × (k < end)) ↔ (is_in region (line_in (lines_at locations) k) ≡ true)
+    here k less = span k (record { path = []; number = 0 }) (omega (arith, less, many locations))
 
     by : (t : Bool) → is_in region line ≡ t → number_at new k ≡ or_else (first_number (regions_of (take i regions)) line) (own_number region line)
     by true e =
@@ -94,37 +94,37 @@ range_more n = sym (same (range_with_len 0 (n + 1))) ∙ map-range_with_len_more
     same [] = refl
     same (m ∷ ns) = ap (λ ms. m ∷ ms) (same ns)
 
--- the mark of the line of a place
-mark_by : (place : Place) (k : ℕ) (regions : List Region) → mark_with place k (first_number regions (line_of_place place))
-    ≡ cons_option (option_map (λ line. let m : Mark = record { position = k; line = line } in m) (region_line regions (line_of_place place))) []
-mark_by place k regions = by (has_zero place.path.now) (find (λ region. is_in region (line_of_place place)) regions)
+-- the mark of the line of a location
+mark_by : (location : Location) (k : ℕ) (regions : List Region) → mark_with location k (first_number regions (line_of_location location))
+    ≡ cons_option (option_map (λ line. let m : Mark = record { position = k; line = line } in m) (region_line regions (line_of_location location))) []
+mark_by location k regions = by (has_zero location.path.now) (find (λ region. is_in region (line_of_location location)) regions)
   where
     made : Option ℕ → Bool → List Mark
     made number t = elim number [
       | None ↦ []
-      | Some number ↦ cond t [] (record { position = k; line = record { path = place.path.now; number = number } } ∷ [])
+      | Some number ↦ cond t [] (record { position = k; line = record { path = location.path.now; number = number } } ∷ [])
     ]
 
-    by : (t : Bool) (found : Option Region) → made (option_map (λ (r : Region). r.first) found) t ≡ cons_option (option_map (λ line. let m : Mark = record { position = k; line = line } in m) (cond t None (option_map (λ (r : Region). record (line_of_place place) { number = r.first }) found))) []
+    by : (t : Bool) (found : Option Region) → made (option_map (λ (r : Region). r.first) found) t ≡ cons_option (option_map (λ line. let m : Mark = record { position = k; line = line } in m) (cond t None (option_map (λ (r : Region). record (line_of_location location) { number = r.first }) found))) []
     by true None = refl
     by true (Some r) = refl
     by false None = refl
     by false (Some r) = refl
 
 -- one line more
-pub one_mark : (places : List Place) (regions : List Region) (k : ℕ) (place : Place) (number : Option ℕ) (old new : List Mark) → k < length places → place ≡ get_or places k place → number ≡ first_number regions (line_in (lines_at places) k)
-    → old ≡ filter_map (region_mark (lines_at places) regions) (range_with_len 0 k) → new ≡ old ++ mark_with place k number
-    → new ≡ filter_map (region_mark (lines_at places) regions) (range_with_len 0 (k + 1))
-one_mark places regions k place number old new lt is numbers before made =
+pub one_mark : (locations : List Location) (regions : List Region) (k : ℕ) (location : Location) (number : Option ℕ) (old new : List Mark) → k < length locations → location ≡ get_or locations k location → number ≡ first_number regions (line_in (lines_at locations) k)
+    → old ≡ filter_map (region_mark (lines_at locations) regions) (range_with_len 0 k) → new ≡ old ++ mark_with location k number
+    → new ≡ filter_map (region_mark (lines_at locations) regions) (range_with_len 0 (k + 1))
+one_mark locations regions k location number old new lt is numbers before made =
     let zero_line : Line = record { path = []; number = 0 } in
-    let there : line_in (lines_at places) k ≡ line_of_place place = line_there places k place zero_line lt ∙ ap line_of_place (sym is) in
-    let got : slice_get (lines_at places) k ≡ Some (line_of_place place) = slice_get-get_or (lines_at places) k zero_line (omega (arith, lt, many places)) ∙ ap (λ (l : Line). Some l) there in
+    let there : line_in (lines_at locations) k ≡ line_of_location location = line_there locations k location zero_line lt ∙ ap line_of_location (sym is) in
+    let got : slice_get (lines_at locations) k ≡ Some (line_of_location location) = slice_get-get_or (lines_at locations) k zero_line (omega (arith, lt, many locations)) ∙ ap (λ (l : Line). Some l) there in
     made
-    ∙ ap₂ (λ (ms : List Mark) (n : Option ℕ). ms ++ mark_with place k n) before (numbers ∙ ap (first_number regions) there)
-    ∙ ap (λ (ms : List Mark). filter_map (region_mark (lines_at places) regions) (range_with_len 0 k) ++ ms)
-    (mark_by place k regions ∙ ap (λ (o : Option Line). cons_option (option_map (λ line. let m : Mark = record { position = k; line = line } in m) (option_and_then (region_line regions) o)) []) (sym got))
-    ∙ sym (filter_map-append (region_mark (lines_at places) regions) (range_with_len 0 k) (k ∷ []))
-    ∙ ap (filter_map (region_mark (lines_at places) regions)) (sym (range_more k))
+    ∙ ap₂ (λ (ms : List Mark) (n : Option ℕ). ms ++ mark_with location k n) before (numbers ∙ ap (first_number regions) there)
+    ∙ ap (λ (ms : List Mark). filter_map (region_mark (lines_at locations) regions) (range_with_len 0 k) ++ ms)
+    (mark_by location k regions ∙ ap (λ (o : Option Line). cons_option (option_map (λ line. let m : Mark = record { position = k; line = line } in m) (option_and_then (region_line regions) o)) []) (sym got))
+    ∙ sym (filter_map-append (region_mark (lines_at locations) regions) (range_with_len 0 k) (k ∷ []))
+    ∙ ap (filter_map (region_mark (lines_at locations) regions)) (sym (range_more k))
 
-pub all_marks : (places : List Place) (regions : List Region) (n : ℕ) (marks : List Mark) → n ≡ length places → marks ≡ filter_map (region_mark (lines_at places) regions) (range_with_len 0 n) → marks ≡ region_marks (lines_at places) regions
-all_marks places regions n marks is so_far = so_far ∙ ap (λ (m : ℕ). filter_map (region_mark (lines_at places) regions) (range_with_len 0 m)) (is ∙ sym (many places))
+pub all_marks : (locations : List Location) (regions : List Region) (n : ℕ) (marks : List Mark) → n ≡ length locations → marks ≡ filter_map (region_mark (lines_at locations) regions) (range_with_len 0 n) → marks ≡ region_marks (lines_at locations) regions
+all_marks locations regions n marks is so_far = so_far ∙ ap (λ (m : ℕ). filter_map (region_mark (lines_at locations) regions) (range_with_len 0 m)) (is ∙ sym (many locations))

@@ -31,8 +31,8 @@ function_named file areas names s each e =
     let kind = and_parts (s.kind == 2) (not (s.section == 0) && (not (s.size == 0) && (s.address % 4 == 0 && (has_name names s && list_any (is_in_area s) areas)))) e in
     let section = and_parts (not (s.section == 0)) (not (s.size == 0) && (s.address % 4 == 0 && (has_name names s && list_any (is_in_area s) areas))) kind.1 in
     let size = and_parts (not (s.size == 0)) (s.address % 4 == 0 && (has_name names s && list_any (is_in_area s) areas)) section.1 in
-    let place = and_parts (s.address % 4 == 0) (has_name names s && list_any (is_in_area s) areas) size.1 in
-    let last = and_parts (has_name names s) (list_any (is_in_area s) areas) place.1 in
+    let offset = and_parts (s.address % 4 == 0) (has_name names s && list_any (is_in_area s) areas) size.1 in
+    let last = and_parts (has_name names s) (list_any (is_in_area s) areas) offset.1 in
     record { name = last.0; within = in_area file areas s each last.1 }
 
 one_named : (file : List ℕ) (areas : List Area) (names : List ℕ) (s : Symbol) (found : List (ℕ × Symbol)) → All (IsAreaOf file) areas → All (IsNamed names) (values_of found) → All (IsNamed names) (values_of (with_function areas names s found))

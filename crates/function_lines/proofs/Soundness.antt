@@ -15,12 +15,12 @@ use Rattle.function_lines.specs.Sound.{BeginsAt, IsIndexOf, IsSound}
 
 -- ---- positions
 
-position_is : (k : ℕ) (place : Option ℕ) → is_at k place ≡ true → place ≡ Some k
+position_is : (k : ℕ) (position : Option ℕ) → is_at k position ≡ true → position ≡ Some k
 position_is k None e = absurd cc
 position_is k (Some j) e = ap (λ (n : ℕ). Some n) (eqb-true j k e)
 
-is_position : (k : ℕ) (place : Option ℕ) → place ≡ Some k → is_at k place ≡ true
-is_position k place e = ap (is_at k) e ∙ eq-eqb k k refl
+is_position : (k : ℕ) (position : Option ℕ) → position ≡ Some k → is_at k position ≡ true
+is_position k position e = ap (is_at k) e ∙ eq-eqb k k refl
 
 module _ (table : Table) (areas : List Area) (index : Index) (is : IsIndex table areas index) where
   some_line : (k : ℕ) (line : Option Line) → Some (slice_get index.lines k) ≡ option_map Some line → (l : Line) × (line ≡ Some l) × (slice_get index.lines k ≡ Some l)
@@ -31,14 +31,14 @@ module _ (table : Table) (areas : List Area) (index : Index) (is : IsIndex table
   line_there : (a k : ℕ) → position_at index a ≡ Some k → (l : Line) × (line_of table areas a ≡ Some l) × (slice_get index.lines k ≡ Some l)
   line_there a k at = some_line k (line_of table areas a) (sym (ap (option_map (slice_get index.lines)) at) ∙ is.positions a)
 
-  by_place : (k : ℕ) (l : Line) (place : Option ℕ) → option_map (slice_get index.lines) place ≡ Some (Some l) → slice_get index.lines k ≡ Some l → place ≡ Some k
-  by_place k l None e at = absurd cc
-  by_place k l (Some j) e at =
+  by_position : (k : ℕ) (l : Line) (position : Option ℕ) → option_map (slice_get index.lines) position ≡ Some (Some l) → slice_get index.lines k ≡ Some l → position ≡ Some k
+  by_position k l None e at = absurd cc
+  by_position k l (Some j) e at =
       let there : slice_get index.lines j ≡ Some l = cc in
       ap (λ (n : ℕ). Some n) (one_place index.lines j k l is.in_order there at)
 
-  place_there : (a k : ℕ) (l : Line) → line_of table areas a ≡ Some l → slice_get index.lines k ≡ Some l → position_at index a ≡ Some k
-  place_there a k l has at = by_place k l (position_at index a) (is.positions a ∙ ap (λ o. option_map Some o) has) at
+  position_there : (a k : ℕ) (l : Line) → line_of table areas a ≡ Some l → slice_get index.lines k ≡ Some l → position_at index a ≡ Some k
+  position_there a k l has at = by_position k l (position_at index a) (is.positions a ∙ ap (λ o. option_map Some o) has) at
 
   within : (a k : ℕ) → position_at index a ≡ Some k → k < length index.lines
   within a k at = let there = line_there a k at in slice_get_within index.lines k there.0 there.2
@@ -50,7 +50,7 @@ module _ (table : Table) (areas : List Area) (index : Index) (is : IsIndex table
       there.1 ∙ ap (λ (m : Line). Some m) same
 
   from_line : (k a : ℕ) (l : Line) → slice_get index.lines k ≡ Some l → line_of table areas a ≡ Some l → has_line index k a ≡ true
-  from_line k a l at has = is_position k (position_at index a) (place_there a k l has at)
+  from_line k a l at has = is_position k (position_at index a) (position_there a k l has at)
 
   -- ---- where a line begins
 

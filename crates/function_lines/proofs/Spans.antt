@@ -11,8 +11,8 @@ use Rattle.std.proofs.lemmas.Cmp.{ranked}
 use Rattle.std.proofs.lemmas.List.{get_or-map, length-map}
 use Rattle.std.proofs.lemmas.Map.Text.{is_eq-slice_cmp}
 use Rattle.line_index.specs.Lines.{Line, line_cmp}
-use Rattle.function_lines.specs.declared.labels.Place.{Place}
-use Rattle.function_lines.specs.Labels.{line_of_place}
+use Rattle.function_lines.specs.declared.labels.Location.{Location}
+use Rattle.function_lines.specs.Labels.{line_of_location}
 use Rattle.function_lines.specs.Lines.{IsBefore, IsSpan, lines_at}
 use Rattle.function_lines.specs.Regions.{Region, is_in}
 
@@ -43,30 +43,30 @@ earlier_upto a b key before = by (line_cmp b key) refl
     by Equal e le = ap is_le (equal_less a b key before e)
     by Greater e le = absurd cc
 
-pub line_there : (places : List Place) (k : ℕ) (d : Place) (e : Line) → k < length places → get_or (lines_at places) k e ≡ line_of_place (get_or places k d)
-line_there places k d e lt = get_or-map line_of_place places k d e lt
+pub line_there : (locations : List Location) (k : ℕ) (d : Location) (e : Line) → k < length locations → get_or (lines_at locations) k e ≡ line_of_location (get_or locations k d)
+line_there locations k d e lt = get_or-map line_of_location locations k d e lt
 
-pub many : (places : List Place) → length (lines_at places) ≡ length places
-many places = length-map places line_of_place
+pub many : (locations : List Location) → length (lines_at locations) ≡ length locations
+many locations = length-map locations line_of_location
 
 -- what holds of a line holds of the earlier ones
-parted : (test : Line → Bool) → ((a b : Line) → IsBefore a b → test b ≡ true → test a ≡ true) → (places : List Place) → AllPairs IsBefore (lines_at places) → IsPartitionedBy (λ (place : Place). test (line_of_place place)) places
-parted test downwards places up i j d le lt e =
+parted : (test : Line → Bool) → ((a b : Line) → IsBefore a b → test b ≡ true → test a ≡ true) → (locations : List Location) → AllPairs IsBefore (lines_at locations) → IsPartitionedBy (λ (location : Location). test (line_of_location location)) locations
+parted test downwards locations up i j d le lt e =
     elim (cases_eq i j) [
-      | inl same ↦ ap (λ (k : ℕ). test (line_of_place (get_or places k d))) same ∙ e
+      | inl same ↦ ap (λ (k : ℕ). test (line_of_location (get_or locations k d))) same ∙ e
       | inr other ↦
           let less : i < j = omega (arith, other) in
-          let line = line_of_place d in
-          let before : IsBefore (get_or (lines_at places) i line) (get_or (lines_at places) j line) = up i j line less (omega (arith, many places)) in
-          sym (ap test (line_there places i d line (omega arith)))
-          ∙ downwards (get_or (lines_at places) i line) (get_or (lines_at places) j line) before (ap test (line_there places j d line lt) ∙ e)
+          let line = line_of_location d in
+          let before : IsBefore (get_or (lines_at locations) i line) (get_or (lines_at locations) j line) = up i j line less (omega (arith, many locations)) in
+          sym (ap test (line_there locations i d line (omega arith)))
+          ∙ downwards (get_or (lines_at locations) i line) (get_or (lines_at locations) j line) before (ap test (line_there locations j d line lt) ∙ e)
     ]
 
-pub parted_less : (places : List Place) (key : Line) → AllPairs IsBefore (lines_at places) → IsPartitionedBy (λ (place : Place). is_lt (line_cmp (line_of_place place) key)) places
-parted_less places key up = parted (λ line. is_lt (line_cmp line key)) (λ a b. earlier_less a b key) places up
+pub parted_less : (locations : List Location) (key : Line) → AllPairs IsBefore (lines_at locations) → IsPartitionedBy (λ (location : Location). is_lt (line_cmp (line_of_location location) key)) locations
+parted_less locations key up = parted (λ line. is_lt (line_cmp line key)) (λ a b. earlier_less a b key) locations up
 
-pub parted_upto : (places : List Place) (key : Line) → AllPairs IsBefore (lines_at places) → IsPartitionedBy (λ (place : Place). is_le (line_cmp (line_of_place place) key)) places
-parted_upto places key up = parted (λ line. is_le (line_cmp line key)) (λ a b. earlier_upto a b key) places up
+pub parted_upto : (locations : List Location) (key : Line) → AllPairs IsBefore (lines_at locations) → IsPartitionedBy (λ (location : Location). is_le (line_cmp (line_of_location location) key)) locations
+parted_upto locations key up = parted (λ line. is_le (line_cmp line key)) (λ a b. earlier_upto a b key) locations up
 
 -- ---- the lines of a region
 
@@ -113,16 +113,16 @@ inside region line e =
     let numbers = and_parts (nat_le region.first line.number) (nat_le line.number region.last) parts.1 in
     (equal_from (slice_cmp nat_cmp line.path region.path) (is_eq-slice_cmp line.path region.path ∙ parts.0), leb-true region.first line.number numbers.0, leb-true line.number region.last numbers.1)
 
-pub is_span : (places : List Place) (region : Region) (start end : ℕ)
-    → IsPartitionPoint (λ (p : Place). is_lt (line_cmp (line_of_place p) (record { path = region.path; number = region.first })) ≡ true) (λ (p : Place). is_lt (line_cmp (line_of_place p) (record { path = region.path; number = region.first })) ≡ false) places start
-    → IsPartitionPoint (λ (p : Place). is_le (line_cmp (line_of_place p) (record { path = region.path; number = region.last })) ≡ true) (λ (p : Place). is_le (line_cmp (line_of_place p) (record { path = region.path; number = region.last })) ≡ false) places end
-    → IsSpan (lines_at places) region start end
-is_span places region start end before upto k d lt =
-    let zero_place : Place = record { path = record { ref_ptr = (0, 0); now = [] }; number = 0 } in
-    let within : k < length places = omega (arith, lt, many places) in
-    let line : Line = line_of_place (get_or places k zero_place) in
-    let here : get_or (lines_at places) k d ≡ line = line_there places k zero_place d within in (
-      λ h. ap (is_in region) here ∙ between region line (slice_cmp nat_cmp line.path region.path) refl (before.1 k zero_place h.0 within) (upto.0 k zero_place (omega arith) h.1),
+pub is_span : (locations : List Location) (region : Region) (start end : ℕ)
+    → IsPartitionPoint (λ (p : Location). is_lt (line_cmp (line_of_location p) (record { path = region.path; number = region.first })) ≡ true) (λ (p : Location). is_lt (line_cmp (line_of_location p) (record { path = region.path; number = region.first })) ≡ false) locations start
+    → IsPartitionPoint (λ (p : Location). is_le (line_cmp (line_of_location p) (record { path = region.path; number = region.last })) ≡ true) (λ (p : Location). is_le (line_cmp (line_of_location p) (record { path = region.path; number = region.last })) ≡ false) locations end
+    → IsSpan (lines_at locations) region start end
+is_span locations region start end before upto k d lt =
+    let zero_location : Location = record { path = record { ref_ptr = (0, 0); now = [] }; number = 0 } in
+    let within : k < length locations = omega (arith, lt, many locations) in
+    let line : Line = line_of_location (get_or locations k zero_location) in
+    let here : get_or (lines_at locations) k d ≡ line = line_there locations k zero_location d within in (
+      λ h. ap (is_in region) here ∙ between region line (slice_cmp nat_cmp line.path region.path) refl (before.1 k zero_location h.0 within) (upto.0 k zero_location (omega arith) h.1),
       λ e.
           let is = inside region line (sym (ap (is_in region) here) ∙ e) in
           let not_less : is_lt (line_cmp line (record { path = region.path; number = region.first })) ≡ false =
@@ -130,12 +130,12 @@ is_span places region start end before upto k d lt =
           let no_more : is_le (line_cmp line (record { path = region.path; number = region.last })) ≡ true =
           ap (λ o. is_le (ordering_then o (nat_cmp line.number region.last))) is.0 ∙ from_most line.number region.last (nat_cmp line.number region.last) refl is.2 in (
             ⊎_elim
-                (λ less. let no : true ≡ false = sym (before.0 k zero_place (omega arith) less) ∙ not_less in let none : ⊥ = cc in absurd none)
+                (λ less. let no : true ≡ false = sym (before.0 k zero_location (omega arith) less) ∙ not_less in let none : ⊥ = cc in absurd none)
                 (λ le. le)
                 (cases_lt k start),
             ⊎_elim
                 (λ less. less)
-                (λ le. let no : true ≡ false = sym no_more ∙ upto.1 k zero_place le within in let none : ⊥ = cc in absurd none)
+                (λ le. let no : true ≡ false = sym no_more ∙ upto.1 k zero_location le within in let none : ⊥ = cc in absurd none)
                 (cases_lt k end),
           ),
     )

@@ -6,8 +6,8 @@ use Rattle.std.proofs.lemmas.List.{get_or-map, length-map, map-append, take_more
 use Rattle.std.proofs.lemmas.Option.{get_or_from_slice_get, slice_get-get_or, slice_get_within}
 use Rattle.coz_types.specs.Labels.{Text, label_before}
 use Rattle.line_index.specs.Lines.{Line}
-use Rattle.function_lines.specs.declared.labels.Place.{Place}
-use Rattle.function_lines.specs.Labels.{line_of_place}
+use Rattle.function_lines.specs.declared.labels.Location.{Location}
+use Rattle.function_lines.specs.Labels.{line_of_location}
 use Rattle.function_lines.specs.Lines.{IsBefore, lines_at}
 use Rattle.function_lines.specs.Marks.{line_of_label}
 
@@ -36,11 +36,11 @@ all_rise labels lines n whole rise are i j d less lt =
     (subst (λ (l : Line). IsBefore (line_of_label a) l) (sym two)
     (rise i j a b less (omega (arith, in_labels, whole)) (slice_get-get_or labels i [] (omega (arith, less, in_labels))) (slice_get-get_or labels j [] in_labels)))
 
-pub lines_more : (labels : List Text) (n : ℕ) (text : Text) (places new : List Place) (place : Place) → slice_get labels n ≡ Some text → line_of_place place ≡ line_of_label text → new ≡ places ++ place ∷ [] → lines_at places ≡ map line_of_label (take n labels) → lines_at new ≡ map line_of_label (take (n + 1) labels)
-lines_more labels n text places new place there is made before =
+pub lines_more : (labels : List Text) (n : ℕ) (text : Text) (locations new : List Location) (location : Location) → slice_get labels n ≡ Some text → line_of_location location ≡ line_of_label text → new ≡ locations ++ location ∷ [] → lines_at locations ≡ map line_of_label (take n labels) → lines_at new ≡ map line_of_label (take (n + 1) labels)
+lines_more labels n text locations new location there is made before =
     ap lines_at made
-    ∙ map-append line_of_place places (place ∷ [])
-    ∙ ap (λ (l : Line). lines_at places ++ l ∷ []) is
+    ∙ map-append line_of_location locations (location ∷ [])
+    ∙ ap (λ (l : Line). lines_at locations ++ l ∷ []) is
     ∙ ap (λ (ls : List Line). ls ++ line_of_label text ∷ []) before
     ∙ sym (map-append line_of_label (take n labels) (text ∷ []))
     ∙ ap (map line_of_label) (ap (λ (t : Text). take n labels ++ t ∷ []) (sym (get_or_from_slice_get labels n text [] there)) ∙ sym (take_more labels n [] (slice_get_within labels n text there)))

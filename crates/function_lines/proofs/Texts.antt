@@ -9,7 +9,7 @@ use Rattle.std.proofs.lemmas.List.Sums.{prefix_len_passes}
 use Rattle.std.proofs.lemmas.Bool.{and_parts, ltb-true}
 use Rattle.std.proofs.Math.Seq.{drop-cons}
 use Rattle.coz_types.specs.Labels.{escape_of, is_empty, is_label, is_written, line_number, parts_of, path_of, written}
-use Rattle.function_lines.specs.declared.labels.Place.{Place}
+use Rattle.function_lines.specs.declared.labels.Location.{Location}
 use Rattle.function_lines.specs.Marks.{IsText, has_zero}
 
 abbrev is_byte : ℕ → Bool
@@ -79,8 +79,8 @@ some_from text e = by (is_empty text) e
     by true e = absurd cc
     by false e = refl
 
-pub place_right : (label path rest : List ℕ) (place : Place) → is_label label ≡ true → parts_of label ≡ Some (path, rest) → place.path.now ≡ path → place.number ≡ line_number rest → place.number < 2 ^ 32 → has_zero (path_of label) ≡ false → IsText place
-place_right label path rest place right parts is_path is_number small none =
+pub location_right : (label path rest : List ℕ) (location : Location) → is_label label ≡ true → parts_of label ≡ Some (path, rest) → location.path.now ≡ path → location.number ≡ line_number rest → location.number < 2 ^ 32 → has_zero (path_of label) ≡ false → IsText location
+location_right label path rest location right parts is_path is_number small none =
     let e : (not (is_empty path) && (is_written path && nat_lt 0 (line_number rest))) ≡ true =
     sym (ap (λ (o : Option (List ℕ × List ℕ)). elim o as (λ _. Bool) [ Some p ↦ not (is_empty p.0) && (is_written p.0 && nat_lt 0 (line_number p.1)) | None ↦ false ]) parts) ∙ right in
     let here : path_of label ≡ path = ap (λ (o : Option (List ℕ × List ℕ)). elim o as (λ _. List ℕ) [ Some p ↦ p.0 | None ↦ label ]) parts in

@@ -60,25 +60,25 @@ length-numbers : (a b : ℕ) (rest : List ℕ) → length (double a ++ (double b
 unfolding double
 length-numbers a b rest = omega (arith, length-append (double a) (double b ++ rest), length-append (double b) rest)
 
-pub length-with_section : (file unit : List ℕ) (place : ℕ) → place + 64 ≤ length file → length (with_section file unit place) ≡ length file + length unit
-length-with_section file unit place within =
-    omega (arith, length-append (take (place + 24) file) (double (length file) ++ (double (length unit) ++ (drop (place + 40) file ++ unit))), length-take-le (place + 24) file (omega arith), length-numbers (length file) (length unit) (drop (place + 40) file ++ unit), length-append (drop (place + 40) file) unit, length-drop (place + 40) file)
+pub length-with_section : (file unit : List ℕ) (offset : ℕ) → offset + 64 ≤ length file → length (with_section file unit offset) ≡ length file + length unit
+length-with_section file unit offset within =
+    omega (arith, length-append (take (offset + 24) file) (double (length file) ++ (double (length unit) ++ (drop (offset + 40) file ++ unit))), length-take-le (offset + 24) file (omega arith), length-numbers (length file) (length unit) (drop (offset + 40) file ++ unit), length-append (drop (offset + 40) file) unit, length-drop (offset + 40) file)
 
-pub long_with : (file unit : List ℕ) (found : Option ℕ) → found ≡ section_place file (codes ".debug_line") → is_some found ≡ true → IfSome found (λ place. place + 64 ≤ length file) → MAX_PROGRAM < length file + length unit → IsLongWith file unit
+pub long_with : (file unit : List ℕ) (found : Option ℕ) → found ≡ section_place file (codes ".debug_line") → is_some found ≡ true → IfSome found (λ offset. offset + 64 ≤ length file) → MAX_PROGRAM < length file + length unit → IsLongWith file unit
 long_with file unit None is some within long = absurd cc
-long_with file unit (Some place) is some within long =
-    (with_section file unit place, ap (option_map (with_section file unit)) (sym is), omega (arith, long, length-with_section file unit place within))
+long_with file unit (Some offset) is some within long =
+    (with_section file unit offset, ap (option_map (with_section file unit)) (sym is), omega (arith, long, length-with_section file unit offset within))
 
 some_file : (x y : List ℕ) → Some x ≡ Some y → x ≡ y
 some_file x y e = cc
 
-pub short_with : (file unit written : List ℕ) (found : Option ℕ) → found ≡ section_place file (codes ".debug_line") → is_some found ≡ true → IfSome found (λ place. place + 64 ≤ length file) → with_lines file unit ≡ Some written → length file + length unit ≤ MAX_PROGRAM → length written ≤ MAX_PROGRAM
+pub short_with : (file unit written : List ℕ) (found : Option ℕ) → found ≡ section_place file (codes ".debug_line") → is_some found ≡ true → IfSome found (λ offset. offset + 64 ≤ length file) → with_lines file unit ≡ Some written → length file + length unit ≤ MAX_PROGRAM → length written ≤ MAX_PROGRAM
 short_with file unit written None is some within made short = absurd cc
-short_with file unit written (Some place) is some within made short =
-    let same : with_section file unit place ≡ written = some_file (with_section file unit place) written (ap (option_map (with_section file unit)) is ∙ made) in
-    omega (arith, short, length-with_section file unit place within, ap (λ (xs : List ℕ). length xs) same)
+short_with file unit written (Some offset) is some within made short =
+    let same : with_section file unit offset ≡ written = some_file (with_section file unit offset) written (ap (option_map (with_section file unit)) is ∙ made) in
+    omega (arith, short, length-with_section file unit offset within, ap (λ (xs : List ℕ). length xs) same)
 
-pub long_unit : (file unit : List ℕ) (found : Option ℕ) → found ≡ section_place file (codes ".debug_line") → is_some found ≡ true → IfSome found (λ place. place + 64 ≤ length file) → MAX_PROGRAM < length unit → IsLongWith file unit
+pub long_unit : (file unit : List ℕ) (found : Option ℕ) → found ≡ section_place file (codes ".debug_line") → is_some found ≡ true → IfSome found (λ offset. offset + 64 ≤ length file) → MAX_PROGRAM < length unit → IsLongWith file unit
 long_unit file unit found is some within long = long_with file unit found is some within (omega (arith, long))
 
 -- ---- marks

@@ -9,3 +9,4 @@ pub mod Sequences
 pub mod ByFunction
 pub mod Regions
 pub mod Lines
+pub mod Tree

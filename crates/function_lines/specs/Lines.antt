@@ -5,44 +5,76 @@ use Rattle.std.specs.List.Sorted.{IsSorted}
 use Rattle.line_index.specs.Changes.{or_else}
 use Rattle.line_index.specs.Lines.{Line, line_cmp}
 use Rattle.line_index.specs.Backwards.{backward_cmp}
-use Rattle.function_lines.specs.declared.labels.Place.{Place}
-use Rattle.function_lines.specs.Labels.{line_of_place}
+use Rattle.function_lines.specs.declared.labels.Location.{Location}
+use Rattle.function_lines.specs.Labels.{line_of_location}
 use Rattle.function_lines.specs.declared.marks.Mark.{Mark as coded}
 use Rattle.function_lines.specs.Marks.{IsText, Mark, has_zero}
 use Rattle.function_lines.specs.Regions.{Region, is_below, is_in}
+use Rattle.function_lines.specs.Tree.{IsTree, point_at}
+use Rattle.function_lines.specs.declared.tree.Node.{Node}
+use Rattle.function_lines.specs.declared.tree.Point.{Point}
 
-abbrev pub lines_at : List Place → List Line
-lines_at places = map line_of_place places
+abbrev pub lines_at : List Location → List Line
+lines_at locations = map line_of_location locations
 
-abbrev pub paths_at : List Place → List (List ℕ)
-paths_at places = map (λ (place : Place). place.path.now) places
+abbrev pub paths_at : List Location → List (List ℕ)
+paths_at locations = map (λ (location : Location). location.path.now) locations
 
-abbrev pub path_at : List Place → ℕ → List ℕ
-path_at places k = slice_index_or (paths_at places) k []
+abbrev pub path_at : List Location → ℕ → List ℕ
+path_at locations k = slice_index_or (paths_at locations) k []
+
+abbrev pub number_at_location : List Location → ℕ → ℕ
+number_at_location locations k = slice_index_or (map (λ (location : Location). location.number) locations) k 0
 
 abbrev pub IsBefore : Line → Line → Type 0
 IsBefore line other = is_lt (line_cmp line other) ≡ true
 
--- a line table can have the place, unless a zero byte stands in its path
-abbrev pub IsSpelled : Place → Type 0
-IsSpelled place = has_zero place.path.now ≡ false → IsText place
+-- a line table can have the location, unless a zero byte stands in its path
+abbrev pub IsSpelled : Location → Type 0
+IsSpelled location = has_zero location.path.now ≡ false → IsText location
 
--- one of these places at least has the path of the place
-abbrev pub HasPathOf : List Place → List ℕ → ℕ → Type 0
-HasPathOf places list k =
-    (head : ℕ) × Contains list head × (path_at places head ≡ path_at places k)
+-- one of these locations at least has the path of the location
+abbrev pub HasPathOf : List Location → List ℕ → ℕ → Type 0
+HasPathOf locations list k =
+    (head : ℕ) × Contains list head × (path_at locations head ≡ path_at locations k)
 
--- of each path one place, in the order of the paths' bytes from the last to the first
-pub record AreHeads (places : List Place) (heads : List ℕ) : Type 0 where
-  pub in_order : IsSorted (backward_cmp (paths_at places)) heads
-  pub each : (k : ℕ) → k < length places → HasPathOf places heads k
+-- of each path one location, in the order of the paths' bytes from the last to the first
+pub record AreHeads (locations : List Location) (heads : List ℕ) : Type 0 where
+  pub few : length heads ≤ length locations
+  pub in_order : IsSorted (backward_cmp (paths_at locations)) heads
+  pub each : (k : ℕ) → k < length locations → HasPathOf locations heads k
 
--- the places of lines that rise, and of each path one
-pub record AreLines (places : List Place) (list : List ℕ) : Type 0 where
-  pub few : length places < 2 ^ 32
-  pub rising : AllPairs IsBefore (lines_at places)
-  pub right : All IsSpelled places
-  pub heads : AreHeads places list
+-- the path of the location stands at the rank
+abbrev pub HasRank : List Location → List ℕ → ℕ → ℕ → Type 0
+HasRank locations heads k rank =
+    (rank < length heads) × (path_at locations (slice_index_or heads rank 0) ≡ path_at locations k)
+
+-- the point is a line of the program
+pub record IsPointOf (locations : List Location) (heads : List ℕ) (point : Point) : Type 0 where
+  pub within : point.line < length locations
+  pub rank : HasRank locations heads point.line point.rank
+  pub number : point.number ≡ number_at_location locations point.line
+
+-- a node of a tree for each line
+pub record AreNodes (locations : List Location) (heads : List ℕ) (nodes : List Node) : Type 0 where
+  pub tree : IsTree nodes
+  pub own : (i : ℕ) → i < length nodes → IsPointOf locations heads (point_at nodes i)
+  pub each : (k : ℕ) → k < length locations
+      → (i : ℕ) × (i < length nodes) × ((point_at nodes i).line ≡ k)
+
+-- a point for each line, in their order
+pub record ArePoints (locations : List Location) (heads : List ℕ) (points : List Point) : Type 0 where
+  pub as_many : length points ≡ length locations
+  pub own : All (IsPointOf locations heads) points
+  pub each : (k : ℕ) (d : Point) → k < length points → (slice_index_or points k d).line ≡ k
+
+-- the locations of lines that rise, of each path one, and a node for each
+pub record AreLines (locations : List Location) (list : List ℕ) (tree : List Node) : Type 0 where
+  pub few : length locations < 2 ^ 32
+  pub rising : AllPairs IsBefore (lines_at locations)
+  pub right : All IsSpelled locations
+  pub heads : AreHeads locations list
+  pub nodes : AreNodes locations list tree
 
 -- ---- the lines of a region
 
@@ -95,13 +127,13 @@ claimed numbers line number =
     slice_set numbers line (or_else (number_at numbers line) (Some number))
 
 -- the mark of a line with a number, if there is one
-abbrev pub mark_with : Place → ℕ → Option ℕ → List Mark
-mark_with place line None = []
-mark_with place line (Some number) =
-    if has_zero place.path.now then []
-    else record { position = line; line = record { path = place.path.now; number = number } } ∷ []
+abbrev pub mark_with : Location → ℕ → Option ℕ → List Mark
+mark_with location line None = []
+mark_with location line (Some number) =
+    if has_zero location.path.now then []
+    else record { position = line; line = record { path = location.path.now; number = number } } ∷ []
 
 -- a mark of a line below a count
 pub record IsMarkOf (count : ℕ) (m : coded) : Type 0 where
   pub within : m.line.0 < count
-  pub text : IsText m.place
+  pub text : IsText m.location

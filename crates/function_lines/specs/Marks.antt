@@ -5,9 +5,9 @@ use Rattle.coz_types.specs.declared.LineId.{LineId}
 use Rattle.coz_types.specs.Labels.{Text, is_empty, is_written, path_of, number_of}
 use Rattle.line_index.specs.Index.{Index, position_at}
 use Rattle.line_index.specs.Lines.{Line, label}
-use Rattle.function_lines.specs.declared.labels.Place.{Place}
+use Rattle.function_lines.specs.declared.labels.Location.{Location}
 use Rattle.function_lines.specs.declared.marks.Mark.{Mark as coded}
-use Rattle.function_lines.specs.Labels.{line_of_place}
+use Rattle.function_lines.specs.Labels.{line_of_location}
 
 -- ---- lines as their labels spell them
 
@@ -39,12 +39,12 @@ abbrev pub own_line : Index → ℕ → Option Line
 own_line index a = option_and_then (line_at index) (position_at index a)
 
 -- a path and a number that a line table can give a line
-pub record IsText (place : Place) : Type 0 where
-  pub named : is_empty place.path.now ≡ false
-  pub written : is_written place.path.now ≡ true
-  pub text : has_zero place.path.now ≡ false
-  pub numbered : 0 < place.number
-  pub small : place.number < 2 ^ 32
+pub record IsText (location : Location) : Type 0 where
+  pub named : is_empty location.path.now ≡ false
+  pub written : is_written location.path.now ≡ true
+  pub text : has_zero location.path.now ≡ false
+  pub numbered : 0 < location.number
+  pub small : location.number < 2 ^ 32
 
 -- ---- marks
 
@@ -55,14 +55,14 @@ pub record Mark : Type 0 where
 
 -- a mark without where its path lies in memory
 abbrev pub mark_of : coded → Mark
-mark_of m = record { position = m.line.0; line = line_of_place m.place }
+mark_of m = record { position = m.line.0; line = line_of_location m.location }
 
 abbrev pub marks_of : List coded → List Mark
 marks_of marks = map mark_of marks
 
 pub record IsMark (index : Index) (m : coded) : Type 0 where
   pub within : m.line.0 < length index.lines
-  pub text : IsText m.place
+  pub text : IsText m.location
 
 -- the positions of lines
 abbrev pub positions_of : List LineId → List ℕ

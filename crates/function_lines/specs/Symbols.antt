@@ -8,14 +8,14 @@ use Rattle.coz_types.specs.declared.image.Area.{Area}
 use Rattle.elf_load.specs.Tables.{number, places}
 use Rattle.function_lines.specs.declared.symbols.Symbol.{Symbol}
 
--- the entry at a place
+-- the entry at an offset
 abbrev pub symbol_at : List ℕ → ℕ → Symbol
-symbol_at table place = record {
-  name = number w32 table place;
-  kind = slice_index table (place + 4) % 16;
-  section = number w16 table (place + 6);
-  address = number w64 table (place + 8);
-  size = number w64 table (place + 16);
+symbol_at table offset = record {
+  name = number w32 table offset;
+  kind = slice_index table (offset + 4) % 16;
+  section = number w16 table (offset + 6);
+  address = number w64 table (offset + 8);
+  size = number w64 table (offset + 16);
 }
 
 -- the whole entries, of 24 bytes each

@@ -10,9 +10,9 @@ use Rattle.line_unit.specs.Unit.{double}
 -- the file and after it the unit, with the section header at an offset that names the unit:
 -- sh_offset is 24 bytes after the header's offset, and sh_size 32
 abbrev pub with_section : List ℕ → List ℕ → ℕ → List ℕ
-with_section file unit place =
-    take (place + 24) file
-    ++ (double (length file) ++ (double (length unit) ++ (drop (place + 40) file ++ unit)))
+with_section file unit offset =
+    take (offset + 24) file
+    ++ (double (length file) ++ (double (length unit) ++ (drop (offset + 40) file ++ unit)))
 
 -- the file whose section `.debug_line` is to be the unit, unless it has no such section
 abbrev pub with_lines : List ℕ → List ℕ → Option (List ℕ)

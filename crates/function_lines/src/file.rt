@@ -19,7 +19,7 @@ ghost use Rattle.function_lines.specs.declared.file.FunctionsError.TheVariants.{
 
 use crate::labels::function_sequence;
 use crate::lines::{Lines, Region};
-use crate::marks::{Mark, kept_marks, place_at};
+use crate::marks::{Mark, kept_marks, location_at};
 use crate::relined::{LINES, LinesError, with_lines};
 use crate::runs::{Sequences, push_kept};
 use crate::symbols::{Functions, Symbol, ended, functions, name_of};
@@ -32,9 +32,9 @@ use std::alloc::{AllocError, Global};
 /// Why a program has no file in which each function is one line.
 #[derive(Clone, Copy, Debug, PartialEq, Eq)]
 pub enum FunctionsError {
-    /// It has no function: no symbol table, or no function in it.
+    /// The file has no function: no symbol table, or no function in it.
     NoFunctions,
-    /// It has no section `.debug_line`.
+    /// The file has no section `.debug_line`.
     NoLines,
     /// The file would have more than 33,554,432 bytes.
     Much,
@@ -98,8 +98,8 @@ fn sequence_of(
     ensures of { IfOk result (λ s. IsOfFunction index.now names.now symbol.now (view s)) }
     ensures writable { IfOk result (λ s. IsWritable (view s)) }
 {
-    let place = place_at(index, symbol.address);
-    function_sequence(alloc, symbol, name_of(names, symbol), place)
+    let location = location_at(index, symbol.address);
+    function_sequence(alloc, symbol, name_of(names, symbol), location)
 }
 
 /// Adds the sequences of functions.

@@ -13,12 +13,12 @@ use crate::symbols::Symbol;
 use line_unit::Sequence;
 use std::alloc::{AllocError, Global};
 
-/// A line of a program: a written path and a number.
+/// Where a line of a program is: a written path and a number.
 #[derive(Clone, Copy)]
-pub struct Place<'a> {
-    /// Its path, as labels have it.
+pub struct Location<'a> {
+    /// The path, as labels have it.
     pub path: &'a [u8],
-    /// Its number.
+    /// The number of the line.
     pub number: u32,
 }
 
@@ -45,20 +45,20 @@ pub fn function_sequence(
     alloc: Global,
     symbol: &Symbol,
     name: &[u8],
-    place: Option<Place>,
+    location: Option<Location>,
 ) -> Result<Sequence, AllocError>
-    requires place { IfSome place IsText }
+    requires location { IfSome location IsText }
     requires named { 0 < length name.now }
     requires text { AllPass (λ b. not (b == 0)) name.now }
     requires within { symbol.now.address + symbol.now.size < 2 ^ 64 }
     ensures line { IfOk result (λ s.
-        line_of_sequence (view s) ≡ labelled name.now (lines_of place.entry)) }
+        line_of_sequence (view s) ≡ labelled name.now (lines_of location.entry)) }
     ensures address { IfOk result (λ s. s.address ≡ symbol.now.address) }
     ensures size { IfOk result (λ s. s.size ≡ symbol.now.size) }
     ensures writable { IfOk result (λ s. IsWritable (view s)) }
 {
-    let (path, number) = match place {
-        Some(place) => (path_below(alloc, place.path, name)?, place.number),
+    let (path, number) = match location {
+        Some(location) => (path_below(alloc, location.path, name)?, location.number),
         None => (Vec::from_slice(alloc, name)?, 1),
     };
     Ok(Sequence {

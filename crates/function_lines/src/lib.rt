@@ -8,15 +8,17 @@ mod file;
 mod labels;
 mod lines;
 mod marks;
+mod points;
 mod raw_paths;
 mod regions;
 mod relined;
 mod runs;
 mod same_program;
 mod symbols;
+mod tree;
 
 pub use file::{FunctionsError, by_function, by_marks};
-pub use labels::{Place, function_sequence};
+pub use labels::{Location, function_sequence};
 pub use lines::{Lines, Region};
 pub use marks::{Mark, kept_marks};
 pub use raw_paths::unwritten;

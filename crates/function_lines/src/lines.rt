@@ -3,14 +3,16 @@
 ghost use Rattle.std.specs.Prelude.{◌≡◌, ◌≤◌, ◌<◌, ◌^◌, length, option_map, AllPairs, All, IfOk, IfSome};
 ghost use Rattle.line_index.specs.Changes.{least};
 ghost use Rattle.line_index.specs.Lines.{line_cmp};
-ghost use Rattle.function_lines.specs.Labels.{line_of_place};
-ghost use Rattle.function_lines.specs.Lines.{AreHeads, IsBefore, IsBelow, IsFirst, IsIn, IsSpan, IsSpelled, line_in, lines_at};
+ghost use Rattle.function_lines.specs.Labels.{line_of_location};
+ghost use Rattle.function_lines.specs.Lines.{AreHeads, AreNodes, IsBefore, IsBelow, IsFirst, IsIn, IsSpan, IsSpelled, line_in, lines_at};
 ghost use Rattle.function_lines.specs.Marks.{spelled_lines};
 ghost use Rattle.function_lines.specs.Regions.{first_of, region_found, region_of};
 
-use crate::endings::{heads, path_at, stretch_of};
-use crate::labels::Place;
-use crate::marks::place_of;
+use crate::endings::{heads, stretch_of};
+use crate::labels::Location;
+use crate::marks::location_of;
+use crate::points::nodes_of;
+use crate::tree::{Interval, Node, Rectangle, first_within};
 use coz_types::LineId;
 use line_index::LineIndex;
 use std::alloc::{AllocError, Global};
@@ -31,9 +33,11 @@ pub struct Region<'a> {
 /// The lines of a program in order, by path and number. Contracts see the list of them.
 #[derive(Drop)]
 pub struct Lines<'a> {
-    pub(crate) places: Vec<Place<'a>>,
-    // The offset of one place of each path, by the bytes from the last to the first.
+    pub(crate) locations: Vec<Location<'a>>,
+    // The offset of one location of each path, by the bytes from the last to the first.
     heads: Vec<u32>,
+    // A tree of the lines, by the ranks of their paths in that order and by their numbers.
+    nodes: Vec<Node>,
 }
 
 impl<'a> Model for Lines<'a> {
@@ -43,31 +47,31 @@ impl<'a> Model for Lines<'a> {
 
     ghost Value = { List Line };
 
-    ghost view = { λ lines. lines_at lines.places.items };
+    ghost view = { λ lines. lines_at lines.locations.items };
 
-    ghost invariant = { λ lines. AreLines lines.places.items lines.heads.items };
+    ghost invariant = { λ lines. AreLines lines.locations.items lines.heads.items lines.nodes.items };
 }
 
 /// The lines of a program in order, as their labels spell them.
-fn places_of<'a>(alloc: Global, index: &'a LineIndex) -> Result<Vec<Place<'a>>, AllocError>
-    ensures lines { IfOk result (λ places. lines_at places.items ≡ spelled_lines index.now) }
-    ensures rising { IfOk result (λ places. AllPairs IsBefore (lines_at places.items)) }
-    ensures right { IfOk result (λ places. All IsSpelled places.items) }
-    ensures few { IfOk result (λ places. length places.items < 2 ^ 32) }
+fn locations_of<'a>(alloc: Global, index: &'a LineIndex) -> Result<Vec<Location<'a>>, AllocError>
+    ensures lines { IfOk result (λ locations. lines_at locations.items ≡ spelled_lines index.now) }
+    ensures rising { IfOk result (λ locations. AllPairs IsBefore (lines_at locations.items)) }
+    ensures right { IfOk result (λ locations. All IsSpelled locations.items) }
+    ensures few { IfOk result (λ locations. length locations.items < 2 ^ 32) }
 {
-    let mut places = Vec::new(alloc);
+    let mut locations = Vec::new(alloc);
     for line in 0..index.count() {
-        places.push(place_of(index.label(LineId(line)).bytes()))?;
+        locations.push(location_of(index.label(LineId(line)).bytes()))?;
     }
-    Ok(places)
+    Ok(locations)
 }
 
 /// The order of a line and the line of a path and a number.
-fn line_cmp(place: &Place, path: &[u8], number: u32) -> Ordering
+fn line_cmp(location: &Location, path: &[u8], number: u32) -> Ordering
     ensures { result
-        ≡ line_cmp (line_of_place place.now) (record { path = path.now; number = number }) }
+        ≡ line_cmp (line_of_location location.now) (record { path = path.now; number = number }) }
 {
-    place.path.cmp(path).then(place.number.cmp(&number))
+    location.path.cmp(path).then(location.number.cmp(&number))
 }
 
 /// Some lines that stand side by side.
@@ -80,22 +84,30 @@ pub struct Span {
 }
 
 /// The lines of a region.
-pub fn span_of(places: &[Place], region: &Region) -> Span
-    requires { AllPairs IsBefore (lines_at places.now) }
-    ensures span { IsSpan (lines_at places.now) (region_of region.now) result.start result.end }
-    ensures within { result.end ≤ length places.now }
+pub fn span_of(locations: &[Location], region: &Region) -> Span
+    requires { AllPairs IsBefore (lines_at locations.now) }
+    ensures span { IsSpan (lines_at locations.now) (region_of region.now) result.start result.end }
+    ensures within { result.end ≤ length locations.now }
 {
-    let start = places.partition_point(|place| line_cmp(place, region.path, region.first).is_lt());
-    let end = places.partition_point(|place| line_cmp(place, region.path, region.last).is_le());
+    let start = locations.partition_point(|location| line_cmp(
+        location,
+        region.path,
+        region.first,
+    ).is_lt());
+    let end = locations.partition_point(|location| line_cmp(
+        location,
+        region.path,
+        region.last,
+    ).is_le());
     Span { start, end }
 }
 
 /// The offset of the first line of a region, if it has one.
-fn first_in(places: &[Place], region: &Region) -> Option<usize>
-    requires { AllPairs IsBefore (lines_at places.now) }
-    ensures { IsFirst (length places.now) (IsIn (lines_at places.now) (region_of region.now)) result }
+fn first_in(locations: &[Location], region: &Region) -> Option<usize>
+    requires { AllPairs IsBefore (lines_at locations.now) }
+    ensures { IsFirst (length locations.now) (IsIn (lines_at locations.now) (region_of region.now)) result }
 {
-    let span = span_of(places, region);
+    let span = span_of(locations, region);
     if span.start < span.end {
         Some(span.start)
     } else {
@@ -104,7 +116,7 @@ fn first_in(places: &[Place], region: &Region) -> Option<usize>
 }
 
 /// The lesser of two offsets.
-fn least(one: Option<usize>, other: Option<usize>) -> Option<usize>
+pub fn least(one: Option<usize>, other: Option<usize>) -> Option<usize>
     ensures { result ≡ least one other }
 {
     match (one, other) {
@@ -116,36 +128,48 @@ fn least(one: Option<usize>, other: Option<usize>) -> Option<usize>
 
 /// The offset of the first line of the region's numbers with a path that ends with a slash and
 /// the region's, if there is one.
-fn first_below(places: &[Place], heads: &[u32], region: &Region) -> Option<usize>
-    requires rising { AllPairs IsBefore (lines_at places.now) }
-    requires heads { AreHeads places.now heads.now }
-    ensures { IsFirst (length places.now) (IsBelow (lines_at places.now) (region_of region.now))
+fn first_below(
+    locations: &[Location],
+    heads: &[u32],
+    nodes: &[Node],
+    region: &Region,
+) -> Option<usize>
+    requires few { length locations.now < 2 ^ 32 }
+    requires heads { AreHeads locations.now heads.now }
+    requires nodes { AreNodes locations.now heads.now nodes.now }
+    ensures { IsFirst (length locations.now) (IsBelow (lines_at locations.now) (region_of region.now))
         result }
 {
-    let stretch = stretch_of(places, heads, region.path);
-    let mut found = None;
-    for rank in stretch.start..stretch.end {
-        let whole = Region {
-            path: path_at(places, heads[rank]),
-            first: region.first,
-            last: region.last,
-        };
-        found = least(found, first_in(places, &whole));
+    let stretch = stretch_of(locations, heads, region.path);
+    if stretch.start >= stretch.end {
+        return None;
     }
-    found
+    let wanted = Rectangle {
+        ranks: Interval {
+            least: stretch.start as u32,
+            greatest: (stretch.end - 1) as u32,
+        },
+        numbers: Interval {
+            least: region.first,
+            greatest: region.last,
+        },
+    };
+    first_within(nodes, &wanted)
 }
 
 /// The offset of the line by which a region is found, if there is one.
-fn first_of(places: &[Place], heads: &[u32], region: &Region) -> Option<usize>
-    requires rising { AllPairs IsBefore (lines_at places.now) }
-    requires heads { AreHeads places.now heads.now }
-    ensures line { option_map (line_in (lines_at places.now)) result
-        ≡ first_of (lines_at places.now) (region_of region.now) }
-    ensures within { IfSome result (λ offset. offset < length places.now) }
+fn first_of(locations: &[Location], heads: &[u32], nodes: &[Node], region: &Region) -> Option<usize>
+    requires few { length locations.now < 2 ^ 32 }
+    requires rising { AllPairs IsBefore (lines_at locations.now) }
+    requires heads { AreHeads locations.now heads.now }
+    requires nodes { AreNodes locations.now heads.now nodes.now }
+    ensures line { option_map (line_in (lines_at locations.now)) result
+        ≡ first_of (lines_at locations.now) (region_of region.now) }
+    ensures within { IfSome result (λ offset. offset < length locations.now) }
 {
-    match first_in(places, region) {
+    match first_in(locations, region) {
         Some(offset) => Some(offset),
-        None => first_below(places, heads, region),
+        None => first_below(locations, heads, nodes, region),
     }
 }
 
@@ -154,9 +178,14 @@ impl<'a> Lines<'a> {
     pub fn new(alloc: Global, index: &'a LineIndex) -> Result<Lines<'a>, AllocError>
         ensures { IfOk result (λ lines. lines ≡ spelled_lines index.now) }
     {
-        let places = places_of(alloc, index)?;
-        let heads = heads(alloc, &places)?;
-        Ok(Lines { places, heads })
+        let locations = locations_of(alloc, index)?;
+        let heads = heads(alloc, &locations)?;
+        let nodes = nodes_of(alloc, &locations, &heads)?;
+        Ok(Lines {
+            locations,
+            heads,
+            nodes,
+        })
     }
 
     /// The region with the whole path that its path names, if it has a line: the lines of its
@@ -167,9 +196,9 @@ impl<'a> Lines<'a> {
             ≡ region_found self.now (region_of region.now) }
         ensures first { IfSome result (λ found. found.first ≡ region.now.first) }
     {
-        let offset = first_of(&self.places, &self.heads, region)?;
+        let offset = first_of(&self.locations, &self.heads, &self.nodes, region)?;
         Some(Region {
-            path: self.places[offset].path,
+            path: self.locations[offset].path,
             first: region.first,
             last: region.last,
         })

@@ -7,7 +7,7 @@ ghost use Rattle.function_lines.specs.Labels.{lines_of};
 ghost use Rattle.function_lines.specs.Marks.{IsMark, IsText, has_zero, kept_marks, line_at, marks_of, own_line, positions_of};
 ghost use Rattle.function_lines.specs.Sound.{IsSound};
 
-use crate::labels::Place;
+use crate::labels::Location;
 use coz_types::{Address, LineId, MAX_LINE};
 use line_index::LineIndex;
 use profile_lists::decimal;
@@ -19,7 +19,7 @@ pub struct Mark<'a> {
     /// The line whose addresses they are.
     pub line: LineId,
     /// The line that gets them.
-    pub place: Place<'a>,
+    pub location: Location<'a>,
 }
 
 /// A zero byte as written paths have it.
@@ -70,18 +70,18 @@ fn line_number(text: &[u8]) -> u32
 }
 
 /// The path and the number of a label.
-pub fn place_of<'a>(label: &'a [u8]) -> Place<'a>
+pub fn location_of<'a>(label: &'a [u8]) -> Location<'a>
     requires { is_label label.now ≡ true }
     ensures path { result.path.now ≡ path_of label.now }
     ensures number { result.number ≡ number_of label.now }
     ensures right { has_zero (path_of label.now) ≡ false → IsText result }
 {
     match last_colon(label) {
-        Some(colon) => Place {
+        Some(colon) => Location {
             path: &label[..colon],
             number: line_number(&label[colon + 1..]),
         },
-        None => Place {
+        None => Location {
             path: label,
             number: 0,
         },
@@ -89,26 +89,26 @@ pub fn place_of<'a>(label: &'a [u8]) -> Place<'a>
 }
 
 /// A line as its label spells it, unless a zero byte stands in its path.
-fn place_of_line<'a>(index: &'a LineIndex, line: LineId) -> Option<Place<'a>>
+fn location_of_line<'a>(index: &'a LineIndex, line: LineId) -> Option<Location<'a>>
     requires { line.0 < length index.now.lines }
-    ensures place { lines_of result ≡ line_at index.now line.0 }
+    ensures location { lines_of result ≡ line_at index.now line.0 }
     ensures text { IfSome result IsText }
 {
-    let place = place_of(index.label(line).bytes());
-    if has_zero(place.path) {
+    let location = location_of(index.label(line).bytes());
+    if has_zero(location.path) {
         return None;
     }
-    Some(place)
+    Some(location)
 }
 
 /// The line of an address, unless it has none or a zero byte stands in its path.
-pub fn place_at<'a>(index: &'a LineIndex, address: Address) -> Option<Place<'a>>
+pub fn location_at<'a>(index: &'a LineIndex, address: Address) -> Option<Location<'a>>
     requires { IsSound index.now }
-    ensures place { lines_of result ≡ own_line index.now address }
+    ensures location { lines_of result ≡ own_line index.now address }
     ensures text { IfSome result IsText }
 {
     match index.line_of(address) {
-        Some(line) => place_of_line(index, line),
+        Some(line) => location_of_line(index, line),
         None => None,
     }
 }
@@ -125,8 +125,8 @@ fn push_kept<'a>(
     ensures right { IfOk result (λ _. All (IsMark index.now) marks.old.items
         → All (IsMark index.now) marks.new.items) }
 {
-    if let Some(place) = place_of_line(index, line) {
-        marks.push(Mark { line, place })?;
+    if let Some(location) = location_of_line(index, line) {
+        marks.push(Mark { line, location })?;
     }
     Ok(())
 }

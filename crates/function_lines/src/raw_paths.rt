@@ -56,11 +56,11 @@ pub fn unwritten(alloc: Global, path: &[u8]) -> Result<Vec<u8>, AllocError>
     ensures { IfOk result (λ v. written v.items ≡ path.now) }
 {
     let mut out = Vec::new(alloc);
-    let mut place = 0;
-    while place < path.len() {
-        let next = next_byte(&path[place..]);
+    let mut offset = 0;
+    while offset < path.len() {
+        let next = next_byte(&path[offset..]);
         out.push(next.byte)?;
-        place += next.length;
+        offset += next.length;
     }
     Ok(out)
 }

@@ -3,31 +3,35 @@
 ghost use Rattle.std.specs.Prelude.{◌≡◌, ◌<◌, ◌^◌, ◌++◌, ◌∷◌, ℕ, [], true, false, None, length, All, AllPairs, IfOk, IfSome};
 ghost use Rattle.std.specs.List.{filter_map};
 ghost use Rattle.function_lines.specs.declared.lines.Region.{Region};
-ghost use Rattle.function_lines.specs.declared.labels.Place.{Place};
+ghost use Rattle.function_lines.specs.declared.labels.Location.{Location};
 ghost use Rattle.function_lines.specs.declared.marks.Mark.{Mark};
-ghost use Rattle.function_lines.specs.Labels.{line_of_place};
+ghost use Rattle.function_lines.specs.Labels.{line_of_location};
 ghost use Rattle.function_lines.specs.Lines.{IsBefore, IsMarkOf, IsSpelled, first_number, line_in, lines_at, mark_with, number_at};
 ghost use Rattle.function_lines.specs.Marks.{IsText, has_zero, marks_of};
 ghost use Rattle.function_lines.specs.Regions.{region_mark, region_marks, regions_of};
 
 use crate::claims::Claims;
-use crate::labels::Place;
+use crate::labels::Location;
 use crate::lines::{Lines, Region, span_of};
 use crate::marks::{Mark, has_zero};
 use coz_types::LineId;
 use std::alloc::{AllocError, Global};
 
 /// For each line the number with which the first region begins that has it.
-fn claims_of(alloc: Global, places: &[Place], regions: &[Region]) -> Result<Claims, AllocError>
-    requires few { length places.now < 2 ^ 32 }
-    requires rising { AllPairs IsBefore (lines_at places.now) }
-    ensures as_many { IfOk result (λ claims. length claims ≡ length places.now) }
-    ensures numbers { IfOk result (λ claims. (k : ℕ) → k < length places.now → number_at claims k
-        ≡ first_number (regions_of regions.now) (line_in (lines_at places.now) k)) }
+fn claims_of(
+    alloc: Global,
+    locations: &[Location],
+    regions: &[Region],
+) -> Result<Claims, AllocError>
+    requires few { length locations.now < 2 ^ 32 }
+    requires rising { AllPairs IsBefore (lines_at locations.now) }
+    ensures as_many { IfOk result (λ claims. length claims ≡ length locations.now) }
+    ensures numbers { IfOk result (λ claims. (k : ℕ) → k < length locations.now → number_at claims k
+        ≡ first_number (regions_of regions.now) (line_in (lines_at locations.now) k)) }
 {
-    let mut claims = Claims::new(alloc, places.len())?;
+    let mut claims = Claims::new(alloc, locations.len())?;
     for region in regions {
-        let span = span_of(places, region);
+        let span = span_of(locations, region);
         claims.claim_all(span.start, span.end, region.first);
     }
     Ok(claims)
@@ -36,30 +40,30 @@ fn claims_of(alloc: Global, places: &[Place], regions: &[Region]) -> Result<Clai
 /// Adds the mark of a line with this number, if there is one.
 fn push_mark<'a>(
     marks: &mut Vec<Mark<'a>>,
-    place: &Place<'a>,
+    location: &Location<'a>,
     line: u32,
     number: Option<u32>,
 ) -> Result<(), AllocError>
-    requires right { IsSpelled place.now }
+    requires right { IsSpelled location.now }
     requires numbered { IfSome number (λ number. 0 < number) }
     ensures marks { IfOk result (λ _. marks_of marks.new.items
-        ≡ marks_of marks.old.items ++ mark_with place.now line number) }
+        ≡ marks_of marks.old.items ++ mark_with location.now line number) }
     ensures right { (count : ℕ) → line < count → IfOk result (λ _.
         All (IsMarkOf count) marks.old.items → All (IsMarkOf count) marks.new.items) }
 {
     let Some(number) = number else {
         return Ok(());
     };
-    if has_zero(place.path) {
+    if has_zero(location.path) {
         return Ok(());
     }
-    let place = Place {
-        path: place.path,
+    let location = Location {
+        path: location.path,
         number,
     };
     marks.push(Mark {
         line: LineId(line),
-        place,
+        location,
     })?;
     Ok(())
 }
@@ -73,12 +77,12 @@ impl<'a> Lines<'a> {
             marks_of marks.items ≡ region_marks self.now (regions_of regions.now)) }
         ensures right { IfOk result (λ marks. All (IsMarkOf (length self.now)) marks.items) }
     {
-        let claims = claims_of(alloc, &self.places, regions)?;
+        let claims = claims_of(alloc, &self.locations, regions)?;
         let mut marks = Vec::new(alloc);
-        for line in 0..self.places.len() {
+        for line in 0..self.locations.len() {
             push_mark(
                 &mut marks,
-                &self.places[line],
+                &self.locations[line],
                 line as u32,
                 claims.number(line),
             )?;

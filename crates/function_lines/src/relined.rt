@@ -19,7 +19,7 @@ use std::alloc::{AllocError, Global};
 /// Why a program has no file with other lines.
 #[derive(Clone, Copy, Debug, PartialEq, Eq)]
 pub enum LinesError {
-    /// It has no section `.debug_line`.
+    /// The file has no section `.debug_line`.
     NoLines,
     /// The header of that section cannot be changed: with it the program, or what the file's
     /// sections are, would change.
@@ -54,15 +54,15 @@ fn with_section(
     alloc: Global,
     file: &[u8],
     unit: &[u8],
-    place: usize,
+    offset: usize,
 ) -> Result<Vec<u8>, AllocError>
-    requires { place + 64 ≤ length file.now }
-    ensures { IfOk result (λ v. v.items ≡ with_section file.now unit.now place) }
+    requires { offset + 64 ≤ length file.now }
+    ensures { IfOk result (λ v. v.items ≡ with_section file.now unit.now offset) }
 {
-    let mut out = Vec::from_slice(alloc, &file[..place + SH_OFFSET])?;
+    let mut out = Vec::from_slice(alloc, &file[..offset + SH_OFFSET])?;
     push_double(&mut out, file.len() as u64)?;
     push_double(&mut out, unit.len() as u64)?;
-    out.extend_from_slice(&file[place + SH_SIZE + 8..])?;
+    out.extend_from_slice(&file[offset + SH_SIZE + 8..])?;
     out.extend_from_slice(unit)?;
     Ok(out)
 }
@@ -113,11 +113,11 @@ pub fn with_lines(alloc: Global, image: &Image, unit: &[u8]) -> Result<Vec<u8>, 
         section v.items (codes ".debug_line") ≡ Some unit.now) }
     ensures cause { IfErr result (IsCause image.now unit.now) }
 {
-    let place = match section_place(image, LINES) {
-        Some(place) => place as usize,
+    let offset = match section_place(image, LINES) {
+        Some(offset) => offset as usize,
         None => return Err(LinesError::NoLines),
     };
-    let file = with_section(alloc, image.file(), unit, place)?;
+    let file = with_section(alloc, image.file(), unit, offset)?;
     if !has_lines(alloc, image, unit, &file)? {
         return Err(LinesError::Overlap);
     }

@@ -16,7 +16,7 @@ use std::alloc::{AllocError, Global};
 
 /// The most bytes that the paths of sequences have together, 128 MiB: four times those of the
 /// largest file of a program.
-const MOST_PATHS: usize = 0x800_0000;
+const MAX_PATHS: usize = 0x800_0000;
 
 /// Sequences, and how many bytes their paths have together.
 #[derive(Drop)]
@@ -38,13 +38,13 @@ impl Sequences {
         }
     }
 
-    /// Adds a sequence. Out of memory too if the paths have more bytes than `MOST_PATHS`.
+    /// Adds a sequence. Out of memory too if the paths have more bytes than `MAX_PATHS`.
     pub fn push(&mut self, sequence: Sequence) -> Result<(), AllocError>
         ensures { IfOk result (λ _.
             self.new.list.items ≡ self.old.list.items ++ sequence ∷ []) }
     {
         self.bytes = self.bytes.saturating_add(sequence.path.len());
-        if self.bytes > MOST_PATHS {
+        if self.bytes > MAX_PATHS {
             return Err(AllocError);
         }
         self.list.push(sequence)?;
@@ -79,10 +79,10 @@ fn run(
     ensures writable { IfOk result (λ s. IsWritable (view s)) }
 {
     let end = run_end(index, mark.line, entry);
-    let path = unwritten(alloc, mark.place.path)?;
+    let path = unwritten(alloc, mark.location.path)?;
     Ok(Sequence {
         path,
-        number: mark.place.number,
+        number: mark.location.number,
         address: entry,
         size: end - entry,
     })

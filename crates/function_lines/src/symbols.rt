@@ -34,7 +34,7 @@ pub type Functions = BTreeMap<Address, Symbol>;
 /// The bytes of an entry.
 const SYM_SIZE: usize = 24;
 
-// The places of fields in an entry.
+// The offsets of fields in an entry.
 
 /// st_info, one byte.
 const ST_INFO: usize = 4;
@@ -49,39 +49,39 @@ const ST_SIZE: usize = 16;
 const STT_FUNC: u8 = 2;
 
 #[tactic(auto, unfolding(elf_load::specs::Tables::number))]
-fn half_at(table: &[u8], place: usize) -> u16
-    requires { place + 2 ≤ length table.now }
-    ensures { result ≡ number w16 table.now place }
+fn half_at(table: &[u8], offset: usize) -> u16
+    requires { offset + 2 ≤ length table.now }
+    ensures { result ≡ number w16 table.now offset }
 {
-    LittleEndian::read_u16(&table[place..])
+    LittleEndian::read_u16(&table[offset..])
 }
 
 #[tactic(auto, unfolding(elf_load::specs::Tables::number))]
-fn word_at(table: &[u8], place: usize) -> u32
-    requires { place + 4 ≤ length table.now }
-    ensures { result ≡ number w32 table.now place }
+fn word_at(table: &[u8], offset: usize) -> u32
+    requires { offset + 4 ≤ length table.now }
+    ensures { result ≡ number w32 table.now offset }
 {
-    LittleEndian::read_u32(&table[place..])
+    LittleEndian::read_u32(&table[offset..])
 }
 
 #[tactic(auto, unfolding(elf_load::specs::Tables::number))]
-fn double_at(table: &[u8], place: usize) -> u64
-    requires { place + 8 ≤ length table.now }
-    ensures { result ≡ number w64 table.now place }
+fn double_at(table: &[u8], offset: usize) -> u64
+    requires { offset + 8 ≤ length table.now }
+    ensures { result ≡ number w64 table.now offset }
 {
-    LittleEndian::read_u64(&table[place..])
+    LittleEndian::read_u64(&table[offset..])
 }
 
-fn symbol_at(table: &[u8], place: usize) -> Symbol
-    requires { place + 24 ≤ length table.now }
-    ensures { result ≡ symbol_at table.now place }
+fn symbol_at(table: &[u8], offset: usize) -> Symbol
+    requires { offset + 24 ≤ length table.now }
+    ensures { result ≡ symbol_at table.now offset }
 {
     Symbol {
-        name: word_at(table, place),
-        kind: table[place + ST_INFO] % 16,
-        section: half_at(table, place + ST_SHNDX),
-        address: double_at(table, place + ST_VALUE),
-        size: double_at(table, place + ST_SIZE),
+        name: word_at(table, offset),
+        kind: table[offset + ST_INFO] % 16,
+        section: half_at(table, offset + ST_SHNDX),
+        address: double_at(table, offset + ST_VALUE),
+        size: double_at(table, offset + ST_SIZE),
     }
 }
 
@@ -101,8 +101,8 @@ pub fn ended(names: &[u8]) -> &[u8]
 fn has_name(names: &[u8], symbol: &Symbol) -> bool
     ensures { result ≡ has_name names.now symbol.now }
 {
-    let place = symbol.name as usize;
-    place < names.len() && names[place] != 0
+    let offset = symbol.name as usize;
+    offset < names.len() && names[offset] != 0
 }
 
 fn is_function(code: &Code, names: &[u8], symbol: &Symbol) -> bool
@@ -170,8 +170,8 @@ pub fn functions(
 pub fn name_of<'a>(names: &'a [u8], symbol: &Symbol) -> &'a [u8]
     ensures { result.now ≡ name_of names.now symbol.now }
 {
-    let place = (symbol.name as usize).min(names.len());
-    up_to_zero(&names[place..])
+    let offset = (symbol.name as usize).min(names.len());
+    up_to_zero(&names[offset..])
 }
 
 /// The bytes up to the first zero byte.

@@ -8,8 +8,8 @@ use Rattle.function_lines.proofs.endings.stretch_of.Goals as goal
 
 pub returns-clause-stretch : goal.returns-clause-stretch
 returns-clause-stretch c =
-    is_stretch (paths_at c.args.places.now) c.args.heads.now c.args.text.now c.partition_point-start.result c.partition_point-end.result
-    (IsPartitionPoint-from_clause (λ (p : ℕ). is_lt (start_cmp (ending c.args.text.now) (backward (paths_at c.args.places.now) p))) _ _ c.partition_point-start.ensures.partitioned
-    (before_parts (paths_at c.args.places.now) c.args.heads.now (ending c.args.text.now) c.requires.in_order) (λ a r q k. search rules))
-    (IsPartitionPoint-from_clause (λ (p : ℕ). is_le (start_cmp (ending c.args.text.now) (backward (paths_at c.args.places.now) p))) _ _ c.partition_point-end.ensures.partitioned
-    (upto_parts (paths_at c.args.places.now) c.args.heads.now (ending c.args.text.now) c.requires.in_order) (λ a r q k. search rules))
+    is_stretch (paths_at c.args.locations.now) c.args.heads.now c.args.text.now c.partition_point-start.result c.partition_point-end.result
+    (IsPartitionPoint-from_clause (λ (p : ℕ). is_lt (start_cmp (ending c.args.text.now) (backward (paths_at c.args.locations.now) p))) _ _ c.partition_point-start.ensures.partitioned
+    (before_parts (paths_at c.args.locations.now) c.args.heads.now (ending c.args.text.now) c.requires.in_order) (λ a r q k. search rules))
+    (IsPartitionPoint-from_clause (λ (p : ℕ). is_le (start_cmp (ending c.args.text.now) (backward (paths_at c.args.locations.now) p))) _ _ c.partition_point-end.ensures.partitioned
+    (upto_parts (paths_at c.args.locations.now) c.args.heads.now (ending c.args.text.now) c.requires.in_order) (λ a r q k. search rules))

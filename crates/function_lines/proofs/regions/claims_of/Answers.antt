@@ -13,6 +13,6 @@ loop-region-preserved c =
     let i = c.loop-region.region-index in
     let r : Region = get_or regions i zero_region in (
       c.claim_all.ensures.as_many ∙ c.loop-region.invariant.0,
-      one_region c.args.places.now regions i r c.loop-region.claims c.claim_all.new.self c.span_of-span.result.start c.span_of-span.result.end c.loop-region-test.true (get_or_default regions i zero_region r c.loop-region-test.true)
+      one_region c.args.locations.now regions i r c.loop-region.claims c.claim_all.new.self c.span_of-span.result.start c.span_of-span.result.end c.loop-region-test.true (get_or_default regions i zero_region r c.loop-region-test.true)
           c.loop-region.invariant.1 c.span_of-span.ensures.span c.claim_all.ensures.within c.claim_all.ensures.others,
     )

@@ -6,5 +6,5 @@ use Rattle.function_lines.proofs.regions.claims_of.Given as goal
 -- of the first regions
 abbrev pub invariant-loop-region : goal.invariant-loop-region
 invariant-loop-region l =
-    (length l.claims ≡ length l.places)
-    × ((k : ℕ) → k < length l.places → number_at l.claims k ≡ first_number (regions_of (take l.region-index l.regions)) (line_in (lines_at l.places) k))
+    (length l.claims ≡ length l.locations)
+    × ((k : ℕ) → k < length l.locations → number_at l.claims k ≡ first_number (regions_of (take l.region-index l.regions)) (line_in (lines_at l.locations) k))

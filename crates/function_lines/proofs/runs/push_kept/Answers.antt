@@ -6,7 +6,7 @@ use Rattle.function_lines.proofs.Adding.{adds_mark}
 use Rattle.function_lines.proofs.runs.push_kept.Goals as goal
 
 abbrev zero_mark : Mark
-zero_mark = record { line = record { 0 = 0 }; place = record { path = record { ref_ptr = (0, 0); now = [] }; number = 0 } }
+zero_mark = record { line = record { 0 = 0 }; location = record { path = record { ref_ptr = (0, 0); now = [] }; number = 0 } }
 
 pub loop-mark-preserved : goal.loop-mark-preserved
 loop-mark-preserved c =

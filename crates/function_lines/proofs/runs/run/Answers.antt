@@ -5,7 +5,7 @@ use Rattle.function_lines.proofs.runs.run.Goals as goal
 pub returns-clause-writable : goal.returns-clause-writable
 returns-clause-writable c =
     let text = c.requires.right.text in
-    let path = c.args.mark.now.place.path.now in
+    let path = c.args.mark.now.location.path.now in
     record {
       named = raw_named c.in_ok-path.path.items path c.in_ok-path.ensures (some_length path text.named);
       text = raw_text c.in_ok-path.path.items path c.in_ok-path.ensures text.text;

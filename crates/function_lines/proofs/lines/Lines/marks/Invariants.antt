@@ -9,5 +9,5 @@ use Rattle.function_lines.proofs.lines.Lines.marks.Given as goal
 -- of the first lines
 abbrev pub invariant-loop-line : goal.invariant-loop-line
 invariant-loop-line l =
-    (marks_of l.marks.items ≡ filter_map (region_mark (lines_at l.self-inside.places.items) (regions_of l.regions)) (range_with_len 0 l.line))
-    × All (IsMarkOf (length l.self-inside.places.items)) l.marks.items
+    (marks_of l.marks.items ≡ filter_map (region_mark (lines_at l.self-inside.locations.items) (regions_of l.regions)) (range_with_len 0 l.line))
+    × All (IsMarkOf (length l.self-inside.locations.items)) l.marks.items

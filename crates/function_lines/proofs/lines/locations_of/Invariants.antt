@@ -4,12 +4,12 @@ use Rattle.line_index.specs.Lines.{label}
 use Rattle.function_lines.specs.Lines.{IsSpelled, lines_at}
 use Rattle.function_lines.specs.Marks.{line_of_label}
 use Rattle.function_lines.proofs.Spelling.{RiseTo}
-use Rattle.function_lines.proofs.lines.places_of.Given as goal
+use Rattle.function_lines.proofs.lines.locations_of.Given as goal
 
 -- of the first labels
 abbrev pub invariant-loop-line : goal.invariant-loop-line
 invariant-loop-line l =
-    (lines_at l.places.items ≡ map line_of_label (take l.line (map label l.index.lines)))
+    (lines_at l.locations.items ≡ map line_of_label (take l.line (map label l.index.lines)))
     × RiseTo (map label l.index.lines) l.line
-    × All IsSpelled l.places.items
-    × (length l.places.items ≡ l.line)
+    × All IsSpelled l.locations.items
+    × (length l.locations.items ≡ l.line)
