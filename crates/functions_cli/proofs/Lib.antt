@@ -1,3 +1,4 @@
+mod Parsing
 mod Judging
 mod Naming
 mod Served

@@ -1,5 +1,5 @@
 -- What the top call leaves, by the answer that its words came to.
-use Rattle.std.proofs.Common.{◌≡◌, ◌≢◌, ◌↔◌, ◌⊎◌, ℕ, ◌≤◌, ◌++◌, Bool, true, false, cond, nat_lt, length, List, [], Option, Some, None, IfSome, Result, Ok, Err, refl, sym, ap, subst, ◌∙◌, arith, codes, inl, inr}
+use Rattle.std.proofs.Common.{◌≡◌, ◌≢◌, ◌⊎◌, ℕ, ◌≤◌, ◌++◌, Bool, true, false, cond, nat_lt, length, List, [], Option, Some, None, IfSome, Result, Ok, Err, refl, sym, ap, subst, ◌∙◌, arith, codes, inl, inr}
 use Rattle.std.specs.Prelude.{IfNone, IsSomeAnd}
 use Rattle.std.specs.Global.{Vec}
 use Rattle.coz_types.specs.Image.{ImageParts}
@@ -63,46 +63,47 @@ module _ (words : List Text) (request : Request) (makes : Some request ≡ reque
 
 -- ---- usage
 
-none_apart : (r : Option Request) (file : Vec ℕ) → Suits r (Ok file) → r ≡ None → ⊥
+pub none_apart : (r : Option Request) (file : Vec ℕ) → Suits r (Ok file) → r ≡ None → ⊥
 none_apart None file suits is = suits
 none_apart (Some r) file suits is = let no : ⊥ = cc in no
 
-pub usage_apart : (status : ℕ) (r : Option Request) (file : Vec ℕ) → Suits r (Ok file) → (status ≡ 2 → ⊥) → (status ≡ 2) ↔ (r ≡ None)
-usage_apart status r file suits other = (λ is. absurd (other is), λ none. absurd (none_apart r file suits none))
+usage_of : (r : Option Request) (fault : Fault) → Suits r (Err fault) → fault_status fault ≡ 2 → r ≡ None
+usage_of None fault suits two = refl
+usage_of (Some q) (Step (File Usage)) suits two = absurd suits
+usage_of (Some q) (Step (File (Read p))) suits two = absurd (omega (arith, two))
+usage_of (Some q) (Step (File Write)) suits two = absurd suits
+usage_of (Some q) (Step (File (Long p))) suits two = absurd (omega (arith, two))
+usage_of (Some q) (Step (File Memory)) suits two = absurd (omega (arith, two))
+usage_of (Some q) (Step (Program f)) suits two = absurd (omega (arith, two))
+usage_of (Some q) (Step (Lines f)) suits two = absurd (omega (arith, two))
+usage_of (Some q) (Step (NoLine p)) suits two = absurd (omega (arith, two))
+usage_of (Some q) (Step (ManyPoints m)) suits two = absurd (omega (arith, two))
+usage_of (Some q) (Step (ManyExperiments m)) suits two = absurd (omega (arith, two))
+usage_of (Some q) (Step (Source f)) suits two = absurd (omega (arith, two))
+usage_of (Some q) (Step (Profile f)) suits two = absurd (omega (arith, two))
+usage_of (Some q) (Functions x) suits two = absurd (omega (arith, two))
 
-apart : (status : ℕ) (r : Request) → (status ≡ 2 → ⊥) → (status ≡ 2) ↔ (Some r ≡ None)
-apart status r other = (λ is. absurd (other is), λ none. let no : ⊥ = cc in absurd no)
+pub usage_told : (status : ℕ) (r : Option Request) (fault : Fault) → status ≡ fault_status fault → Suits r (Err fault) → status ≡ 2 → r ≡ None
+usage_told status r fault is suits two = usage_of r fault suits (sym is ∙ two)
 
-usage_of : (r : Option Request) (fault : Fault) → Suits r (Err fault) → (fault_status fault ≡ 2) ↔ (r ≡ None)
-usage_of None (Step (File Usage)) suits = (λ is. refl, λ none. refl)
-usage_of None (Step (File (Read p))) suits = absurd suits
-usage_of None (Step (File Write)) suits = absurd suits
-usage_of None (Step (File (Long p))) suits = absurd suits
-usage_of None (Step (File Memory)) suits = absurd suits
-usage_of None (Step (Program f)) suits = absurd suits
-usage_of None (Step (Lines f)) suits = absurd suits
-usage_of None (Step (NoLine p)) suits = absurd suits
-usage_of None (Step (ManyPoints m)) suits = absurd suits
-usage_of None (Step (ManyExperiments m)) suits = absurd suits
-usage_of None (Step (Source f)) suits = absurd suits
-usage_of None (Step (Profile f)) suits = absurd suits
-usage_of None (Functions x) suits = absurd suits
-usage_of (Some q) (Step (File Usage)) suits = absurd suits
-usage_of (Some q) (Step (File (Read p))) suits = apart 5 q (λ is. omega (arith, is))
-usage_of (Some q) (Step (File Write)) suits = absurd suits
-usage_of (Some q) (Step (File (Long p))) suits = apart 8 q (λ is. omega (arith, is))
-usage_of (Some q) (Step (File Memory)) suits = apart 10 q (λ is. omega (arith, is))
-usage_of (Some q) (Step (Program f)) suits = apart 3 q (λ is. omega (arith, is))
-usage_of (Some q) (Step (Lines f)) suits = apart 4 q (λ is. omega (arith, is))
-usage_of (Some q) (Step (NoLine p)) suits = apart 7 q (λ is. omega (arith, is))
-usage_of (Some q) (Step (ManyPoints m)) suits = apart 7 q (λ is. omega (arith, is))
-usage_of (Some q) (Step (ManyExperiments m)) suits = apart 9 q (λ is. omega (arith, is))
-usage_of (Some q) (Step (Source f)) suits = apart 11 q (λ is. omega (arith, is))
-usage_of (Some q) (Step (Profile f)) suits = apart 12 q (λ is. omega (arith, is))
-usage_of (Some q) (Functions x) suits = apart 14 q (λ is. omega (arith, is))
+none_of : (r : Option Request) (fault : Fault) → Suits r (Err fault) → r ≡ None → (fault_status fault ≡ 2) ⊎ (fault_status fault ≡ 10)
+none_of (Some q) fault suits none = let no : ⊥ = cc in absurd no
+none_of None (Step (File Usage)) suits none = inl refl
+none_of None (Step (File (Read p))) suits none = absurd suits
+none_of None (Step (File Write)) suits none = absurd suits
+none_of None (Step (File (Long p))) suits none = absurd suits
+none_of None (Step (File Memory)) suits none = inr refl
+none_of None (Step (Program f)) suits none = absurd suits
+none_of None (Step (Lines f)) suits none = absurd suits
+none_of None (Step (NoLine p)) suits none = absurd suits
+none_of None (Step (ManyPoints m)) suits none = absurd suits
+none_of None (Step (ManyExperiments m)) suits none = absurd suits
+none_of None (Step (Source f)) suits none = absurd suits
+none_of None (Step (Profile f)) suits none = absurd suits
+none_of None (Functions x) suits none = absurd suits
 
-pub usage_told : (status : ℕ) (r : Option Request) (fault : Fault) → status ≡ fault_status fault → Suits r (Err fault) → (status ≡ 2) ↔ (r ≡ None)
-usage_told status r fault is suits = subst (λ (n : ℕ). (n ≡ 2) ↔ (r ≡ None)) (sym is) (usage_of r fault suits)
+pub none_told : (status : ℕ) (r : Option Request) (fault : Fault) → status ≡ fault_status fault → Suits r (Err fault) → r ≡ None → (status ≡ 2) ⊎ (status ≡ 10)
+none_told status r fault is suits none = subst (λ (n : ℕ). (n ≡ 2) ⊎ (n ≡ 10)) (sym is) (none_of r fault suits none)
 
 -- ---- statuses of faults
 

@@ -79,6 +79,7 @@ AreRegions named (Err _) = ⊥
 -- which answers the words that make this request, or none, may have
 abbrev pub Suits : Option Request → Answer → Type 0
 Suits None (Err (Step (File Usage))) = Unit {0}
+Suits None (Err (Step (File Memory))) = Unit {0}
 Suits None _ = ⊥
 Suits (Some request) (Ok file) = Unit {0}
 Suits (Some request) (Err fault) = IsOfRequest request fault

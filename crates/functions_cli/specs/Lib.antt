@@ -1,5 +1,6 @@
 pub mod Regions
 pub mod Words
+pub mod Parse
 pub mod Verdict
 pub mod Answer
 pub mod Serve

@@ -10,9 +10,9 @@ use program_steps::Fault as StepFault;
 /// Why a program has no file in which each function is one line, if such a file isn't too long.
 #[derive(Clone, Copy)]
 pub enum Refusal {
-    /// It has no function.
+    /// The program has no function.
     NoFunctions,
-    /// It has no section `.debug_line`.
+    /// The program has no section `.debug_line`.
     NoLines,
     /// The header of this section lies among bytes that must not change.
     Overlap,

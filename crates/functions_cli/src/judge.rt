@@ -24,7 +24,7 @@ use coz_types::{LineId, MAX_PROGRAM};
 use file_steps::{FileFault, read_file};
 use function_lines::{Lines, by_function};
 use program_steps::{Fault as StepFault, Program, listed_lines, read_program};
-use std::alloc::Global;
+use std::alloc::{AllocError, Global};
 
 /// The file of a program in which each function is one line, these lines keep their addresses, and
 /// each region that is asked for is one line.
@@ -127,7 +127,11 @@ pub fn judge<'w, F: Files>(
         → IfNone (F.held files.old) (Rose (F.faults files.old) (F.faults files.new)) }
     ensures no_fault { (IsRead result → ⊥) → F.faults files.new ≡ F.faults files.old }
 {
-    let Some(asked) = asked_of(words) else {
+    let said = match asked_of(alloc, words) {
+        Ok(said) => said,
+        Err(AllocError) => return Err(Fault::Step(StepFault::File(FileFault::Memory))),
+    };
+    let Some(asked) = said else {
         return Err(Fault::Step(StepFault::File(FileFault::Usage)));
     };
     match read_file(alloc, files, asked.target, MAX_PROGRAM) {

@@ -3,6 +3,7 @@
 
 mod fault;
 mod judge;
+mod parse;
 mod regions;
 mod told;
 mod top;

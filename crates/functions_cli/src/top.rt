@@ -1,5 +1,5 @@
 //! The top call.
-ghost use Rattle.std.specs.Prelude.{◌≡◌, ◌≢◌, ◌↔◌, ◌⊎◌, ◌++◌, ◌≤◌, ℕ, List, true, None, codes, IfSome, IsSomeAnd};
+ghost use Rattle.std.specs.Prelude.{◌≡◌, ◌≢◌, ◌⊎◌, ◌++◌, ◌≤◌, ℕ, List, true, None, codes, IfSome, IsSomeAnd};
 ghost use Rattle.std.specs.Io.KnownBytes.{Appends};
 ghost use Rattle.coz_files.specs.Faults.{Rose};
 ghost use Rattle.coz_files.specs.Puts.{AppendsPrefix};
@@ -27,8 +27,9 @@ pub fn serve_functions<F: Files, O: Sink, E: Sink>(
     out: &mut O,
     err: &mut E,
 ) -> u8
-    // The words alone decide on usage.
-    ensures usage { (result ≡ 2) ↔ (request_in (bytes_of words.now) ≡ None) }
+    // The words alone decide on usage, unless it is out of memory.
+    ensures usage { result ≡ 2 → request_in (bytes_of words.now) ≡ None }
+    ensures no_request { request_in (bytes_of words.now) ≡ None → (result ≡ 2) ⊎ (result ≡ 10) }
 
     // No other status is answered.
     ensures known { result ≤ 14 }

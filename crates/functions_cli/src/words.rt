@@ -1,14 +1,20 @@
 //! What the words ask for.
-ghost use Rattle.std.specs.Prelude.{◌≡◌, true, fold, option_map, string_bytes, IfSome};
+ghost use Rattle.std.specs.Prelude.{◌≡◌, true, option_and_then, option_map, IfOk, IfSome};
 ghost use Rattle.std.specs.Option.{option_copied};
+ghost use Rattle.clap.specs.Words.{first_value, found_of};
 ghost use Rattle.coz_files.specs.Verdict.{bytes_of};
 ghost use Rattle.experiment_plan.specs.Lists.{is_list};
-ghost use Rattle.functions_cli.specs.Words.{free_word, has_hyphen, has_no_zero, is_target, no_words, passes, request_given, request_in, request_of, scan_word, scanned, with_list, with_target, with_value};
+ghost use Rattle.coz_words.specs.Parse.{target_id};
+ghost use Rattle.coz_words.specs.Request.{none_or};
+ghost use Rattle.functions_cli.specs.Words.{has_hyphen, has_no_zero, is_target, keep_name, regions_name, request_in, request_of, request_with};
 ghost use Rattle.functions_cli.specs.Regions.{are_regions};
 
+use crate::parse::parsed;
 use crate::regions::are_regions;
+use clap::ArgMatches;
 use coz_types::MAX_WORD;
 use experiment_plan::is_list;
+use std::alloc::{AllocError, Global};
 
 /// What the words ask for.
 #[derive(Clone, Copy)]
@@ -19,30 +25,6 @@ pub struct Asked<'w> {
     pub keep: Option<&'w [u8]>,
     /// The list that names the regions.
     pub regions: Option<&'w [u8]>,
-}
-
-/// An option with a list.
-#[derive(Clone, Copy)]
-pub enum Choice {
-    /// `--keep`
-    Keep,
-    /// `--regions`
-    Regions,
-}
-
-/// What some words give.
-#[derive(Clone, Copy)]
-pub struct Scan<'w> {
-    /// The path of the program.
-    pub target: Option<&'w str>,
-    /// The list of `--keep`.
-    pub keep: Option<&'w [u8]>,
-    /// The list of `--regions`.
-    pub regions: Option<&'w [u8]>,
-    /// The option whose list is the next word.
-    pub wanting: Option<Choice>,
-    /// Whether one of the three came twice.
-    pub twice: bool,
 }
 
 fn has_no_zero(word: &[u8]) -> bool
@@ -65,100 +47,8 @@ fn is_target(word: &[u8]) -> bool
     !word.is_empty() && (!has_hyphen(word) && (has_no_zero(word) && word.len() <= MAX_WORD))
 }
 
-/// Takes the list of an option.
-fn with_list<'w>(scan: Scan<'w>, choice: Choice, list: &'w [u8]) -> Scan<'w>
-    ensures { scanned result ≡ with_list choice list.now (scanned scan.entry) }
-{
-    match choice {
-        Choice::Keep => Scan {
-            keep: Some(list),
-            wanting: None,
-            twice: scan.twice || scan.keep.is_some(),
-            ..scan
-        },
-        Choice::Regions => Scan {
-            regions: Some(list),
-            wanting: None,
-            twice: scan.twice || scan.regions.is_some(),
-            ..scan
-        },
-    }
-}
-
-/// Takes a path.
-fn with_target<'w>(scan: Scan<'w>, word: &'w String) -> Scan<'w>
-    ensures { scanned result ≡ with_target (string_bytes word.now) (scanned scan.entry) }
-{
-    Scan {
-        target: Some(word.as_str()),
-        twice: scan.twice || scan.target.is_some(),
-        ..scan
-    }
-}
-
-/// Takes a word `--keep=LIST` or `--regions=LIST`, or a path.
-fn with_value<'w>(scan: Scan<'w>, word: &'w String) -> Scan<'w>
-    ensures { scanned result ≡ with_value (scanned scan.entry) (string_bytes word.now) }
-{
-    let bytes = word.as_bytes();
-    if let Some(list) = bytes.strip_prefix(b"--keep=") {
-        return with_list(scan, Choice::Keep, list);
-    }
-    if let Some(list) = bytes.strip_prefix(b"--regions=") {
-        return with_list(scan, Choice::Regions, list);
-    }
-    with_target(scan, word)
-}
-
-/// Takes a word that is not the list of the option before it.
-fn free_word<'w>(scan: Scan<'w>, word: &'w String) -> Scan<'w>
-    ensures { scanned result ≡ free_word (scanned scan.entry) (string_bytes word.now) }
-{
-    let bytes = word.as_bytes();
-    if bytes == b"--keep".as_slice() {
-        return Scan {
-            wanting: Some(Choice::Keep),
-            ..scan
-        };
-    }
-    if bytes == b"--regions".as_slice() {
-        return Scan {
-            wanting: Some(Choice::Regions),
-            ..scan
-        };
-    }
-    with_value(scan, word)
-}
-
-/// Takes a word.
-fn scan_word<'w>(scan: Scan<'w>, word: &'w String) -> Scan<'w>
-    ensures { scanned result ≡ scan_word (scanned scan.entry) (string_bytes word.now) }
-{
-    match scan.wanting {
-        Some(choice) => with_list(scan, choice, word.as_bytes()),
-        None => free_word(scan, word),
-    }
-}
-
-/// What words give.
-fn scan_of(words: &[String]) -> Scan
-    ensures { scanned result ≡ fold scan_word no_words (bytes_of words.now) }
-{
-    let mut scan = Scan {
-        target: None,
-        keep: None,
-        regions: None,
-        wanting: None,
-        twice: false,
-    };
-    for word in words {
-        scan = scan_word(scan, word);
-    }
-    scan
-}
-
 fn is_keep(list: Option<&[u8]>) -> bool
-    ensures { result ≡ passes is_list (option_copied list.entry) }
+    ensures { result ≡ none_or is_list (option_copied list.entry) }
 {
     match list {
         Some(list) => is_list(list),
@@ -167,7 +57,7 @@ fn is_keep(list: Option<&[u8]>) -> bool
 }
 
 fn is_regions(list: Option<&[u8]>) -> bool
-    ensures { result ≡ passes are_regions (option_copied list.entry) }
+    ensures { result ≡ none_or are_regions (option_copied list.entry) }
 {
     match list {
         Some(list) => are_regions(list),
@@ -175,33 +65,70 @@ fn is_regions(list: Option<&[u8]>) -> bool
     }
 }
 
-/// The request of what words give.
-fn request_given<'w>(scan: Scan<'w>) -> Option<Asked<'w>>
-    ensures asked { option_map request_of result ≡ request_given (scanned scan.entry) }
+/// The value of the option of that name, if it is given.
+fn value_of<'w>(matches: &ArgMatches<'w>, name: &str) -> Option<&'w [u8]>
+    ensures { option_copied result ≡ first_value (found_of matches.now) name.now }
+{
+    match matches.get_str(name) {
+        Some(text) => Some(text.as_bytes()),
+        None => None,
+    }
+}
+
+/// The request of these texts.
+fn request_with<'w>(
+    target: &'w str,
+    keep: Option<&'w [u8]>,
+    regions: Option<&'w [u8]>,
+) -> Option<Asked<'w>>
+    ensures asked { option_map request_of result
+        ≡ request_with (option_copied keep.entry) (option_copied regions.entry) target.now }
     ensures list { IfSome result (λ asked.
         IfSome asked.keep (λ text. is_list text.now ≡ true)) }
 {
-    let target = scan.target?;
-    if is_target(target.as_bytes())
-        && (!scan.twice
-            && (scan.wanting.is_none() && (is_keep(scan.keep) && is_regions(scan.regions))))
-    {
+    if is_target(target.as_bytes()) && (is_keep(keep) && is_regions(regions)) {
         return Some(Asked {
             target,
-            keep: scan.keep,
-            regions: scan.regions,
+            keep,
+            regions,
         });
     }
     None
 }
 
-/// The request of the words after the program's name: the path of a program, and in any order with
-/// it `--keep LIST` or `--keep=LIST`, and `--regions LIST` or `--regions=LIST`, each at most once.
-/// None if the words are others.
-pub fn asked_of(words: &[String]) -> Option<Asked>
-    ensures asked { option_map request_of result ≡ request_in (bytes_of words.now) }
+/// The request of what the words say.
+fn request_said<'w>(matches: &ArgMatches<'w>) -> Option<Asked<'w>>
+    ensures asked { option_map request_of result
+        ≡ option_and_then (request_with (first_value (found_of matches.now) keep_name)
+        (first_value (found_of matches.now) regions_name))
+        (first_value (found_of matches.now) target_id) }
     ensures list { IfSome result (λ asked.
         IfSome asked.keep (λ text. is_list text.now ≡ true)) }
 {
-    request_given(scan_of(words))
+    match matches.get_str("target") {
+        Some(target) => {
+            request_with(
+                target,
+                value_of(matches, "keep"),
+                value_of(matches, "regions"),
+            )
+        }
+        None => None,
+    }
+}
+
+/// The request of the words after the program's name: the path of a program, and in any order with
+/// it `--keep LIST` or `--keep=LIST`, and `--regions LIST` or `--regions=LIST`, each at most once.
+/// An argument `--` ends the options. A list that is an argument of its own begins with no hyphen.
+/// None if the words are others. Err if it is out of memory, which any words may be answered by.
+pub fn asked_of<'w>(alloc: Global, words: &'w [String]) -> Result<Option<Asked<'w>>, AllocError>
+    ensures asked { IfOk result (λ asked.
+        option_map request_of asked ≡ request_in (bytes_of words.now)) }
+    ensures list { IfOk result (λ asked. IfSome asked (λ asked.
+        IfSome asked.keep (λ text. is_list text.now ≡ true))) }
+{
+    match parsed(alloc, words)? {
+        Some(matches) => Ok(request_said(&matches)),
+        None => Ok(None),
+    }
 }

@@ -123,7 +123,7 @@ fn all_come_out<R: Threads + Sync + AllocGlobal + Abort>(rt: &R, rows: &[Row]) -
 }
 
 /// Words that ask for nothing.
-static WRONG: [Row; 18] = [
+static WRONG: [Row; 19] = [
     (&[], 2, b"", USAGE),
     (&[""], 2, b"", USAGE),
     (&["-small"], 2, b"", USAGE),
@@ -132,6 +132,7 @@ static WRONG: [Row; 18] = [
     (&["small", "--keep"], 2, b"", USAGE),
     (&["small", "--keep", "m.c"], 2, b"", USAGE),
     (&["small", "--keep="], 2, b"", USAGE),
+    (&["small", "--keep", "-m.c:1"], 2, b"", USAGE),
     (&["small", "--keep=m.c:1", "--keep", "m.c:1"], 2, b"", USAGE),
     (&["small", "--regions"], 2, b"", USAGE),
     (&["small", "--regions", "m.c:1"], 2, b"", USAGE),
@@ -156,8 +157,9 @@ fn wrong_words_are_rejected(rt: HostRuntime) -> Result<(), Fail> {
 
 const WHOLE: &[u8] = b"skipped 0\na/m.c/main:1\t0x10078\nb/m.c/work:3\t0x10088\n";
 
-static WRITTEN: [Row; 11] = [
+static WRITTEN: [Row; 12] = [
     (&["small"], 0, WHOLE, b""),
+    (&["--", "small"], 0, WHOLE, b""),
     (
         &["--keep", "m.c:4", "small"],
         0,

@@ -6,7 +6,7 @@ use Rattle.elf_load.specs.Loaded.{load_answer}
 use Rattle.function_lines.specs.ByFunction.{IsByFunction, IsRead}
 use Rattle.function_lines.specs.SameProgram.{is_same_program}
 use Rattle.functions_cli.specs.Words.{request_in}
-use Rattle.functions_cli.proofs.Served.{written_has, written_complete, writes_has, fault_verdict_has, fault_complete, fault_read, fault_told, never_write, none_has, not_zero, usage_told, write_line}
+use Rattle.functions_cli.proofs.Served.{written_has, written_complete, writes_has, fault_verdict_has, fault_complete, fault_read, fault_told, never_write, none_apart, none_has, none_told, not_zero, usage_told, write_line}
 use Rattle.functions_cli.proofs.top.serve_functions.Goals as goal
 
 pub returns-in-Done-clause-complete : goal.returns-in-Done-clause-complete
@@ -86,5 +86,14 @@ returns-clause-line g c = λ _. (
   c.tell-in-Err.ensures.line,
 )
 
+pub returns-in-Done-clause-no_request : goal.returns-in-Done-clause-no_request
+returns-in-Done-clause-no_request g c = λ none. absurd (none_apart (request_in (bytes_of c.args.words.now)) c.in-Ok.written c.in-Ok.ensures.suits none)
+
+pub returns-in-Ok-clause-no_request : goal.returns-in-Ok-clause-no_request
+returns-in-Ok-clause-no_request g c = λ none. absurd (none_apart (request_in (bytes_of c.args.words.now)) c.in-Ok.written c.in-Ok.ensures.suits none)
+
 pub returns-clause-usage : goal.returns-clause-usage
 returns-clause-usage g c = usage_told c.tell-in-Err.result (request_in (bytes_of c.args.words.now)) c.in-Err.fault c.tell-in-Err.ensures.status c.in-Err.ensures.suits
+
+pub returns-clause-no_request : goal.returns-clause-no_request
+returns-clause-no_request g c = none_told c.tell-in-Err.result (request_in (bytes_of c.args.words.now)) c.in-Err.fault c.tell-in-Err.ensures.status c.in-Err.ensures.suits
