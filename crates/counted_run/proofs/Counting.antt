@@ -36,7 +36,7 @@ use Rattle.run_engine.specs.Advance.{IsAdvance}
 use Rattle.run_engine.specs.Begin.{started_by}
 use Rattle.run_engine.specs.Ending.{ending_of}
 use Rattle.virtual_run.specs.DelayedRun.{IsOfAHart}
-use Rattle.run_engine.specs.Engine.{events_of, IsReached, IsFirst}
+use Rattle.run_engine.specs.Engine.{events_of, IsEngineOf, IsFirst}
 use Rattle.run_engine.specs.Run.{IsChoice}
 use Rattle.run_engine.specs.Seen.{experiment_of_image}
 use Rattle.run_engine.specs.Visits.{Visits, visits_of}
@@ -150,7 +150,7 @@ module _ (image : ImageParts) (input : List ℕ) (setting : Setting) where
     ending_is = (agrees x IsOrderly law n).ending ∙ ap (λ (o : Shortened Guest). o.ending) now.reached.reached.state
 
     module _ (none : engine.ending ≡ None) (new : Engine) where
-      reached_after : (event : Event) → IsAdvance setting engine event 0 new → IsReached x new
+      reached_after : (event : Event) → IsAdvance setting engine event 0 new → IsEngineOf x new
       reached_after (Woke turn) did =
           let same : new.visits ≡ engine.visits = ap (λ (o : Engine). o.visits) did.rest in
           reached_woken image (position_at setting.index.now) (point_of setting.points.now) input setting.choice now.valid engine now.reached new none

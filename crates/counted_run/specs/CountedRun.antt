@@ -10,7 +10,7 @@ use Rattle.guest_calls.specs.Guest.{Guest}
 use Rattle.run_engine.specs.declared.choice.Choice.{Choice}
 use Rattle.run_engine.specs.declared.choice.Setting.{Setting}
 use Rattle.run_engine.specs.declared.engine.Engine.{Engine}
-use Rattle.run_engine.specs.Engine.{IsReached, events_of}
+use Rattle.run_engine.specs.Engine.{IsEngineOf, events_of}
 use Rattle.run_engine.specs.Run.{IsChoice}
 use Rattle.run_engine.specs.Seen.{Seen, experiment_of_image}
 use Rattle.virtual_run.specs.DelayedRun.{IsOfAHart}
@@ -46,7 +46,7 @@ pub record IsCounting (image : ImageParts) (input : List ℕ) (setting : Setting
   pub valid : IsChoice setting.choice
   pub unselected : setting.choice.selected ≡ None
   pub no_speedup : setting.choice.speedup ≡ 0
-  pub reached : IsReached (experiment_of_image image input setting) engine
+  pub reached : IsEngineOf (experiment_of_image image input setting) engine
   pub undelayed : AreUndelayed engine.visits.kept
   pub soon : engine.time ≤ 10 ^ 17
   pub trap : (ending : Ending) → engine.ending ≡ Some ending → IsOfAHart ending

@@ -12,7 +12,7 @@ use line_index::LineIndex;
 use run_counts::{Tallies, add};
 use run_engine::{Engine, Event, Retired};
 
-/// A hart begins its next instruction.
+/// Counts that a hart begins its next instruction.
 pub fn count(tallies: &mut Tallies, index: &LineIndex, guest: &Guest, hart: HartId)
     requires made { IsMade guest.now hart.0 }
     requires within { IsWithin (counts_of tallies.old) }
@@ -55,7 +55,7 @@ fn count_again(tallies: &mut Tallies, index: &LineIndex, guest: &Guest, retired:
     }
 }
 
-/// The harts that a retirement started begin.
+/// Counts the instructions that the harts begin which a retirement started.
 fn count_started(tallies: &mut Tallies, index: &LineIndex, engine: &Engine, retired: Retired)
     requires made { (k : ℕ)
         → is_among k (started_by retired.hart.0 retired.fate engine.now.started) ≡ true

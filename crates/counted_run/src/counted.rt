@@ -57,7 +57,7 @@ impl<'a> Counted<'a> {
     ghost use Rattle.run_engine.specs.Run.{IsChoice};
 
     /// A run that is about to begin. The selected line and the speedup are not read. Takes 16
-    /// bytes for each line of the index. Fails only when out of memory.
+    /// bytes for each line of the index. Fails only if out of memory.
     pub fn new(
         alloc: Global,
         image: &'a Image<'a>,
@@ -93,7 +93,8 @@ impl<'a> Counted<'a> {
         })
     }
 
-    /// Runs to the end, and returns the ending. A further run changes nothing and returns the same.
+    /// Runs to the end, and returns the ending. A further run changes nothing and returns the
+    /// same.
     pub fn run(&mut self) -> Ending
         ensures ended { self.new.state.ending ≡ Some result }
         ensures record { let x = experiment_of self.old in
@@ -114,9 +115,10 @@ impl<'a> Counted<'a> {
         }
     }
 
-    /// How many instructions of a line were begun, at most 10^17. Once the run has ended, this is
-    /// the number of starts of the run that selects the line at speedup 0, which otherwise equals
-    /// this run. If it is 0, the run that selects the line equals this run at every speedup.
+    /// The number of instructions of a line that were begun, at most 10^17. Once the run has
+    /// ended, it is the number of starts of the run that selects the line at speedup 0, which
+    /// otherwise equals this run. If it is 0, the run that selects the line equals this run at
+    /// every speedup.
     pub fn starts(&self, line: LineId) -> u64
         requires { line.0 < length self.now.index.lines }
         ensures begun { let x = experiment_of self.now in result
@@ -166,8 +168,8 @@ impl<'a> Counted<'a> {
         self.tallies.all
     }
 
-    /// How the run came out; None before it has ended. Its time and its counts are at most 10^17,
-    /// and a trap is of a hart below `HARTS`.
+    /// The outcome of the run; None before it has ended. Its time and its counts are at most
+    /// 10^17, and a trap is of a hart below `HARTS`.
     pub fn outcome(&self) -> Option<Outcome>
         ensures outcome { result ≡ outcome_of self.now.state }
         ensures small { IfSome result IsSmall }
@@ -195,7 +197,7 @@ impl<'a> Counted<'a> {
         self.engine.visits()
     }
 
-    /// What was written, at most 67,108,864 bytes.
+    /// The output, at most 67,108,864 bytes.
     pub fn output(&self) -> &[u8]
         ensures bytes { result.now ≡ self.now.state.guest.output }
         ensures few { length result.now ≤ MAX_OUTPUT }

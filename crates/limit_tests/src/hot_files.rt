@@ -5,13 +5,18 @@ use std::alloc::{AllocError, Global};
 use std::thread::Threads;
 
 /// Sources, each with its path. In `two.s` the first thread makes a second by the call of line 4.
-static SOURCES: [(&str, &[u8]); 3] = [
+/// `reads.s` reads 16 bytes at most, and executes lines 6 and 7 once for each byte that it got.
+static SOURCES: [(&str, &[u8]); 4] = [
     ("one.s", ONE_SOURCE),
     (
         "two.s",
         b"li a0, 69376\nli a1, 0\nli a7, 220\necall\naddi t0, t0, 1\nli a0, 0\nli a7, 93\necall\n",
     ),
     ("spin.s", b"again: j again\n"),
+    (
+        "reads.s",
+        b"li a0, 0\naddi a1, sp, -16\nli a2, 16\nli a7, 63\necall\nagain: addi a0, a0, -1\nbne a0, x0, again\nli a7, 93\necall\n",
+    ),
 ];
 
 /// Programs that differ from `one` in a few bytes, each with its offset.

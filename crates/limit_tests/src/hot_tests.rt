@@ -78,7 +78,7 @@ fn wrong_words_are_rejected(rt: HostRuntime) -> Result<(), Fail> {
 
 /// An instruction takes 100 ticks, a jump 200, and a call 4000. In `two` lines 5 to 8 are executed
 /// by two threads, and line 1 is two instructions.
-static PRINTED: [Row; 15] = [
+static PRINTED: [Row; 16] = [
     (&["one"], 0, ONE, b""),
     (&["--", "one"], 0, ONE, b""),
     (&["one", "--input", "data"], 0, ONE, b""),
@@ -124,6 +124,15 @@ line two.s:4 starts 1 cost 4000 share 3076\n",
         &["two", "--names", "--progress", "two.s:6", "--top", "3"],
         0,
         b"two.s:8,two.s:4,two.s:1\n",
+        b"",
+    ),
+    // The input has four bytes.
+    (
+        &["reads", "--input", "data", "--top", "3", "--budget", "100"],
+        0,
+        b"line reads.s:5 starts 1 cost 4000 share 4301\n\
+line reads.s:9 starts 1 cost 4000 share 4301\n\
+line reads.s:6 starts 4 cost 400 share 430\n",
         b"",
     ),
     (
