@@ -9,9 +9,9 @@ use crate::harm::worst_of;
 use crate::percent::{put_percent, put_size};
 use causal_curves::{Curve, CurveStep};
 use coz_files::{PutBuffer, Sink};
-use profile_book::put_number;
+use profile_book::put_named;
 
-/// What no size is drawn above, in hundredths of a per cent.
+/// The greatest size that is drawn, in hundredths of a per cent.
 const WHOLE: u128 = 10000;
 
 fn top_above(size: u128) -> u64
@@ -106,8 +106,8 @@ fn put_place<O: Sink>(to: &mut PutBuffer, out: &mut O, top: u64, speedup: u8, va
     ensures { Gathers O.holds O.faults out.old out.new to.old to.new
         (place_text top speedup value) }
 {
-    put_number(to, out, b" ", across(speedup));
-    put_number(to, out, b",", height(top, value));
+    put_named(to, out, b" ", across(speedup));
+    put_named(to, out, b",", height(top, value));
 }
 
 /// Whether the value is above the upper end of the axis, or below the lower end,
@@ -134,9 +134,9 @@ fn put_dot<O: Sink>(to: &mut PutBuffer, out: &mut O, top: u64, speedup: u8, valu
     ensures { Gathers O.holds O.faults out.old out.new to.old to.new (dot_text top speedup value) }
 {
     to.push(out, dot_start(is_cut(top, value)));
-    put_number(to, out, b"\" r=\"14\" cx=\"", across(speedup));
-    put_number(to, out, b"\" cy=\"", height(top, value));
-    put_number(to, out, b"\"><title>line ", speedup as u64);
+    put_named(to, out, b"\" r=\"14\" cx=\"", across(speedup));
+    put_named(to, out, b"\" cy=\"", height(top, value));
+    put_named(to, out, b"\"><title>line ", speedup as u64);
     to.push(out, b"% faster: ");
     put_percent(to, out, value);
     to.push(out, b"</title></circle>");

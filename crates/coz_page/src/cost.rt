@@ -56,7 +56,7 @@ fn cost_between(base: Option<&Summary>, sped: Option<&Summary>) -> Option<u128>
     }
 }
 
-/// What the starts of the line of this label cost, over its net time at speedup 0,
+/// The cost of the starts of the line of this label, over its net time at speedup 0,
 /// in hundredths of a per cent, rounded down. None if no run of the line is at 0 or none
 /// at a speedup over 0, or that net time is 0.
 pub fn cost_of(summaries: &[Summary], label: &[u8]) -> Option<u128>

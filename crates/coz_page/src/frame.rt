@@ -1,6 +1,6 @@
 //! The parts of the page that say nothing of a profile.
 
-/// What stands before the first progress point.
+/// The page before the first progress point.
 pub const HEAD: &[u8] = b"<!DOCTYPE html>\n\
 <html lang=\"en\">\n\
 <head>\n\
@@ -48,17 +48,17 @@ Its cost is what its own instructions take, on all threads, as a part of the net
 A dot shows its value when it is pointed at; a red ring marks a value outside the axis. \
 <a href=\"#reading\">How to read a curve</a></p>\n";
 
-/// What stands in place of the curves if there are none.
+/// The text in place of the curves if there are none.
 pub const NOTHING: &[u8] =
     b"<p>This profile has no curves: it has no progress point, or no line was selected.</p>\n";
 
-/// What stands before the lines at all progress points.
+/// The text before the lines at all progress points.
 pub const LINES: &[u8] = b"<details open><summary>Lines at all progress points</summary>\n\
 <p>From the table of each progress point, the lines that gain most at that point, \
 each with its curves at all points side by side, over one axis. \
 Lines whose curves are all flat are not shown.</p>\n";
 
-/// How to read a curve, and the end of the page.
+/// The section on reading a curve, and the end of the page.
 pub const FOOT: &[u8] = b"<h2 id=\"reading\">How to read a curve</h2>\n\
 <ul>\n\
 <li>Flat, near 0: the visits do not wait for this line, even if it takes much of the time.</li>\n\

@@ -10,7 +10,7 @@ fn have_one_point(a: &Curve, b: &Curve) -> bool
     a.point == b.point
 }
 
-/// How many of the curves, from the first on, are of the first one's point.
+/// The number of curves, from the first on, that are of the first one's point.
 pub fn group_length(curves: &[Curve]) -> usize
     requires { 0 < length curves.now }
     ensures some { 0 < result }

@@ -3,7 +3,7 @@ ghost use Rattle.std.specs.Prelude.{◌≡◌, ◌==◌, not, IfOk};
 ghost use Rattle.coz_page.specs.Harm.{lesser, worst_of, hurts, harmful_curves};
 
 use causal_curves::{Curve, CurveStep};
-use coz_lists::Items;
+use coz_types::Items;
 use std::alloc::AllocError;
 
 fn lesser(a: Option<i128>, b: Option<i128>) -> Option<i128>
@@ -46,7 +46,7 @@ fn hurts(curve: &Curve) -> bool
     }
 }
 
-/// Those of the curves whose least value is below 0, by point, the least value first.
+/// The curves whose least value is below 0, by point, the least value first.
 /// Err if it is out of memory.
 pub fn harmful(curves: Items<Curve>) -> Result<Items<Curve>, AllocError>
     ensures { IfOk result (λ harmful. harmful ≡ harmful_curves curves) }

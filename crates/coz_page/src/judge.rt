@@ -13,7 +13,7 @@ use crate::fault::Fault;
 use crate::harm::harmful;
 use causal_curves::{Curve, curves};
 use coz_files::Files;
-use coz_lists::Items;
+use coz_types::Items;
 use file_steps::{FileFault, read_file};
 use page_sources::is_of_file;
 use page_words::{Asked, read_page};
@@ -24,19 +24,20 @@ use std::alloc::Global;
 /// A request, with the profile that it names and the curves of the chosen lines by rank.
 #[derive(Drop)]
 pub struct Ranked<'w> {
-    /// What the words ask for.
+    /// The request that the arguments make.
     pub asked: Asked<'w>,
     /// The profile that was read.
     pub profile: Profile,
     /// The curves of the chosen lines, the one that gains most first.
     pub curves: Items<Curve>,
-    /// Those of the lines that hurt, the one that hurts most first.
+    /// The curves of the lines that hurt, the one that hurts most first.
     pub harmful: Items<Curve>,
-    /// How many curves the profile has.
+    /// The number of curves of the profile.
     pub all: u64,
 }
 
-/// A profile with its curves, or why there is no page. A request and a fault borrow from the words.
+/// A profile with its curves, or why there is no page. A request and a fault borrow from the
+/// words.
 pub type Answer<'w> = Result<Ranked<'w>, Fault<'w>>;
 
 /// The curves of the lines of these files.

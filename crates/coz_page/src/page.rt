@@ -18,13 +18,13 @@ use crate::view::View;
 use causal_curves::Curve;
 use coz_files::{PutAnswer, PutBuffer, Sink};
 use coz_types::Label;
-use profile_book::{Profile, put_number};
+use profile_book::{Profile, put_named};
 
 fn put_choice<O: Sink>(to: &mut PutBuffer, out: &mut O, index: usize, label: &Label)
     ensures { Gathers O.holds O.faults out.old out.new to.old to.new
         (choice_text (index, label.now)) }
 {
-    put_number(to, out, b"<li><a href=\"#p", index as u64);
+    put_named(to, out, b"<li><a href=\"#p", index as u64);
     put_label(to, out, b"\">", label.bytes());
     to.push(out, b"</a></li>\n");
 }
@@ -53,8 +53,8 @@ fn put_pattern<O: Sink>(to: &mut PutBuffer, out: &mut O, pattern: &[u8], count: 
 {
     let before = b"<p>Only lines of files whose path begins or ends with ";
     put_label(to, out, before, pattern);
-    put_number(to, out, b": ", count);
-    put_number(to, out, b" of ", all);
+    put_named(to, out, b": ", count);
+    put_named(to, out, b" of ", all);
     let after = b" curves. Tables and axes are of these lines alone.</p>\n";
     to.push(out, after);
 }

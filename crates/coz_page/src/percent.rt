@@ -4,7 +4,7 @@ ghost use Rattle.coz_files.specs.Gathered.{Gathers};
 ghost use Rattle.coz_page.specs.Values.{sign, size_text, percent, value_text, cost_text};
 
 use coz_files::{PutBuffer, Sink};
-use profile_book::put_number;
+use profile_book::put_named;
 
 fn put_big<O: Sink>(to: &mut PutBuffer, out: &mut O, n: u128)
     ensures { Gathers O.holds O.faults out.old out.new to.old to.new (decimal n) }
@@ -18,8 +18,8 @@ pub fn put_size<O: Sink>(to: &mut PutBuffer, out: &mut O, n: u128)
     ensures { Gathers O.holds O.faults out.old out.new to.old to.new (size_text n) }
 {
     put_big(to, out, n / 100);
-    put_number(to, out, b".", (n / 10 % 10) as u64);
-    put_number(to, out, b"", (n % 10) as u64);
+    put_named(to, out, b".", (n / 10 % 10) as u64);
+    put_named(to, out, b"", (n % 10) as u64);
     to.push(out, b"%");
 }
 

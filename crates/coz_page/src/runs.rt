@@ -6,7 +6,7 @@ ghost use Rattle.coz_page.specs.Runs.{kind_of, ended_so, count_of, others_of, ki
 
 use coz_files::{PutBuffer, Sink};
 use coz_types::{Ending, Summary};
-use profile_book::{Profile, put_number};
+use profile_book::{Profile, put_named};
 
 /// The kind of an ending, as its text begins.
 fn kind_of(ending: Ending) -> &'static [u8]
@@ -42,7 +42,7 @@ fn counted(count: u64, kind: &[u8], summary: &Summary) -> u64
     }
 }
 
-/// How many of the runs ended so.
+/// The number of runs with this kind of ending.
 fn count_of(kind: &[u8], summaries: &[Summary]) -> u64
     ensures count { result ≡ count_of kind.now summaries.now }
     ensures within { result ≤ length summaries.now }
@@ -61,7 +61,7 @@ fn put_kind<O: Sink>(to: &mut PutBuffer, out: &mut O, summaries: &[Summary], kin
     let count = count_of(kind, summaries);
     if count > 0 {
         to.push(out, kind);
-        put_number(to, out, b": ", count);
+        put_named(to, out, b": ", count);
         to.push(out, b". ");
     }
 }
@@ -84,7 +84,7 @@ fn put_warned<O: Sink>(to: &mut PutBuffer, out: &mut O, others: u64, summaries: 
         (warned others summaries.now) }
 {
     let before = b"<p class=\"warning\">Warning: runs that did not exit: ";
-    put_number(to, out, before, others);
+    put_named(to, out, before, others);
     to.push(out, b". ");
     put_kinds(to, out, summaries);
     to.push(out, b"</p>\n");
@@ -106,13 +106,13 @@ fn put_warning<O: Sink>(to: &mut PutBuffer, out: &mut O, summaries: &[Summary])
     }
 }
 
-/// What was run, with a warning if a run did not exit.
+/// Puts what was run, with a warning if a run did not exit.
 pub fn put_runs<O: Sink>(to: &mut PutBuffer, out: &mut O, profile: &Profile)
     ensures { Gathers O.holds O.faults out.old out.new to.old to.new (runs_text profile.now) }
 {
     let summaries = profile.summaries.as_slice();
-    put_number(to, out, b"<p>Budget of each run: ", profile.budget);
-    put_number(to, out, b" instructions. Runs: ", summaries.len() as u64);
+    put_named(to, out, b"<p>Budget of each run: ", profile.budget);
+    put_named(to, out, b" instructions. Runs: ", summaries.len() as u64);
     to.push(out, b".</p>\n");
     put_warning(to, out, summaries);
 }
@@ -136,7 +136,7 @@ fn put_count<O: Sink>(to: &mut PutBuffer, out: &mut O, point: u64, summary: &Sum
     ensures { Gathers O.holds O.faults out.old out.new to.old to.new
         (visits_of point summary.now) }
 {
-    put_number(to, out, b"<p>Visits at speedup 0: ", visits(point, summary));
+    put_named(to, out, b"<p>Visits at speedup 0: ", visits(point, summary));
     to.push(out, b".</p>\n");
 }
 

@@ -11,7 +11,8 @@ use coz_files::{Files, HeldFile};
 use page_sources::{path_of, read_source};
 use std::alloc::{AllocError, Global};
 
-/// The source files of the lines of these curves, below a folder, each read once.
+/// The source files of the lines of these curves, below a folder. A path whose file is already there
+/// is not read again, by the clause `once` of `read_source`.
 fn sources_below<F: Files>(
     alloc: Global,
     files: &mut F,

@@ -17,7 +17,7 @@ use causal_curves::{Curve, CurveStep};
 use coz_files::{HeldFile, PutBuffer, Sink};
 use coz_types::{Label, Summary};
 use page_sources::line_of;
-use profile_book::{Profile, put_number};
+use profile_book::{Profile, put_named};
 
 /// The text of a line, if it has one.
 fn put_source<O: Sink>(to: &mut PutBuffer, out: &mut O, line: &[u8])
@@ -109,9 +109,9 @@ fn put_count<O: Sink>(to: &mut PutBuffer, out: &mut O, most: u64, lines: u64)
     ensures { Gathers O.holds O.faults out.old out.new to.old to.new (count_text most lines) }
 {
     let shown = lines.min(most);
-    put_number(to, out, b"</table>\n<p>Lines: ", lines);
-    put_number(to, out, b". Shown: ", shown);
-    put_number(to, out, b". Not shown: ", lines - shown);
+    put_named(to, out, b"</table>\n<p>Lines: ", lines);
+    put_named(to, out, b". Shown: ", shown);
+    put_named(to, out, b". Not shown: ", lines - shown);
     to.push(out, b".</p>\n");
 }
 
@@ -148,7 +148,7 @@ fn put_step<O: Sink>(to: &mut PutBuffer, out: &mut O, label: &[u8], step: &Curve
         (step_text label.now step.now) }
 {
     put_label(to, out, b"<tr><td>", label);
-    put_number(to, out, b"</td><td>", step.speedup as u64);
+    put_named(to, out, b"</td><td>", step.speedup as u64);
     to.push(out, b"%</td><td>");
     put_value(to, out, step.value);
     to.push(out, b"</td></tr>\n");
@@ -249,7 +249,7 @@ fn harm_top(curves: &[Curve]) -> u64
     }
 }
 
-/// What the page has of the point that these curves are of.
+/// Puts the part of the page about the point of these curves.
 pub fn put_point<O: Sink>(
     to: &mut PutBuffer,
     out: &mut O,
@@ -272,7 +272,7 @@ pub fn put_point<O: Sink>(
     );
     to.push(out, b"</summary>\n");
     put_visits(to, out, summaries, point);
-    put_number(to, out, b"<table id=\"p", point);
+    put_named(to, out, b"<table id=\"p", point);
     put_table(to, out, top, view, summaries, curves);
     put_pictures(to, out, top, view.most, curves);
 }
@@ -296,7 +296,7 @@ pub fn put_harm<O: Sink>(
         b"<details open><summary>Lines that hurt, by their worst value: ",
         name,
     );
-    put_number(to, out, b"</summary>\n<table id=\"h", point_number(curves));
+    put_named(to, out, b"</summary>\n<table id=\"h", point_number(curves));
     put_table(to, out, top, view, profile.summaries.as_slice(), curves);
     put_pictures(to, out, top, view.most, curves);
 }

@@ -18,7 +18,7 @@ use coz_files::{Files, PutAnswer, Sink};
 use file_steps::FileFault;
 use std::alloc::{AllocError, Global};
 
-/// Reads the source files of a page and puts the page. Fails only when out of memory.
+/// Reads the source files of a page and puts the page. Fails only if out of memory.
 fn show<F: Files, O: Sink>(
     alloc: Global,
     ranked: &Ranked,

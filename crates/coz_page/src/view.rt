@@ -1,10 +1,10 @@
 //! What the tables of a page show.
 use coz_files::HeldFile;
 
-/// How many lines the tables show, and the source files of the lines.
+/// The number of lines that the tables show, and the source files of the lines.
 #[derive(Clone, Copy)]
 pub struct View<'a> {
-    /// How many lines each table shows at most.
+    /// The number of lines that each table shows at most.
     pub most: u64,
     /// The source files, by the paths of labels.
     pub sources: &'a [HeldFile],

@@ -124,7 +124,7 @@ fn read_below<F: Files>(
     read_named(alloc, files, &name)
 }
 
-/// Adds a file with these bytes. Fails only when out of memory.
+/// Adds a file with these bytes. Fails only if out of memory.
 fn add(
     alloc: Global,
     sources: &mut Vec<HeldFile>,
@@ -141,7 +141,7 @@ fn add(
 
 /// Reads the file of a path below a folder, unless a file of this path is there. A file that does
 /// not exist, cannot be read, has more than 16,777,216 bytes or a name that is not UTF-8 is added
-/// without bytes. Fails only when out of memory.
+/// without bytes. Fails only if out of memory.
 pub fn read_source<F: Files>(
     alloc: Global,
     files: &mut F,
@@ -151,6 +151,8 @@ pub fn read_source<F: Files>(
 ) -> Result<(), AllocError>
     ensures same { F.held files.new ≡ F.held files.old }
     ensures later { F.faults files.old ≤ F.faults files.new }
+    ensures once { is_some (file_at (entries sources.old.items) path.now) ≡ true
+        → (files.new ≡ files.old) × (sources.new ≡ sources.old) }
     ensures there { OnOk result (is_some (file_at (entries sources.new.items) path.now) ≡ true) }
     ensures kept { OnOk result ((other : List ℕ)
         → is_some (file_at (entries sources.old.items) other) ≡ true

@@ -7,20 +7,20 @@ ghost use Rattle.page_words.specs.Words.{asked_of, request_in, request_of, reque
 use crate::scan::{Next, Scan, scan_of};
 use profile_lists::decimal;
 
-/// How many lines a table shows, if the words do not say.
+/// The number of lines of a table, if the arguments do not give one.
 const USUAL_TOP: u64 = 20;
 
 /// Upper bound of the number of lines that a table shows.
 const MAX_TOP: u64 = 1000;
 
-/// What the words ask for.
+/// The request that the arguments make.
 #[derive(Clone, Copy)]
 pub struct Asked<'w> {
     /// The path of the profile.
     pub profile: &'w str,
-    /// How many lines each table shows at most, 1 to 1,000.
+    /// The number of lines that each table shows at most, 1 to 1,000.
     pub top: u64,
-    /// What the path of a shown line begins or ends with; all lines are shown if there is none.
+    /// The beginning or the end of the paths of shown lines; all lines are shown if there is none.
     pub file: Option<&'w [u8]>,
     /// The folder of the source files, if the text of the lines is to be shown.
     pub source: Option<&'w [u8]>,
@@ -68,7 +68,7 @@ fn number_in(text: &[u8]) -> Option<u64>
     }
 }
 
-/// How many lines a table shows at most: 20, or the value of `--top`.
+/// The number of lines that a table shows at most: 20, or the value of `--top`.
 fn top_in(value: Option<&[u8]>) -> Option<u64>
     ensures { result ≡ top_in (option_copied value.entry) }
 {

@@ -16,7 +16,7 @@ pub enum Next {
     Source,
 }
 
-/// What some words give.
+/// The result of scanning some arguments.
 #[derive(Clone, Copy)]
 pub struct Scan<'w> {
     /// The path of the profile.
@@ -127,7 +127,7 @@ fn take_word<'w>(scan: Scan<'w>, word: &'w String) -> Scan<'w>
     }
 }
 
-/// What words give.
+/// Scans all arguments.
 pub fn scan_of<'w>(words: &'w [String]) -> Scan<'w>
     ensures { scanned result ≡ fold take_word no_words (bytes_of words.now) }
 {

@@ -13,9 +13,9 @@ returns g c =
     let same = to_z-of_z w128 c.args.value c.ranges.value in
     let low = c.dot_start.ensures ∙ ap dot_start (c.is_cut.ensures ∙ ap (is_cut c.args.top) same) in
     let start = gathers_as low c.push.ensures.gathers in
-    let across = gathers_as (ap (λ (n : ℕ). codes "\" r=\"14\" cx=\"" ++ decimal n) c.across.ensures) c.put_number.ensures in
+    let across = gathers_as (ap (λ (n : ℕ). codes "\" r=\"14\" cx=\"" ++ decimal n) c.across.ensures) c.put_named.ensures in
     let left = two_then (codes "\" r=\"14\" cx=\"") (decimal (place_across c.args.speedup)) start across in
-    let above = gathers_as (ap (λ (n : ℕ). codes "\" cy=\"" ++ decimal n) (c.height.ensures ∙ ap (height c.args.top) same)) c.put_number-2.ensures in
+    let above = gathers_as (ap (λ (n : ℕ). codes "\" cy=\"" ++ decimal n) (c.height.ensures ∙ ap (height c.args.top) same)) c.put_named-2.ensures in
     let dot = two_then (codes "\" cy=\"") (decimal (height c.args.top c.args.value)) left above in
-    let speedup = two_then (codes "\"><title>line ") (decimal c.args.speedup) dot c.put_number-3.ensures in
+    let speedup = two_then (codes "\"><title>line ") (decimal c.args.speedup) dot c.put_named-3.ensures in
     gathers_then (gathers_then (gathers_then speedup c.push-2.ensures.gathers) (gathers_as (ap percent same) c.put_percent.ensures)) c.push-3.ensures.gathers

@@ -10,5 +10,5 @@ pub returns : goal.returns
 returns g c =
     let at = c.height.ensures ∙ ap (height c.args.top) (to_z-of_z w128 c.args.value c.ranges.value) in
     two_then (codes ",") (decimal (height c.args.top c.args.value))
-    (gathers_as (ap (λ (n : ℕ). codes " " ++ decimal n) c.across.ensures) c.put_number.ensures)
-    (gathers_as (ap (λ (n : ℕ). codes "," ++ decimal n) at) c.put_number-2.ensures)
+    (gathers_as (ap (λ (n : ℕ). codes " " ++ decimal n) c.across.ensures) c.put_named.ensures)
+    (gathers_as (ap (λ (n : ℕ). codes "," ++ decimal n) at) c.put_named-2.ensures)

@@ -9,4 +9,4 @@ use Rattle.coz_page.proofs.page.put_choice.Goals as goal
 pub returns : goal.returns
 returns g c =
     let label = gathers_as (ap (λ (t : Text). codes "\">" ++ html t) c.bytes.ensures) c.put_label.ensures in
-    gathers_then (two_then (codes "\">") (html c.args.label.now) c.put_number.ensures label) c.push.ensures.gathers
+    gathers_then (two_then (codes "\">") (html c.args.label.now) c.put_named.ensures label) c.push.ensures.gathers

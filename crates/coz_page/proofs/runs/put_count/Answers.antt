@@ -5,4 +5,4 @@ use Rattle.coz_page.proofs.runs.put_count.Goals as goal
 
 pub returns : goal.returns
 returns g c =
-    gathers_then (gathers_as (ap (λ (n : ℕ). codes "<p>Visits at speedup 0: " ++ decimal n) c.visits.ensures) c.put_number.ensures) c.push.ensures.gathers
+    gathers_then (gathers_as (ap (λ (n : ℕ). codes "<p>Visits at speedup 0: " ++ decimal n) c.visits.ensures) c.put_named.ensures) c.push.ensures.gathers

@@ -9,6 +9,6 @@ use Rattle.coz_page.proofs.runs.put_runs.Goals as goal
 pub returns : goal.returns
 returns g c =
     let summaries = c.as_slice-summaries.ensures in
-    let number = gathers_as (ap (λ (ss : List Summary). codes " instructions. Runs: " ++ decimal (length ss)) summaries) c.put_number-2.ensures in
-    let runs = two_then (codes " instructions. Runs: ") (decimal (length c.args.profile.now.summaries)) c.put_number.ensures number in
+    let number = gathers_as (ap (λ (ss : List Summary). codes " instructions. Runs: " ++ decimal (length ss)) summaries) c.put_named-2.ensures in
+    let runs = two_then (codes " instructions. Runs: ") (decimal (length c.args.profile.now.summaries)) c.put_named.ensures number in
     gathers_then (gathers_then runs c.push.ensures.gathers) (gathers_as (ap warning_text summaries) c.put_warning.ensures)

@@ -3,4 +3,4 @@ use Rattle.coz_page.proofs.runs.put_warned.Goals as goal
 
 pub returns : goal.returns
 returns g c =
-    gathers_then (gathers_then (gathers_then c.put_number.ensures c.push.ensures.gathers) c.put_kinds.ensures) c.push-2.ensures.gathers
+    gathers_then (gathers_then (gathers_then c.put_named.ensures c.push.ensures.gathers) c.put_kinds.ensures) c.push-2.ensures.gathers

@@ -5,5 +5,5 @@ use Rattle.coz_page.proofs.tables.put_step.Goals as goal
 
 pub returns : goal.returns
 returns g c =
-    let speedup = two_then (codes "</td><td>") (decimal c.args.step.now.speedup) c.put_label.ensures c.put_number.ensures in
+    let speedup = two_then (codes "</td><td>") (decimal c.args.step.now.speedup) c.put_label.ensures c.put_named.ensures in
     gathers_then (gathers_then (gathers_then speedup c.push.ensures.gathers) c.put_value.ensures) c.push-2.ensures.gathers
