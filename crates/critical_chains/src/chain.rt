@@ -6,7 +6,7 @@ use crate::{Event, Trace};
 use std::alloc::{AllocError, Global};
 
 /// The chain of a run, back along `from` from its last event, and so one of its heaviest.
-/// It asks for room for as many numbers as there are events. Fails only when out of memory.
+/// Allocates one number for each event. Fails only if out of memory.
 pub fn longest(alloc: Global, trace: &Trace) -> Result<Vec<u32>, AllocError>
     requires { Linked trace.now.events }
     ensures chain { IfOk result (λ chain. chain.items ≡ chain_of trace.now.events) }
@@ -15,13 +15,16 @@ pub fn longest(alloc: Global, trace: &Trace) -> Result<Vec<u32>, AllocError>
         → weight trace.now.events other ≤ weight trace.now.events chain.items) }
 {
     let events = trace.events.as_slice();
-    let mut chain = Vec::with_capacity(alloc, events.len())?;
+    let mut chain = vec![in alloc; 0; events.len()]?;
     let mut number = events.len() as u32 - 1;
-    chain.push(number)?;
+    chain[0] = number;
+    let mut count = 1;
     while let Some(from) = events[number as usize].from {
         number = from;
-        chain.push(number)?;
+        chain[count] = number;
+        count += 1;
     }
+    chain.truncate(count);
     chain.reverse();
     Ok(chain)
 }

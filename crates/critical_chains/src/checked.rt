@@ -4,7 +4,7 @@ ghost use Rattle.critical_chains.specs.Path.{event_at, last_of, ticks, weight, F
 
 use crate::Event;
 
-/// What an event adds to a chain.
+/// The ticks that an event adds to a chain.
 fn ticks(event: &Event) -> u128
     ensures value { result ≡ ticks event.now }
     ensures small { result < 2 ^ 65 }

@@ -1,5 +1,5 @@
 -- The walk beside the engine: the events and causes in hand are those of as many moves as the engine counts.
-use Rattle.std.proofs.Common.{◌≡◌, ℕ, suc, ◌+◌, ◌-◌, ◌*◌, ◌≤◌, ◌<◌, ◌==◌, ◌∙◌, ◌++◌, if◌then◌else◌, Bool, true, false, List, [], ◌∷◌, length, get_or, Option, Some, None, unwrap_or, refl, sym, ap, ap₂, subst, arith, eqb-true, add-one}
+use Rattle.std.proofs.Common.{◌≡◌, ℕ, suc, ◌+◌, ◌-◌, ◌*◌, ◌≤◌, ◌<◌, ◌==◌, ◌∙◌, ◌++◌, if◌then◌else◌, Bool, true, false, List, [], ◌∷◌, length, get_or, Option, Some, None, unwrap_or, IsSome, refl, sym, ap, ap₂, subst, arith, eqb-true, add-one}
 use Rattle.std.proofs.Math.Path.{fun_ext}
 use Rattle.std.specs.Prelude.{Result, Ok, Err, IfOk}
 use Rattle.std.specs.declared.alloc.AllocError.{AllocError}
@@ -27,7 +27,7 @@ use Rattle.run_engine.specs.declared.engine.Turn as turns
 use Rattle.run_engine.specs.declared.engine.Event.TheVariants.{Woke, Retired}
 use Rattle.run_engine.specs.Advance.{IsAdvance}
 use Rattle.run_engine.specs.Begin.{started_by}
-use Rattle.run_engine.specs.Engine.{events_of, IsReached, IsFirst, IsSteady}
+use Rattle.run_engine.specs.Engine.{events_of, IsEngineOf, IsFirst, IsSteady}
 use Rattle.run_engine.specs.Run.{IsChoice, experiment}
 use Rattle.run_engine.specs.Seen.{experiment_of_image}
 use Rattle.run_engine.specs.Visits.{Visits}
@@ -55,7 +55,7 @@ module _ (image : ImageParts) (input : List ℕ) (setting : Setting) where
   pub record IsWalked (engine : Engine) (causes : List Cause) (events : List Event) : Type 0 where
     pub valid : IsChoice setting.choice
     pub few : setting.choice.budget ≤ MAX_EVENTS
-    pub reached : IsReached x engine
+    pub reached : IsEngineOf x engine
     pub room : length causes ≡ HARTS
     pub events_are : events ≡ (traced x pc_of (events_of engine)).events
     pub causes_are : engine.ending ≡ None → (k : ℕ) → k < HARTS → cause_at causes k ≡ (traced x pc_of (events_of engine)).causes k
@@ -82,7 +82,7 @@ module _ (image : ImageParts) (input : List ℕ) (setting : Setting) where
     many : length events ≡ engine.retired
     many = ap length walked.events_are ∙ (stands_at x IsOrderly law pc_of n).count ∙ ap (λ (o : Shortened Guest). o.retired) walked.reached.reached.state
 
-    pub reached_after : (moved : moves.Event) → IsAdvance setting engine moved 0 new → IsReached x new
+    pub reached_after : (moved : moves.Event) → IsAdvance setting engine moved 0 new → IsEngineOf x new
     reached_after (Woke turn) did =
         let same : new.visits ≡ engine.visits = ap (λ (o : Engine). o.visits) did.rest in
         reached_woken image (position_at setting.index.now) (point_of setting.points.now) input setting.choice walked.valid engine walked.reached new none
@@ -101,6 +101,9 @@ module _ (image : ImageParts) (input : List ℕ) (setting : Setting) where
 
     begun_then : (moment ticks k : ℕ) → key_of new.schedule k ≡ Some (moment + ticks) → IsBegun new.schedule moment k
     begun_then moment ticks k is due has = let same : moment + ticks ≡ due = let both = sym is ∙ has in cc in omega arith
+
+    due_then : (due k : ℕ) → key_of new.schedule k ≡ Some due → IsSome (key_of new.schedule k)
+    due_then due k is = rw is refl
 
     ticks_then : (moment ticks k : ℕ) → key_of new.schedule k ≡ Some (moment + ticks) → ticks_from new.schedule moment k ≡ ticks
     ticks_then moment ticks k is = ap (λ (o : Option ℕ). unwrap_or o 0 - moment) is ∙ (let rest : (moment + ticks) - moment ≡ ticks = omega arith in rest)
@@ -147,7 +150,7 @@ module _ (image : ImageParts) (input : List ℕ) (setting : Setting) where
             here_below one.hart.0 new.time did.turn,
             omega arith,
             subst (λ (o : Retirement Guest). IsLater new.time o.fate) retires turn.later,
-            λ on k among. let key = begun on k among in (within_harts k _ key did.room, begun_then new.time (work x pc_of new.guest k) k key),
+            λ on k among. let key = begun on k among in (within_harts k _ key did.room, (due_then _ k key, begun_then new.time (work x pc_of new.guest k) k key)),
           )
 
       pub retired_walked : (address : ℕ) (new_causes : List Cause) (new_events : List Event) → address ≡ pc_of engine.guest one.hart.0 → length new_causes ≡ HARTS → IsRecorded new (Retired one) address causes events new_causes new_events → IsWalked new new_causes new_events

@@ -1,5 +1,5 @@
 -- What is known of each hart, brought up to a move of the engine.
-use Rattle.std.specs.Prelude.{◌≡◌, ℕ, ◌+◌, ◌-◌, ◌^◌, ◌≤◌, ◌<◌, true, List, ◌∷◌, [], ◌++◌, length, None, unwrap_or, if◌then◌else◌, ◌==◌}
+use Rattle.std.specs.Prelude.{◌≡◌, ℕ, ◌+◌, ◌-◌, ◌^◌, ◌≤◌, ◌<◌, true, List, ◌∷◌, [], ◌++◌, length, None, unwrap_or, IsSome, if◌then◌else◌, ◌==◌}
 use Rattle.std.specs.Option.{ForSome}
 use Rattle.coz_types.specs.declared.TheConstants.{HARTS}
 use Rattle.hart_schedule.specs.Keys.{Keys, key_of}
@@ -32,7 +32,7 @@ CanRecord engine (Retired retired) causes events =
     × IsLater engine.time retired.fate
     × (engine.ending ≡ None → (k : ℕ)
     → is_among k (started_by retired.hart.0 retired.fate engine.started) ≡ true
-    → (k < HARTS) × IsBegun engine.schedule engine.time k)
+    → (k < HARTS) × (IsSome (key_of engine.schedule k) × IsBegun engine.schedule engine.time k))
 
 -- the causes and events after the event, if the hart was at this address before
 abbrev pub IsRecorded : Engine → moves.Event → ℕ → List Cause → List Event → List Cause → List Event

@@ -14,8 +14,7 @@ ghost use Rattle.critical_path.specs.Walk.{plain_choice, plain, IsMadeOf};
 
 use crate::cause::Cause;
 use crate::recording::{Walked, record_move, ticks_from};
-use coz_lists::Items;
-use coz_types::{Ending, HARTS, HartId, Image, MAX_VISITS};
+use coz_types::{Ending, HARTS, HartId, Image, Items, MAX_VISITS};
 use critical_chains::Trace;
 use dwarf_lines::LineTable;
 use guest_memory::Layout;
@@ -44,7 +43,7 @@ fn no_points(alloc: Global, index: &LineIndex) -> Result<Points, AllocError>
     }
 }
 
-/// What is known as a run begins.
+/// The causes before the first event.
 fn first_walked(alloc: Global, engine: &Engine) -> Result<Walked, AllocError>
     ensures events { IfOk result (λ walked. walked.events.items ≡ []) }
     ensures room { IfOk result (λ walked. length walked.causes.items ≡ HARTS) }
@@ -88,7 +87,7 @@ fn trace_of(
 }
 
 /// Runs a program with no selected line and no points, and gives its events, its ending and
-/// its output. Fails only when out of memory.
+/// its output. Fails only if out of memory.
 #[inline(never)]
 pub fn walk<'a>(
     alloc: Global,

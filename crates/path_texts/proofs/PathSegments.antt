@@ -1,11 +1,13 @@
 -- Segments of a path, one event after the other.
-use Rattle.std.proofs.Common.{◌≡◌, ℕ, ◌+◌, ◌<◌, ◌≤◌, ◌==◌, if◌then◌else◌, Bool, true, false, List, [], ◌∷◌, ◌++◌, length, get_or, drop, drop-cons, add-one, refl, sym, ap, ◌∙◌, arith, append_assoc, Option}
-use Rattle.std.specs.List.{flat_map}
-use Rattle.std.proofs.lemmas.List.{append-nil, drop_all}
+use Rattle.std.proofs.Common.{◌≡◌, ℕ, ◌+◌, ◌<◌, ◌≤◌, ◌==◌, if◌then◌else◌, Bool, true, false, List, [], ◌∷◌, ◌++◌, length, get_or, drop, drop-cons, add-one, refl, sym, ap, ◌∙◌, arith, append_assoc, Option, ◌⊎◌, inl, inr, eq-eqb}
+use Rattle.std.specs.List.{flat_map, All}
+use Rattle.std.proofs.lemmas.Bool.{cases_lt}
+use Rattle.std.proofs.lemmas.List.{append-nil, drop_all, get_or_past}
+use Rattle.std.proofs.lemmas.List.Elements.{All-get_or}
 use Rattle.coz_types.specs.Labels.{Text}
 use Rattle.coz_files.specs.Gathered.{Gathers, Rest}
 use Rattle.critical_chains.specs.declared.event.Event.{Event}
-use Rattle.critical_chains.specs.Path.{event_at}
+use Rattle.critical_chains.specs.Path.{event_at, no_event}
 use Rattle.path_texts.specs.declared.texts.Segment.{Segment}
 use Rattle.path_texts.specs.PathText.{first_segment, next_segment, segments_from, segments_of, segment_line, events_on}
 use Rattle.path_texts.specs.Segments.{after, closed}
@@ -132,6 +134,26 @@ whole_is events chain rest first s is at one =
     ap segment_line (at ∙ ap (λ (i : ℕ). record from { end = (event_at events i).due }) last)
     ∙ sym (append-nil (segment_line (record from { end = (event_at events (get_or (first ∷ rest) (length rest) 0)).due })))
     ∙ sym (ap (flat_map segment_line) (same ∙ only))
+
+-- ---- a run of one hart
+
+-- an event of a number is of hart 0 if all are, as is what stands in place of none
+of_first_by : (events : List Event) → All (λ (e : Event). e.hart.0 ≡ 0) events → (i : ℕ) → (i < length events) ⊎ (length events ≤ i) → (event_at events i).hart.0 ≡ 0
+of_first_by events all i (inl below) = All-get_or (λ (e : Event). e.hart.0 ≡ 0) events i no_event below all
+of_first_by events all i (inr beyond) = ap (λ (e : Event). e.hart.0) (get_or_past events i no_event beyond)
+
+of_first : (events : List Event) → All (λ (e : Event). e.hart.0 ≡ 0) events → (i : ℕ) → (event_at events i).hart.0 ≡ 0
+of_first events all i = of_first_by events all i (cases_lt i (length events))
+
+one_on : (events : List Event) (s : Segment) (chain : List ℕ) → ((i : ℕ) → (event_at events i).hart.0 ≡ 0) → s.hart.0 ≡ 0 → length (segments_from s (events_on events chain)) ≡ 1
+one_on events s [] zeros is = refl
+one_on events s (i ∷ is) zeros same =
+    rw (eq-eqb (event_at events i).hart.0 s.hart.0 (zeros i ∙ sym same))
+    (one_on events (record s { end = (event_at events i).due }) is zeros same)
+
+pub one_of_first : (events : List Event) (chain : List ℕ) → All (λ (e : Event). e.hart.0 ≡ 0) events → (chain ≡ [] → ⊥) → length (segments_of (events_on events chain)) ≡ 1
+one_of_first events [] all some = absurd (some refl)
+one_of_first events (i ∷ is) all some = one_on events (first_segment (event_at events i)) is (of_first events all) (of_first events all i)
 
 -- what is put of a path, and that the segments that are left make the text whole
 pub record IsPut {S : Type 0} (holds : S → Option Text) (faults : S → ℕ) (old new : S) (rest left : Rest) (events : List Event) (s : Segment) (chain : List ℕ) (whole : Text) : Type 0 where

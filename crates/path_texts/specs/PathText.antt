@@ -1,11 +1,11 @@
 -- What `path` prints: the segments of a critical path, which are its maximal runs on one hart,
 -- how much of it each line has, and how long it slept.
-use Rattle.std.specs.Prelude.{ℕ, Bool, false, ◌==◌, nat_lt, List, [], ◌∷◌, ◌++◌, length, map, flat_map, get_or, sum_by, Option, Some, None, is_none, if◌then◌else◌, codes}
+use Rattle.std.specs.Prelude.{ℕ, Bool, false, ◌==◌, nat_lt, List, [], ◌∷◌, ◌++◌, length, map, flat_map, sum_by, Option, Some, None, is_none, if◌then◌else◌, codes}
 use Rattle.std.specs.List.{filter, range_with_len}
 use Rattle.std.specs.Ordering.{is_lt, nat_cmp}
 use Rattle.coz_types.specs.Labels.{Text}
 use Rattle.coz_types.specs.declared.ending.Ending.{Ending}
-use Rattle.line_index.specs.Lines.{Line, label}
+use Rattle.line_index.specs.Lines.{Line, label_at}
 use Rattle.line_index.specs.Index.{Index}
 use Rattle.profile_book.specs.Pieces.{named, number_line, end_line}
 use Rattle.profile_lists.specs.Sorted.{sorted_by}
@@ -87,13 +87,9 @@ segment_line s = named (codes "segment ") s.hart.0
     ++ named (codes " to ") s.end
     ++ (codes " by " ++ by_text s.by) ++ codes "\n"
 
--- of the line at a position
-abbrev pub name_at : List Line → ℕ → Text
-name_at lines k = get_or (map label lines) k []
-
 abbrev pub share_line : List Line → Share → Text
 share_line lines s =
-    (codes "share " ++ name_at lines s.line) ++ named (codes " ") s.ticks ++ codes "\n"
+    (codes "share " ++ label_at lines s.line) ++ named (codes " ") s.ticks ++ codes "\n"
 
 -- a name and a number on a line, unless the number is 0
 abbrev pub amount_line : Text → ℕ → Text

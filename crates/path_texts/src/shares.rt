@@ -7,14 +7,13 @@ ghost use Rattle.path_texts.specs.declared.shares.TheConstants.{KEPT_ADDRESSES};
 ghost use Rattle.path_texts.specs.PathText.{events_on, is_on, has_some, shares_of, slept_on, work_elsewhere};
 ghost use Rattle.path_texts.specs.Shares.{share_in, IsCounted, IsFound};
 
-use coz_lists::Items;
-use coz_types::{Address, HartId, Tick};
+use coz_types::{Address, HartId, Items, Tick};
 use critical_chains::Event;
 use line_index::LineIndex;
 use std::alloc::{AllocError, Global};
 use std::cmp::Reverse;
 
-/// What a line has of a path.
+/// The share of a line: its part of the ticks of a path.
 #[derive(Clone, Copy, Debug)]
 pub struct Share {
     /// The line, by its position.
@@ -23,7 +22,7 @@ pub struct Share {
     pub ticks: Tick,
 }
 
-/// What a path is made of.
+/// The shares of a path: of each line, of code without a line, and of sleep.
 #[derive(Debug, Drop)]
 pub struct Shares {
     /// The lines that have some of it, by falling ticks, and then in the order of lines.
@@ -45,7 +44,7 @@ pub struct Sums {
     pub sleep: Tick,
 }
 
-/// What stands in place of an event if there is none.
+/// The event that replaces one that does not exist.
 const NO_EVENT: Event = Event {
     hart: HartId(0),
     address: 0,
@@ -76,8 +75,8 @@ fn position_of(index: &LineIndex, address: Address) -> Option<u32>
     }
 }
 
-/// How many addresses are kept with their lines.
-const KEPT_ADDRESSES: u64 = 1024;
+/// The number of addresses that are kept with their lines.
+const KEPT_ADDRESSES: u64 = 4096;
 
 /// An address, and the position of its line.
 #[derive(Clone, Copy)]
@@ -93,8 +92,24 @@ fn slot_of(address: Address) -> usize
     (address / 4 % KEPT_ADDRESSES) as usize
 }
 
+/// The position of the line of an address, looked up in the index and kept in this slot. Few
+/// events need it: this is a call, and no part of the loop over events.
+#[inline(never)]
+fn look_up(index: &LineIndex, found: &mut Vec<Found>, slot: usize, address: Address) -> Option<u32>
+    requires within { slot < length found.old.items }
+    requires right { All (IsFound (position_at index.now)) found.old.items }
+    ensures line { result ≡ position_at index.now address }
+    ensures room { length found.new.items ≡ length found.old.items }
+    ensures right { All (IsFound (position_at index.now)) found.new.items }
+{
+    let line = position_of(index, address);
+    found[slot] = Found { address, line };
+    line
+}
+
 /// The position of the line of an address, which is looked up in the index only if another
 /// address is in its slot.
+#[inline(always)]
 fn line_of(index: &LineIndex, found: &mut Vec<Found>, address: Address) -> Option<u32>
     requires room { length found.old.items ≡ KEPT_ADDRESSES }
     requires right { All (IsFound (position_at index.now)) found.old.items }
@@ -106,9 +121,7 @@ fn line_of(index: &LineIndex, found: &mut Vec<Found>, address: Address) -> Optio
     if found[slot].address == address {
         return found[slot].line;
     }
-    let line = position_of(index, address);
-    found[slot] = Found { address, line };
-    line
+    look_up(index, found, slot, address)
 }
 
 /// Adds the work of an event to its line.
@@ -144,7 +157,7 @@ fn add_event(sums: &mut Sums, line: Option<u32>, event: &Event)
 }
 
 /// The ticks of a chain of events, whose addresses have the lines of an index.
-/// Fails only when out of memory.
+/// Fails only if out of memory.
 fn sums_of(
     alloc: Global,
     index: &LineIndex,
@@ -173,7 +186,7 @@ fn sums_of(
     Ok(sums)
 }
 
-/// Appends a share, if it has some ticks. Fails only when out of memory.
+/// Appends a share, if it has some ticks. Fails only if out of memory.
 fn push_share(shares: &mut Vec<Share>, share: Share) -> Result<(), AllocError>
     ensures { OnOk result (shares.new.items
         ≡ shares.old.items ++ (if has_some share then share ∷ [] else [])) }
@@ -184,7 +197,7 @@ fn push_share(shares: &mut Vec<Share>, share: Share) -> Result<(), AllocError>
     Ok(())
 }
 
-/// Those of this many lines that have some ticks, in order. Fails only when out of memory.
+/// The lines that have ticks, of the first `count` lines, in order. Fails only if out of memory.
 fn shares_in(alloc: Global, count: u32, lines: &[Tick]) -> Result<Vec<Share>, AllocError>
     requires { count ≤ length lines.now }
     ensures { IfOk result (λ shares. shares.items
@@ -198,8 +211,8 @@ fn shares_in(alloc: Global, count: u32, lines: &[Tick]) -> Result<Vec<Share>, Al
     Ok(shares)
 }
 
-/// How much of a chain of events each line of an index has. It takes eight bytes a line beside
-/// the shares. Fails only when out of memory.
+/// The share of a chain of events that each line of an index has. It takes eight bytes a line
+/// beside the shares. Fails only if out of memory.
 pub fn shares_of_path(
     alloc: Global,
     index: &LineIndex,

@@ -1,10 +1,11 @@
 //! The text of a critical path, on its way to a sink.
-ghost use Rattle.std.specs.Prelude.{◌≡◌, ◌≤◌, length, flat_map, IfOk};
+ghost use Rattle.std.specs.Prelude.{◌≡◌, ◌≤◌, ◌↔◌, length, flat_map, All, IfOk, IsTrue};
 ghost use Rattle.coz_files.specs.Gathered.{Gathers};
 ghost use Rattle.coz_files.specs.Puts.{Puts};
 ghost use Rattle.line_index.specs.Index.{position_at};
 ghost use Rattle.critical_chains.specs.Path.{event_at, last_of, chain_of, Linked};
-ghost use Rattle.path_texts.specs.PathText.{amount_line, by_text, events_on, first_segment, handover, head_lines, name_at, path_text, segment_line, segments_of, share_line, share_lines, written_path};
+ghost use Rattle.line_index.specs.Lines.{label_at};
+ghost use Rattle.path_texts.specs.PathText.{amount_line, by_text, events_on, first_segment, handover, head_lines, path_text, segment_line, segments_of, share_line, share_lines, written_path};
 ghost use Rattle.path_texts.specs.Segments.{after, closed};
 
 use crate::shares::{Share, Shares, event_of, shares_of_path};
@@ -12,10 +13,10 @@ use coz_files::{PutAnswer, PutBuffer, Sink};
 use coz_types::{HartId, LineId, Tick};
 use critical_chains::{Event, Trace, longest};
 use line_index::LineIndex;
-use profile_book::{put_end, put_field, put_line, put_number};
+use profile_book::{put_end, put_field, put_line, put_named};
 use std::alloc::{AllocError, Global};
 
-/// How a hart came to carry a path.
+/// The way in which a hart came to carry a path.
 #[derive(Clone, Copy, Debug)]
 pub enum Handover {
     /// The program began with it.
@@ -35,7 +36,7 @@ pub struct Segment {
     pub start: Tick,
     /// When its last event was due, in net ticks.
     pub end: Tick,
-    /// How the hart came to carry the path.
+    /// The way in which the hart came to carry the path.
     pub by: Handover,
 }
 
@@ -48,7 +49,7 @@ pub struct CriticalPath {
     pub chain: Vec<u32>,
     /// When the last event was due, in net ticks.
     pub net: Tick,
-    /// How much of the path each line has.
+    /// The share of each line.
     pub shares: Shares,
 }
 
@@ -74,7 +75,7 @@ fn whole_segment(first: &Event, last: &Event) -> Segment
     }
 }
 
-/// How the hart of an event came to carry the path with it.
+/// The way in which the hart of an event came to carry the path with it.
 fn taken_by(event: &Event) -> Handover
     ensures { result ≡ handover event.now }
 {
@@ -102,9 +103,28 @@ fn after(segment: Segment, event: &Event) -> Segment
     }
 }
 
-/// How many segments a path has.
+/// Whether all events are of the hart that a program begins with.
+fn are_of_first(events: &[Event]) -> bool
+    ensures { IsTrue result ↔ All (λ e. e.hart.0 ≡ 0) events.now }
+{
+    events.iter().all(|event| event.hart.0 == 0)
+}
+
+/// The number of segments of a path. If all events are of the first hart, the events are not read
+/// in the order of the path.
 #[inline(never)]
 fn count_segments(events: &[Event], chain: &[u32]) -> u64
+    ensures { result ≡ length (segments_of (events_on events.now chain.now)) }
+{
+    if !chain.is_empty() && are_of_first(events) {
+        return 1;
+    }
+    count_changes(events, chain)
+}
+
+/// How many segments a path has, by its changes of harts.
+#[inline(never)]
+fn count_changes(events: &[Event], chain: &[u32]) -> u64
     ensures { result ≡ length (segments_of (events_on events.now chain.now)) }
 {
     let Some((first, rest)) = chain.split_first() else {
@@ -133,9 +153,9 @@ fn by_text(by: Handover) -> &'static [u8]
 fn put_segment<O: Sink>(to: &mut PutBuffer, out: &mut O, segment: Segment)
     ensures { Gathers O.holds O.faults out.old out.new to.old to.new (segment_line segment) }
 {
-    put_number(to, out, b"segment ", u64::from(segment.hart.0));
-    put_number(to, out, b" from ", segment.start);
-    put_number(to, out, b" to ", segment.end);
+    put_named(to, out, b"segment ", u64::from(segment.hart.0));
+    put_named(to, out, b" from ", segment.start);
+    put_named(to, out, b" to ", segment.end);
     put_field(to, out, b" by ", by_text(segment.by));
     to.push(out, b"\n");
 }
@@ -204,9 +224,9 @@ fn put_each<O: Sink>(
     }
 }
 
-/// How the line at a position is written.
-fn name_at(index: &LineIndex, line: u32) -> &[u8]
-    ensures { result.now ≡ name_at index.now.lines line }
+/// The label of the line at a position.
+fn label_at(index: &LineIndex, line: u32) -> &[u8]
+    ensures { result.now ≡ label_at index.now.lines line }
 {
     if line < index.count() {
         return index.label(LineId(line)).bytes();
@@ -218,8 +238,8 @@ fn put_share<O: Sink>(to: &mut PutBuffer, out: &mut O, index: &LineIndex, share:
     ensures { Gathers O.holds O.faults out.old out.new to.old to.new
         (share_line index.now.lines share) }
 {
-    put_field(to, out, b"share ", name_at(index, share.line));
-    put_number(to, out, b" ", share.ticks);
+    put_field(to, out, b"share ", label_at(index, share.line));
+    put_named(to, out, b" ", share.ticks);
     to.push(out, b"\n");
 }
 
@@ -272,7 +292,7 @@ fn net_of(events: &[Event]) -> Tick
 }
 
 /// The critical path of a run, whose addresses have the lines of an index.
-/// Fails only when out of memory.
+/// Fails only if out of memory.
 pub fn path_of(alloc: Global, index: &LineIndex, trace: Trace) -> Result<CriticalPath, AllocError>
     requires { Linked trace.events }
     ensures ending { IfOk result (λ path. path.trace.ending ≡ trace.ending) }
@@ -293,7 +313,7 @@ pub fn path_of(alloc: Global, index: &LineIndex, trace: Trace) -> Result<Critica
 }
 
 /// Puts the text of a critical path, whose shares are of the lines of an index.
-/// It takes no memory.
+/// No memory is taken.
 pub fn write_path<O: Sink>(path: &CriticalPath, index: &LineIndex, out: &mut O) -> PutAnswer
     ensures { Puts O.holds O.faults out.old out.new result (written_path path.now index.now) }
 {

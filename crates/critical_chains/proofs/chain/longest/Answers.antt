@@ -1,5 +1,5 @@
-use Rattle.std.proofs.Common.{◌≡◌, ℕ, ◌++◌, ◌∷◌, [], List, ◌∙◌, ap, sym, subst, arith, reverse, Option, append_assoc}
-use Rattle.std.proofs.lemmas.List.{reverse-append}
+use Rattle.std.proofs.Common.{◌≡◌, ℕ, ◌-◌, ◌<◌, ◌++◌, ◌∷◌, [], List, ◌∙◌, ap, sym, subst, arith, length, reverse, take, Option, append_assoc}
+use Rattle.std.proofs.lemmas.List.{length-set, reverse-append, take_more_set}
 use Rattle.critical_chains.specs.declared.event.Event.{Event}
 use Rattle.critical_chains.specs.Path.{event_at, last_of, chain_to, chain_of, Linked, Sound}
 use Rattle.critical_chains.proofs.Heaviest.{none_heavier}
@@ -12,8 +12,13 @@ loop-number-init c =
     let events : List Event = c.as_slice-events.result.now in
     let linked : Linked events = subst Linked (sym c.as_slice-events.ensures) c.requires in
     let some = linked.some in
-    let pushed = c.in_ok-push.ensures.items ∙ ap (λ (xs : List ℕ). xs ++ last_of events ∷ []) c.in_ok-chain.ensures.items in
-    (omega arith, begins events linked ∙ ap (λ (xs : List ℕ). chain_to events (event_at events (last_of events)).from (last_of events) ++ reverse xs) (sym pushed))
+    let xs : List ℕ = c.in_ok-chain.chain.items in
+    let room : length xs ≡ length events = omega (arith, c.in_ok-chain.ensures.len, c.in_ok-chain.chain.ok.0) in
+    let last : ℕ = length events - 1 in
+    let put = take_more_set xs 0 last (omega (arith, room, some)) in (
+      omega (arith, some),
+      (omega arith, (length-set xs 0 last ∙ room, begins events linked ∙ ap (λ (ys : List ℕ). chain_to events (event_at events (last_of events)).from (last_of events) ++ reverse ys) (sym put))),
+    )
 
 pub loop-number-preserved : goal.loop-number-preserved
 loop-number-preserved c =
@@ -21,22 +26,35 @@ loop-number-preserved c =
     let linked : Linked events = subst Linked (sym c.as_slice-events.ensures) c.requires in
     let i = c.loop-number.number in
     let p = c.in-Some.from in
+    let k = c.loop-number.count in
+    let xs : List ℕ = c.loop-number.chain.items in
     let before = c.loop-number.invariant in
-    let lower = (from_lower events linked i p before.0 c.in-Some.is).0 in
+    let few = before.0 in
+    let some = before.1.0 in
+    let room = before.1.1.0 in
+    let below : i < length events = omega (arith, few, some) in
+    let lower = (from_lower events linked i p below c.in-Some.is).0 in
     let earlier = chain_to events (event_at events p).from p in
-    let pushed = ap reverse c.in_ok-push-2.ensures.items ∙ reverse-append c.loop-number.chain.items (p ∷ []) in (
-      omega arith,
-      before.1
-          ∙ ap (λ (xs : List ℕ). xs ++ reverse c.loop-number.chain.items) (goes_back events linked i p before.0 c.in-Some.is)
-          ∙ append_assoc earlier (p ∷ []) (reverse c.loop-number.chain.items)
-          ∙ ap (λ (xs : List ℕ). earlier ++ xs) (sym pushed),
+    let put = ap reverse (take_more_set xs k p (omega (arith, few, room, lower))) ∙ reverse-append (take k xs) (p ∷ []) in (
+      omega (arith, few, lower),
+      (
+        omega arith,
+        (
+          length-set xs k p ∙ room,
+          before.1.1.1
+              ∙ ap (λ (ys : List ℕ). ys ++ reverse (take k xs)) (goes_back events linked i p below c.in-Some.is)
+              ∙ append_assoc earlier (p ∷ []) (reverse (take k xs))
+              ∙ ap (λ (ys : List ℕ). earlier ++ ys) (sym put),
+        ),
+      ),
     )
 
 chained : (c : After-reverse) → c.reverse.new.self.items ≡ chain_of c.args.trace.now.events
 chained c =
     let events : List Event = c.as_slice-events.result.now in
     c.reverse.ensures.items
-    ∙ sym (c.loop-number.invariant.1 ∙ ap (λ (from : Option ℕ). chain_to events from c.loop-number.number ++ reverse c.loop-number.chain.items) c.in_default.is)
+    ∙ ap reverse c.truncate.ensures.items
+    ∙ sym (c.loop-number.invariant.1.1.1 ∙ ap (λ (from : Option ℕ). chain_to events from c.loop-number.number ++ reverse (take c.loop-number.count c.loop-number.chain.items)) c.in_default.is)
     ∙ ap chain_of c.as_slice-events.ensures
 
 pub returns-clause-sound : goal.returns-clause-sound

@@ -11,7 +11,8 @@ go_on_or_leave-requires-clause-begun c = λ k among. (c.requires.begun k (self_s
 
 pub start_each-requires-clause-begun : goal.start_each-requires-clause-begun
 start_each-requires-clause-begun c = λ k among.
-    c.requires.begun k (other_started c.args.retired.hart.0 c.args.retired.fate c.args.engine.now.started k (subst (λ (hs : List ℕ). is_among k hs ≡ true) c.started.ensures among))
+    let begun = c.requires.begun k (other_started c.args.retired.hart.0 c.args.retired.fate c.args.engine.now.started k (subst (λ (hs : List ℕ). is_among k hs ≡ true) c.started.ensures among)) in
+    (begun.0, begun.1.1)
 
 pub returns : goal.returns
 returns c = λ k.

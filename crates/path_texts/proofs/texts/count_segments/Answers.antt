@@ -1,11 +1,6 @@
-use Rattle.std.proofs.Common.{rules, ap, arith, length}
-use Rattle.path_texts.proofs.PathSegments.{begins, count_last}
+use Rattle.std.proofs.Common.{rules, sym}
+use Rattle.path_texts.proofs.PathSegments.{one_of_first}
 use Rattle.path_texts.proofs.texts.count_segments.Goals as goal
 
-pub loop-number-init : goal.loop-number-init
-loop-number-init c =
-    let same = ap length (begins c.args.events.now c.args.chain.now c.in-Some.rest.now c.in-Some.first.now c.first_segment-segment.result (search rules) (search rules)) in
-    (omega (arith, same), omega arith)
-
-pub returns : goal.returns
-returns c = count_last c.args.events.now c.in-Some.rest.now c.loop-number.number-index c.loop-number.segment c.loop-number.count _ (search rules) c.loop-number.invariant.0
+pub returns-then-are_of_first : goal.returns-then-are_of_first
+returns-then-are_of_first c = sym (one_of_first c.args.events.now c.args.chain.now (search rules) (search rules))

@@ -6,5 +6,5 @@ use Rattle.path_texts.proofs.texts.put_share.Goals as goal
 
 pub returns : goal.returns
 returns g c =
-    let name = gathers_as (ap (λ (t : Text). codes "share " ++ t) c.name_at.ensures) c.put_field.ensures in
-    gathers_then (gathers_then name c.put_number.ensures) c.push.ensures.gathers
+    let name = gathers_as (ap (λ (t : Text). codes "share " ++ t) c.label_at.ensures) c.put_field.ensures in
+    gathers_then (gathers_then name c.put_named.ensures) c.push.ensures.gathers
