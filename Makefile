@@ -3,6 +3,7 @@
 # make test    runs the merge gate, and then checks the man pages and that machines take no memory and,
 #              if the programs are built, the outputs that README and TUTORIAL show and an example's profile
 # make try ARGS="run examples/one"    runs the program with no proof, in some minutes
+# make quick   builds the same programs without proving them, in some minutes; they run slower
 # make guests  builds, with Debian's packages, what guests/coz-cc links programs with
 # make examples    builds the examples in C as they stand, with a C library of their own
 # make page    the same of build/coz-page alone; make join of build/coz-join, make hot of build/coz-hot,
@@ -14,7 +15,7 @@ PREFIX ?= /usr/local
 
 EXAMPLES = longer ledger
 
-.PHONY: build page join hot functions test try guests examples install uninstall clean
+.PHONY: build page join hot functions test try quick guests examples install uninstall clean
 
 build: page join hot functions
 	cd crates/coz && rt run -- run data/one > /dev/null
@@ -51,6 +52,9 @@ test:
 
 try:
 	cd crates/coz && rt try $(foreach file,$(wildcard $(ARGS)),--data $(file)=$(abspath $(file))) -- $(ARGS)
+
+quick:
+	tools/quick-build
 
 guests:
 	guests/build
