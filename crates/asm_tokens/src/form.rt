@@ -2,7 +2,7 @@
 
 use rv_decode::{AtomicOp, BranchOp, ImmOp, LoadOp, RegOp, ShiftOp, StoreOp, UpperOp};
 
-/// Where a statement puts its bytes.
+/// The section into which a statement puts its bytes.
 #[derive(Clone, Copy, Debug, PartialEq, Eq)]
 pub enum Section {
     /// `.text`.
@@ -11,7 +11,7 @@ pub enum Section {
     Data,
 }
 
-/// How wide an atomic is.
+/// The width of an atomic.
 #[derive(Clone, Copy)]
 pub enum Width {
     /// 4 bytes, `.w`.
@@ -48,7 +48,7 @@ pub enum Alone {
     Ret,
 }
 
-/// How many bytes a number has.
+/// The size of a number.
 #[derive(Clone, Copy)]
 pub enum Size {
     /// `.byte`.
@@ -92,7 +92,7 @@ pub enum Form {
     LoadNumber,
     /// `la`: rd, and a label.
     LoadAddress,
-    /// What follows stands in this section.
+    /// The statements after this one are in this section.
     Enter(Section),
     /// `.globl`: a name, which is not used.
     Global,

@@ -21,7 +21,7 @@ pub use table::{form_of, register_of};
 /// The most bytes of a source.
 pub const MAX_SOURCE: u64 = 0x40_0000;
 
-/// What is wrong with a source: in each line `Lines`, `Byte` and `Token` are judged first,
+/// Why a source is rejected: in each line `Lines`, `Byte` and `Token` are judged first,
 /// and then what stands in it from left to right; `Missing` and `Far` come after
 /// all lines, and `Empty` last.
 #[derive(Clone, Copy, Debug, PartialEq, Eq)]

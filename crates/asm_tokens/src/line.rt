@@ -10,12 +10,12 @@ use crate::AsmKind;
 use crate::words::{escaped, is_digit, is_of_name, spelled, word_length};
 use std::alloc::{AllocError, AllocFailed, Global};
 
-/// What is wrong with a line, and at which column; or that memory ran out.
+/// Why a line is rejected, with the column; or out of memory.
 #[derive(Debug, Drop)]
 pub enum TokenError {
     /// Out of memory.
     Memory,
-    /// What is wrong, and the column, counted from 1.
+    /// The kind of the fault, and its column, counted from 1.
     Fault { kind: AsmKind, column: u32 },
 }
 
@@ -86,7 +86,7 @@ pub fn text(alloc: Global, bytes: &[u8]) -> Result<Option<(Vec<u8>, usize)>, All
     Ok(None)
 }
 
-/// What begins at the front of a line's rest.
+/// The token at the front of a line's rest.
 #[derive(Drop)]
 pub enum Found<'a> {
     /// A blank.

@@ -29,7 +29,7 @@ pub fn is_of_name(byte: u8) -> bool
         || byte == b'.'
 }
 
-/// How many bytes the word at the front has.
+/// The number of bytes of the word at the front.
 pub fn word_length(bytes: &[u8]) -> usize
     ensures length { result ≡ prefix_len is_of_name bytes.now }
     ensures within { result ≤ length bytes.now }

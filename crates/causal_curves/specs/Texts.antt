@@ -3,7 +3,7 @@ use Rattle.std.specs.Prelude.{ℕ, ◌/◌, min, [], ◌++◌, flat_map, replica
 use Rattle.std.specs.Fmt.{signed_decimal}
 use Rattle.coz_types.specs.Labels.{Text}
 use Rattle.profile_book.specs.Profile.{field, number_field}
-use Rattle.causal_curves.specs.declared.writer.TheConstants.{LONGEST_BAR}
+use Rattle.causal_curves.specs.declared.writer.TheConstants.{MAX_BAR}
 use Rattle.causal_curves.specs.declared.curve.Curve.{Curve}
 use Rattle.causal_curves.specs.declared.curve.CurveStep.{CurveStep}
 
@@ -19,7 +19,7 @@ mark (negsuc n) = 45
 -- a mark for each whole 250 of the value's size, up to the longest bar
 abbrev pub bar : Option ℤ → Text
 bar None = []
-bar (Some v) = replicate (min (nat_abs v / 250) LONGEST_BAR) (mark v)
+bar (Some v) = replicate (min (nat_abs v / 250) MAX_BAR) (mark v)
 
 abbrev pub step_text : CurveStep → Text
 step_text s =

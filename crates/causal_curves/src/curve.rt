@@ -1,8 +1,7 @@
 //! A curve: what each speedup of a line does to a progress point.
-use coz_lists::Items;
-use coz_types::Label;
+use coz_types::{Items, Label};
 
-/// What the speedups of a line do to a progress point.
+/// The effect of the speedups of a line on a progress point.
 #[derive(Debug, Drop)]
 pub struct Curve {
     /// The progress point, by its position.
@@ -15,12 +14,13 @@ pub struct Curve {
     pub steps: Items<CurveStep>,
 }
 
-/// What one speedup does.
+/// The effect of one speedup.
 #[derive(Clone, Copy, Debug, PartialEq, Eq)]
 pub struct CurveStep {
     /// The speedup in per cent.
     pub speedup: u8,
-    /// How much less net time a visit takes than at speedup 0, in hundredths of a per cent, rounded
-    /// down. None if either run has no visit of the point, or the run at 0 has no net time.
+    /// The net time that a visit takes less than at speedup 0, in hundredths of a per cent,
+    /// rounded down. None if either run has no visit of the point, or the run at 0 has no net
+    /// time.
     pub value: Option<i128>,
 }

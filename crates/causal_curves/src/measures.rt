@@ -41,7 +41,7 @@ fn share(whole: i128, part: i128) -> i128
     ((whole - part) * 10_000).div_euclid(whole)
 }
 
-/// How much less net time a visit takes than in the base, in hundredths of a per cent, rounded
+/// The net time that a visit takes less than in the base, in hundredths of a per cent, rounded
 /// down. None if either has no visit of the point, or the base has no net time.
 pub fn value_over(point: usize, base: &Summary, summary: &Summary) -> Option<i128>
     requires base { IsMeasured point base.now }

@@ -8,8 +8,7 @@ ghost use Rattle.causal_curves.specs.Measured.{IsMeasured};
 
 use crate::curve::Curve;
 use crate::steps::curve;
-use coz_lists::Items;
-use coz_types::Summary;
+use coz_types::{Items, Summary};
 use profile_book::Profile;
 use profile_lists::group_length;
 use std::alloc::{AllocError, Global};

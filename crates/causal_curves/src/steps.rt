@@ -6,8 +6,7 @@ ghost use Rattle.causal_curves.specs.Measured.{IsMeasured};
 
 use crate::curve::{Curve, CurveStep};
 use crate::measures::value_over;
-use coz_lists::Items;
-use coz_types::{Label, Summary};
+use coz_types::{Items, Label, Summary};
 use std::alloc::{AllocError, Global};
 
 fn base_of(group: &[Summary]) -> Option<&Summary>

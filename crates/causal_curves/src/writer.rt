@@ -6,24 +6,24 @@ ghost use Rattle.causal_curves.specs.Texts.{value_text, bar, step_text, curve_te
 
 use crate::curve::{Curve, CurveStep};
 use coz_files::{PutAnswer, PutBuffer, Sink};
-use profile_book::{put_field, put_number, put_signed};
+use profile_book::{put_field, put_named, put_signed};
 
 /// The most marks of a bar.
-const LONGEST_BAR: usize = 40;
+const MAX_BAR: usize = 40;
 
 /// The value of one mark of a bar, in hundredths of a per cent.
 const STEP: u128 = 250;
 
-static GAINS: [u8; LONGEST_BAR] = [b'#'; LONGEST_BAR];
+static GAINS: [u8; MAX_BAR] = [b'#'; MAX_BAR];
 
-static LOSSES: [u8; LONGEST_BAR] = [b'-'; LONGEST_BAR];
+static LOSSES: [u8; MAX_BAR] = [b'-'; MAX_BAR];
 
 fn bar(value: Option<i128>) -> &'static [u8]
     ensures { result.now ≡ bar value }
 {
     match value {
         Some(value) => {
-            let length = (value.unsigned_abs() / STEP).min(LONGEST_BAR as u128) as usize;
+            let length = (value.unsigned_abs() / STEP).min(MAX_BAR as u128) as usize;
             if value < 0 {
                 &LOSSES[..length]
             } else {
@@ -47,7 +47,7 @@ fn put_value<O: Sink>(to: &mut PutBuffer, out: &mut O, name: &[u8], value: Optio
 fn put_step<O: Sink>(to: &mut PutBuffer, out: &mut O, step: &CurveStep)
     ensures { Gathers O.holds O.faults out.old out.new to.old to.new (step_text step.now) }
 {
-    put_number(to, out, b"step\tspeedup=", u64::from(step.speedup));
+    put_named(to, out, b"step\tspeedup=", u64::from(step.speedup));
     put_value(to, out, b"\tvalue=", step.value);
     put_field(to, out, b"\tbar=", bar(step.value));
     to.push(out, b"\n");
@@ -65,7 +65,7 @@ fn put_steps<O: Sink>(to: &mut PutBuffer, out: &mut O, steps: &[CurveStep])
 fn put_curve<O: Sink>(to: &mut PutBuffer, out: &mut O, curve: &Curve)
     ensures { Gathers O.holds O.faults out.old out.new to.old to.new (curve_text curve.now) }
 {
-    put_number(to, out, b"curve\tpoint=", u64::from(curve.point));
+    put_named(to, out, b"curve\tpoint=", u64::from(curve.point));
     put_field(to, out, b"\tselected=", curve.selected.bytes());
     put_value(to, out, b"\tgain=", curve.gain);
     to.push(out, b"\n");

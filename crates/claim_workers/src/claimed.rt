@@ -4,8 +4,7 @@ ghost use Rattle.std.specs.List.{flat_map, range_with_len};
 ghost use Rattle.coz_types.specs.declared.record.Summary.{Summary};
 ghost use Rattle.claim_workers.specs.Worked.{EachClaim};
 
-use coz_lists::Items;
-use coz_types::Summary;
+use coz_types::{Items, Summary};
 use std::alloc::{AllocError, Global};
 
 /// A claim and the summaries that its work gave.
@@ -13,7 +12,7 @@ use std::alloc::{AllocError, Global};
 pub struct Claimed {
     /// The claim's number.
     pub claim: u32,
-    /// What its work gave, in the work's order.
+    /// The summaries of the claim, in the order of its work.
     pub summaries: Items<Summary>,
 }
 

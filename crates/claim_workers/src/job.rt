@@ -5,11 +5,11 @@ use experiment_claims::ClaimSeat;
 /// A worker's number, its seat and its state.
 #[derive(Drop)]
 pub struct Job<T> {
-    /// Its number, from 0.
+    /// The number of the worker, from 0.
     pub worker: u32,
     /// The seat that it draws claims by.
     pub seat: ClaimSeat,
-    /// Its state.
+    /// The state of the worker.
     pub runner: T,
 }
 

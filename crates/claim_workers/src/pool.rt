@@ -84,7 +84,7 @@ fn run_jobs<R: Threads + Sync, W: ClaimWork, G: Gate>(
     )
 }
 
-/// What the work of all claims gives, in the order of the claims, whatever the number of workers
+/// The summaries of all claims, in the order of the claims, whatever the number of workers
 /// and the gate. It fails only if it is out of memory, and then the other workers
 /// finish their claims.
 pub fn run_claims<R: Threads + Sync, W: ClaimWork, G: Gate>(

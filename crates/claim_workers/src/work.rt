@@ -3,8 +3,7 @@ ghost use Rattle.std.specs.Prelude.{◌≡◌, ℕ, ◌<◌, List, All, IfOk};
 ghost use Rattle.coz_types.specs.declared.record.Summary.{Summary};
 ghost use Rattle.coz_types.specs.Ranges.{IsSummary};
 
-use coz_lists::Items;
-use coz_types::Summary;
+use coz_types::{Items, Summary};
 use std::alloc::{AllocError, Global};
 
 /// The work of claims: the state of a worker, and the summaries that the work of each claim gives.
@@ -13,22 +12,22 @@ pub trait ClaimWork: Sync {
     /// The state of a worker. It is made once for each worker.
     type Runner: Drop + Send;
 
-    /// What has to hold before a worker begins.
+    /// The condition that holds before a worker begins.
     ghost is_ready: { Self → Type 0 };
 
-    /// How many claims there are.
+    /// The number of claims.
     ghost bound: { Self → ℕ };
 
-    /// What the work of a claim gives.
+    /// The summaries that the work of a claim gives.
     ghost summaries_of_claim: { Self → ℕ → List Summary };
 
-    /// How many progress points the summaries are of.
+    /// The number of progress points of the summaries.
     ghost points: { Self → ℕ };
 
     /// A runner was made for this work.
     ghost is_for: { Self → Self.Runner → Type 0 };
 
-    /// How many claims there are.
+    /// The number of claims.
     fn count(&self) -> u32
         ensures { result ≡ bound self.now };
 

@@ -4,8 +4,7 @@ use Rattle.std.specs.Prelude.{Some, get_or, slice_get}
 use Rattle.std.specs.List.{All}
 use Rattle.std.proofs.lemmas.List.{map-append, take_more}
 use Rattle.std.proofs.lemmas.Option.{slice_get_within, get_or_from_slice_get}
-use Rattle.line_index.specs.Lines.{Line, label}
-use Rattle.command_answers.specs.Profiled.{label_at}
+use Rattle.line_index.specs.Lines.{Line, label, label_at}
 
 -- each of the numbers is below
 pub one_below : (most k n : ℕ) (ns : List ℕ) → All (λ n. n < most) ns → slice_get ns k ≡ Some n → n < most

@@ -9,7 +9,7 @@ use Rattle.coz_types.specs.Image.{ImageParts}
 use Rattle.coz_types.specs.declared.LineId.{LineId}
 use Rattle.coz_types.specs.declared.record.Summary.{Summary}
 use Rattle.line_index.specs.Index.{Index}
-use Rattle.line_index.specs.Lines.{Line}
+use Rattle.line_index.specs.Lines.{Line, label_at}
 use Rattle.progress_points.specs.Points.{Points, IsPoints}
 use Rattle.experiment_plan.specs.Selected.{ids}
 use Rattle.experiment_plan.specs.Pairs.{planned_pairs, IsPlan}
@@ -29,7 +29,7 @@ use Rattle.coz_words.specs.Said.{Text}
 use Rattle.coz_words.specs.declared.request.Request.{Request}
 use Rattle.program_inputs.specs.Experiment.{Runs, runs_in}
 use Rattle.program_steps.specs.Selection.{lines_named}
-use Rattle.command_answers.specs.Profiled.{all_lines, experiment_of_pair, label_at, pairs_of, profile_of, summary_on}
+use Rattle.command_answers.specs.Profiled.{all_lines, experiment_of_pair, pairs_of, profile_of, summary_on}
 use Rattle.profile_book.specs.declared.profile.Profile.{Profile}
 use Rattle.program_inputs.proofs.Indexed.{experiment_is}
 use Rattle.command_answers.specs.Verdict.{Verdict, named_verdict, plan_verdict, points_verdict, profile_verdict, profiled_verdict, refusal}

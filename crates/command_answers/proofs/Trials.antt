@@ -19,7 +19,7 @@ use Rattle.dwarf_lines.specs.Names.{strings}
 use Rattle.dwarf_lines.specs.Reading.{reading}
 use Rattle.dwarf_lines.specs.Registers.{Table}
 use Rattle.line_index.specs.Index.{Index, IsIndex}
-use Rattle.line_index.specs.Lines.{Line, position_named, label}
+use Rattle.line_index.specs.Lines.{Line, position_named, label, label_at}
 use Rattle.line_index.specs.Listed.{lines_in}
 use Rattle.experiment_plan.specs.Selected.{id_of, ids}
 use Rattle.experiment_plan.specs.Pairs.{IsPlan, planned_pairs}
@@ -49,7 +49,7 @@ use Rattle.command_answers.specs.Answer.{IsMemoryFault, fault_verdict}
 use Rattle.program_steps.specs.Causes.{assembling_fault, planning_fault}
 use Rattle.program_inputs.specs.Experiment.{Runs, experiment_by_table, runs_in}
 use Rattle.profile_pool.specs.Summaries.{summaries_of}
-use Rattle.command_answers.specs.Profiled.{experiment_of_pair, label_at, pairs_of, summary_on}
+use Rattle.command_answers.specs.Profiled.{experiment_of_pair, pairs_of, summary_on}
 use Rattle.program_steps.specs.LineTable.{table_in}
 use Rattle.command_answers.specs.Trial.{IsTrialFile, tenths, trial_file, trial_name, trial_plan, trial_point, trial_profile, trial_program}
 use Rattle.command_answers.specs.Verdict.{Verdict, assembled_verdict, file_verdict, named_verdict, text_verdict, program_verdict, trial_judging, trial_printed, trial_verdict}

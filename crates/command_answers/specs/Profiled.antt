@@ -8,7 +8,7 @@ use Rattle.guest_calls.specs.Guest.{Guest}
 use Rattle.experiment_plan.specs.declared.experiment.Experiment.{Experiment as Pair}
 use Rattle.profile_book.specs.declared.profile.Profile.{Profile}
 use Rattle.run_engine.specs.Choices.{choice_of}
-pub use Rattle.profile_pool.specs.Profiles.{label_at, pairs_of, profile_with, summary_on}
+pub use Rattle.profile_pool.specs.Profiles.{pairs_of, profile_with, summary_on}
 pub use Rattle.program_steps.specs.Selection.{all_lines}
 use Rattle.program_inputs.specs.Experiment.{Runs}
 

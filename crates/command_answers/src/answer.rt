@@ -2,5 +2,5 @@
 use printed_texts::Printed;
 use program_steps::Fault;
 
-/// What is to be written. A fault borrows from the request.
+/// The text that a command prints, or its fault. A fault borrows from the request.
 pub type Answer<'r> = Result<Printed, Fault<'r>>;

@@ -24,7 +24,7 @@ use progress_points::Points;
 use std::alloc::Global;
 use virtual_run::Choice;
 
-/// What is written of the delayed run of the program that a request names.
+/// The text of the delayed run of the program that a request names.
 /// Err is the first fault of the files, the program and its lines, or out of memory.
 pub fn judge_run<'r, F: Files>(alloc: Global, request: &'r Request, files: &mut F) -> Answer<'r>
     requires fit { IsFit request.now }
@@ -42,7 +42,7 @@ pub fn judge_run<'r, F: Files>(alloc: Global, request: &'r Request, files: &mut 
     run_of_file(alloc, &inputs.program, &inputs.input, request)
 }
 
-/// What is written of the delayed run of the program that a file is, if it is one.
+/// The text of the delayed run of the program in a file, or its first fault.
 fn run_of_file<'r>(alloc: Global, file: &[u8], input: &[u8], request: &'r Request) -> Answer<'r>
     requires short { length file.now ≤ MAX_PROGRAM }
     requires fit { IsFit request.now }
@@ -55,7 +55,7 @@ fn run_of_file<'r>(alloc: Global, file: &[u8], input: &[u8], request: &'r Reques
     delayed_answer(alloc, &program, input, request)
 }
 
-/// What is written of the shortened run of the program that a request names.
+/// The text of the shortened run of the program that a request names.
 /// Err is the first fault of the files, the program and its lines, or out of memory.
 pub fn judge_really<'r, F: Files>(alloc: Global, request: &'r Request, files: &mut F) -> Answer<'r>
     requires fit { IsFit request.now }
@@ -73,7 +73,7 @@ pub fn judge_really<'r, F: Files>(alloc: Global, request: &'r Request, files: &m
     shortened_run_of_file(alloc, &inputs.program, &inputs.input, request)
 }
 
-/// What is written of the shortened run of the program that a file is, if it is one.
+/// The text of the shortened run of the program in a file, or its first fault.
 fn shortened_run_of_file<'r>(
     alloc: Global,
     file: &[u8],
@@ -98,7 +98,7 @@ struct Asked {
     choice: Choice,
 }
 
-/// What the run that a request asks for is run with, if the program has the lines that are named.
+/// The points and the options of a requested run, if the program has the lines that are named.
 fn asked_of<'r>(alloc: Global, index: &LineIndex, request: &'r Request) -> Result<Asked, Fault<'r>>
     requires fit { IsFit request.now }
     requires some_budget { 1 ≤ request.now.budget }
@@ -116,7 +116,7 @@ fn asked_of<'r>(alloc: Global, index: &LineIndex, request: &'r Request) -> Resul
     Ok(Asked { points, choice })
 }
 
-/// What is written of the delayed run of a program with these lines,
+/// The text of the delayed run of a program with these lines,
 /// if it has those that are named.
 fn delayed_answer<'r>(
     alloc: Global,
@@ -135,7 +135,7 @@ fn delayed_answer<'r>(
     run_answer(alloc, program, &asked.points, input, asked.choice)
 }
 
-/// What is written of the program's shortened run.
+/// The text of the program's shortened run.
 fn shortened_answer<'r>(
     alloc: Global,
     program: &Program,

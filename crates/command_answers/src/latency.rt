@@ -74,7 +74,7 @@ fn marked_points<'r>(
     })
 }
 
-/// What latencies are measured with: the selected line, the points and the speedups, in percent.
+/// The selected line, the points and the speedups, in percent, of a request for latencies.
 #[derive(Drop)]
 struct AskedLatency {
     selected: LineId,
@@ -82,7 +82,7 @@ struct AskedLatency {
     speedups: Vec<u8>,
 }
 
-/// What the latencies that a request asks for are measured with, if the program has the lines
+/// The line, points and speedups of a request for latencies, if the program has the lines
 /// that are named. They are judged in the order `--line`, `--arrive`, `--depart`,
 /// and then the number of points is.
 fn asked_latency<'r>(
@@ -165,7 +165,7 @@ fn status_of(all_exited: bool) -> u8
     if all_exited { 0 } else { 1 }
 }
 
-/// What is written of the runs of a lead's line, on a machine that was made with the same.
+/// The text of the runs of a lead's line, on a machine that was made with the same.
 fn leads_answer<'r, 'a>(
     alloc: Global,
     lead: &mut Lead<'a>,
@@ -197,7 +197,7 @@ fn leads_answer<'r, 'a>(
     })
 }
 
-/// What is written of the runs of a lead's line, on a machine that is made for them.
+/// The text of the runs of a lead's line, on a machine that is made for them.
 fn machine_answer<'r, 'a>(
     alloc: Global,
     program: &'a Program<'a>,
@@ -223,7 +223,7 @@ fn machine_answer<'r, 'a>(
     answer
 }
 
-/// What is written of the runs of a program at each speedup. Err: out of memory.
+/// The text of the runs of a program at each speedup. Err: out of memory.
 fn runs_answer<'r>(
     alloc: Global,
     program: &Program,
@@ -251,7 +251,7 @@ fn runs_answer<'r>(
     answer
 }
 
-/// What is written of the latencies of a program with these lines, if it has those
+/// The text of the latencies of a program with these lines, if it has those
 /// that are named: of one lead and one machine, whatever the number of speedups.
 #[tactic(auto, using(crate::proofs::Budgets::few_budget))]
 fn latency_answer<'r>(
@@ -271,7 +271,7 @@ fn latency_answer<'r>(
     runs_answer(alloc, program, input, request.budget, &asked)
 }
 
-/// What is written of the latencies of the program that a request names.
+/// The text of the latencies of the program that a request names.
 /// Err is the first fault of the files, the program and its lines, or out of memory.
 pub fn judge_latency<'r, F: Files>(alloc: Global, request: &'r Request, files: &mut F) -> Answer<'r>
     requires fit { IsFit request.now }
@@ -290,7 +290,7 @@ pub fn judge_latency<'r, F: Files>(alloc: Global, request: &'r Request, files: &
     latency_of_file(alloc, &inputs.program, &inputs.input, request)
 }
 
-/// What is written of the latencies of the program that a file is, if it is one.
+/// The text of the latencies of the program in a file, or its first fault.
 fn latency_of_file<'r>(alloc: Global, file: &[u8], input: &[u8], request: &'r Request) -> Answer<'r>
     requires short { length file.now ≤ MAX_PROGRAM }
     requires fit { IsFit request.now }

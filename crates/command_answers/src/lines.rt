@@ -15,7 +15,7 @@ use printed_texts::{Printed, Text, lines_text};
 use program_steps::read_program;
 use std::alloc::Global;
 
-/// What is written of the lines of the program that the request names.
+/// The text of the lines of the program that the request names.
 /// Err is the first fault of the file, the program or its line table, or out of memory.
 pub fn judge_lines<'r, F: Files>(alloc: Global, request: &'r Request, files: &mut F) -> Answer<'r>
     ensures same { F.held files.new ≡ F.held files.old }
@@ -31,7 +31,7 @@ pub fn judge_lines<'r, F: Files>(alloc: Global, request: &'r Request, files: &mu
     lines_answer(alloc, &file)
 }
 
-/// What is written of the lines of the program that a file is, if it is one.
+/// The text of the lines of the program in a file, or its first fault.
 fn lines_answer<'r>(alloc: Global, file: &[u8]) -> Answer<'r>
     requires short { length file.now ≤ MAX_PROGRAM }
     ensures no_read { IsRead result → ⊥ }

@@ -14,10 +14,10 @@ use coz_types::{Ending, Outcome, PointId, Tick};
 use latency_points::{Latency, measure};
 use virtual_run::{Lead, Machine};
 
-/// How a run ended, when, and the latency of its requests up to then.
+/// The ending of a run, its time, and the latency of its requests up to then.
 #[derive(Clone, Copy)]
 pub struct RunLatency {
-    /// How it ended.
+    /// The ending of the run.
     pub ending: Ending,
     /// The moment of its last retirement less the delay then, in ticks.
     pub net: Tick,
@@ -25,7 +25,7 @@ pub struct RunLatency {
     pub latency: Latency,
 }
 
-/// How a run that has ended came out.
+/// The outcome of a run that has ended.
 fn outcome_of(machine: &Machine) -> Outcome
     requires { IsSome machine.now.state.ending }
     ensures outcome { Some result ≡ outcome_of machine.now.state }

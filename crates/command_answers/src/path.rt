@@ -29,8 +29,8 @@ use program_steps::{Fault, Program, read_program};
 use run_engine::Choice;
 use std::alloc::{AllocError, Global};
 
-/// What is written of the critical path of the program and the input that the request names.
-/// Err tells the first fault of the files, the program or its line table, or of memory.
+/// The text of the critical path of the program and the input that the request names.
+/// Err is the first fault of the files, the program or its line table, or out of memory.
 pub fn judge_path<'r, F: Files>(alloc: Global, request: &'r Request, files: &mut F) -> Answer<'r>
     requires some_budget { 1 ≤ request.now.budget }
     requires few { request.now.budget ≤ MAX_EVENTS }
@@ -47,7 +47,7 @@ pub fn judge_path<'r, F: Files>(alloc: Global, request: &'r Request, files: &mut
     path_of_file(alloc, &inputs.program, &inputs.input, request.budget)
 }
 
-/// What is written of the critical path of the program that a file is, if it is one.
+/// The text of the critical path of the program in a file, or its first fault.
 fn path_of_file<'r>(alloc: Global, file: &[u8], input: &[u8], budget: u64) -> Answer<'r>
     requires short { length file.now ≤ MAX_PROGRAM }
     requires some_budget { 1 ≤ budget }
@@ -80,7 +80,7 @@ fn printed_path(path: CriticalPath, index: LineIndex) -> Printed
 }
 
 /// The critical path of a program's run, with no line selected and no points.
-/// Fails only when out of memory.
+/// Fails only if out of memory.
 fn found_path(
     alloc: Global,
     program: &Program,

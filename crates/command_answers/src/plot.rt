@@ -15,7 +15,7 @@ use printed_texts::{Printed, Text};
 use profile_reader::{MAX_PROFILE, read_profile};
 use std::alloc::Global;
 
-/// What is written of the profile that the request names.
+/// The text of the curves of the profile that the request names.
 /// Err is the first fault of the file or of its text, or out of memory.
 pub fn judge_plot<'r, F: Files>(alloc: Global, request: &'r Request, files: &mut F) -> Answer<'r>
     ensures same { F.held files.new ≡ F.held files.old }

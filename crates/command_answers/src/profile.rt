@@ -7,19 +7,19 @@ ghost use Rattle.coz_types.specs.declared.LineId.{LineId};
 ghost use Rattle.coz_types.specs.declared.TheConstants.{MAX_POINTS, MAX_PROGRAM, MAX_SPEEDUP};
 ghost use Rattle.coz_files.specs.Faults.{Rose};
 ghost use Rattle.coz_types.specs.declared.record.Summary.{Summary};
+ghost use Rattle.line_index.specs.Lines.{label_at};
 ghost use Rattle.progress_points.specs.Points.{IsPoints};
 ghost use Rattle.experiment_plan.specs.declared.experiment.Experiment.{Experiment};
 ghost use Rattle.experiment_plan.specs.Selected.{ids};
 ghost use Rattle.coz_words.specs.Request.{IsFit};
 ghost use Rattle.program_inputs.specs.Experiment.{Runs, runs_on};
-ghost use Rattle.command_answers.specs.Profiled.{label_at, pairs_of, profile_of};
+ghost use Rattle.command_answers.specs.Profiled.{pairs_of, profile_of};
 ghost use Rattle.command_answers.specs.Verdict.{Verdict, file_verdict, files_verdict, has_exited, plan_verdict, profile_verdict, profiled_verdict};
 ghost use Rattle.command_answers.specs.Answer.{verdict_of, verdict_after, printed_verdict, IsMemory, IsRead, Suits, Settles};
 
 use crate::answer::Answer;
 use coz_files::{Files, Gate};
-use coz_lists::Items;
-use coz_types::{Ending, Label, LineId, PointId, Summary};
+use coz_types::{Ending, Items, Label, LineId, PointId, Summary};
 use coz_words::Request;
 use experiment_plan::{Plan, plan};
 use line_index::LineIndex;
@@ -102,7 +102,7 @@ struct AskedPlan {
     plan: Plan,
 }
 
-/// What the runs that a request asks for are run with, if the program has the lines
+/// The points and the plan of a request for a profile, if the program has the lines
 /// that are named and the plan isn't too large.
 fn asked_plan<'r>(
     alloc: Global,
@@ -128,7 +128,7 @@ fn asked_plan<'r>(
     Ok(AskedPlan { points, plan })
 }
 
-/// What is written of the runs of a plan.
+/// The text of the profile of a plan.
 #[tactic(auto, using(crate::proofs::Budgets::few_budget))]
 fn plan_answer<'r, R: Threads + Sync, G: Gate>(
     rt: &R,
@@ -172,7 +172,7 @@ fn plan_answer<'r, R: Threads + Sync, G: Gate>(
     }))
 }
 
-/// What is written of the runs of a program with these lines, if it has those that are named
+/// The text of the profile of a program with these lines, if it has those that are named
 /// and the plan isn't too large.
 fn profile_answer<'r, R: Threads + Sync, G: Gate>(
     rt: &R,
@@ -202,7 +202,7 @@ fn profile_answer<'r, R: Threads + Sync, G: Gate>(
     )
 }
 
-/// What is written of the profile of the program that a request names.
+/// The text of the profile of the program that a request names.
 /// Err is the first fault of the files, the program, its lines and the plan, or out of memory.
 pub fn judge_profile<'r, R: Threads + Sync, F: Files, G: Gate>(
     rt: &R,
@@ -227,7 +227,7 @@ pub fn judge_profile<'r, R: Threads + Sync, F: Files, G: Gate>(
     profile_of_file(rt, alloc, &inputs.program, &inputs.input, request, gate)
 }
 
-/// What is written of the profile of the program that a file is, if it is one.
+/// The text of the profile of the program in a file, or its first fault.
 fn profile_of_file<'r, R: Threads + Sync, G: Gate>(
     rt: &R,
     alloc: Global,

@@ -38,7 +38,7 @@ fn accounts(alloc: Global, machine: &Machine) -> Result<Vec<Account>, AllocError
     Ok(accounts)
 }
 
-/// What `run` prints of a run that has ended.
+/// The text that `run` prints of a run that has ended.
 fn machine_text(alloc: Global, machine: &Machine) -> Result<Vec<u8>, AllocError>
     requires { IsSome machine.now.state.ending }
     ensures { (ending : Ending) → machine.now.state.ending ≡ Some ending
@@ -68,7 +68,7 @@ fn printed_run(ending: Ending, text: Vec<u8>) -> Printed
     }
 }
 
-/// What is written of a machine's run.
+/// The text of a machine's run.
 fn machine_answer<'r>(alloc: Global, machine: &mut Machine) -> Answer<'r>
     ensures no_read { IsRead result → ⊥ }
     ensures settled { (IsMemory result → ⊥) → verdict_of result ≡
@@ -100,7 +100,7 @@ pub fn run_answer<'r>(
     answer
 }
 
-/// What `really` prints of a run that came to this end.
+/// The text that `really` prints of a run with this ending.
 fn short_text(alloc: Global, short: &Short, ending: Ending) -> Result<Vec<u8>, AllocError>
     ensures { IfOk result (λ text. text.items ≡
         really_text (net_record_of (experiment_of short.now) short.now.state ending)) }
@@ -116,7 +116,7 @@ fn short_text(alloc: Global, short: &Short, ending: Ending) -> Result<Vec<u8>, A
     really_text(alloc, record)
 }
 
-/// What is written of a shortened run.
+/// The text of a shortened run.
 fn short_answer<'r>(alloc: Global, short: &mut Short) -> Answer<'r>
     ensures no_read { IsRead result → ⊥ }
     ensures settled { (IsMemory result → ⊥) → verdict_of result ≡

@@ -19,7 +19,7 @@ use printed_texts::{Printed, Text};
 use rv_asm::assemble;
 use std::alloc::Global;
 
-/// What is written of the source that the request names.
+/// The file that is assembled of the source that the request names.
 /// Err is the first fault of the file or of the source, or out of memory.
 pub fn judge_source<'r, F: Files>(alloc: Global, request: &'r Request, files: &mut F) -> Answer<'r>
     requires named { IsName request.now.target }

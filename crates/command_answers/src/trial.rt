@@ -10,13 +10,13 @@ ghost use Rattle.std.specs.Ordering.{nat_cmp};
 ghost use Rattle.coz_types.specs.declared.TheConstants.{MAX_POINTS, MAX_WORKERS, MAX_SIZE};
 ghost use Rattle.coz_types.specs.Ranges.{IsSummary};
 ghost use Rattle.coz_types.specs.declared.LineId.{LineId};
+ghost use Rattle.line_index.specs.Lines.{label_at};
 ghost use Rattle.work_gen.specs.declared.TheConstants.{MAX_TEXT};
 ghost use Rattle.work_gen.specs.Text.{view};
 ghost use Rattle.work_gen.specs.Accepted.{IsAccepted};
 ghost use Rattle.experiment_plan.specs.Selected.{ids};
 ghost use Rattle.experiment_plan.specs.declared.experiment.Experiment.{Experiment};
 ghost use Rattle.program_inputs.specs.Experiment.{runs_on};
-ghost use Rattle.command_answers.specs.Profiled.{label_at};
 ghost use Rattle.command_answers.specs.declared.trial.TheConstants.{SELECTED};
 ghost use Rattle.command_answers.specs.Trial.{IsTrialFile, tenths, trial_plan, trial_point, trial_profile};
 ghost use Rattle.command_answers.specs.Verdict.{file_verdict, trial_judging, trial_printed, trial_verdict};
@@ -25,8 +25,7 @@ ghost use Rattle.command_answers.specs.Answer.{IsMemoryFault, IsOfTrial};
 use crate::answer::Answer;
 use crate::profile::profile_status;
 use coz_files::Gate;
-use coz_lists::Items;
-use coz_types::{Label, LineId, MIN_VERSION, Summary};
+use coz_types::{Items, Label, LineId, MIN_VERSION, Summary};
 use coz_words::Request;
 use experiment_plan::{Plan, plan};
 use image_write::write_elf;
@@ -43,7 +42,7 @@ use work_gen::{Generated, source};
 /// The name of the source in the lines of its program.
 const NAME: &[u8] = b"trial.s";
 
-/// How many lines are selected at most.
+/// The number of lines that are selected at most.
 const SELECTED: u64 = 10;
 
 static SPEEDUPS: [u8; 4] = [0, 25, 50, 75];
@@ -180,7 +179,7 @@ fn trial_profile<'r, R: Threads + Sync, G: Gate>(
     })
 }
 
-/// What is written of a trial with this profile.
+/// The text of a trial with this profile.
 fn printed_trial<'r>(
     alloc: Global,
     source: &Generated,
@@ -199,7 +198,7 @@ fn printed_trial<'r>(
     })
 }
 
-/// What is written of the runs of a trial's program with these lines.
+/// The text of a trial whose program has these lines.
 fn program_answer<'r, R: Threads + Sync, G: Gate>(
     rt: &R,
     alloc: Global,
@@ -222,7 +221,7 @@ fn program_answer<'r, R: Threads + Sync, G: Gate>(
     answer
 }
 
-/// What is written of a trial's file.
+/// The text of a trial with this file.
 fn file_answer<'r, R: Threads + Sync, G: Gate>(
     rt: &R,
     alloc: Global,
@@ -243,7 +242,7 @@ fn file_answer<'r, R: Threads + Sync, G: Gate>(
     answer
 }
 
-/// What is written of the trial that a request asks for.
+/// The text of the trial that a request asks for.
 #[tactic(auto, unfolding(crate::specs::Verdict::trial_verdict))]
 pub fn judge_trial<'r, R: Threads + Sync, G: Gate>(
     rt: &R,

@@ -7,7 +7,7 @@ use crate::{PutAnswer, Sink};
 use arrayvec::ArrayVec;
 use std::marker::Model;
 
-/// How many bytes are gathered before they are put.
+/// The number of bytes that are gathered before they are put.
 const ROOM: usize = 4096;
 
 /// Bytes on their way to a sink: they are gathered in a fixed room, and put when it is full.

@@ -3,7 +3,7 @@ ghost use Rattle.std.specs.Prelude.{◌≡◌, map};
 ghost use Rattle.coz_words.specs.Request.{option_names, has_option};
 ghost use Rattle.coz_words.specs.Slow.{command_of};
 
-/// What a command line asks for, by its first word.
+/// A command, by its name.
 #[derive(Clone, Copy, Debug, PartialEq, Eq)]
 pub enum Command {
     /// To run a program, with a selected line sped up virtually.

@@ -35,7 +35,7 @@ fn is_want_of_memory(error: &Error) -> bool
     error.kind() == ErrorKind::OutOfMemory
 }
 
-/// What the words after the first say, or `None` if they say nothing.
+/// The values of the arguments after the first, or `None` if they are malformed.
 pub fn parsed<'a>(
     alloc: Global,
     names: &[&'a str],

@@ -19,8 +19,7 @@ use crate::value::{
 };
 use crate::word::{Word, copied_pair};
 use clap::ArgMatches;
-use coz_lists::Items;
-use coz_types::{MAX_SIZE, MAX_WORKERS};
+use coz_types::{Items, MAX_SIZE, MAX_WORKERS};
 use std::alloc::{AllocError, AllocFailed, Global};
 
 /// The workers if the words name none.
@@ -28,10 +27,10 @@ const USUAL_WORKERS: u64 = 4;
 /// The size if the words name none.
 const USUAL_SIZE: u64 = 100;
 
-/// What the words ask for. A field that the command lacks is `None`, 0 or empty.
+/// The request that the arguments make. A field that the command lacks is `None`, 0 or empty.
 #[derive(Debug, Drop)]
 pub struct Request {
-    /// What is to be done.
+    /// The command.
     pub command: Command,
     /// The path of the program's, the profile's or the source's file, which isn't empty.
     pub target: Word,
@@ -39,7 +38,7 @@ pub struct Request {
     pub input: Option<Word>,
     /// The selected line, as it was given, if there is one.
     pub line: Option<Word>,
-    /// How much faster the selected line is, in percent: 0 to 95, and 0 if no line is selected.
+    /// The speedup of the selected line, in percent: 0 to 95, and 0 if no line is selected.
     pub speedup: u8,
     /// The list of lines to be selected in turn, as it was given, if there is one.
     pub lines: Option<Word>,
@@ -50,9 +49,9 @@ pub struct Request {
     /// The most instructions to retire: 1 to 10^12, for `path` 1 to 4,000,000, and 0 if
     /// the command runs nothing.
     pub budget: u64,
-    /// How many workers there are: 1 to 16, and 0 if the command has none.
+    /// The number of workers: 1 to 16, and 0 if the command has none.
     pub workers: u32,
-    /// What a source is made from, and 0 if the command makes none.
+    /// The seed of a source, and 0 if the command makes none.
     pub seed: u64,
     /// The size of a source that is made: 1 to 2,000, and 0 if the command makes none.
     pub size: u32,
@@ -276,7 +275,7 @@ fn are_texts(command: Command, matches: &ArgMatches) -> bool
             .all(|name| has_text(text_of(command, matches, *name)))
 }
 
-/// What `read_words` answers.
+/// The answer of `read_words`.
 fn request_in(alloc: Global, words: &[String]) -> Result<Request, WordsError>
     ensures { Answers (request_in (bytes_of words.now)) result }
 {

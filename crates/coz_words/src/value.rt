@@ -8,8 +8,7 @@ ghost use Rattle.coz_words.specs.Request.{dwarf_name, greatest_budget, has_neede
 
 use crate::command::{Command, has_option};
 use crate::request::WordsError;
-use coz_lists::Items;
-use coz_types::{MAX_BUDGET, MAX_SPEEDUP, MAX_VERSION, MIN_VERSION};
+use coz_types::{Items, MAX_BUDGET, MAX_SPEEDUP, MAX_VERSION, MIN_VERSION};
 use experiment_plan::{first_piece, is_line, is_list, number_in};
 use std::alloc::Global;
 
@@ -141,7 +140,7 @@ fn version_in(text: &[u8]) -> Result<u8, WordsError>
     }
 }
 
-/// What a source is made from: the positional of `trial`, a number. Other commands make none.
+/// The seed of a source: the positional of `trial`, a number. Other commands have none.
 pub fn seed_of(command: Command, target: &str) -> Result<u64, WordsError>
     ensures { Answers (seed_in command target.now) result }
 {

@@ -60,8 +60,7 @@ const NOT_RUNNING: Seat = Seat {
 };
 
 impl Credits {
-    /// Harts that don't run, with accounts of zeros. Err if there is no memory for
-    /// that many.
+    /// Harts that do not run, with accounts of zeros. Err if out of memory.
     pub fn new(alloc: Global, harts: u32) -> Result<Credits, AllocError>
         ensures { IfOk result (λ credits. credits ≡ none_raised harts) }
     {
@@ -73,8 +72,8 @@ impl Credits {
         })
     }
 
-    /// A hart runs, or sleeps, from a moment on, with no pause. One that runs with no pause owed
-    /// is only looked at.
+    /// Starts a hart's next instruction, or its sleep, at a moment, with no pause before it. The
+    /// account of a hart that runs and owes no pause stays as it is.
     pub fn start(&mut self, hart: HartId, now: Tick)
         requires below { hart.0 < length self.old.harts }
         requires later { self.old.latest ≤ now }
@@ -98,7 +97,7 @@ impl Credits {
         self.latest = now;
     }
 
-    /// A running hart that has no pause before it waits or is gone from a moment on.
+    /// Stops a running hart that has no pause before it: from the moment on it waits or has exited.
     pub fn stop(&mut self, hart: HartId, now: Tick)
         requires below { hart.0 < length self.old.harts }
         requires later { self.old.latest ≤ now }
@@ -115,8 +114,8 @@ impl Credits {
         self.latest = now;
     }
 
-    /// A running hart raises the delay at a moment: its own grows, and the pause of every
-    /// other running hart.
+    /// Raises the global delay at a moment: the account of the running hart that raises it grows,
+    /// and so does the pause of each other running hart.
     pub fn raise(&mut self, hart: HartId, ticks: Tick, now: Tick)
         requires below { hart.0 < length self.old.harts }
         requires later { self.old.latest ≤ now }
@@ -129,8 +128,8 @@ impl Credits {
         self.latest = now;
     }
 
-    /// Credits a hart that doesn't run with what its total lacks of its waker's,
-    /// which is all that was raised.
+    /// Credits a hart that does not run with the delay that its account lacks: its total is then
+    /// its waker's, which is the global delay.
     pub fn take_credit(&mut self, woken: HartId, waker: HartId)
         requires woken_below { woken.0 < length self.old.harts }
         requires waker_below { waker.0 < length self.old.harts }
@@ -150,7 +149,7 @@ impl Credits {
         };
     }
 
-    /// All that was raised.
+    /// The global delay: the sum of all that was raised.
     pub fn raised(&self) -> Tick
         ensures { result ≡ self.now.raised }
     {

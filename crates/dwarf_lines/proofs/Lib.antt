@@ -19,4 +19,5 @@ pub mod ListedAgain
 pub mod HeadsAgain
 pub mod Zeros
 pub mod Fewer
+pub mod Weights
 pub mod ListedLoops

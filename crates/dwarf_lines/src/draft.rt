@@ -10,7 +10,7 @@ use crate::opcode::Operation;
 use crate::registers::Registers;
 use crate::strings::Sections;
 use crate::{FileName, LineError, LineFault, LineKind, LineTable, Row};
-use coz_lists::Items;
+use coz_types::Items;
 use leb_cursor::Cursor;
 use std::alloc::Global;
 
@@ -23,7 +23,7 @@ pub struct Draft<'a> {
     files: Vec<FileName<'a>>,
     rows: Vec<Row>,
     skipped: u32,
-    /// How many rows end their sequence.
+    /// The number of rows that end their sequence.
     sequences: u32,
     ghost counted: { sequences ≡ count_by (λ (row : Row). row.ends) rows.items },
 }

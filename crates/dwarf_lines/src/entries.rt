@@ -48,7 +48,7 @@ pub fn read_files<'a>(
     }
 }
 
-/// A whole file entry. Err tells its first wrong field.
+/// A whole file entry. Err is its first wrong field.
 pub fn read_file<'a>(
     directories: &[&'a [u8]],
     cursor: &mut Cursor<'a>,
@@ -59,7 +59,7 @@ pub fn read_file<'a>(
     named(directories, name, cursor)
 }
 
-/// What follows the name of a file: the number of its directory, its time and its length.
+/// The fields after the name of a file: the number of its directory, its time and its length.
 fn named<'a>(
     directories: &[&'a [u8]],
     name: &'a [u8],

@@ -37,7 +37,7 @@ const DW_FORM_DATA16: u64 = 0x1E;
 /// The offset of a text in `.debug_line_str`.
 const DW_FORM_LINE_STRP: u64 = 0x1F;
 
-/// How a value is written (DWARF 5, 7.5.6).
+/// The form of a value (DWARF 5, section 7.5.6).
 #[derive(Clone, Copy)]
 pub enum Form {
     /// A text in the entry itself, ended by a zero.
@@ -67,7 +67,7 @@ pub enum Form {
 pub struct Format {
     /// DW_LNCT_path (1), DW_LNCT_directory_index (2), or another content, which is skipped.
     pub content: u64,
-    /// How it is written.
+    /// The form of the value.
     pub form: Form,
 }
 

@@ -19,7 +19,7 @@ pub struct Names<'a> {
     pub files: Vec<FileName<'a>>,
 }
 
-/// What a unit's program needs of its header.
+/// The fields of a unit's header that its program uses.
 #[derive(Drop)]
 pub struct Header<'a> {
     /// The version of the unit, 2 to 5.
@@ -30,11 +30,11 @@ pub struct Header<'a> {
     pub is_stmt: bool,
     /// The least advance of the line by a special opcode.
     pub line_base: i8,
-    /// How many advances of the line special opcodes have.
+    /// The number of advances of the line that special opcodes have.
     pub line_range: u8,
     /// The first special opcode.
     pub opcode_base: u8,
-    /// How many operands each opcode from 1 to opcode_base - 1 has.
+    /// The number of operands of each opcode from 1 to opcode_base - 1.
     pub lengths: Vec<u8>,
     /// The paths of the directories, by number.
     pub directories: Vec<&'a [u8]>,

@@ -32,15 +32,15 @@ ghost use Rattle.dwarf_lines.specs.Names.{strings};
 
 use crate::draft::Draft;
 use crate::strings::Sections;
-use coz_lists::Items;
+use coz_types::Items;
 use failures::Failure;
 use leb_cursor::{Cursor, LebFault};
 use std::alloc::Global;
 
-/// What is wrong with a field of a section `.debug_line` (DWARF 4 and 5, section 6.2).
+/// Why a field of a section `.debug_line` is rejected (DWARF 4 and 5, section 6.2).
 #[derive(Clone, Copy, Debug, PartialEq, Eq)]
 pub enum LineKind {
-    /// It runs past its bound.
+    /// The field runs past its bound.
     Short,
     /// A LEB128 number doesn't fit 64 bits.
     Wide,
@@ -74,7 +74,7 @@ pub enum LineKind {
 /// A fault, and where in the section it is.
 #[derive(Clone, Copy, Debug, PartialEq, Eq)]
 pub struct LineFault {
-    /// What is wrong.
+    /// The kind of the fault.
     pub kind: LineKind,
     /// The first byte of the field, from 0 at the section's start.
     pub place: u64,
@@ -123,7 +123,7 @@ impl From<LineFault> for LineError {
 /// (DWARF 4, 6.2.2).
 #[derive(Clone, Copy, Debug, PartialEq, Eq)]
 pub struct Row {
-    /// How many sequences of the section ended before it.
+    /// The number of sequences of the section that ended before the row.
     pub sequence: u32,
     /// The address.
     pub address: u64,
@@ -135,7 +135,7 @@ pub struct Row {
     pub column: u64,
     /// The address begins a statement.
     pub is_stmt: bool,
-    /// It ends its sequence.
+    /// Whether the row ends its sequence (`end_sequence`).
     pub ends: bool,
 }
 
@@ -144,7 +144,7 @@ pub struct Row {
 pub struct FileName<'a> {
     /// The path of its directory.
     pub directory: &'a [u8],
-    /// Its name, which may be a path itself.
+    /// The name of the file, which may be a path itself.
     pub name: &'a [u8],
 }
 
@@ -156,7 +156,7 @@ pub struct LineTable<'a> {
     pub files: Items<FileName<'a>>,
     /// The rows of its units.
     pub rows: Items<Row>,
-    /// How many units were passed over.
+    /// The number of units that were skipped.
     pub skipped: u32,
 }
 

@@ -14,7 +14,7 @@ use crate::{FileName, LineError, LineFault, LineKind};
 use leb_cursor::Cursor;
 use std::alloc::{AllocError, Global};
 
-/// What a field says.
+/// The value of a field.
 #[derive(Clone, Copy, Drop)]
 pub enum Value<'a> {
     /// A text.
@@ -28,7 +28,7 @@ pub enum Value<'a> {
 /// A directory or a file.
 #[derive(Clone, Copy, Drop)]
 pub struct Entry<'a> {
-    /// Its path.
+    /// The path of the entry (`DW_LNCT_path`).
     pub path: &'a [u8],
     /// The number of its directory.
     pub directory: Option<u64>,

@@ -12,7 +12,7 @@ use crate::header::Header;
 use crate::{FileName, LineFault, LineKind};
 use leb_cursor::Cursor;
 
-/// What an opcode says, with its operands.
+/// An opcode with its operands.
 #[derive(Clone, Copy, Drop)]
 pub enum Operation<'a> {
     /// Appends a row.
@@ -48,7 +48,7 @@ impl<'a> Operation<'a> {
     ghost use Rattle.dwarf_lines.specs.Reading.{Walks, Finds, operation, below_base, extended_at, body};
     ghost use Rattle.dwarf_lines.specs.Views.{operation_view, header_view};
 
-    /// The next opcode and its operands. Err tells the first wrong field.
+    /// The next opcode and its operands. Err is the first wrong field.
     #[tactic(auto, unfolding(crate::specs::Reading::operation))]
     pub fn read(header: &Header<'a>, cursor: &mut Cursor<'a>) -> Result<Operation<'a>, LineFault>
         ensures { Walks operation_view result cursor.new
@@ -113,7 +113,7 @@ impl<'a> Operation<'a> {
         Operation::of_body(header, place, inside)
     }
 
-    /// What the body of an extended opcode says. What is left of it is passed.
+    /// The operation of an extended opcode's body. Bytes that are left of the body are skipped.
     fn of_body(
         header: &Header<'a>,
         place: u64,

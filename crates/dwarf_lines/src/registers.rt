@@ -12,7 +12,7 @@ pub struct Registers {
     pub file: u64,
     /// Wide enough for any program; it is judged when a row is appended.
     pub line: i128,
-    /// Its column.
+    /// The register `column`.
     pub column: u64,
     /// Whether it begins a statement.
     pub is_stmt: bool,

@@ -24,7 +24,7 @@ pub fn load_areas(alloc: Global, segments: &[Segment]) -> Result<Vec<Segment>, A
         .collect(alloc)
 }
 
-/// What the pages of an area may be used for. Whoever may write may read.
+/// The rights of the pages of an area. Pages that may be written may be read.
 fn rights_of(segment: &Segment) -> Rights
     ensures { result ≡ rights_of segment.now }
 {

@@ -34,10 +34,10 @@ use coz_types::Image;
 use failures::Failure;
 use std::alloc::Global;
 
-/// What may be wrong with a file, in the order in which it is judged.
+/// Why a file is rejected, in the order in which faults are looked for.
 #[derive(Clone, Copy, Debug, PartialEq, Eq)]
 pub enum ElfKind {
-    /// It has no ELF header: it is shorter than 64 bytes, or e_ident does not begin with ELFMAG.
+    /// The file has no ELF header: it is shorter than 64 bytes, or e_ident does not begin with ELFMAG.
     NotElf,
     /// e_ident[EI_CLASS] is not ELFCLASS64: it is no file of 64 bits.
     NotClass64,
@@ -54,7 +54,7 @@ pub enum ElfKind {
     HeaderOut,
     /// A section `.debug_line`, `.debug_str` or `.debug_line_str` is compressed.
     PackedLines,
-    /// It has a PT_INTERP: it asks for an interpreter.
+    /// A program header has the type PT_INTERP: the file asks for an interpreter.
     Interp,
     /// The p_filesz of a PT_LOAD exceeds its p_memsz.
     SizeOrder,
@@ -74,7 +74,7 @@ pub enum ElfKind {
 /// from the file's start.
 #[derive(Clone, Copy, Debug, PartialEq, Eq)]
 pub struct ElfFault {
-    /// What is wrong.
+    /// The kind of the fault.
     pub kind: ElfKind,
     /// The offset in the file.
     pub place: u64,

@@ -7,9 +7,9 @@ use std::marker::{Brand, PhantomData};
 
 /// The turns that a seat has left, and the numbers that it drew. No value of it is made.
 pub struct Hand {
-    /// How many draws it may still make.
+    /// The number of draws that are left.
     pub turns: u64,
-    /// What it drew so far.
+    /// The numbers that were drawn so far.
     pub numbers: LinkedList<u64>,
 }
 
@@ -34,7 +34,7 @@ impl Play<(), Hand> for Draw {
     ghost then = { drew };
 }
 
-/// How many turns a split gives away.
+/// The number of turns that a split gives away.
 pub trait Part {
     ghost turns: { ℕ };
 }

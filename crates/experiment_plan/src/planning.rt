@@ -56,7 +56,7 @@ fn number_of(line: LineId) -> u64
     u64::from(line.0)
 }
 
-/// How many pairs there are.
+/// The number of pairs.
 fn pair_count(lines: &[LineId], speedups: &[u8]) -> u64
     requires rising { IsStrictlySortedBy nat_cmp (ids lines.now) }
     requires few { length speedups.now ≤ MAX_SPEEDUP + 1 }

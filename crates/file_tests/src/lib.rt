@@ -5,8 +5,6 @@
 #[cfg(test)]
 mod causal_curves_tests;
 #[cfg(test)]
-mod coz_lists_tests;
-#[cfg(test)]
 mod coz_types_tests;
 #[cfg(test)]
 mod dwarf_lines_tests;

@@ -1,8 +1,7 @@
 //! Tests of `line_index`.
 ghost use Rattle.std.specs.Prelude.{◌≤◌, length};
 
-use coz_lists::Items;
-use coz_types::{Address, Area, Image, LineId, Rights};
+use coz_types::{Address, Area, Image, Items, LineId, Rights};
 use dwarf_lines::{FileName, LineTable, Row};
 use line_index::{LineIndex, build};
 use std::alloc::{AllocError, Global};

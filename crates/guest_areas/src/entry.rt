@@ -33,7 +33,7 @@ pub fn write_entry(memory: &mut Memory, image: &Image)
     requires { IsTrue (rights_at memory.old stack_pointer).write }
     ensures { memory.new ≡ with_entry image.now memory.old }
 {
-    put_bytes(memory, NAME, b"prog");
+    write_bytes(memory, NAME, b"prog");
     let numbers = [
         1,
         NAME,
@@ -54,21 +54,21 @@ pub fn write_entry(memory: &mut Memory, image: &Image)
         0,
         0,
     ];
-    put_numbers(memory, STACK_POINTER, &numbers);
+    write_numbers(memory, STACK_POINTER, &numbers);
 }
 
 /// Writes numbers of 8 bytes in a row, all in one page.
-fn put_numbers(memory: &mut Memory, address: Address, numbers: &[u64])
+fn write_numbers(memory: &mut Memory, address: Address, numbers: &[u64])
     requires fits { address % PAGE + 8 * length numbers.now ≤ PAGE }
     requires writable { IsTrue (rights_at memory.old address).write }
     ensures { memory.new ≡ with_numbers address numbers.now memory.old }
 {
     for i in 0..numbers.len() {
-        put_number(memory, address + 8 * i as u64, numbers[i]);
+        write_number(memory, address + 8 * i as u64, numbers[i]);
     }
 }
 
-fn put_number(memory: &mut Memory, address: Address, number: u64)
+fn write_number(memory: &mut Memory, address: Address, number: u64)
     requires { IsTrue (is_writable memory.old address 8) }
     ensures { memory.new ≡ with_number address 8 number memory.old }
 {
@@ -78,7 +78,7 @@ fn put_number(memory: &mut Memory, address: Address, number: u64)
     }
 }
 
-fn put_bytes(memory: &mut Memory, address: Address, bytes: &[u8])
+fn write_bytes(memory: &mut Memory, address: Address, bytes: &[u8])
     requires { IsTrue (is_writable memory.old address (length bytes.now)) }
     ensures { memory.new ≡ with_bytes address bytes.now memory.old }
 {

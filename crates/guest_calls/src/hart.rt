@@ -8,25 +8,25 @@ use crate::linux::{A0, SP};
 use coz_types::Address;
 use rv_execute::HartState;
 
-/// What a hart does.
+/// The status of a hart.
 #[derive(Clone, Copy, Debug, PartialEq, Eq)]
 pub enum HartStatus {
-    /// It has a next instruction.
+    /// The hart has a next instruction.
     Running,
     /// Until another hart wakes it.
     Waiting,
     /// Until a net moment, when it is woken.
     Sleeping,
-    /// It has left, and never runs again.
+    /// The hart has exited, and never runs again.
     Gone,
 }
 
 /// A hart that was made.
 #[derive(Clone, Copy)]
 pub struct Hart {
-    /// Its registers and its pc.
+    /// The registers and the pc.
     pub state: HartState,
-    /// What it does.
+    /// Whether the hart runs, sleeps, waits or has exited.
     pub status: HartStatus,
     /// The address that is cleared as it leaves, or 0.
     pub clear: Address,

@@ -143,7 +143,7 @@ impl<'a> Guest<'a> {
         self.hart(hart).state.pc
     }
 
-    /// How many harts were made.
+    /// The number of harts that were made.
     pub fn harts(&self) -> u32
         ensures { result ≡ length self.now.harts }
     {

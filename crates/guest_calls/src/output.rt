@@ -11,7 +11,7 @@ use guest_memory::Memory;
 use std::alloc::{AllocError, Global};
 use std::marker::Model;
 
-/// What a guest has written, up to a limit. The room for it is taken when it is made.
+/// The output of a guest, up to a limit. Its memory is allocated by `new`.
 #[derive(Drop)]
 pub struct Output {
     places: Vec<u8>,

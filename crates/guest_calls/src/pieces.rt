@@ -14,9 +14,9 @@ pub const PIECES: usize = 1024;
 /// A piece of memory: an address and a length (`struct iovec`).
 #[derive(Clone, Copy, Default)]
 pub struct Piece {
-    /// Where it begins.
+    /// The address of the piece.
     pub address: Address,
-    /// How many bytes it has.
+    /// The number of bytes of the piece.
     pub length: u64,
 }
 

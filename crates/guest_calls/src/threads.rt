@@ -46,7 +46,7 @@ fn has(flags: u64, flag: u64) -> bool
     flags / flag % 2 == 1
 }
 
-/// How many a wake takes at most: a signed number of 32 bits, if it is above 1.
+/// The number of harts that a wake takes at most: a signed number of 32 bits, if it is above 1.
 fn wake_count(value: u64) -> u32
     ensures { result ≡ calls.wake_count (signed_bits 32 (value % 2 ^ 32)) }
 {

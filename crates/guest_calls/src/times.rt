@@ -64,7 +64,7 @@ fn wake_moment(net: Tick, span: Span) -> u128
     net as u128 + nanoseconds * NANOSECOND as u128
 }
 
-/// What a clock shows at a net time.
+/// The time that a clock shows at a net time.
 fn clock_at(net: Tick) -> Span
     ensures { result ≡ clock_at net }
 {

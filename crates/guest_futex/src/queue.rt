@@ -9,7 +9,7 @@ use coz_types::{Address, HARTS, HartId};
 use std::alloc::{AllocError, Global};
 use std::marker::Model;
 
-/// A hart that waits, and the address.
+/// A waiting hart and its address.
 #[derive(Clone, Copy, Drop)]
 struct Waiting {
     address: Address,
@@ -76,7 +76,7 @@ impl Queue {
         })
     }
 
-    /// A hart waits for an address from now on, as the youngest waiter.
+    /// Lets a hart wait at an address, as the youngest waiter.
     pub fn wait(&mut self, address: Address, hart: HartId)
         requires low { hart.0 < HARTS }
         requires apart { All (λ waiter. waiter.hart ≢ hart.0) self.old }

@@ -22,19 +22,19 @@ ghost use Rattle.coz_types.specs.Image.{IsAreaOf};
 
 use crate::find::{find, find_for, pick};
 use crate::lay::spans;
-use crate::numbers::{number_of, put_number, zero_from};
+use crate::numbers::{number_of, write_number, zero_from};
 use crate::pages::Pages;
 use coz_types::{Address, Area, Image, LOAD_END, PAGE, Rights};
 use std::alloc::{AllocError, Global};
 use std::marker::Model;
 
-/// Where the region below the break begins: at the end of the load areas.
+/// The first address of the region below the break: the end of the load areas.
 pub const BRK_BASE: Address = LOAD_END;
 
-/// Where the region of the mappings begins.
+/// The first address of the region of the mappings.
 pub const MAP_BASE: Address = 0x21_0000_0000;
 
-/// Where the region of the stack ends.
+/// The end of the region of the stack.
 pub const STACK_TOP: Address = 0x40_0000_0000;
 
 /// The most bytes of the region below the break.
@@ -71,7 +71,7 @@ impl Layout {
     }
 }
 
-/// Some byte of a range lacks the right that was asked for.
+/// A byte of a range lacks the right that was asked for.
 #[derive(Clone, Copy, Debug, PartialEq, Eq)]
 pub struct Access;
 
@@ -150,8 +150,9 @@ fn room_in_page(address: Address) -> usize
 }
 
 impl<'a> Memory<'a> {
-    /// The memory that a program begins with: the load areas with their rights and the file's bytes
-    /// in them, and a stack of zeros that may be read and written. Everything else has no rights.
+    /// The memory that a program begins with: the load areas with their rights and the file's
+    /// bytes in them, and a stack of zeros that may be read and written. Everything else has no
+    /// rights.
     pub fn new(
         alloc: Global,
         image: &'a Image<'a>,
@@ -453,7 +454,7 @@ impl<'a> Memory<'a> {
                 }
                 let within = (address % PAGE) as usize;
                 if within + size as usize <= PAGE as usize {
-                    put_number(&mut self.bytes, index * PAGE as usize + within, size, value);
+                    write_number(&mut self.bytes, index * PAGE as usize + within, size, value);
                     Ok(())
                 } else {
                     self.store_by_bytes(address, size, value)

@@ -10,7 +10,7 @@ use circular_buffer::HeapCircularBuffer;
 use std::alloc::{AllocError, Global};
 use std::marker::Model;
 
-/// What one pipe holds, up to `PIPE_BYTES`.
+/// The bytes in one pipe, at most `PIPE_BYTES`.
 ///
 /// Contracts see the list of the bytes, the oldest first. `new` alone can be out of memory,
 /// and a call with n bytes takes time proportional to n.
@@ -40,7 +40,7 @@ impl Held {
         })
     }
 
-    /// How many bytes there are.
+    /// The number of bytes.
     pub fn len(&self) -> usize
         ensures len { result ≡ length self.now }
         ensures few { result ≤ PIPE_BYTES }

@@ -25,10 +25,10 @@ use waiters::{take_both, take_waiters};
 /// The lowest number of an end.
 pub const FIRST_NUMBER: u32 = 3;
 
-/// How many numbers the ends have.
+/// The number of file numbers of ends.
 pub const NUMBERS: usize = 128;
 
-/// How many pipes there may be.
+/// Upper bound of the number of pipes.
 pub const PIPES: usize = 64;
 
 /// The most bytes that a pipe holds.
@@ -37,10 +37,10 @@ pub const PIPE_BYTES: usize = 65536;
 /// A write of no more bytes than these is never cut (POSIX, PIPE_BUF).
 pub const ATOMIC_BYTES: usize = 4096;
 
-/// What a read or a write of some bytes finds.
+/// Whether a read or a write of some bytes can be made, must wait, or fails.
 #[derive(Clone, Copy, Debug, PartialEq, Eq)]
 pub enum Ready {
-    /// This number of bytes can be taken or put.
+    /// A number of bytes that can be taken or put now.
     Now(u32),
     /// The other end is closed, and nothing can be taken or put any more.
     Closed,
@@ -132,7 +132,7 @@ impl Pipes {
         Some((reading, writing))
     }
 
-    /// What a number is. None exactly if it is no open end.
+    /// The end that has a number. None exactly if the number is no open end.
     pub fn end(&self, number: u64) -> Option<PipeEnd>
         ensures kind { result ≡ kind_at number self.now }
         ensures low { IfSome result (λ _. number < FIRST_NUMBER + NUMBERS) }
@@ -169,7 +169,7 @@ impl Pipes {
         end
     }
 
-    /// What a read or a write of `count` bytes finds.
+    /// Whether a read or a write of `count` bytes can be made, must wait, or fails.
     pub fn ready(&self, number: u32, count: u64) -> Ready
         requires open { IsSome (end_at number self.now) }
         requires some { 1 ≤ count }
@@ -267,7 +267,7 @@ impl Pipes {
         );
     }
 
-    /// A hart waits from now on, as the youngest: for bytes at a reading end, and for room
+    /// Lets a hart wait, as the youngest: for bytes at a reading end, and for room
     /// at a writing one.
     pub fn wait(&mut self, number: u32, hart: HartId)
         requires open { IsSome (end_at number self.old) }

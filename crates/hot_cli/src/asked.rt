@@ -10,19 +10,19 @@ use crate::scan::{Scan, scan_of};
 use coz_words::{Command, Request, WordsError, read_words};
 use std::alloc::Global;
 
-/// What the words ask for.
+/// The request that the arguments make.
 #[derive(Drop)]
 pub struct HotRequest {
     /// The run that counts: its program, its input, its progress points and its budget.
     pub run: Request,
-    /// How many lines are printed at most.
+    /// The number of lines that are printed at most.
     pub top: u64,
     /// Whether labels alone are printed.
     pub names: bool,
 }
 
-/// Whether the options of the program are right: each is given at most once, with a value if it has
-/// one.
+/// Whether the options of the program are right: each is given at most once, with a value if it
+/// has one.
 fn is_right(scan: &Scan) -> bool
     ensures { result ≡ is_right (scanned scan.now) }
 {

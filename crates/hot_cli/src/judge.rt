@@ -46,7 +46,7 @@ fn found_run<'r>(
     Ok(found)
 }
 
-/// What is printed of the run of the program that a file is, if it is one.
+/// The text of the run of the program in a file, or its first fault.
 fn hot_of_file<'r>(
     alloc: Global,
     file: &[u8],
@@ -76,7 +76,7 @@ fn hot_of_file<'r>(
     }
 }
 
-/// What is printed of the run that a request asks for, over the files that it names.
+/// The text of the run that a request asks for, over the files that it names.
 /// Err is the first fault of the files, the program and its lines, or that it is out of memory.
 pub fn judge_hot<'r, F: Files>(
     alloc: Global,

@@ -6,7 +6,7 @@ ghost use Rattle.hot_cli.specs.Words.{scanned, scan_word, free_word, no_words, w
 use experiment_plan::number_in;
 use std::alloc::{AllocError, Global};
 
-/// What some words give.
+/// The result of scanning some arguments.
 #[derive(Drop)]
 pub struct Scan {
     /// Whether `--names` is among them.
@@ -84,7 +84,7 @@ fn take(scan: &mut Scan, word: &String) -> Result<(), AllocError>
     take_free(scan, word)
 }
 
-/// What words give, after a first word of the rest. Fails only when out of memory.
+/// Scans all arguments. Fails only if out of memory.
 pub fn scan_of(alloc: Global, words: &[String]) -> Result<Scan, AllocError>
     ensures { IfOk result (λ scan. scanned scan ≡ fold scan_word no_words (bytes_of words.now)) }
 {

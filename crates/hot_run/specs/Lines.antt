@@ -1,8 +1,8 @@
 -- The lines of a program by what they cost, and their texts.
-use Rattle.std.specs.Prelude.{ℕ, ◌*◌, ◌/◌, ◌==◌, nat_lt, Bool, List, [], ◌∷◌, ◌++◌, map, flat_map, get_or, if◌then◌else◌, codes}
+use Rattle.std.specs.Prelude.{ℕ, ◌*◌, ◌/◌, ◌==◌, nat_lt, Bool, List, [], ◌∷◌, ◌++◌, flat_map, if◌then◌else◌, codes}
 use Rattle.std.specs.Ordering.{is_lt, nat_cmp}
 use Rattle.coz_types.specs.Labels.{Text}
-use Rattle.line_index.specs.Lines.{Line, label}
+use Rattle.line_index.specs.Lines.{Line, label_at}
 use Rattle.profile_book.specs.Pieces.{named}
 use Rattle.profile_lists.specs.Sorted.{sorted_by}
 use Rattle.hot_run.specs.declared.lines.HotLine.{HotLine}
@@ -19,10 +19,6 @@ rank lines = sorted_by costs_more lines
 
 -- ---- the texts
 
--- the label of the line at a position
-abbrev pub name_at : List Line → ℕ → Text
-name_at lines k = get_or (map label lines) k []
-
 -- some work of all work in hundredths of a per cent, rounded down
 abbrev pub share_of : ℕ → ℕ → ℕ
 share_of all cost = if all == 0 then 0 else cost * 10000 / all
@@ -32,7 +28,7 @@ cost_text all cost =
     named (codes " cost ") cost ++ named (codes " share ") (share_of all cost) ++ codes "\n"
 
 abbrev pub hot_line : List Line → ℕ → HotLine → Text
-hot_line lines all h = (codes "line " ++ name_at lines h.line)
+hot_line lines all h = (codes "line " ++ label_at lines h.line)
     ++ named (codes " starts ") h.starts ++ cost_text all h.cost
 
 -- of code that has no line, if it has some work
@@ -44,12 +40,12 @@ abbrev pub lines_text : List Line → List HotLine → ℕ → ℕ → Text
 lines_text lines hot none all = flat_map (hot_line lines all) hot ++ none_line all none
 
 abbrev pub more_names : List Line → HotLine → Text
-more_names lines h = codes "," ++ name_at lines h.line
+more_names lines h = codes "," ++ label_at lines h.line
 
 -- with a comma between each two
 abbrev pub joined_names : List Line → List HotLine → Text
 joined_names lines [] = []
-joined_names lines (h ∷ hot) = name_at lines h.line ++ flat_map (more_names lines) hot
+joined_names lines (h ∷ hot) = label_at lines h.line ++ flat_map (more_names lines) hot
 
 -- on one line
 abbrev pub names_text : List Line → List HotLine → Text

@@ -4,13 +4,12 @@ ghost use Rattle.coz_types.specs.declared.record.Visit.{Visit};
 ghost use Rattle.hot_run.specs.declared.lines.HotLine.{HotLine};
 
 use crate::lines::HotLine;
-use coz_lists::Items;
-use coz_types::{Ending, Tick, Visit};
+use coz_types::{Ending, Items, Tick, Visit};
 
-/// What a run with no line selected leaves, and the lines that cost most in it.
+/// The record of a run with no line selected, and the lines that cost most in it.
 #[derive(Drop)]
 pub struct HotRun {
-    /// How the run ended.
+    /// The ending of the run.
     pub ending: Ending,
     /// The visits of progress points, in order, each with a delay of 0.
     pub visits: Items<Visit>,

@@ -2,15 +2,16 @@
 ghost use Rattle.std.specs.Prelude.{◌≡◌, ◌≤◌, ◌++◌, codes, flat_map, All};
 ghost use Rattle.coz_files.specs.Gathered.{Gathers};
 ghost use Rattle.coz_files.specs.Puts.{Puts};
-ghost use Rattle.hot_run.specs.Lines.{name_at, share_of, cost_text, hot_line, none_line, lines_text, more_names, names_text};
+ghost use Rattle.line_index.specs.Lines.{label_at};
+ghost use Rattle.hot_run.specs.Lines.{share_of, cost_text, hot_line, none_line, lines_text, more_names, names_text};
 
 use crate::lines::HotLine;
 use coz_files::{PutAnswer, PutBuffer, Sink};
 use coz_types::{LineId, Tick};
 use line_index::LineIndex;
-use profile_book::{put_field, put_number};
+use profile_book::{put_field, put_named};
 
-/// Some lines of a run, and the work of the run in ticks.
+/// Lines of a run, and the work of the run in ticks.
 #[derive(Clone, Copy)]
 pub struct HotLines<'a> {
     /// The lines.
@@ -21,9 +22,9 @@ pub struct HotLines<'a> {
     pub all: Tick,
 }
 
-/// How the line at a position is written.
-fn name_at(index: &LineIndex, line: u32) -> &[u8]
-    ensures { result.now ≡ name_at index.now.lines line }
+/// The label of the line at a position.
+fn label_at(index: &LineIndex, line: u32) -> &[u8]
+    ensures { result.now ≡ label_at index.now.lines line }
 {
     if line < index.count() {
         return index.label(LineId(line)).bytes();
@@ -31,7 +32,7 @@ fn name_at(index: &LineIndex, line: u32) -> &[u8]
     b""
 }
 
-/// What part of all work some work is, in hundredths of a per cent, rounded down.
+/// The part of all work that some work is, in hundredths of a per cent, rounded down.
 fn share_of(all: Tick, cost: Tick) -> u64
     requires { cost ≤ all }
     ensures { result ≡ share_of all cost }
@@ -48,8 +49,8 @@ fn put_cost<O: Sink>(to: &mut PutBuffer, out: &mut O, all: Tick, cost: Tick)
     ensures { Gathers O.holds O.faults out.old out.new to.old to.new
         (cost_text all cost) }
 {
-    put_number(to, out, b" cost ", cost);
-    put_number(to, out, b" share ", share_of(all, cost));
+    put_named(to, out, b" cost ", cost);
+    put_named(to, out, b" share ", share_of(all, cost));
     to.push(out, b"\n");
 }
 
@@ -64,8 +65,8 @@ fn put_hot_line<O: Sink>(
     ensures { Gathers O.holds O.faults out.old out.new to.old to.new
         (hot_line index.now.lines all line) }
 {
-    put_field(to, out, b"line ", name_at(index, line.line));
-    put_number(to, out, b" starts ", line.starts);
+    put_field(to, out, b"line ", label_at(index, line.line));
+    put_named(to, out, b" starts ", line.starts);
     put_cost(to, out, all, line.cost);
 }
 
@@ -111,7 +112,7 @@ fn put_more_name<O: Sink>(to: &mut PutBuffer, out: &mut O, index: &LineIndex, li
     ensures { Gathers O.holds O.faults out.old out.new to.old to.new
         (more_names index.now.lines line) }
 {
-    put_field(to, out, b",", name_at(index, line.line));
+    put_field(to, out, b",", label_at(index, line.line));
 }
 
 fn put_more_names<O: Sink>(to: &mut PutBuffer, out: &mut O, index: &LineIndex, lines: &[HotLine])
@@ -129,7 +130,7 @@ pub fn put_names<O: Sink>(to: &mut PutBuffer, out: &mut O, index: &LineIndex, li
         (names_text index.now.lines lines.now) }
 {
     if let Some((first, more)) = lines.split_first() {
-        to.push(out, name_at(index, first.line));
+        to.push(out, label_at(index, first.line));
         put_more_names(to, out, index, more);
     }
     to.push(out, b"\n");

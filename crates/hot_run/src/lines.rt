@@ -6,18 +6,18 @@ use coz_types::Tick;
 use std::alloc::AllocError;
 use std::cmp::Reverse;
 
-/// What was begun of a line.
+/// The instructions of a line that a run began: their number and their cost.
 #[derive(Clone, Copy, Debug)]
 pub struct HotLine {
     /// The line, by its position.
     pub line: u32,
-    /// How many of its instructions.
+    /// The number of instructions of the line that were begun.
     pub starts: u64,
     /// Their work, in ticks.
     pub cost: Tick,
 }
 
-/// Appends a line if some of its instructions were begun. Fails only when out of memory.
+/// Appends a line if some of its instructions were begun. Fails only if out of memory.
 pub fn push_started(lines: &mut Vec<HotLine>, line: HotLine) -> Result<(), AllocError>
     ensures { OnOk result (lines.new.items
         ≡ lines.old.items ++ (if has_started line then line ∷ [] else [])) }
@@ -28,8 +28,8 @@ pub fn push_started(lines: &mut Vec<HotLine>, line: HotLine) -> Result<(), Alloc
     Ok(())
 }
 
-/// These lines by falling cost, and those of one cost in the order that they had.
-/// Fails only when out of memory.
+/// Sorts lines by falling cost, and those of one cost in the order that they had.
+/// Fails only if out of memory.
 pub fn ranked(mut lines: Vec<HotLine>) -> Result<Vec<HotLine>, AllocError>
     ensures ranked { IfOk result (λ ranked. ranked.items ≡ rank lines.items) }
     ensures within { (most : ℕ) → All (λ (line : HotLine). line.cost ≤ most) lines.items

@@ -13,8 +13,7 @@ ghost use Rattle.hot_run.specs.HotRun.{IsLeftBy, all_seen, cost_on, hot_text, ho
 use crate::left::HotRun;
 use crate::lines::{HotLine, push_started, ranked};
 use counted_run::Counted;
-use coz_lists::Items;
-use coz_types::{Ending, Image, LineId};
+use coz_types::{Ending, Image, Items, LineId};
 use line_index::LineIndex;
 use progress_points::Points;
 use run_engine::Choice;
@@ -70,7 +69,7 @@ fn top_lines(
     Ok(first_lines(lines, top))
 }
 
-/// What a run that has ended leaves.
+/// The record of a run that has ended.
 fn hot_of(
     alloc: Global,
     counted: &Counted,
@@ -100,7 +99,7 @@ fn hot_of(
 }
 
 /// Runs a program with no line selected, and returns what that leaves, with the lines that cost
-/// most, at most `top`. Fails only when out of memory.
+/// most, at most `top`. Fails only if out of memory.
 pub fn hot_run(
     alloc: Global,
     image: &Image,

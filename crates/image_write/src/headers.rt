@@ -24,7 +24,7 @@ const LINES_NAME: u32 = 13;
 /// The offset of `.shstrtab` in `NAMES`.
 const NAMES_NAME: u32 = 25;
 
-/// How many sections there are, with the null one.
+/// The number of sections, with the null one.
 const SECTIONS: u16 = 5;
 
 /// The number of the section of the names.
@@ -80,7 +80,7 @@ fn whole_pages(assembled: &Assembled) -> u64
     up_to_multiple(PAGE, assembled.text.len() as u64)
 }
 
-/// How many bytes the text has with the zeros before the data.
+/// The number of bytes of the text with the zeros before the data.
 pub fn text_room(assembled: &Assembled) -> u64
     requires { IsWritable (view assembled.now) }
     ensures value { result ≡ text_room (view assembled.now) }
@@ -119,7 +119,7 @@ fn names_place(assembled: &Assembled, unit: &[u8]) -> u64
     unit_place(assembled) + unit.len() as u64
 }
 
-/// Where the names of the sections end in the file.
+/// The offset at which the names of the sections end in the file.
 pub fn names_end(assembled: &Assembled, unit: &[u8]) -> u64
     requires writable { IsWritable (view assembled.now) }
     requires unit { length unit.now < 2 ^ 33 }
@@ -129,7 +129,7 @@ pub fn names_end(assembled: &Assembled, unit: &[u8]) -> u64
     names_place(assembled, unit) + 35
 }
 
-/// Where the headers of the sections begin in the file.
+/// The offset of the section headers in the file.
 pub fn headers_place(assembled: &Assembled, unit: &[u8]) -> u64
     requires writable { IsWritable (view assembled.now) }
     requires unit { length unit.now < 2 ^ 33 }
@@ -140,7 +140,7 @@ pub fn headers_place(assembled: &Assembled, unit: &[u8]) -> u64
     up_to_multiple(8, names_end(assembled, unit))
 }
 
-/// How many segments the file has.
+/// The number of segments of the file.
 pub fn segment_count(assembled: &Assembled) -> u16
     ensures { result ≡ segment_count (view assembled.now) }
 {

@@ -46,7 +46,7 @@ fn both_headers(alloc: Global, assembled: &Assembled, unit: &[u8]) -> Result<Vec
     Ok(out)
 }
 
-/// What is before the text.
+/// The bytes of the file before the text.
 #[tactic(auto, unfolding(crate::specs::File::front))]
 fn front(alloc: Global, assembled: &Assembled, unit: &[u8]) -> Result<Vec<u8>, AllocError>
     requires writable { IsWritable (view assembled.now) }

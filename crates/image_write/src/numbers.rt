@@ -29,7 +29,7 @@ fn push_groups(out: &mut Vec<u8>, count: u32, n: u64) -> Result<(), AllocError>
     Ok(())
 }
 
-/// How many groups hold a number without sign.
+/// The number of groups of a number without sign.
 #[tactic(auto, unfolding(crate::specs::Unit::fewest))]
 fn unsigned_groups(n: u64) -> u32
     requires { n < 2 ^ 21 }
@@ -71,7 +71,7 @@ fn fits_groups(n: i64, count: u32) -> bool
     -half <= n && n < half
 }
 
-/// How many groups hold a number with its sign.
+/// The number of groups of a number with its sign.
 #[tactic(auto, unfolding(crate::specs::Unit::fewest))]
 fn signed_groups(n: i64) -> u32
     requires low { neg_ℤ (pos (2 ^ 33)) ≤ℤ n }

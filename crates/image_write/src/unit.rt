@@ -56,7 +56,7 @@ fn push_row(out: &mut Vec<u8>, words: u32, old: u32, new: u32) -> Result<(), All
     Ok(())
 }
 
-/// What follows the row of the first word, whose line is `line`.
+/// Appends the rows after that of the first word, whose line is `line`.
 fn push_rows(out: &mut Vec<u8>, line: u32, lines: &[u32]) -> Result<(), AllocError>
     requires { length lines.now < 2 ^ 20 }
     ensures { IfOk result (λ _. out.new.items ≡ out.old.items ++ rows 1 line lines.now) }

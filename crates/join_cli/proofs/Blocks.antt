@@ -10,7 +10,7 @@ use Rattle.std.proofs.lemmas.Option.{slice_get-get_or}
 use Rattle.coz_types.specs.Image.{ImageParts}
 use Rattle.coz_types.specs.declared.LineId.{LineId}
 use Rattle.coz_types.specs.declared.record.Summary.{Summary}
-use Rattle.line_index.specs.Lines.{label}
+use Rattle.line_index.specs.Lines.{label, label_at}
 use Rattle.line_index.specs.Index.{Index}
 use Rattle.line_index.specs.Listed.{in_order, with_element}
 use Rattle.line_index.proofs.Labelled.{labels_rise, right_label}
@@ -22,7 +22,7 @@ use Rattle.experiment_plan.specs.Pairs as pairs
 use Rattle.experiment_plan.specs.Selected.{rising_numbers}
 use Rattle.profile_shards.specs.Shards.{AreBlocks, blocks_at, profile_at}
 use Rattle.profile_pool.specs.Summaries.{summary_of}
-use Rattle.profile_pool.specs.Profiles.{label_at, record_in, summary_on, profile_of_lines}
+use Rattle.profile_pool.specs.Profiles.{record_in, summary_on, profile_of_lines}
 use Rattle.join_cli.specs.Shards.{AreIndexed}
 use Rattle.join_cli.proofs.Indexed.{rise, right}
 use Rattle.join_cli.proofs.Baselines.{pair_at, same_baseline}

@@ -19,7 +19,7 @@ use Rattle.progress_points.specs.Points.{Points, point_of}
 use Rattle.profile_book.specs.Profile.{is_rising, IsProfile}
 use Rattle.profile_shards.specs.Shards.{AreBlocks, AreLines, blocks_at, profile_at}
 use Rattle.profile_shards.proofs.Whole.{and_true, blocks_rise}
-use Rattle.profile_pool.specs.Profiles.{label_at, record_in}
+use Rattle.profile_pool.specs.Profiles.{record_in}
 use Rattle.profile_pool.proofs.Within.{summary_is}
 use Rattle.run_engine.specs.Choices.{choice_of}
 use Rattle.run_engine.specs.Run.{IsChoice}
@@ -27,6 +27,7 @@ use Rattle.join_cli.specs.Shards.{AreIndexed, IsAsked}
 use Rattle.join_cli.proofs.Tables.{both}
 use Rattle.join_cli.proofs.Runs.{in_ranges}
 use Rattle.join_cli.proofs.Blocks.{are_blocks, block_at, speedups_rise}
+use Rattle.line_index.specs.Lines.{label_at}
 
 -- ---- lists
 

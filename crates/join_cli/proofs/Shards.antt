@@ -15,7 +15,7 @@ use Rattle.experiment_plan.specs.Selected.{rising_numbers}
 use Rattle.profile_book.specs.Profile.{IsProfile, profile_text}
 use Rattle.profile_book.specs.declared.profile.Profile.{Profile}
 use Rattle.profile_shards.specs.Shards.{AreLines, AreTogether, AreDisjoint, IsTwice, profile_at}
-use Rattle.profile_pool.specs.Profiles.{label_at, profile_of_lines}
+use Rattle.profile_pool.specs.Profiles.{profile_of_lines}
 use Rattle.join_answers.specs.Verdict.{IsVerdict, has_exited, profile_status}
 use Rattle.join_answers.specs.Serve.{IsLine, VerdictHas}
 use Rattle.join_answers.specs.Shards.{HoldProfiles, IsShardsVerdict, twice_line}
@@ -24,6 +24,7 @@ use Rattle.join_cli.specs.Shards.{AreIndexed, IsAsked, HoldTexts, JoinsShards, J
 use Rattle.join_cli.specs.Ranges.{ProfilesAreRight}
 use Rattle.join_cli.proofs.Blocks.{are_blocks, block_at, profile_is, some_speedups, speedups_rise}
 use Rattle.join_cli.proofs.Profiles.{profile_right, profiles_right}
+use Rattle.line_index.specs.Lines.{label_at}
 
 -- ---- the verdict
 

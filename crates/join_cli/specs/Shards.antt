@@ -19,10 +19,11 @@ use Rattle.profile_book.specs.declared.profile.Profile.{Profile}
 use Rattle.profile_shards.specs.Shards.{AreLines, AreTogether, AreDisjoint, IsTwice}
 use Rattle.profile_reader.specs.declared.TheConstants.{MAX_PROFILE}
 use Rattle.program_steps.specs.LineTable.{table_in}
-use Rattle.profile_pool.specs.Profiles.{label_at, profile_of_lines}
+use Rattle.profile_pool.specs.Profiles.{profile_of_lines}
 use Rattle.join_answers.specs.Words.{paths_in}
 use Rattle.join_answers.specs.Verdict.{profile_status}
 use Rattle.join_answers.specs.Shards.{twice_line}
+use Rattle.line_index.specs.Lines.{label_at}
 
 -- The index is that of a program: its lines are those of the line table in the program's file,
 -- which is a list of bytes. The entry is an address of 64 bits.

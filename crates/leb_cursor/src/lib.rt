@@ -66,7 +66,7 @@ impl<'a> Cursor<'a> {
         self.place
     }
 
-    /// How many bytes are left.
+    /// The number of bytes that are left.
     pub fn left(&self) -> u64
         ensures { result ≡ length self.now.bytes }
     {
@@ -196,7 +196,7 @@ impl<'a> Cursor<'a> {
     }
 }
 
-/// Where the first byte below 128 is.
+/// The index of the first byte below 128.
 fn first_low(bytes: &[u8]) -> Option<usize>
     ensures place { result ≡ position (λ b. nat_lt b 128) bytes.now }
     ensures within { IfSome result (λ n. n < length bytes.now) }
@@ -204,7 +204,7 @@ fn first_low(bytes: &[u8]) -> Option<usize>
     bytes.iter().position(|b| *b < 128)
 }
 
-/// Where the first zero byte is.
+/// The index of the first zero byte.
 fn first_zero(bytes: &[u8]) -> Option<usize>
     ensures place { result ≡ position (λ b. b == 0) bytes.now }
     ensures within { IfSome result (λ n. n < length bytes.now) }

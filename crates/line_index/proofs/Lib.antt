@@ -17,7 +17,6 @@ pub mod Building
 pub mod Ordered
 pub mod Bounds
 pub mod Listed
-pub mod Few
 pub mod Labelled
 pub mod WrittenFiles
 pub mod Kept

@@ -1,5 +1,5 @@
 -- The line of an address, and how lines are written, ordered and found.
-use Rattle.std.specs.Prelude.{◌≡◌, ℕ, suc, ◌+◌, ◌-◌, ◌<◌, ◌^◌, ◌≢◌, Bool, false, ◌&&◌, ◌||◌, List, [], ◌∷◌, ◌++◌, length, drop, slice_get, Option, Some, None, option_map, option_and_then, find, position, true, nat_lt, nat_le, ◌==◌, if◌then◌else◌, bytes_eq}
+use Rattle.std.specs.Prelude.{◌≡◌, ℕ, suc, ◌+◌, ◌-◌, ◌<◌, ◌^◌, ◌≢◌, Bool, false, ◌&&◌, ◌||◌, List, [], ◌∷◌, ◌++◌, length, drop, slice_get, Option, Some, None, option_map, option_and_then, find, position, true, nat_lt, nat_le, ◌==◌, if◌then◌else◌, bytes_eq, map, get_or}
 use Rattle.std.specs.List.{list_any}
 use Rattle.std.specs.declared.cmp.Ordering.{Ordering}
 use Rattle.std.specs.Ordering.{nat_cmp, ordering_then}
@@ -87,6 +87,10 @@ Begins table areas line a =
 -- the written path, a colon and the number
 abbrev pub label : Line → List ℕ
 label line = label_of line.path line.number
+
+-- the label of the line at a position
+abbrev pub label_at : List Line → ℕ → List ℕ
+label_at lines k = get_or (map label lines) k []
 
 -- its label is a right one
 pub record IsRight (line : Line) : Type 0 where

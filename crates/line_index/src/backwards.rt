@@ -5,6 +5,7 @@ ghost use Rattle.std.specs.Prelude.{◌≡◌, ◌<◌, ◌^◌, ℕ, [], length
 ghost use Rattle.line_index.specs.Keys.{texts};
 ghost use Rattle.line_index.specs.Backwards.{AreBackwards, IsStretch, backward, backward_cmp, ending, start_cmp};
 
+use crate::suffixes::{backward_cmp, ending_cmp};
 use std::alloc::{AllocError, Global};
 use std::cmp::Ordering;
 
@@ -17,27 +18,10 @@ pub fn path_at(paths: &[Vec<u8>], position: u32) -> &[u8]
 }
 
 /// The order of the paths at two positions, by their bytes from the last to the first.
-fn backward_cmp(paths: &[Vec<u8>], one: u32, other: u32) -> Ordering
+fn paths_cmp(paths: &[Vec<u8>], one: u32, other: u32) -> Ordering
     ensures { result ≡ backward_cmp (texts paths.now) one other }
 {
-    let mut ahead = path_at(paths, one);
-    let mut left = path_at(paths, other);
-    while let Some((last, front)) = left.split_last() {
-        match ahead.split_last() {
-            Some((byte, rest)) => {
-                if byte != last {
-                    return byte.cmp(last);
-                }
-                ahead = rest;
-                left = front;
-            }
-            None => return Ordering::Less,
-        }
-    }
-    match ahead.split_last() {
-        Some(_) => Ordering::Greater,
-        None => Ordering::Equal,
-    }
+    backward_cmp(path_at(paths, one), path_at(paths, other))
 }
 
 fn all_positions(alloc: Global, count: usize) -> Result<Vec<u32>, AllocError>
@@ -60,36 +44,19 @@ pub fn backwards(alloc: Global, paths: &[Vec<u8>]) -> Result<Vec<u32>, AllocErro
     ensures { IfOk result (λ list. AreBackwards (texts paths.now) list.items) }
 {
     let mut list = all_positions(alloc, paths.len())?;
-    list.sort_by(|one, other| backward_cmp(paths, *one, *other))?;
+    list.sort_by(|one, other| paths_cmp(paths, *one, *other))?;
     Ok(list)
 }
 
-/// The order of the path at a position and the paths that end with a slash and the text: before
-/// them, among them (`Equal`) or after them.
-fn ending_cmp(paths: &[Vec<u8>], position: u32, text: &[u8]) -> Ordering
+/// Whether in that order the path at a position is before the paths that end with a slash and the
+/// text, is one of them (`Equal`), or is after them.
+fn position_cmp(paths: &[Vec<u8>], position: u32, text: &[u8]) -> Ordering
     ensures { result ≡ start_cmp (ending text.now) (backward (texts paths.now) position) }
 {
-    let mut ahead = path_at(paths, position);
-    let mut left = text;
-    while let Some((last, front)) = left.split_last() {
-        match ahead.split_last() {
-            Some((byte, rest)) => {
-                if byte != last {
-                    return byte.cmp(last);
-                }
-                ahead = rest;
-                left = front;
-            }
-            None => return Ordering::Less,
-        }
-    }
-    match ahead.split_last() {
-        Some((byte, _)) => byte.cmp(&b'/'),
-        None => Ordering::Less,
-    }
+    ending_cmp(path_at(paths, position), text)
 }
 
-/// Some of the paths in that order, which stand side by side.
+/// A range of paths in that order.
 #[derive(Clone, Copy)]
 pub struct Stretch {
     /// The rank of the first of them.
@@ -103,7 +70,7 @@ pub fn stretch_of(paths: &[Vec<u8>], backwards: &[u32], text: &[u8]) -> Stretch
     requires { AreBackwards (texts paths.now) backwards.now }
     ensures { IsStretch (texts paths.now) backwards.now text.now result.start result.end }
 {
-    let start = backwards.partition_point(|one| ending_cmp(paths, *one, text).is_lt());
-    let end = backwards.partition_point(|one| ending_cmp(paths, *one, text).is_le());
+    let start = backwards.partition_point(|one| position_cmp(paths, *one, text).is_lt());
+    let end = backwards.partition_point(|one| position_cmp(paths, *one, text).is_le());
     Stretch { start, end }
 }

@@ -7,8 +7,8 @@ ghost use Rattle.line_index.specs.Endings.{AreFirsts, IsBetween, IsLeast};
 use crate::endings::Ending;
 use std::alloc::{AllocError, Global};
 
-/// How many lines a block has. A search looks at fewer than two blocks line by line, and passes
-/// those in between by their firsts.
+/// The number of lines of a block. A search looks at fewer than two blocks line by line, and
+/// passes those in between by their firsts.
 pub const BLOCK: usize = 2048;
 
 /// The lesser of two lines, if there are two.

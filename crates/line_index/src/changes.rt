@@ -24,7 +24,7 @@ pub struct LineChange {
     pub line: Option<LineId>,
 }
 
-/// How two lists of changes become one.
+/// The rule by which two lists of changes become one.
 #[derive(Clone, Copy)]
 pub enum Join {
     /// The first's position, and if it has none the second's.

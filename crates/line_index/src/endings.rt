@@ -17,11 +17,11 @@ use std::alloc::{AllocError, Global};
 /// byte to the first.
 #[derive(Clone, Copy, PartialEq, Eq, PartialOrd, Ord)]
 pub struct Ending {
-    /// Its number in the file.
+    /// The number of the line in its file.
     pub number: u32,
     /// The rank of its path.
     pub rank: u32,
-    /// Its position in the order of lines.
+    /// The position in the order of lines.
     pub line: u32,
 }
 
@@ -34,7 +34,7 @@ impl Ending {
     }
 }
 
-/// Where the lines are found of which only a number and the end of the path are known.
+/// The order in which lines are found by a number and the end of a path.
 #[derive(Drop)]
 pub struct Endings {
     /// The positions of the paths in the order of their bytes from the last to the first.
@@ -97,7 +97,7 @@ pub fn endings_of(alloc: Global, paths: &[Vec<u8>], keys: &[Key]) -> Result<Endi
     })
 }
 
-/// Where the lines begin that have this number and a path of this rank or a greater one,
+/// The index of the first line that has this number and a path of this rank or a greater one,
 /// or a greater number.
 pub fn start_of(lines: &[Ending], number: u32, rank: usize) -> usize
     requires { IsSorted ending_order lines.now }

@@ -7,7 +7,7 @@ ghost use Rattle.dwarf_lines.specs.Registers.{file_view, files_view};
 ghost use Rattle.line_index.specs.Lines.{entry_path};
 ghost use Rattle.line_index.specs.Keys.{ArePlaces, entry_cmp, entries_view, path_place};
 
-use crate::room::room;
+use crate::capacity::path_buffer;
 use dwarf_lines::FileName;
 use std::alloc::{AllocError, Global};
 
@@ -40,7 +40,7 @@ fn all_entries<'a>(alloc: Global, files: &[FileName<'a>]) -> Result<Vec<Entry<'a
     Ok(entries)
 }
 
-/// The files in order, each once, if there is room for their paths.
+/// The files in order, each once. Out of memory also if memory for all their paths is refused.
 pub fn sorted_entries<'a>(
     alloc: Global,
     files: &[FileName<'a>],
@@ -50,7 +50,7 @@ pub fn sorted_entries<'a>(
         All (Contains (entries_view entries.items)) (files_view files.now)) }
     ensures few { IfOk result (λ entries. length entries.items ≤ length files.now) }
 {
-    room(alloc, files)?;
+    path_buffer(alloc, files)?;
     let mut entries = all_entries(alloc, files)?;
     entries.sort()?;
     entries.dedup();

@@ -8,8 +8,8 @@ ghost use Rattle.line_index.specs.Index.{line_at};
 ghost use Rattle.line_index.specs.declared.lines.Key.{Key};
 
 use crate::backwards::path_at;
+use crate::capacity::label_buffer;
 use crate::lines::Key;
-use crate::room::label_room;
 use coz_types::Label;
 use itoa::Buffer;
 use std::alloc::{AllocError, Global};
@@ -32,7 +32,7 @@ pub fn labels(alloc: Global, paths: &[Vec<u8>], keys: &[Key]) -> Result<Vec<Labe
     ensures { IfOk result (λ labels.
         labels.items ≡ map (λ (key : Key). label (line_at (texts paths.now) key)) keys.now) }
 {
-    label_room(alloc, paths, keys)?;
+    label_buffer(alloc, paths, keys)?;
     let mut labels = Vec::with_capacity(alloc, keys.len())?;
     let mut text = Vec::new(alloc);
     for key in keys {

@@ -4,6 +4,7 @@
 
 mod backwards;
 mod blocks;
+mod capacity;
 mod changes;
 mod endings;
 mod entries;
@@ -16,8 +17,8 @@ mod named;
 mod parts;
 mod paths;
 mod places;
-mod room;
 mod spans;
+mod suffixes;
 mod turns;
 mod written;
 
@@ -42,6 +43,7 @@ use coz_types::{Address, Image, Label, LineId};
 use dwarf_lines::LineTable;
 use std::alloc::{AllocError, Global};
 use std::marker::Model;
+pub use suffixes::{backward_cmp, ending_cmp};
 
 /// The lines of a program: where each begins, and which one an address has.
 #[derive(Drop)]
@@ -68,7 +70,7 @@ impl Model for LineIndex {
 }
 
 impl LineIndex {
-    /// How many lines there are.
+    /// The number of lines.
     pub fn count(&self) -> u32
         ensures { result ≡ length self.now.lines }
     {
@@ -82,7 +84,8 @@ impl LineIndex {
         line_at(&self.changes, address)
     }
 
-    /// Whether an address has this line. Its own turns alone are asked, and not those of all lines.
+    /// Whether an address has this line. Its own turns alone are asked, and not those of all
+    /// lines.
     #[inline]
     pub fn has_line(&self, line: LineId, address: Address) -> bool
         ensures { result ≡ has_line self.now line.0 address }
@@ -101,7 +104,7 @@ impl LineIndex {
         self.entries.list(line.0 as usize)
     }
 
-    /// How the line is written: its path, a colon and its number. Labels rise with the lines.
+    /// The label of the line: its path, a colon and its number. Labels rise with the lines.
     pub fn label(&self, line: LineId) -> &Label
         requires { line.0 < length self.now.lines }
         ensures label { slice_get (map label self.now.lines) line.0 ≡ Some result.now }

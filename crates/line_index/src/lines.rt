@@ -19,7 +19,7 @@ use std::alloc::{AllocError, Global};
 pub struct Key {
     /// The position of its path.
     pub path: u32,
-    /// Its number in the file.
+    /// The number of the line in its file.
     pub number: u32,
 }
 
@@ -91,7 +91,7 @@ fn change_keys(
     Ok(keys)
 }
 
-/// Those lines in order, each once.
+/// The lines in order, each once.
 fn sorted_keys(
     alloc: Global,
     rows: &[Row],

@@ -19,16 +19,16 @@ use crate::turns::turns;
 use coz_types::Label;
 use std::alloc::{AllocError, Global};
 
-/// What is made of the paths, the lines and their changes.
+/// The lists that are made of the paths, the lines and their changes.
 #[derive(Drop)]
 pub struct Parts {
-    /// Where each line begins.
+    /// The addresses at which each line begins.
     pub entries: Lists,
     /// The label of each line.
     pub labels: Vec<Label>,
     /// The lines by how their paths end.
     pub endings: Endings,
-    /// Where each line begins and ends, in turn.
+    /// The addresses at which each line begins and ends, in turn.
     pub turns: Lists,
 }
 

@@ -12,7 +12,7 @@ use std::alloc::{AllocError, Global};
 /// directories.
 const NUMBERS: [u8; 19] = [4, 1, 1, 0xFB, 14, 13, 0, 1, 1, 1, 1, 0, 0, 0, 1, 0, 0, 1, 0];
 
-/// What ends the name of a file, and its directory, its time and its length.
+/// The end of the name of a file, and its directory, its time and its length, all unknown.
 const UNKNOWN: [u8; 4] = [0; 4];
 
 /// Appends the file of a sequence.

@@ -32,14 +32,14 @@ pub struct Sequence {
     pub number: u32,
     /// The first address.
     pub address: Address,
-    /// How many addresses there are.
+    /// The number of addresses.
     pub size: u64,
 }
 
 /// Why there is no unit.
 #[derive(Clone, Copy, Debug, PartialEq, Eq)]
 pub enum UnitError {
-    /// It would have more than 33,554,432 bytes.
+    /// The file would have more than 33,554,432 bytes.
     TooLong,
     /// Out of memory.
     Memory,

@@ -14,7 +14,7 @@ use std::alloc::{AllocError, Global};
 /// The end of a sequence: the extended opcode DW_LNE_end_sequence (DWARF 4, section 6.2.5.3).
 pub const END_SEQUENCE: [u8; 3] = [0, 1, DW_LNE_END_SEQUENCE];
 
-/// What begins the extended opcode DW_LNE_set_address, before the eight bytes of the address
+/// The first bytes of the extended opcode DW_LNE_set_address, before the eight of the address
 /// (DWARF 4, section 6.2.5.3).
 pub const SET_ADDRESS: [u8; 3] = [0, 9, DW_LNE_SET_ADDRESS];
 

@@ -6,7 +6,7 @@ ghost use Rattle.printed_texts.specs.LatencyText.{latency_line, run_part, counts
 use coz_files::{PutBuffer, Sink};
 use coz_types::{Ending, Tick};
 use latency_points::Latency;
-use profile_book::{put_ending, put_large, put_number};
+use profile_book::{put_ending, put_large, put_named};
 
 fn put_mean<O: Sink>(to: &mut PutBuffer, out: &mut O, mean: Option<u128>)
     ensures { Gathers O.holds O.faults out.old out.new to.old to.new
@@ -22,19 +22,19 @@ fn put_run<O: Sink>(to: &mut PutBuffer, out: &mut O, speedup: u8, ending: Ending
     ensures { Gathers O.holds O.faults out.old out.new to.old to.new
         (run_part speedup ending net) }
 {
-    put_number(to, out, b"latency speedup ", speedup as u64);
+    put_named(to, out, b"latency speedup ", speedup as u64);
     to.push(out, b" end ");
     put_ending(to, out, ending);
-    put_number(to, out, b" net ", net);
+    put_named(to, out, b" net ", net);
 }
 
 fn put_counts<O: Sink>(to: &mut PutBuffer, out: &mut O, latency: Latency)
     ensures { Gathers O.holds O.faults out.old out.new to.old to.new (counts_part latency) }
 {
-    put_number(to, out, b" arrivals ", latency.arrivals);
-    put_number(to, out, b" departures ", latency.departures);
-    put_number(to, out, b" stray ", latency.stray);
-    put_number(to, out, b" open ", latency.unended);
+    put_named(to, out, b" arrivals ", latency.arrivals);
+    put_named(to, out, b" departures ", latency.departures);
+    put_named(to, out, b" stray ", latency.stray);
+    put_named(to, out, b" open ", latency.unended);
 }
 
 fn put_area<O: Sink>(to: &mut PutBuffer, out: &mut O, latency: Latency)

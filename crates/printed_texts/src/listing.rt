@@ -76,7 +76,7 @@ fn put_lines<O: Sink>(to: &mut PutBuffer, out: &mut O, skipped: u32, index: &Lin
     put_index_lines(to, out, index);
 }
 
-/// What `lines` prints of an index whose table had `skipped` units of another version.
+/// The text that `lines` prints of an index whose table had `skipped` units of another version.
 pub fn lines_text(alloc: Global, skipped: u32, index: &LineIndex) -> Result<Vec<u8>, AllocError>
     ensures { IfOk result (λ text. text.items ≡ index_text skipped index.now) }
 {

@@ -5,8 +5,7 @@ ghost use Rattle.printed_texts.specs.Printed.{ending_status, has_exited, text_by
 
 use causal_curves::{Curve, write_curves};
 use coz_files::{PutAnswer, Sink};
-use coz_lists::Items;
-use coz_types::Ending;
+use coz_types::{Ending, Items};
 use line_index::LineIndex;
 use path_texts::{CriticalPath, write_path};
 use profile_book::{Profile, write_profile};
@@ -14,7 +13,7 @@ use profile_book::{Profile, write_profile};
 /// A text that is to be written.
 #[derive(Drop)]
 pub enum Text {
-    /// These bytes.
+    /// A text in memory.
     Bytes(Vec<u8>),
     /// The text of a profile.
     Profile(Profile),
@@ -29,7 +28,7 @@ pub enum Text {
 pub struct Printed {
     /// The status of the command if the text is put: 0 or 1.
     pub status: u8,
-    /// What is put.
+    /// The text.
     pub text: Text,
 }
 

@@ -4,29 +4,29 @@ use coz_types::{Account, Ending, Outcome, Tick, Visit};
 /// The record of a delayed run.
 #[derive(Clone, Copy)]
 pub struct RunRecord<'a> {
-    /// How it came out.
+    /// The outcome of the run.
     pub outcome: Outcome,
     /// Of each hart that was made, by number.
     pub accounts: &'a [Account],
     /// The visits of progress points, in their order.
     pub visits: &'a [Visit],
-    /// What the program wrote.
+    /// The output of the program.
     pub output: &'a [u8],
 }
 
 /// The record of a shortened run.
 #[derive(Clone, Copy)]
 pub struct ShortRecord<'a> {
-    /// How it ended.
+    /// The ending of the run.
     pub ending: Ending,
     /// The moment of the last retirement, in ticks.
     pub net: Tick,
-    /// How many instructions were retired.
+    /// The number of retired instructions.
     pub retired: u64,
-    /// How many selected instructions were started.
+    /// The number of starts of the selected line.
     pub starts: u64,
     /// With delay 0.
     pub visits: &'a [Visit],
-    /// What the program wrote.
+    /// The output of the program.
     pub output: &'a [u8],
 }

@@ -54,7 +54,7 @@ fn put_short<'a, O: Sink>(to: &mut PutBuffer, out: &mut O, run: ShortRecord<'a>)
     put_output(to, out, run.output);
 }
 
-/// What `really` prints.
+/// The text that `really` prints.
 pub fn really_text<'a>(alloc: Global, run: ShortRecord<'a>) -> Result<Vec<u8>, AllocError>
     requires { All (λ (v : Visit). v.delay ≤ v.time) run.visits.now }
     ensures { IfOk result (λ text. text.items ≡ really_text (net_record_of run.entry)) }

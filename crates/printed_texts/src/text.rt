@@ -10,7 +10,7 @@ ghost use Rattle.coz_types.specs.declared.record.Visit.{Visit};
 use crate::record::RunRecord;
 use coz_files::{PutBuffer, Sink};
 use coz_types::{Account, Visit};
-use profile_book::{TextWriter, put_end, put_line, put_number};
+use profile_book::{TextWriter, put_end, put_line, put_named};
 use std::alloc::{AllocError, Global};
 
 fn put_outcome<'a, O: Sink>(to: &mut PutBuffer, out: &mut O, run: RunRecord<'a>)
@@ -31,9 +31,9 @@ fn put_hart<O: Sink>(to: &mut PutBuffer, out: &mut O, number: u64, account: Acco
     ensures { Gathers O.holds O.faults out.old out.new to.old to.new
         (hart_text number (account_as account)) }
 {
-    put_number(to, out, b"hart ", number);
-    put_number(to, out, b" own ", account.own);
-    put_number(to, out, b" paused ", account.paused);
+    put_named(to, out, b"hart ", number);
+    put_named(to, out, b" own ", account.own);
+    put_named(to, out, b" paused ", account.paused);
     put_line(to, out, b" credited ", account.credited);
 }
 
@@ -51,8 +51,8 @@ pub fn put_visit_head<O: Sink>(to: &mut PutBuffer, out: &mut O, visit: Visit)
     ensures { Gathers O.holds O.faults out.old out.new to.old to.new
         (visit_head visit.point.0 visit.hart.0) }
 {
-    put_number(to, out, b"visit ", visit.point.0 as u64);
-    put_number(to, out, b" hart ", visit.hart.0 as u64);
+    put_named(to, out, b"visit ", visit.point.0 as u64);
+    put_named(to, out, b" hart ", visit.hart.0 as u64);
 }
 
 fn put_visit<O: Sink>(to: &mut PutBuffer, out: &mut O, visit: Visit)
@@ -61,8 +61,8 @@ fn put_visit<O: Sink>(to: &mut PutBuffer, out: &mut O, visit: Visit)
         (visit_text (visit_as visit)) }
 {
     put_visit_head(to, out, visit);
-    put_number(to, out, b" time ", visit.time);
-    put_number(to, out, b" delay ", visit.delay);
+    put_named(to, out, b" time ", visit.time);
+    put_named(to, out, b" delay ", visit.delay);
     put_line(to, out, b" net ", visit.time - visit.delay);
 }
 
@@ -97,7 +97,7 @@ fn put_run<'a, O: Sink>(to: &mut PutBuffer, out: &mut O, run: RunRecord<'a>)
     put_output(to, out, run.output);
 }
 
-/// What `run` prints.
+/// The text that `run` prints.
 pub fn run_text<'a>(alloc: Global, run: RunRecord<'a>) -> Result<Vec<u8>, AllocError>
     requires net { run.outcome.delay ≤ run.outcome.time }
     requires net_visits { All (λ (v : Visit). v.delay ≤ v.time) run.visits.now }

@@ -12,7 +12,7 @@ use causal_curves::{Curve, curves};
 use coz_files::{PutBuffer, Sink};
 use line_index::LineIndex;
 use profile_book::{
-    Profile, TextWriter, profile_text, put_digest, put_field, put_line, put_number, put_signed,
+    Profile, TextWriter, profile_text, put_digest, put_field, put_line, put_named, put_signed,
 };
 use sha2::{Digest, Sha256};
 use std::alloc::{AllocError, Global};
@@ -23,7 +23,7 @@ fn put_digested<O: Sink>(to: &mut PutBuffer, out: &mut O, name: &[u8], bytes: &[
     ensures { Gathers O.holds O.faults out.old out.new to.old to.new
         (digest_line name.now bytes.now) }
 {
-    put_number(to, out, name, bytes.len() as u64);
+    put_named(to, out, name, bytes.len() as u64);
     put_digest(to, out, b" ", &Sha256::digest(bytes));
     to.push(out, b"\n");
 }
@@ -76,7 +76,7 @@ fn put_counts<O: Sink>(
     put_line(to, out, b"experiments ", profile.summaries.len() as u64);
 }
 
-/// What `trial` prints.
+/// The text that `trial` prints.
 pub fn trial_text(
     alloc: Global,
     source: &Generated,

@@ -18,7 +18,7 @@ pub fn put_field<O: Sink>(to: &mut PutBuffer, out: &mut O, name: &[u8], value: &
 }
 
 /// Puts a name and its number, in decimal.
-pub fn put_number<O: Sink>(to: &mut PutBuffer, out: &mut O, name: &[u8], number: u64)
+pub fn put_named<O: Sink>(to: &mut PutBuffer, out: &mut O, name: &[u8], number: u64)
     ensures { Gathers O.holds O.faults out.old out.new to.old to.new (name.now ++ decimal number) }
 {
     let mut buffer = itoa::Buffer::new();
@@ -50,7 +50,7 @@ pub fn put_line<O: Sink>(to: &mut PutBuffer, out: &mut O, name: &[u8], number: u
     ensures { Gathers O.holds O.faults out.old out.new to.old to.new
         (number_line name.now number) }
 {
-    put_number(to, out, name, number);
+    put_named(to, out, name, number);
     to.push(out, b"\n");
 }
 

@@ -1,11 +1,10 @@
 //! A profile.
-use coz_lists::Items;
-use coz_types::{Label, Summary};
+use coz_types::{Items, Label, Summary};
 
 /// A profile: the budget, the progress points, and the summary of each run.
 #[derive(Debug, Drop)]
 pub struct Profile {
-    /// How many instructions each run may retire.
+    /// The number of instructions that each run may retire.
     pub budget: u64,
     /// The labels of the progress points, by point.
     pub points: Items<Label>,

@@ -10,7 +10,7 @@ use std::alloc::{AllocError, Global};
 pub struct TextSink {
     /// The bytes that were put so far.
     pub text: Vec<u8>,
-    /// How often a put has failed.
+    /// The number of puts that have failed.
     pub faults: u64,
 }
 

@@ -6,7 +6,7 @@ ghost use Rattle.coz_types.specs.Endings.{ending_text};
 ghost use Rattle.profile_book.specs.Pieces.{end_line};
 ghost use Rattle.profile_book.specs.Profile.{head_line, point_line, experiment_line, output_line, count_line, visits_line, block};
 
-use crate::pieces::{put_address, put_digest, put_field, put_number};
+use crate::pieces::{put_address, put_digest, put_field, put_named};
 use crate::profile::Profile;
 use coz_files::{PutBuffer, Sink};
 use coz_types::{Ending, Label, Summary, Trap};
@@ -16,8 +16,8 @@ pub fn put_head<O: Sink>(to: &mut PutBuffer, out: &mut O, profile: &Profile)
     ensures { Gathers O.holds O.faults out.old out.new to.old to.new (head_line profile.now) }
 {
     to.push(out, b"coz-ticks\tversion=1");
-    put_number(to, out, b"\tbudget=", profile.budget);
-    put_number(to, out, b"\tpoints=", profile.points.len() as u64);
+    put_named(to, out, b"\tbudget=", profile.budget);
+    put_named(to, out, b"\tpoints=", profile.points.len() as u64);
     to.push(out, b"\n");
 }
 
@@ -25,7 +25,7 @@ fn put_point<O: Sink>(to: &mut PutBuffer, out: &mut O, index: usize, label: &Lab
     ensures { Gathers O.holds O.faults out.old out.new to.old to.new
         (point_line (index, label.now)) }
 {
-    put_number(to, out, b"point\tindex=", index as u64);
+    put_named(to, out, b"point\tindex=", index as u64);
     put_field(to, out, b"\tname=", label.bytes());
     to.push(out, b"\n");
 }
@@ -45,7 +45,7 @@ fn put_trap<O: Sink>(to: &mut PutBuffer, out: &mut O, trap: Trap)
         (ending_text (Ending.Trapped trap)) }
 {
     put_field(to, out, b"trapped:", trap.cause.name());
-    put_number(to, out, b":", u64::from(trap.hart.0));
+    put_named(to, out, b":", u64::from(trap.hart.0));
     to.push(out, b":");
     put_address(to, out, trap.pc);
 }
@@ -55,9 +55,9 @@ pub fn put_ending<O: Sink>(to: &mut PutBuffer, out: &mut O, ending: Ending)
     ensures { Gathers O.holds O.faults out.old out.new to.old to.new (ending_text ending) }
 {
     match ending {
-        Ending::Exited(code) => put_number(to, out, b"exited:", u64::from(code)),
+        Ending::Exited(code) => put_named(to, out, b"exited:", u64::from(code)),
         Ending::Trapped(trap) => put_trap(to, out, trap),
-        Ending::Unsupported(number) => put_number(to, out, b"unsupported:", number),
+        Ending::Unsupported(number) => put_named(to, out, b"unsupported:", number),
         Ending::Clock => to.push(out, b"clock"),
         Ending::OutputFull => to.push(out, b"output-full"),
         Ending::VisitsFull => to.push(out, b"visits-full"),
@@ -79,20 +79,20 @@ fn put_experiment<O: Sink>(to: &mut PutBuffer, out: &mut O, summary: &Summary)
     ensures { Gathers O.holds O.faults out.old out.new to.old to.new (experiment_line summary.now) }
 {
     put_field(to, out, b"experiment\tselected=", summary.selected.bytes());
-    put_number(to, out, b"\tspeedup=", u64::from(summary.speedup));
+    put_named(to, out, b"\tspeedup=", u64::from(summary.speedup));
     to.push(out, b"\tend=");
     put_ending(to, out, summary.outcome.ending);
-    put_number(to, out, b"\ttime=", summary.outcome.time);
-    put_number(to, out, b"\tdelay=", summary.outcome.delay);
-    put_number(to, out, b"\tretired=", summary.outcome.retired);
-    put_number(to, out, b"\tstarts=", summary.outcome.starts);
+    put_named(to, out, b"\ttime=", summary.outcome.time);
+    put_named(to, out, b"\tdelay=", summary.outcome.delay);
+    put_named(to, out, b"\tretired=", summary.outcome.retired);
+    put_named(to, out, b"\tstarts=", summary.outcome.starts);
     to.push(out, b"\n");
 }
 
 fn put_output<O: Sink>(to: &mut PutBuffer, out: &mut O, summary: &Summary)
     ensures { Gathers O.holds O.faults out.old out.new to.old to.new (output_line summary.now) }
 {
-    put_number(to, out, b"output\tlength=", summary.length);
+    put_named(to, out, b"output\tlength=", summary.length);
     put_digest(to, out, b"\tsha256=", &summary.output.bytes);
     to.push(out, b"\n");
 }
@@ -100,8 +100,8 @@ fn put_output<O: Sink>(to: &mut PutBuffer, out: &mut O, summary: &Summary)
 fn put_count<O: Sink>(to: &mut PutBuffer, out: &mut O, index: usize, count: u64)
     ensures { Gathers O.holds O.faults out.old out.new to.old to.new (count_line (index, count)) }
 {
-    put_number(to, out, b"throughput-point\tindex=", index as u64);
-    put_number(to, out, b"\tdelta=", count);
+    put_named(to, out, b"throughput-point\tindex=", index as u64);
+    put_named(to, out, b"\tdelta=", count);
     to.push(out, b"\n");
 }
 

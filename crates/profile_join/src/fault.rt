@@ -5,12 +5,12 @@ ghost use Rattle.profile_join.specs.declared.fault.JoinError.TheVariants.{Memory
 use coz_types::Label;
 use std::alloc::AllocError;
 
-/// What a part has that the profile of the parts before it doesn't allow.
+/// Why a part cannot be joined to the parts before it.
 #[derive(Debug, Drop)]
 pub enum PartKind {
-    /// Its budget isn't that of the first part.
+    /// The budget of the part is not that of the first part.
     Budget,
-    /// Its progress points aren't those of the first part.
+    /// The progress points of the part are not those of the first part.
     Points,
     /// One of its labels has other speedups than the first label of the first part that has one.
     Speedups,
@@ -24,7 +24,7 @@ pub enum PartKind {
 /// A part that doesn't belong to the same profile as the parts before it.
 #[derive(Debug, Drop)]
 pub struct PartFault {
-    /// What is wrong with the part.
+    /// The kind of the fault.
     pub kind: PartKind,
     /// The number of the part, from 0 in the order given.
     pub part: usize,

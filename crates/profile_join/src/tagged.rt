@@ -1,6 +1,5 @@
 //! Blocks with the parts that they come from.
-use coz_lists::Items;
-use coz_types::Summary;
+use coz_types::{Items, Summary};
 
 /// The blocks of a part.
 #[derive(Drop)]

@@ -1,8 +1,8 @@
 -- The profile of some lines of a program.
-use Rattle.std.specs.Prelude.{ℕ, List, [], length, map, get_or, Some}
+use Rattle.std.specs.Prelude.{ℕ, List, length, map, Some}
 use Rattle.coz_types.specs.Image.{ImageParts}
 use Rattle.coz_types.specs.declared.record.Summary.{Summary}
-use Rattle.line_index.specs.Lines.{Line, label}
+use Rattle.line_index.specs.Lines.{Line, label_at}
 use Rattle.line_index.specs.Index.{Index, position_at}
 use Rattle.progress_points.specs.Points.{Points, point_of}
 use Rattle.machines.specs.Records.{Record}
@@ -17,10 +17,6 @@ use Rattle.profile_pool.specs.Summaries.{summary_of}
 -- the pairs of the lines at these positions: each at 0 and at each speedup
 abbrev pub pairs_of : List ℕ → List ℕ → List Pair
 pairs_of positions speedups = planned_pairs (map (λ (l : ℕ). record { 0 = l }) positions) speedups
-
--- the label of the line at a position
-abbrev pub label_at : List Line → ℕ → List ℕ
-label_at lines k = get_or (map label lines) k []
 
 -- the summary of a pair's run that left this record
 abbrev pub summary_on : List Line → List ℕ → Pair → Record → Summary

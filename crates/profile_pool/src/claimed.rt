@@ -13,8 +13,7 @@ use crate::plain::Plain;
 use crate::summary::summarise;
 use crate::work::{Runner, Work};
 use claim_workers::ClaimWork;
-use coz_lists::Items;
-use coz_types::{Label, LineId, Outcome, Summary};
+use coz_types::{Items, Label, LineId, Outcome, Summary};
 use experiment_plan::Experiment;
 use std::alloc::{AllocError, Global};
 use virtual_run::{Choice, Lead, Machine};
@@ -43,7 +42,7 @@ fn take_up<'a>(work: &Work<'a>, lead: &mut Lead<'a>, line: LineId)
     lead_up(work, lead, line);
 }
 
-/// How often a line starts at speedup 0, if that is known.
+/// The number of starts of a line at speedup 0, if it is known.
 fn starts_of(work: &Work, line: LineId) -> Option<u64>
     requires work { IsWork work.now }
     requires line { line.0 < length work.now.index.now.lines }
@@ -55,7 +54,7 @@ fn starts_of(work: &Work, line: LineId) -> Option<u64>
     }
 }
 
-/// What the run with no line selected left, if the run of a pair differs from it only in its label,
+/// The run with no line selected, if the run of a pair differs from it only in its label,
 /// its speedup and its starts: at speedup 0, and if the line never starts.
 fn plain_of<'a>(work: &Work<'a>, pair: Experiment) -> Option<&'a Plain>
     requires work { IsWork work.now }
@@ -205,7 +204,7 @@ impl<'a> ClaimWork for Work<'a> {
 
     ghost is_for = { AreFor };
 
-    /// How many lines the plan has: a claim is a line.
+    /// The number of lines of the plan: a claim is a line.
     fn count(&self) -> u32 {
         self.plan.line_count()
     }

@@ -6,10 +6,10 @@ use coz_types::Digest;
 use net_visits::digest_of_bytes;
 use std::alloc::{AllocError, Global};
 
-/// What a run wrote, and its digest.
+/// The output of a run, and its digest.
 #[derive(Drop)]
 pub struct KnownOutput {
-    /// What it wrote.
+    /// The output of the run.
     bytes: Vec<u8>,
     /// The digest of that.
     digest: Digest,

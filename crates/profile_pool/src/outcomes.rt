@@ -22,7 +22,7 @@ fn in_range(ending: Ending) -> Ending
     }
 }
 
-/// How a run that has ended came out.
+/// The outcome of a run that has ended.
 pub fn outcome(machine: &Machine) -> Outcome
     requires { IsSome machine.now.state.ending }
     ensures outcome { Some result ≡ outcome_of machine.now.state }
@@ -42,7 +42,7 @@ pub fn outcome(machine: &Machine) -> Outcome
     }
 }
 
-/// How a run with no line selected that has ended came out.
+/// The outcome of a run with no line selected that has ended.
 pub fn counted_outcome(counted: &Counted) -> Outcome
     requires { IsSome counted.now.state.ending }
     ensures outcome { Some result ≡ outcome_of counted.now.state }

@@ -13,8 +13,7 @@ ghost use Rattle.profile_pool.specs.Worth.{is_worth};
 use crate::outcomes::counted_outcome;
 use crate::worth::is_worth;
 use counted_run::Counted;
-use coz_lists::Items;
-use coz_types::{Image, Label, LineId, Outcome, Summary};
+use coz_types::{Image, Items, Label, LineId, Outcome, Summary};
 use line_index::LineIndex;
 use net_visits::{counts_of_visits, digest_of_bytes, digest_of_visits};
 use progress_points::Points;
@@ -24,9 +23,9 @@ use virtual_run::Choice;
 /// The run of a program with no line selected.
 #[derive(Drop)]
 pub struct Plain {
-    /// Its summary, with an empty label.
+    /// The summary of the run, with an empty label.
     pub summary: Summary,
-    /// How many instructions of each line were begun, by the position of the line.
+    /// The number of instructions of each line that were begun, by the position of the line.
     pub starts: Vec<u64>,
 }
 
@@ -60,7 +59,7 @@ fn summarise_counted(
     })
 }
 
-/// How many instructions of each line were begun in a run that has ended.
+/// The number of instructions of each line that were begun in a run that has ended.
 fn starts_of(alloc: Global, counted: &Counted, index: &LineIndex) -> Result<Vec<u64>, AllocError>
     requires index { counted.now.index ≡ index.now }
     requires ended { IsSome counted.now.state.ending }
@@ -75,7 +74,7 @@ fn starts_of(alloc: Global, counted: &Counted, index: &LineIndex) -> Result<Vec<
     Ok(starts)
 }
 
-/// What is kept of a run that has ended.
+/// The record of a run that has ended.
 fn plain_in(
     alloc: Global,
     counted: &Counted,
@@ -106,7 +105,7 @@ fn plain_in(
     }
 }
 
-/// What is kept of the run of a program with no line selected.
+/// The record of the run of a program with no line selected.
 fn plain_run(
     alloc: Global,
     image: &Image,
@@ -128,8 +127,8 @@ fn plain_run(
     plain
 }
 
-/// What is kept of the run of a program with no line selected, if that saves time in a plan of this
-/// many lines. Fails only when out of memory.
+/// The record of the run of a program with no line selected, if that saves time in a plan of this
+/// many lines. Fails only if out of memory.
 pub fn plain_if_worth(
     alloc: Global,
     image: &Image,

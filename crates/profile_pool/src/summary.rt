@@ -10,14 +10,13 @@ ghost use Rattle.profile_pool.specs.Summaries.{summary_of};
 
 use crate::known::{KnownOutput, digest_of_output};
 use crate::outcomes::outcome;
-use coz_lists::Items;
-use coz_types::{Label, Summary};
+use coz_types::{Items, Label, Summary};
 use net_visits::{counts_of_visits, digest_of_visits};
 use progress_points::Points;
 use std::alloc::{AllocError, Global};
 use virtual_run::Machine;
 
-/// What a profile keeps of a run that has ended, of a machine that was made with these points:
+/// The summary of a run that has ended, of a machine that was made with these points:
 /// its outcome, its output and visits as digests, and how often each point was visited. `known` is
 /// what an earlier run wrote; its digest is taken if this run wrote the same.
 pub fn summarise(

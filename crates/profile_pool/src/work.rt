@@ -12,19 +12,19 @@ use virtual_run::{Lead, Machine};
 pub struct Work<'a> {
     /// The program.
     pub image: &'a Image<'a>,
-    /// Its lines.
+    /// The lines of the program.
     pub index: &'a LineIndex,
     /// The progress points.
     pub points: &'a Points,
-    /// What the program reads.
+    /// The input of the program.
     pub input: &'a [u8],
     /// Which lines are selected, and at which speedups.
     pub plan: &'a Plan,
     /// A lead that has not run. The lead of each line begins as a copy of it.
     pub first: &'a Lead<'a>,
-    /// What the run with no line selected left, if it was made.
+    /// The record of the run with no line selected, if that run was made.
     pub plain: &'a Option<Plain>,
-    /// How many instructions each run may retire.
+    /// The number of instructions that each run may retire.
     pub budget: u64,
 }
 
@@ -36,6 +36,6 @@ pub struct Runner<'a> {
     pub lead: Lead<'a>,
     /// The machine, which runs each pair of the line from there.
     pub machine: Machine<'a>,
-    /// What the machine wrote last.
+    /// The output of the machine's last run, with its digest.
     pub known: KnownOutput,
 }

@@ -89,7 +89,7 @@ fn is_long(
 
 /// Whether a run with no line selected saves more time than its machine takes, if it gives a run
 /// of each of this many lines. It does if runs are long, and not if there is one line or if the
-/// budget is small. Fails only when out of memory.
+/// budget is small. Fails only if out of memory.
 pub fn is_worth(
     alloc: Global,
     image: &Image,

@@ -12,7 +12,7 @@ use crate::fields::{
 };
 use coz_types::{Digest, Label, MAX_COUNT, MAX_NUMBER, MAX_POINTS, Outcome, Summary};
 
-/// The budget and the number of points. Err tells the first wrong item.
+/// The budget and the number of points. Err is the first wrong item.
 #[tactic(auto, unfolding(crate::specs::Reading::head_at, crate::specs::Reading::bind))]
 pub fn parse_head<'a>(at: Cursor<'a>) -> Result<((u64, u64), Cursor<'a>), BookError>
     ensures { Gives (λ x. (x.0, ahead x.1)) result (head_at (ahead at.entry)) }
@@ -25,7 +25,7 @@ pub fn parse_head<'a>(at: Cursor<'a>) -> Result<((u64, u64), Cursor<'a>), BookEr
     Ok(((budget, points), at))
 }
 
-/// The name of the point with this index, after the last one. Err tells the first wrong item.
+/// The name of the point with this index, after the last one. Err is the first wrong item.
 #[tactic(auto, unfolding(crate::specs::Reading::name_at, crate::specs::Reading::bind))]
 pub fn parse_point<'a>(
     at: Cursor<'a>,
@@ -42,7 +42,7 @@ pub fn parse_point<'a>(
     Ok((label, at))
 }
 
-/// How often the point with this index was visited. Err tells the first wrong item.
+/// Reads the number of visits of the point with this index. Err is the first wrong item.
 #[tactic(auto, unfolding(crate::specs::Reading::count_at, crate::specs::Reading::bind))]
 pub fn parse_count<'a>(at: Cursor<'a>, place: u64) -> Result<(u64, Cursor<'a>), BookError>
     ensures { Gives (λ x. (x.0, ahead x.1)) result (count_at place (ahead at.entry)) }
@@ -54,7 +54,7 @@ pub fn parse_count<'a>(at: Cursor<'a>, place: u64) -> Result<(u64, Cursor<'a>), 
     Ok((count, at))
 }
 
-/// How a run came out. Err tells the first wrong item.
+/// Reads the outcome of a run. Err is the first wrong item.
 #[tactic(auto, unfolding(crate::specs::Reading::outcome_at, crate::specs::Reading::bind))]
 pub fn parse_outcome<'a>(at: Cursor<'a>) -> Result<(Outcome, Cursor<'a>), BookError>
     ensures { Gives (λ x. (x.0, ahead x.1)) result (outcome_at (ahead at.entry)) }
@@ -75,7 +75,8 @@ pub fn parse_outcome<'a>(at: Cursor<'a>) -> Result<(Outcome, Cursor<'a>), BookEr
     Ok((outcome, at))
 }
 
-/// The selected line's label and the speedup, after the last block. Err tells the first wrong item.
+/// The selected line's label and the speedup, after the last block. Err is the first wrong
+/// item.
 #[tactic(auto, unfolding(crate::specs::Reading::selection_at, crate::specs::Reading::bind))]
 pub fn parse_selection<'a>(
     at: Cursor<'a>,
@@ -90,7 +91,7 @@ pub fn parse_selection<'a>(
     Ok(((label, speedup), at))
 }
 
-/// The output's length and digest. Err tells the first wrong item.
+/// The output's length and digest. Err is the first wrong item.
 #[tactic(auto, unfolding(crate::specs::Reading::output_at, crate::specs::Reading::bind))]
 pub fn parse_output<'a>(at: Cursor<'a>) -> Result<((u64, Digest), Cursor<'a>), BookError>
     ensures { Gives (λ x. ((x.0.0, x.0.1.bytes), ahead x.1)) result (output_at (ahead at.entry)) }
@@ -102,7 +103,7 @@ pub fn parse_output<'a>(at: Cursor<'a>) -> Result<((u64, Digest), Cursor<'a>), B
     Ok(((length, digest), at))
 }
 
-/// The digest of the visits. Err tells the first wrong item.
+/// The digest of the visits. Err is the first wrong item.
 #[tactic(auto, unfolding(crate::specs::Reading::visits_at, crate::specs::Reading::bind))]
 pub fn parse_visits<'a>(at: Cursor<'a>) -> Result<(Digest, Cursor<'a>), BookError>
     ensures { Gives (λ x. (x.0.bytes, ahead x.1)) result (visits_at (ahead at.entry)) }

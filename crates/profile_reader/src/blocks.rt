@@ -10,8 +10,7 @@ use crate::block_lines::{
 use crate::cursor::Cursor;
 use crate::fault::BookError;
 use crate::scan::is_done;
-use coz_lists::Items;
-use coz_types::{Label, Summary};
+use coz_types::{Items, Label, Summary};
 use std::alloc::Global;
 
 /// The number of visits of each point. Err is the first wrong item, or out of memory.

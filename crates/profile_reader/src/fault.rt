@@ -11,9 +11,9 @@ pub enum BookField {
     Head,
     /// The version of the format, 1.
     Version,
-    /// How many instructions each run may retire.
+    /// The number of instructions that each run may retire.
     Budget,
-    /// How many progress points there are.
+    /// The number of progress points.
     Points,
     /// `point`, with which the line of a point begins.
     Point,
@@ -27,15 +27,15 @@ pub enum BookField {
     Selected,
     /// The speedup in per cent.
     Speedup,
-    /// How the run ended.
+    /// The ending of a run.
     End,
     /// The moment of the last retirement.
     Time,
     /// The global delay then.
     Delay,
-    /// How many instructions were retired.
+    /// The number of retired instructions.
     Retired,
-    /// How many selected instructions were started.
+    /// The number of starts of the selected line.
     Starts,
     /// `output`, with which the line of the output begins.
     Output,
@@ -45,7 +45,7 @@ pub enum BookField {
     Digest,
     /// `throughput-point`, with which the line of a point's count begins.
     Throughput,
-    /// How often a point was visited.
+    /// The number of visits of a point.
     Delta,
     /// `visits`, with which the line of the visits' digest begins.
     Visits,
@@ -88,9 +88,9 @@ impl BookField {
 /// The first item that isn't right, or the end of the text if one is missing.
 #[derive(Clone, Copy, PartialEq, Eq, Debug)]
 pub struct BookFault {
-    /// What is expected there.
+    /// The kind of item that is expected there.
     pub field: BookField,
-    /// Its first byte, from 0 at the text's start.
+    /// The offset of the item's first byte in the text.
     pub place: u64,
 }
 

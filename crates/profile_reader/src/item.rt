@@ -8,7 +8,7 @@ fn is_cut(byte: u8) -> bool
     byte == b'\t' || byte == b'\n'
 }
 
-/// How many bytes the first item has.
+/// The number of bytes of the first item.
 pub fn item_length(text: &[u8]) -> usize
     requires { 0 < length text.now }
     ensures within { result ≤ length text.now }

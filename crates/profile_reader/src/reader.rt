@@ -14,7 +14,7 @@ use crate::block_lines::parse_head;
 use crate::blocks::{parse_blocks, parse_points};
 use crate::fault::BookError;
 use crate::scan::start;
-use coz_lists::Items;
+use coz_types::Items;
 use profile_book::Profile;
 use std::alloc::Global;
 

@@ -22,7 +22,7 @@ pub const MAX_INPUT: u64 = 0x100_0000;
 pub struct Inputs {
     /// The program's file, of at most `MAX_PROGRAM` bytes.
     pub program: Vec<u8>,
-    /// Its input, of at most `MAX_INPUT` bytes; empty if the request names none.
+    /// The input of the program, of at most `MAX_INPUT` bytes; empty if the request names none.
     pub input: Vec<u8>,
 }
 

@@ -8,7 +8,7 @@ use Rattle.dwarf_lines.specs.Names.{Strings}
 use Rattle.dwarf_lines.specs.Registers.{view}
 use Rattle.dwarf_lines.specs.Reading.{reading}
 use Rattle.failures.specs.Answers.{Gives}
-use Rattle.line_index.proofs.Few.{few_of_table}
+use Rattle.dwarf_lines.proofs.Weights.{few_of_table}
 
 pub few_rows : (strings : Strings) (section : List ℕ) (result : Result LineTable (Failure LineFault)) → Gives view result (reading strings section) → length section ≤ 33554432 → IfOk result (λ table. length table.rows ≤ 33554432)
 few_rows strings section (Ok table) gives short = (few_of_table strings section table gives short).0

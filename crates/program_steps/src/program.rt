@@ -20,9 +20,9 @@ use std::alloc::Global;
 /// A program, its line table and the index of its lines.
 #[derive(Drop)]
 pub struct Program<'f> {
-    /// What is loaded of its file.
+    /// The image of the program's file.
     pub image: Image<'f>,
-    /// Its line table, as it was read.
+    /// The line table of the program, as it was read.
     pub table: LineTable<'f>,
     /// The lines that it has.
     pub index: LineIndex,

@@ -30,7 +30,7 @@ pub fn bytes_of<'r>(word: &'r Option<Word>) -> Option<&'r [u8]>
     }
 }
 
-/// The line that a text names, if there is a text. Err tells that the program has no such line.
+/// The line that a text names, if there is a text. Err says that the program has no such line.
 pub fn line_named<'r>(
     index: &LineIndex,
     line: Option<&'r [u8]>,
@@ -109,7 +109,7 @@ pub fn selected_lines<'r>(
 }
 
 /// The lines that a list names, as they rise and each once, or none if there is no list.
-/// Err tells the first piece that names no line of the program, or that memory ran out.
+/// Err is the first piece that names no line of the program, or that memory ran out.
 pub fn listed_lines<'r>(
     alloc: Global,
     index: &LineIndex,

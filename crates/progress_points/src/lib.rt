@@ -87,7 +87,7 @@ impl Points {
         first_mark(&self.marks, address).map(|mark| PointId(mark.point))
     }
 
-    /// How many points there are.
+    /// The number of points.
     pub fn count(&self) -> u32
         ensures { result ≡ length self.now.lines }
     {

@@ -66,7 +66,7 @@ pub fn marks_of(alloc: Global, index: &LineIndex, lines: &[LineId]) -> Result<Ve
     Ok(marks)
 }
 
-/// How many marks stand below an address.
+/// The number of marks below an address.
 fn place_of(marks: &[Mark], address: Address) -> usize
     requires { IsNonDecreasingBy (λ (mark : Mark). mark.address) marks.now }
     ensures { IsPartitionPoint (λ mark. mark.address < address)

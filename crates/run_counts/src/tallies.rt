@@ -5,16 +5,16 @@ ghost use Rattle.run_counts.specs.Counts.{counts_of, no_counts, place_in, with_o
 use coz_types::{LineId, Tick};
 use std::alloc::{AllocError, Global};
 
-/// What was begun of a line.
+/// The instructions of a line that a run began: their number and their cost.
 #[derive(Clone, Copy, Debug)]
 pub struct Tally {
-    /// How many of its instructions.
+    /// The number of instructions of the line that were begun.
     pub starts: u64,
     /// Their work, in ticks.
     pub cost: Tick,
 }
 
-/// What was begun of each of some lines, and of code that has none of them.
+/// A tally for each line, and one for code without a line.
 #[derive(Drop)]
 pub struct Tallies {
     /// By the position of the line.
@@ -23,11 +23,11 @@ pub struct Tallies {
     pub none: Tick,
     /// All work, in ticks.
     pub all: Tick,
-    /// How many instructions were begun in all.
+    /// The number of instructions that were begun in all.
     pub begun: u64,
 }
 
-/// Nothing was begun of this many lines. Takes 16 bytes for each. Fails only when out of memory.
+/// Nothing was begun of this many lines. Takes 16 bytes for each. Fails only if out of memory.
 pub fn no_tallies(alloc: Global, count: u32) -> Result<Tallies, AllocError>
     ensures { IfOk result (λ tallies. counts_of tallies ≡ no_counts count) }
 {

@@ -27,7 +27,7 @@ use Rattle.run_engine.specs.Visits.{Visits}
 use Rattle.run_engine.specs.Begin.{started_by, keys_at_rest, many, IsIdle, AreIdle}
 use Rattle.run_engine.specs.Ending.{ending_of}
 use Rattle.run_engine.specs.Run.{experiment, has_selected, selected_line, is_selecting, selected_of, ticks_in, IsChoice}
-use Rattle.run_engine.specs.Engine.{events_of, AreWithin, IsStateOf, IsSteady, IsReached, IsFirst, state_of}
+use Rattle.run_engine.specs.Engine.{events_of, AreWithin, IsStateOf, IsSteady, IsEngineOf, IsFirst, state_of}
 use Rattle.run_engine.proofs.Keys.{has_place, without_key_at, rested_at, rested_length, no_keys}
 use Rattle.run_engine.proofs.Many.{many_with}
 use Rattle.run_engine.proofs.Begin.{ticks_few, one_at_most, within_later, within_by}
@@ -176,7 +176,7 @@ woken_idle g keys h due good asleep room turn =
       absent = without_key_at keys h h ∙ rw (eq-eqb h h refl) refl;
     }
 
-module _ (image : ImageParts) (position point : ℕ → Option ℕ) (input : List ℕ) (choice : Choice) (valid : IsChoice choice) (engine : Engine) (r : IsReached (experiment image position point input choice) engine) where
+module _ (image : ImageParts) (position point : ℕ → Option ℕ) (input : List ℕ) (choice : Choice) (valid : IsChoice choice) (engine : Engine) (r : IsEngineOf (experiment image position point input choice) engine) where
   abbrev pub x : Experiment Guest
   x = experiment image position point input choice
 
@@ -237,7 +237,7 @@ module _ (image : ImageParts) (position point : ℕ → Option ℕ) (input : Lis
   -- what holds of a run holds after a move
   pub reached_next : (new : Engine) → engine.ending ≡ None → IsStateOf new (move x (state_of engine s.dues)) → length new.schedule ≡ 256 → new.visits.limit ≡ engine.visits.limit
       → (new.ending ≡ None → length new.visits.kept < choice.visit_limit) → new.retired ≡ engine.retired + 1 → new.wakes ≡ engine.wakes → new.starts ≤ events_of new + many new.schedule
-      → ((moment : ℕ) → 10 ^ 16 ≤ moment → AreWithin moment engine.schedule → AreWithin (moment + 4000) new.schedule) → IsReached x new
+      → ((moment : ℕ) → 10 ^ 16 ≤ moment → AreWithin moment engine.schedule → AreWithin (moment + 4000) new.schedule) → IsEngineOf x new
   reached_next new none moved room limit unfull next same few within = record {
     reached = moved_state new moved (omega (arith, next, same));
     room = room;
@@ -252,7 +252,7 @@ module _ (image : ImageParts) (position point : ℕ → Option ℕ) (input : Lis
 
   -- and after a wake
   pub reached_woken : (new : Engine) → engine.ending ≡ None → IsStateOf new (move x (state_of engine s.dues)) → length new.schedule ≡ 256 → new.visits ≡ engine.visits → new.retired ≡ engine.retired → new.wakes ≡ engine.wakes + 1
-      → new.starts ≤ events_of new + many new.schedule → ((moment : ℕ) → AreWithin moment engine.schedule → AreWithin (moment + 4000) new.schedule) → IsReached x new
+      → new.starts ≤ events_of new + many new.schedule → ((moment : ℕ) → AreWithin moment engine.schedule → AreWithin (moment + 4000) new.schedule) → IsEngineOf x new
   reached_woken new none moved room visits same next few within = record {
     reached = moved_state new moved (omega (arith, next, same));
     room = room;

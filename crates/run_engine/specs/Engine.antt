@@ -59,8 +59,9 @@ pub record IsSteady (engine : Engine) : Type 0 where
   pub wakes : engine.wakes ≤ 2 ^ 60
   pub few : engine.starts ≤ events_of engine + many engine.schedule
 
--- the fields hold the state after as many moves as instructions were retired and harts woken
-pub record IsReached (x : Experiment Guest) (engine : Engine) : Type 0 where
+-- the engine of a run of x: its fields hold the state after as many moves as instructions were
+-- retired and harts woken
+pub record IsEngineOf (x : Experiment Guest) (engine : Engine) : Type 0 where
   pub reached : IsStateOf engine (shortened x (events_of engine))
   pub room : length engine.schedule ≡ HARTS
   pub limit : engine.visits.limit ≡ x.visit_limit
@@ -73,7 +74,7 @@ pub record IsReached (x : Experiment Guest) (engine : Engine) : Type 0 where
 -- as it begins the run of an image on an input
 pub record IsFirst (setting : Setting) (image : ImageParts) (input : List ℕ)
     (engine : Engine) : Type 0 where
-  pub reached : IsReached (experiment_of_setting setting
+  pub reached : IsEngineOf (experiment_of_setting setting
       (first_guest image input setting.choice.output_limit setting.choice.layout)) engine
   pub retired : engine.retired ≡ 0
   pub wakes : engine.wakes ≡ 0

@@ -11,7 +11,7 @@ use guest_memory::Layout;
 use line_index::LineIndex;
 use progress_points::Points;
 
-/// What is chosen for a run.
+/// The options of a run.
 #[derive(Clone, Copy, Debug)]
 pub struct Choice {
     /// The line whose instructions are to cost less.
@@ -32,7 +32,7 @@ pub struct Choice {
 pub const MAX_RUN_OUTPUT: u64 = 0x40_0000;
 
 impl Choice {
-    /// What is chosen for a run of a command: a line or none, its speedup in percent and a budget
+    /// The options of a run of a command: a line or none, its speedup in percent and a budget
     /// in instructions, with the usual limits: 4 MiB of output, `MAX_VISITS` visits, and the
     /// sizes of `Layout::usual`.
     pub fn usual(selected: Option<LineId>, speedup: u8, budget: u64) -> Choice
@@ -54,20 +54,20 @@ impl Choice {
     }
 }
 
-/// What a run reads beside its image and its input, and what is chosen for it.
+/// The line index, the progress points and the options of a run.
 #[derive(Clone, Copy)]
 pub struct Setting<'a> {
     /// The lines of the program.
     pub index: &'a LineIndex,
     /// The progress points.
     pub points: &'a Points,
-    /// What is chosen.
+    /// The options.
     pub choice: Choice,
 }
 
 impl<'a> Setting<'a> {
     /// Whether the address has the selected line. If none is selected, the index is not asked.
-    #[inline]
+    #[inline(always)]
     pub fn has_selected(&self, address: Address) -> bool
         ensures { result ≡ is_selecting self.now address }
     {

@@ -48,22 +48,22 @@ pub struct Engine<'a> {
     pub visits: Visits,
     /// The net time of the last retirement; 0 before the first.
     pub time: Tick,
-    /// How many instructions were retired.
+    /// The number of retired instructions.
     pub retired: u64,
-    /// How often a sleeping hart woke.
+    /// The number of wakes of sleeping harts.
     pub wakes: u64,
-    /// How many instructions of the selected line were begun.
+    /// The number of instructions of the selected line that were begun.
     pub starts: u64,
-    /// How the run ended; None while it goes on.
+    /// The ending of the run; None while it goes on.
     pub ending: Option<Ending>,
 }
 
-/// A hart that has retired an instruction, and what became of it.
+/// A hart that has retired an instruction, and its fate.
 #[derive(Clone, Copy, Debug)]
 pub struct Retired {
     /// The hart that retired.
     pub hart: HartId,
-    /// What became of it.
+    /// The fate of the hart.
     pub fate: Fate,
 }
 
@@ -76,12 +76,12 @@ pub struct Turn {
     pub due: Tick,
 }
 
-/// What the hart that was due first has done.
+/// An event: the move of the hart that was due first.
 #[derive(Clone, Copy, Debug)]
 pub enum Event {
-    /// It slept, and runs from its moment on.
+    /// A hart slept, and runs from its due moment on.
     Woke(Turn),
-    /// It retired an instruction.
+    /// A hart retired an instruction.
     Retired(Retired),
 }
 
@@ -109,7 +109,7 @@ fn first_turn(schedule: &Schedule) -> Turn
     }
 }
 
-/// What becomes of a running hart whose turn it is. The guest knows net time alone.
+/// Retires the instruction of a running hart whose turn it is. The guest knows net time alone.
 #[inline(always)]
 fn retire_due(guest: &mut Guest, turn: Turn, started: &mut HartList) -> Fate
     requires running { IsTrue (is_running guest.old turn.hart.0) }
@@ -149,7 +149,7 @@ fn reschedule_ended(schedule: &mut Schedule, hart: HartId, fate: Fate)
 }
 
 /// Keeps the visit of the point at an address, if there is one.
-#[inline]
+#[inline(always)]
 fn keep_visit(
     setting: &Setting,
     visits: &mut Visits,
@@ -190,7 +190,7 @@ fn runs_any(schedule: &Schedule) -> bool
     schedule.least().is_some()
 }
 
-/// How a run ends with a retirement: as the hart's fate says, or as the output or the visits
+/// The ending of a run with a retirement: as the hart's fate says, or as the output or the visits
 /// are full, no hart runs or the budget is spent.
 #[inline(never)]
 fn ending_after(
@@ -250,7 +250,7 @@ impl<'a> Engine<'a> {
         })
     }
 
-    /// One move: the hart that is due first wakes if it sleeps, and else retires.
+    /// Makes one move: the hart that is due first wakes if it sleeps, and otherwise retires.
     #[inline(always)]
     pub fn advance(&mut self, setting: &Setting, delay: Tick) -> Event
         requires steady { IsSteady self.old }
@@ -267,7 +267,7 @@ impl<'a> Engine<'a> {
         }
     }
 
-    /// A sleeping hart whose turn it is wakes, and its next instruction begins.
+    /// Wakes a sleeping hart whose turn it is, and begins its next instruction.
     #[inline(never)]
     fn wake(&mut self, setting: &Setting, turn: Turn)
         requires steady { IsSteady self.old }
@@ -292,8 +292,9 @@ impl<'a> Engine<'a> {
         self.starts += begun;
     }
 
-    /// A running hart whose turn it is retires, and if the run goes on the harts that this
-    /// started begin. A visit is kept with the delay that is given, at a time that is later by it.
+    /// Retires the instruction of a running hart whose turn it is. If the run goes on, the harts
+    /// that this started begin. A visit is kept with the delay that is given, at a time that is
+    /// later by it.
     #[inline(always)]
     fn retire(&mut self, setting: &Setting, turn: Turn, delay: Tick) -> Retired
         requires steady { IsSteady self.old }
@@ -326,8 +327,9 @@ impl<'a> Engine<'a> {
         }
     }
 
-    /// After a retirement of this fate the run ends, or what was started begins. A hart that goes
-    /// on has a way of its own, on which no fate is handed on.
+    /// Ends the run after a retirement of this fate, or begins the next instructions of the harts
+    /// that the retirement started. A hart that goes on is the common case: its call has a
+    /// constant fate, so the tests of the fate are removed.
     #[inline(always)]
     fn complete(&mut self, setting: &Setting, hart: HartId, fate: Fate)
         requires { CanComplete setting.now self.old hart.0 fate }
@@ -348,7 +350,7 @@ impl<'a> Engine<'a> {
         self.end_or_begin(setting, hart, fate);
     }
 
-    /// The run ends with a retirement of this fate, or what was started begins.
+    /// Ends the run with a retirement of this fate, or begins the harts that it started.
     #[inline(always)]
     fn end_or_begin(&mut self, setting: &Setting, hart: HartId, fate: Fate)
         requires { CanComplete setting.now self.old hart.0 fate }
@@ -424,7 +426,7 @@ impl<'a> Engine<'a> {
         self.started.harts()
     }
 
-    /// How the run has ended, if it has.
+    /// The ending of the run, if it has ended.
     pub fn ending(&self) -> Option<Ending>
         ensures { result ≡ self.now.ending }
     {
@@ -438,14 +440,14 @@ impl<'a> Engine<'a> {
         self.time
     }
 
-    /// How many instructions were retired.
+    /// The number of retired instructions.
     pub fn retired(&self) -> u64
         ensures { result ≡ self.now.retired }
     {
         self.retired
     }
 
-    /// How many selected instructions were begun.
+    /// The number of selected instructions that were begun.
     pub fn starts(&self) -> u64
         ensures { result ≡ self.now.starts }
     {
@@ -461,7 +463,7 @@ impl<'a> Engine<'a> {
         self.visits.all()
     }
 
-    /// What was written so far, at most 67,108,864 bytes.
+    /// The output so far, at most 67,108,864 bytes.
     pub fn output(&self) -> &[u8]
         ensures bytes { result.now ≡ self.now.guest.output }
         ensures few { length result.now ≤ MAX_OUTPUT }
@@ -489,7 +491,7 @@ impl<'a> Engine<'a> {
         }
     }
 
-    /// How the run ends with a retirement of this fate, if it does.
+    /// The ending of the run with a retirement of this fate, if it ends.
     #[inline(never)]
     fn ending_after(&self, choice: &Choice, fate: Fate) -> Option<Ending>
         ensures { result ≡ ending_of fate
@@ -521,7 +523,7 @@ impl<'a> Engine<'a> {
         }
     }
 
-    /// The harts that a retirement of this fate started begin at its moment.
+    /// Begins the harts that a retirement of this fate started, at its moment.
     #[inline(always)]
     fn begin_started(&mut self, setting: &Setting, hart: HartId, fate: Fate)
         requires idle { AreIdle self.old.guest

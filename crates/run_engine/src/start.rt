@@ -16,7 +16,7 @@ use guest_calls::{Fate, Guest};
 use guest_futex::HartList;
 use hart_schedule::Schedule;
 
-/// How many ticks a hart's next instruction takes, and whether it has the selected line.
+/// The ticks of a hart's next instruction, and whether it has the selected line.
 #[derive(Clone, Copy, Drop)]
 struct Cost {
     ticks: Tick,
@@ -57,7 +57,7 @@ pub fn add_if(selected: bool, harts: &mut HartList, hart: HartId)
     }
 }
 
-/// A hart's next instruction begins at a moment. If it has the selected line, the hart is appended
+/// Begins a hart's next instruction at a moment. If it has the selected line, the hart is appended
 /// to the selected ones.
 #[inline(never)]
 pub fn begin(
@@ -82,8 +82,8 @@ pub fn begin(
     schedule.put(hart, moment + cost.ticks);
 }
 
-/// The next instruction of the hart that retired or woke begins at a moment:
-/// the hart gets another place in the schedule.
+/// Begins the next instruction of the hart that retired or woke, at a moment:
+/// the hart gets another key in the schedule.
 #[inline(always)]
 pub fn begin_next(
     setting: &Setting,
@@ -107,7 +107,7 @@ pub fn begin_next(
     schedule.rekey(hart, moment + cost.ticks);
 }
 
-/// The next instruction of the hart that retired begins at that moment, if the hart goes on.
+/// Begins the next instruction of the hart that retired, at that moment, if the hart goes on.
 #[inline(always)]
 pub fn begin_again(
     setting: &Setting,

@@ -1,9 +1,8 @@
 //! Tests of `shortened_run`.
 ghost use Rattle.std.specs.Prelude.{◌≤◌, ◌<◌, length};
 
-use coz_lists::Items;
 use coz_types::{
-    Account, Area, Ending, HartId, Image, LineId, Outcome, PointId, Rights, Tick, Visit,
+    Account, Area, Ending, HartId, Image, Items, LineId, Outcome, PointId, Rights, Tick, Visit,
 };
 use dwarf_lines::{FileName, LineTable, Row};
 use guest_memory::Layout;

@@ -112,7 +112,7 @@ fn remuw(left: u32, word: u32) -> u32
     if word == 0 { left } else { left % word }
 }
 
-/// What an operation on two registers puts into a register.
+/// The result of an operation on two registers.
 #[inline]
 pub fn register(op: RegOp, left: u64, right: u64) -> u64
     ensures { result ≡ register_result op left right }
@@ -154,7 +154,7 @@ pub fn register(op: RegOp, left: u64, right: u64) -> u64
     }
 }
 
-/// What an operation on a register and an immediate, whose sign is extended, puts into a register.
+/// The result of an operation on a register and an immediate, whose sign is extended.
 #[inline]
 pub fn immediate(op: ImmOp, left: u64, value: i32) -> u64
     ensures { result ≡ immediate_result op left value }
@@ -171,7 +171,7 @@ pub fn immediate(op: ImmOp, left: u64, value: i32) -> u64
     }
 }
 
-/// What a shift by an immediate amount puts into a register. The amount is below 64,
+/// The result of a shift by an immediate amount. The amount is below 64,
 /// and below 32 for a shift of words.
 #[inline]
 pub fn shift(op: ShiftOp, left: u64, amount: u8) -> u64
@@ -203,7 +203,7 @@ pub fn taken(op: BranchOp, left: u64, right: u64) -> bool
     }
 }
 
-/// What an atomic operation on 8 bytes stores.
+/// The 8 bytes that an atomic operation stores.
 #[inline]
 fn wide_atomic(op: AtomicOp, old: u64, right: u64) -> u64
     requires { IsTrue (is_amo op) }
@@ -223,7 +223,7 @@ fn wide_atomic(op: AtomicOp, old: u64, right: u64) -> u64
     }
 }
 
-/// What an atomic operation on 4 bytes stores.
+/// The 4 bytes that an atomic operation stores.
 #[inline]
 fn word_atomic(op: AtomicOp, old: u32, word: u32) -> u32
     requires { IsTrue (is_amo op) }
@@ -243,7 +243,7 @@ fn word_atomic(op: AtomicOp, old: u32, word: u32) -> u32
     }
 }
 
-/// What an atomic operation, neither `lr` nor `sc`, stores: of the old value in memory
+/// The value that an atomic operation, neither `lr` nor `sc`, stores: of the old value in memory
 /// and that of a register, of 64 bits if it is `wide`, else of their low 32.
 #[inline]
 pub fn atomic(op: AtomicOp, wide: bool, old: u64, right: u64) -> u64

@@ -61,7 +61,7 @@ fn target(state: &State, label: NameUse) -> Result<u64, TokenError>
     }
 }
 
-/// How far a label is from a branch.
+/// The distance of a label from a branch, in bytes.
 fn branch_offset(state: &State, label: NameUse, from: u64) -> Result<i32, TokenError>
     requires { from < 2 ^ 34 }
     ensures value { GivesLine (λ far. far) result
@@ -77,7 +77,7 @@ fn branch_offset(state: &State, label: NameUse, from: u64) -> Result<i32, TokenE
     }
 }
 
-/// How far a label is from a jump.
+/// The distance of a label from a jump, in bytes.
 fn jump_offset(state: &State, label: NameUse, from: u64) -> Result<i32, TokenError>
     requires { from < 2 ^ 34 }
     ensures value { GivesLine (λ far. far) result
@@ -135,8 +135,8 @@ fn far_upper(rd: u8, far: i128) -> Instr
     }
 }
 
-/// The second of the two instructions that put an address `far` bytes away into a register: its low
-/// 12 bits.
+/// The second of the two instructions that put an address `far` bytes away into a register: its
+/// low 12 bits.
 fn far_lower(rd: u8, far: i128) -> Instr
     requires { rd < 32 }
     ensures value { result ≡ instr.Imm Addi rd rd (lower far) }
@@ -261,7 +261,7 @@ pub fn fill(alloc: Global, state: &State) -> Result<Filled, AsmError>
     Ok(parts)
 }
 
-/// Where the program begins.
+/// The address at which the program begins.
 pub fn entry(state: &State) -> u64
     ensures { result ≡ entry (state_of state.now) }
 {

@@ -25,7 +25,7 @@ use rv_decode::{
 };
 use std::alloc::{AllocError, Global};
 
-/// This statement, if nothing is left.
+/// The statement, if nothing is left.
 fn whole<'s>(operands: Operands<'_, 's>, what: Statement<'s>) -> Result<Statement<'s>, TokenError>
     ensures value { GivesLine statement_of result
         (whole operands.entry.end (statement_of what.entry) (tokens_left operands.entry)) }
@@ -35,7 +35,7 @@ fn whole<'s>(operands: Operands<'_, 's>, what: Statement<'s>) -> Result<Statemen
     Ok(what)
 }
 
-/// This one piece, if nothing is left.
+/// The statement that puts one piece, if nothing is left.
 fn puts<'s>(
     alloc: Global,
     operands: Operands<'_, 's>,
@@ -49,7 +49,7 @@ fn puts<'s>(
     whole(operands, Statement::Puts(pieces))
 }
 
-/// This one instruction, if nothing is left.
+/// The statement that puts one instruction, if nothing is left.
 fn one<'s>(
     alloc: Global,
     operands: Operands<'_, 's>,

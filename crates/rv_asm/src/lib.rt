@@ -16,7 +16,7 @@ ghost use Rattle.failures.specs.Answers.{Gives};
 use crate::fill::{entry, fill};
 use crate::lines::take_lines;
 pub use asm_tokens::AsmKind;
-use coz_lists::Items;
+use coz_types::Items;
 use failures::Failure;
 use std::alloc::Global;
 
@@ -27,7 +27,7 @@ pub const TEXT_START: u64 = 0x1_0000;
 /// both counted from 1.
 #[derive(Clone, Copy, Debug, PartialEq, Eq)]
 pub struct AsmFault {
-    /// What is wrong.
+    /// The kind of the fault.
     pub kind: AsmKind,
     /// The line.
     pub line: u32,
@@ -38,7 +38,7 @@ pub struct AsmFault {
 /// Why a source isn't assembled.
 pub type AsmError = Failure<AsmFault>;
 
-/// What a source is assembled to.
+/// An assembled source.
 #[derive(Drop)]
 pub struct Assembled {
     /// The bytes of the instructions, four for each.

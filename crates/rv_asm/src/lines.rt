@@ -194,7 +194,7 @@ fn take_line<'s>(
     take_tokens(alloc, number, line.len() as u32 + 1, &found, state)
 }
 
-/// How many bytes a line has that begins these.
+/// The number of bytes of the first line.
 fn line_length(bytes: &[u8]) -> usize
     ensures length { result ≡ prefix_len (λ b. not (b == byte "\n")) bytes.now }
     ensures within { result ≤ length bytes.now }

@@ -95,7 +95,7 @@ impl<'t, 's> Operands<'t, 's> {
         }
     }
 
-    /// This mark.
+    /// Reads this mark.
     pub fn mark(&mut self, wanted: u8) -> Result<(), TokenError>
         ensures { Passes result self.old self.new
             (mark self.old.end wanted (tokens_left self.old)) }

@@ -8,7 +8,7 @@ use crate::operands::NameUse;
 use asm_tokens::{Register, Section};
 use rv_decode::BranchOp;
 
-/// What a statement puts into its section.
+/// The bytes that a statement puts into its section.
 #[derive(Drop)]
 pub enum Piece<'s> {
     /// The word of an instruction.
@@ -32,13 +32,13 @@ pub enum Piece<'s> {
     },
     /// A label's address of eight bytes.
     Address(NameUse<'s>),
-    /// These bytes.
+    /// Bytes.
     Bytes(Vec<u8>),
-    /// This number of zeros.
+    /// A number of zeros.
     Zeros(u32),
 }
 
-/// What a statement does.
+/// A statement of a source.
 #[derive(Drop)]
 pub enum Statement<'s> {
     /// Puts these pieces one after the other.

@@ -19,7 +19,7 @@ pub const MAX_SECTION: u32 = 1_048_576;
 pub struct Location {
     /// The section.
     pub section: Section,
-    /// How many bytes of it stand before.
+    /// The offset in the section.
     pub offset: u32,
 }
 
@@ -28,28 +28,28 @@ pub struct Location {
 pub struct Put<'s> {
     /// The line, counted from 1.
     pub line: u32,
-    /// Where it is put.
+    /// The location of the piece.
     pub location: Location,
-    /// What is put.
+    /// The piece.
     pub piece: Piece<'s>,
 }
 
 /// The labels, the section and how long each one is, and the pieces in the order of the source.
 #[derive(Drop)]
 pub struct State<'s> {
-    /// Where each label stands.
+    /// The location of each label.
     pub labels: BTreeMap<&'s [u8], Location>,
     /// The section that the next piece goes into.
     pub section: Section,
-    /// How many bytes `.text` has so far.
+    /// The number of bytes of `.text` so far.
     pub text: u32,
-    /// How many bytes `.data` has so far.
+    /// The number of bytes of `.data` so far.
     pub content: u32,
     /// The pieces so far.
     pub puts: Vec<Put<'s>>,
 }
 
-/// How many bytes a piece has.
+/// The number of bytes of a piece.
 pub fn size(piece: &Piece) -> usize
     ensures { result ≡ size (piece_of piece.now) }
 {
@@ -158,7 +158,7 @@ impl<'s> State<'s> {
         Ok(())
     }
 
-    /// What a statement does.
+    /// Performs a statement.
     /// Err if its section may not have it or would be too long, or if it is out of memory.
     pub fn perform(&mut self, line: u32, column: u32, what: Statement<'s>) -> Result<(), TokenError>
         requires { AlignsWithin what }

@@ -38,9 +38,9 @@ pub enum UpperOp {
 /// The test of a branch.
 #[derive(Clone, Copy, Debug, PartialEq, Eq)]
 pub enum BranchOp {
-    /// Both are equal.
+    /// The registers are equal.
     Beq,
-    /// They differ.
+    /// The registers differ.
     Bne,
     /// The first is less, with signs.
     Blt,

@@ -13,15 +13,15 @@ use coz_types::{Address, HartId, TrapCause};
 use guest_memory::{Access, Memory};
 use rv_decode::AtomicOp;
 
-/// What an atomic instruction accesses: 8 bytes or 4 at an address, with the value
+/// The access of an atomic instruction: 8 bytes or 4 at an address, with the value
 /// of its other register.
 #[derive(Clone, Copy)]
 pub struct Target {
-    /// It has 8 bytes.
+    /// Whether the access has 8 bytes, and not 4.
     pub wide: bool,
     /// The register that gets the old value.
     pub rd: u8,
-    /// Where the bytes stand.
+    /// The address of the bytes.
     pub address: Address,
     /// The value of the other register.
     pub value: u64,
@@ -35,7 +35,7 @@ fn size_of(wide: bool) -> u8
     if wide { 8 } else { 4 }
 }
 
-/// What the load of a number puts into a register.
+/// The value that a register gets of a loaded number.
 #[inline]
 fn load_value(wide: bool, number: u64) -> u64
     ensures { result ≡ atomic_load_value wide number }

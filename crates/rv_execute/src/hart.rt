@@ -13,7 +13,7 @@ pub struct HartState {
     pub pc: Address,
 }
 
-/// What follows an instruction.
+/// The step after an instruction.
 #[derive(Clone, Copy, Debug, PartialEq, Eq)]
 pub enum Step {
     /// The hart's next instruction.
@@ -33,7 +33,7 @@ pub fn address_at(base: Address, offset: i32) -> Address
 }
 
 impl HartState {
-    /// What a register reads as.
+    /// The value of a register; 0 of x0.
     #[inline]
     pub(crate) fn value(&self, r: u8) -> u64
         requires { r < 32 }

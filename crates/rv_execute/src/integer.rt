@@ -8,7 +8,7 @@ use crate::hart::{HartState, Step, address_at};
 use coz_types::Address;
 use rv_decode::{BranchOp, ImmOp, RegOp, ShiftOp, UpperOp};
 
-/// What `lui` and `auipc` put into a register.
+/// The result of `lui` and `auipc`.
 #[inline]
 fn upper_result(op: UpperOp, value: u32, pc: Address) -> u64
     requires { value < 2 ^ 20 }

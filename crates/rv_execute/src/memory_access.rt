@@ -44,7 +44,7 @@ pub fn low_word_extended(number: u64) -> u64
     i64::from(((number % 0x1_0000_0000) as u32).cast_signed()).cast_unsigned()
 }
 
-/// What a load of a number puts into a register.
+/// The value that a register gets of a loaded number.
 #[inline]
 fn load_value(op: LoadOp, number: u64) -> u64
     ensures { result ≡ load_value op number }

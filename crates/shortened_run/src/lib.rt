@@ -74,7 +74,8 @@ impl<'a> Short<'a> {
         })
     }
 
-    /// Runs to the end, and returns the ending. A further run changes nothing and returns the same.
+    /// Runs to the end, and returns the ending. A further run changes nothing and returns the
+    /// same.
     pub fn run(&mut self) -> Ending
         ensures ended { self.new.state.ending ≡ Some result }
         ensures record { let x = experiment_of self.old in
@@ -99,14 +100,14 @@ impl<'a> Short<'a> {
         self.engine.time()
     }
 
-    /// How many instructions were retired.
+    /// The number of retired instructions.
     pub fn retired(&self) -> u64
         ensures { result ≡ self.now.state.retired }
     {
         self.engine.retired()
     }
 
-    /// How many instructions of the selected line were begun.
+    /// The number of instructions of the selected line that were begun.
     pub fn starts(&self) -> u64
         ensures { result ≡ self.now.state.starts }
     {
@@ -123,7 +124,7 @@ impl<'a> Short<'a> {
         self.engine.visits()
     }
 
-    /// What was written, at most 67,108,864 bytes.
+    /// The output, at most 67,108,864 bytes.
     pub fn output(&self) -> &[u8]
         ensures bytes { result.now ≡ self.now.state.guest.output }
         ensures few { length result.now ≤ MAX_OUTPUT }

@@ -1,7 +1,7 @@
 //! Tests of `image_write`.
 ghost use Rattle.image_write.specs.File.{IsVersion};
 
-use coz_lists::Items;
+use coz_types::Items;
 use image_write::write_elf;
 use rv_asm::{Assembled, assemble};
 use std::alloc::{AllocError, Global};

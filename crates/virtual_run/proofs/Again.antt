@@ -17,7 +17,7 @@ use Rattle.run_engine.specs.declared.choice.Setting.{Setting}
 use Rattle.run_engine.specs.declared.engine.Engine.{Engine}
 use Rattle.run_engine.specs.Begin.{many}
 use Rattle.run_engine.specs.Run.{IsChoice, is_selecting, selected_of}
-use Rattle.run_engine.specs.Engine.{events_of, IsReached, state_of}
+use Rattle.run_engine.specs.Engine.{events_of, IsEngineOf, state_of}
 use Rattle.virtual_run.specs.Credited.{Holds}
 use Rattle.run_engine.specs.Seen.{experiment_of_image}
 use Rattle.virtual_run.specs.DelayedRun.{IsPaced}
@@ -135,7 +135,7 @@ module _ (image : ImageParts) (input : List ℕ) (setting : Setting) (engine : E
       some_many engine.schedule 0 (0 + cost x x.first 0 - 0)
       (p.reached.reached.dues 0 ∙ ap (λ (n : ℕ). get_or (shortened x n).dues 0 None) zeroth ∙ ap (λ (ds : List (Option ℕ)). get_or ds 0 None) due_first)
 
-  reached_new : IsReached y new_engine
+  reached_new : IsEngineOf y new_engine
   reached_new = record {
     reached = record { state = state_new; dues = λ k. p.reached.reached.dues k ∙ ap (λ (ds : List (Option ℕ)). get_or ds k None) dues_same };
     room = p.reached.room;

@@ -48,7 +48,7 @@ use Rattle.run_engine.specs.Begin.{started_by, keys_at_rest, many, AreIdle}
 use Rattle.run_engine.specs.Ending.{ending_of}
 use Rattle.run_engine.specs.Visits.{Visits, visits_of}
 use Rattle.run_engine.specs.Run.{IsChoice}
-use Rattle.run_engine.specs.Engine.{events_of, IsReached, IsSteady, IsFirst}
+use Rattle.run_engine.specs.Engine.{events_of, IsEngineOf, IsSteady, IsFirst}
 use Rattle.run_engine.specs.Advance.{IsRetired, IsWoken, IsAdvance}
 use Rattle.virtual_run.specs.Credited.{raise_ticks, with_credits, with_starts, with_raises, with_rest, with_begun, credits_after, moment_of, credited_by, Runs, AllRun, AllBelow, Holds, CanBegin, CanWake, CanAccountRetirement, CanAccount}
 use Rattle.virtual_run.specs.Credited as credited
@@ -250,7 +250,7 @@ module _ (image : ImageParts) (input : List ℕ) (setting : Setting) (engine : E
         ap (λ (g : Guest). is_timed x.guest g k) short_guest
         ∙ others_idle engine.guest h new.time turned.orderly a.running k (ap (λ (r : Retirement Guest). is_among k r.others) (sym a.retires) ∙ among)
 
-    pub reached_new : IsReached x new
+    pub reached_new : IsEngineOf x new
     reached_new = reached_next image (position_at setting.index.now) (point_of setting.points.now) input setting.choice p.valid engine p.reached new goes (a.moved (first_guest image input setting.choice.output_limit setting.choice.layout) s.dues p.reached.reached.dues) a.room (ap (λ (v : Visits). v.limit) a.visits) a.unfull a.retired a.wakes a.few a.within
 
     next_count : events_of new ≡ suc (events_of engine)
@@ -427,7 +427,7 @@ module _ (image : ImageParts) (input : List ℕ) (setting : Setting) (engine : E
     still_goes : new.ending ≡ None
     still_goes = ap (λ (o : Engine). o.ending) a.rest ∙ goes
 
-    reached_wake : IsReached x new
+    reached_wake : IsEngineOf x new
     reached_wake =
         reached_woken image (position_at setting.index.now) (point_of setting.points.now) input setting.choice p.valid engine p.reached new goes
         (a.moved (first_guest image input setting.choice.output_limit setting.choice.layout) s.dues p.reached.reached.dues) a.room same_visits same_retired a.wakes a.few a.within

@@ -25,7 +25,7 @@ use Rattle.run_engine.specs.declared.choice.Setting.{Setting}
 use Rattle.run_engine.specs.declared.engine.Engine.{Engine}
 use Rattle.run_engine.specs.Begin.{many}
 use Rattle.run_engine.specs.Run.{IsChoice}
-use Rattle.run_engine.specs.Engine.{events_of, IsReached, IsSteady}
+use Rattle.run_engine.specs.Engine.{events_of, IsEngineOf, IsSteady}
 use Rattle.virtual_run.specs.Credited.{raise_ticks, with_one_raise, with_raises, Holds, AllRun, AllMade}
 use Rattle.run_engine.specs.Seen.{experiment_of_image}
 use Rattle.virtual_run.specs.DelayedRun.{IsPaced}
@@ -218,7 +218,7 @@ module _ (image : ImageParts) (input : List ℕ) (setting : Setting) (engine : E
     within_new k u None m most is each = absurd (let no : ◌≡◌ {A = Option ℕ} None (Some u) = is in cc)
     within_new k u (Some v) m most is each = let same : v - m ≡ u = cc in let below : v ≤ most = each v refl in omega arith
 
-    reached_new : (keys : Keys) → keys ≡ with_sooner ticks engine.selected engine.schedule → IsReached fast (new_engine keys)
+    reached_new : (keys : Keys) → keys ≡ with_sooner ticks engine.selected engine.schedule → IsEngineOf fast (new_engine keys)
     reached_new keys is = record {
       reached = record {
         state = rest_forked x IsOrderly q n slow_law none

@@ -21,7 +21,7 @@ use Rattle.run_engine.specs.declared.engine.Event.{Event}
 use Rattle.run_engine.specs.declared.engine.Event.TheVariants.{Woke, Retired}
 use Rattle.run_engine.specs.declared.engine.Engine.{Engine}
 use Rattle.run_engine.specs.Run.{IsChoice}
-use Rattle.run_engine.specs.Engine.{events_of, IsReached}
+use Rattle.run_engine.specs.Engine.{events_of, IsEngineOf}
 use Rattle.run_engine.specs.Seen.{experiment_of_image}
 use Rattle.virtual_run.specs.Credited.{Holds}
 
@@ -89,7 +89,7 @@ EndsOnce x = (r : Record) × IsDelayed x r × ((other : Record) → IsDelayed x 
 pub record IsPaced (image : ImageParts) (input : List ℕ) (setting : Setting) (engine : Engine)
     (credits : Delays) (now : ℕ) : Type 0 where
   pub valid : IsChoice setting.choice
-  pub reached : IsReached (experiment_of_image image input setting) engine
+  pub reached : IsEngineOf (experiment_of_image image input setting) engine
   pub holds : Holds credits (standing (experiment_of_image image input setting) (events_of engine))
   pub room : length credits.harts ≡ HARTS
   pub visits : map visit_as engine.visits.kept

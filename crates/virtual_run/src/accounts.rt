@@ -28,7 +28,7 @@ fn credit_each(credits: &mut Credits, harts: &[HartId], waker: HartId)
     }
 }
 
-/// A hart that goes on runs from the latest moment on, with no pause.
+/// Starts a hart that goes on at the latest moment, with no pause.
 fn start_again(credits: &mut Credits, hart: HartId, fate: Fate, now: Tick)
     requires below { IsTrue (goes_on fate) → hart.0 < length credits.old.harts }
     requires now { credits.old.latest ≡ now }
@@ -40,7 +40,7 @@ fn start_again(credits: &mut Credits, hart: HartId, fate: Fate, now: Tick)
     }
 }
 
-/// These harts run from the latest moment on, with no pause.
+/// Starts these harts at the latest moment, with no pause.
 fn start_each(credits: &mut Credits, harts: &[HartId], now: Tick)
     requires below { AllBelow credits.old (map (λ hart. hart.0) harts.now) }
     requires now { credits.old.latest ≡ now }
@@ -62,7 +62,7 @@ pub fn raised_by(guest: &Guest, hart: HartId, speedup: u8) -> Tick
     raise(guest.next_cycles(hart), speedup)
 }
 
-/// These harts raise the delay in turn at the latest moment, each by its next instruction.
+/// Raises the delay for each of these harts in turn at the latest moment, by its next instruction.
 #[inline(never)]
 pub fn raise_harts(credits: &mut Credits, guest: &Guest, harts: &[HartId], speedup: u8, now: Tick)
     requires run { AllRun credits.old (map (λ hart. hart.0) harts.now) }
@@ -93,7 +93,7 @@ pub fn raise_selected(credits: &mut Credits, engine: &Engine, speedup: u8, now: 
     raise_harts(credits, &engine.guest, harts, speedup, now);
 }
 
-/// What follows a retirement from which the run goes on: the harts that it made
+/// Accounts for the starts after a retirement from which the run goes on: the harts that it made
 /// or woke are credited, all that it started run, and only then those of them that are selected
 /// raise the delay in turn.
 #[inline(never)]
@@ -125,8 +125,8 @@ fn is_alone(engine: &Engine) -> bool
     engine.ending.is_none() && engine.started.harts().is_empty()
 }
 
-/// A hart that retired goes on, and nothing else begins: it still runs, and raises the delay if it
-/// is selected.
+/// Accounts for a hart that goes on while nothing else begins: it still runs, and raises the delay
+/// if it is selected.
 #[inline(always)]
 fn go_on(credits: &mut Credits, engine: &Engine, hart: HartId, speedup: u8, now: Tick)
     requires alone { IsAlone engine.now.ending Fate.Goes engine.now.started }
@@ -146,8 +146,8 @@ fn go_on(credits: &mut Credits, engine: &Engine, hart: HartId, speedup: u8, now:
     }
 }
 
-/// A hart that retired stops at a moment. A hart that sleeps counts as one that runs, so it starts
-/// again at once.
+/// Stops a hart that retired, at a moment. A hart that sleeps counts as one that runs, so it
+/// starts again at once.
 #[inline(never)]
 fn stop_retired(credits: &mut Credits, hart: HartId, fate: Fate, now: Tick)
     requires below { hart.0 < length credits.old.harts }
@@ -162,7 +162,7 @@ fn stop_retired(credits: &mut Credits, hart: HartId, fate: Fate, now: Tick)
     }
 }
 
-/// What a wake makes of the accounts and pauses: the hart starts again at its moment,
+/// Accounts for a wake: the hart starts again at its moment,
 /// and raises the delay if it is selected.
 #[inline(never)]
 fn wake_up(credits: &mut Credits, engine: &Engine, hart: HartId, speedup: u8, now: Tick)
@@ -179,7 +179,7 @@ fn wake_up(credits: &mut Credits, engine: &Engine, hart: HartId, speedup: u8, no
     raise_selected(credits, engine, speedup, now);
 }
 
-/// What a retirement at a moment and the starts after it make of the accounts and pauses:
+/// Accounts for a retirement at a moment and the starts after it:
 /// the hart stops, and if the run goes on, what it started begins.
 #[inline(never)]
 fn account_retirement(
@@ -207,7 +207,7 @@ fn account_retirement(
     }
 }
 
-/// What a retirement of a hart that goes on makes of the accounts and pauses. It has a shorter way
+/// Accounts for a retirement of a hart that goes on. It takes a shorter way
 /// if nothing else begins, as after most retirements.
 #[inline(always)]
 fn account_plain(credits: &mut Credits, engine: &Engine, hart: HartId, speedup: u8, now: Tick)
@@ -234,7 +234,7 @@ fn account_plain(credits: &mut Credits, engine: &Engine, hart: HartId, speedup: 
     }
 }
 
-/// What an event and the starts after it make of the accounts and pauses, if `raised` ticks were
+/// Accounts for an event and the starts after it, if `raised` ticks were
 /// raised before it. Returns the real moment of the event.
 #[inline(always)]
 pub fn account_event(

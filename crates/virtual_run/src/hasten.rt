@@ -30,7 +30,7 @@ pub fn hasten_selected(engine: &mut Engine, speedup: u8)
     );
 }
 
-/// A hart that is due becomes due `ticks` ticks sooner.
+/// Makes a hart that is due so `ticks` ticks sooner.
 fn hasten(schedule: &mut Schedule, hart: HartId, ticks: Tick)
     ensures { schedule.new ≡ sooner_by (key_of schedule.old hart.0) ticks hart.0 schedule.old }
 {
@@ -39,7 +39,8 @@ fn hasten(schedule: &mut Schedule, hart: HartId, ticks: Tick)
     }
 }
 
-/// Each of these harts is due sooner, by what a speedup in per cent takes off its next instruction.
+/// Each of these harts is due sooner, by what a speedup in per cent takes off its next
+/// instruction.
 fn hasten_each(schedule: &mut Schedule, guest: &Guest, harts: &[HartId], speedup: u8)
     requires made { AllMade guest.now (map (λ hart. hart.0) harts.now) }
     requires speedup { speedup ≤ MAX_SPEEDUP }

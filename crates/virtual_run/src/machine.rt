@@ -153,7 +153,8 @@ impl<'a> Machine<'a> {
         event
     }
 
-    /// Runs to the end, and returns the ending. A further run changes nothing and returns the same.
+    /// Runs to the end, and returns the ending. A further run changes nothing and returns the
+    /// same.
     pub fn run(&mut self) -> Ending
         ensures ended { self.new.state.ending ≡ Some result }
         ensures record { let x = experiment_of self.old in
@@ -186,7 +187,7 @@ impl<'a> Machine<'a> {
         is_unstarted(&self.engine)
     }
 
-    /// How the run has ended, if it has.
+    /// The ending of the run, if it has ended.
     fn ending(&self) -> Option<Ending>
         ensures { result ≡ self.now.state.ending }
     {
@@ -305,7 +306,7 @@ impl<'a> Machine<'a> {
         }
     }
 
-    /// How many harts were made.
+    /// The number of harts that were made.
     pub fn harts(&self) -> u32
         ensures guest { result ≡ length self.now.state.guest.harts }
         ensures accounts { result ≡ length self.now.state.harts }
@@ -314,7 +315,7 @@ impl<'a> Machine<'a> {
         self.engine.guest.harts()
     }
 
-    /// How many instructions were retired. The run stands after as many retirements and wakes
+    /// The number of retired instructions. The run stands after as many retirements and wakes
     /// as it counts, beside the shortened machine.
     pub fn retired(&self) -> u64
         ensures count { result ≡ self.now.state.retired }
@@ -326,7 +327,7 @@ impl<'a> Machine<'a> {
         self.engine.retired
     }
 
-    /// How many instructions of the selected line were begun.
+    /// The number of instructions of the selected line that were begun.
     pub fn starts(&self) -> u64
         ensures { result ≡ self.now.state.starts }
     {
@@ -349,7 +350,7 @@ impl<'a> Machine<'a> {
         self.engine.visits.all()
     }
 
-    /// What was written, at most 67,108,864 bytes.
+    /// The output, at most 67,108,864 bytes.
     pub fn output(&self) -> &[u8]
         ensures bytes { result.now ≡ self.now.state.guest.output }
         ensures few { length result.now ≤ MAX_OUTPUT }
@@ -357,8 +358,8 @@ impl<'a> Machine<'a> {
         self.engine.guest.output()
     }
 
-    /// How the run came out; None before it has ended. Its time and its counts are at most 10^17,
-    /// and a trap is of a hart below `HARTS`.
+    /// The outcome of the run; None before it has ended. Its time and its counts are at most
+    /// 10^17, and a trap is of a hart below `HARTS`.
     pub fn outcome(&self) -> Option<Outcome>
         ensures outcome { result ≡ outcome_of self.now.state }
         ensures small { IfSome result IsSmall }

@@ -12,7 +12,7 @@ ghost use Rattle.work_gen.specs.Text.{generated, view};
 ghost use Rattle.work_gen.specs.Accepted.{IsAccepted};
 
 use crate::text::put_blocks;
-use coz_lists::Items;
+use coz_types::Items;
 use std::alloc::{AllocError, Global};
 
 /// The most bytes of a source's text.
@@ -27,7 +27,7 @@ pub struct Generated {
     pub point: u32,
 }
 
-/// What stands before the blocks: three more harts are started, and all work.
+/// The text before the blocks: three more harts are started, and all work.
 static OPENING: &[u8] = b"    .text
 _start:
     li s0, 3
@@ -47,7 +47,7 @@ work:
     la a5, total
 ";
 
-/// How many lines the opening has.
+/// The number of lines of the opening.
 const OPENING_LINES: u32 = 17;
 
 /// The text after the blocks. Its third line is the progress point, and the last hart ends the

@@ -7,7 +7,7 @@ use Rattle.causal_curves.proofs.writer.put_curve.Goals as goal
 
 pub returns : goal.returns
 returns g c =
-    let point = gathers_as (ap (λ n. codes "curve\tpoint=" ++ decimal n) c.from.ensures) c.put_number.ensures in
+    let point = gathers_as (ap (λ n. codes "curve\tpoint=" ++ decimal n) c.from.ensures) c.put_named.ensures in
     let selected = gathers_as (ap (λ (t : Text). codes "\tselected=" ++ t) c.bytes.ensures) c.put_field.ensures in
     let steps = gathers_as (ap (flat_map step_text) c.as_slice.ensures) c.put_steps.ensures in
     gathers_then (gathers_then (gathers_then (gathers_then point selected) c.put_value.ensures) c.push.ensures.gathers) steps

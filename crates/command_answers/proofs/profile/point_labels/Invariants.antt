@@ -1,6 +1,6 @@
 use Rattle.std.proofs.Common.{◌≡◌, map, take}
-use Rattle.command_answers.specs.Profiled.{label_at}
 use Rattle.command_answers.proofs.profile.point_labels.Given as goal
+use Rattle.line_index.specs.Lines.{label_at}
 
 -- the labels so far are those of the points so far
 abbrev pub invariant-loop-point : goal.invariant-loop-point

@@ -5,13 +5,13 @@ use Rattle.guest_areas.specs.Entry.{stack_pointer, with_entry, with_numbers, ent
 use Rattle.guest_areas.proofs.Lookups.{page_allowed}
 use Rattle.guest_areas.proofs.entry.write_entry.Goals as goal
 
-pub put_bytes-requires : goal.put_bytes-requires
-put_bytes-requires c =
+pub write_bytes-requires : goal.write_bytes-requires
+write_bytes-requires c =
     page_allowed (λ r. r.write) c.args.memory.now c.args.memory.now stack_pointer 144 4 c.requires refl (lit≤ tt)
 
-pub put_numbers-requires-clause-writable : goal.put_numbers-requires-clause-writable
-put_numbers-requires-clause-writable c =
-    ap (λ (m : MemoryMap). (rights_at m stack_pointer).write) c.put_bytes.ensures ∙ c.requires
+pub write_numbers-requires-clause-writable : goal.write_numbers-requires-clause-writable
+write_numbers-requires-clause-writable c =
+    ap (λ (m : MemoryMap). (rights_at m stack_pointer).write) c.write_bytes.ensures ∙ c.requires
 
 -- the numbers with what the image gives
 abbrev numbers_of : ℕ → ℕ → ℕ → List ℕ
@@ -21,8 +21,8 @@ numbers_of headers count entry =
 pub returns : goal.returns
 unfolding with_entry
 returns c =
-    c.put_numbers.ensures
-    ∙ ap (λ (h : ℕ). with_numbers stack_pointer (numbers_of h c.header_count.result c.entry.result) c.put_bytes.new.memory) c.headers.ensures
-    ∙ ap (λ (n : ℕ). with_numbers stack_pointer (numbers_of c.args.image.now.headers n c.entry.result) c.put_bytes.new.memory) c.header_count.ensures
-    ∙ ap (λ (e : ℕ). with_numbers stack_pointer (numbers_of c.args.image.now.headers c.args.image.now.header_count e) c.put_bytes.new.memory) c.entry.ensures.entry
-    ∙ ap (λ (m : MemoryMap). with_numbers stack_pointer (entry_numbers c.args.image.now) m) c.put_bytes.ensures
+    c.write_numbers.ensures
+    ∙ ap (λ (h : ℕ). with_numbers stack_pointer (numbers_of h c.header_count.result c.entry.result) c.write_bytes.new.memory) c.headers.ensures
+    ∙ ap (λ (n : ℕ). with_numbers stack_pointer (numbers_of c.args.image.now.headers n c.entry.result) c.write_bytes.new.memory) c.header_count.ensures
+    ∙ ap (λ (e : ℕ). with_numbers stack_pointer (numbers_of c.args.image.now.headers c.args.image.now.header_count e) c.write_bytes.new.memory) c.entry.ensures.entry
+    ∙ ap (λ (m : MemoryMap). with_numbers stack_pointer (entry_numbers c.args.image.now) m) c.write_bytes.ensures

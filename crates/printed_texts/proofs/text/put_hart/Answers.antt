@@ -5,4 +5,4 @@ use Rattle.printed_texts.proofs.text.put_hart.Goals as goal
 pub returns : goal.returns
 unfolding hart_text
 returns g c =
-    gathers_then (gathers_then (gathers_then c.put_number.ensures c.put_number-2.ensures) c.put_number-3.ensures) c.put_line.ensures
+    gathers_then (gathers_then (gathers_then c.put_named.ensures c.put_named-2.ensures) c.put_named-3.ensures) c.put_line.ensures

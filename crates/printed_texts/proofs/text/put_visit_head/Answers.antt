@@ -3,4 +3,4 @@ use Rattle.printed_texts.proofs.text.put_visit_head.Goals as goal
 
 pub returns : goal.returns
 returns g c =
-    gathers_then c.put_number.ensures c.put_number-2.ensures
+    gathers_then c.put_named.ensures c.put_named-2.ensures

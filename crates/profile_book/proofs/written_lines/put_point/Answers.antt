@@ -5,4 +5,4 @@ use Rattle.profile_book.proofs.written_lines.put_point.Goals as goal
 
 pub returns : goal.returns
 returns g c =
-    gathers_then (gathers_then c.put_number.ensures (gathers_as (ap (λ t. codes "\tname=" ++ t) c.bytes.ensures) c.put_field.ensures)) c.push.ensures.gathers
+    gathers_then (gathers_then c.put_named.ensures (gathers_as (ap (λ t. codes "\tname=" ++ t) c.bytes.ensures) c.put_field.ensures)) c.push.ensures.gathers

@@ -1,12 +1,4 @@
-//! The list of a public struct: a vector that contracts see as the list of its items.
-//!
-//! ```text
-//! let items = Items::new(vec);
-//! items.as_slice();  // the items of the vector
-//! items.into_vec();  // the vector itself
-//! ```
-#![tactic(auto)]
-
+//! The list of a public struct.
 ghost use Rattle.std.specs.Prelude.{◌≡◌, List, length};
 
 use std::marker::Model;
@@ -45,17 +37,10 @@ impl<T> Items<T> {
         &self.held
     }
 
-    /// How many items there are.
+    /// The number of items.
     pub fn len(&self) -> usize
         ensures { result ≡ length self.now }
     {
         self.held.len()
     }
-}
-
-fn is_shared<T: Send + Sync>() {}
-
-// Workers share and send lists of plain numbers.
-fn items_are_shared() {
-    is_shared::<Items<u64>>()
 }

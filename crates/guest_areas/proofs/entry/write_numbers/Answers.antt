@@ -3,10 +3,10 @@ use Rattle.guest_areas.proofs.Lookups.{page_allowed, numbers_more, with_numbers-
 use Rattle.guest_memory.specs.Memory.{MemoryMap}
 use Rattle.guest_areas.specs.Entry.{with_numbers}
 use Rattle.std.proofs.lemmas.List.{drop_all}
-use Rattle.guest_areas.proofs.entry.put_numbers.Goals as goal
+use Rattle.guest_areas.proofs.entry.write_numbers.Goals as goal
 
-pub put_number-requires : goal.put_number-requires
-put_number-requires c =
+pub write_number-requires : goal.write_number-requires
+write_number-requires c =
     page_allowed (λ r. r.write) c.args.memory.now c.loop-i.memory c.args.address (8 * c.loop-i.i) 8 c.requires.writable c.loop-i.invariant.rights (omega arith)
 
 pub loop-i-init : goal.loop-i-init
@@ -17,8 +17,8 @@ loop-i-init c = record {
 
 pub loop-i-preserved : goal.loop-i-preserved
 loop-i-preserved c = record {
-  written = numbers_more c.loop-i.memory c.put_number.new.memory c.args.address c.loop-i.i c.args.numbers.now c.loop-i-test.true c.put_number.ensures ∙ c.loop-i.invariant.written;
-  rights = ap (λ (m : MemoryMap). m.rights) c.put_number.ensures
+  written = numbers_more c.loop-i.memory c.write_number.new.memory c.args.address c.loop-i.i c.args.numbers.now c.loop-i-test.true c.write_number.ensures ∙ c.loop-i.invariant.written;
+  rights = ap (λ (m : MemoryMap). m.rights) c.write_number.ensures
       ∙ rights-with_number c.loop-i.memory (c.args.address + 8 * c.loop-i.i) 8 (get_or c.args.numbers.now c.loop-i.i 0) ∙ c.loop-i.invariant.rights;
 }
 

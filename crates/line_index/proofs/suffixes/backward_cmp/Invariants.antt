@@ -1,13 +1,11 @@
 use Rattle.std.proofs.Common.{◌≡◌, length, reverse}
 use Rattle.std.specs.Ordering.{nat_cmp}
 use Rattle.std.specs.Cmp.Lexicographic.{slice_cmp}
-use Rattle.line_index.specs.Keys.{texts}
-use Rattle.line_index.specs.Backwards.{backward_cmp}
-use Rattle.line_index.proofs.backwards.backward_cmp.Given as goal
+use Rattle.line_index.proofs.suffixes.backward_cmp.Given as goal
 
 -- what is left decides
 abbrev pub invariant-loop-last : goal.invariant-loop-last
-invariant-loop-last l = backward_cmp (texts l.paths) l.one l.other ≡ slice_cmp nat_cmp (reverse l.ahead) (reverse l.left)
+invariant-loop-last l = slice_cmp nat_cmp (reverse l.one) (reverse l.other) ≡ slice_cmp nat_cmp (reverse l.ahead) (reverse l.left)
 
 abbrev pub decreases-loop-last : goal.decreases-loop-last
 decreases-loop-last l = length l.left

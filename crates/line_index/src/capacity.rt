@@ -1,10 +1,10 @@
-//! Room that is asked for before the first path of a table is compared or made, and before the
-//! first label is.
+//! Buffers that are allocated before the first path of a table is compared or made, and before
+//! the first label is made: a hostile table is out of memory at once.
 
 ghost use Rattle.std.specs.Prelude.{◌≡◌, ◌≤◌, ◌*◌, ◌-◌, ◌^◌, min, IfOk};
 ghost use Rattle.std.specs.List.{sum_by};
 ghost use Rattle.std.specs.Vec.{vec_capacity};
-ghost use Rattle.line_index.specs.declared.room.TheConstants.{MAX_NAMED};
+ghost use Rattle.line_index.specs.declared.capacity.TheConstants.{MAX_NAMED};
 ghost use Rattle.line_index.specs.Keys.{label_size, name_size, texts};
 
 use crate::backwards::path_at;
@@ -20,7 +20,7 @@ const MAX_NAMED: usize = 0x800_0000;
 /// The most bytes of a colon and a number.
 const MAX_DIGITS: usize = 11;
 
-/// How many bytes the names of the files and of their directories have.
+/// The number of bytes of the names of the files and of their directories.
 fn named_bytes(files: &[FileName]) -> usize
     ensures { result ≡ min (sum_by name_size files.now) (2 ^ 64 - 1) }
 {
@@ -33,13 +33,13 @@ fn named_bytes(files: &[FileName]) -> usize
     total
 }
 
-/// Room for each file's path, in which a byte that is escaped takes three. Out of memory too
-/// if the names have more bytes than `MAX_NAMED`. Nothing is written into the room, so it
-/// isn't to be inlined: it would be left out.
+/// An empty vector with capacity for the path of each file, in which an escaped byte takes three
+/// bytes. Out of memory also if the names have more bytes than `MAX_NAMED`. Nothing is written
+/// into it, so it must not be inlined: the allocation would be removed.
 #[inline(never)]
-pub fn room(alloc: Global, files: &[FileName]) -> Result<Vec<u8>, AllocError>
-    ensures room { IfOk result (λ room. 3 * sum_by name_size files.now ≤ vec_capacity room) }
-    ensures bounded { IfOk result (λ room. sum_by name_size files.now ≤ MAX_NAMED) }
+pub fn path_buffer(alloc: Global, files: &[FileName]) -> Result<Vec<u8>, AllocError>
+    ensures capacity { IfOk result (λ buffer. 3 * sum_by name_size files.now ≤ vec_capacity buffer) }
+    ensures bounded { IfOk result (λ buffer. sum_by name_size files.now ≤ MAX_NAMED) }
 {
     let bytes = named_bytes(files);
     if MAX_NAMED < bytes {
@@ -48,7 +48,7 @@ pub fn room(alloc: Global, files: &[FileName]) -> Result<Vec<u8>, AllocError>
     Vec::with_capacity(alloc, bytes * 3)
 }
 
-/// How many bytes the labels of the lines have at most.
+/// The number of bytes that the labels of the lines have at most.
 fn label_bytes(paths: &[Vec<u8>], keys: &[Key]) -> usize
     ensures { result ≡ min (sum_by (label_size (texts paths.now)) keys.now) (2 ^ 64 - 1) }
 {
@@ -61,12 +61,12 @@ fn label_bytes(paths: &[Vec<u8>], keys: &[Key]) -> usize
     total
 }
 
-/// Room for the label of each line, in one request. A table of few bytes may give a long path to
-/// very many lines: it then fails before the first of their labels is made.
+/// An empty vector with capacity for the labels of all lines. A table of few bytes may give a long
+/// path to very many lines: this call is then out of memory before the first label is made.
 #[inline(never)]
-pub fn label_room(alloc: Global, paths: &[Vec<u8>], keys: &[Key]) -> Result<Vec<u8>, AllocError>
-    ensures { IfOk result (λ room.
-        sum_by (label_size (texts paths.now)) keys.now ≤ vec_capacity room) }
+pub fn label_buffer(alloc: Global, paths: &[Vec<u8>], keys: &[Key]) -> Result<Vec<u8>, AllocError>
+    ensures { IfOk result (λ buffer.
+        sum_by (label_size (texts paths.now)) keys.now ≤ vec_capacity buffer) }
 {
     Vec::with_capacity(alloc, label_bytes(paths, keys))
 }

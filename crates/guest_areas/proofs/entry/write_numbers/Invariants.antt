@@ -1,6 +1,6 @@
 use Rattle.std.proofs.Common.{◌≡◌, ◌+◌, ◌*◌, drop}
 use Rattle.guest_areas.specs.Entry.{with_numbers}
-use Rattle.guest_areas.proofs.entry.put_numbers.Given as goal
+use Rattle.guest_areas.proofs.entry.write_numbers.Given as goal
 
 abbrev pub invariant-loop-i : goal.invariant-loop-i
 invariant-loop-i l = record {
