@@ -1,6 +1,6 @@
 //! A k-d tree (J. L. Bentley, "Multidimensional binary search trees used for associative
 //! searching", 1975) of the lines of a program, each by the rank of its path and by its number.
-//! Of n lines it is made in O(n log² n) steps, and a search in it takes O(√n).
+//! That a search visits few nodes is counted and not proved: docs/DECISIONS.md.
 
 ghost use Rattle.std.specs.Prelude.{◌≡◌, ◌↔◌, ◌≤◌, ◌<◌, ◌+◌, ◌^◌, ◌∷◌, [], length, if◌then◌else◌, nat_le, IfOk, IsTrue};
 ghost use Rattle.function_lines.specs.Lines.{IsFirst};
@@ -12,9 +12,9 @@ use std::alloc::{AllocError, Global};
 /// The numbers from the least to the greatest, both of them in it.
 #[derive(Clone, Copy)]
 pub struct Interval {
-    /// The least of them.
+    /// The least number.
     pub least: u32,
-    /// The greatest of them.
+    /// The greatest number.
     pub greatest: u32,
 }
 
@@ -30,11 +30,11 @@ pub struct Rectangle {
 /// A line by the rank of its path and by its number.
 #[derive(Clone, Copy)]
 pub struct Point {
-    /// The rank of its path.
+    /// The rank of the line's path.
     pub rank: u32,
-    /// Its number.
+    /// The number of the line.
     pub number: u32,
-    /// Its index in the order of lines.
+    /// The index of the line in the order of lines.
     pub line: u32,
 }
 
