@@ -37,8 +37,7 @@ use Rattle.run_engine.specs.Begin.{started_by}
 use Rattle.run_engine.specs.Ending.{ending_of}
 use Rattle.virtual_run.specs.DelayedRun.{IsOfAHart}
 use Rattle.run_engine.specs.Engine.{events_of, IsEngineOf, IsFirst}
-use Rattle.run_engine.specs.Run.{IsChoice}
-use Rattle.run_engine.specs.Seen.{experiment_of_image}
+use Rattle.run_engine.specs.Run.{IsChoice, experiment_in}
 use Rattle.run_engine.specs.Visits.{Visits, visits_of}
 use Rattle.run_engine.proofs.Keys.{has_place, next_is}
 use Rattle.run_engine.proofs.Law.{first_made, lawful_run, reached_next, reached_woken, steady, events_below, within_enough}
@@ -100,7 +99,7 @@ trap_fate (Ends e) o v r n b trap is = let same : e ≡ Trapped trap = cc in ap 
 
 module _ (image : ImageParts) (input : List ℕ) (setting : Setting) where
   abbrev pub x : Experiment Guest
-  x = experiment_of_image image input setting
+  x = experiment_in image input setting
 
   abbrev index : Index
   index = setting.index.now

@@ -24,8 +24,8 @@ use Rattle.run_engine.specs.declared.choice.Choice.{Choice}
 use Rattle.run_engine.specs.declared.choice.Setting.{Setting}
 use Rattle.run_engine.specs.declared.engine.Engine.{Engine}
 use Rattle.run_engine.specs.Engine.{events_of}
-use Rattle.run_engine.specs.Run.{experiment}
-use Rattle.run_engine.specs.Seen.{Seen, machine_view, view_in, experiment_of, experiment_of_image}
+use Rattle.run_engine.specs.Run.{experiment, experiment_in}
+use Rattle.run_engine.specs.Seen.{Seen, machine_view, view_in, experiment_of}
 use Rattle.run_engine.specs.Begin.{many}
 use Rattle.run_engine.proofs.Many.{many_few}
 use Rattle.run_engine.proofs.Law.{lawful_run, within_enough}
@@ -83,7 +83,7 @@ module _ (image : ImageParts) (position point : ℕ → Option ℕ) (input : Lis
 
 module _ (image : ImageParts) (input : List ℕ) (setting : Setting) (engine : Engine) (c : Counts) (now : IsCounting image input setting engine c) where
   abbrev pub x : Experiment Guest
-  x = experiment_of_image image input setting
+  x = experiment_in image input setting
 
   law : IsLawful x IsOrderly
   law = lawful_run image (position_at setting.index.now) (point_of setting.points.now) input setting.choice now.valid.speedup
@@ -253,7 +253,7 @@ module _ (image : ImageParts) (input : List ℕ) (setting : Setting) (engine : E
     pub visits_seen : map net_of engine.visits.kept ≡ map net_visit v.state.visits
     visits_seen = visits_are ∙ ap (λ (v : Seen (Delayed Guest)). map net_visit v.state.visits) is
 
-  module _ (old : Experiment Guest) (same : old ≡ experiment_of_image image input setting) (e : Ending) (ended : engine.ending ≡ Some e) where
+  module _ (old : Experiment Guest) (same : old ≡ experiment_in image input setting) (e : Ending) (ended : engine.ending ≡ Some e) where
     over : d.ending ≡ Some e
     over = ending_is ∙ ended
 

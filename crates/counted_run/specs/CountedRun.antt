@@ -11,8 +11,8 @@ use Rattle.run_engine.specs.declared.choice.Choice.{Choice}
 use Rattle.run_engine.specs.declared.choice.Setting.{Setting}
 use Rattle.run_engine.specs.declared.engine.Engine.{Engine}
 use Rattle.run_engine.specs.Engine.{IsEngineOf, events_of}
-use Rattle.run_engine.specs.Run.{IsChoice}
-use Rattle.run_engine.specs.Seen.{Seen, experiment_of_image}
+use Rattle.run_engine.specs.Run.{IsChoice, experiment_in}
+use Rattle.run_engine.specs.Seen.{Seen}
 use Rattle.virtual_run.specs.DelayedRun.{IsOfAHart}
 use Rattle.run_counts.specs.Beginnings.{begun}
 use Rattle.run_counts.specs.Counts.{Counts, place_in, is_on, AreCounts}
@@ -46,11 +46,11 @@ pub record IsCounting (image : ImageParts) (input : List ℕ) (setting : Setting
   pub valid : IsChoice setting.choice
   pub unselected : setting.choice.selected ≡ None
   pub no_speedup : setting.choice.speedup ≡ 0
-  pub reached : IsEngineOf (experiment_of_image image input setting) engine
+  pub reached : IsEngineOf (experiment_in image input setting) engine
   pub undelayed : AreUndelayed engine.visits.kept
   pub soon : engine.time ≤ 10 ^ 17
   pub trap : (ending : Ending) → engine.ending ≡ Some ending → IsOfAHart ending
   pub few : c.begun ≤ HARTS * (events_of engine + 1)
-  pub counts_are : AreCounts (experiment_of_image image input setting) (line_of setting.index.now)
+  pub counts_are : AreCounts (experiment_in image input setting) (line_of setting.index.now)
       (length setting.index.now.lines)
-      (begun (experiment_of_image image input setting) (events_of engine)) c
+      (begun (experiment_in image input setting) (events_of engine)) c

@@ -13,6 +13,7 @@ use Rattle.machines.specs.Shortened as short
 use Rattle.machines.specs.Shortened.{Shortened, NetVisit, Turn, next_turn, move, move_by, retirement, leave, ending, begin, over_or, runs_any, unbegun, shortened}
 use Rattle.machines.proofs.Maps.{change_each_at}
 use Rattle.cost_table.specs.Costs.{cycles_of}
+use Rattle.line_index.specs.Index.{position_at}
 use Rattle.progress_points.specs.Points.{point_of}
 use Rattle.guest_calls.specs.Guest.{Guest, pc_of, is_sleeping, with_wake}
 use Rattle.guest_calls.specs.Retire.{next_of, retire}
@@ -22,7 +23,7 @@ use Rattle.machines.specs.KeptVisits.{net_of}
 use Rattle.run_engine.specs.Visits.{Visits, visits_of}
 use Rattle.run_engine.specs.Begin.{started_by, keys_at_rest, AreBegun}
 use Rattle.run_engine.specs.Ending.{ending_of, runs_after}
-use Rattle.run_engine.specs.Run.{experiment_of_setting, is_selecting, selected_of, ticks_in}
+use Rattle.run_engine.specs.Run.{experiment_from, is_selecting, selected_of, ticks_in}
 use Rattle.run_engine.specs.Engine.{AreDues, state_of, IsStateOf}
 use Rattle.run_engine.proofs.Keys.{with_key_at, no_keys, has_place, dues_rested, next_is, same_runs}
 use Rattle.run_engine.proofs.Begin.{ticks_less}
@@ -101,7 +102,7 @@ pub record IsMove (setting : Setting) (engine : Engine) (left : Keys) (h due : �
 
 module _ (setting : Setting) (first : Guest) where
   abbrev x : Experiment Guest
-  x = experiment_of_setting setting first
+  x = experiment_from first (position_at setting.index.now) (point_of setting.points.now) setting.choice
 
   -- the ending of the machine is that of the code
   ends_as : (g : Guest) (fate : Fate) (others : List ℕ) (h : ℕ) (keys dues : List (Option ℕ)) (count retired : ℕ) → runs_any keys ≡ runs_any dues
@@ -223,7 +224,7 @@ first_due v w (suc k) keys same is = is ∙ rw (ne_eqb (suc k) 0 (λ (e : suc k 
 
 pub first_state : (setting : Setting) (first g : Guest) (keys : Keys) (others selected : List ℕ) (visits : Visits) (starts : ℕ) → setting.choice.speedup ≤ 95 → g ≡ first → keys ≡ with_key 0 (0 + ticks_in setting g 0) (replicate 256 None)
     → visits.kept ≡ [] → starts ≡ length (selected_of setting g (0 ∷ []))
-    → IsStateOf (engine_of 0 g keys others selected visits 0 0 starts None) (shortened (experiment_of_setting setting first) 0)
+    → IsStateOf (engine_of 0 g keys others selected visits 0 0 starts None) (shortened (experiment_from first (position_at setting.index.now) (point_of setting.points.now) setting.choice) 0)
 first_state setting first g keys others selected visits starts small is made none counted =
     let due_is : 0 + ticks_in setting g 0 ≡ due_at setting first first 0 0 =
     ap (λ (g : Guest). 0 + ticks_in setting g 0) is ∙ ticks_less (is_selecting setting) setting.choice.speedup 0 first 0 (omega arith) in

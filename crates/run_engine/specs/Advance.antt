@@ -6,6 +6,7 @@ use Rattle.coz_types.specs.declared.ending.Ending.{Ending}
 use Rattle.hart_schedule.specs.Keys.{Keys, key_of, IsLeast}
 use Rattle.machines.specs.declared.Fate.{Fate}
 use Rattle.machines.specs.Shortened.{move}
+use Rattle.line_index.specs.Index.{position_at}
 use Rattle.progress_points.specs.Points.{point_of}
 use Rattle.guest_calls.specs.Calls.{retirement}
 use Rattle.guest_calls.specs.Guest.{Guest, pc_of, is_running, is_sleeping, with_wake}
@@ -16,7 +17,7 @@ use Rattle.run_engine.specs.declared.engine.Event.TheVariants.{Woke, Retired}
 use Rattle.run_engine.specs.declared.engine.Engine.{Engine}
 use Rattle.run_engine.specs.Begin.{started_by, keys_at_rest, many, AreIdle, AreBegun}
 use Rattle.run_engine.specs.Ending.{ending_of, runs_after}
-use Rattle.run_engine.specs.Run.{experiment_of_setting, selected_of, ticks_in}
+use Rattle.run_engine.specs.Run.{experiment_from, selected_of, ticks_in}
 use Rattle.run_engine.specs.Engine.{events_of, state_of, AreDues, AreWithin, IsStateOf}
 use Rattle.run_engine.specs.Visits.{visits_of}
 
@@ -26,7 +27,8 @@ pub record IsRetired (setting : Setting) (engine : Engine) (hart : ℕ) (fate : 
     (new : Engine) : Type 0 where
   -- a move of the shortened machine, whatever its guest began as
   pub moved : (first : Guest) (dues : List (Option ℕ)) → AreDues engine.schedule dues
-      → IsStateOf new (move (experiment_of_setting setting first) (state_of engine dues))
+      → IsStateOf new (move (experiment_from first (position_at setting.index.now)
+      (point_of setting.points.now) setting.choice) (state_of engine dues))
   -- the hart is the one that is due first
   pub turn : key_of engine.schedule hart ≡ Some new.time
   pub first : IsLeast engine.schedule hart
@@ -107,7 +109,8 @@ pub record IsCompleted (setting : Setting) (engine : Engine) (hart : ℕ) (fate 
 pub record IsWoken (setting : Setting) (engine : Engine) (hart moment : ℕ)
     (new : Engine) : Type 0 where
   pub moved : (first : Guest) (dues : List (Option ℕ)) → AreDues engine.schedule dues
-      → IsStateOf new (move (experiment_of_setting setting first) (state_of engine dues))
+      → IsStateOf new (move (experiment_from first (position_at setting.index.now)
+      (point_of setting.points.now) setting.choice) (state_of engine dues))
   pub turn : key_of engine.schedule hart ≡ Some moment
   pub first : IsLeast engine.schedule hart
   pub asleep : is_sleeping engine.guest hart ≡ true

@@ -7,12 +7,12 @@ use Rattle.coz_types.specs.Image.{ImageParts}
 use Rattle.hart_schedule.specs.Keys.{Keys, key_of, IsEmpty}
 use Rattle.machines.specs.Guest.{Experiment}
 use Rattle.machines.specs.Shortened.{Shortened, shortened}
-use Rattle.guest_calls.specs.Guest.{Guest, is_timed, first_guest}
+use Rattle.guest_calls.specs.Guest.{Guest, is_timed}
 use Rattle.guest_calls.specs.Orderly.{IsOrderly}
 use Rattle.run_engine.specs.declared.choice.Setting.{Setting}
 use Rattle.run_engine.specs.declared.engine.Engine.{Engine}
 use Rattle.run_engine.specs.Begin.{many}
-use Rattle.run_engine.specs.Run.{experiment_of_setting, selected_of}
+use Rattle.run_engine.specs.Run.{experiment_in, selected_of}
 use Rattle.machines.specs.KeptVisits.{net_of}
 
 -- the retirements and wakes so far
@@ -74,8 +74,7 @@ pub record IsEngineOf (x : Experiment Guest) (engine : Engine) : Type 0 where
 -- as it begins the run of an image on an input
 pub record IsFirst (setting : Setting) (image : ImageParts) (input : List ℕ)
     (engine : Engine) : Type 0 where
-  pub reached : IsEngineOf (experiment_of_setting setting
-      (first_guest image input setting.choice.output_limit setting.choice.layout)) engine
+  pub reached : IsEngineOf (experiment_in image input setting) engine
   pub retired : engine.retired ≡ 0
   pub wakes : engine.wakes ≡ 0
   pub ending : engine.ending ≡ None

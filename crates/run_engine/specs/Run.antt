@@ -33,9 +33,9 @@ abbrev pub has_selected : Option ℕ → (ℕ → Option ℕ) → ℕ → Bool
 has_selected None position a = false
 has_selected (Some line) position a = is_at line (position a)
 
--- the guest of a run: what lines and points addresses have, and what is chosen
-abbrev pub experiment_of_guest : Guest → (ℕ → Option ℕ) → (ℕ → Option ℕ) → Choice → Experiment Guest
-experiment_of_guest first position point choice = record {
+-- the run from a first state: `position` gives the line of an address, `point` its point
+abbrev pub experiment_from : Guest → (ℕ → Option ℕ) → (ℕ → Option ℕ) → Choice → Experiment Guest
+experiment_from first position point choice = record {
   guest = plug (has_selected (selected_line choice) position) point;
   first = first;
   speedup = choice.speedup;
@@ -44,18 +44,18 @@ experiment_of_guest first position point choice = record {
   output_limit = choice.output_limit;
 }
 
--- the run of an image on an input
+-- the run of an image on an input, from the first state of its guest
 abbrev pub experiment : ImageParts → (ℕ → Option ℕ) → (ℕ → Option ℕ) → List ℕ
     → Choice → Experiment Guest
 experiment image position point input choice =
-    experiment_of_guest (first_guest image input choice.output_limit choice.layout)
+    experiment_from (first_guest image input choice.output_limit choice.layout)
     position point choice
 
--- in a setting, the guest of a run
-abbrev pub experiment_of_setting : Setting → Guest → Experiment Guest
-experiment_of_setting setting first =
-    experiment_of_guest first (position_at setting.index.now)
-    (point_of setting.points.now) setting.choice
+-- the run of an image on an input in a setting
+abbrev pub experiment_in : ImageParts → List ℕ → Setting → Experiment Guest
+experiment_in image input setting =
+    experiment image (position_at setting.index.now)
+    (point_of setting.points.now) input setting.choice
 
 -- whether an address has the selected line
 abbrev pub is_selecting : Setting → ℕ → Bool

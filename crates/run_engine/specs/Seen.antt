@@ -37,13 +37,7 @@ abbrev pub view_in : {State : Type 0} → ImageParts → List ℕ → Setting
 view_in image input setting state =
     machine_view image setting.index.now setting.points.now input setting.choice state
 
--- the run of an image on an input in a setting
-abbrev pub experiment_of_image : ImageParts → List ℕ → Setting → Experiment Guest
-experiment_of_image image input setting =
-    experiment image (position_at setting.index.now)
-    (point_of setting.points.now) input setting.choice
-
--- what is run
+-- the run that is seen
 abbrev pub experiment_of : {State : Type 0} → Seen State → Experiment Guest
 experiment_of seen =
     experiment seen.image (position_at seen.index) (point_of seen.points) seen.input seen.choice

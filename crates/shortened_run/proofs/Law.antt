@@ -18,7 +18,8 @@ use Rattle.run_engine.specs.declared.engine.Engine.{Engine}
 use Rattle.run_engine.specs.Advance.{IsAdvance}
 use Rattle.run_engine.specs.Engine.{events_of}
 use Rattle.run_engine.specs.Visits.{Visits, visits_of}
-use Rattle.run_engine.specs.Seen.{machine_view, experiment_of_image}
+use Rattle.run_engine.specs.Run.{experiment_in}
+use Rattle.run_engine.specs.Seen.{machine_view}
 use Rattle.run_engine.proofs.Law.{reached_next, reached_woken, events_below, recorded_now, last_now, shortened_is}
 use Rattle.shortened_run.specs.ShortenedRun.{AreUndelayed, IsShort}
 
@@ -62,9 +63,9 @@ module _ (image : ImageParts) (input : List ℕ) (setting : Setting) (engine : E
   pub short_below : events_of engine < 2 * setting.choice.budget
   short_below = events_below image (position_at setting.index.now) (point_of setting.points.now) input setting.choice short.valid engine short.reached none
 
-module _ (image : ImageParts) (input : List ℕ) (setting : Setting) (engine : Engine) (short : IsShort image input setting engine) (old : Experiment Guest) (same : old ≡ experiment_of_image image input setting) where
+module _ (image : ImageParts) (input : List ℕ) (setting : Setting) (engine : Engine) (short : IsShort image input setting engine) (old : Experiment Guest) (same : old ≡ experiment_in image input setting) where
   abbrev x : Experiment Guest
-  x = experiment_of_image image input setting
+  x = experiment_in image input setting
 
   -- the record of a run that has ended, of what was run at first
   pub recorded_of : (e : Ending) → engine.ending ≡ Some e → net_record_of old (shortened x (events_of engine)) e ≡ shortened_record old

@@ -4,9 +4,8 @@ use Rattle.coz_types.specs.Image.{ImageParts}
 use Rattle.coz_types.specs.declared.record.Visit.{Visit}
 use Rattle.run_engine.specs.declared.choice.Setting.{Setting}
 use Rattle.run_engine.specs.declared.engine.Engine.{Engine}
-use Rattle.run_engine.specs.Run.{IsChoice}
+use Rattle.run_engine.specs.Run.{IsChoice, experiment_in}
 use Rattle.run_engine.specs.Engine.{IsEngineOf}
-use Rattle.run_engine.specs.Seen.{experiment_of_image}
 
 -- each was kept with no delay
 abbrev pub AreUndelayed : List Visit → Type 0
@@ -17,5 +16,5 @@ AreUndelayed visits = All (λ visit. visit.delay ≡ 0) visits
 pub record IsShort (image : ImageParts) (input : List ℕ) (setting : Setting)
     (engine : Engine) : Type 0 where
   pub valid : IsChoice setting.choice
-  pub reached : IsEngineOf (experiment_of_image image input setting) engine
+  pub reached : IsEngineOf (experiment_in image input setting) engine
   pub undelayed : AreUndelayed engine.visits.kept

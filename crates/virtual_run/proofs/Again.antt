@@ -16,10 +16,9 @@ use Rattle.guest_calls.specs.Guest.{Guest, IsMade, pc_of}
 use Rattle.run_engine.specs.declared.choice.Setting.{Setting}
 use Rattle.run_engine.specs.declared.engine.Engine.{Engine}
 use Rattle.run_engine.specs.Begin.{many}
-use Rattle.run_engine.specs.Run.{IsChoice, is_selecting, selected_of}
+use Rattle.run_engine.specs.Run.{IsChoice, is_selecting, selected_of, experiment_in}
 use Rattle.run_engine.specs.Engine.{events_of, IsEngineOf, state_of}
 use Rattle.virtual_run.specs.Credited.{Holds}
-use Rattle.run_engine.specs.Seen.{experiment_of_image}
 use Rattle.virtual_run.specs.DelayedRun.{IsPaced}
 use Rattle.run_engine.proofs.Choices.{valid_with}
 use Rattle.run_engine.proofs.Begin.{one_at_most}
@@ -77,10 +76,10 @@ module _ (x : Experiment Guest) (whole : x.speedup ≡ 0) where
 
 module _ (image : ImageParts) (input : List ℕ) (setting : Setting) (engine : Engine) (credits : Delays) (now : ℕ) (p : IsPaced image input setting engine credits now) (whole : setting.choice.speedup ≡ 0) (zeroth : events_of engine ≡ 0) (line : LineId) where
   abbrev x : Experiment Guest
-  x = experiment_of_image image input setting
+  x = experiment_in image input setting
 
   abbrev y : Experiment Guest
-  y = experiment_of_image image input (lined_setting line setting)
+  y = experiment_in image input (lined_setting line setting)
 
   first_guest_is : (shortened x 0).guest ≡ x.first
   unfolding shortened short.begin short.unbegun

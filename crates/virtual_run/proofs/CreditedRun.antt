@@ -47,12 +47,12 @@ use Rattle.run_engine.specs.declared.engine.Engine.{Engine}
 use Rattle.run_engine.specs.Begin.{started_by, keys_at_rest, many, AreIdle}
 use Rattle.run_engine.specs.Ending.{ending_of}
 use Rattle.run_engine.specs.Visits.{Visits, visits_of}
-use Rattle.run_engine.specs.Run.{IsChoice}
+use Rattle.run_engine.specs.Run.{IsChoice, experiment_in}
 use Rattle.run_engine.specs.Engine.{events_of, IsEngineOf, IsSteady, IsFirst}
 use Rattle.run_engine.specs.Advance.{IsRetired, IsWoken, IsAdvance}
 use Rattle.virtual_run.specs.Credited.{raise_ticks, with_credits, with_starts, with_raises, with_rest, with_begun, credits_after, moment_of, credited_by, Runs, AllRun, AllBelow, Holds, CanBegin, CanWake, CanAccountRetirement, CanAccount}
 use Rattle.virtual_run.specs.Credited as credited
-use Rattle.run_engine.specs.Seen.{Seen, view_in, experiment_of_image, experiment_of}
+use Rattle.run_engine.specs.Seen.{Seen, view_in, experiment_of}
 use Rattle.virtual_run.specs.DelayedRun.{net_due_of, account_in, outcome_of, IsOfAHart, IsSmall, Happens, AgreesThroughout, EndsOnce, IsPaced}
 use Rattle.machines.specs.KeptVisits.{visit_as}
 use Rattle.run_engine.proofs.Keys.{has_place, rested_length, next_is}
@@ -70,10 +70,10 @@ use Rattle.virtual_run.proofs.CreditedSteps as steps
 use Rattle.virtual_run.proofs.Made.{retire_grows, first_count}
 
 -- the experiment, and that it counts the harts that were made
-pub lawful_with : (image : ImageParts) (input : List ℕ) (setting : Setting) → IsChoice setting.choice → IsLawful (experiment_of_image image input setting) IsOrderly
+pub lawful_with : (image : ImageParts) (input : List ℕ) (setting : Setting) → IsChoice setting.choice → IsLawful (experiment_in image input setting) IsOrderly
 lawful_with image input setting valid = lawful_run image (position_at setting.index.now) (point_of setting.points.now) input setting.choice valid.speedup
 
-counted_with : (image : ImageParts) (input : List ℕ) (setting : Setting) → IsCounted (experiment_of_image image input setting) IsOrderly (λ g. length g.harts)
+counted_with : (image : ImageParts) (input : List ℕ) (setting : Setting) → IsCounted (experiment_in image input setting) IsOrderly (λ g. length g.harts)
 counted_with image input setting = record {
   first = first_count image input setting.choice.output_limit setting.choice.layout;
   made = λ g h good runs. (running_low g h good runs).0;
@@ -119,7 +119,7 @@ trap_fate (Ends e) o v r n b trap is = let same : e ≡ Trapped trap = cc in ap 
 
 module _ (image : ImageParts) (input : List ℕ) (setting : Setting) (engine : Engine) (credits : Delays) (now : ℕ) (p : IsPaced image input setting engine credits now) where
   abbrev x : Experiment Guest
-  x = experiment_of_image image input setting
+  x = experiment_in image input setting
 
   abbrev d : Delayed Guest
   d = standing x (events_of engine)
@@ -577,7 +577,7 @@ total_within now delay a (Some l) None e = elim e [ ]
 -- what the methods that change nothing give
 module _ (image : ImageParts) (input : List ℕ) (setting : Setting) (engine : Engine) (credits : Delays) (now : ℕ) (p : IsPaced image input setting engine credits now) where
   abbrev seen : Delayed Guest
-  seen = standing (experiment_of_image image input setting) (events_of engine)
+  seen = standing (experiment_in image input setting) (events_of engine)
 
   pub due_ended : (h : ℕ) (e : Ending) → engine.ending ≡ Some e → None ≡ net_due_of seen h
   due_ended h e is = rw (ending_now image input setting engine credits now p, is) refl
@@ -587,7 +587,7 @@ module _ (image : ImageParts) (input : List ℕ) (setting : Setting) (engine : E
       let hart : Hart = get_or seen.harts h idle_hart in
       rw (ending_now image input setting engine credits now p, none)
       (p.reached.reached.dues h
-      ∙ due_of seen.now seen.delay hart.account hart.load (get_or (shortened (experiment_of_image image input setting) (events_of engine)).dues h None) ((agree image input setting engine credits now p).harts h))
+      ∙ due_of seen.now seen.delay hart.account hart.load (get_or (shortened (experiment_in image input setting) (events_of engine)).dues h None) ((agree image input setting engine credits now p).harts h))
 
   pub latest_now : credits.latest ≡ now
   latest_now = p.holds.latest ∙ sym p.moment
@@ -605,7 +605,7 @@ module _ (image : ImageParts) (input : List ℕ) (setting : Setting) (engine : E
       let hart : Hart = get_or seen.harts h idle_hart in
       let same : account_as given ≡ hart.account = is ∙ ap (λ (c : Delays). (hart_at c h).account) (at_latest credits now latest_now) ∙ ap (λ (o : Hart). o.account) (p.holds.harts h) ∙ account_held hart in
       subst (λ (a : Account). total a ≤ seen.delay) (sym same)
-      (total_within seen.now seen.delay hart.account hart.load (get_or (shortened (experiment_of_image image input setting) (events_of engine)).dues h None) ((agree image input setting engine credits now p).harts h))
+      (total_within seen.now seen.delay hart.account hart.load (get_or (shortened (experiment_in image input setting) (events_of engine)).dues h None) ((agree image input setting engine credits now p).harts h))
 
   pub account_none : (h : ℕ) → length engine.guest.harts ≤ h → ◌≡◌ {A = Option Account} None (account_in seen h)
   account_none h past =
@@ -614,11 +614,11 @@ module _ (image : ImageParts) (input : List ℕ) (setting : Setting) (engine : E
 
   pub harts_few : length engine.guest.harts ≤ 256
   harts_few =
-      let good : IsOrderly seen.guest = standing_good (experiment_of_image image input setting) IsOrderly (lawful_with image input setting p.valid) (events_of engine) in
+      let good : IsOrderly seen.guest = standing_good (experiment_in image input setting) IsOrderly (lawful_with image input setting p.valid) (events_of engine) in
       subst (λ (g : Guest). length g.harts ≤ 256) (guest_now image input setting engine credits now p) good.few
 
   pub visits_in_time : All (λ (v : Visit). v.delay ≤ v.time) seen.visits
-  visits_in_time = in_time (experiment_of_image image input setting) IsOrderly (lawful_with image input setting p.valid) (events_of engine)
+  visits_in_time = in_time (experiment_in image input setting) IsOrderly (lawful_with image input setting p.valid) (events_of engine)
 
   pub kept_in_time : All (λ (v : GivenVisit). v.delay ≤ v.time) engine.visits.kept
   kept_in_time = given_in_time engine.visits.kept (subst (All (λ (v : Visit). v.delay ≤ v.time)) (sym p.visits) visits_in_time)
@@ -671,7 +671,7 @@ module _ (image : ImageParts) (input : List ℕ) (setting : Setting) (engine : E
   pub agrees_seen : (v : Seen (Delayed Guest)) → seen_of image input setting engine ≡ v → Agrees v.state (shortened (experiment_of v) (events v.state))
   agrees_seen v view =
       subst (λ (v : Seen (Delayed Guest)). Agrees v.state (shortened (experiment_of v) (events v.state))) view
-      (subst (λ (n : ℕ). Agrees (standing (experiment_of_image image input setting) (events_of engine)) (shortened (experiment_of_image image input setting) n)) (sym (events_now image input setting engine credits now p)) (agree image input setting engine credits now p))
+      (subst (λ (n : ℕ). Agrees (standing (experiment_in image input setting) (events_of engine)) (shortened (experiment_in image input setting) n)) (sym (events_now image input setting engine credits now p)) (agree image input setting engine credits now p))
 
   pub goes_seen : (v : Seen (Delayed Guest)) → seen_of image input setting engine ≡ v → v.state.ending ≡ None → engine.ending ≡ None
   goes_seen v view none = sym (ending_now image input setting engine credits now p) ∙ ap (λ (v : Seen (Delayed Guest)). v.state.ending) view ∙ none
@@ -681,12 +681,12 @@ module _ (image : ImageParts) (input : List ℕ) (setting : Setting) (engine : E
   count_seen v n view is =
       is ∙ ap (λ (m : ℕ). m + 1) (sym (events_now image input setting engine credits now p) ∙ ap (λ (v : Seen (Delayed Guest)). events v.state) view)
 
-  pub next_seen : (v : Seen (Delayed Guest)) (n : ℕ) → seen_of image input setting engine ≡ v → n ≡ events_of engine + 1 → standing (experiment_of_image image input setting) n ≡ standing (experiment_of v) (events v.state + 1)
+  pub next_seen : (v : Seen (Delayed Guest)) (n : ℕ) → seen_of image input setting engine ≡ v → n ≡ events_of engine + 1 → standing (experiment_in image input setting) n ≡ standing (experiment_of v) (events v.state + 1)
   next_seen v n view is =
-      subst (λ (v : Seen (Delayed Guest)). standing (experiment_of_image image input setting) n ≡ standing (experiment_of v) (events v.state + 1)) view
-      (ap (standing (experiment_of_image image input setting)) (is ∙ ap (λ (m : ℕ). m + 1) (sym (events_now image input setting engine credits now p))))
+      subst (λ (v : Seen (Delayed Guest)). standing (experiment_in image input setting) n ≡ standing (experiment_of v) (events v.state + 1)) view
+      (ap (standing (experiment_in image input setting)) (is ∙ ap (λ (m : ℕ). m + 1) (sym (events_now image input setting engine credits now p))))
 
-  pub happens_seen : (v : Seen (Delayed Guest)) (event : Event) (d : Delayed Guest) → seen_of image input setting engine ≡ v → Happens (experiment_of_image image input setting) event (standing (experiment_of_image image input setting) (events_of engine)) d
+  pub happens_seen : (v : Seen (Delayed Guest)) (event : Event) (d : Delayed Guest) → seen_of image input setting engine ≡ v → Happens (experiment_in image input setting) event (standing (experiment_in image input setting) (events_of engine)) d
       → Happens (experiment_of v) event v.state d
   happens_seen v event d view happens = subst (λ (v : Seen (Delayed Guest)). Happens (experiment_of v) event v.state d) view happens
 
@@ -696,7 +696,7 @@ only_first k e = eqb-true k 0 (one_bit (k == 0) e)
 -- what contracts see of a run between two steps
 module _ (image : ImageParts) (input : List ℕ) (setting : Setting) (engine : Engine) (credits : Delays) (now : ℕ) (p : IsPaced image input setting engine credits now) where
   abbrev paced_x : Experiment Guest
-  paced_x = experiment_of_image image input setting
+  paced_x = experiment_in image input setting
 
   pub stands_seen : (v : Seen (Delayed Guest)) → seen_of image input setting engine ≡ v → v.state ≡ standing (experiment_of v) (events v.state)
   stands_seen v view =
@@ -735,7 +735,7 @@ module _ (image : ImageParts) (input : List ℕ) (setting : Setting) (engine : E
 -- as a run begins
 module _ (image : ImageParts) (input : List ℕ) (setting : Setting) (engine : Engine) (valid : IsChoice setting.choice) (f : IsFirst setting image input engine) where
   abbrev begun_x : Experiment Guest
-  begun_x = experiment_of_image image input setting
+  begun_x = experiment_in image input setting
 
   short_first : (shortened begun_x 0).guest ≡ begun_x.first
   unfolding shortened short.begin short.unbegun
@@ -839,7 +839,7 @@ pub going_first : (image : ImageParts) (input : List ℕ) (setting : Setting) (e
 going_first image input setting engine credits now p v view =
     subst (λ (v : Seen (Delayed Guest)). IsGoing v v) view
     (record {
-      at = record { valid = p.valid; rest = refl; stands = ap (standing (experiment_of_image image input setting)) (sym (events_now image input setting engine credits now p)) };
+      at = record { valid = p.valid; rest = refl; stands = ap (standing (experiment_in image input setting)) (sym (events_now image input setting engine credits now p)) };
       within = rw (retired_now image input setting engine credits now p) p.reached.retired;
     })
 

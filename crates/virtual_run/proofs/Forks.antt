@@ -24,10 +24,9 @@ use Rattle.run_engine.specs.declared.choice.Choice.{Choice}
 use Rattle.run_engine.specs.declared.choice.Setting.{Setting}
 use Rattle.run_engine.specs.declared.engine.Engine.{Engine}
 use Rattle.run_engine.specs.Begin.{many}
-use Rattle.run_engine.specs.Run.{IsChoice}
+use Rattle.run_engine.specs.Run.{IsChoice, experiment_in}
 use Rattle.run_engine.specs.Engine.{events_of, IsEngineOf, IsSteady}
 use Rattle.virtual_run.specs.Credited.{raise_ticks, with_one_raise, with_raises, Holds, AllRun, AllMade}
-use Rattle.run_engine.specs.Seen.{experiment_of_image}
 use Rattle.virtual_run.specs.DelayedRun.{IsPaced}
 use Rattle.virtual_run.specs.Lead.{with_sooner}
 use Rattle.run_engine.proofs.Choices.{valid_at}
@@ -65,7 +64,7 @@ sped_setting q setting = record setting { choice = record setting.choice { speed
 
 module _ (image : ImageParts) (input : List ℕ) (setting : Setting) (engine : Engine) (credits : Delays) (now : ℕ) (p : IsPaced image input setting engine credits now) where
   abbrev x : Experiment Guest
-  x = experiment_of_image image input setting
+  x = experiment_in image input setting
 
   abbrev d : Delayed Guest
   d = standing x (events_of engine)

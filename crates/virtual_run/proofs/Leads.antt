@@ -17,8 +17,8 @@ use Rattle.run_engine.specs.declared.choice.Choice.{Choice}
 use Rattle.run_engine.specs.declared.choice.Setting.{Setting}
 use Rattle.run_engine.specs.declared.engine.Engine.{Engine}
 use Rattle.virtual_run.specs.DelayedRun.{IsPaced}
-use Rattle.run_engine.specs.Seen.{Seen, experiment_of_image, experiment_of}
-use Rattle.run_engine.specs.Run.{IsChoice}
+use Rattle.run_engine.specs.Seen.{Seen, experiment_of}
+use Rattle.run_engine.specs.Run.{IsChoice, experiment_in}
 use Rattle.run_engine.proofs.Choices.{valid_at, valid_with}
 use Rattle.run_engine.specs.Engine.{events_of}
 use Rattle.virtual_run.specs.Lead.{arguments, is_unstarted, starts_next, Stands, IsShared, IsLead}
@@ -70,7 +70,7 @@ module _ (old now : Seen (Delayed Guest)) (l : IsLed old now) (unstarted : is_un
 -- what contracts see of a fork
 module _ (image : ImageParts) (input : List ℕ) (setting : Setting) (engine : Engine) (credits : Delays) (now : ℕ) (p : IsPaced image input setting engine credits now) (v : Seen (Delayed Guest)) (view : seen_of image input setting engine ≡ v) where
   abbrev x : Experiment Guest
-  x = experiment_of_image image input setting
+  x = experiment_in image input setting
 
   pub whole_seen : v.choice.speedup ≡ 0 → setting.choice.speedup ≡ 0
   whole_seen whole = ap (λ (v : Seen (Delayed Guest)). v.choice.speedup) view ∙ whole
@@ -92,8 +92,8 @@ module _ (image : ImageParts) (input : List ℕ) (setting : Setting) (engine : E
   pub again_seen : (line : LineId) (new : Engine) → events_of new ≡ events_of engine → events_of engine ≡ 0
       → let seen : Seen (Delayed Guest) = seen_of image input (lined_setting line setting) new in seen ≡ record v { choice = record v.choice { selected = Some line }; state = standing (experiment_of seen) 0 }
   again_seen line new is zeroth =
-      subst (λ (v : Seen (Delayed Guest)). seen_of image input (lined_setting line setting) new ≡ record v { choice = record v.choice { selected = Some line }; state = standing (experiment_of_image image input (lined_setting line setting)) 0 }) view
-      (ap (λ (n : ℕ). record (seen_of image input setting engine) { choice = record setting.choice { selected = Some line }; state = standing (experiment_of_image image input (lined_setting line setting)) n }) (is ∙ zeroth))
+      subst (λ (v : Seen (Delayed Guest)). seen_of image input (lined_setting line setting) new ≡ record v { choice = record v.choice { selected = Some line }; state = standing (experiment_in image input (lined_setting line setting)) 0 }) view
+      (ap (λ (n : ℕ). record (seen_of image input setting engine) { choice = record setting.choice { selected = Some line }; state = standing (experiment_in image input (lined_setting line setting)) n }) (is ∙ zeroth))
 
   pub unstarted_seen : (not (is_some engine.ending) && (engine.starts == 0)) ≡ is_unstarted v.state
   unstarted_seen =

@@ -20,9 +20,8 @@ use Rattle.run_engine.specs.declared.choice.Setting.{Setting}
 use Rattle.run_engine.specs.declared.engine.Event.{Event}
 use Rattle.run_engine.specs.declared.engine.Event.TheVariants.{Woke, Retired}
 use Rattle.run_engine.specs.declared.engine.Engine.{Engine}
-use Rattle.run_engine.specs.Run.{IsChoice}
+use Rattle.run_engine.specs.Run.{IsChoice, experiment_in}
 use Rattle.run_engine.specs.Engine.{events_of, IsEngineOf}
-use Rattle.run_engine.specs.Seen.{experiment_of_image}
 use Rattle.virtual_run.specs.Credited.{Holds}
 
 -- the net moment at which a hart of a run that goes on retires: as many ticks from now on as it
@@ -89,16 +88,16 @@ EndsOnce x = (r : Record) × IsDelayed x r × ((other : Record) → IsDelayed x 
 pub record IsPaced (image : ImageParts) (input : List ℕ) (setting : Setting) (engine : Engine)
     (credits : Delays) (now : ℕ) : Type 0 where
   pub valid : IsChoice setting.choice
-  pub reached : IsEngineOf (experiment_of_image image input setting) engine
-  pub holds : Holds credits (standing (experiment_of_image image input setting) (events_of engine))
+  pub reached : IsEngineOf (experiment_in image input setting) engine
+  pub holds : Holds credits (standing (experiment_in image input setting) (events_of engine))
   pub room : length credits.harts ≡ HARTS
   pub visits : map visit_as engine.visits.kept
-      ≡ (standing (experiment_of_image image input setting) (events_of engine)).visits
-  pub moment : now ≡ (standing (experiment_of_image image input setting) (events_of engine)).now
+      ≡ (standing (experiment_in image input setting) (events_of engine)).visits
+  pub moment : now ≡ (standing (experiment_in image input setting) (events_of engine)).now
   pub soon : now ≤ 10 ^ 17
   pub trap : (ending : Ending) → engine.ending ≡ Some ending → IsOfAHart ending
   -- what a fork copies, and what it raises the delay by
-  pub made : making engine.guest ≡ making (experiment_of_image image input setting).first
+  pub made : making engine.guest ≡ making (experiment_in image input setting).first
   pub selected : engine.selected
-      ≡ filter ((experiment_of_image image input setting).guest.is_selected engine.guest)
-      (before (experiment_of_image image input setting) (events_of engine)).harts
+      ≡ filter ((experiment_in image input setting).guest.is_selected engine.guest)
+      (before (experiment_in image input setting) (events_of engine)).harts

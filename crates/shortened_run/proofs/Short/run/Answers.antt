@@ -4,7 +4,8 @@ use Rattle.progress_points.specs.Points.{point_of}
 use Rattle.machines.specs.Shortened.{Shortened}
 use Rattle.guest_calls.specs.Guest.{Guest}
 use Rattle.run_engine.specs.declared.choice.Setting.{Setting}
-use Rattle.run_engine.specs.Seen.{Seen, view_in, experiment_of, experiment_of_image}
+use Rattle.run_engine.specs.Run.{experiment_in}
+use Rattle.run_engine.specs.Seen.{Seen, view_in, experiment_of}
 use Rattle.run_engine.specs.Engine.{events_of}
 use Rattle.run_engine.proofs.Law.{steady, none_is, ended_now}
 use Rattle.shortened_run.proofs.Law.{short_next, short_count, short_below, recorded_of, last_of, shortened_of, same_seen}
@@ -70,7 +71,7 @@ seen_is c state =
     c.loop-self.self-inside.input.now c.args.self.now.input c.loop-self.self-inside.setting.choice c.args.self.now.choice state (image_is c) (index_is c) (points_are c) (input_is c) (choice_is c)
 
 -- so what is run is what was to be run
-as_before : (c : In-Some) → experiment_of c.args.self.now ≡ experiment_of_image c.loop-self.self-inside.image.now c.loop-self.self-inside.input.now c.loop-self.self-inside.setting
+as_before : (c : In-Some) → experiment_of c.args.self.now ≡ experiment_in c.loop-self.self-inside.image.now c.loop-self.self-inside.input.now c.loop-self.self-inside.setting
 as_before c = ap experiment_of (sym (seen_is c c.args.self.now.state))
 
 pub returns-clause-record : goal.returns-clause-record

@@ -1,7 +1,7 @@
 use Rattle.std.proofs.Common.{◌≡◌, ℕ, ◌+◌, ◌*◌, ◌^◌, ◌≤◌, None, subst, sym, ◌∙◌, arith}
 use Rattle.machines.specs.Standing.{standing}
 use Rattle.virtual_run.specs.Credited.{moment_of}
-use Rattle.run_engine.specs.Seen.{experiment_of_image}
+use Rattle.run_engine.specs.Run.{experiment_in}
 use Rattle.run_engine.specs.Engine.{events_of}
 use Rattle.virtual_run.specs.DelayedRun.{IsPaced}
 use Rattle.virtual_run.proofs.CreditedRun.{goes_seen, next_seen, count_seen, happens_seen, events_now, is_steady, raised_few, event_few, event_count, can_follow, paced_event, happens_event}
@@ -78,4 +78,4 @@ returns-clause-happens c =
     let event = c.advance-event.result in
     let delay : ℕ = c.raised-raised.result in
     let none : m.engine.ending ≡ None = goes_seen m.image.now m.input.now m.setting m.engine m.credits m.moment c.self.invariant c.args.self.now c.self.view_is c.requires in
-    happens_seen m.image.now m.input.now m.setting m.engine m.credits m.moment c.self.invariant c.args.self.now event (standing (experiment_of_image m.image.now m.input.now m.setting) (events_of new)) c.self.view_is (happens_event m.image.now m.input.now m.setting m.engine m.credits m.moment c.self.invariant new event delay c.raised-raised.ensures none c.advance-event.ensures)
+    happens_seen m.image.now m.input.now m.setting m.engine m.credits m.moment c.self.invariant c.args.self.now event (standing (experiment_in m.image.now m.input.now m.setting) (events_of new)) c.self.view_is (happens_event m.image.now m.input.now m.setting m.engine m.credits m.moment c.self.invariant new event delay c.raised-raised.ensures none c.advance-event.ensures)

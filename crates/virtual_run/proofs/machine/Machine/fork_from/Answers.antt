@@ -6,7 +6,7 @@ use Rattle.run_engine.specs.declared.engine.Engine.{Engine}
 use Rattle.run_engine.specs.Engine.{events_of}
 use Rattle.virtual_run.specs.DelayedRun.{IsPaced}
 use Rattle.virtual_run.specs.Lead.{with_sooner}
-use Rattle.run_engine.specs.Seen.{experiment_of_image}
+use Rattle.run_engine.specs.Run.{experiment_in}
 use Rattle.virtual_run.proofs.Forks.{sped_setting, selected_run, selected_made, selected_few, forked_paced}
 use Rattle.virtual_run.proofs.Leads.{whole_seen, none_counted, forked_seen}
 use Rattle.virtual_run.proofs.machine.Machine.fork_from.Goals as goal
@@ -26,7 +26,7 @@ raise_selected-requires-clause-made c =
 pub raise_selected-requires-clause-few : goal.raise_selected-requires-clause-few
 raise_selected-requires-clause-few c =
     let m = c.lead.inside in
-    let none : (before (experiment_of_image m.image.now m.input.now m.setting) (events_of m.engine)).state.starts ≡ 0 =
+    let none : (before (experiment_in m.image.now m.input.now m.setting) (events_of m.engine)).state.starts ≡ 0 =
     none_counted m.image.now m.input.now m.setting m.engine m.credits m.moment c.lead.invariant c.args.lead.now c.lead.view_is c.requires.none in
     subst (λ (credits : Delays). credits.raised + 3800 * length c.copy_from.new.self.selected ≤ 10 ^ 17) (sym c.copy_from-2.ensures)
     (selected_few m.image.now m.input.now m.setting m.engine m.credits m.moment c.lead.invariant c.copy_from.new.self.selected (ap (λ (r : Engine). r.selected) c.copy_from.ensures) none)
@@ -42,7 +42,7 @@ invariant_of-self c =
     let m = c.lead.inside in
     let q : ℕ = c.args.speedup in
     let whole : m.setting.choice.speedup ≡ 0 = whole_seen m.image.now m.input.now m.setting m.engine m.credits m.moment c.lead.invariant c.args.lead.now c.lead.view_is c.requires.whole in
-    let none : (before (experiment_of_image m.image.now m.input.now m.setting) (events_of m.engine)).state.starts ≡ 0 =
+    let none : (before (experiment_in m.image.now m.input.now m.setting) (events_of m.engine)).state.starts ≡ 0 =
     none_counted m.image.now m.input.now m.setting m.engine m.credits m.moment c.lead.invariant c.args.lead.now c.lead.view_is c.requires.none in
     subst (λ (r : Engine). IsPaced m.image.now m.input.now (sped_setting q m.setting) r c.raise_selected.new.credits m.moment)
     (sym (c.hasten_selected.ensures ∙ ap (λ (r : Engine). record r { schedule = with_sooner (raise_ticks r.guest q) r.selected r.schedule }) c.copy_from.ensures))
