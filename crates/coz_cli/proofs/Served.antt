@@ -8,17 +8,16 @@ use Rattle.coz_files.specs.Puts.{AppendsPrefix}
 use Rattle.coz_words.specs.declared.request.Request.{Request}
 use Rattle.printed_texts.specs.declared.printed.Printed.{Printed}
 use Rattle.program_steps.specs.declared.fault.Fault.{Fault}
-use Rattle.file_steps.specs.declared.fault.FileFault.TheVariants.{Usage, Read, Write, Long, Memory}
-use Rattle.program_steps.specs.declared.fault.Fault.TheVariants.{File, Program, Lines, NoLine, ManyPoints, ManyExperiments, Source, Profile}
 use Rattle.coz_words.specs.Slow.{request_of}
 use Rattle.command_answers.specs.Verdict.{Verdict, command_verdict}
 use Rattle.coz_cli.specs.Verdict.{request_verdict, verdict}
 use Rattle.command_answers.specs.Answer.{Answer, IsMemory, IsMemoryFault, IsReadFault, Suits, Settles, fault_line, fault_status, printed_verdict, text_bytes}
 use Rattle.coz_cli.specs.Headline.{PrintsForAnyWorkers, PrintsShortened}
+use Rattle.program_inputs.specs.Answer.{Names}
+use Rattle.program_steps.specs.Verdict.{refusal}
 use Rattle.coz_cli.specs.Serve.{IsLine}
 use Rattle.coz_cli.proofs.Printed.{prints_shortened}
-use Rattle.program_inputs.proofs.Faults.{memory_status}
-use Rattle.coz_cli.proofs.Told.{IsOf, told_line}
+use Rattle.program_inputs.proofs.Telling.{names_read, no_write, read_cause, told_line, usage_line}
 use Rattle.coz_cli.proofs.Workers.{printed_alike}
 
 -- nothing is asked of a status that is above a run's
@@ -34,76 +33,37 @@ printed_run words held before after printed is gained low =
     (subst (λ (v : Verdict). v.status ≤ 1) (sym is) low)
     (subst (λ (v : Verdict). Appends before after v.text) (sym is) gained)
 
--- no other fault has the status of a read
-is_read : (fault : Fault) → fault_status fault ≡ 5 → IsReadFault fault
-is_read (File Usage) five = absurd (omega (arith, five))
-is_read (Program fault) five = absurd (omega (arith, five))
-is_read (Lines fault) five = absurd (omega (arith, five))
-is_read (File (Read path)) five = tt
-is_read (File Write) five = absurd (omega (arith, five))
-is_read (NoLine piece) five = absurd (omega (arith, five))
-is_read (ManyPoints count) five = absurd (omega (arith, five))
-is_read (File (Long path)) five = absurd (omega (arith, five))
-is_read (ManyExperiments count) five = absurd (omega (arith, five))
-is_read (File Memory) five = absurd (omega (arith, five))
-is_read (Source fault) five = absurd (omega (arith, five))
-is_read (Profile fault) five = absurd (omega (arith, five))
-
-not_memory : (fault : Fault) → fault_status fault ≡ 5 → IsMemoryFault fault → ⊥
-not_memory fault five memory = let ten = memory_status fault memory in omega (arith, five, ten)
-
 module _ (words : List (List ℕ)) (faults now : ℕ) where
   -- what an answer settles of a request it settles of the words
   abbrev IsSettled : Option Held → Option Request → Answer → Type 0
   IsSettled told request answer = IfSome told (λ held. (IsMemory answer → ⊥) → Settles (request_verdict request held) faults now answer)
 
-  no_request : (told : Option Held) → IsSettled told None (Err (File Usage))
-  no_request None = tt
-  no_request (Some held) = λ _. inl refl
+  no_request : (told : Option Held) → None ≡ request_of words → IfSome told (λ held. verdict words held ≡ refusal 2 (codes "usage"))
+  no_request None none = tt
+  no_request (Some held) none = ap (λ request. request_verdict request held) (sym none)
 
-  pub usage_line : (told : Option Held) → None ≡ request_of words → IsLine 2 words told faults now (codes "coz: usage")
-  usage_line told none =
-      told_line 2 words told faults now (File Usage)
-      (record {
-        status_is = refl;
-        of_words = subst (λ request. IsOf request (File Usage)) none refl;
-        settled = subst (λ request. IsSettled told request (Err (File Usage))) none (no_request told);
-        untold = λ never. absurd never;
-      })
-
-  pub memory_line : (told : Option Held) → IsLine 10 words told faults now (codes "coz: memory")
-  memory_line told = record {
-    usage = λ is. absurd (omega (arith, is));
-    write = λ is. absurd (omega (arith, is));
-    memory = λ is. refl;
-    read = λ is. absurd (omega (arith, is));
-    absent = λ is. absurd (omega (arith, is));
-    verdict = λ of. absurd (of.no_memory refl);
-  }
+  pub no_request_line : (told : Option Held) → None ≡ request_of words → IsLine 2 words told faults now (codes "coz: usage")
+  no_request_line told none = usage_line (codes "coz: ") (Names (request_of words)) (verdict words) told faults now (no_request told none)
 
   module _ (asked : Request) (makes : Some asked ≡ request_of words) where
     pub fault_told : (told : Option Held) (fault : Fault) → Suits asked (Err fault)
         → IfSome told (λ held. (IsMemory {A = Printed} (Err fault) → ⊥) → Settles (command_verdict asked.command asked held) faults now (Err fault))
         → (IsReadFault fault → IfNone told (Rose faults now)) → IsLine (fault_status fault) words told faults now (codes "coz: " ++ fault_line fault)
     fault_told told fault suits settled untold =
-        told_line (fault_status fault) words told faults now fault
+        told_line (codes "coz: ") (Names (request_of words)) (verdict words) told faults now (fault_status fault) fault
         (record {
           status_is = refl;
-          of_words = subst (λ request. IsOf request fault) makes suits;
+          named = λ path is. subst (λ request. Names request path.now) makes (names_read asked fault suits path is);
+          no_write = no_write asked fault suits;
           settled = subst (λ request. IsSettled told request (Err fault)) makes settled;
           untold = untold;
         })
 
-    pub read_cause : (told : Option Held) (fault : Fault)
+    pub fault_cause : (told : Option Held) (fault : Fault)
         → IfSome told (λ held. (IsMemory {A = Printed} (Err fault) → ⊥) → Settles (command_verdict asked.command asked held) faults now (Err fault))
         → (IsReadFault fault → IfNone told (Rose faults now)) → fault_status fault ≡ 5 → Rose faults now ⊎ IsSomeAnd told (λ held. (verdict words held).status ≡ 5)
-    read_cause None fault settled untold five = inl (untold (is_read fault five))
-    read_cause (Some held) fault settled untold five =
-        let is = subst (λ request. IsSettled (Some held) request (Err fault)) makes settled in
-        elim (is (not_memory fault five)) [
-          | inl same ↦ inr (sym (ap (λ (v : Verdict). v.status) same) ∙ five)
-          | inr failed ↦ inl failed.1
-        ]
+    fault_cause told fault settled untold five =
+        read_cause (codes "coz: ") (Names (request_of words)) (verdict words) told faults now told fault (subst (λ request. IsSettled told request (Err fault)) makes settled) untold five
 
     pub headline : (told before after : Option _) (printed : Printed)
         → IfSome told (λ held. (IsMemory {A = Printed} (Ok printed) → ⊥) → Settles (command_verdict asked.command asked held) faults now (Ok printed))

@@ -1,5 +1,4 @@
 mod Budgets
 mod Judged
 mod Printing
-mod Telling
 mod Served

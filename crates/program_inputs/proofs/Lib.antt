@@ -1,5 +1,6 @@
 pub mod Faults
 pub mod Indexed
 pub mod Judged
+pub mod Telling
 mod Reading
 mod Numbers

@@ -1,3 +1,4 @@
 pub mod Experiment
 pub mod Verdict
 pub mod Answer
+pub mod FaultLine

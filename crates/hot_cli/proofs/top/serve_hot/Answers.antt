@@ -2,9 +2,11 @@ use Rattle.std.proofs.Common.{◌≡◌, ◌∙◌, ◌++◌, None, Err, codes, 
 use Rattle.coz_words.specs.Answers.{Answers, bytes_of}
 use Rattle.coz_words.specs.declared.request.WordsError.{WordsError}
 use Rattle.hot_cli.specs.Answer.{fault_line}
-use Rattle.hot_cli.specs.Serve.{IsLine}
+use Rattle.hot_cli.specs.Serve.{IsLine, NamesPath}
+use Rattle.hot_cli.specs.Verdict.{verdict}
+use Rattle.program_inputs.proofs.Telling.{memory_line, write_line}
 use Rattle.hot_cli.specs.Words.{hot_request}
-use Rattle.hot_cli.proofs.Served.{fault_told, memory_line, read_cause, torn, usage_line}
+use Rattle.hot_cli.proofs.Served.{fault_cause, fault_told, no_request_line, torn}
 use Rattle.hot_cli.proofs.Budgets.{run_budget}
 use Rattle.hot_cli.proofs.top.serve_hot.Goals as goal
 
@@ -16,7 +18,7 @@ returns-in-Err-Usage-clause-line g c = λ two.
     let faults = g.F.Files.faults c.args.files.now in
     let none : hot_request words ≡ None = subst (λ (e : WordsError). Answers (hot_request words) (Err e)) c.in-Err-Usage.field-0-is c.in-Err-Usage.ensures.asked in (
       codes "coz-hot: usage",
-      rw (c.tell.ensures.status) (usage_line words faults faults told (sym none)),
+      rw (c.tell.ensures.status) (no_request_line words faults faults told (sym none)),
       c.tell.ensures.line,
     )
 
@@ -25,7 +27,7 @@ pub returns-in-Err-Memory-clause-line : goal.returns-in-Err-Memory-clause-line
 returns-in-Err-Memory-clause-line g c = λ two.
     let faults = g.F.Files.faults c.args.files.now in (
       codes "coz-hot: memory",
-      rw (c.tell-in-Err-Memory.ensures.status) (memory_line (bytes_of c.args.words.now) faults faults (g.F.Files.held c.args.files.now)),
+      rw (c.tell-in-Err-Memory.ensures.status) (memory_line (codes "coz-hot: ") (NamesPath (hot_request (bytes_of c.args.words.now))) (verdict (bytes_of c.args.words.now)) (g.F.Files.held c.args.files.now) faults faults),
       c.tell-in-Err-Memory.ensures.line,
     )
 
@@ -39,20 +41,11 @@ returns-in-Failed-clause-torn g c =
 
 -- the line of a failed write is its own
 pub returns-in-Failed-clause-line : goal.returns-in-Failed-clause-line
-returns-in-Failed-clause-line g c =
-    let six = c.tell-in-Failed.ensures.status in
-    λ two. (
-      codes "coz-hot: write",
-      record {
-        usage = λ is. absurd (omega (arith, is, six));
-        write = λ is. refl;
-        memory = λ is. absurd (omega (arith, is, six));
-        read = λ is. absurd (omega (arith, is, six));
-        absent = λ is. absurd (omega (arith, is, six));
-        verdict = λ is. absurd (is.no_write six);
-      },
-      c.tell-in-Failed.ensures.line,
-    )
+returns-in-Failed-clause-line g c = λ two. (
+  codes "coz-hot: write",
+  write_line (codes "coz-hot: ") (NamesPath (hot_request (bytes_of c.args.words.now))) (verdict (bytes_of c.args.words.now)) (g.F.Files.held c.args.files.now) _ _ c.tell-in-Failed.result c.tell-in-Failed.ensures.status,
+  c.tell-in-Failed.ensures.line,
+)
 
 -- the line of a fault that was judged
 pub returns-in-Err-clause-line : goal.returns-in-Err-clause-line
@@ -78,7 +71,7 @@ returns-in-Err-clause-write_count g c = λ other. refl
 -- a failed read has a cause outside
 pub returns-in-Err-clause-read : goal.returns-in-Err-clause-read
 returns-in-Err-clause-read g c = λ five.
-    read_cause (bytes_of c.args.words.now) (g.F.Files.faults c.args.files.now) (g.F.Files.faults c.judge_hot.new.files) c.in-Ok.request (sym c.in-Ok.ensures.asked)
+    fault_cause (bytes_of c.args.words.now) (g.F.Files.faults c.args.files.now) (g.F.Files.faults c.judge_hot.new.files) c.in-Ok.request (sym c.in-Ok.ensures.asked)
     (g.F.Files.held c.args.files.now) c.in-Err.fault c.in-Err.ensures.settled c.in-Err.ensures.untold (sym c.tell-status.ensures.status ∙ five)
 
 pub judge_hot-requires-clause-some_budget : goal.judge_hot-requires-clause-some_budget
