@@ -1,9 +1,6 @@
 -- What the run with no line selected says of the runs that select one.
-use Rattle.std.proofs.Common.{◌≡◌, ◌≤◌, ◌<◌, ◌^◌, ◌⊎◌, inl, inr, ℕ, true, List, [], map, length, get_or, Result, Ok, Err, IfOk, Some, None, sym, ap, ap₂, refl, ◌∙◌, arith}
+use Rattle.std.proofs.Common.{◌≡◌, ◌≤◌, ◌<◌, ◌^◌, ◌⊎◌, inl, inr, ℕ, true, List, [], map, length, get_or, Result, Ok, Err, IfOk, Some, None, sym, ap, refl, ◌∙◌}
 use Rattle.std.specs.declared.alloc.AllocError.{AllocError}
-use Rattle.std.proofs.lemmas.List.{length-map}
-use Rattle.coz_types.specs.declared.record.Outcome.{Outcome}
-use Rattle.coz_types.specs.declared.record.Visit.{Visit}
 use Rattle.coz_types.specs.Image.{ImageParts}
 use Rattle.coz_types.specs.Labels.{is_label}
 use Rattle.coz_types.specs.Ranges.{IsSummary}
@@ -11,13 +8,9 @@ use Rattle.line_index.specs.Index.{Index, position_at}
 use Rattle.line_index.specs.Lines.{label}
 use Rattle.progress_points.specs.Points.{Points, point_of}
 use Rattle.machines.specs.Delayed.{Delayed}
-use Rattle.machines.specs.Shortened.{NetVisit}
-use Rattle.machines.specs.KeptVisits.{net_of}
-use Rattle.machines.specs.Records.{Record, net_visit}
+use Rattle.machines.specs.Records.{Record}
 use Rattle.machines.specs.Selecting.{uncounted_record}
 use Rattle.machines.specs.Standing.{delayed_record}
-use Rattle.sha2.specs.Sha256.{sha256}
-use Rattle.net_visits.specs.Kept.{visits_bytes, counts_of}
 use Rattle.guest_calls.specs.Guest.{Guest}
 use Rattle.run_engine.specs.Run.{experiment}
 use Rattle.run_engine.specs.Seen.{Seen, experiment_of}
@@ -25,9 +18,9 @@ use Rattle.counted_run.specs.CountedRun.{selecting_line}
 use Rattle.profile_pool.specs.declared.plain.Plain.{Plain}
 use Rattle.run_engine.specs.Choices.{choice_of}
 use Rattle.profile_pool.specs.Made.{parts_made}
-use Rattle.profile_pool.specs.Plain.{relabelled, starts_at, SaysOf, IsPlain}
-use Rattle.profile_pool.specs.Summaries.{outcome_in, summary_of, summary_in}
-use Rattle.profile_pool.proofs.Summing.{summary_by}
+use Rattle.profile_pool.specs.Plain.{starts_at, SaysOf, IsPlain}
+use Rattle.net_visits.specs.Summaries.{relabelled}
+use Rattle.profile_pool.specs.Summaries.{summary_of, summary_in}
 
 -- what the run of a program with no line selected is made with
 abbrev pub plain_parts : ImageParts → Index → Points → List ℕ → ℕ → Seen (Unit {0})
@@ -88,19 +81,3 @@ module _ (image : ImageParts) (index : Index) (points : Points) (input : List �
 pub all_ok : {T : Type 0} (r : Result T AllocError) (A B C D E : T → Type 0) → IfOk r A → IfOk r B → IfOk r C → IfOk r D → ((t : T) → A t → B t → C t → D t → E t) → IfOk r E
 all_ok (Ok t) A B C D E a b c d f = f t a b c d
 all_ok (Err e) A B C D E a b c d f = a
-
--- a summary of net visits
-pub net_summed : (label : List ℕ) (speedup points : ℕ) (r : Record) (given : List Visit) (selected : List ℕ) (o : Outcome) (size : ℕ) (output counts visits : List ℕ)
-    → map net_of given ≡ map net_visit r.visits → selected ≡ label → o ≡ outcome_in r → size ≡ length r.output → output ≡ sha256 r.output
-    → counts ≡ counts_of points (map net_of given) → visits ≡ sha256 (visits_bytes (map net_of given))
-    → summary_by selected speedup o size output counts visits ≡ summary_of label speedup points r
-unfolding summary_of
-net_summed label speedup points r given selected o size output counts visits nets named came long hashed counted listed =
-    ap₂ (λ (text : List ℕ) (it : Outcome). summary_by text speedup it size output counts visits) named came
-    ∙ ap₂ (λ (n : ℕ) (it : List ℕ). summary_by label speedup (outcome_in r) n it counts visits) long hashed
-    ∙ ap₂ (λ (cs vs : List ℕ). summary_by label speedup (outcome_in r) (length r.output) (sha256 r.output) cs vs)
-    (counted ∙ ap (counts_of points) nets)
-    (listed ∙ ap (λ (them : List NetVisit). sha256 (visits_bytes them)) nets)
-
-pub few_nets : (given : List Visit) (r : Record) → map net_of given ≡ map net_visit r.visits → length given ≤ 1048576 → length r.visits ≤ 1048576
-few_nets given r are few = let same = ap length are in omega (arith, length-map given net_of, length-map r.visits net_visit)

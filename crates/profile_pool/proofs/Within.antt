@@ -8,6 +8,7 @@ use Rattle.coz_types.specs.Ranges.{is_ending, IsSummary}
 use Rattle.machines.specs.Records.{Record, net, net_visit}
 use Rattle.net_visits.proofs.Counting.{counts_within}
 use Rattle.net_visits.proofs.Hashing.{sha256_is}
+use Rattle.virtual_run.specs.DelayedRun.{IsSmall}
 use Rattle.profile_pool.specs.Summaries.{outcome_in, summary_of}
 
 -- the numbers of an outcome are those of a profile
@@ -17,6 +18,15 @@ pub record IsWithin (o : Outcome) : Type 0 where
   pub delay : o.delay ≤ o.time
   pub retired : o.retired ≤ 10 ^ 17
   pub starts : o.starts ≤ 10 ^ 17
+
+pub is_within : (o : Outcome) → is_ending o.ending ≡ true → IsSmall o → o.delay ≤ o.time → IsWithin o
+is_within o ending small in_time = record {
+  ending = ending;
+  time = small.time;
+  delay = in_time;
+  retired = small.retired;
+  starts = small.starts;
+}
 
 pub summary_is : (label : List ℕ) (speedup points : ℕ) (r : Record) → IsWithin (outcome_in r)
     → length r.output ≤ 67108864 → length r.visits ≤ 1048576 → is_label label ≡ true → speedup ≤ 95

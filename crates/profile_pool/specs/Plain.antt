@@ -1,7 +1,6 @@
 -- The run with no line selected, and what it gives of the runs that select one.
 use Rattle.std.specs.Prelude.{◌≡◌, ℕ, ◌<◌, ◌≤◌, ◌^◌, ◌⊎◌, true, List, [], map, length, get_or, slice_index_or, Option, option_map}
 use Rattle.coz_types.specs.declared.TheConstants.{MAX_SPEEDUP}
-use Rattle.coz_types.specs.declared.record.Summary.{Summary}
 use Rattle.coz_types.specs.Image.{ImageParts}
 use Rattle.coz_types.specs.Labels.{is_label}
 use Rattle.coz_types.specs.Ranges.{IsSummary}
@@ -13,17 +12,10 @@ use Rattle.machines.specs.Standing.{delayed_record}
 use Rattle.progress_points.specs.Points.{Points}
 use Rattle.guest_calls.specs.Guest.{Guest}
 use Rattle.run_engine.specs.Seen.{Seen, experiment_of}
+use Rattle.net_visits.specs.Summaries.{relabelled}
 use Rattle.counted_run.specs.CountedRun.{selecting_line}
 use Rattle.profile_pool.specs.declared.plain.Plain.{Plain}
 use Rattle.profile_pool.specs.Summaries.{summary_in}
-
--- with another label, speedup and number of starts
-abbrev pub relabelled : List ℕ → ℕ → ℕ → Summary → Summary
-relabelled label speedup starts s = record s {
-  selected = label;
-  speedup = speedup;
-  outcome = record s.outcome { starts = starts };
-}
 
 abbrev pub starts_at : Plain → ℕ → ℕ
 starts_at plain line = slice_index_or plain.starts.items line 0

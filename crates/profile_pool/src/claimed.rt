@@ -13,8 +13,9 @@ use crate::plain::Plain;
 use crate::summary::summarise;
 use crate::work::{Runner, Work};
 use claim_workers::ClaimWork;
-use coz_types::{Items, Label, LineId, Outcome, Summary};
+use coz_types::{Items, LineId, Summary};
 use experiment_plan::Experiment;
+use net_visits::{is_undelayed, relabelled};
 use std::alloc::{AllocError, Global};
 use virtual_run::{Choice, Lead, Machine};
 
@@ -65,7 +66,7 @@ fn plain_of<'a>(work: &Work<'a>, pair: Experiment) -> Option<&'a Plain>
     match work.plain {
         Some(plain) => {
             let starts = plain.starts[pair.line.0 as usize];
-            if pair.speedup == 0 || starts == 0 {
+            if is_undelayed(pair.speedup, starts) {
                 Some(plain)
             } else {
                 None
@@ -90,21 +91,8 @@ fn plain_pair(
     ensures ranges { IfOk result (IsSummary (length work.now.points.now.lines)) }
 {
     let starts = plain.starts[pair.line.0 as usize];
-    let summary = &plain.summary;
-    let selected = Label::copy(alloc, work.index.label(pair.line).bytes())?;
-    let counts = Vec::from_slice(alloc, summary.counts.as_slice())?;
-    Ok(Summary {
-        selected,
-        speedup: pair.speedup,
-        outcome: Outcome {
-            starts,
-            ..summary.outcome
-        },
-        length: summary.length,
-        output: summary.output,
-        counts: Items::new(counts),
-        visits: summary.visits,
-    })
+    let label = work.index.label(pair.line);
+    relabelled(alloc, &plain.summary, label.bytes(), pair.speedup, starts)
 }
 
 /// The summary of the run of a pair, which is forked from the lead of its line.

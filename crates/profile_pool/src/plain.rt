@@ -7,15 +7,16 @@ ghost use Rattle.coz_types.specs.Ranges.{IsSummary};
 ghost use Rattle.machines.specs.Records.{record_of};
 ghost use Rattle.run_engine.specs.Seen.{experiment_of};
 ghost use Rattle.profile_pool.specs.Summaries.{summary_of};
-ghost use Rattle.profile_pool.specs.Plain.{relabelled, starts_at, SaysOf, IsPlain};
+ghost use Rattle.net_visits.specs.Summaries.{relabelled};
+ghost use Rattle.profile_pool.specs.Plain.{starts_at, SaysOf, IsPlain};
 ghost use Rattle.profile_pool.specs.Worth.{is_worth};
 
-use crate::outcomes::counted_outcome;
+use crate::outcomes::ended;
 use crate::worth::is_worth;
 use counted_run::Counted;
-use coz_types::{Image, Items, Label, LineId, Outcome, Summary};
+use coz_types::{Image, LineId, Summary};
 use line_index::LineIndex;
-use net_visits::{counts_of_visits, digest_of_bytes, digest_of_visits};
+use net_visits::{digest_of_bytes, summary_of_run};
 use progress_points::Points;
 use std::alloc::{AllocError, Global};
 use virtual_run::Choice;
@@ -46,17 +47,10 @@ fn summarise_counted(
 {
     let visits = counted.visits();
     let output = counted.output();
-    let selected = Label::copy(alloc, b"")?;
-    let counts = counts_of_visits(alloc, points.count(), visits)?;
-    Ok(Summary {
-        selected,
-        speedup: 0,
-        outcome: counted_outcome(counted),
-        length: output.len() as u64,
-        output: digest_of_bytes(output),
-        counts: Items::new(counts),
-        visits: digest_of_visits(visits),
-    })
+    let outcome = ended(counted.outcome());
+    let digest = digest_of_bytes(output);
+    let points = points.count();
+    summary_of_run(alloc, b"", 0, outcome, output, digest, points, visits)
 }
 
 /// The number of instructions of each line that were begun in a run that has ended.

@@ -9,9 +9,9 @@ ghost use Rattle.run_engine.specs.Seen.{experiment_of};
 ghost use Rattle.profile_pool.specs.Summaries.{summary_of};
 
 use crate::known::{KnownOutput, digest_of_output};
-use crate::outcomes::outcome;
-use coz_types::{Items, Label, Summary};
-use net_visits::{counts_of_visits, digest_of_visits};
+use crate::outcomes::ended;
+use coz_types::{Label, Summary};
+use net_visits::summary_of_run;
 use progress_points::Points;
 use std::alloc::{AllocError, Global};
 use virtual_run::Machine;
@@ -39,15 +39,16 @@ pub fn summarise(
     let visits = machine.visits();
     let output = machine.output();
     let digest = digest_of_output(alloc, known, output)?;
-    let selected = Label::copy(alloc, label.bytes())?;
-    let counts = counts_of_visits(alloc, points.count(), visits)?;
-    Ok(Summary {
-        selected,
+    let outcome = ended(machine.outcome());
+    let points = points.count();
+    summary_of_run(
+        alloc,
+        label.bytes(),
         speedup,
-        outcome: outcome(machine),
-        length: output.len() as u64,
-        output: digest,
-        counts: Items::new(counts),
-        visits: digest_of_visits(visits),
-    })
+        outcome,
+        output,
+        digest,
+        points,
+        visits,
+    )
 }

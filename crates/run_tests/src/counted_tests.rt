@@ -1,5 +1,5 @@
 //! Tests of the run that counts what each line begins.
-ghost use Rattle.std.specs.Prelude.{◌≡◌, ◌<◌, ◌≤◌, None, length, IfSome};
+ghost use Rattle.std.specs.Prelude.{◌≡◌, None, length};
 ghost use Rattle.elf_load.specs.Faults.{fault};
 ghost use Rattle.run_engine.specs.Run.{IsChoice};
 
@@ -8,6 +8,7 @@ use crate::shortened_run_tests::SMALL;
 use counted_run::Counted;
 use coz_types::{Image, LineId, Tick};
 use elf_load::load;
+use line_index::LineIndex;
 use progress_points::Points;
 use std::alloc::{AllocError, Global};
 use std::test::Fail;
@@ -17,7 +18,6 @@ use virtual_run::Choice;
 type Begun = (u64, Tick);
 
 /// A program, a budget, what is begun of each line, and all work in ticks.
-#[derive(Clone, Copy, Debug)]
 struct Row {
     guest: Guest,
     budget: u64,
@@ -75,62 +75,70 @@ static ROWS: [Row; 4] = [
     },
 ];
 
-/// Whether a line is begun so, and as often as the run that selects it at speedup 0 starts it.
-fn is_begun<'a>(
-    alloc: Global,
-    program: &Program<'a>,
-    choice: Choice,
-    counted: &Counted<'a>,
-    line: LineId,
-    begun: Begun,
-) -> Result<bool, AllocError>
-    requires choice { IsChoice choice }
-    requires line { line.0 < length counted.now.index.lines }
+/// What is chosen for a run of at most this many instructions, from 1 to 100.
+fn choice_of(budget: u64) -> Choice
+    ensures { IsChoice result }
 {
-    let mut machine = run_of(alloc, program, with_line(choice, line))?;
+    Choice {
+        selected: None,
+        speedup: 0,
+        budget: budget.clamp(1, 100),
+        output_limit: 10,
+        visit_limit: 100,
+        layout: SMALL,
+    }
+}
+
+/// How often the run of a choice starts its line.
+fn starts_of(alloc: Global, program: &Program, choice: Choice) -> Result<u64, AllocError>
+    requires choice { IsChoice choice }
+{
+    let mut machine = run_of(alloc, program, choice)?;
     machine.run();
     let starts = machine.starts();
     drop(machine);
-    Ok(starts == begun.0 && counted.starts(line) == begun.0 && counted.cost(line) == begun.1)
+    Ok(starts)
 }
 
-/// Whether each line of a run that has counted is begun so.
-fn are_begun<'a>(
+/// Whether each line of a run that has counted is begun so, and as often as the run that selects
+/// it at speedup 0 starts it.
+fn are_begun(
     alloc: Global,
-    program: &Program<'a>,
+    program: &Program,
     choice: Choice,
-    counted: &Counted<'a>,
+    counted: &Counted,
     lines: &[Begun],
 ) -> Result<bool, AllocError>
     requires choice { IsChoice choice }
-    requires lines { length lines.now ≤ length counted.now.index.lines }
-    requires few { length lines.now ≤ 100 }
+    requires index { counted.now.index ≡ program.now.index.now }
+    requires lines { length lines.now ≡ length program.now.index.now.lines }
 {
     let mut all = true;
-    for (line, begun) in lines.iter().enumerate() {
-        let line = LineId(line as u32);
-        all = is_begun(alloc, program, choice, counted, line, *begun)? && all;
+    for line in 0..program.index.count() {
+        let (starts, cost) = lines[line as usize];
+        let line = LineId(line);
+        let selected = starts_of(alloc, program, with_line(choice, line))?;
+        all = all
+            && selected == starts
+            && counted.starts(line) == starts
+            && counted.cost(line) == cost;
     }
     Ok(all)
 }
 
 /// Whether the run of a program counts as the row says.
-fn counts_so<'a>(
-    alloc: Global,
-    program: &Program<'a>,
-    choice: Choice,
-    row: &Row,
-) -> Result<bool, AllocError>
-    requires choice { IsChoice choice }
-    requires lines { length row.now.lines.now ≤ length program.now.index.now.lines }
-    requires few { length row.now.lines.now ≤ 100 }
+fn counts_so(alloc: Global, program: &Program, row: &Row) -> Result<bool, AllocError>
+    requires lines { length row.now.lines.now ≡ length program.now.index.now.lines }
 {
-    let Program {
-        image,
-        index,
-        points,
-    } = *program;
-    let mut counted = Counted::new(alloc, image, index, points, b"", choice)?;
+    let choice = choice_of(row.budget);
+    let mut counted = Counted::new(
+        alloc,
+        program.image,
+        program.index,
+        program.points,
+        b"",
+        choice,
+    )?;
     counted.run();
     let begun = are_begun(alloc, program, choice, &counted, row.lines);
     let all = (counted.cost_of_all(), counted.cost_of_none());
@@ -138,21 +146,18 @@ fn counts_so<'a>(
     Ok(begun? && all == (row.all, 0))
 }
 
-/// What is chosen for the run of a row.
-fn choice_of(row: &Row) -> Option<Choice>
-    ensures { IfSome result IsChoice }
-{
-    if row.budget < 1 || row.budget > 100 {
+/// Whether the row is right of a program with these lines.
+fn is_right_in(alloc: Global, image: &Image, index: &LineIndex, row: &Row) -> Option<bool> {
+    if row.lines.len() != index.count() as usize {
         return None;
     }
-    Some(Choice {
-        selected: None,
-        speedup: 0,
-        budget: row.budget,
-        output_limit: 10,
-        visit_limit: 100,
-        layout: SMALL,
-    })
+    let points = Points::new(alloc, index, &[]).ok()?;
+    let program = Program {
+        image,
+        index,
+        points: &points,
+    };
+    counts_so(alloc, &program, row).ok()
 }
 
 /// Whether the row is right of its program.
@@ -160,17 +165,9 @@ fn is_right_of(alloc: Global, image: &Image, row: &Row) -> Option<bool>
     requires { fault image.now.file ≡ None }
 {
     let index = index_of(alloc, image)?;
-    let points = Points::new(alloc, &index, &[]).ok()?;
-    let choice = choice_of(row)?;
-    if row.lines.len() != index.count() as usize || row.lines.len() > 100 {
-        return None;
-    }
-    let program = Program {
-        image,
-        index: &index,
-        points: &points,
-    };
-    counts_so(alloc, &program, choice, row).ok()
+    let right = is_right_in(alloc, image, &index, row);
+    drop(index);
+    right
 }
 
 fn is_right(alloc: Global, row: &Row) -> Option<bool> {
@@ -184,7 +181,8 @@ fn is_right(alloc: Global, row: &Row) -> Option<bool> {
 #[test]
 fn each_line_is_counted_as_the_run_that_selects_it_starts_it(rt: HostRuntime) -> Result<(), Fail> {
     for row in &ROWS {
-        assert!(rt; is_right(rt.alloc(), row) == Some(true), "{row:?}");
+        let right = is_right(rt.alloc(), row);
+        assert!(rt; right == Some(true), "{:?} {}", row.guest, row.budget);
     }
     Ok(())
 }
