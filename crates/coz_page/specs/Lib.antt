@@ -1,7 +1,3 @@
-pub mod Labels
-pub mod Values
-pub mod Harm
-pub mod Cost
 pub mod Runs
 pub mod Page
 pub mod Verdict

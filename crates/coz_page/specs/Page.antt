@@ -1,5 +1,5 @@
 -- The page of a profile.
-use Rattle.std.specs.Prelude.{ℕ, ◌-◌, ◌<◌, ◌≤◌, Bool, ◌||◌, ◌==◌, List, [], ◌∷◌, ◌++◌, length, take, get_or, min, flat_map, codes, decimal, not, nat_lt, ◌&&◌, Option, Some, None, ℤ, if◌then◌else◌}
+use Rattle.std.specs.Prelude.{ℕ, ◌-◌, Bool, ◌==◌, List, [], ◌∷◌, ◌++◌, length, take, get_or, min, flat_map, codes, decimal, not, nat_lt, ◌&&◌, Option, Some, None, if◌then◌else◌}
 use Rattle.std.specs.List.{enumerate_from, filter, list_any}
 use Rattle.std.specs.Option.{option_cmp}
 use Rattle.std.specs.Ordering.{is_lt, nat_cmp, int_cmp, ordering_then}
@@ -15,61 +15,13 @@ use Rattle.coz_files.specs.InMemory.{entries}
 use Rattle.page_words.specs.Words.{Request}
 use Rattle.page_sources.specs.Sources.{Answers, is_of_file, line_beside, look_up}
 use Rattle.coz_page.specs.declared.view.View.{View as Seen}
-use Rattle.coz_page.specs.declared.frame.TheConstants.{HEAD, NOTHING, LINES, AXES, SMALL_AXES, FOOT}
-use Rattle.coz_page.specs.Labels.{html}
-use Rattle.coz_page.specs.Values.{size_text, percent, value_text, cost_text, top_for, harm_top_for, height, is_cut, place_across, reaches}
-use Rattle.coz_page.specs.Harm.{worst_of, harmful_curves}
-use Rattle.coz_page.specs.Cost.{cost_of}
+use Rattle.coz_page.specs.declared.frame.TheConstants.{HEAD, NOTHING, LINES, FOOT}
+use Rattle.page_values.specs.Labels.{html}
+use Rattle.page_charts.specs.Values.{value_text, cost_text, top_for, harm_top_for}
+use Rattle.page_charts.specs.Charts.{chart_text, is_notable, small_text}
+use Rattle.page_values.specs.Harm.{worst_of, harmful_curves}
+use Rattle.page_values.specs.Cost.{cost_of}
 use Rattle.coz_page.specs.Runs.{runs_text, visits_text}
-
--- ---- the picture of a curve
-
--- an upper end of an axis of values
-pub record IsTop (top : ℕ) : Type 0 where
-  pub some : 0 < top
-  pub within : top ≤ 10000
-
-abbrev pub place_text : ℕ → ℕ → ℤ → Text
-place_text top speedup v =
-    codes " " ++ decimal (place_across speedup) ++ codes "," ++ decimal (height top v)
-
--- the beginning of a dot; that of a value below the lower end has a class of its own
-abbrev pub dot_start : Bool → Text
-dot_start is_low = if is_low then codes "<circle class=\"low" else codes "<circle class=\"dot"
-
--- a dot, with its value when it is pointed at
-abbrev pub dot_text : ℕ → ℕ → ℤ → Text
-dot_text top speedup v =
-    dot_start (is_cut top v)
-    ++ codes "\" r=\"14\" cx=\"" ++ decimal (place_across speedup)
-    ++ codes "\" cy=\"" ++ decimal (height top v)
-    ++ codes "\"><title>line " ++ decimal speedup ++ codes "% faster: " ++ percent v
-    ++ codes "</title></circle>"
-
--- nothing if the value is absent
-abbrev pub at_value : (ℕ → ℤ → Text) → ℕ → Option ℤ → Text
-at_value text speedup None = []
-at_value text speedup (Some v) = text speedup v
-
-abbrev pub place_at : ℕ → CurveStep → Text
-place_at top s = at_value (place_text top) s.speedup s.value
-
-abbrev pub dot_at : ℕ → CurveStep → Text
-dot_at top s = at_value (dot_text top) s.speedup s.value
-
-abbrev pub chart_text : ℕ → Curve → Text
-chart_text top c =
-    AXES.now ++ size_text top
-    ++ codes "</text><polyline points=\"" ++ flat_map (place_at top) c.steps
-    ++ codes "\"/>" ++ flat_map (dot_at top) c.steps ++ codes "</svg>"
-
--- the gain or the size of the worst value is at least a hundredth of the axis
-abbrev pub is_notable : ℕ → Curve → Bool
-is_notable top c = reaches top c.gain || reaches top (worst_of c.steps)
-
--- the picture in a row of a table
-abbrev pub small_text : ℕ → Curve → Text
-small_text top c = SMALL_AXES.now ++ flat_map (place_at top) c.steps ++ codes "\"/></svg>"
 
 -- ---- a progress point
 
@@ -242,15 +194,26 @@ sides_text most points curves =
 
 -- ---- the whole
 
--- a progress point to choose
-abbrev pub choice_text : ℕ × Text → Text
-choice_text point =
+-- a link to the table of a progress point
+abbrev pub link_text : ℕ × Text → Text
+link_text point =
     codes "<li><a href=\"#p" ++ decimal point.0 ++ codes "\">" ++ html point.1
     ++ codes "</a></li>\n"
 
-abbrev pub choices_text : List Text → Text
-choices_text points =
-    codes "<ul>\n" ++ flat_map choice_text (enumerate_from 0 points) ++ codes "</ul>\n"
+abbrev pub name_text : Text → Text
+name_text name = codes "<li>" ++ html name ++ codes "</li>\n"
+
+-- a progress point to choose, or only its name if the page has no tables
+abbrev pub choice_text : Bool → ℕ × Text → Text
+choice_text tables point = if tables then link_text point else name_text point.1
+
+-- each point has a table, unless there is no curve
+abbrev pub has_tables : List Curve → Bool
+has_tables curves = nat_lt 0 (length curves)
+
+abbrev pub choices_text : Bool → List Text → Text
+choices_text tables points =
+    codes "<ul>\n" ++ flat_map (choice_text tables) (enumerate_from 0 points) ++ codes "</ul>\n"
 
 -- what is said of a profile without curves
 abbrev pub nothing_text : ℕ → Text
@@ -271,7 +234,8 @@ chosen_text (Some pattern) count all = pattern_text pattern count all
 -- the page of a profile with these of all its curves, of which these hurt
 abbrev pub curves_page : View → Option Text → ℕ → Profile → List Curve → List Curve → Text
 curves_page view file all p curves harmful =
-    HEAD.now ++ runs_text p ++ chosen_text file (length curves) all ++ choices_text p.points
+    HEAD.now ++ runs_text p ++ chosen_text file (length curves) all
+    ++ choices_text (has_tables curves) p.points
     ++ nothing_text all ++ flat_map (point_text view p) (by_point curves)
     ++ sides_text view.most p.points curves
     ++ flat_map (harm_text view p) (by_point harmful) ++ FOOT.now

@@ -10,12 +10,12 @@ ghost use Rattle.coz_page.specs.Verdict.{bytes_of, book_at, verdict, profile_ver
 ghost use Rattle.coz_page.specs.Answer.{verdict_of, IsMemory, IsRead, Suits, Settles};
 
 use crate::fault::Fault;
-use crate::harm::harmful;
 use causal_curves::{Curve, curves};
 use coz_files::Files;
 use coz_types::Items;
 use file_steps::{FileFault, read_file};
 use page_sources::is_of_file;
+use page_values::harmful;
 use page_words::{Asked, read_page};
 use profile_book::Profile;
 use profile_reader::{MAX_PROFILE, read_profile};

@@ -2,17 +2,12 @@
 //! that needs nothing else. The text of the lines is read from source files, if they are there.
 #![tactic(auto)]
 
-mod chart;
-mod cost;
 mod fault;
 mod fault_line;
 mod frame;
 mod groups;
-mod harm;
 mod judge;
-mod label;
 mod page;
-mod percent;
 mod runs;
 mod sides;
 mod sources;
@@ -20,5 +15,4 @@ mod tables;
 mod top;
 mod view;
 
-pub use label::no_markup;
 pub use top::serve;

@@ -1,16 +1,15 @@
 //! The page, on its way to a sink.
-ghost use Rattle.std.specs.Prelude.{flat_map};
+ghost use Rattle.std.specs.Prelude.{◌≡◌, flat_map};
 ghost use Rattle.std.specs.List.{enumerate_from};
 ghost use Rattle.coz_files.specs.Gathered.{Gathers};
 ghost use Rattle.coz_files.specs.Puts.{Puts};
 ghost use Rattle.std.specs.Option.{option_copied};
 ghost use Rattle.page_words.specs.Words.{asked_of};
-ghost use Rattle.coz_page.specs.Page.{by_point, view_of, choice_text, pattern_text, chosen_text, nothing_text, point_text, harm_text, curves_page};
+ghost use Rattle.coz_page.specs.Page.{by_point, view_of, link_text, name_text, choice_text, has_tables, pattern_text, chosen_text, nothing_text, point_text, harm_text, curves_page};
 
 use crate::frame::{FOOT, HEAD, NOTHING};
 use crate::groups::group_length;
 use crate::judge::Ranked;
-use crate::label::put_label;
 use crate::runs::put_runs;
 use crate::sides::put_all_points;
 use crate::tables::{put_harm, put_point};
@@ -18,24 +17,49 @@ use crate::view::View;
 use causal_curves::Curve;
 use coz_files::{PutAnswer, PutBuffer, Sink};
 use coz_types::Label;
+use page_values::put_label;
 use profile_book::{Profile, put_named};
 
-fn put_choice<O: Sink>(to: &mut PutBuffer, out: &mut O, index: usize, label: &Label)
+fn put_link<O: Sink>(to: &mut PutBuffer, out: &mut O, index: usize, label: &Label)
     ensures { Gathers O.holds O.faults out.old out.new to.old to.new
-        (choice_text (index, label.now)) }
+        (link_text (index, label.now)) }
 {
     put_named(to, out, b"<li><a href=\"#p", index as u64);
     put_label(to, out, b"\">", label.bytes());
     to.push(out, b"</a></li>\n");
 }
 
-fn put_choices<O: Sink>(to: &mut PutBuffer, out: &mut O, points: &[Label])
+fn put_name<O: Sink>(to: &mut PutBuffer, out: &mut O, label: &Label)
+    ensures { Gathers O.holds O.faults out.old out.new to.old to.new (name_text label.now) }
+{
+    put_label(to, out, b"<li>", label.bytes());
+    to.push(out, b"</li>\n");
+}
+
+fn put_choice<O: Sink>(to: &mut PutBuffer, out: &mut O, tables: bool, index: usize, label: &Label)
     ensures { Gathers O.holds O.faults out.old out.new to.old to.new
-        (flat_map choice_text (enumerate_from 0 points.now)) }
+        (choice_text tables (index, label.now)) }
+{
+    if tables {
+        put_link(to, out, index, label);
+    } else {
+        put_name(to, out, label);
+    }
+}
+
+fn put_choices<O: Sink>(to: &mut PutBuffer, out: &mut O, tables: bool, points: &[Label])
+    ensures { Gathers O.holds O.faults out.old out.new to.old to.new
+        (flat_map (choice_text tables) (enumerate_from 0 points.now)) }
 {
     for (index, label) in points.iter().enumerate() {
-        put_choice(to, out, index, label);
+        put_choice(to, out, tables, index, label);
     }
+}
+
+fn has_tables(curves: &[Curve]) -> bool
+    ensures { result ≡ has_tables curves.now }
+{
+    !curves.is_empty()
 }
 
 fn put_nothing<O: Sink>(to: &mut PutBuffer, out: &mut O, all: u64)
@@ -124,7 +148,7 @@ pub fn write_page<O: Sink>(view: &View, ranked: &Ranked, out: &mut O) -> PutAnsw
     );
     let points = ranked.profile.points.as_slice();
     buffer.push(out, b"<ul>\n");
-    put_choices(&mut buffer, out, points);
+    put_choices(&mut buffer, out, has_tables(curves), points);
     buffer.push(out, b"</ul>\n");
     put_nothing(&mut buffer, out, ranked.all);
     put_points(&mut buffer, out, view, &ranked.profile, curves);

@@ -1,58 +1,13 @@
 //! What the page says of the runs.
-ghost use Rattle.std.specs.Prelude.{◌≡◌, ◌+◌, ◌<◌, ◌≤◌, cond, length, option_copied};
+ghost use Rattle.std.specs.Prelude.{◌≡◌, option_copied};
 ghost use Rattle.coz_files.specs.Gathered.{Gathers};
 ghost use Rattle.causal_curves.specs.Curves.{visits};
-ghost use Rattle.coz_page.specs.Runs.{kind_of, ended_so, count_of, others_of, kind_text, kinds_text, warning_text, runs_text, plain_run, visits_of, visits_in, visits_text, warned};
+ghost use Rattle.coz_page.specs.Runs.{kind_text, kinds_text, warning_text, runs_text, plain_run, visits_of, visits_in, visits_text, warned};
 
 use coz_files::{PutBuffer, Sink};
-use coz_types::{Ending, Summary};
+use coz_types::Summary;
+use page_values::{count_of, others_of};
 use profile_book::{Profile, put_named};
-
-/// The kind of an ending, as its text begins.
-fn kind_of(ending: Ending) -> &'static [u8]
-    ensures { result.now ≡ kind_of ending }
-{
-    match ending {
-        Ending::Exited(_) => b"exited",
-        Ending::Trapped(_) => b"trapped",
-        Ending::Unsupported(_) => b"unsupported",
-        Ending::Clock => b"clock",
-        Ending::OutputFull => b"output-full",
-        Ending::VisitsFull => b"visits-full",
-        Ending::Stalled => b"stalled",
-        Ending::Spent => b"spent",
-    }
-}
-
-fn ended_so(kind: &[u8], summary: &Summary) -> bool
-    ensures { result ≡ ended_so kind.now summary.now }
-{
-    kind_of(summary.outcome.ending) == kind
-}
-
-/// The count, with one more if the run ended so.
-fn counted(count: u64, kind: &[u8], summary: &Summary) -> u64
-    requires { count < 18446744073709551615 }
-    ensures { result ≡ count + cond (ended_so kind.now summary.now) 1 0 }
-{
-    if ended_so(kind, summary) {
-        count + 1
-    } else {
-        count
-    }
-}
-
-/// The number of runs with this kind of ending.
-fn count_of(kind: &[u8], summaries: &[Summary]) -> u64
-    ensures count { result ≡ count_of kind.now summaries.now }
-    ensures within { result ≤ length summaries.now }
-{
-    let mut count = 0;
-    for summary in summaries {
-        count = counted(count, kind, summary);
-    }
-    count
-}
 
 fn put_kind<O: Sink>(to: &mut PutBuffer, out: &mut O, summaries: &[Summary], kind: &[u8])
     ensures { Gathers O.holds O.faults out.old out.new to.old to.new
@@ -88,12 +43,6 @@ fn put_warned<O: Sink>(to: &mut PutBuffer, out: &mut O, others: u64, summaries: 
     to.push(out, b". ");
     put_kinds(to, out, summaries);
     to.push(out, b"</p>\n");
-}
-
-fn others_of(summaries: &[Summary]) -> u64
-    ensures { result ≡ others_of summaries.now }
-{
-    summaries.len() as u64 - count_of(b"exited", summaries)
 }
 
 fn put_warning<O: Sink>(to: &mut PutBuffer, out: &mut O, summaries: &[Summary])

@@ -2,16 +2,17 @@
 ghost use Rattle.std.specs.Prelude.{◌≡◌, flat_map, get_or, []};
 ghost use Rattle.std.specs.List.{list_any};
 ghost use Rattle.coz_files.specs.Gathered.{Gathers};
-ghost use Rattle.coz_page.specs.Page.{IsTop, by_point, is_behind, leads, is_notable_of, is_shown, side_at, line_text, line_at, lines_text, all_lines_text, sides_text};
+ghost use Rattle.page_values.specs.Places.{IsTop};
+ghost use Rattle.coz_page.specs.Page.{by_point, is_behind, leads, is_notable_of, is_shown, side_at, line_text, line_at, lines_text, all_lines_text, sides_text};
 
-use crate::chart::is_notable;
 use crate::frame::LINES;
 use crate::groups::group_length;
-use crate::label::put_label;
-use crate::tables::{put_figure, shown, top_of};
+use crate::tables::{put_figure, top_of};
 use causal_curves::Curve;
 use coz_files::{PutBuffer, Sink};
 use coz_types::Label;
+use page_charts::is_notable;
+use page_values::{put_label, shown};
 
 /// Whether the other curve is of the same line, and gains more, or as much at an earlier point.
 fn is_behind(curve: &Curve, other: &Curve) -> bool

@@ -4,19 +4,18 @@ ghost use Rattle.coz_types.specs.Labels.{Text};
 ghost use Rattle.coz_files.specs.Gathered.{Gathers};
 ghost use Rattle.page_sources.specs.Sources.{look_up};
 ghost use Rattle.coz_files.specs.InMemory.{entries};
-ghost use Rattle.coz_page.specs.Page.{IsTop, view_of, source_text, row_text, rows_text, figure_text, figure_at, count_text, step_text, steps_text, values_text, pictures_text, point_name, point_number, top_of, harm_top, point_text, harm_text};
+ghost use Rattle.page_values.specs.Places.{IsTop};
+ghost use Rattle.coz_page.specs.Page.{count_text};
+ghost use Rattle.coz_page.specs.Page.{view_of, source_text, row_text, rows_text, figure_text, figure_at, step_text, steps_text, values_text, pictures_text, point_name, point_number, top_of, harm_top, point_text, harm_text};
 
-use crate::chart::{harm_top_for, is_notable, put_chart, put_small, top_for};
-use crate::cost::cost_of;
-use crate::harm::worst_of;
-use crate::label::put_label;
-use crate::percent::{put_cost, put_value};
 use crate::runs::put_visits;
 use crate::view::View;
 use causal_curves::{Curve, CurveStep};
 use coz_files::{HeldFile, PutBuffer, Sink};
 use coz_types::{Label, Summary};
+use page_charts::{harm_top_for, is_notable, put_chart, put_cost, put_small, put_value, top_for};
 use page_sources::line_of;
+use page_values::{cost_of, put_label, shown, worst_of};
 use profile_book::{Profile, put_named};
 
 /// The text of a line, if it has one.
@@ -113,13 +112,6 @@ fn put_count<O: Sink>(to: &mut PutBuffer, out: &mut O, most: u64, lines: u64)
     put_named(to, out, b". Shown: ", shown);
     put_named(to, out, b". Not shown: ", lines - shown);
     to.push(out, b".</p>\n");
-}
-
-/// The first of the curves, at most this many.
-pub fn shown(curves: &[Curve], most: u64) -> &[Curve]
-    ensures { result.now ≡ take most curves.now }
-{
-    &curves[..most.min(curves.len() as u64) as usize]
 }
 
 fn put_table<O: Sink>(

@@ -1,3 +1,4 @@
 pub mod Heaviest
 pub mod Chains
 mod Examples
+mod Sorting

@@ -1,1 +1,3 @@
 pub mod Path
+pub mod Segments
+pub mod Shares

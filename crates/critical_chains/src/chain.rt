@@ -15,9 +15,8 @@ pub fn longest(alloc: Global, trace: &Trace) -> Result<Vec<u32>, AllocError>
         → weight trace.now.events other ≤ weight trace.now.events chain.items) }
 {
     let events = trace.events.as_slice();
-    let mut chain = vec![in alloc; 0; events.len()]?;
     let mut number = events.len() as u32 - 1;
-    chain[0] = number;
+    let mut chain = vec![in alloc; number; events.len()]?;
     let mut count = 1;
     while let Some(from) = events[number as usize].from {
         number = from;

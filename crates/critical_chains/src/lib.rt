@@ -6,10 +6,14 @@
 mod chain;
 mod checked;
 mod event;
+mod segment;
+mod share;
 
 pub use chain::longest;
 pub use checked::check;
 pub use event::{Event, Trace};
+pub use segment::{Handover, Segment, after, first_segment, whole_segment};
+pub use share::{Share, by_falling_ticks};
 
 /// The most events of a run whose critical path is asked for.
 pub const MAX_EVENTS: u64 = 4_000_000;

@@ -14,7 +14,7 @@ use Rattle.machines.proofs.Ends.{GoesOn, HasEnded, goes_or_ended, next_is, turn_
 use Rattle.critical_chains.specs.declared.TheConstants.{MAX_EVENTS}
 use Rattle.critical_chains.specs.declared.event.Event.{Event}
 use Rattle.critical_chains.specs.Path.{event_at, last_of, Linked}
-use Rattle.critical_path.specs.Causes.{no_cause, after_own, at_rest, started_with, woken_with}
+use Rattle.hart_causes.specs.Causes.{no_cause, after_own, at_rest, started_with, woken_with}
 use Rattle.critical_path.specs.Events.{Traced, AreBefores, work, event_of, retired, woken, after_move, after_move_by, untraced, traced, events_of}
 use Rattle.critical_path.proofs.Turns.{turn_least}
 use Rattle.critical_path.proofs.Grown.{Hangs, more_length, new_at, hangs_more}

@@ -9,8 +9,8 @@ use Rattle.machines.specs.Shortened.{Turn, ending, rest}
 use Rattle.machines.proofs.Harts.{cut_le}
 use Rattle.critical_chains.specs.declared.event.Event.{Event}
 use Rattle.critical_chains.specs.Path.{event_at}
-use Rattle.critical_path.specs.declared.cause.Cause.{Cause}
-use Rattle.critical_path.specs.Causes.{after_own, at_rest, started_with}
+use Rattle.hart_causes.specs.declared.cause.Cause.{Cause}
+use Rattle.hart_causes.specs.Causes.{after_own, at_rest, started_with}
 use Rattle.critical_path.specs.Events.{Traced, latest, work, event_of, cause_after, retired}
 use Rattle.critical_path.proofs.Grown.{since, Hangs, Comes, more_length, new_at, old_at, since_old, latest_new, latest_below}
 

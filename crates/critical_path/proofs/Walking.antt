@@ -28,17 +28,16 @@ use Rattle.run_engine.specs.declared.engine.Event.TheVariants.{Woke, Retired}
 use Rattle.run_engine.specs.Advance.{IsAdvance}
 use Rattle.run_engine.specs.Begin.{started_by}
 use Rattle.run_engine.specs.Engine.{events_of, IsEngineOf, IsFirst, IsSteady}
-use Rattle.run_engine.specs.Run.{IsChoice, experiment}
-use Rattle.run_engine.specs.Seen.{experiment_of_image}
+use Rattle.run_engine.specs.Run.{IsChoice, experiment, experiment_in}
 use Rattle.run_engine.specs.Visits.{Visits}
 use Rattle.run_engine.proofs.Keys.{has_place, next_is}
 use Rattle.run_engine.proofs.Law.{lawful_run, reached_next, reached_woken, steady, events_below, ended_now, within_enough, recorded_now}
 use Rattle.critical_chains.specs.declared.TheConstants.{MAX_EVENTS}
-use Rattle.critical_path.specs.declared.cause.Cause.{Cause}
+use Rattle.hart_causes.specs.declared.cause.Cause.{Cause}
 use Rattle.critical_chains.specs.declared.event.Event.{Event}
 use Rattle.critical_chains.specs.declared.event.Trace.{Trace}
 use Rattle.critical_chains.specs.Path.{event_at, last_of, Linked}
-use Rattle.critical_path.specs.Causes.{no_cause, cause_at, woken_with, turned, at_rest, after_own}
+use Rattle.hart_causes.specs.Causes.{no_cause, cause_at, woken_with, turned, at_rest, after_own}
 use Rattle.critical_path.specs.Events.{Traced, AreBefores, work, untraced, traced}
 use Rattle.critical_path.specs.Events.{events_of as whole_events}
 use Rattle.critical_path.specs.Walk.{plain_choice, plain}
@@ -49,7 +48,7 @@ use Rattle.critical_path.proofs.Turned.{IsRetiring, IsWaking, retiring, waking, 
 
 module _ (image : ImageParts) (input : List ℕ) (setting : Setting) where
   abbrev pub x : Experiment Guest
-  x = experiment_of_image image input setting
+  x = experiment_in image input setting
 
   -- so far, beside the engine
   pub record IsWalked (engine : Engine) (causes : List Cause) (events : List Event) : Type 0 where

@@ -1,4 +1,3 @@
-pub mod Causes
 pub mod Events
 pub mod Recording
 pub mod Walk

@@ -2,7 +2,6 @@
 //! it, or began its sleep, and the hart's own event before.
 #![tactic(auto)]
 
-mod cause;
 mod recording;
 mod walked;
 

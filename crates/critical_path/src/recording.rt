@@ -5,12 +5,12 @@ ghost use Rattle.hart_schedule.specs.Keys.{key_of};
 ghost use Rattle.machines.specs.Places.{is_among};
 ghost use Rattle.machines.specs.Guest.{IsLater};
 ghost use Rattle.run_engine.specs.Begin.{started_by};
-ghost use Rattle.critical_path.specs.Causes.{cause_at, started_with, woken_with, turned};
+ghost use Rattle.hart_causes.specs.Causes.{cause_at, started_with, woken_with, turned};
 ghost use Rattle.critical_path.specs.Recording.{ticks_from, IsBegun, CanRecord, IsRecorded};
 
-use crate::cause::{Cause, go_on, leave, start, wake_up};
 use coz_types::{Address, HARTS, HartId, Tick};
 use critical_chains::Event;
+use hart_causes::{Cause, go_on, leave, start, wake_up};
 use machines::Fate;
 use run_engine::{Engine, Event as Move, Retired, Turn};
 use std::alloc::{AllocError, Global};

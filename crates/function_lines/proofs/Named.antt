@@ -1,21 +1,21 @@
 -- The functions of a program have names, and their addresses are below 2^64.
-use Rattle.std.proofs.Common.{◌≡◌, ℕ, suc, ◌+◌, ◌%◌, ◌<◌, ◌^◌, Bool, true, false, not, ◌&&◌, List, [], ◌∷◌, reverse, length, get_or, take, drop, refl, sym, ap, ◌∙◌, subst, arith, nat_le, nat_lt, ◌==◌, cond, leb-true}
+use Rattle.std.proofs.Common.{◌≡◌, ℕ, ◌+◌, ◌%◌, ◌<◌, ◌^◌, Bool, true, false, not, ◌&&◌, List, [], ◌∷◌, reverse, refl, sym, ap, ◌∙◌, subst, arith, nat_le, ◌==◌, cond, leb-true}
 use mathlib.Core.List.{reverse_aux, reverse-reverse}
-use Rattle.std.specs.Prelude.{codes, All, take_while, slice_index}
+use Rattle.std.specs.Prelude.{codes, All}
 use Rattle.std.specs.BTreeMap.{insert_entry}
-use Rattle.std.specs.List.{AllByRecursion, list_any, prefix_len}
+use Rattle.std.specs.List.{AllByRecursion, list_any}
 use Rattle.std.specs.Map.{values_of}
 use Rattle.std.specs.Ordering.{nat_cmp}
-use Rattle.std.proofs.lemmas.Bool.{and_parts, ltb-true}
+use Rattle.std.proofs.lemmas.Bool.{and_parts}
 use Rattle.std.proofs.lemmas.List.Elements.{All-from_recursion, All-get_or, All-nil, recursion_from_All}
 use Rattle.std.proofs.lemmas.List.Folds.{Any-from_list_any}
 use Rattle.std.proofs.lemmas.Map.Views.{All-values-insert_entry}
-use Rattle.std.proofs.Math.Seq.{drop-cons}
 use Rattle.coz_types.specs.declared.image.Area.{Area}
 use Rattle.coz_types.specs.Image.{ImageParts, IsAreaOf, IsImage}
-use Rattle.function_lines.specs.declared.symbols.Symbol.{Symbol}
-use Rattle.function_lines.specs.Sequences.{IsNamed, bytes_in, falling, functions_in, names_in}
-use Rattle.function_lines.specs.Symbols.{by_address, functions, has_name, is_function, is_in_area, name_of, symbols, with_function}
+use Rattle.code_symbols.specs.declared.symbols.Symbol.{Symbol}
+use Rattle.function_sequences.specs.Sequences.{IsNamed, bytes_in, falling, functions_in, names_in}
+use Rattle.code_symbols.specs.Symbols.{has_name, is_in_area, symbols}
+use Rattle.function_sequences.specs.Functions.{by_address, functions, is_function, with_function}
 
 in_area : (file : List ℕ) (areas : List Area) (s : Symbol) → All (IsAreaOf file) areas → list_any (is_in_area s) areas ≡ true → s.address + s.size < 2 ^ 64
 in_area file areas s each e =
@@ -57,22 +57,6 @@ pub functions_named : (image : ImageParts) → IsImage image → All (IsNamed (n
 unfolding functions
 functions_named image valid =
     all_reverse (IsNamed (names_in image.file)) (values_of (functions_in image)) (all_named image.file image.areas (names_in image.file) (symbols (bytes_in image.file (codes ".symtab"))) valid.each)
-
--- the name of a symbol isn't empty
-name_some : (b : ℕ) (bytes : List ℕ) → not (b == 0) ≡ true → 0 < length (take_while (λ b. not (b == 0)) (b ∷ bytes))
-name_some b bytes e =
-    let n = prefix_len (λ b. not (b == 0)) bytes in
-    let one : 1 + n ≡ suc n = omega arith in
-    let P : Bool → Type 0 = λ t. 0 < length (take (cond t (1 + n) 0) (b ∷ bytes)) in
-    let some : 0 < length (take (suc n) (b ∷ bytes)) = omega arith in
-    subst P (sym e) (subst (λ (k : ℕ). 0 < length (take k (b ∷ bytes))) (sym one) some)
-
-pub named : (names : List ℕ) (s : Symbol) → IsNamed names s → 0 < length (name_of names s)
-named names s is =
-    let parts = and_parts (nat_lt s.name (length names)) (not (slice_index names s.name == 0)) is.name in
-    let within = ltb-true s.name (length names) parts.0 in
-    let split = drop-cons names s.name 0 within in
-    subst (λ xs. 0 < length (take_while (λ b. not (b == 0)) xs)) (sym split) (name_some (get_or names s.name 0) (drop (suc s.name) names) parts.1)
 
 -- ---- if there is none
 

@@ -13,13 +13,14 @@ use Rattle.elf_load.specs.Loaded.{section, section_place}
 use Rattle.line_index.specs.Index.{Index}
 use Rattle.line_index.specs.Lines.{is_executable, line_of}
 use Rattle.line_unit.specs.Lines.{GivesLines, table}
-use Rattle.line_unit.specs.Unit.{Sequence, double, unit}
+use Rattle.line_unit.specs.Unit.{Sequence, unit}
 use Rattle.function_lines.specs.ByFunction.{IsByFunction, IsLongWith, IsRead, IsUnit, ReadsAs}
-use Rattle.function_lines.specs.declared.marks.Mark.{Mark as coded_mark}
-use Rattle.function_lines.specs.Marks.{IsMark, Mark, mark_of, marks_of}
-use Rattle.function_lines.specs.Sequences.{bytes_in}
-use Rattle.function_lines.specs.Sound.{IsIndexOf}
-use Rattle.function_lines.specs.WithLines.{with_section, with_lines}
+use Rattle.line_marks.specs.declared.marks.Mark.{Mark as coded_mark}
+use Rattle.line_marks.specs.Marks.{IsMark, Mark, mark_of, marks_of}
+use Rattle.function_sequences.specs.Sequences.{bytes_in}
+use Rattle.line_marks.specs.Sound.{IsIndexOf}
+use Rattle.function_lines.specs.WithLines.{with_lines}
+use Rattle.line_section.specs.WithSection.{double, with_section}
 use Rattle.function_lines.proofs.FirstLines.{sequences_line}
 use Rattle.function_lines.proofs.Soundness.{sound}
 

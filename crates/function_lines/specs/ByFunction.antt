@@ -14,11 +14,11 @@ use Rattle.line_unit.specs.Unit.{Sequence, unit}
 use Rattle.line_unit.specs.declared.UnitError.{UnitError}
 use Rattle.line_unit.specs.declared.UnitError.TheVariants.{TooLong}
 use Rattle.line_unit.specs.declared.UnitError.TheVariants as units
-use Rattle.function_lines.specs.declared.symbols.Symbol.{Symbol}
+use Rattle.code_symbols.specs.declared.symbols.Symbol.{Symbol}
 use Rattle.function_lines.specs.declared.file.FunctionsError.{FunctionsError}
 use Rattle.function_lines.specs.declared.file.FunctionsError.TheVariants.{NoFunctions, NoLines, Much, Overlap, Memory}
-use Rattle.function_lines.specs.Marks.{Mark, marked}
-use Rattle.function_lines.specs.Sequences.{AreSequences, bytes_in, falling, function_line, functions_in, names_in}
+use Rattle.line_marks.specs.Marks.{Mark, marked}
+use Rattle.function_sequences.specs.Sequences.{AreSequences, bytes_in, falling, function_line, functions_in, names_in}
 use Rattle.function_lines.specs.WithLines.{has_lines, with_lines}
 
 -- ---- which line an address has

@@ -1,12 +1,3 @@
 pub mod SameProgram
 pub mod WithLines
-pub mod Symbols
-pub mod Labels
-pub mod Code
-pub mod Marks
-pub mod Sound
-pub mod Sequences
 pub mod ByFunction
-pub mod Regions
-pub mod Lines
-pub mod Tree

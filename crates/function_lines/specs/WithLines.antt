@@ -1,18 +1,11 @@
--- A file with another line table after its bytes.
-use Rattle.std.specs.Prelude.{◌≡◌, ℕ, ◌+◌, Bool, false, ◌&&◌, List, ◌++◌, take, drop, length, bytes_eq, Option, Some, None, option_map, codes}
+-- A file with another line table.
+use Rattle.std.specs.Prelude.{◌≡◌, ℕ, Bool, false, ◌&&◌, List, bytes_eq, Option, Some, None, option_map, codes}
 use Rattle.coz_types.specs.Image.{ImageParts}
 use Rattle.elf_load.specs.Loaded.{load_answer, section, section_place}
 use Rattle.function_lines.specs.declared.relined.LinesError.{LinesError}
 use Rattle.function_lines.specs.declared.relined.LinesError.TheVariants.{NoLines, Overlap, Memory}
 use Rattle.function_lines.specs.SameProgram.{is_same_program}
-use Rattle.line_unit.specs.Unit.{double}
-
--- the file and after it the unit, with the section header at an offset that names the unit:
--- sh_offset is 24 bytes after the header's offset, and sh_size 32
-abbrev pub with_section : List ℕ → List ℕ → ℕ → List ℕ
-with_section file unit offset =
-    take (offset + 24) file
-    ++ (double (length file) ++ (double (length unit) ++ (drop (offset + 40) file ++ unit)))
+use Rattle.line_section.specs.WithSection.{with_section}
 
 -- the file whose section `.debug_line` is to be the unit, unless it has no such section
 abbrev pub with_lines : List ℕ → List ℕ → Option (List ℕ)

@@ -6,31 +6,29 @@ ghost use Rattle.coz_types.specs.declared.TheConstants.{MAX_PROGRAM};
 ghost use Rattle.coz_types.specs.Image.{IsImage};
 ghost use Rattle.elf_load.specs.Faults.{fault};
 ghost use Rattle.elf_load.specs.Loaded.{load_answer, section};
-ghost use Rattle.line_unit.specs.Unit.{IsWritable, view, views};
 ghost use Rattle.function_lines.specs.ByFunction.{IsByFunction, IsCauseOf, IsFileCause, IsRead, IsUnit, IsUnitCause, IsWithFunctions};
-ghost use Rattle.function_lines.specs.Marks.{IsMark, marks_of, positions_of, spelled_lines};
-ghost use Rattle.function_lines.specs.Regions.{chosen_marks, regions_of};
-ghost use Rattle.function_lines.specs.declared.lines.Region.{Region};
+ghost use Rattle.line_marks.specs.Marks.{IsMark, marks_of, positions_of, spelled_lines};
+ghost use Rattle.region_lines.specs.Regions.{chosen_marks, regions_of};
+ghost use Rattle.region_lines.specs.declared.lines.Region.{Region};
 ghost use Rattle.function_lines.specs.SameProgram.{is_same_program};
-ghost use Rattle.function_lines.specs.Sequences.{Adds, AreFunctions, AreSequences, IsNamed, IsOfFunction, bytes_in, falling, functions_in, names_in};
-ghost use Rattle.function_lines.specs.Sound.{IsIndexOf, IsSound};
+ghost use Rattle.function_sequences.specs.Sequences.{IsNamed, bytes_in, falling, functions_in, names_in};
+ghost use Rattle.line_marks.specs.Sound.{IsIndexOf, IsSound};
 ghost use Rattle.function_lines.specs.WithLines.{with_lines};
 ghost use Rattle.function_lines.specs.declared.file.FunctionsError.TheVariants.{Memory};
 
-use crate::labels::function_sequence;
-use crate::lines::{Lines, Region};
-use crate::marks::{Mark, kept_marks, location_at};
 use crate::relined::{LINES, LinesError, with_lines};
-use crate::runs::{Sequences, push_kept};
-use crate::symbols::{Functions, Symbol, ended, functions, name_of};
+use code_symbols::Symbol;
 use coz_types::{Image, LineId, MAX_PROGRAM};
-use elf_load::{section, section_place};
+use elf_load::section_place;
+use function_sequences::{Functions, bytes_in, functions, sequences};
 use line_index::LineIndex;
-use line_unit::{Sequence, UnitError, write_unit};
+use line_marks::{Mark, kept_marks};
+use line_unit::{UnitError, write_unit};
+use region_lines::{Lines, Region};
 use std::alloc::{AllocError, Global};
 
 /// Why a program has no file in which each function is one line.
-#[derive(Clone, Copy, Debug, PartialEq, Eq)]
+#[derive(Clone, Copy)]
 pub enum FunctionsError {
     /// The file has no function: no symbol table, or no function in it.
     NoFunctions,
@@ -50,17 +48,6 @@ impl From<AllocError> for FunctionsError {
 
     fn from(_: AllocError) -> FunctionsError {
         FunctionsError::Memory
-    }
-}
-
-/// The bytes of a program's section of this name, none if it has no such section.
-fn bytes_in<'a>(image: &Image<'a>, name: &[u8]) -> &'a [u8]
-    requires { fault image.now.file ≡ None }
-    ensures { result.now ≡ bytes_in image.now.file name.now }
-{
-    match section(image, name) {
-        Some(bytes) => bytes,
-        None => &[],
     }
 }
 
@@ -84,66 +71,6 @@ fn functions_of(alloc: Global, image: &Image) -> Result<Vec<Symbol>, AllocError>
     let names = bytes_in(image, b".strtab");
     let found = functions(alloc, image.areas(), table, names)?;
     falling(alloc, &found)
-}
-
-/// The sequence of a function.
-fn sequence_of(
-    alloc: Global,
-    index: &LineIndex,
-    names: &[u8],
-    symbol: &Symbol,
-) -> Result<Sequence, AllocError>
-    requires sound { IsSound index.now }
-    requires right { IsNamed names.now symbol.now }
-    ensures of { IfOk result (λ s. IsOfFunction index.now names.now symbol.now (view s)) }
-    ensures writable { IfOk result (λ s. IsWritable (view s)) }
-{
-    let location = location_at(index, symbol.address);
-    function_sequence(alloc, symbol, name_of(names, symbol), location)
-}
-
-/// Adds the sequences of functions.
-fn push_functions(
-    alloc: Global,
-    out: &mut Sequences,
-    index: &LineIndex,
-    names: &[u8],
-    symbols: &[Symbol],
-) -> Result<(), AllocError>
-    requires sound { IsSound index.now }
-    requires right { All (IsNamed names.now) symbols.now }
-    ensures { IfOk result (λ _. Adds (AreFunctions index.now names.now symbols.now)
-        (views out.old.list.items) (views out.new.list.items)) }
-{
-    for symbol in symbols {
-        let sequence = sequence_of(alloc, index, names, symbol)?;
-        out.push(sequence)?;
-    }
-    Ok(())
-}
-
-/// The sequences of the kept lines and of the functions.
-fn sequences(
-    alloc: Global,
-    image: &Image,
-    index: &LineIndex,
-    marks: &[Mark],
-    symbols: &[Symbol],
-) -> Result<Vec<Sequence>, AllocError>
-    requires right { fault image.now.file ≡ None }
-    requires sound { IsSound index.now }
-    requires marks { All (IsMark index.now) marks.now }
-    requires found { symbols.now ≡ falling (functions_in image.now) }
-    requires named { All (IsNamed (names_in image.now.file)) symbols.now }
-    ensures are { IfOk result (λ v.
-        AreSequences image.now index.now (marks_of marks.now) (views v.items)) }
-    ensures writable { IfOk result (λ v. All IsWritable (views v.items)) }
-{
-    let names = ended(bytes_in(image, b".strtab"));
-    let mut out = Sequences::new(alloc);
-    push_kept(alloc, &mut out, index, marks)?;
-    push_functions(alloc, &mut out, index, names, symbols)?;
-    Ok(out.list)
 }
 
 /// The line unit in which each function is one line.

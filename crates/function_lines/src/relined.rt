@@ -1,23 +1,21 @@
 //! A file with another line table after its bytes.
 
-ghost use Rattle.std.specs.Prelude.{◌≡◌, ◌≤◌, ◌+◌, ◌&&◌, true, None, Some, codes, ◌++◌, length, IfOk, IfErr};
+ghost use Rattle.std.specs.Prelude.{◌≡◌, ◌&&◌, true, None, Some, codes, IfOk, IfErr};
 ghost use Rattle.std.specs.Option.{option_copied};
-ghost use Rattle.line_unit.specs.Unit.{double};
 ghost use Rattle.elf_load.specs.Faults.{fault};
 ghost use Rattle.elf_load.specs.Loaded.{load_answer, section};
 ghost use Rattle.function_lines.specs.SameProgram.{is_same_image, is_same_program};
-ghost use Rattle.function_lines.specs.WithLines.{IsCause, has_lines, is_section, with_lines, with_section};
+ghost use Rattle.function_lines.specs.WithLines.{IsCause, has_lines, is_section, with_lines};
 ghost use Rattle.function_lines.specs.declared.relined.LinesError.TheVariants.{Memory};
 
 use crate::same_program::same_image;
-use byteorder::{ByteOrder, LittleEndian};
 use coz_types::Image;
-use elf_load::codes::{SH_OFFSET, SH_SIZE};
 use elf_load::{LoadError, load, section, section_place};
+use line_section::with_section;
 use std::alloc::{AllocError, Global};
 
 /// Why a program has no file with other lines.
-#[derive(Clone, Copy, Debug, PartialEq, Eq)]
+#[derive(Clone, Copy)]
 pub enum LinesError {
     /// The file has no section `.debug_line`.
     NoLines,
@@ -38,34 +36,6 @@ impl From<AllocError> for LinesError {
 
 /// The name of the section of the line table.
 pub const LINES: &[u8] = b".debug_line";
-
-/// Appends a number of eight bytes, the lowest first.
-#[tactic(auto, unfolding(line_unit::specs::Unit::double))]
-fn push_double(out: &mut Vec<u8>, n: u64) -> Result<(), AllocError>
-    ensures { IfOk result (λ _. out.new.items ≡ out.old.items ++ double n) }
-{
-    let mut bytes = [0; 8];
-    LittleEndian::write_u64(&mut bytes, n);
-    out.extend_from_slice(&bytes)
-}
-
-/// The file and after it the unit, which the section header at an offset names.
-fn with_section(
-    alloc: Global,
-    file: &[u8],
-    unit: &[u8],
-    offset: usize,
-) -> Result<Vec<u8>, AllocError>
-    requires { offset + 64 ≤ length file.now }
-    ensures { IfOk result (λ v. v.items ≡ with_section file.now unit.now offset) }
-{
-    let mut out = Vec::from_slice(alloc, &file[..offset + SH_OFFSET])?;
-    push_double(&mut out, file.len() as u64)?;
-    push_double(&mut out, unit.len() as u64)?;
-    out.extend_from_slice(&file[offset + SH_SIZE + 8..])?;
-    out.extend_from_slice(unit)?;
-    Ok(out)
-}
 
 /// Whether a section is there and has these bytes.
 fn is_section(found: Option<&[u8]>, unit: &[u8]) -> bool

@@ -8,8 +8,8 @@ use Rattle.file_steps.specs.declared.fault.FileFault.TheVariants.{Usage, Read, W
 use Rattle.program_steps.specs.Answer as steps
 use Rattle.program_steps.specs.declared.fault.Fault.{Fault as StepFault}
 use Rattle.program_steps.specs.declared.fault.Fault.TheVariants.{File, NoLine}
-use Rattle.function_lines.specs.declared.lines.Region.{Region as coded}
-use Rattle.function_lines.specs.Regions.{Region, regions_of}
+use Rattle.region_lines.specs.declared.lines.Region.{Region as coded}
+use Rattle.region_lines.specs.Regions.{Region, regions_of}
 use Rattle.functions_cli.specs.declared.fault.Fault.{Fault}
 use Rattle.functions_cli.specs.declared.fault.Fault.TheVariants.{Step, Functions}
 use Rattle.functions_cli.specs.Words.{Request}

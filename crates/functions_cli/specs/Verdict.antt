@@ -13,8 +13,8 @@ use Rattle.dwarf_lines.specs.declared.LineFault.{LineFault}
 use Rattle.dwarf_lines.specs.Registers.{Table}
 use Rattle.line_index.specs.Index.{Index, IsIndex}
 use Rattle.function_lines.specs.ByFunction.{IsByFunction, IsCauseOf, IsRead, IsWithFunctions}
-use Rattle.function_lines.specs.Marks.{Mark, spelled_lines}
-use Rattle.function_lines.specs.Regions.{Region, chosen_marks}
+use Rattle.line_marks.specs.Marks.{Mark, spelled_lines}
+use Rattle.region_lines.specs.Regions.{Region, chosen_marks}
 use Rattle.function_lines.specs.SameProgram.{is_same_program}
 use Rattle.function_lines.specs.declared.file.FunctionsError.{FunctionsError}
 use Rattle.function_lines.specs.declared.file.FunctionsError.TheVariants.{NoFunctions, NoLines, Much, Overlap, Memory}

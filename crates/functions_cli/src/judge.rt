@@ -7,8 +7,8 @@ ghost use Rattle.coz_files.specs.Verdict.{bytes_of};
 ghost use Rattle.elf_load.specs.Faults.{fault};
 ghost use Rattle.elf_load.specs.Loaded.{load_answer};
 ghost use Rattle.experiment_plan.specs.Lists.{is_list};
-ghost use Rattle.function_lines.specs.Marks.{positions_of, spelled_lines};
-ghost use Rattle.function_lines.specs.Sound.{IsIndexOf};
+ghost use Rattle.line_marks.specs.Marks.{positions_of, spelled_lines};
+ghost use Rattle.line_marks.specs.Sound.{IsIndexOf};
 ghost use Rattle.program_steps.specs.LineTable.{table_in};
 ghost use Rattle.program_steps.specs.Selection.{lines_named};
 ghost use Rattle.functions_cli.specs.Words.{request_in, request_of};
@@ -22,8 +22,9 @@ use crate::words::{Asked, asked_of};
 use coz_files::Files;
 use coz_types::{LineId, MAX_PROGRAM};
 use file_steps::{FileFault, read_file};
-use function_lines::{Lines, by_function};
+use function_lines::by_function;
 use program_steps::{Fault as StepFault, Program, listed_lines, read_program};
+use region_lines::Lines;
 use std::alloc::{AllocError, Global};
 
 /// The file of a program in which each function is one line, these lines keep their addresses, and

@@ -32,7 +32,7 @@ tab\0.strtab\0.debug_line\0.shstrtab\0\0\0\0\0\0\0\0\0\0\0\0\0\0\0\0\0\0\0\0\0\0
 \0\0\0\0'\0\0\0\0\0\0\0\0\0\0\0\0\0\0\0\x01\0\0\0\0\0\0\0\0\0\0\0\0\0\0\0";
 
 /// Programs that differ from it in a few bytes, each with its offset.
-static CHANGED: [(&str, &[(usize, u8)]); 7] = [
+static CHANGED: [(&str, &[(usize, u8)]); 8] = [
     // The header says that there are compressed instructions.
     ("compressed", &[(48, 1)]),
     // The line table ends within the header of its unit.
@@ -47,6 +47,8 @@ static CHANGED: [(&str, &[(usize, u8)]); 7] = [
     ("objects", &[(180, 0x11), (218, 1)]),
     // All of the file is loaded.
     ("loaded", &[(96, 0xD0), (97, 2), (104, 0xD0), (105, 2)]),
+    // The path of `main` is `a,m.c`.
+    ("comma", &[(270, b',')]),
 ];
 
 /// A file with some of its bytes changed.
@@ -157,7 +159,7 @@ fn wrong_words_are_rejected(rt: HostRuntime) -> Result<(), Fail> {
 
 const WHOLE: &[u8] = b"skipped 0\na/m.c/main:1\t0x10078\nb/m.c/work:3\t0x10088\n";
 
-static WRITTEN: [Row; 12] = [
+static WRITTEN: [Row; 13] = [
     (&["small"], 0, WHOLE, b""),
     (&["--", "small"], 0, WHOLE, b""),
     (
@@ -185,6 +187,13 @@ static WRITTEN: [Row; 12] = [
         &["--regions", "b/m.c:1-4", "small"],
         0,
         b"skipped 0\na/m.c/main:1\t0x10078\nb/m.c:1\t0x10088\nb/m.c/work:3\t0x10090\n",
+        b"",
+    ),
+    // Only `b/m.c` ends with the path, and none of its lines has the first number.
+    (
+        &["comma", "--regions", "m.c:1-4"],
+        0,
+        b"skipped 0\na%2Cm.c/main:1\t0x10078\nb/m.c:1\t0x10088\nb/m.c/work:3\t0x10090\n",
         b"",
     ),
     // Of two regions that overlap, the first counts.

@@ -40,11 +40,60 @@ fn changed(alloc: Global, file: &[u8], bytes: &[(usize, u8)]) -> Result<Vec<u8>,
     Ok(file)
 }
 
-fn held(alloc: Global, path: &str, bytes: Vec<u8>) -> Result<HeldFile, AllocError> {
-    Ok(HeldFile {
-        path: path.as_bytes().to_vec(alloc)?,
-        bytes,
-    })
+/// Adds a file of these bytes, which are copied.
+fn add(
+    alloc: Global,
+    files: &mut Vec<HeldFile>,
+    path: &[u8],
+    bytes: &[u8],
+) -> Result<(), AllocError> {
+    let path = path.to_vec(alloc)?;
+    let bytes = bytes.to_vec(alloc)?;
+    files.push(HeldFile { path, bytes })?;
+    Ok(())
+}
+
+/// Adds the program of a source at the path of the source without the ending.
+fn add_assembled<R: Threads + Sync + AllocGlobal>(
+    rt: &R,
+    files: &mut Vec<HeldFile>,
+    name: &str,
+    source: &[u8],
+) -> Result<(), AllocError> {
+    let path = name.strip_suffix(".s").unwrap_or(name);
+    let program = assembled(rt, name, source)?;
+    add(rt.alloc(), files, path.as_bytes(), &program)
+}
+
+/// Adds a file with some of its bytes changed.
+fn add_changed(
+    alloc: Global,
+    files: &mut Vec<HeldFile>,
+    path: &str,
+    file: &[u8],
+    bytes: &[(usize, u8)],
+) -> Result<(), AllocError> {
+    let changed = changed(alloc, file, bytes)?;
+    add(alloc, files, path.as_bytes(), &changed)
+}
+
+/// Adds the programs that differ from `one`.
+fn add_all_changed(alloc: Global, files: &mut Vec<HeldFile>, one: &[u8]) -> Result<(), AllocError> {
+    for (path, bytes) in &CHANGED {
+        add_changed(alloc, files, *path, one, *bytes)?;
+    }
+    Ok(())
+}
+
+/// Adds the programs of the sources, each at the path of its source without the ending.
+fn add_all_assembled<R: Threads + Sync + AllocGlobal>(
+    rt: &R,
+    files: &mut Vec<HeldFile>,
+) -> Result<(), AllocError> {
+    for (name, source) in &SOURCES {
+        add_assembled(rt, files, *name, *source)?;
+    }
+    Ok(())
 }
 
 /// The programs of the sources, each at the path of its source without the ending, and those that
@@ -52,17 +101,21 @@ fn held(alloc: Global, path: &str, bytes: Vec<u8>) -> Result<HeldFile, AllocErro
 pub(crate) fn programs<R: Threads + Sync + AllocGlobal>(
     rt: &R,
 ) -> Result<Vec<HeldFile>, AllocError> {
-    let alloc = rt.alloc();
-    let mut programs = Vec::new(alloc);
-    for (name, source) in &SOURCES {
-        let path = name.strip_suffix(".s").unwrap_or(*name);
-        programs.push(held(alloc, path, assembled(rt, *name, *source)?)?)?;
-    }
     let one = assembled(rt, "one.s", ONE_SOURCE)?;
-    for (path, bytes) in &CHANGED {
-        programs.push(held(alloc, path, changed(alloc, &one, bytes)?)?)?;
-    }
+    let mut programs = Vec::new(rt.alloc());
+    add_all_assembled(rt, &mut programs)?;
+    add_all_changed(rt.alloc(), &mut programs, &one)?;
     Ok(programs)
+}
+
+/// Copies of the programs, and an input.
+fn copied(alloc: Global, programs: &[HeldFile]) -> Result<Vec<HeldFile>, AllocError> {
+    let mut files = Vec::new(alloc);
+    for program in programs {
+        add(alloc, &mut files, &program.path, &program.bytes)?;
+    }
+    add(alloc, &mut files, b"data", b"five")?;
+    Ok(files)
 }
 
 /// The programs and an input as files in memory, of which the reads with these numbers fail.
@@ -71,13 +124,6 @@ pub(crate) fn copies(
     programs: &[HeldFile],
     fails: &[u64],
 ) -> Result<MemoryFiles, AllocError> {
-    let mut files = Vec::new(alloc);
-    for program in programs {
-        files.push(HeldFile {
-            path: program.path.to_vec(alloc)?,
-            bytes: program.bytes.to_vec(alloc)?,
-        })?;
-    }
-    files.push(held(alloc, "data", b"five".to_vec(alloc)?)?)?;
-    Ok(MemoryFiles::new(files, fails.to_vec(alloc)?))
+    let fails = fails.to_vec(alloc)?;
+    Ok(MemoryFiles::new(copied(alloc, programs)?, fails))
 }

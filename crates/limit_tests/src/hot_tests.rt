@@ -1,9 +1,9 @@
 //! Lines by cost over files in memory.
-use crate::calls::{ONE_SOURCE, Served, assembled, texts};
+use crate::calls::{ONE_SOURCE, assembled, texts};
 use crate::hot_files::{copies, programs};
 use crate::large::Large;
-use crate::sinks::{ONE_FAILS, Room, SHUT, WIDE, first_texts, sink};
-use coz_files::Files;
+use crate::sinks::{ONE_FAILS, Room, SHUT, Sinks, WIDE, first_texts, two_sinks};
+use coz_files::{Files, HeldFile};
 use hot_cli::serve_hot;
 use std::alloc::{AllocError, Global};
 use std::process::Abort;
@@ -14,17 +14,57 @@ fn listed<F: Files>(
     alloc: Global,
     words: &[&str],
     files: &mut F,
-    rooms: (Room, Room),
-) -> Result<Served, AllocError> {
+    sinks: &mut Sinks,
+) -> Result<u8, AllocError> {
     let words = texts(alloc, words)?;
-    let mut out = sink(alloc, rooms.0)?;
-    let mut err = sink(alloc, rooms.1)?;
-    let status = serve_hot(alloc, &words, files, &mut out, &mut err);
-    Ok(Served {
-        status,
-        out: out.held().to_vec(alloc)?,
-        err: err.held().to_vec(alloc)?,
-    })
+    let status = serve_hot(alloc, &words, files, &mut sinks.out, &mut sinks.err);
+    Ok(status)
+}
+
+/// The status, what is printed, and the line on the error stream.
+type Left<'a> = (u8, &'a [u8], &'a [u8]);
+
+fn is_left<R: AllocGlobal + Abort>(rt: &R, found: Left, left: Left) -> Result<(), Fail> {
+    assert_eq!(rt; found, left);
+    Ok(())
+}
+
+fn comes_out_in<R: AllocGlobal + Abort, F: Files>(
+    rt: &R,
+    words: &[&str],
+    files: &mut F,
+    sinks: &mut Sinks,
+    left: Left,
+) -> Result<(), Fail> {
+    let status = listed(rt.alloc(), words, files, sinks)?;
+    is_left(rt, (status, sinks.out.held(), sinks.err.held()), left)
+}
+
+fn comes_out<R: AllocGlobal + Abort, F: Files>(
+    rt: &R,
+    words: &[&str],
+    files: &mut F,
+    rooms: (Room, Room),
+    left: Left,
+) -> Result<(), Fail> {
+    let mut sinks = two_sinks(rt.alloc(), rooms)?;
+    let comes = comes_out_in(rt, words, files, &mut sinks, left);
+    // By one call, since a drop in place is proved part by part.
+    drop(sinks);
+    comes
+}
+
+/// Over copies of the programs, of which the reads with these numbers fail.
+fn comes_out_over<R: AllocGlobal + Abort>(
+    rt: &R,
+    programs: &[HeldFile],
+    words: &[&str],
+    fails: &[u64],
+    rooms: (Room, Room),
+    left: Left,
+) -> Result<(), Fail> {
+    let mut files = copies(rt.alloc(), programs, fails)?;
+    comes_out(rt, words, &mut files, rooms, left)
 }
 
 const USAGE: &[u8] = b"coz-hot: usage\n";
@@ -37,15 +77,10 @@ line one.s:2 starts 1 cost 100 share 238\n";
 type Row = (&'static [&'static str], u8, &'static [u8], &'static [u8]);
 
 fn all_come_out<R: Threads + Sync + AllocGlobal + Abort>(rt: &R, rows: &[Row]) -> Result<(), Fail> {
-    let alloc = rt.alloc();
     let programs = programs(rt)?;
     for (words, status, out, err) in rows {
-        let mut files = copies(alloc, &programs, &[])?;
-        let served = listed(alloc, *words, &mut files, (WIDE, WIDE))?;
-        assert_eq!(rt;
-            (served.status, served.out.as_slice(), served.err.as_slice()),
-            (*status, *out, *err)
-        );
+        let left = (*status, *out, *err);
+        comes_out_over(rt, &programs, *words, &[], (WIDE, WIDE), left)?;
     }
     Ok(())
 }
@@ -303,15 +338,10 @@ static FAULTS: [Fault; 15] = [
 
 #[test]
 fn faults_of_files_and_sinks_decide(rt: HostRuntime) -> Result<(), Fail> {
-    let alloc = rt.alloc();
     let programs = programs(&rt)?;
     for (words, fails, rooms, status, out, err) in &FAULTS {
-        let mut files = copies(alloc, &programs, *fails)?;
-        let served = listed(alloc, *words, &mut files, *rooms)?;
-        assert_eq!(rt;
-            (served.status, served.out.as_slice(), served.err.as_slice()),
-            (*status, *out, *err)
-        );
+        let left = (*status, *out, *err);
+        comes_out_over(&rt, &programs, *words, *fails, *rooms, left)?;
     }
     Ok(())
 }
@@ -321,15 +351,10 @@ static ABSENT: [&[u8]; 5] = [b"coz-hot", b": ", b"read: ", b"absent", b"\n"];
 
 #[test]
 fn the_status_stays_if_a_put_of_the_line_fails(rt: HostRuntime) -> Result<(), Fail> {
-    let alloc = rt.alloc();
     for (put, room) in ONE_FAILS.iter().enumerate() {
-        let mut files = copies(alloc, &[], &[])?;
-        let served = listed(alloc, &["absent"], &mut files, (WIDE, *room))?;
-        let line = first_texts(alloc, &ABSENT, put)?;
-        assert_eq!(rt;
-            (served.status, served.out.len(), served.err.as_slice()),
-            (5, 0, line.as_slice())
-        );
+        let line = first_texts(rt.alloc(), &ABSENT, put)?;
+        let left = (5, b"".as_slice(), line.as_slice());
+        comes_out_over(&rt, &[], &["absent"], &[], (WIDE, *room), left)?;
     }
     Ok(())
 }
@@ -367,11 +392,8 @@ fn one_byte_over_the_limit_is_too_long(rt: HostRuntime) -> Result<(), Fail> {
             size: *size,
             program: one.as_slice(),
         };
-        let served = listed(rt.alloc(), *words, &mut files, (WIDE, WIDE))?;
-        assert_eq!(rt;
-            (served.status, served.out.as_slice(), served.err.as_slice()),
-            (*status, *out, *err)
-        );
+        let left = (*status, *out, *err);
+        comes_out(&rt, *words, &mut files, (WIDE, WIDE), left)?;
     }
     Ok(())
 }

@@ -140,7 +140,7 @@ fn two_files(alloc: Global, fails: &[u64]) -> Result<MemoryFiles, AllocError> {
 }
 
 /// Words, the reads that fail, a piece of text, and whether the page has it.
-static PIECES: [(&[&str], &[u64], &[u8], bool); 18] = [
+static PIECES: [(&[&str], &[u64], &[u8], bool); 20] = [
     (&["p"], &[], b"<td>lib/b.s:2</td>", true),
     (&["p"], &[], b"<td>src/a.s:3</td>", true),
     (&["p"], &[], b"Only lines of files", false),
@@ -170,6 +170,18 @@ static PIECES: [(&[&str], &[u64], &[u8], bool); 18] = [
         true,
     ),
     (&["p", "--file=.s:3"], &[], b"has no curves", false),
+    (
+        &["p", "--file=.s:3"],
+        &[],
+        b"<ul>\n<li>src/a.s:8</li>\n</ul>",
+        true,
+    ),
+    (
+        &["p"],
+        &[],
+        b"<ul>\n<li><a href=\"#p0\">src/a.s:8</a></li>\n</ul>",
+        true,
+    ),
     (
         &["p", "--source=d"],
         &[],

@@ -69,3 +69,16 @@ pub(crate) fn first_texts(
     }
     Ok(bytes)
 }
+
+/// A sink for what is printed, and one for the line on the error stream.
+#[derive(Drop)]
+pub(crate) struct Sinks {
+    pub(crate) out: MemorySink,
+    pub(crate) err: MemorySink,
+}
+
+pub(crate) fn two_sinks(alloc: Global, rooms: (Room, Room)) -> Result<Sinks, AllocError> {
+    let out = sink(alloc, rooms.0)?;
+    let err = sink(alloc, rooms.1)?;
+    Ok(Sinks { out, err })
+}

@@ -1,2 +1,4 @@
 pub mod PathSegments
 pub mod PathShares
+pub mod WholeRuns
+mod Fours

@@ -8,9 +8,11 @@ use Rattle.coz_types.specs.Labels.{Text}
 use Rattle.coz_files.specs.Gathered.{Gathers, Rest}
 use Rattle.critical_chains.specs.declared.event.Event.{Event}
 use Rattle.critical_chains.specs.Path.{event_at, no_event}
-use Rattle.path_texts.specs.declared.texts.Segment.{Segment}
-use Rattle.path_texts.specs.PathText.{first_segment, next_segment, segments_from, segments_of, segment_line, events_on}
-use Rattle.path_texts.specs.Segments.{after, closed}
+use Rattle.critical_chains.specs.declared.segment.Segment.{Segment}
+use Rattle.critical_chains.specs.Segments.{first_segment, next_segment, segments_from, segments_of}
+use Rattle.path_texts.specs.PathText.{segment_line, events_on}
+use Rattle.critical_chains.specs.Segments.{after}
+use Rattle.path_texts.specs.Segments.{closed}
 
 -- one more, if an event ends a segment
 abbrev pub ends : Segment → Event → ℕ

@@ -1,8 +1,7 @@
--- What `path` prints: the segments of a critical path, which are its maximal runs on one hart,
--- how much of it each line has, and how long it slept.
+-- What `path` prints: the segments of a critical path, how much of it each line has, and how long
+-- it slept.
 use Rattle.std.specs.Prelude.{ℕ, Bool, false, ◌==◌, nat_lt, List, [], ◌∷◌, ◌++◌, length, map, flat_map, sum_by, Option, Some, None, is_none, if◌then◌else◌, codes}
 use Rattle.std.specs.List.{filter, range_with_len}
-use Rattle.std.specs.Ordering.{is_lt, nat_cmp}
 use Rattle.coz_types.specs.Labels.{Text}
 use Rattle.coz_types.specs.declared.ending.Ending.{Ending}
 use Rattle.line_index.specs.Lines.{Line, label_at}
@@ -10,36 +9,14 @@ use Rattle.line_index.specs.Index.{Index}
 use Rattle.profile_book.specs.Pieces.{named, number_line, end_line}
 use Rattle.profile_lists.specs.Sorted.{sorted_by}
 use Rattle.critical_chains.specs.declared.event.Event.{Event}
+use Rattle.critical_chains.specs.declared.segment.Segment.{Segment}
+use Rattle.critical_chains.specs.declared.segment.Handover.{Handover}
+use Rattle.critical_chains.specs.declared.segment.Handover.TheVariants.{Start, Clone, Wake}
+use Rattle.critical_chains.specs.declared.share.Share.{Share}
 use Rattle.critical_chains.specs.Path.{event_at}
+use Rattle.critical_chains.specs.Segments.{segments_of}
+use Rattle.critical_chains.specs.Shares.{has_more}
 use Rattle.path_texts.specs.declared.texts.CriticalPath.{CriticalPath}
-use Rattle.path_texts.specs.declared.texts.Segment.{Segment}
-use Rattle.path_texts.specs.declared.texts.Handover.{Handover}
-use Rattle.path_texts.specs.declared.texts.Handover.TheVariants.{Start, Clone, Wake}
-use Rattle.path_texts.specs.declared.shares.Share.{Share}
-
--- ---- segments
-
--- how a hart came to carry the path: its first event has none before it
-abbrev pub handover : Event → Handover
-handover e = if is_none e.before then Clone else Wake
-
-abbrev pub first_segment : Event → Segment
-first_segment e = record { hart = e.hart; start = 0; end = e.due; by = Start }
-
-abbrev pub next_segment : Segment → Event → Segment
-next_segment s e = record { hart = e.hart; start = s.end; end = e.due; by = handover e }
-
--- a segment, which the events after it may prolong, and those that follow
-abbrev pub segments_from : Segment → List Event → List Segment
-segments_from s [] = s ∷ []
-segments_from s (e ∷ es) =
-    if e.hart.0 == s.hart.0 then segments_from (record s { end = e.due }) es
-    else s ∷ segments_from (next_segment s e) es
-
--- those of the events of a path
-abbrev pub segments_of : List Event → List Segment
-segments_of [] = []
-segments_of (e ∷ es) = segments_from (first_segment e) es
 
 -- ---- shares
 
@@ -65,9 +42,6 @@ share_of line_of path line = record { line = line; ticks = work_on line_of line 
 
 abbrev pub has_some : Share → Bool
 has_some s = nat_lt 0 s.ticks
-
-abbrev pub has_more : Share → Share → Bool
-has_more s t = is_lt (nat_cmp t.ticks s.ticks)
 
 -- the shares of the lines that have one, by falling ticks, and then in the order of the lines
 abbrev pub shares_of : (ℕ → Option ℕ) → ℕ → List Event → List Share

@@ -4,5 +4,5 @@
 mod shares;
 mod texts;
 
-pub use shares::{Share, Shares, shares_of_path};
-pub use texts::{CriticalPath, Handover, Segment, path_of, write_path};
+pub use shares::{Shares, shares_of_path};
+pub use texts::{CriticalPath, path_of, write_path};

@@ -1,44 +1,23 @@
 //! The text of a critical path, on its way to a sink.
-ghost use Rattle.std.specs.Prelude.{◌≡◌, ◌≤◌, ◌↔◌, length, flat_map, All, IfOk, IsTrue};
+ghost use Rattle.std.specs.Prelude.{◌≡◌, ◌≤◌, ◌+◌, ◌↔◌, length, flat_map, All, IfOk, IsTrue};
 ghost use Rattle.coz_files.specs.Gathered.{Gathers};
 ghost use Rattle.coz_files.specs.Puts.{Puts};
 ghost use Rattle.line_index.specs.Index.{position_at};
 ghost use Rattle.critical_chains.specs.Path.{event_at, last_of, chain_of, Linked};
 ghost use Rattle.line_index.specs.Lines.{label_at};
-ghost use Rattle.path_texts.specs.PathText.{amount_line, by_text, events_on, first_segment, handover, head_lines, path_text, segment_line, segments_of, share_line, share_lines, written_path};
-ghost use Rattle.path_texts.specs.Segments.{after, closed};
+ghost use Rattle.critical_chains.specs.Segments.{after, segments_of};
+ghost use Rattle.path_texts.specs.PathText.{amount_line, by_text, events_on, head_lines, path_text, segment_line, share_line, share_lines, written_path};
+ghost use Rattle.path_texts.specs.Segments.{closed, AreFourOfFirst};
 
-use crate::shares::{Share, Shares, event_of, shares_of_path};
+use crate::shares::{Shares, event_of, shares_of_chain};
 use coz_files::{PutAnswer, PutBuffer, Sink};
-use coz_types::{HartId, LineId, Tick};
-use critical_chains::{Event, Trace, longest};
+use coz_types::{LineId, Tick};
+use critical_chains::{
+    Event, Handover, Segment, Share, Trace, after, first_segment, longest, whole_segment,
+};
 use line_index::LineIndex;
 use profile_book::{put_end, put_field, put_line, put_named};
 use std::alloc::{AllocError, Global};
-
-/// The way in which a hart came to carry a path.
-#[derive(Clone, Copy, Debug)]
-pub enum Handover {
-    /// The program began with it.
-    Start,
-    /// Another hart made it.
-    Clone,
-    /// Another hart woke it.
-    Wake,
-}
-
-/// A maximal run of a path on one hart.
-#[derive(Clone, Copy, Debug)]
-pub struct Segment {
-    /// The hart.
-    pub hart: HartId,
-    /// When the event ahead of its first was due, in net ticks, or 0.
-    pub start: Tick,
-    /// When its last event was due, in net ticks.
-    pub end: Tick,
-    /// The way in which the hart came to carry the path.
-    pub by: Handover,
-}
 
 /// The critical path of a run.
 #[derive(Drop)]
@@ -53,61 +32,38 @@ pub struct CriticalPath {
     pub shares: Shares,
 }
 
-/// The segment of the first event of a path.
-fn first_segment(event: &Event) -> Segment
-    ensures { result ≡ first_segment event.now }
+/// Whether the event of a number and the three after it are of the hart that a program begins
+/// with.
+#[inline(always)]
+fn are_four_of_first(events: &[Event], number: usize) -> bool
+    requires { number + 4 ≤ length events.now }
+    ensures { IsTrue result ↔ AreFourOfFirst events.now number }
 {
-    Segment {
-        hart: event.hart,
-        start: 0,
-        end: event.due,
-        by: Handover::Start,
-    }
+    events[number].hart.0 == 0
+        && events[number + 1].hart.0 == 0
+        && events[number + 2].hart.0 == 0
+        && events[number + 3].hart.0 == 0
 }
 
-/// The segment of the first event of a path, if it goes on to this last one.
-fn whole_segment(first: &Event, last: &Event) -> Segment
-    ensures { result ≡ record (first_segment first.now) { end = last.now.due } }
-{
-    Segment {
-        end: last.due,
-        ..first_segment(first)
-    }
-}
-
-/// The way in which the hart of an event came to carry the path with it.
-fn taken_by(event: &Event) -> Handover
-    ensures { result ≡ handover event.now }
-{
-    match event.before {
-        Some(_) => Handover::Wake,
-        None => Handover::Clone,
-    }
-}
-
-/// The segment that an event is in, if the one ahead of it is in this one.
-fn after(segment: Segment, event: &Event) -> Segment
-    ensures { result ≡ after segment event.now }
-{
-    if event.hart.0 == segment.hart.0 {
-        return Segment {
-            end: event.due,
-            ..segment
-        };
-    }
-    Segment {
-        hart: event.hart,
-        start: segment.end,
-        end: event.due,
-        by: taken_by(event),
-    }
-}
-
-/// Whether all events are of the hart that a program begins with.
-fn are_of_first(events: &[Event]) -> bool
+/// Whether each of these events is of the hart that a program begins with.
+fn are_each_of_first(events: &[Event]) -> bool
     ensures { IsTrue result ↔ All (λ e. e.hart.0 ≡ 0) events.now }
 {
     events.iter().all(|event| event.hart.0 == 0)
+}
+
+/// Whether all events are of the hart that a program begins with. They are read in fours.
+fn are_of_first(events: &[Event]) -> bool
+    ensures { IsTrue result ↔ All (λ e. e.hart.0 ≡ 0) events.now }
+{
+    let mut number = 0;
+    while events.len() - number >= 4 {
+        if !are_four_of_first(events, number) {
+            return false;
+        }
+        number += 4;
+    }
+    are_each_of_first(&events[number..])
 }
 
 /// The number of segments of a path. If all events are of the first hart, the events are not read
@@ -303,7 +259,7 @@ pub fn path_of(alloc: Global, index: &LineIndex, trace: Trace) -> Result<Critica
     let events = trace.events.as_slice();
     let net = net_of(events);
     let chain = longest(alloc, &trace)?;
-    let shares = shares_of_path(alloc, index, events, &chain)?;
+    let shares = shares_of_chain(alloc, index, events, &chain)?;
     Ok(CriticalPath {
         trace,
         chain,

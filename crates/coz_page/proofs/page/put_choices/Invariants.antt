@@ -5,4 +5,4 @@ use Rattle.coz_page.specs.Page.{choice_text}
 use Rattle.coz_page.proofs.page.put_choices.Given as goal
 
 abbrev pub invariant-loop-index : goal.invariant-loop-index
-invariant-loop-index g l = Gathers g.O.Sink.holds g.O.Sink.faults l.fn.out l.out l.fn.to l.to (flat_map choice_text (take l.index (enumerate_from 0 l.points)))
+invariant-loop-index g l = Gathers g.O.Sink.holds g.O.Sink.faults l.fn.out l.out l.fn.to l.to (flat_map (choice_text l.tables) (take l.index (enumerate_from 0 l.points)))

@@ -3,7 +3,7 @@ use Rattle.coz_types.specs.declared.record.Summary.{Summary}
 use Rattle.coz_files.proofs.GatheredLemmas.{gathers_then}
 use Rattle.profile_book.proofs.Gathering.{gathers_as}
 use Rattle.coz_page.specs.Runs.{warning_text}
-use Rattle.coz_page.proofs.Pieces.{two_then}
+use Rattle.page_charts.proofs.Pieces.{two_then}
 use Rattle.coz_page.proofs.runs.put_runs.Goals as goal
 
 pub returns : goal.returns

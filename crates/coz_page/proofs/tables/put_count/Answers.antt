@@ -1,7 +1,7 @@
 use Rattle.std.proofs.Common.{ℕ, ◌-◌, ◌++◌, codes, decimal, min, ap}
 use Rattle.coz_files.proofs.GatheredLemmas.{gathers_then}
 use Rattle.profile_book.proofs.Gathering.{gathers_as}
-use Rattle.coz_page.proofs.Pieces.{two_then}
+use Rattle.page_charts.proofs.Pieces.{two_then}
 use Rattle.coz_page.proofs.tables.put_count.Goals as goal
 
 pub returns : goal.returns

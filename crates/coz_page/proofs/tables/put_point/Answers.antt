@@ -3,10 +3,10 @@ use Rattle.coz_types.specs.Labels.{Text}
 use Rattle.coz_types.specs.declared.record.Summary.{Summary}
 use Rattle.coz_files.proofs.GatheredLemmas.{gathers_then}
 use Rattle.profile_book.proofs.Gathering.{gathers_as}
-use Rattle.coz_page.specs.Labels.{html}
+use Rattle.page_values.specs.Labels.{html}
 use Rattle.coz_page.specs.Runs.{visits_text}
 use Rattle.coz_page.specs.Page.{point_name, point_number, rows_text, pictures_text, view_of}
-use Rattle.coz_page.proofs.Pieces.{two_then}
+use Rattle.page_charts.proofs.Pieces.{two_then}
 use Rattle.coz_page.proofs.tables.put_point.Goals as goal
 
 pub returns : goal.returns

@@ -4,10 +4,10 @@ use Rattle.coz_files.specs.InMemory.{entries}
 use Rattle.page_sources.specs.Sources.{line_beside, look_up}
 use Rattle.coz_files.proofs.GatheredLemmas.{gathers_then}
 use Rattle.profile_book.proofs.Gathering.{gathers_as}
-use Rattle.coz_page.specs.Labels.{html}
-use Rattle.coz_page.specs.Values.{value_text, cost_text}
-use Rattle.coz_page.specs.Harm.{worst_of}
-use Rattle.coz_page.specs.Cost.{cost_of}
+use Rattle.page_values.specs.Labels.{html}
+use Rattle.page_charts.specs.Values.{value_text, cost_text}
+use Rattle.page_values.specs.Harm.{worst_of}
+use Rattle.page_values.specs.Cost.{cost_of}
 use Rattle.coz_page.specs.Page.{source_text}
 use Rattle.coz_page.proofs.tables.put_row.Goals as goal
 

@@ -1,6 +1,6 @@
 use Rattle.std.proofs.Common.{decimal, codes}
 use Rattle.coz_files.proofs.GatheredLemmas.{gathers_then}
-use Rattle.coz_page.proofs.Pieces.{two_then}
+use Rattle.page_charts.proofs.Pieces.{two_then}
 use Rattle.coz_page.proofs.tables.put_step.Goals as goal
 
 pub returns : goal.returns

@@ -1,5 +1,5 @@
-use Rattle.std.proofs.Common.{◌≡◌, ℕ, ◌-◌, ◌<◌, ◌++◌, ◌∷◌, [], List, ◌∙◌, ap, sym, subst, arith, length, reverse, take, Option, append_assoc}
-use Rattle.std.proofs.lemmas.List.{length-set, reverse-append, take_more_set}
+use Rattle.std.proofs.Common.{◌≡◌, ℕ, ◌-◌, ◌<◌, ◌++◌, ◌∷◌, [], List, ◌∙◌, ap, sym, subst, arith, length, replicate, reverse, take, Option, append_assoc}
+use Rattle.std.proofs.lemmas.List.{length-replicate, length-set, reverse-append, take-replicate, take_more_set}
 use Rattle.critical_chains.specs.declared.event.Event.{Event}
 use Rattle.critical_chains.specs.Path.{event_at, last_of, chain_to, chain_of, Linked, Sound}
 use Rattle.critical_chains.proofs.Heaviest.{none_heavier}
@@ -13,11 +13,12 @@ loop-number-init c =
     let linked : Linked events = subst Linked (sym c.as_slice-events.ensures) c.requires in
     let some = linked.some in
     let xs : List ℕ = c.in_ok-chain.chain.items in
-    let room : length xs ≡ length events = omega (arith, c.in_ok-chain.ensures.len, c.in_ok-chain.chain.ok.0) in
     let last : ℕ = length events - 1 in
-    let put = take_more_set xs 0 last (omega (arith, room, some)) in (
+    let filled : xs ≡ replicate (length events) last = c.in_ok-chain.ensures.items_if_clones_equal (λ y is. is) in
+    let room : length xs ≡ length events = ap length filled ∙ length-replicate (length events) last in
+    let one : take 1 xs ≡ last ∷ [] = ap (take 1) filled ∙ take-replicate 1 (length events) last some in (
       omega (arith, some),
-      (omega arith, (length-set xs 0 last ∙ room, begins events linked ∙ ap (λ (ys : List ℕ). chain_to events (event_at events (last_of events)).from (last_of events) ++ reverse ys) (sym put))),
+      (omega arith, (room, begins events linked ∙ ap (λ (ys : List ℕ). chain_to events (event_at events (last_of events)).from (last_of events) ++ reverse ys) (sym one))),
     )
 
 pub loop-number-preserved : goal.loop-number-preserved

@@ -6,7 +6,7 @@ use Rattle.elf_load.specs.Loaded.{section}
 use Rattle.line_unit.specs.Unit.{unit}
 use Rattle.line_unit.specs.declared.UnitError.{UnitError}
 use Rattle.function_lines.specs.ByFunction.{IsByFunction, IsLongUnit, IsRead, IsUnit, IsUnitCause}
-use Rattle.function_lines.specs.Marks.{marks_of}
+use Rattle.line_marks.specs.Marks.{marks_of}
 use Rattle.function_lines.proofs.Soundness.{sound}
 use Rattle.function_lines.proofs.Whole.{long_unit, marks_within, unit_lines, unit_read}
 use Rattle.function_lines.proofs.file.by_marks.Goals as goal

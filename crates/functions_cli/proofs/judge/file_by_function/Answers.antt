@@ -1,6 +1,6 @@
 use Rattle.std.proofs.Common.{ap, sym, subst, ℕ, List, [], Result}
 use Rattle.coz_types.specs.Labels.{Text}
-use Rattle.function_lines.specs.Marks.{positions_of, spelled_lines}
+use Rattle.line_marks.specs.Marks.{positions_of, spelled_lines}
 use Rattle.experiment_plan.specs.Selected.{ids}
 use Rattle.program_steps.specs.Answer as steps
 use Rattle.program_steps.specs.Selection.{lines_named}

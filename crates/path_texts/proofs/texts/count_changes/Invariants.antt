@@ -1,5 +1,6 @@
 use Rattle.std.proofs.Common.{◌≡◌, ◌+◌, ◌≤◌, drop, length}
-use Rattle.path_texts.specs.PathText.{events_on, segments_from, segments_of}
+use Rattle.critical_chains.specs.Segments.{segments_from, segments_of}
+use Rattle.path_texts.specs.PathText.{events_on}
 use Rattle.path_texts.proofs.texts.count_changes.Given as goal
 
 -- those so far and those of the events that are left are all, but that the open one is in both

@@ -1,22 +1,31 @@
-use Rattle.std.proofs.Common.{◌∙◌, ℕ, List, length, ap, ap₂, subst, sym, arith}
+use Rattle.std.proofs.Common.{◌≡◌, ◌∙◌, ℕ, List, length, ap, ap₂, subst, sym, arith}
 use Rattle.line_index.specs.Index.{position_at}
 use Rattle.critical_chains.specs.declared.event.Event.{Event}
-use Rattle.critical_chains.specs.Path.{event_at, last_of, weight, Linked}
+use Rattle.critical_chains.specs.Path.{chain_of, event_at, last_of, weight, Linked}
 use Rattle.path_texts.specs.PathText.{events_on, shares_of, slept_on, work_elsewhere}
 use Rattle.path_texts.proofs.PathShares.{text_is}
+use Rattle.path_texts.proofs.WholeRuns.{all_events}
 use Rattle.path_texts.proofs.texts.path_of.Goals as goal
 
 pub net_of-net-requires : goal.net_of-net-requires
 net_of-net-requires c = (subst Linked (sym c.as_slice-events.ensures) c.requires).some
 
-pub shares_of_path-requires : goal.shares_of_path-requires
-shares_of_path-requires c =
+pub shares_of_chain-requires-clause-light : goal.shares_of_chain-requires-clause-light
+shares_of_chain-requires-clause-light c =
     let same = c.as_slice-events.ensures in
     let chain : List ℕ = c.in_ok-chain.chain.items in
     let heavy = ap (λ (es : List Event). weight es c.deref.result.now) same ∙ ap (weight c.args.trace.events) c.deref.ensures.value in
     let late = ap (λ (es : List Event). (event_at es (last_of es)).due) same in
     let whole = c.in_ok-chain.ensures.sound.whole in
     omega (arith, heavy, late, whole, c.net_of-net.ensures)
+
+pub shares_of_chain-requires-clause-whole : goal.shares_of_chain-requires-clause-whole
+shares_of_chain-requires-clause-whole c = λ many.
+    let events : List Event = c.as_slice-events.result.now in
+    let same = c.as_slice-events.ensures in
+    let linked : Linked events = subst Linked (sym same) c.requires in
+    let chain_is : c.deref.result.now ≡ chain_of events = c.deref.ensures.value ∙ c.in_ok-chain.ensures.chain ∙ ap chain_of (sym same) in
+    ap (events_on events) chain_is ∙ all_events events linked (ap length (sym chain_is) ∙ many)
 
 pub returns-clause-text : goal.returns-clause-text
 returns-clause-text c =

@@ -1,0 +1,2 @@
+mod CodeSpans
+mod NamesEnded

@@ -1,7 +1,0 @@
-use Rattle.std.proofs.Common.{rules}
-use Rattle.profile_book.proofs.Gathering.{line_more}
-use Rattle.coz_page.specs.Page.{place_at}
-use Rattle.coz_page.proofs.chart.put_places.Goals as goal
-
-pub loop-step-preserved : goal.loop-step-preserved
-loop-step-preserved g c = line_more (place_at c.args.top) c.args.steps.now c.loop-step.step-index _ (search rules) (search rules) c.loop-step.invariant c.put_place_at.ensures

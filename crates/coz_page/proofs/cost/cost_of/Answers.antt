@@ -1,7 +1,0 @@
-use Rattle.std.proofs.Common.{Option, ap₂, ◌∙◌}
-use Rattle.coz_types.specs.declared.record.Summary.{Summary}
-use Rattle.coz_page.specs.Cost.{cost_between}
-use Rattle.coz_page.proofs.cost.cost_of.Goals as goal
-
-pub returns : goal.returns
-returns c = c.cost_between.ensures ∙ ap₂ (λ (base sped : Option Summary). cost_between base sped) c.base_in.ensures c.sped_in.ensures

@@ -1,6 +1,0 @@
-use Rattle.std.proofs.Common.{◌≡◌, drop}
-use Rattle.coz_page.specs.Harm.{worst_of}
-use Rattle.coz_page.proofs.harm.worst_of.Given as goal
-
-abbrev pub invariant-loop-i : goal.invariant-loop-i
-invariant-loop-i l = l.worst ≡ worst_of (drop l.i l.steps)

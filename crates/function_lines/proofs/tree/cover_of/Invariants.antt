@@ -1,5 +1,0 @@
-use Rattle.function_lines.proofs.Nodes.{CoversTo}
-use Rattle.function_lines.proofs.tree.cover_of.Given as goal
-
-abbrev pub invariant-loop-point : goal.invariant-loop-point
-invariant-loop-point l = CoversTo l.points l.point-index l.cover

@@ -1,0 +1,4 @@
+mod Joined
+mod NameTexts
+mod SymbolLists
+mod Worked

@@ -1,0 +1,3 @@
+pub mod Adding
+mod Escapes
+pub mod Texts

@@ -1,0 +1,4 @@
+pub mod Locations
+pub mod Marks
+pub mod Sound
+pub mod Runs

@@ -1,0 +1,13 @@
+//! The lines of a program as their labels spell them, the marks that give their addresses to lines,
+//! and the sequences of such addresses.
+#![tactic(auto)]
+
+mod location;
+mod marks;
+mod raw_paths;
+mod runs;
+
+pub use location::Location;
+pub use marks::{Mark, has_zero, kept_marks, location_at, location_of};
+pub use raw_paths::unwritten;
+pub use runs::{Sequences, push_kept};

@@ -1,0 +1,7 @@
+use Rattle.std.proofs.Common.{rules}
+use Rattle.profile_book.proofs.Gathering.{line_more}
+use Rattle.page_charts.specs.Charts.{dot_at}
+use Rattle.page_charts.proofs.chart.put_dots.Goals as goal
+
+pub loop-step-preserved : goal.loop-step-preserved
+loop-step-preserved g c = line_more (dot_at c.args.top) c.args.steps.now c.loop-step.step-index _ (search rules) (search rules) c.loop-step.invariant c.put_dot_at.ensures

@@ -1,0 +1,58 @@
+//! Values in per cent.
+ghost use Rattle.std.specs.Prelude.{◌≡◌, ◌++◌, decimal};
+ghost use Rattle.coz_files.specs.Gathered.{Gathers};
+ghost use Rattle.page_charts.specs.Values.{sign, size_text, percent, value_text, cost_text};
+
+use coz_files::{PutBuffer, Sink};
+use profile_book::put_named;
+
+fn put_big<O: Sink>(to: &mut PutBuffer, out: &mut O, n: u128)
+    ensures { Gathers O.holds O.faults out.old out.new to.old to.new (decimal n) }
+{
+    let mut buffer = itoa::Buffer::new();
+    to.push(out, buffer.format(n).as_bytes());
+}
+
+/// Puts a number of hundredths of a per cent, as a percentage with two decimals.
+pub fn put_size<O: Sink>(to: &mut PutBuffer, out: &mut O, n: u128)
+    ensures { Gathers O.holds O.faults out.old out.new to.old to.new (size_text n) }
+{
+    put_big(to, out, n / 100);
+    put_named(to, out, b".", (n / 10 % 10) as u64);
+    put_named(to, out, b"", (n % 10) as u64);
+    to.push(out, b"%");
+}
+
+fn sign(value: i128) -> &'static [u8]
+    ensures { result.now ≡ sign value }
+{
+    if value < 0 { b"-" } else { b"" }
+}
+
+/// A value in per cent.
+pub fn put_percent<O: Sink>(to: &mut PutBuffer, out: &mut O, value: i128)
+    ensures { Gathers O.holds O.faults out.old out.new to.old to.new (percent value) }
+{
+    to.push(out, sign(value));
+    put_size(to, out, value.unsigned_abs());
+}
+
+/// A value in per cent, or that it is absent.
+pub fn put_value<O: Sink>(to: &mut PutBuffer, out: &mut O, value: Option<i128>)
+    ensures { Gathers O.holds O.faults out.old out.new to.old to.new (value_text value) }
+{
+    match value {
+        Some(value) => put_percent(to, out, value),
+        None => to.push(out, b"absent"),
+    }
+}
+
+/// A cost in per cent, or that it is absent.
+pub fn put_cost<O: Sink>(to: &mut PutBuffer, out: &mut O, cost: Option<u128>)
+    ensures { Gathers O.holds O.faults out.old out.new to.old to.new (cost_text cost) }
+{
+    match cost {
+        Some(cost) => put_size(to, out, cost),
+        None => to.push(out, b"absent"),
+    }
+}

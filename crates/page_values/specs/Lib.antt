@@ -1,0 +1,5 @@
+pub mod Labels
+pub mod Harm
+pub mod Cost
+pub mod Endings
+pub mod Places
