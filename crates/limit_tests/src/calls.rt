@@ -1,22 +1,16 @@
-//! The call of `coz`, and what it leaves.
+//! Calls of `coz`, and what they must leave.
+use crate::files::{Listed, files_of};
+use crate::programs::{Left, is_left};
+use crate::sinks::{Sinks, WIDE, two_sinks};
 use coz_cli::serve;
-use coz_files::{Files, FreeGate, HeldFile, MemoryFiles, MemorySink};
+use coz_files::{Files, FreeGate};
 use std::alloc::{AllocError, Global};
+use std::process::Abort;
+use std::test::Fail;
 use std::thread::Threads;
-
-/// What a call answered and left.
-#[derive(Drop)]
-pub(crate) struct Served {
-    pub(crate) status: u8,
-    pub(crate) out: Vec<u8>,
-    pub(crate) err: Vec<u8>,
-}
 
 /// A program of three instructions that exits.
 pub(crate) const ONE_SOURCE: &[u8] = b"    addi a0, x0, 0\n    addi a7, x0, 93\n    ecall\n";
-
-/// The room of a sink, in bytes.
-pub(crate) const ROOM: u64 = 10000;
 
 pub(crate) fn texts(alloc: Global, words: &[&str]) -> Result<Vec<String>, AllocError> {
     let mut texts = Vec::new(alloc);
@@ -26,35 +20,64 @@ pub(crate) fn texts(alloc: Global, words: &[&str]) -> Result<Vec<String>, AllocE
     Ok(texts)
 }
 
-pub(crate) fn call<R: Threads + Sync + AllocGlobal, F: Files>(
+fn status_of<R: Threads + Sync + AllocGlobal, F: Files>(
     rt: &R,
     words: &[&str],
     files: &mut F,
-) -> Result<Served, AllocError> {
+    sinks: &mut Sinks,
+) -> Result<u8, AllocError> {
     let alloc = rt.alloc();
     let words = texts(alloc, words)?;
-    let mut out = MemorySink::new(alloc, ROOM, Vec::new(alloc))?;
-    let mut err = MemorySink::new(alloc, ROOM, Vec::new(alloc))?;
-    let status = serve(rt, alloc, &words, files, &mut out, &mut err, &FreeGate);
-    Ok(Served {
-        status,
-        out: out.held().to_vec(alloc)?,
-        err: err.held().to_vec(alloc)?,
-    })
+    let out = &mut sinks.out;
+    let err = &mut sinks.err;
+    Ok(serve(rt, alloc, &words, files, out, err, &FreeGate))
 }
 
-/// One file in memory, of which the reads with these numbers fail.
-pub(crate) fn one_file(
-    alloc: Global,
-    path: &str,
-    bytes: &[u8],
-    fails: &[u64],
-) -> Result<MemoryFiles, AllocError> {
-    let file = HeldFile {
-        path: path.as_bytes().to_vec(alloc)?,
-        bytes: bytes.to_vec(alloc)?,
-    };
-    Ok(MemoryFiles::new(vec![in alloc; file]?, fails.to_vec(alloc)?))
+fn comes_out_in<R: Threads + Sync + AllocGlobal + Abort, F: Files>(
+    rt: &R,
+    words: &[&str],
+    files: &mut F,
+    sinks: &mut Sinks,
+    left: Left,
+) -> Result<(), Fail> {
+    let status = status_of(rt, words, files, sinks)?;
+    is_left(rt, (status, sinks.out.held(), sinks.err.held()), left)
+}
+
+/// Calls `coz`, and compares what it leaves.
+pub(crate) fn comes_out<R: Threads + Sync + AllocGlobal + Abort, F: Files>(
+    rt: &R,
+    words: &[&str],
+    files: &mut F,
+    left: Left,
+) -> Result<(), Fail> {
+    let mut sinks = two_sinks(rt.alloc(), (WIDE, WIDE))?;
+    let comes = comes_out_in(rt, words, files, &mut sinks, left);
+    // By one call, since a drop in place is proved part by part.
+    drop(sinks);
+    comes
+}
+
+fn printed_in<R: Threads + Sync + AllocGlobal>(
+    rt: &R,
+    words: &[&str],
+    files: &[(&str, &[u8])],
+    sinks: &mut Sinks,
+) -> Result<(), AllocError> {
+    let files = files_of(rt.alloc(), files)?;
+    status_of(rt, words, &mut Listed::new(&files, &[]), sinks)?;
+    Ok(())
+}
+
+/// What `coz` prints over files with these paths and bytes.
+pub(crate) fn printed<R: Threads + Sync + AllocGlobal>(
+    rt: &R,
+    words: &[&str],
+    files: &[(&str, &[u8])],
+) -> Result<Vec<u8>, AllocError> {
+    let mut sinks = two_sinks(rt.alloc(), (WIDE, WIDE))?;
+    printed_in(rt, words, files, &mut sinks)?;
+    sinks.out.held().to_vec(rt.alloc())
 }
 
 /// The program of a source.
@@ -63,6 +86,5 @@ pub(crate) fn assembled<R: Threads + Sync + AllocGlobal>(
     path: &str,
     source: &[u8],
 ) -> Result<Vec<u8>, AllocError> {
-    let mut files = one_file(rt.alloc(), path, source, &[])?;
-    Ok(call(rt, &["asm", path], &mut files)?.out)
+    printed(rt, &["asm", path], &[(path, source)])
 }

@@ -1,9 +1,12 @@
 //! Programs by function over files in memory.
-use crate::calls::{Served, call, one_file, texts};
-use crate::large::Large;
-use crate::sinks::{ONE_FAILS, Room, SHUT, WIDE, first_texts, sink};
-use coz_files::{Files, HeldFile, MemoryFiles};
-use functions_cli::serve_functions;
+use crate::calls::printed;
+use crate::files::{Change, Listed, add_all_changed, files_of};
+use crate::programs::{
+    Fault, Limit, Program, Row, all_come_out, all_faults_decide, all_limits_decide, is_left,
+    status_of, status_stays,
+};
+use crate::sinks::{SHUT, Sinks, TEN, WIDE, two_sinks};
+use coz_files::HeldFile;
 use std::alloc::{AllocError, Global};
 use std::process::Abort;
 use std::test::Fail;
@@ -32,7 +35,7 @@ tab\0.strtab\0.debug_line\0.shstrtab\0\0\0\0\0\0\0\0\0\0\0\0\0\0\0\0\0\0\0\0\0\0
 \0\0\0\0'\0\0\0\0\0\0\0\0\0\0\0\0\0\0\0\x01\0\0\0\0\0\0\0\0\0\0\0\0\0\0\0";
 
 /// Programs that differ from it in a few bytes, each with its offset.
-static CHANGED: [(&str, &[(usize, u8)]); 8] = [
+static CHANGED: [Change; 8] = [
     // The header says that there are compressed instructions.
     ("compressed", &[(48, 1)]),
     // The line table ends within the header of its unit.
@@ -51,49 +54,11 @@ static CHANGED: [(&str, &[(usize, u8)]); 8] = [
     ("comma", &[(270, b',')]),
 ];
 
-/// A file with some of its bytes changed.
-fn changed(alloc: Global, file: &[u8], bytes: &[(usize, u8)]) -> Result<Vec<u8>, AllocError> {
-    let mut file = file.to_vec(alloc)?;
-    for (at, byte) in bytes {
-        if *at < file.len() {
-            file[*at] = *byte;
-        }
-    }
-    Ok(file)
-}
-
-fn held(alloc: Global, path: &str, bytes: Vec<u8>) -> Result<HeldFile, AllocError> {
-    Ok(HeldFile {
-        path: path.as_bytes().to_vec(alloc)?,
-        bytes,
-    })
-}
-
-/// The programs, of which the reads with these numbers fail.
-fn programs(alloc: Global, fails: &[u64]) -> Result<MemoryFiles, AllocError> {
-    let mut files = Vec::new(alloc);
-    files.push(held(alloc, "small", SMALL.to_vec(alloc)?)?)?;
-    for (path, bytes) in &CHANGED {
-        files.push(held(alloc, path, changed(alloc, SMALL, bytes)?)?)?;
-    }
-    Ok(MemoryFiles::new(files, fails.to_vec(alloc)?))
-}
-
-fn by_function<F: Files>(
-    alloc: Global,
-    words: &[&str],
-    files: &mut F,
-    rooms: (Room, Room),
-) -> Result<Served, AllocError> {
-    let words = texts(alloc, words)?;
-    let mut out = sink(alloc, rooms.0)?;
-    let mut err = sink(alloc, rooms.1)?;
-    let status = serve_functions(alloc, &words, files, &mut out, &mut err);
-    Ok(Served {
-        status,
-        out: out.held().to_vec(alloc)?,
-        err: err.held().to_vec(alloc)?,
-    })
+/// The programs.
+fn programs(alloc: Global) -> Result<Vec<HeldFile>, AllocError> {
+    let mut files = files_of(alloc, &[("small", SMALL)])?;
+    add_all_changed(alloc, &mut files, SMALL, &CHANGED)?;
+    Ok(files)
 }
 
 /// The lines of the program that was written, if one was.
@@ -101,27 +66,38 @@ fn lines_of<R: Threads + Sync + AllocGlobal>(rt: &R, file: &[u8]) -> Result<Vec<
     if file.is_empty() {
         return Ok(Vec::new(rt.alloc()));
     }
-    let mut files = one_file(rt.alloc(), "written", file, &[])?;
-    Ok(call(rt, &["lines", "written"], &mut files)?.out)
+    printed(rt, &["lines", "written"], &[("written", file)])
 }
 
 const USAGE: &[u8] = b"coz-functions: usage\n";
 
-/// The words, the status, the lines of what is written, and the line on the error stream.
-type Row = (&'static [&'static str], u8, &'static [u8], &'static [u8]);
+fn is_written_in<R: Threads + Sync + AllocGlobal + Abort>(
+    rt: &R,
+    files: &[HeldFile],
+    row: &Row,
+    sinks: &mut Sinks,
+) -> Result<(), Fail> {
+    let mut files = Listed::new(files, &[]);
+    let status = status_of(rt.alloc(), Program::Functions, row.0, &mut files, sinks)?;
+    let lines = lines_of(rt, sinks.out.held())?;
+    is_left(
+        rt,
+        (status, &lines, sinks.err.held()),
+        (row.1, row.2, row.3),
+    )
+}
 
-fn all_come_out<R: Threads + Sync + AllocGlobal + Abort>(rt: &R, rows: &[Row]) -> Result<(), Fail> {
-    let alloc = rt.alloc();
-    for (words, status, lines, err) in rows {
-        let mut files = programs(alloc, &[])?;
-        let served = by_function(alloc, *words, &mut files, (WIDE, WIDE))?;
-        let written = lines_of(rt, &served.out)?;
-        assert_eq!(rt;
-            (served.status, written.as_slice(), served.err.as_slice()),
-            (*status, *lines, *err)
-        );
-    }
-    Ok(())
+/// Calls the program with the words of a row, which has the lines of what is written.
+fn is_written<R: Threads + Sync + AllocGlobal + Abort>(
+    rt: &R,
+    files: &[HeldFile],
+    row: &Row,
+) -> Result<(), Fail> {
+    let mut sinks = two_sinks(rt.alloc(), (WIDE, WIDE))?;
+    let is_written = is_written_in(rt, files, row, &mut sinks);
+    // By one call, since a drop in place is proved part by part.
+    drop(sinks);
+    is_written
 }
 
 /// Words that ask for nothing.
@@ -154,11 +130,12 @@ static WRONG: [Row; 19] = [
 
 #[test]
 fn wrong_words_are_rejected(rt: HostRuntime) -> Result<(), Fail> {
-    all_come_out(&rt, &WRONG)
+    all_come_out(&rt, Program::Functions, &programs(rt.alloc())?, &WRONG)
 }
 
 const WHOLE: &[u8] = b"skipped 0\na/m.c/main:1\t0x10078\nb/m.c/work:3\t0x10088\n";
 
+/// With the lines of what is written.
 static WRITTEN: [Row; 13] = [
     (&["small"], 0, WHOLE, b""),
     (&["--", "small"], 0, WHOLE, b""),
@@ -233,7 +210,11 @@ static WRITTEN: [Row; 13] = [
 
 #[test]
 fn lines_are_kept_before_regions_and_functions(rt: HostRuntime) -> Result<(), Fail> {
-    all_come_out(&rt, &WRITTEN)
+    let programs = programs(rt.alloc())?;
+    for row in &WRITTEN {
+        is_written(&rt, &programs, row)?;
+    }
+    Ok(())
 }
 
 /// If a row has two faults, the first one is reported.
@@ -287,26 +268,13 @@ static FAULTY: [Row; 10] = [
 
 #[test]
 fn the_first_fault_is_told(rt: HostRuntime) -> Result<(), Fail> {
-    all_come_out(&rt, &FAULTY)
+    all_come_out(&rt, Program::Functions, &programs(rt.alloc())?, &FAULTY)
 }
 
-const TEN: Room = Room {
-    bytes: 10,
-    fails: &[],
-};
-
-/// The words, the reads that fail, both sinks, the status, how many bytes are written, and the line
-/// on the error stream.
-type Fault = (
-    &'static [&'static str],
-    &'static [u64],
-    (Room, Room),
-    u8,
-    usize,
-    &'static [u8],
-);
-
 const WRITE: &[u8] = b"coz-functions: write\n";
+
+/// The first ten bytes of a program.
+const MAGIC: &[u8] = b"\x7FELF\x02\x01\x01\0\0\0";
 
 static FAULTS: [Fault; 7] = [
     (
@@ -314,37 +282,28 @@ static FAULTS: [Fault; 7] = [
         &[0],
         (WIDE, WIDE),
         5,
-        0,
+        b"",
         b"coz-functions: read: small\n",
     ),
     // The file is read once.
-    (&["small"], &[1], (WIDE, WIDE), 0, 854, b""),
-    (&["small"], &[], (TEN, WIDE), 6, 10, WRITE),
-    (&["small"], &[], (SHUT, WIDE), 6, 0, WRITE),
-    (&["small"], &[], (TEN, SHUT), 6, 10, b""),
+    (&["small"], &[1], (TEN, WIDE), 6, MAGIC, WRITE),
+    (&["small"], &[], (TEN, WIDE), 6, MAGIC, WRITE),
+    (&["small"], &[], (SHUT, WIDE), 6, b"", WRITE),
+    (&["small"], &[], (TEN, SHUT), 6, MAGIC, b""),
     (
         &["small", "--regions", "m.c:8-9"],
         &[],
         (WIDE, SHUT),
         7,
-        0,
+        b"",
         b"",
     ),
-    (&["bare"], &[], (WIDE, SHUT), 14, 0, b""),
+    (&["bare"], &[], (WIDE, SHUT), 14, b"", b""),
 ];
 
 #[test]
 fn faults_of_files_and_sinks_decide(rt: HostRuntime) -> Result<(), Fail> {
-    let alloc = rt.alloc();
-    for (words, fails, rooms, status, written, err) in &FAULTS {
-        let mut files = programs(alloc, *fails)?;
-        let served = by_function(alloc, *words, &mut files, *rooms)?;
-        assert_eq!(rt;
-            (served.status, served.out.len(), served.err.as_slice()),
-            (*status, *written, *err)
-        );
-    }
-    Ok(())
+    all_faults_decide(&rt, Program::Functions, &programs(rt.alloc())?, &FAULTS)
 }
 
 /// The line of `bare`, by the texts that are put one after another.
@@ -352,37 +311,22 @@ static BARE: [&[u8]; 3] = [b"coz-functions: ", b"no functions", b"\n"];
 
 #[test]
 fn the_status_stays_if_a_put_of_the_line_fails(rt: HostRuntime) -> Result<(), Fail> {
-    let alloc = rt.alloc();
-    for (put, room) in ONE_FAILS.iter().enumerate() {
-        let mut files = programs(alloc, &[])?;
-        let served = by_function(alloc, &["bare"], &mut files, (WIDE, *room))?;
-        let line = first_texts(alloc, &BARE, put)?;
-        assert_eq!(rt;
-            (served.status, served.out.len(), served.err.as_slice()),
-            (14, 0, line.as_slice())
-        );
-    }
-    Ok(())
+    let programs = programs(rt.alloc())?;
+    status_stays(&rt, Program::Functions, &programs, &["bare"], 14, &BARE)
 }
 
-/// How many zeros the file has, the status, and the line on the error stream.
-static LIMITS: [(u64, u8, &[u8]); 2] = [
-    (33_554_432, 3, b"coz-functions: program: NotElf at 0\n"),
-    (33_554_433, 8, b"coz-functions: long: big\n"),
+static LIMITS: [Limit; 2] = [
+    (
+        &["big"],
+        33_554_432,
+        3,
+        b"",
+        b"coz-functions: program: NotElf at 0\n",
+    ),
+    (&["big"], 33_554_433, 8, b"", b"coz-functions: long: big\n"),
 ];
 
 #[test]
 fn one_byte_over_the_limit_is_too_long(rt: HostRuntime) -> Result<(), Fail> {
-    for (size, status, err) in &LIMITS {
-        let mut files = Large {
-            size: *size,
-            program: b"",
-        };
-        let served = by_function(rt.alloc(), &["big"], &mut files, (WIDE, WIDE))?;
-        assert_eq!(rt;
-            (served.status, served.out.len(), served.err.as_slice()),
-            (*status, 0, *err)
-        );
-    }
-    Ok(())
+    all_limits_decide(&rt, Program::Functions, b"", &LIMITS)
 }

@@ -1,6 +1,7 @@
 //! The files that the tests of lines by cost read.
 use crate::calls::{ONE_SOURCE, assembled};
-use coz_files::{HeldFile, MemoryFiles};
+use crate::files::{Change, add, add_all_changed};
+use coz_files::HeldFile;
 use std::alloc::{AllocError, Global};
 use std::thread::Threads;
 
@@ -20,7 +21,7 @@ static SOURCES: [(&str, &[u8]); 4] = [
 ];
 
 /// Programs that differ from `one` in a few bytes, each with its offset.
-static CHANGED: [(&str, &[(usize, u8)]); 3] = [
+static CHANGED: [Change; 3] = [
     // The header says that there are compressed instructions.
     ("compressed", &[(48, 1)]),
     // The line table ends within the header of its unit.
@@ -28,30 +29,6 @@ static CHANGED: [(&str, &[(usize, u8)]); 3] = [
     // There are no sections, and so no lines.
     ("bare", &[(40, 0), (41, 0), (60, 0), (62, 0)]),
 ];
-
-/// A file with some of its bytes changed.
-fn changed(alloc: Global, file: &[u8], bytes: &[(usize, u8)]) -> Result<Vec<u8>, AllocError> {
-    let mut file = file.to_vec(alloc)?;
-    for (at, byte) in bytes {
-        if *at < file.len() {
-            file[*at] = *byte;
-        }
-    }
-    Ok(file)
-}
-
-/// Adds a file of these bytes, which are copied.
-fn add(
-    alloc: Global,
-    files: &mut Vec<HeldFile>,
-    path: &[u8],
-    bytes: &[u8],
-) -> Result<(), AllocError> {
-    let path = path.to_vec(alloc)?;
-    let bytes = bytes.to_vec(alloc)?;
-    files.push(HeldFile { path, bytes })?;
-    Ok(())
-}
 
 /// Adds the program of a source at the path of the source without the ending.
 fn add_assembled<R: Threads + Sync + AllocGlobal>(
@@ -62,68 +39,25 @@ fn add_assembled<R: Threads + Sync + AllocGlobal>(
 ) -> Result<(), AllocError> {
     let path = name.strip_suffix(".s").unwrap_or(name);
     let program = assembled(rt, name, source)?;
-    add(rt.alloc(), files, path.as_bytes(), &program)
+    add(rt.alloc(), files, path, &program)
 }
 
-/// Adds a file with some of its bytes changed.
-fn add_changed(
-    alloc: Global,
-    files: &mut Vec<HeldFile>,
-    path: &str,
-    file: &[u8],
-    bytes: &[(usize, u8)],
-) -> Result<(), AllocError> {
-    let changed = changed(alloc, file, bytes)?;
-    add(alloc, files, path.as_bytes(), &changed)
-}
-
-/// Adds the programs that differ from `one`.
-fn add_all_changed(alloc: Global, files: &mut Vec<HeldFile>, one: &[u8]) -> Result<(), AllocError> {
-    for (path, bytes) in &CHANGED {
-        add_changed(alloc, files, *path, one, *bytes)?;
-    }
-    Ok(())
-}
-
-/// Adds the programs of the sources, each at the path of its source without the ending.
-fn add_all_assembled<R: Threads + Sync + AllocGlobal>(
-    rt: &R,
-    files: &mut Vec<HeldFile>,
-) -> Result<(), AllocError> {
+/// The programs of the sources, each at the path of its source without the ending.
+fn all_assembled<R: Threads + Sync + AllocGlobal>(rt: &R) -> Result<Vec<HeldFile>, AllocError> {
+    let mut files = Vec::new(rt.alloc());
     for (name, source) in &SOURCES {
-        add_assembled(rt, files, *name, *source)?;
+        add_assembled(rt, &mut files, *name, *source)?;
     }
-    Ok(())
+    Ok(files)
 }
 
-/// The programs of the sources, each at the path of its source without the ending, and those that
-/// differ.
+/// The programs of the sources, those that differ, and an input.
 pub(crate) fn programs<R: Threads + Sync + AllocGlobal>(
     rt: &R,
 ) -> Result<Vec<HeldFile>, AllocError> {
     let one = assembled(rt, "one.s", ONE_SOURCE)?;
-    let mut programs = Vec::new(rt.alloc());
-    add_all_assembled(rt, &mut programs)?;
-    add_all_changed(rt.alloc(), &mut programs, &one)?;
+    let mut programs = all_assembled(rt)?;
+    add_all_changed(rt.alloc(), &mut programs, &one, &CHANGED)?;
+    add(rt.alloc(), &mut programs, "data", b"five")?;
     Ok(programs)
-}
-
-/// Copies of the programs, and an input.
-fn copied(alloc: Global, programs: &[HeldFile]) -> Result<Vec<HeldFile>, AllocError> {
-    let mut files = Vec::new(alloc);
-    for program in programs {
-        add(alloc, &mut files, &program.path, &program.bytes)?;
-    }
-    add(alloc, &mut files, b"data", b"five")?;
-    Ok(files)
-}
-
-/// The programs and an input as files in memory, of which the reads with these numbers fail.
-pub(crate) fn copies(
-    alloc: Global,
-    programs: &[HeldFile],
-    fails: &[u64],
-) -> Result<MemoryFiles, AllocError> {
-    let fails = fails.to_vec(alloc)?;
-    Ok(MemoryFiles::new(copied(alloc, programs)?, fails))
 }

@@ -1,89 +1,17 @@
 //! Lines by cost over files in memory.
-use crate::calls::{ONE_SOURCE, assembled, texts};
-use crate::hot_files::{copies, programs};
-use crate::large::Large;
-use crate::sinks::{ONE_FAILS, Room, SHUT, Sinks, WIDE, first_texts, two_sinks};
-use coz_files::{Files, HeldFile};
-use hot_cli::serve_hot;
-use std::alloc::{AllocError, Global};
-use std::process::Abort;
+use crate::calls::{ONE_SOURCE, assembled};
+use crate::hot_files::programs;
+use crate::programs::{
+    Fault, Limit, Program, Row, all_come_out, all_faults_decide, all_limits_decide, status_stays,
+};
+use crate::sinks::{SHUT, TEN, WIDE};
 use std::test::Fail;
-use std::thread::Threads;
-
-fn listed<F: Files>(
-    alloc: Global,
-    words: &[&str],
-    files: &mut F,
-    sinks: &mut Sinks,
-) -> Result<u8, AllocError> {
-    let words = texts(alloc, words)?;
-    let status = serve_hot(alloc, &words, files, &mut sinks.out, &mut sinks.err);
-    Ok(status)
-}
-
-/// The status, what is printed, and the line on the error stream.
-type Left<'a> = (u8, &'a [u8], &'a [u8]);
-
-fn is_left<R: AllocGlobal + Abort>(rt: &R, found: Left, left: Left) -> Result<(), Fail> {
-    assert_eq!(rt; found, left);
-    Ok(())
-}
-
-fn comes_out_in<R: AllocGlobal + Abort, F: Files>(
-    rt: &R,
-    words: &[&str],
-    files: &mut F,
-    sinks: &mut Sinks,
-    left: Left,
-) -> Result<(), Fail> {
-    let status = listed(rt.alloc(), words, files, sinks)?;
-    is_left(rt, (status, sinks.out.held(), sinks.err.held()), left)
-}
-
-fn comes_out<R: AllocGlobal + Abort, F: Files>(
-    rt: &R,
-    words: &[&str],
-    files: &mut F,
-    rooms: (Room, Room),
-    left: Left,
-) -> Result<(), Fail> {
-    let mut sinks = two_sinks(rt.alloc(), rooms)?;
-    let comes = comes_out_in(rt, words, files, &mut sinks, left);
-    // By one call, since a drop in place is proved part by part.
-    drop(sinks);
-    comes
-}
-
-/// Over copies of the programs, of which the reads with these numbers fail.
-fn comes_out_over<R: AllocGlobal + Abort>(
-    rt: &R,
-    programs: &[HeldFile],
-    words: &[&str],
-    fails: &[u64],
-    rooms: (Room, Room),
-    left: Left,
-) -> Result<(), Fail> {
-    let mut files = copies(rt.alloc(), programs, fails)?;
-    comes_out(rt, words, &mut files, rooms, left)
-}
 
 const USAGE: &[u8] = b"coz-hot: usage\n";
 
 const ONE: &[u8] = b"line one.s:3 starts 1 cost 4000 share 9523\n\
 line one.s:1 starts 1 cost 100 share 238\n\
 line one.s:2 starts 1 cost 100 share 238\n";
-
-/// The words, the status, what is printed, and the line on the error stream.
-type Row = (&'static [&'static str], u8, &'static [u8], &'static [u8]);
-
-fn all_come_out<R: Threads + Sync + AllocGlobal + Abort>(rt: &R, rows: &[Row]) -> Result<(), Fail> {
-    let programs = programs(rt)?;
-    for (words, status, out, err) in rows {
-        let left = (*status, *out, *err);
-        comes_out_over(rt, &programs, *words, &[], (WIDE, WIDE), left)?;
-    }
-    Ok(())
-}
 
 /// Words that ask for nothing.
 static WRONG: [Row; 17] = [
@@ -108,7 +36,7 @@ static WRONG: [Row; 17] = [
 
 #[test]
 fn wrong_words_are_rejected(rt: HostRuntime) -> Result<(), Fail> {
-    all_come_out(&rt, &WRONG)
+    all_come_out(&rt, Program::Hot, &programs(&rt)?, &WRONG)
 }
 
 /// An instruction takes 100 ticks, a jump 200, and a call 4000. In `two` lines 5 to 8 are executed
@@ -200,7 +128,7 @@ line one.s:2 starts 1 cost 100 share 5000\n",
 
 #[test]
 fn lines_stand_by_falling_cost(rt: HostRuntime) -> Result<(), Fail> {
-    all_come_out(&rt, &PRINTED)
+    all_come_out(&rt, Program::Hot, &programs(&rt)?, &PRINTED)
 }
 
 /// If a row has two faults, the first is reported.
@@ -252,24 +180,8 @@ static FAULTY: [Row; 8] = [
 
 #[test]
 fn the_first_fault_is_told(rt: HostRuntime) -> Result<(), Fail> {
-    all_come_out(&rt, &FAULTY)
+    all_come_out(&rt, Program::Hot, &programs(&rt)?, &FAULTY)
 }
-
-const TEN: Room = Room {
-    bytes: 10,
-    fails: &[],
-};
-
-/// The words, the reads that fail, both sinks, the status, what is printed, and the line on the
-/// error stream.
-type Fault = (
-    &'static [&'static str],
-    &'static [u64],
-    (Room, Room),
-    u8,
-    &'static [u8],
-    &'static [u8],
-);
 
 const WRITE: &[u8] = b"coz-hot: write\n";
 
@@ -338,12 +250,7 @@ static FAULTS: [Fault; 15] = [
 
 #[test]
 fn faults_of_files_and_sinks_decide(rt: HostRuntime) -> Result<(), Fail> {
-    let programs = programs(&rt)?;
-    for (words, fails, rooms, status, out, err) in &FAULTS {
-        let left = (*status, *out, *err);
-        comes_out_over(&rt, &programs, *words, *fails, *rooms, left)?;
-    }
-    Ok(())
+    all_faults_decide(&rt, Program::Hot, &programs(&rt)?, &FAULTS)
 }
 
 /// The line of `absent`, by the texts that are put one after another.
@@ -351,25 +258,10 @@ static ABSENT: [&[u8]; 5] = [b"coz-hot", b": ", b"read: ", b"absent", b"\n"];
 
 #[test]
 fn the_status_stays_if_a_put_of_the_line_fails(rt: HostRuntime) -> Result<(), Fail> {
-    for (put, room) in ONE_FAILS.iter().enumerate() {
-        let line = first_texts(rt.alloc(), &ABSENT, put)?;
-        let left = (5, b"".as_slice(), line.as_slice());
-        comes_out_over(&rt, &[], &["absent"], &[], (WIDE, *room), left)?;
-    }
-    Ok(())
+    status_stays(&rt, Program::Hot, &[], &["absent"], 5, &ABSENT)
 }
 
 const LONG: &[u8] = b"coz-hot: long: big\n";
-
-/// The words, the number of bytes of the file `big`, the status, what is printed, and the line on
-/// the error stream.
-type Limit = (
-    &'static [&'static str],
-    u64,
-    u8,
-    &'static [u8],
-    &'static [u8],
-);
 
 static LIMITS: [Limit; 4] = [
     (
@@ -387,13 +279,5 @@ static LIMITS: [Limit; 4] = [
 #[test]
 fn one_byte_over_the_limit_is_too_long(rt: HostRuntime) -> Result<(), Fail> {
     let one = assembled(&rt, "one.s", ONE_SOURCE)?;
-    for (words, size, status, out, err) in &LIMITS {
-        let mut files = Large {
-            size: *size,
-            program: one.as_slice(),
-        };
-        let left = (*status, *out, *err);
-        comes_out(&rt, *words, &mut files, (WIDE, WIDE), left)?;
-    }
-    Ok(())
+    all_limits_decide(&rt, Program::Hot, &one, &LIMITS)
 }

@@ -1,5 +1,5 @@
 //! The profiles that the tests of joins read.
-use coz_files::{HeldFile, MemoryFiles};
+use coz_files::HeldFile;
 use std::alloc::{AllocError, Global};
 
 const HEAD: &[u8] = b"coz-ticks\tversion=1\tbudget=100000000\tpoints=0\n";
@@ -167,24 +167,18 @@ fn text_of(alloc: Global, book: &Book) -> Result<Vec<u8>, AllocError> {
     Ok(text)
 }
 
-/// The text of the profile of this name, and none if there is no such profile.
-pub(crate) fn text_named(alloc: Global, name: &str) -> Result<Vec<u8>, AllocError> {
-    for book in &BOOKS {
-        if book.path == name {
-            return text_of(alloc, book);
-        }
-    }
-    Ok(Vec::new(alloc))
+fn add_book(alloc: Global, files: &mut Vec<HeldFile>, book: &Book) -> Result<(), AllocError> {
+    let path = book.path.as_bytes().to_vec(alloc)?;
+    let bytes = text_of(alloc, book)?;
+    files.push(HeldFile { path, bytes })?;
+    Ok(())
 }
 
-/// All profiles as files in memory, of which the reads with these numbers fail.
-pub(crate) fn all_files(alloc: Global, fails: &[u64]) -> Result<MemoryFiles, AllocError> {
+/// All profiles as files.
+pub(crate) fn all_books(alloc: Global) -> Result<Vec<HeldFile>, AllocError> {
     let mut files = Vec::new(alloc);
     for book in &BOOKS {
-        files.push(HeldFile {
-            path: book.path.as_bytes().to_vec(alloc)?,
-            bytes: text_of(alloc, book)?,
-        })?;
+        add_book(alloc, &mut files, book)?;
     }
-    Ok(MemoryFiles::new(files, fails.to_vec(alloc)?))
+    Ok(files)
 }

@@ -1,29 +1,12 @@
 //! The join of profiles over files in memory.
-use crate::calls::{Served, texts};
-use crate::join_files::{all_files, text_named};
-use crate::large::{BIG, Large};
-use crate::sinks::{ONE_FAILS, Room, SHUT, WIDE, first_texts, sink};
-use coz_files::Files;
-use join_cli::serve_join;
-use std::alloc::{AllocError, Global};
+use crate::files::{Listed, file_at};
+use crate::join_files::all_books;
+use crate::programs::{
+    Fault, Limit, Program, all_faults_decide, all_limits_decide, comes_out, status_stays,
+};
+use crate::sinks::{Room, SHUT, WIDE};
+use coz_files::HeldFile;
 use std::test::Fail;
-
-fn joined<F: Files>(
-    alloc: Global,
-    words: &[&str],
-    files: &mut F,
-    rooms: (Room, Room),
-) -> Result<Served, AllocError> {
-    let words = texts(alloc, words)?;
-    let mut out = sink(alloc, rooms.0)?;
-    let mut err = sink(alloc, rooms.1)?;
-    let status = serve_join(alloc, &words, files, &mut out, &mut err);
-    Ok(Served {
-        status,
-        out: out.held().to_vec(alloc)?,
-        err: err.held().to_vec(alloc)?,
-    })
-}
 
 /// The words, the status, the profile that is printed, and the line on the error stream.
 type Row = (&'static [&'static str], u8, &'static str, &'static [u8]);
@@ -86,16 +69,21 @@ static ROWS: [Row; 30] = [
     ),
 ];
 
+/// The text of the profile of this name, and none if there is no such profile.
+fn text_named<'a>(books: &'a [HeldFile], name: &str) -> &'a [u8] {
+    match file_at(books, name) {
+        Some(book) => &book.bytes,
+        None => b"",
+    }
+}
+
 #[test]
 fn words_decide_on_status_and_text(rt: HostRuntime) -> Result<(), Fail> {
-    let alloc = rt.alloc();
+    let books = all_books(rt.alloc())?;
     for (words, status, name, line) in &ROWS {
-        let served = joined(alloc, words, &mut all_files(alloc, &[])?, (WIDE, WIDE))?;
-        let text = text_named(alloc, name)?;
-        assert_eq!(rt;
-            (served.status, served.out.as_slice(), served.err.as_slice()),
-            (*status, text.as_slice(), *line)
-        );
+        let left = (*status, text_named(&books, *name), *line);
+        let mut files = Listed::new(&books, &[]);
+        comes_out(&rt, Program::Join, *words, &mut files, (WIDE, WIDE), left)?;
     }
     Ok(())
 }
@@ -105,33 +93,21 @@ const NARROW: Room = Room {
     fails: &[],
 };
 
-/// The words, the reads that fail, both sinks, the status, how many bytes of the profile of all
-/// lines are printed, and the line on the error stream.
-type Fault = (
-    &'static [&'static str],
-    &'static [u64],
-    (Room, Room),
-    u8,
-    usize,
-    &'static [u8],
-);
+/// The first hundred bytes of the profile of all lines.
+const BEGUN: &[u8] = b"coz-ticks\tversion=1\tbudget=100000000\tpoints=0\n\
+experiment\tselected=one.s:1\tspeedup=0\tend=exited:0\ttim";
+
+const WRITE: &[u8] = b"coz-join: write\n";
 
 static FAULTS: [Fault; 12] = [
-    (
-        &["a", "b"],
-        &[],
-        (NARROW, WIDE),
-        6,
-        100,
-        b"coz-join: write\n",
-    ),
-    (&["a", "b"], &[], (SHUT, WIDE), 6, 0, b"coz-join: write\n"),
+    (&["a", "b"], &[], (NARROW, WIDE), 6, BEGUN, WRITE),
+    (&["a", "b"], &[], (SHUT, WIDE), 6, b"", WRITE),
     (
         &["a", "b"],
         &[0],
         (WIDE, WIDE),
         5,
-        0,
+        b"",
         b"coz-join: read: a\n",
     ),
     (
@@ -139,24 +115,25 @@ static FAULTS: [Fault; 12] = [
         &[1],
         (WIDE, WIDE),
         5,
-        0,
+        b"",
         b"coz-join: read: b\n",
     ),
-    (&["a", "b"], &[2], (WIDE, WIDE), 0, 1584, b""),
+    // Each file is read once.
+    (&["a", "b"], &[2], (NARROW, WIDE), 6, BEGUN, WRITE),
     (
         &["a", "b", "c"],
         &[2],
         (WIDE, WIDE),
         5,
-        0,
+        b"",
         b"coz-join: read: c\n",
     ),
-    (&["a", "a"], &[], (WIDE, SHUT), 14, 0, b""),
-    (&["n"], &[], (WIDE, SHUT), 12, 0, b""),
-    (&["-x"], &[], (WIDE, SHUT), 2, 0, b""),
-    (&["absent"], &[], (WIDE, SHUT), 5, 0, b""),
-    (&["a", "b"], &[1], (WIDE, SHUT), 5, 0, b""),
-    (&["a", "b"], &[], (NARROW, SHUT), 6, 100, b""),
+    (&["a", "a"], &[], (WIDE, SHUT), 14, b"", b""),
+    (&["n"], &[], (WIDE, SHUT), 12, b"", b""),
+    (&["-x"], &[], (WIDE, SHUT), 2, b"", b""),
+    (&["absent"], &[], (WIDE, SHUT), 5, b"", b""),
+    (&["a", "b"], &[1], (WIDE, SHUT), 5, b"", b""),
+    (&["a", "b"], &[], (NARROW, SHUT), 6, BEGUN, b""),
 ];
 
 /// The line of `a a`, by the texts that are put one after another.
@@ -170,58 +147,20 @@ static TWICE: [&[u8]; 7] = [
     b"\n",
 ];
 
-/// The first bytes of a text, as many as `size` or all of them.
-fn first_bytes(text: &[u8], size: usize) -> &[u8] {
-    if size < text.len() {
-        &text[..size]
-    } else {
-        text
-    }
-}
-
 #[test]
 fn faults_of_files_and_sinks_decide(rt: HostRuntime) -> Result<(), Fail> {
-    let alloc = rt.alloc();
-    let whole = text_named(alloc, "all")?;
-    for (words, fails, rooms, status, size, line) in &FAULTS {
-        let served = joined(alloc, words, &mut all_files(alloc, fails)?, *rooms)?;
-        assert_eq!(rt;
-            (served.status, served.out.as_slice(), served.err.as_slice()),
-            (*status, first_bytes(&whole, *size), *line)
-        );
-    }
-    Ok(())
+    all_faults_decide(&rt, Program::Join, &all_books(rt.alloc())?, &FAULTS)
 }
 
 #[test]
 fn the_status_stays_if_a_put_of_the_line_fails(rt: HostRuntime) -> Result<(), Fail> {
-    let alloc = rt.alloc();
-    for (put, room) in ONE_FAILS.iter().enumerate() {
-        let served = joined(
-            alloc,
-            &["a", "a"],
-            &mut all_files(alloc, &[])?,
-            (WIDE, *room),
-        )?;
-        let line = first_texts(alloc, &TWICE, put)?;
-        assert_eq!(rt;
-            (served.status, served.out.len(), served.err.as_slice()),
-            (14, 0, line.as_slice())
-        );
-    }
-    Ok(())
+    let books = all_books(rt.alloc())?;
+    status_stays(&rt, Program::Join, &books, &["a", "a"], 14, &TWICE)
 }
 
+static LIMITS: [Limit; 1] = [(&["big"], 268_435_457, 8, b"", b"coz-join: long: big\n")];
+
 #[test]
-fn a_file_over_the_limit_is_too_long(rt: HostRuntime) -> Result<(), Fail> {
-    let mut files = Large {
-        size: 268_435_457,
-        program: b"",
-    };
-    let served = joined(rt.alloc(), &[BIG], &mut files, (WIDE, WIDE))?;
-    assert_eq!(rt;
-        (served.status, served.out.len(), served.err.as_slice()),
-        (8, 0, b"coz-join: long: big\n".as_slice())
-    );
-    Ok(())
+fn one_byte_over_the_limit_is_too_long(rt: HostRuntime) -> Result<(), Fail> {
+    all_limits_decide(&rt, Program::Join, b"", &LIMITS)
 }

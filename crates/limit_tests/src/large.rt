@@ -3,14 +3,11 @@ ghost use Rattle.std.specs.Prelude.{◌≡◌, ◌≢◌, ◌+◌, ◌≤◌, []
 
 use coz_files::{FileAnswer, Files};
 
-/// The path of the large file.
-pub(crate) const BIG: &str = "big";
-
-/// A file `big` of `size` zeros, and a program at every other path.
+/// A file of `size` zeros at each path that ends with `big`, and these bytes at every other path.
 #[derive(Drop)]
 pub(crate) struct Large<'a> {
     pub(crate) size: u64,
-    pub(crate) program: &'a [u8],
+    pub(crate) bytes: &'a [u8],
 }
 
 /// Appends this many zeros, but no more than `max + 1`.
@@ -34,7 +31,7 @@ fn push_zeros(size: u64, max: u64, into: &mut Vec<u8>) -> FileAnswer
 }
 
 /// Appends the bytes, but no more than `max + 1`.
-fn push_bytes(bytes: &[u8], max: u64, into: &mut Vec<u8>) -> FileAnswer
+pub(crate) fn push_bytes(bytes: &[u8], max: u64, into: &mut Vec<u8>) -> FileAnswer
     requires { into.old.items ≡ [] }
     ensures whole { result ≡ FileAnswer.Whole → length into.new.items ≤ max }
     ensures longer { result ≡ FileAnswer.Longer → length into.new.items ≡ max + 1 }
@@ -59,10 +56,10 @@ impl<'a> Files for Large<'a> {
     ghost faults = { λ _. 0 };
 
     fn read_whole(&mut self, path: &str, max: u64, into: &mut Vec<u8>) -> FileAnswer {
-        if path == BIG {
+        if path.as_bytes().ends_with(b"big") {
             push_zeros(self.size, max, into)
         } else {
-            push_bytes(self.program, max, into)
+            push_bytes(self.bytes, max, into)
         }
     }
 }

@@ -1,9 +1,11 @@
-//! Tests of the top calls over files of the greatest sizes, of the join of profiles, of the
-//! lines by cost and of programs by function, and nothing else.
+//! Tests of the top calls over files of the greatest sizes, and of the top calls of all programs
+//! but `coz` over arguments, files and sinks, and nothing else.
 #![tactic(auto)]
 
 #[cfg(test)]
 mod calls;
+#[cfg(test)]
+mod files;
 #[cfg(test)]
 mod functions_tests;
 #[cfg(test)]
@@ -20,5 +22,7 @@ mod large;
 mod limit_tests;
 #[cfg(test)]
 mod page_tests;
+#[cfg(test)]
+mod programs;
 #[cfg(test)]
 mod sinks;

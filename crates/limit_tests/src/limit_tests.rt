@@ -1,6 +1,7 @@
 //! Files that have as many bytes as they may have, and one more.
-use crate::calls::{ONE_SOURCE, assembled, call};
+use crate::calls::{ONE_SOURCE, assembled, comes_out};
 use crate::large::Large;
+use crate::programs::Limit;
 use std::test::Fail;
 
 /// What `run` prints of the program of three instructions.
@@ -9,9 +10,8 @@ const ONE: &[u8] =
 
 const LONG: &[u8] = b"coz: long: big\n";
 
-/// The arguments, the number of bytes of the file `big`, and the expected answer: the status,
-/// the output and the line of the fault. Zeros are no program, no source and no profile.
-static LIMITS: [(&[&str], u64, u8, &[u8], &[u8]); 8] = [
+/// Zeros are no program, no source and no profile.
+static LIMITS: [Limit; 8] = [
     (&["run", "one", "--input=big"], 16_777_216, 0, ONE, b""),
     (&["run", "one", "--input=big"], 16_777_217, 8, b"", LONG),
     (
@@ -46,13 +46,9 @@ fn one_byte_over_the_limit_is_too_long(rt: HostRuntime) -> Result<(), Fail> {
     for (words, size, status, out, err) in &LIMITS {
         let mut files = Large {
             size: *size,
-            program: one.as_slice(),
+            bytes: one.as_slice(),
         };
-        let served = call(&rt, *words, &mut files)?;
-        assert_eq!(rt;
-            (served.status, served.out.as_slice(), served.err.as_slice()),
-            (*status, *out, *err)
-        );
+        comes_out(&rt, *words, &mut files, (*status, *out, *err))?;
     }
     Ok(())
 }

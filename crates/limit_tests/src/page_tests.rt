@@ -1,68 +1,76 @@
 //! The page of a profile that is as long as it may be, of one that can be read once, and the
 //! options of the page.
-use crate::calls::{Served, one_file, texts};
+use crate::files::{Listed, files_of};
 use crate::large::Large;
-use coz_files::{Files, HeldFile, MemoryFiles, MemorySink};
-use coz_page::serve;
-use std::alloc::{AllocError, Global};
+use crate::programs::{Limit, Program, Row, all_come_out, all_limits_decide, status_of};
+use crate::sinks::{Room, Sinks, WIDE, two_sinks};
+use coz_files::Files;
+use std::process::Abort;
 use std::test::Fail;
 
-/// The room of a sink for a page, in bytes.
-const ROOM: u64 = 100000;
+/// Sinks with this room.
+const PAGE: Room = Room {
+    bytes: 100000,
+    fails: &[],
+};
 
-fn page<F: Files>(alloc: Global, words: &[&str], files: &mut F) -> Result<Served, AllocError> {
-    let words = texts(alloc, words)?;
-    let mut out = MemorySink::new(alloc, ROOM, Vec::new(alloc))?;
-    let mut err = MemorySink::new(alloc, ROOM, Vec::new(alloc))?;
-    let status = serve(alloc, &words, files, &mut out, &mut err);
-    Ok(Served {
-        status,
-        out: out.held().to_vec(alloc)?,
-        err: err.held().to_vec(alloc)?,
-    })
-}
-
-/// How many zeros the profile has, the status and the line of the fault.
-static LIMITS: [(u64, u8, &[u8]); 2] = [
-    (268_435_456, 12, b"coz-page: profile: Head at 0\n"),
-    (268_435_457, 8, b"coz-page: long: big\n"),
+static LIMITS: [Limit; 2] = [
+    (
+        &["big"],
+        268_435_456,
+        12,
+        b"",
+        b"coz-page: profile: Head at 0\n",
+    ),
+    (&["big"], 268_435_457, 8, b"", b"coz-page: long: big\n"),
 ];
 
 #[test]
 fn one_byte_over_the_limit_is_too_long(rt: HostRuntime) -> Result<(), Fail> {
-    for (size, status, err) in &LIMITS {
-        let mut files = Large {
-            size: *size,
-            program: b"",
-        };
-        let served = page(rt.alloc(), &["big"], &mut files)?;
-        assert_eq!(rt;
-            (served.status, served.out.len(), served.err.as_slice()),
-            (*status, 0, *err)
-        );
+    all_limits_decide(&rt, Program::Page, b"", &LIMITS)
+}
+
+fn contains(text: &[u8], piece: &[u8]) -> bool {
+    for i in 0..text.len() {
+        if text[i..].starts_with(piece) {
+            return true;
+        }
     }
+    false
+}
+
+fn has_in<R: AllocGlobal + Abort, F: Files>(
+    rt: &R,
+    words: &[&str],
+    files: &mut F,
+    sinks: &mut Sinks,
+    piece: (&[u8], bool),
+) -> Result<(), Fail> {
+    let status = status_of(rt.alloc(), Program::Page, words, files, sinks)?;
+    let is_there = contains(sinks.out.held(), piece.0);
+    assert_eq!(rt; (status, is_there, sinks.err.held().len()), (0, piece.1, 0));
     Ok(())
 }
 
-#[test]
-fn the_profile_is_read_once(rt: HostRuntime) -> Result<(), Fail> {
-    let profile = b"coz-ticks\tversion=1\tbudget=100000000\tpoints=0\n";
-    // A second read would fail.
-    let mut files = one_file(rt.alloc(), "p", profile, &[1])?;
-    let served = page(rt.alloc(), &["p"], &mut files)?;
-    assert_eq!(rt;
-        (
-            served.status,
-            served.out.starts_with(b"<!DOCTYPE html>\n"),
-            served.err.len()
-        ),
-        (0, true, 0)
-    );
-    Ok(())
+/// Makes a page of a profile, and looks for a piece of text that is or is not there.
+fn has<R: AllocGlobal + Abort, F: Files>(
+    rt: &R,
+    words: &[&str],
+    files: &mut F,
+    piece: (&[u8], bool),
+) -> Result<(), Fail> {
+    let mut sinks = two_sinks(rt.alloc(), (PAGE, WIDE))?;
+    let has = has_in(rt, words, files, &mut sinks, piece);
+    // By one call, since a drop in place is proved part by part.
+    drop(sinks);
+    has
 }
+
+/// A profile without lines.
+const NONE: &[u8] = b"coz-ticks\tversion=1\tbudget=100000000\tpoints=0\n";
 
 /// Two runs of each of two lines.
-static PROFILE: &[u8] = b"coz-ticks\tversion=1\tbudget=1000\tpoints=1\n\
+const PROFILE: &[u8] = b"coz-ticks\tversion=1\tbudget=1000\tpoints=1\n\
 point\tindex=0\tname=src/a.s:8\n\
 experiment\tselected=lib/b.s:2\tspeedup=0\tend=exited:0\ttime=8700\tdelay=0\tretired=13\tstarts=2\n\
 output\tlength=0\tsha256=e3b0c44298fc1c149afbf4c8996fb92427ae41e4649b934ca495991b7852b855\n\
@@ -81,66 +89,79 @@ output\tlength=0\tsha256=e3b0c44298fc1c149afbf4c8996fb92427ae41e4649b934ca495991
 throughput-point\tindex=0\tdelta=2\n\
 visits\tsha256=01658dd2859e0c94e814be8cb0670089cc9cc13590e7a6c3154812dd1f67d4ac\n";
 
-/// Words, and their status.
-static WORDS: [(&[&str], u8); 21] = [
-    (&[], 2),
-    (&["p"], 0),
-    (&[""], 2),
-    (&["p", "p"], 2),
-    (&["--help"], 2),
-    (&["-"], 2),
-    (&["other"], 5),
-    (&["p", "--top", "1"], 0),
-    (&["--top=1000", "p"], 0),
-    (&["p", "--top", "0"], 2),
-    (&["p", "--top=1001"], 2),
-    (&["p", "--top=01"], 2),
-    (&["p", "--top"], 2),
-    (&["p", "--top=1", "--top", "1"], 2),
-    (&["p", "--file", "p"], 0),
-    (&["p", "--file="], 2),
-    (&["--file=a", "p", "--file", "a"], 2),
-    (&["p", "--source", "d", "--file", "a", "--top", "2"], 0),
-    (&["p", "--source="], 2),
-    (&["--source", "p"], 2),
-    (&["--source=d", "--source=d", "p"], 2),
+static FILES: [(&str, &[u8]); 5] = [
+    ("p", PROFILE),
+    ("none", NONE),
+    ("points", TWO_POINTS),
+    ("d/src/a.s", b"one\ntwo\n  three < 3\nfour\nfive\n"),
+    ("d/src/big", b"big\n"),
+];
+
+const USAGE: &[u8] = b"coz-page: usage\n";
+
+static WRONG: [Row; 16] = [
+    (&[], 2, b"", USAGE),
+    (&[""], 2, b"", USAGE),
+    (&["p", "p"], 2, b"", USAGE),
+    (&["--help"], 2, b"", USAGE),
+    (&["-"], 2, b"", USAGE),
+    (&["other"], 5, b"", b"coz-page: read: other\n"),
+    (&["p", "--top", "0"], 2, b"", USAGE),
+    (&["p", "--top=1001"], 2, b"", USAGE),
+    (&["p", "--top=01"], 2, b"", USAGE),
+    (&["p", "--top"], 2, b"", USAGE),
+    (&["p", "--top=1", "--top", "1"], 2, b"", USAGE),
+    (&["p", "--file="], 2, b"", USAGE),
+    (&["--file=a", "p", "--file", "a"], 2, b"", USAGE),
+    (&["p", "--source="], 2, b"", USAGE),
+    (&["--source", "p"], 2, b"", USAGE),
+    (&["--source=d", "--source=d", "p"], 2, b"", USAGE),
 ];
 
 #[test]
-fn the_words_decide_on_usage(rt: HostRuntime) -> Result<(), Fail> {
-    for (words, status) in &WORDS {
-        let mut files = one_file(rt.alloc(), "p", PROFILE, &[])?;
-        let served = page(rt.alloc(), words, &mut files)?;
-        let is_usage = served.err.as_slice() == b"coz-page: usage\n".as_slice();
-        assert_eq!(rt; (served.status, is_usage), (*status, *status == 2));
+fn wrong_words_are_rejected(rt: HostRuntime) -> Result<(), Fail> {
+    all_come_out(&rt, Program::Page, &files_of(rt.alloc(), &FILES)?, &WRONG)
+}
+
+/// Words, the reads that fail, a piece of text, and whether the page has it.
+type Piece = (&'static [&'static str], &'static [u64], &'static [u8], bool);
+
+fn all_have<R: AllocGlobal + Abort>(rt: &R, pieces: &[Piece]) -> Result<(), Fail> {
+    let files = files_of(rt.alloc(), &FILES)?;
+    for (words, fails, piece, is_there) in pieces {
+        has(
+            rt,
+            *words,
+            &mut Listed::new(&files, *fails),
+            (*piece, *is_there),
+        )?;
     }
     Ok(())
 }
 
-fn contains(text: &[u8], piece: &[u8]) -> bool {
-    for i in 0..text.len() {
-        if text[i..].starts_with(piece) {
-            return true;
-        }
-    }
-    false
+const BEGIN: &[u8] = b"<!DOCTYPE html>\n";
+
+/// Words of which each is read in a way of its own. A second read of the profile would fail.
+static RIGHT: [Piece; 6] = [
+    (&["none"], &[1], BEGIN, true),
+    (&["p"], &[1], BEGIN, true),
+    (&["p", "--top", "1"], &[1], BEGIN, true),
+    (&["--top=1000", "p"], &[1], BEGIN, true),
+    (&["p", "--file", "p"], &[1], BEGIN, true),
+    (
+        &["p", "--source", "d", "--file", "a", "--top", "2"],
+        &[],
+        BEGIN,
+        true,
+    ),
+];
+
+#[test]
+fn the_profile_is_read_once(rt: HostRuntime) -> Result<(), Fail> {
+    all_have(&rt, &RIGHT)
 }
 
-/// The profile `p`, and the source file `d/src/a.s`.
-fn two_files(alloc: Global, fails: &[u64]) -> Result<MemoryFiles, AllocError> {
-    let profile = HeldFile {
-        path: b"p".to_vec(alloc)?,
-        bytes: PROFILE.to_vec(alloc)?,
-    };
-    let source = HeldFile {
-        path: b"d/src/a.s".to_vec(alloc)?,
-        bytes: b"one\ntwo\n  three < 3\nfour\n".to_vec(alloc)?,
-    };
-    Ok(MemoryFiles::new(vec![in alloc; profile, source]?, fails.to_vec(alloc)?))
-}
-
-/// Words, the reads that fail, a piece of text, and whether the page has it.
-static PIECES: [(&[&str], &[u64], &[u8], bool); 20] = [
+static PIECES: [Piece; 20] = [
     (&["p"], &[], b"<td>lib/b.s:2</td>", true),
     (&["p"], &[], b"<td>src/a.s:3</td>", true),
     (&["p"], &[], b"Only lines of files", false),
@@ -195,24 +216,12 @@ static PIECES: [(&[&str], &[u64], &[u8], bool); 20] = [
 
 #[test]
 fn the_options_choose_what_is_shown(rt: HostRuntime) -> Result<(), Fail> {
-    for (words, fails, piece, is_there) in &PIECES {
-        let mut files = two_files(rt.alloc(), fails)?;
-        let served = page(rt.alloc(), words, &mut files)?;
-        assert_eq!(rt;
-            (
-                served.status,
-                contains(served.out.as_slice(), piece),
-                served.err.len()
-            ),
-            (0, *is_there, 0)
-        );
-    }
-    Ok(())
+    all_have(&rt, &PIECES)
 }
 
-/// Two runs of each of two lines, with two points. The first line gains 10 per cent at the first
-/// point and 40 at the second one, the other line nothing.
-static TWO_POINTS: &[u8] = b"coz-ticks\tversion=1\tbudget=1000\tpoints=2\n\
+/// Two runs of each of three lines, with two points. The first line gains 10 per cent at the first
+/// point and 40 at the second one, the next line 0.05 at both, and the last line nothing.
+const TWO_POINTS: &[u8] = b"coz-ticks\tversion=1\tbudget=1000\tpoints=2\n\
 point\tindex=0\tname=src/a.s:8\n\
 point\tindex=1\tname=src/b.s:9\n\
 experiment\tselected=src/a.s:3\tspeedup=0\tend=exited:0\ttime=8000\tdelay=0\tretired=13\tstarts=2\n\
@@ -230,39 +239,83 @@ output\tlength=0\tsha256=e3b0c44298fc1c149afbf4c8996fb92427ae41e4649b934ca495991
 throughput-point\tindex=0\tdelta=2\n\
 throughput-point\tindex=1\tdelta=2\n\
 visits\tsha256=e3b0c44298fc1c149afbf4c8996fb92427ae41e4649b934ca495991b7852b855\n\
-experiment\tselected=src/a.s:5\tspeedup=50\tend=exited:0\ttime=8000\tdelay=0\tretired=13\tstarts=2\n\
+experiment\tselected=src/a.s:5\tspeedup=50\tend=exited:0\ttime=7996\tdelay=0\tretired=13\tstarts=2\n\
+output\tlength=0\tsha256=e3b0c44298fc1c149afbf4c8996fb92427ae41e4649b934ca495991b7852b855\n\
+throughput-point\tindex=0\tdelta=2\n\
+throughput-point\tindex=1\tdelta=2\n\
+visits\tsha256=e3b0c44298fc1c149afbf4c8996fb92427ae41e4649b934ca495991b7852b855\n\
+experiment\tselected=src/big:1\tspeedup=0\tend=exited:0\ttime=8000\tdelay=0\tretired=13\tstarts=2\n\
+output\tlength=0\tsha256=e3b0c44298fc1c149afbf4c8996fb92427ae41e4649b934ca495991b7852b855\n\
+throughput-point\tindex=0\tdelta=2\n\
+throughput-point\tindex=1\tdelta=2\n\
+visits\tsha256=e3b0c44298fc1c149afbf4c8996fb92427ae41e4649b934ca495991b7852b855\n\
+experiment\tselected=src/big:1\tspeedup=50\tend=exited:0\ttime=8000\tdelay=0\tretired=13\tstarts=2\n\
 output\tlength=0\tsha256=e3b0c44298fc1c149afbf4c8996fb92427ae41e4649b934ca495991b7852b855\n\
 throughput-point\tindex=0\tdelta=2\n\
 throughput-point\tindex=1\tdelta=2\n\
 visits\tsha256=e3b0c44298fc1c149afbf4c8996fb92427ae41e4649b934ca495991b7852b855\n";
 
-/// A piece of text, and whether the page of two points has it.
-static SIDES: [(&[u8], bool); 4] = [
+// A constant is copied into each function that names it.
+static POINTS: &[u8] = TWO_POINTS;
+
+static SIDES: [Piece; 4] = [
     (
+        &["points"],
+        &[],
         b"<details open><summary>Lines at all progress points</summary>\n",
         true,
     ),
     (
+        &["points"],
+        &[],
         b"<details open><summary>src/a.s:3</summary>\n<div class=\"charts\">\n\
 <figure><figcaption>src/a.s:8: 10.00%</figcaption><svg",
         true,
     ),
     (
+        &["points"],
+        &[],
         b"</svg></figure>\n<figure><figcaption>src/b.s:9: 40.00%</figcaption><svg",
         true,
     ),
-    (b"<summary>src/a.s:5</summary>", false),
+    (&["points"], &[], b"<summary>src/a.s:5</summary>", false),
 ];
 
 #[test]
 fn the_points_of_a_line_are_side_by_side(rt: HostRuntime) -> Result<(), Fail> {
-    let mut files = one_file(rt.alloc(), "p", TWO_POINTS, &[])?;
-    let served = page(rt.alloc(), &["p"], &mut files)?;
-    for (piece, is_there) in &SIDES {
-        assert_eq!(rt;
-            (served.status, contains(served.out.as_slice(), piece)),
-            (0, *is_there)
-        );
+    all_have(&rt, &SIDES)
+}
+
+/// The reads are those of the profile, of `d/src/a.s` and of `d/src/big`.
+static READS: [Piece; 4] = [
+    (
+        &["points", "--source=d"],
+        &[3],
+        b"<code>  three &lt; 3</code>",
+        true,
+    ),
+    (&["points", "--source=d"], &[3], b"<code>five</code>", true),
+    (&["points", "--source=d"], &[3], b"<code>big</code>", true),
+    (&["points", "--source=d"], &[2], b"<code>big</code>", false),
+];
+
+#[test]
+fn each_source_is_read_once(rt: HostRuntime) -> Result<(), Fail> {
+    all_have(&rt, &READS)
+}
+
+/// The number of zeros of the source file `big`, and whether the page has its first line.
+static SOURCES: [(u64, bool); 2] = [(16_777_216, true), (16_777_217, false)];
+
+#[test]
+fn a_longer_source_is_not_shown(rt: HostRuntime) -> Result<(), Fail> {
+    for (size, is_there) in &SOURCES {
+        let mut files = Large {
+            size: *size,
+            bytes: POINTS,
+        };
+        let piece = (b"<td>src/big:1<br><code>".as_slice(), *is_there);
+        has(&rt, &["points", "--source=d"], &mut files, piece)?;
     }
     Ok(())
 }

@@ -15,6 +15,12 @@ pub(crate) const WIDE: Room = Room {
     fails: &[],
 };
 
+/// A sink with room for ten bytes.
+pub(crate) const TEN: Room = Room {
+    bytes: 10,
+    fails: &[],
+};
+
 /// A sink of which each put fails.
 pub(crate) const SHUT: Room = Room {
     bytes: 10000,
@@ -53,7 +59,7 @@ pub(crate) static ONE_FAILS: [Room; 7] = [
     },
 ];
 
-pub(crate) fn sink(alloc: Global, room: Room) -> Result<MemorySink, AllocError> {
+fn sink(alloc: Global, room: Room) -> Result<MemorySink, AllocError> {
     MemorySink::new(alloc, room.bytes, room.fails.to_vec(alloc)?)
 }
 
