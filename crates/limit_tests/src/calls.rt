@@ -1,6 +1,6 @@
-//! Calls of `coz`, and what they must leave.
+//! Calls of `coz`.
 use crate::files::{Listed, files_of};
-use crate::programs::{Left, is_left};
+use crate::programs::{Answer, check_answer};
 use crate::sinks::{Sinks, WIDE, two_sinks};
 use coz_cli::serve;
 use coz_files::{Files, FreeGate};
@@ -33,29 +33,29 @@ fn status_of<R: Threads + Sync + AllocGlobal, F: Files>(
     Ok(serve(rt, alloc, &words, files, out, err, &FreeGate))
 }
 
-fn comes_out_in<R: Threads + Sync + AllocGlobal + Abort, F: Files>(
+fn check_call_in<R: Threads + Sync + AllocGlobal + Abort, F: Files>(
     rt: &R,
     words: &[&str],
     files: &mut F,
     sinks: &mut Sinks,
-    left: Left,
+    expected: Answer,
 ) -> Result<(), Fail> {
     let status = status_of(rt, words, files, sinks)?;
-    is_left(rt, (status, sinks.out.held(), sinks.err.held()), left)
+    check_answer(rt, (status, sinks.out.held(), sinks.err.held()), expected)
 }
 
-/// Calls `coz`, and compares what it leaves.
-pub(crate) fn comes_out<R: Threads + Sync + AllocGlobal + Abort, F: Files>(
+/// Calls `coz`, and compares its exit status, its output and its error line with the expected ones.
+pub(crate) fn check_call<R: Threads + Sync + AllocGlobal + Abort, F: Files>(
     rt: &R,
     words: &[&str],
     files: &mut F,
-    left: Left,
+    expected: Answer,
 ) -> Result<(), Fail> {
     let mut sinks = two_sinks(rt.alloc(), (WIDE, WIDE))?;
-    let comes = comes_out_in(rt, words, files, &mut sinks, left);
+    let checked = check_call_in(rt, words, files, &mut sinks, expected);
     // By one call, since a drop in place is proved part by part.
     drop(sinks);
-    comes
+    checked
 }
 
 fn printed_in<R: Threads + Sync + AllocGlobal>(

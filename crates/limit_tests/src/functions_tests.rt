@@ -2,8 +2,8 @@
 use crate::calls::printed;
 use crate::files::{Change, Listed, add_all_changed, files_of};
 use crate::programs::{
-    Fault, Limit, Program, Row, all_come_out, all_faults_decide, all_limits_decide, is_left,
-    status_of, status_stays,
+    Fault, Limit, Program, Row, check_answer, check_failing_puts, check_faults, check_limits,
+    check_rows, status_of,
 };
 use crate::sinks::{SHUT, Sinks, TEN, WIDE, two_sinks};
 use coz_files::HeldFile;
@@ -71,7 +71,7 @@ fn lines_of<R: Threads + Sync + AllocGlobal>(rt: &R, file: &[u8]) -> Result<Vec<
 
 const USAGE: &[u8] = b"coz-functions: usage\n";
 
-fn is_written_in<R: Threads + Sync + AllocGlobal + Abort>(
+fn check_lines_in<R: Threads + Sync + AllocGlobal + Abort>(
     rt: &R,
     files: &[HeldFile],
     row: &Row,
@@ -80,24 +80,24 @@ fn is_written_in<R: Threads + Sync + AllocGlobal + Abort>(
     let mut files = Listed::new(files, &[]);
     let status = status_of(rt.alloc(), Program::Functions, row.0, &mut files, sinks)?;
     let lines = lines_of(rt, sinks.out.held())?;
-    is_left(
+    check_answer(
         rt,
         (status, &lines, sinks.err.held()),
         (row.1, row.2, row.3),
     )
 }
 
-/// Calls the program with the words of a row, which has the lines of what is written.
-fn is_written<R: Threads + Sync + AllocGlobal + Abort>(
+/// Calls the program with the arguments of a row, and compares the lines of the file that it prints.
+fn check_lines<R: Threads + Sync + AllocGlobal + Abort>(
     rt: &R,
     files: &[HeldFile],
     row: &Row,
 ) -> Result<(), Fail> {
     let mut sinks = two_sinks(rt.alloc(), (WIDE, WIDE))?;
-    let is_written = is_written_in(rt, files, row, &mut sinks);
+    let checked = check_lines_in(rt, files, row, &mut sinks);
     // By one call, since a drop in place is proved part by part.
     drop(sinks);
-    is_written
+    checked
 }
 
 /// Words that ask for nothing.
@@ -130,12 +130,12 @@ static WRONG: [Row; 19] = [
 
 #[test]
 fn wrong_words_are_rejected(rt: HostRuntime) -> Result<(), Fail> {
-    all_come_out(&rt, Program::Functions, &programs(rt.alloc())?, &WRONG)
+    check_rows(&rt, Program::Functions, &programs(rt.alloc())?, &WRONG)
 }
 
 const WHOLE: &[u8] = b"skipped 0\na/m.c/main:1\t0x10078\nb/m.c/work:3\t0x10088\n";
 
-/// With the lines of what is written.
+/// The third entry of a row is the lines of the file that is printed.
 static WRITTEN: [Row; 13] = [
     (&["small"], 0, WHOLE, b""),
     (&["--", "small"], 0, WHOLE, b""),
@@ -212,7 +212,7 @@ static WRITTEN: [Row; 13] = [
 fn lines_are_kept_before_regions_and_functions(rt: HostRuntime) -> Result<(), Fail> {
     let programs = programs(rt.alloc())?;
     for row in &WRITTEN {
-        is_written(&rt, &programs, row)?;
+        check_lines(&rt, &programs, row)?;
     }
     Ok(())
 }
@@ -268,7 +268,7 @@ static FAULTY: [Row; 10] = [
 
 #[test]
 fn the_first_fault_is_told(rt: HostRuntime) -> Result<(), Fail> {
-    all_come_out(&rt, Program::Functions, &programs(rt.alloc())?, &FAULTY)
+    check_rows(&rt, Program::Functions, &programs(rt.alloc())?, &FAULTY)
 }
 
 const WRITE: &[u8] = b"coz-functions: write\n";
@@ -303,7 +303,23 @@ static FAULTS: [Fault; 7] = [
 
 #[test]
 fn faults_of_files_and_sinks_decide(rt: HostRuntime) -> Result<(), Fail> {
-    all_faults_decide(&rt, Program::Functions, &programs(rt.alloc())?, &FAULTS)
+    check_faults(&rt, Program::Functions, &programs(rt.alloc())?, &FAULTS)
+}
+
+#[test]
+fn the_printed_file_ends_with_its_line_unit(rt: HostRuntime) -> Result<(), Fail> {
+    let programs = programs(rt.alloc())?;
+    let mut files = Listed::new(&programs, &[]);
+    let mut sinks = two_sinks(rt.alloc(), (WIDE, WIDE))?;
+    let status = status_of(
+        rt.alloc(),
+        Program::Functions,
+        &["small"],
+        &mut files,
+        &mut sinks,
+    )?;
+    assert_eq!(rt; (status, sinks.out.held().len()), (0, 854));
+    Ok(())
 }
 
 /// The line of `bare`, by the texts that are put one after another.
@@ -312,7 +328,7 @@ static BARE: [&[u8]; 3] = [b"coz-functions: ", b"no functions", b"\n"];
 #[test]
 fn the_status_stays_if_a_put_of_the_line_fails(rt: HostRuntime) -> Result<(), Fail> {
     let programs = programs(rt.alloc())?;
-    status_stays(&rt, Program::Functions, &programs, &["bare"], 14, &BARE)
+    check_failing_puts(&rt, Program::Functions, &programs, &["bare"], 14, &BARE)
 }
 
 static LIMITS: [Limit; 2] = [
@@ -328,5 +344,5 @@ static LIMITS: [Limit; 2] = [
 
 #[test]
 fn one_byte_over_the_limit_is_too_long(rt: HostRuntime) -> Result<(), Fail> {
-    all_limits_decide(&rt, Program::Functions, b"", &LIMITS)
+    check_limits(&rt, Program::Functions, b"", &LIMITS)
 }

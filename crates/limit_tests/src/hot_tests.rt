@@ -2,7 +2,7 @@
 use crate::calls::{ONE_SOURCE, assembled};
 use crate::hot_files::programs;
 use crate::programs::{
-    Fault, Limit, Program, Row, all_come_out, all_faults_decide, all_limits_decide, status_stays,
+    Fault, Limit, Program, Row, check_failing_puts, check_faults, check_limits, check_rows,
 };
 use crate::sinks::{SHUT, TEN, WIDE};
 use std::test::Fail;
@@ -36,7 +36,7 @@ static WRONG: [Row; 17] = [
 
 #[test]
 fn wrong_words_are_rejected(rt: HostRuntime) -> Result<(), Fail> {
-    all_come_out(&rt, Program::Hot, &programs(&rt)?, &WRONG)
+    check_rows(&rt, Program::Hot, &programs(&rt)?, &WRONG)
 }
 
 /// An instruction takes 100 ticks, a jump 200, and a call 4000. In `two` lines 5 to 8 are executed
@@ -128,7 +128,7 @@ line one.s:2 starts 1 cost 100 share 5000\n",
 
 #[test]
 fn lines_stand_by_falling_cost(rt: HostRuntime) -> Result<(), Fail> {
-    all_come_out(&rt, Program::Hot, &programs(&rt)?, &PRINTED)
+    check_rows(&rt, Program::Hot, &programs(&rt)?, &PRINTED)
 }
 
 /// If a row has two faults, the first is reported.
@@ -180,7 +180,7 @@ static FAULTY: [Row; 8] = [
 
 #[test]
 fn the_first_fault_is_told(rt: HostRuntime) -> Result<(), Fail> {
-    all_come_out(&rt, Program::Hot, &programs(&rt)?, &FAULTY)
+    check_rows(&rt, Program::Hot, &programs(&rt)?, &FAULTY)
 }
 
 const WRITE: &[u8] = b"coz-hot: write\n";
@@ -250,7 +250,7 @@ static FAULTS: [Fault; 15] = [
 
 #[test]
 fn faults_of_files_and_sinks_decide(rt: HostRuntime) -> Result<(), Fail> {
-    all_faults_decide(&rt, Program::Hot, &programs(&rt)?, &FAULTS)
+    check_faults(&rt, Program::Hot, &programs(&rt)?, &FAULTS)
 }
 
 /// The line of `absent`, by the texts that are put one after another.
@@ -258,7 +258,7 @@ static ABSENT: [&[u8]; 5] = [b"coz-hot", b": ", b"read: ", b"absent", b"\n"];
 
 #[test]
 fn the_status_stays_if_a_put_of_the_line_fails(rt: HostRuntime) -> Result<(), Fail> {
-    status_stays(&rt, Program::Hot, &[], &["absent"], 5, &ABSENT)
+    check_failing_puts(&rt, Program::Hot, &[], &["absent"], 5, &ABSENT)
 }
 
 const LONG: &[u8] = b"coz-hot: long: big\n";
@@ -279,5 +279,5 @@ static LIMITS: [Limit; 4] = [
 #[test]
 fn one_byte_over_the_limit_is_too_long(rt: HostRuntime) -> Result<(), Fail> {
     let one = assembled(&rt, "one.s", ONE_SOURCE)?;
-    all_limits_decide(&rt, Program::Hot, &one, &LIMITS)
+    check_limits(&rt, Program::Hot, &one, &LIMITS)
 }

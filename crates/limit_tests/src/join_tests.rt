@@ -2,7 +2,7 @@
 use crate::files::{Listed, file_at};
 use crate::join_files::all_books;
 use crate::programs::{
-    Fault, Limit, Program, all_faults_decide, all_limits_decide, comes_out, status_stays,
+    Fault, Limit, Program, check_call, check_failing_puts, check_faults, check_limits,
 };
 use crate::sinks::{Room, SHUT, WIDE};
 use coz_files::HeldFile;
@@ -81,9 +81,16 @@ fn text_named<'a>(books: &'a [HeldFile], name: &str) -> &'a [u8] {
 fn words_decide_on_status_and_text(rt: HostRuntime) -> Result<(), Fail> {
     let books = all_books(rt.alloc())?;
     for (words, status, name, line) in &ROWS {
-        let left = (*status, text_named(&books, *name), *line);
+        let expected = (*status, text_named(&books, *name), *line);
         let mut files = Listed::new(&books, &[]);
-        comes_out(&rt, Program::Join, *words, &mut files, (WIDE, WIDE), left)?;
+        check_call(
+            &rt,
+            Program::Join,
+            *words,
+            &mut files,
+            (WIDE, WIDE),
+            expected,
+        )?;
     }
     Ok(())
 }
@@ -149,18 +156,18 @@ static TWICE: [&[u8]; 7] = [
 
 #[test]
 fn faults_of_files_and_sinks_decide(rt: HostRuntime) -> Result<(), Fail> {
-    all_faults_decide(&rt, Program::Join, &all_books(rt.alloc())?, &FAULTS)
+    check_faults(&rt, Program::Join, &all_books(rt.alloc())?, &FAULTS)
 }
 
 #[test]
 fn the_status_stays_if_a_put_of_the_line_fails(rt: HostRuntime) -> Result<(), Fail> {
     let books = all_books(rt.alloc())?;
-    status_stays(&rt, Program::Join, &books, &["a", "a"], 14, &TWICE)
+    check_failing_puts(&rt, Program::Join, &books, &["a", "a"], 14, &TWICE)
 }
 
 static LIMITS: [Limit; 1] = [(&["big"], 268_435_457, 8, b"", b"coz-join: long: big\n")];
 
 #[test]
 fn one_byte_over_the_limit_is_too_long(rt: HostRuntime) -> Result<(), Fail> {
-    all_limits_decide(&rt, Program::Join, b"", &LIMITS)
+    check_limits(&rt, Program::Join, b"", &LIMITS)
 }

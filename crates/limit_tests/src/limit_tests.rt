@@ -1,5 +1,5 @@
 //! Files that have as many bytes as they may have, and one more.
-use crate::calls::{ONE_SOURCE, assembled, comes_out};
+use crate::calls::{ONE_SOURCE, assembled, check_call};
 use crate::large::Large;
 use crate::programs::Limit;
 use std::test::Fail;
@@ -48,7 +48,7 @@ fn one_byte_over_the_limit_is_too_long(rt: HostRuntime) -> Result<(), Fail> {
             size: *size,
             bytes: one.as_slice(),
         };
-        comes_out(&rt, *words, &mut files, (*status, *out, *err))?;
+        check_call(&rt, *words, &mut files, (*status, *out, *err))?;
     }
     Ok(())
 }

@@ -2,7 +2,7 @@
 //! options of the page.
 use crate::files::{Listed, files_of};
 use crate::large::Large;
-use crate::programs::{Limit, Program, Row, all_come_out, all_limits_decide, status_of};
+use crate::programs::{Limit, Program, Row, check_limits, check_rows, status_of};
 use crate::sinks::{Room, Sinks, WIDE, two_sinks};
 use coz_files::Files;
 use std::process::Abort;
@@ -27,7 +27,7 @@ static LIMITS: [Limit; 2] = [
 
 #[test]
 fn one_byte_over_the_limit_is_too_long(rt: HostRuntime) -> Result<(), Fail> {
-    all_limits_decide(&rt, Program::Page, b"", &LIMITS)
+    check_limits(&rt, Program::Page, b"", &LIMITS)
 }
 
 fn contains(text: &[u8], piece: &[u8]) -> bool {
@@ -39,7 +39,7 @@ fn contains(text: &[u8], piece: &[u8]) -> bool {
     false
 }
 
-fn has_in<R: AllocGlobal + Abort, F: Files>(
+fn check_piece_in<R: AllocGlobal + Abort, F: Files>(
     rt: &R,
     words: &[&str],
     files: &mut F,
@@ -52,18 +52,18 @@ fn has_in<R: AllocGlobal + Abort, F: Files>(
     Ok(())
 }
 
-/// Makes a page of a profile, and looks for a piece of text that is or is not there.
-fn has<R: AllocGlobal + Abort, F: Files>(
+/// Calls `coz-page`, and checks that its output contains a piece of text, or does not.
+fn check_piece<R: AllocGlobal + Abort, F: Files>(
     rt: &R,
     words: &[&str],
     files: &mut F,
     piece: (&[u8], bool),
 ) -> Result<(), Fail> {
     let mut sinks = two_sinks(rt.alloc(), (PAGE, WIDE))?;
-    let has = has_in(rt, words, files, &mut sinks, piece);
+    let checked = check_piece_in(rt, words, files, &mut sinks, piece);
     // By one call, since a drop in place is proved part by part.
     drop(sinks);
-    has
+    checked
 }
 
 /// A profile without lines.
@@ -120,16 +120,16 @@ static WRONG: [Row; 16] = [
 
 #[test]
 fn wrong_words_are_rejected(rt: HostRuntime) -> Result<(), Fail> {
-    all_come_out(&rt, Program::Page, &files_of(rt.alloc(), &FILES)?, &WRONG)
+    check_rows(&rt, Program::Page, &files_of(rt.alloc(), &FILES)?, &WRONG)
 }
 
 /// Words, the reads that fail, a piece of text, and whether the page has it.
 type Piece = (&'static [&'static str], &'static [u64], &'static [u8], bool);
 
-fn all_have<R: AllocGlobal + Abort>(rt: &R, pieces: &[Piece]) -> Result<(), Fail> {
+fn check_pieces<R: AllocGlobal + Abort>(rt: &R, pieces: &[Piece]) -> Result<(), Fail> {
     let files = files_of(rt.alloc(), &FILES)?;
     for (words, fails, piece, is_there) in pieces {
-        has(
+        check_piece(
             rt,
             *words,
             &mut Listed::new(&files, *fails),
@@ -158,7 +158,7 @@ static RIGHT: [Piece; 6] = [
 
 #[test]
 fn the_profile_is_read_once(rt: HostRuntime) -> Result<(), Fail> {
-    all_have(&rt, &RIGHT)
+    check_pieces(&rt, &RIGHT)
 }
 
 static PIECES: [Piece; 20] = [
@@ -216,7 +216,7 @@ static PIECES: [Piece; 20] = [
 
 #[test]
 fn the_options_choose_what_is_shown(rt: HostRuntime) -> Result<(), Fail> {
-    all_have(&rt, &PIECES)
+    check_pieces(&rt, &PIECES)
 }
 
 /// Two runs of each of three lines, with two points. The first line gains 10 per cent at the first
@@ -283,7 +283,7 @@ static SIDES: [Piece; 4] = [
 
 #[test]
 fn the_points_of_a_line_are_side_by_side(rt: HostRuntime) -> Result<(), Fail> {
-    all_have(&rt, &SIDES)
+    check_pieces(&rt, &SIDES)
 }
 
 /// The reads are those of the profile, of `d/src/a.s` and of `d/src/big`.
@@ -301,7 +301,7 @@ static READS: [Piece; 4] = [
 
 #[test]
 fn each_source_is_read_once(rt: HostRuntime) -> Result<(), Fail> {
-    all_have(&rt, &READS)
+    check_pieces(&rt, &READS)
 }
 
 /// The number of zeros of the source file `big`, and whether the page has its first line.
@@ -315,7 +315,7 @@ fn a_longer_source_is_not_shown(rt: HostRuntime) -> Result<(), Fail> {
             bytes: POINTS,
         };
         let piece = (b"<td>src/big:1<br><code>".as_slice(), *is_there);
-        has(&rt, &["points", "--source=d"], &mut files, piece)?;
+        check_piece(&rt, &["points", "--source=d"], &mut files, piece)?;
     }
     Ok(())
 }

@@ -1,4 +1,4 @@
-//! Calls of the programs other than `coz`, and what they must leave.
+//! Calls of the programs other than `coz`.
 use crate::calls::texts;
 use crate::files::Listed;
 use crate::large::Large;
@@ -50,62 +50,67 @@ pub(crate) fn status_of<F: Files>(
     Ok(status)
 }
 
-/// The status, what is printed, and the line on the error stream.
-pub(crate) type Left<'a> = (u8, &'a [u8], &'a [u8]);
+/// An exit status, an output and an error line.
+pub(crate) type Answer<'a> = (u8, &'a [u8], &'a [u8]);
 
-pub(crate) fn is_left<R: AllocGlobal + Abort>(rt: &R, found: Left, left: Left) -> Result<(), Fail> {
-    assert_eq!(rt; found, left);
+pub(crate) fn check_answer<R: AllocGlobal + Abort>(
+    rt: &R,
+    found: Answer,
+    expected: Answer,
+) -> Result<(), Fail> {
+    assert_eq!(rt; found, expected);
     Ok(())
 }
 
-fn comes_out_in<R: AllocGlobal + Abort, F: Files>(
+fn check_call_in<R: AllocGlobal + Abort, F: Files>(
     rt: &R,
     program: Program,
     words: &[&str],
     files: &mut F,
     sinks: &mut Sinks,
-    left: Left,
+    expected: Answer,
 ) -> Result<(), Fail> {
     let status = status_of(rt.alloc(), program, words, files, sinks)?;
-    is_left(rt, (status, sinks.out.held(), sinks.err.held()), left)
+    check_answer(rt, (status, sinks.out.held(), sinks.err.held()), expected)
 }
 
-/// Calls a program, and compares what it leaves.
-pub(crate) fn comes_out<R: AllocGlobal + Abort, F: Files>(
+/// Calls a program, and compares its exit status, its output and its error line with the expected
+/// ones.
+pub(crate) fn check_call<R: AllocGlobal + Abort, F: Files>(
     rt: &R,
     program: Program,
     words: &[&str],
     files: &mut F,
     rooms: (Room, Room),
-    left: Left,
+    expected: Answer,
 ) -> Result<(), Fail> {
     let mut sinks = two_sinks(rt.alloc(), rooms)?;
-    let comes = comes_out_in(rt, program, words, files, &mut sinks, left);
+    let checked = check_call_in(rt, program, words, files, &mut sinks, expected);
     // By one call, since a drop in place is proved part by part.
     drop(sinks);
-    comes
+    checked
 }
 
-/// The words, the status, what is printed, and the line on the error stream.
+/// The arguments, and the expected exit status, output and error line.
 pub(crate) type Row = (&'static [&'static str], u8, &'static [u8], &'static [u8]);
 
-/// Calls a program over these files with the words of each row.
-pub(crate) fn all_come_out<R: AllocGlobal + Abort>(
+/// Calls a program with the arguments of each row.
+pub(crate) fn check_rows<R: AllocGlobal + Abort>(
     rt: &R,
     program: Program,
     files: &[HeldFile],
     rows: &[Row],
 ) -> Result<(), Fail> {
     for (words, status, out, err) in rows {
-        let left = (*status, *out, *err);
+        let expected = (*status, *out, *err);
         let mut files = Listed::new(files, &[]);
-        comes_out(rt, program, *words, &mut files, (WIDE, WIDE), left)?;
+        check_call(rt, program, *words, &mut files, (WIDE, WIDE), expected)?;
     }
     Ok(())
 }
 
-/// The words, the reads that fail, both sinks, the status, what is printed, and the line on the
-/// error stream.
+/// The arguments, the reads that fail, both sinks, and the expected exit status, output and error
+/// line.
 pub(crate) type Fault = (
     &'static [&'static str],
     &'static [u64],
@@ -115,24 +120,24 @@ pub(crate) type Fault = (
     &'static [u8],
 );
 
-/// Calls a program over these files and sinks, of which some reads and puts fail.
-pub(crate) fn all_faults_decide<R: AllocGlobal + Abort>(
+/// Calls a program whose reads and puts fail as each row says.
+pub(crate) fn check_faults<R: AllocGlobal + Abort>(
     rt: &R,
     program: Program,
     files: &[HeldFile],
     faults: &[Fault],
 ) -> Result<(), Fail> {
     for (words, fails, rooms, status, out, err) in faults {
-        let left = (*status, *out, *err);
+        let expected = (*status, *out, *err);
         let mut files = Listed::new(files, *fails);
-        comes_out(rt, program, *words, &mut files, *rooms, left)?;
+        check_call(rt, program, *words, &mut files, *rooms, expected)?;
     }
     Ok(())
 }
 
-/// Calls a program that puts these texts, one after another, as the line on the error stream: once
-/// for each put, which fails.
-pub(crate) fn status_stays<R: AllocGlobal + Abort>(
+/// Calls a program whose error line consists of these texts, once for each put, and lets that put
+/// fail.
+pub(crate) fn check_failing_puts<R: AllocGlobal + Abort>(
     rt: &R,
     program: Program,
     files: &[HeldFile],
@@ -142,15 +147,15 @@ pub(crate) fn status_stays<R: AllocGlobal + Abort>(
 ) -> Result<(), Fail> {
     for (put, room) in ONE_FAILS.iter().enumerate() {
         let line = first_texts(rt.alloc(), texts, put)?;
-        let left = (status, b"".as_slice(), line.as_slice());
+        let expected = (status, b"".as_slice(), line.as_slice());
         let mut files = Listed::new(files, &[]);
-        comes_out(rt, program, words, &mut files, (WIDE, *room), left)?;
+        check_call(rt, program, words, &mut files, (WIDE, *room), expected)?;
     }
     Ok(())
 }
 
-/// The words, the number of bytes of the file `big`, the status, what is printed, and the line on
-/// the error stream.
+/// The arguments, the number of bytes of the file `big`, and the expected exit status, output and
+/// error line.
 pub(crate) type Limit = (
     &'static [&'static str],
     u64,
@@ -159,17 +164,17 @@ pub(crate) type Limit = (
     &'static [u8],
 );
 
-/// Calls a program over a file `big` of zeros, and these bytes at every other path.
-pub(crate) fn all_limits_decide<R: AllocGlobal + Abort>(
+/// Calls a program whose file `big` consists of zeros, and every other file of these bytes.
+pub(crate) fn check_limits<R: AllocGlobal + Abort>(
     rt: &R,
     program: Program,
     bytes: &[u8],
     limits: &[Limit],
 ) -> Result<(), Fail> {
     for (words, size, status, out, err) in limits {
-        let left = (*status, *out, *err);
+        let expected = (*status, *out, *err);
         let mut files = Large { size: *size, bytes };
-        comes_out(rt, program, *words, &mut files, (WIDE, WIDE), left)?;
+        check_call(rt, program, *words, &mut files, (WIDE, WIDE), expected)?;
     }
     Ok(())
 }
