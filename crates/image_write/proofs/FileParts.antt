@@ -4,7 +4,8 @@ use Rattle.std.proofs.lemmas.List.{length-replicate, append-nil}
 use Rattle.elf_load.specs.declared.tables.Segment.{Segment}
 use Rattle.elf_load.specs.declared.tables.Section.{Section}
 use Rattle.elf_load.specs.Tables.{segment_at, section_at}
-use Rattle.rv_asm.specs.Assembled.{Program, IsProgram, up_to_multiple}
+use Rattle.asm_values.specs.Addresses.{up_to_multiple}
+use Rattle.rv_asm.specs.Assembled.{Program, IsProgram}
 use Rattle.image_write.specs.File.{filled_up, has_content, whole_pages, text_room, content_place, unit_place, names_place, names, names_end, headers_place, segment_count, file_header, segment, segments, section, sections, front, file_with}
 use Rattle.image_write.proofs.Lengths.{length-word, length-double}
 use Rattle.image_write.proofs.Fronts.{length-file_header, length-segment, headers_short}

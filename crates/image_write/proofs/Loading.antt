@@ -14,7 +14,8 @@ use Rattle.elf_load.specs.Faults.{row, entry_row, first_segment, first_section, 
 use Rattle.elf_load.specs.Loaded.{area_of, headers, image, load_answer}
 use Rattle.elf_load.proofs.Rows.{table_fault}
 use Rattle.elf_load.proofs.LoadLemmas.{WereRead, rows_same, parts_are, headed}
-use Rattle.rv_asm.specs.Assembled.{Program, IsProgram, up_to_multiple}
+use Rattle.asm_values.specs.Addresses.{up_to_multiple}
+use Rattle.rv_asm.specs.Assembled.{Program, IsProgram}
 use Rattle.image_write.specs.Unit.{unit}
 use Rattle.image_write.specs.File.{has_content, whole_pages, content_place, unit_place, names_place, headers_place, segment_count, file_with, written_file, IsName}
 use Rattle.image_write.specs.Image.{text_area, data_area, image_of}

@@ -2,9 +2,10 @@
 use Rattle.std.specs.Prelude.{◌≡◌, ℕ, ◌+◌, ◌-◌, ◌*◌, ◌<◌, ◌≤◌, Bool, List, [], ◌∷◌, ◌++◌, length, replicate, nat_lt, not, ◌==◌, if◌then◌else◌, codes}
 use Rattle.std.specs.List.{AllPass}
 use Rattle.coz_types.specs.declared.TheConstants.{MIN_VERSION, MAX_VERSION, MAX_WORD, PAGE}
-use Rattle.rv_asm.specs.declared.TheConstants.{TEXT_START}
+use Rattle.asm_values.specs.declared.TheConstants.{TEXT_START}
 use Rattle.rv_asm.specs.declared.state.TheConstants.{MAX_SECTION}
-use Rattle.rv_asm.specs.Assembled.{Program, up_to_multiple}
+use Rattle.asm_values.specs.Addresses.{up_to_multiple}
+use Rattle.rv_asm.specs.Assembled.{Program}
 use Rattle.image_write.specs.Unit.{half, word, double, unit}
 
 -- followed by zeros up to this length

@@ -3,8 +3,9 @@ use Rattle.std.specs.Prelude.{ℕ, ◌+◌, true, false, List, [], ◌∷◌, le
 use Rattle.coz_types.specs.declared.TheConstants.{PAGE}
 use Rattle.coz_types.specs.declared.image.Area.{Area}
 use Rattle.coz_types.specs.Image.{ImageParts}
-use Rattle.rv_asm.specs.declared.TheConstants.{TEXT_START}
-use Rattle.rv_asm.specs.Assembled.{Program, up_to_multiple}
+use Rattle.asm_values.specs.declared.TheConstants.{TEXT_START}
+use Rattle.asm_values.specs.Addresses.{up_to_multiple}
+use Rattle.rv_asm.specs.Assembled.{Program}
 use Rattle.image_write.specs.File.{has_content, whole_pages, segment_count}
 
 -- the text is read and executed

@@ -11,7 +11,7 @@ use Rattle.dwarf_lines.specs.Names.{strings}
 use Rattle.dwarf_lines.specs.Registers.{File, Table}
 use Rattle.dwarf_lines.specs.Reading.{reading}
 use Rattle.line_index.specs.Lines.{Line, line_of}
-use Rattle.rv_asm.specs.declared.TheConstants.{TEXT_START}
+use Rattle.asm_values.specs.declared.TheConstants.{TEXT_START}
 use Rattle.rv_asm.specs.Assembled.{Program}
 
 -- the source, twice in version 5

@@ -1,7 +1,7 @@
 -- The line unit of a written file, of version 4 or 5.
 use Rattle.std.specs.Prelude.{ℕ, ◌+◌, ◌*◌, ◌^◌, Bool, List, [], ◌∷◌, ◌++◌, find, ℤ, pos, ◌-ℤ◌, unwrap_or, nat_lt, ◌==◌, if◌then◌else◌}
 use Rattle.rv_decode.specs.Fields.{twos_complement, is_signed}
-use Rattle.rv_asm.specs.declared.TheConstants.{TEXT_START}
+use Rattle.asm_values.specs.declared.TheConstants.{TEXT_START}
 unfoldable pub use Rattle.line_unit.specs.Unit.{half, word, double}
 pub use Rattle.line_unit.specs.Unit.{groups, with_count, numbers, set_address, end_sequence}
 

@@ -1,9 +1,10 @@
 //! Where the parts of a written file lie, and its headers (ELF64).
 
 ghost use Rattle.std.specs.Prelude.{◌≡◌, ◌<◌, ◌≤◌, ◌+◌, ◌^◌, ◌++◌, length, IfOk};
-ghost use Rattle.rv_asm.specs.Assembled.{up_to_multiple, view};
+ghost use Rattle.rv_asm.specs.Assembled.{view};
 ghost use Rattle.image_write.specs.File.{IsWritable, has_content, whole_pages, text_room, content_place, unit_place, names_place, names_end, headers_place, segment_count, file_header, segment, segments, section, sections};
 
+use asm_values::up_to_multiple;
 use coz_types::PAGE;
 use elf_load::codes::{EHDR_SIZE, EM_RISCV, ET_EXEC, PHDR_SIZE, PT_LOAD, SHDR_SIZE};
 use line_unit::{push_double, push_half, push_word};
@@ -51,18 +52,6 @@ const TEXT_FLAGS: u64 = 6;
 
 /// SHF_WRITE and SHF_ALLOC.
 const DATA_FLAGS: u64 = 3;
-
-/// The least multiple that isn't below `n`.
-fn up_to_multiple(multiple: u64, n: u64) -> u64
-    requires some { 0 < multiple }
-    requires multiple { multiple ≤ 2 ^ 32 }
-    requires small { n < 2 ^ 40 }
-    ensures value { result ≡ up_to_multiple multiple n }
-    ensures within { result < n + multiple }
-    ensures above { n ≤ result }
-{
-    (n + (multiple - 1)) / multiple * multiple
-}
 
 fn has_content(assembled: &Assembled) -> bool
     ensures { result ≡ has_content (view assembled.now) }

@@ -12,7 +12,8 @@ use Rattle.asm_tokens.specs.declared.form.Section.TheVariants as sections
 use Rattle.rv_asm.specs.declared.state.Location.{Location}
 use Rattle.asm_tokens.specs.Tokens.{lines}
 use Rattle.rv_asm.specs.Statements.{Piece, Encoded, BranchTo, JumpTo, AddressTo, AddressOf, Bytes, Zeros, size}
-use Rattle.rv_asm.specs.Assembled.{Put, State, start, take_lines, target, reach, load_address, bytes_at, Filled, at_line, address, filled_piece, filled_pieces, Program, IsProgram, text_of, content_of, all_bytes, lines_of, begin_of, entry, program, assembled}
+use Rattle.asm_values.specs.Addresses.{entry_address}
+use Rattle.rv_asm.specs.Assembled.{Put, State, start, take_lines, target, reach, load_address, bytes_at, Filled, at_line, address, filled_piece, filled_pieces, Program, IsProgram, text_of, content_of, all_bytes, lines_of, text_offset, entry, program, assembled}
 use Rattle.rv_asm.proofs.WholeWords.{then_ok, and_ok}
 use Rattle.rv_asm.proofs.States.{text_size, content_size, total, IsLine, IsPut, IsRight, start_right, at_line_ok, lines_right}
 
@@ -85,11 +86,11 @@ within : (inside : Bool) (s : State) (offset : ℕ) → nat_lt offset s.text ≡
 within true s offset e some whole = let less : offset < s.text = ltb-true _ _ e in (omega arith, omega arith, omega arith)
 within false s offset e some whole = (refl, omega arith, omega arith)
 
-at_place : (section : Section) (offset : ℕ) (s : State) → 0 < s.text → (section ≡ sections.Text → offset % 4 ≡ 0) → IsEntry s.text (begin_of s (Some (record { section = section; offset = offset })))
+at_place : (section : Section) (offset : ℕ) (s : State) → 0 < s.text → (section ≡ sections.Text → offset % 4 ≡ 0) → IsEntry s.text (entry_address (text_offset (Some (record { section = section; offset = offset }))) s.text)
 at_place sections.Text offset s some whole = within (nat_lt offset s.text) s offset refl some (whole refl)
 at_place sections.Data offset s some whole = (refl, omega arith, omega arith)
 
-begins : (o : Option Location) (s : State) → 0 < s.text → ((p : Location) → o ≡ Some p → p.section ≡ sections.Text → p.offset % 4 ≡ 0) → IsEntry s.text (begin_of s o)
+begins : (o : Option Location) (s : State) → 0 < s.text → ((p : Location) → o ≡ Some p → p.section ≡ sections.Text → p.offset % 4 ≡ 0) → IsEntry s.text (entry_address (text_offset o) s.text)
 begins None s some whole = (refl, omega arith, omega arith)
 begins (Some p) s some whole = at_place p.section p.offset s some (whole p refl)
 

@@ -1,5 +1,5 @@
 -- The greatest number of lines.
-use Rattle.std.proofs.Common.{◌≡◌, ℕ, ◌-◌, ◌*◌, ◌^◌, refl}
+use Rattle.std.proofs.Common.{◌≡◌, ◌^◌, refl}
 use Rattle.rv_asm.specs.declared.lines.TheConstants.{MAX_LINES}
 
 -- lines of a source

@@ -3,7 +3,7 @@ use Rattle.std.proofs.Common.{◌≡◌, ℕ, List, [], ◌∷◌, refl, Ok}
 use Rattle.std.specs.Prelude.{codes}
 use Rattle.asm_tokens.specs.Tokens.{tokens}
 use Rattle.asm_tokens.specs.Table.{rows, form_of, register_of}
-use Rattle.rv_asm.specs.declared.TheConstants.{TEXT_START}
+use Rattle.asm_values.specs.declared.TheConstants.{TEXT_START}
 use Rattle.rv_asm.specs.Statements.{statement}
 use Rattle.rv_asm.specs.Assembled.{Program, assembled, take_lines, take_tokens, with_pieces, load_address, filled_pieces}
 

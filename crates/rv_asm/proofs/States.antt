@@ -13,7 +13,8 @@ use Rattle.rv_asm.specs.declared.state.TheConstants.{MAX_SECTION}
 use Rattle.rv_asm.specs.declared.state.Location.{Location}
 use Rattle.asm_tokens.specs.Tokens.{Read, wrong, ◌>>=◌, Placed, tokens, is_allowed}
 use Rattle.rv_asm.specs.Statements.{Piece, Zeros, Statement, Puts, Aligns, Enters, size, section_of, statement}
-use Rattle.rv_asm.specs.Assembled.{Put, State, start, section_length, next_location, with_label, with_more, with_piece, with_pieces, up_to_multiple, with_effect, is_in_place, form_named, name_in, label_in, with_statement, take_tokens, check, byte_check, take_line, at_line, take_lines}
+use Rattle.asm_values.specs.Addresses.{up_to_multiple}
+use Rattle.rv_asm.specs.Assembled.{Put, State, start, section_length, next_location, with_label, with_more, with_piece, with_pieces, with_effect, is_in_place, form_named, name_in, label_in, with_statement, take_tokens, check, byte_check, take_line, at_line, take_lines}
 use Rattle.rv_asm.proofs.WholeWords.{then_ok, and_ok, IsWhole, IsCode, code_stands}
 
 abbrev pub text_size : Put → ℕ

@@ -10,7 +10,8 @@ use Rattle.asm_tokens.specs.declared.form.Form.{Form}
 use Rattle.asm_tokens.specs.declared.form.Form.TheVariants as forms
 use Rattle.asm_tokens.specs.declared.form.Section.TheVariants as sections
 use Rattle.asm_tokens.specs.Tokens.{◌>>=◌, Placed}
-use Rattle.rv_asm.specs.Statements.{Piece, Statement, Puts, Aligns, Enters, size, section_of, load_number, encoded_piece, upper, lower, name, number, register, mark, base, then_name, then_register, then_immediate, then_up_to, then_base, then_second, whole, statement}
+use Rattle.asm_values.specs.Parts.{upper, lower}
+use Rattle.rv_asm.specs.Statements.{Piece, Statement, Puts, Aligns, Enters, size, section_of, load_number, encoded_piece, name, number, register, mark, base, then_name, then_register, then_immediate, then_up_to, then_base, then_second, whole, statement}
 use Rattle.rv_asm.specs.Assembled.{is_in_place}
 
 -- what follows has a property if what is read first has another

@@ -3,7 +3,6 @@ use Rattle.std.specs.Prelude.{◌≡◌, ℕ, ◌+◌, ◌-◌, ◌*◌, ◌/◌
 use Rattle.std.specs.Map.{update}
 use Rattle.std.specs.Str.{byte}
 use Rattle.std.specs.Int.{w32, w64, to_le_bytes}
-use Rattle.coz_types.specs.declared.TheConstants.{PAGE}
 use Rattle.rv_decode.specs.declared.Instr.{Instr}
 use Rattle.rv_decode.specs.declared.Instr.TheVariants as instr
 use Rattle.rv_decode.specs.declared.UpperOp.TheVariants.{Auipc}
@@ -12,7 +11,6 @@ use Rattle.rv_decode.specs.Fields.{is_signed, is_even}
 use Rattle.rv_decode.specs.Instructions.{word_of}
 use Rattle.asm_tokens.specs.declared.AsmKind.{AsmKind}
 use Rattle.asm_tokens.specs.declared.AsmKind.TheVariants as kinds
-use Rattle.rv_asm.specs.declared.TheConstants.{TEXT_START}
 use Rattle.rv_asm.specs.declared.lines.TheConstants.{MAX_LINES}
 use Rattle.rv_asm.specs.declared.state.TheConstants.{MAX_SECTION}
 use Rattle.rv_asm.specs.declared.AsmFault.{AsmFault}
@@ -23,7 +21,10 @@ use Rattle.asm_tokens.specs.declared.form.Section.{Section}
 use Rattle.asm_tokens.specs.declared.form.Section.TheVariants as sections
 use Rattle.asm_tokens.specs.Tokens.{Read, wrong, ◌>>=◌, is_allowed, lines, Token, Name, Number, Text, Mark, Placed, tokens}
 use Rattle.asm_tokens.specs.Table.{form_of}
-use Rattle.rv_asm.specs.Statements.{Use, Piece, Encoded, BranchTo, JumpTo, AddressTo, AddressOf, Bytes, Zeros, size, Statement, Puts, Aligns, Enters, section_of, statement, upper, lower}
+use Rattle.asm_values.specs.declared.TheConstants.{TEXT_START}
+use Rattle.asm_values.specs.Addresses.{up_to_multiple, text_address, data_address, entry_address}
+use Rattle.asm_values.specs.Parts.{upper, lower}
+use Rattle.rv_asm.specs.Statements.{Use, Piece, Encoded, BranchTo, JumpTo, AddressTo, AddressOf, Bytes, Zeros, size, Statement, Puts, Aligns, Enters, section_of, statement}
 
 -- ---- the lines so far
 
@@ -77,10 +78,6 @@ unfoldable pub with_pieces : ℕ → ℕ → List Piece → State → Read State
 with_pieces line column [] s = Ok s
 with_pieces line column (piece ∷ pieces) s =
     with_piece line column piece s >>= λ more. with_pieces line column pieces more
-
--- the least multiple that isn't below n
-abbrev pub up_to_multiple : ℕ → ℕ → ℕ
-up_to_multiple m n = (n + (m - 1)) / m * m
 
 abbrev pub with_effect : ℕ → ℕ → Statement → State → Read State
 with_effect line column (Puts pieces) s = with_pieces line column pieces s
@@ -163,11 +160,10 @@ take_lines n (line ∷ more) s = at_line n (take_line n line s) >>= λ t. take_l
 
 -- ---- after all lines: the bytes of the pieces
 
--- data begins at the first page that isn't below the text's end
 abbrev pub address : State → Location → ℕ
 address s p = elim (p.section) [
-  | sections.Text ↦ TEXT_START + p.offset
-  | sections.Data ↦ TEXT_START + up_to_multiple PAGE s.text + p.offset
+  | sections.Text ↦ text_address p.offset
+  | sections.Data ↦ data_address s.text p.offset
 ]
 
 abbrev pub address_in : State → ℕ → Option Location → Read ℕ
@@ -248,14 +244,14 @@ all_bytes fs = flat_map (λ f. f.bytes) fs
 abbrev pub lines_of : List Filled → List ℕ
 lines_of fs = flat_map (λ f. replicate (length f.bytes / 4) f.line) (text_of fs)
 
-abbrev pub begin_of : State → Option Location → ℕ
-begin_of s None = TEXT_START
-begin_of s (Some p) =
-    if is_text p.section && nat_lt p.offset s.text then address s p else TEXT_START
+-- the offset of a location that is in the text
+abbrev pub text_offset : Option Location → Option ℕ
+text_offset None = None
+text_offset (Some p) = if is_text p.section then Some p.offset else None
 
 -- where the program begins
 abbrev pub entry : State → ℕ
-entry s = begin_of s (s.labels (codes "_start"))
+entry s = entry_address (text_offset (s.labels (codes "_start"))) s.text
 
 abbrev pub program : State → List Filled → Program
 program s fs = record {

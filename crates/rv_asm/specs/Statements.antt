@@ -1,5 +1,5 @@
 -- Statements: their operands, and the pieces that they are assembled to.
-use Rattle.std.specs.Prelude.{ℕ, ◌-◌, ◌*◌, ◌^◌, Bool, true, false, ◌&&◌, List, [], ◌∷◌, length, ℤ, pos, neg_ℤ, ◌-ℤ◌, nat_abs, Option, Some, None, Ok, ◌==◌, if◌then◌else◌, int_le}
+use Rattle.std.specs.Prelude.{ℕ, ◌-◌, ◌*◌, ◌^◌, Bool, true, false, ◌&&◌, List, [], ◌∷◌, length, ℤ, pos, neg_ℤ, nat_abs, Option, Some, None, Ok, ◌==◌, if◌then◌else◌, int_le}
 use Rattle.std.specs.Str.{byte}
 use Rattle.std.specs.Int.{bytes_low_first}
 use Rattle.rv_decode.specs.declared.Instr.{Instr}
@@ -9,7 +9,7 @@ use Rattle.rv_decode.specs.declared.BranchOp.{BranchOp}
 use Rattle.rv_decode.specs.declared.ImmOp.TheVariants.{Addi, Addiw}
 use Rattle.rv_decode.specs.declared.AtomicOp.{AtomicOp}
 use Rattle.rv_decode.specs.declared.AtomicOp.TheVariants.{Lr}
-use Rattle.rv_decode.specs.Fields.{part, twos_complement, signed_bits, is_signed}
+use Rattle.rv_decode.specs.Fields.{twos_complement, is_signed}
 use Rattle.rv_decode.specs.Instructions.{amount_bits, word_of}
 use Rattle.asm_tokens.specs.declared.AsmKind.TheVariants as kinds
 use Rattle.asm_tokens.specs.declared.form.Form.{Form}
@@ -26,6 +26,7 @@ use Rattle.asm_tokens.specs.declared.form.Alone.{Alone}
 use Rattle.asm_tokens.specs.declared.form.Alone.TheVariants as alone
 use Rattle.asm_tokens.specs.Tokens.{Read, wrong, ◌>>=◌, Name, Number, Text, Mark, Placed}
 use Rattle.asm_tokens.specs.Table.{register_of}
+use Rattle.asm_values.specs.Parts.{lower, upper}
 use Rattle.rv_asm.specs.declared.state.TheConstants.{MAX_SECTION}
 
 -- a label where it is used
@@ -101,13 +102,7 @@ instruction_alone alone.Fence = instr.Fence 0 0 0x0FF
 instruction_alone alone.Nop = instr.Imm Addi 0 0 (pos 0)
 instruction_alone alone.Ret = instr.Jalr 0 1 (pos 0)
 
--- ---- the two parts of a number that one instruction can't hold
-
-abbrev pub lower : ℤ → ℤ
-lower n = signed_bits 12 (twos_complement 12 n)
-
-abbrev pub upper : ℤ → ℕ
-upper n = part (twos_complement 32 (n -ℤ lower n)) 12 20
+-- ---- instructions that load a number
 
 abbrev pub encoded_piece : Instr → Piece
 encoded_piece i = Encoded (word_of i)

@@ -7,19 +7,19 @@ ghost use Rattle.rv_decode.specs.Instructions.{InRange};
 ghost use Rattle.rv_decode.specs.declared.Instr.TheVariants as instr;
 ghost use Rattle.rv_decode.specs.declared.UpperOp.TheVariants.{Auipc};
 ghost use Rattle.rv_decode.specs.declared.ImmOp.TheVariants.{Addi};
-ghost use Rattle.rv_asm.specs.Statements.{upper, lower};
-ghost use Rattle.rv_asm.specs.Assembled.{address, target, reach, word, load_address, bytes_at, filled_piece, filled_pieces, begin_of, entry};
+ghost use Rattle.asm_values.specs.Parts.{upper, lower};
+ghost use Rattle.rv_asm.specs.Assembled.{address, target, reach, word, load_address, bytes_at, filled_piece, filled_pieces, entry};
 ghost use Rattle.failures.specs.Answers.{Gives};
 ghost use Rattle.asm_tokens.specs.Views.{GivesLine, with_front};
 ghost use Rattle.rv_asm.specs.Views.{Steps, StepsAll, state_of, use_of, piece_of, put_of, with_filled, parts_of, with_next, all_parts};
 
 use crate::lines::error_at;
 use crate::operands::NameUse;
-use crate::pieces::{Piece, lower, upper};
-use crate::state::{Location, Put, State, up_to_multiple};
-use crate::{AsmError, AsmKind, TEXT_START};
+use crate::pieces::Piece;
+use crate::state::{Location, Put, State};
+use crate::{AsmError, AsmKind};
 use asm_tokens::{Section, TokenError, number_of};
-use coz_types::PAGE;
+use asm_values::{data_address, entry_address, lower, text_address, upper};
 use rv_decode::{ImmOp, Instr, UpperOp, encode};
 use std::alloc::{AllocError, Global};
 
@@ -34,16 +34,14 @@ pub struct Filled {
     pub lines: Vec<u32>,
 }
 
-/// The address of a location; data begins at the first page that isn't below the text's end.
+/// The address of a location.
 pub fn address(state: &State, location: Location) -> u64
     ensures value { result ≡ address (state_of state.now) location }
     ensures small { result < 2 ^ 34 }
 {
     match location.section {
-        Section::Text => TEXT_START + u64::from(location.offset),
-        Section::Data => {
-            TEXT_START + up_to_multiple(PAGE, u64::from(state.text)) + u64::from(location.offset)
-        }
+        Section::Text => text_address(location.offset),
+        Section::Data => data_address(state.text, location.offset),
     }
 }
 
@@ -265,11 +263,9 @@ pub fn fill(alloc: Global, state: &State) -> Result<Filled, AsmError>
 pub fn entry(state: &State) -> u64
     ensures { result ≡ entry (state_of state.now) }
 {
-    match state.labels.get(b"_start".as_slice()) {
-        Some(location)
-            if matches!(location.section, Section::Text) && location.offset < state.text => {
-            address(state, *location)
-        }
-        _ => TEXT_START,
-    }
+    let start = match state.labels.get(b"_start".as_slice()) {
+        Some(location) if matches!(location.section, Section::Text) => Some(location.offset),
+        _ => None,
+    };
+    entry_address(start, state.text)
 }

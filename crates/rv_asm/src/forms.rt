@@ -8,18 +8,19 @@ ghost use Rattle.rv_decode.specs.Instructions.{amount_bits, InRange, is_second, 
 ghost use Rattle.rv_decode.specs.declared.Instr.TheVariants as instr;
 ghost use Rattle.rv_decode.specs.declared.UpperOp.TheVariants.{Lui};
 ghost use Rattle.asm_tokens.specs.Registers.{number_of};
-ghost use Rattle.rv_asm.specs.Statements.{lower, upper, load_number, whole, puts, one, number_item, label_item, item, item_operand, then_item, items, statement, bytes_of, is_wide, is_acquire, is_release, instruction_alone, is_within, BranchTo, JumpTo, AddressTo, Bytes, Zeros, Puts, Aligns, Enters};
+ghost use Rattle.rv_asm.specs.Statements.{load_number, whole, puts, one, number_item, label_item, item, item_operand, then_item, items, statement, bytes_of, is_wide, is_acquire, is_release, instruction_alone, is_within, BranchTo, JumpTo, AddressTo, Bytes, Zeros, Puts, Aligns, Enters};
 ghost use Rattle.asm_tokens.specs.Views.{GivesLine, all_placed, placed_of};
 ghost use Rattle.rv_asm.specs.Views.{tokens_left, Takes, Reads, piece_of, statement_of, AlignsWithin};
 ghost use Rattle.asm_tokens.specs.declared.form.Form.TheVariants as forms;
 
 use crate::AsmKind;
 use crate::operands::{NameUse, Operands, operand_fault};
-use crate::pieces::{Piece, Statement, low_bits, lower, upper};
+use crate::pieces::{Piece, Statement};
 use crate::state::MAX_SECTION;
 use asm_tokens::{
     Alone, Form, Order, Placed, Register, Section, Size, Token, TokenError, Width, number_of,
 };
+use asm_values::{immediate, low_bits, lower, upper};
 use rv_decode::{
     AtomicOp, BranchOp, ImmOp, Instr, LoadOp, RegOp, ShiftOp, StoreOp, UpperOp, encode,
 };
@@ -344,17 +345,6 @@ fn jump_form<'s>(alloc: Global, mut operands: Operands<'_, 's>) -> Result<Statem
     puts(alloc, operands, piece)
 }
 
-/// The number, if 12 bits with a sign hold it.
-fn short(value: i128) -> Option<i32>
-    ensures { result ≡ if is_signed 12 value then Some value else None }
-{
-    if -2048 <= value && value <= 2047 {
-        Some(value as i32)
-    } else {
-        None
-    }
-}
-
 /// The word that adds a number of 12 bits to a register.
 fn add(op: ImmOp, rd: u8, rs1: u8, value: i32) -> u32
     requires rd { rd < 32 }
@@ -388,7 +378,7 @@ fn load_number<'s>(alloc: Global, rd: u8, value: i128) -> Result<Vec<Piece<'s>>,
     requires high { value ≤ℤ pos (2 ^ 31 - 1) }
     ensures { IfOk result (λ v. map piece_of v.items ≡ load_number rd value) }
 {
-    if let Some(value) = short(value) {
+    if let Some(value) = immediate(value) {
         return Ok(vec![in alloc; Piece::Encoded(add(ImmOp::Addi, rd, 0, value))]?);
     }
     let lui = load_upper(rd, upper(value));

@@ -16,12 +16,10 @@ ghost use Rattle.failures.specs.Answers.{Gives};
 use crate::fill::{entry, fill};
 use crate::lines::take_lines;
 pub use asm_tokens::AsmKind;
+pub use asm_values::TEXT_START;
 use coz_types::Items;
 use failures::Failure;
 use std::alloc::Global;
-
-/// The address at which the text begins.
-pub const TEXT_START: u64 = 0x1_0000;
 
 /// A fault, and where in the source it is: its line and the column of its first byte,
 /// both counted from 1.

@@ -1,13 +1,14 @@
 //! What the lines so far have made: labels with their places, and pieces in their places.
 
-ghost use Rattle.std.specs.Prelude.{◌≡◌, ◌≤◌, ◌<◌, ◌+◌, ◌-◌, ◌^◌, [], map};
-ghost use Rattle.rv_asm.specs.Assembled.{section_length, next_location, start, with_label, with_piece, with_pieces, up_to_multiple, with_effect};
+ghost use Rattle.std.specs.Prelude.{◌≡◌, [], map};
+ghost use Rattle.rv_asm.specs.Assembled.{section_length, next_location, start, with_label, with_piece, with_pieces, with_effect};
 ghost use Rattle.rv_asm.specs.Statements.{size};
 ghost use Rattle.rv_asm.specs.Views.{Steps, state_of, piece_of, statement_of, AlignsWithin};
 
 use crate::AsmKind;
 use crate::pieces::{Piece, Statement};
 use asm_tokens::{Section, TokenError};
+use asm_values::up_to_multiple;
 use std::alloc::Global;
 use std::collections::BTreeMap;
 
@@ -59,18 +60,6 @@ pub fn size(piece: &Piece) -> usize
         Piece::Bytes(bytes) => bytes.len(),
         Piece::Zeros(count) => *count as usize,
     }
-}
-
-/// The least multiple that isn't below `n`.
-pub fn up_to_multiple(multiple: u64, n: u64) -> u64
-    requires some { 0 < multiple }
-    requires multiple { multiple ≤ 2 ^ 32 }
-    requires small { n ≤ 2 ^ 32 }
-    ensures value { result ≡ up_to_multiple multiple n }
-    ensures within { result < n + multiple }
-    ensures above { n ≤ result }
-{
-    (n + (multiple - 1)) / multiple * multiple
 }
 
 impl<'s> State<'s> {

@@ -4,7 +4,7 @@ use Rattle.rv_decode.specs.declared.Instr.TheVariants as instr
 use Rattle.rv_decode.specs.declared.UpperOp.TheVariants.{Auipc}
 use Rattle.rv_decode.specs.declared.ImmOp.TheVariants.{Addi}
 use Rattle.asm_tokens.specs.Tokens.{Read}
-use Rattle.rv_asm.specs.Statements.{upper, lower}
+use Rattle.asm_values.specs.Parts.{upper, lower}
 use Rattle.rv_asm.specs.Assembled.{word, load_address}
 use Rattle.rv_asm.specs.Views.{Steps}
 use Rattle.rv_asm.proofs.Filling.{two_words}
