@@ -2,10 +2,12 @@
 ghost use Rattle.std.specs.Prelude.{IfOk};
 ghost use Rattle.guest_areas.specs.Space.{SharesRegions};
 
+use crate::checks::check_equal;
 use coz_types::{Address, Area, Image, Rights};
 use guest_areas::Areas;
 use guest_memory::{Access, Layout, Memory};
 use std::alloc::{AllocError, Global};
+use std::process::Abort;
 use std::test::Fail;
 
 const FILE: [u8; 4] = [0x73, 0, 0, 0];
@@ -20,7 +22,8 @@ const MAP_BASE: Address = 0x21_0000_0000;
 
 const MAPPED: i64 = 0x21_0000_0000;
 
-#[derive(Clone, Copy, Debug)]
+/// A call of `Areas`.
+#[derive(Clone, Copy)]
 enum Call {
     Map(u64, u64),
     Unmap(Address, u64),
@@ -65,7 +68,28 @@ fn answer(areas: &mut Areas, memory: &mut Memory, call: Call) -> i64
     }
 }
 
-/// Addresses of the entry stack, and what 8 bytes there hold.
+/// An address that the break is moved to, and where the break is then.
+static BREAKS: [(Address, Address); 6] = [
+    (0, BRK_BASE),
+    (BRK_BASE + 5000, BRK_BASE + 5000),
+    (BRK_BASE - 1, BRK_BASE + 5000),
+    (BRK_BASE + 16 * MIB + 1, BRK_BASE + 5000),
+    (BRK_BASE + 16 * MIB, BRK_BASE + 16 * MIB),
+    (BRK_BASE + 1, BRK_BASE + 1),
+];
+
+fn check_breaks(rt: &impl Abort, areas: &mut Areas, memory: &mut Memory)
+    requires { SharesRegions areas.old memory.old }
+{
+    for &(to, end) in &BREAKS {
+        check_equal(rt, (to, areas.brk(memory, to)), (to, end));
+    }
+    let page = (memory.writable(BRK_BASE, 4096), memory.load(BRK_BASE, 8));
+    let next = memory.readable(BRK_BASE + 4096, 1);
+    check_equal(rt, (page, next), ((true, Ok(0)), false));
+}
+
+/// Addresses of the entry stack, and the number in 8 bytes there.
 static ENTRY: [(Address, u64); 22] = [
     (0x3F_FFFF_FF50, 1),
     (0x3F_FFFF_FF58, 0x3F_FFFF_FFE0),
@@ -91,77 +115,95 @@ static ENTRY: [(Address, u64); 22] = [
     (0x3F_FFFF_FFF8, 0),
 ];
 
-#[test]
-fn the_break_and_the_entry(rt: HostRuntime) -> Result<(), Fail> {
-    let image = program(rt.alloc())?;
-    let (mut areas, mut memory) = entered(rt.alloc(), &image)?;
-    let end = BRK_BASE + 16 * MIB;
-    for (to, wanted) in [
-        (0, BRK_BASE),
-        (BRK_BASE + 5000, BRK_BASE + 5000),
-        (BRK_BASE - 1, BRK_BASE + 5000),
-        (end + 1, BRK_BASE + 5000),
-        (end, end),
-        (BRK_BASE + 1, BRK_BASE + 1),
-    ] {
-        assert_eq!(rt; areas.brk(&mut memory, to), wanted, "to {to}");
+fn check_entry(rt: &impl Abort, areas: &Areas, memory: &Memory) {
+    check_equal(rt, areas.stack_pointer(), 0x3F_FFFF_FF50);
+    for &(address, number) in &ENTRY {
+        check_equal(
+            rt,
+            (address, memory.load(address, 8)),
+            (address, Ok(number)),
+        );
     }
-    let page = (memory.writable(BRK_BASE, 4096), memory.load(BRK_BASE, 8));
-    let next = memory.readable(BRK_BASE + 4096, 1);
-    assert_eq!(rt; (page, next), ((true, Ok(0)), false));
-
-    assert_eq!(rt; areas.stack_pointer(), 0x3F_FFFF_FF50);
-    for &(address, wanted) in &ENTRY {
-        assert_eq!(rt; memory.load(address, 8), Ok(wanted), "at {address}");
-    }
-    Ok(())
 }
 
 #[test]
-fn mappings_take_the_lowest_run(rt: HostRuntime) -> Result<(), Fail> {
+fn the_break_moves_within_its_region_and_the_entry_stack_is_written(
+    rt: HostRuntime,
+) -> Result<(), Fail> {
     let image = program(rt.alloc())?;
     let (mut areas, mut memory) = entered(rt.alloc(), &image)?;
-    for (call, wanted) in [
-        (Call::Map(0, 3), -22),
-        (Call::Map(1, 4), -13),
-        (Call::Map(u64::MAX, 3), -12),
-        (Call::Map(48 * MIB + 1, 3), -12),
-        (Call::Map(4096, 3), MAPPED),
-        (Call::Map(4097, 3), MAPPED + 0x1000),
-        (Call::Unmap(MAP_BASE + 1, 4096), -22),
-        (Call::Unmap(MAP_BASE, 0), -22),
-        (Call::Unmap(MAP_BASE - 4096, 8192), -22),
-        (Call::Unmap(MAP_BASE + 48 * MIB - 4096, 4097), -22),
-        (Call::Unmap(MAP_BASE, u64::MAX), -22),
-        (Call::Unmap(MAP_BASE, 1), 0),
-        (Call::Map(8192, 1), MAPPED + 0x3000),
-        (Call::Map(1, 1), MAPPED),
-        (Call::Protect(MAP_BASE + 1, 4096, 3), -22),
-        (Call::Protect(MAP_BASE, 0, 4), 0),
-        (Call::Protect(MAP_BASE, 1, 4), -13),
-        (Call::Protect(MAP_BASE, 0x6000, 3), -12),
-        (Call::Protect(MAP_BASE, u64::MAX, 3), -12),
-        (Call::Protect(MAP_BASE + 0x1000, 4096, 1), 0),
-        (Call::Protect(TEXT, 4096, 2), 0),
-    ] {
-        let got = answer(&mut areas, &mut memory, call);
-        assert_eq!(rt; got, wanted, "{call:?}");
+    check_breaks(&rt, &mut areas, &mut memory);
+    check_entry(&rt, &areas, &memory);
+    // By calls, since a drop in place is proved part by part.
+    drop(memory);
+    drop(areas);
+    Ok(())
+}
+
+/// Calls, one after the other, and what they answer.
+static CALLS: [(Call, i64); 21] = [
+    (Call::Map(0, 3), -22),
+    (Call::Map(1, 4), -13),
+    (Call::Map(u64::MAX, 3), -12),
+    (Call::Map(48 * MIB + 1, 3), -12),
+    (Call::Map(4096, 3), MAPPED),
+    (Call::Map(4097, 3), MAPPED + 0x1000),
+    (Call::Unmap(MAP_BASE + 1, 4096), -22),
+    (Call::Unmap(MAP_BASE, 0), -22),
+    (Call::Unmap(MAP_BASE - 4096, 8192), -22),
+    (Call::Unmap(MAP_BASE + 48 * MIB - 4096, 4097), -22),
+    (Call::Unmap(MAP_BASE, u64::MAX), -22),
+    (Call::Unmap(MAP_BASE, 1), 0),
+    (Call::Map(8192, 1), MAPPED + 0x3000),
+    (Call::Map(1, 1), MAPPED),
+    (Call::Protect(MAP_BASE + 1, 4096, 3), -22),
+    (Call::Protect(MAP_BASE, 0, 4), 0),
+    (Call::Protect(MAP_BASE, 1, 4), -13),
+    (Call::Protect(MAP_BASE, 0x6000, 3), -12),
+    (Call::Protect(MAP_BASE, u64::MAX, 3), -12),
+    (Call::Protect(MAP_BASE + 0x1000, 4096, 1), 0),
+    (Call::Protect(TEXT, 4096, 2), 0),
+];
+
+fn check_calls(rt: &impl Abort, areas: &mut Areas, memory: &mut Memory)
+    requires { SharesRegions areas.old memory.old }
+{
+    for (row, &(call, expected)) in CALLS.iter().enumerate() {
+        check_equal(rt, (row, answer(areas, memory, call)), (row, expected));
     }
-    for (address, readable, writable) in [
-        (MAP_BASE, true, false),
-        (MAP_BASE + 0x1000, true, false),
-        (MAP_BASE + 0x2000, true, true),
-        (MAP_BASE + 0x4000, true, false),
-        (MAP_BASE + 0x5000, false, false),
-        (TEXT, true, true),
-    ] {
-        let rights = (
-            memory.readable(address, 4096),
-            memory.writable(address, 4096),
+}
+
+/// The address of a page, and whether it may be read and written after those calls.
+static RIGHTS: [(Address, bool, bool); 6] = [
+    (MAP_BASE, true, false),
+    (MAP_BASE + 0x1000, true, false),
+    (MAP_BASE + 0x2000, true, true),
+    (MAP_BASE + 0x4000, true, false),
+    (MAP_BASE + 0x5000, false, false),
+    (TEXT, true, true),
+];
+
+fn check_rights(rt: &impl Abort, memory: &Memory) {
+    for &(page, readable, writable) in &RIGHTS {
+        let found = (
+            page,
+            memory.readable(page, 4096),
+            memory.writable(page, 4096),
         );
-        assert_eq!(rt; rights, (readable, writable), "at {address}");
+        check_equal(rt, found, (page, readable, writable));
     }
     let text = (memory.fetch(TEXT), memory.load(TEXT, 4));
-    assert_eq!(rt; text, (Err(Access), Ok(0x73)));
+    check_equal(rt, text, (Err(Access), Ok(0x73)));
+}
+
+#[test]
+fn mappings_take_the_lowest_free_pages_and_have_their_rights(rt: HostRuntime) -> Result<(), Fail> {
+    let image = program(rt.alloc())?;
+    let (mut areas, mut memory) = entered(rt.alloc(), &image)?;
+    check_calls(&rt, &mut areas, &mut memory);
+    check_rights(&rt, &memory);
+    // By calls, since a drop in place is proved part by part.
+    drop(memory);
+    drop(areas);
     Ok(())
 }

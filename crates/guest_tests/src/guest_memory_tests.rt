@@ -2,12 +2,14 @@
 ghost use Rattle.std.specs.Prelude.{◌≡◌, ◌+◌, ◌≤◌, ◌<◌, false, IfOk};
 ghost use Rattle.guest_memory.specs.Regions.{usual};
 
+use crate::checks::check_equal;
 use coz_types::{Address, Area, Image, Rights};
 use guest_memory::{Access, Layout, Memory};
 use std::alloc::{AllocError, Global};
+use std::process::Abort;
 use std::test::Fail;
 
-// These lie on both sides of the border of the area's two pages.
+/// These lie on both sides of the border of the area's two pages.
 const FILE: [u8; 5] = [0x13, 0x01, 0x50, 0x00, 0x73];
 
 const BORDER: Address = 0x10FFE;
@@ -47,85 +49,113 @@ fn made<'a>(alloc: Global, image: &'a Image<'a>) -> Result<Memory<'a>, AllocErro
     Memory::new(alloc, image, Layout::usual())
 }
 
-#[test]
-fn a_new_memory_has_the_file_and_a_stack(rt: HostRuntime) -> Result<(), Fail> {
-    let image = program(rt.alloc())?;
-    let memory = made(rt.alloc(), &image)?;
-    let eight = memory.load(0x10FFC, 8);
-    assert_eq!(rt;
-        (memory.layout(), eight),
-        (Layout::usual(), Ok(0x0073_0050_0113_0000))
-    );
-    for (address, wanted) in [
-        (BORDER, Ok(0x0050_0113)),
-        (0x11FFC, Ok(0)),
-        (0x11FFD, Err(Access)),
-        (0xFFFF, Err(Access)),
-        (BRK_BASE, Err(Access)),
-        (STACK, Ok(0)),
-        (STACK - 1, Err(Access)),
-        (STACK_TOP - 4, Ok(0)),
-        (STACK_TOP - 3, Err(Access)),
-        (u64::MAX, Err(Access)),
-    ] {
-        assert_eq!(rt; memory.load(address, 4), wanted, "load at {address}");
+/// An address, and the number in 4 bytes there, as data.
+static LOADS: [(Address, Result<u64, Access>); 10] = [
+    (BORDER, Ok(0x0050_0113)),
+    (0x11FFC, Ok(0)),
+    (0x11FFD, Err(Access)),
+    (0xFFFF, Err(Access)),
+    (BRK_BASE, Err(Access)),
+    (STACK, Ok(0)),
+    (STACK - 1, Err(Access)),
+    (STACK_TOP - 4, Ok(0)),
+    (STACK_TOP - 3, Err(Access)),
+    (u64::MAX, Err(Access)),
+];
+
+/// An address, and the number in 4 bytes there, as an instruction.
+static FETCHES: [(Address, Result<u32, Access>); 3] = [
+    (BORDER, Ok(0x0050_0113)),
+    (0x11FFD, Err(Access)),
+    (STACK, Err(Access)),
+];
+
+/// An address, a number of bytes, and whether all of them may be read and written.
+static RANGES: [(Address, u64, bool, bool); 7] = [
+    (0, 0, true, true),
+    (0x10000, 8192, true, false),
+    (0x10000, 8193, false, false),
+    (STACK, MIB, true, true),
+    (STACK, MIB + 1, false, false),
+    (STACK, u64::MAX, false, false),
+    (u64::MAX, 2, false, false),
+];
+
+fn check_new(rt: &impl Abort, memory: &Memory) {
+    let found = (memory.layout(), memory.load(0x10FFC, 8));
+    check_equal(rt, found, (Layout::usual(), Ok(0x0073_0050_0113_0000)));
+    for &(address, number) in &LOADS {
+        check_equal(rt, (address, memory.load(address, 4)), (address, number));
     }
-    for (address, wanted) in [
-        (BORDER, Ok(0x0050_0113)),
-        (0x11FFD, Err(Access)),
-        (STACK, Err(Access)),
-    ] {
-        assert_eq!(rt; memory.fetch(address), wanted, "fetch at {address}");
+    for &(address, word) in &FETCHES {
+        check_equal(rt, (address, memory.fetch(address)), (address, word));
     }
-    for (address, count, readable, writable) in [
-        (0, 0, true, true),
-        (0x10000, 8192, true, false),
-        (0x10000, 8193, false, false),
-        (STACK, MIB, true, true),
-        (STACK, MIB + 1, false, false),
-        (STACK, u64::MAX, false, false),
-        (u64::MAX, 2, false, false),
-    ] {
-        let rights = (
+    for &(address, count, readable, writable) in &RANGES {
+        let found = (
             memory.readable(address, count),
             memory.writable(address, count),
         );
-        assert_eq!(rt; rights, (readable, writable), "{count} at {address}");
+        check_equal(
+            rt,
+            (address, count, found),
+            (address, count, (readable, writable)),
+        );
     }
-    Ok(())
 }
 
 #[test]
-fn writes_reach_each_page_of_a_range(rt: HostRuntime) -> Result<(), Fail> {
+fn a_new_memory_consists_of_the_file_and_a_stack(rt: HostRuntime) -> Result<(), Fail> {
     let image = program(rt.alloc())?;
-    let mut memory = made(rt.alloc(), &image)?;
-    let rights = Rights {
-        read: true,
-        write: true,
-        execute: false,
-    };
-    memory.give(BRK_BASE, 2, rights, true);
+    let memory = made(rt.alloc(), &image)?;
+    check_new(&rt, &memory);
+    // By a call, since a drop in place is proved part by part.
+    drop(memory);
+    Ok(())
+}
+
+/// Addresses, and the numbers in 4 bytes there once 8 bytes are stored over the border of two
+/// pages.
+static STORED: [(Address, u64); 3] = [
+    (BRK_BASE + 0xFFC, 0x5566_7788),
+    (BRK_BASE + 0x1000, 0x1122_3344),
+    (BRK_BASE + 0x1FFC, 0),
+];
+
+fn check_stores(rt: &impl Abort, memory: &mut Memory) {
     let within = memory.store(BRK_BASE + 0xFFC, 8, 0x1122_3344_5566_7788);
     let past = memory.store(BRK_BASE + 0x1FFC, 8, 7);
-    assert_eq!(rt; (within, past), (Ok(()), Err(Access)));
-    for (address, wanted) in [
-        (BRK_BASE + 0xFFC, 0x5566_7788),
-        (BRK_BASE + 0x1000, 0x1122_3344),
-        (BRK_BASE + 0x1FFC, 0),
-    ] {
-        assert_eq!(rt; memory.load(address, 4), Ok(wanted), "load at {address}");
+    check_equal(rt, (within, past), (Ok(()), Err(Access)));
+    for &(address, number) in &STORED {
+        check_equal(
+            rt,
+            (address, memory.load(address, 4)),
+            (address, Ok(number)),
+        );
     }
+}
 
+fn check_copies_in(rt: &impl Abort, memory: &mut Memory) {
     let five = [1, 2, 3, 4, 5];
     let within = memory.copy_in(BRK_BASE + 0xFFD, &five);
     let past = memory.copy_in(BRK_BASE + 0x1FFC, &five);
-    assert_eq!(rt; (within, past), (Ok(()), Err(Access)));
+    check_equal(rt, (within, past), (Ok(()), Err(Access)));
     let mut seven = [9; 7];
     let past = memory.read_at(BRK_BASE + 0x1FFC, &mut seven);
-    assert_eq!(rt; (past, seven), (Err(Access), [9; 7]));
+    check_equal(rt, (past, seven), (Err(Access), [9; 7]));
     let within = memory.read_at(BRK_BASE + 0xFFC, &mut seven);
-    assert_eq!(rt; (within, seven), (Ok(()), [0x88, 1, 2, 3, 4, 5, 0x22]));
-    assert_eq!(rt; memory.load(BRK_BASE + 0x1FFC, 4), Ok(0));
+    check_equal(rt, (within, seven), (Ok(()), [0x88, 1, 2, 3, 4, 5, 0x22]));
+    check_equal(rt, memory.load(BRK_BASE + 0x1FFC, 4), Ok(0));
+}
+
+#[test]
+fn writes_reach_each_page_of_a_range_or_nothing(rt: HostRuntime) -> Result<(), Fail> {
+    let image = program(rt.alloc())?;
+    let mut memory = made(rt.alloc(), &image)?;
+    memory.give(BRK_BASE, 2, READ_AND_WRITE, true);
+    check_stores(&rt, &mut memory);
+    check_copies_in(&rt, &mut memory);
+    // By a call, since a drop in place is proved part by part.
+    drop(memory);
     Ok(())
 }
 
@@ -228,31 +258,61 @@ fn change_otherwise(memory: &mut Memory)
     give_brk(memory);
 }
 
-/// What no page here holds: the load is refused.
+/// In place of a number that may not be loaded. No page here holds it.
 const REFUSED: u64 = u64::MAX;
 
-/// An address, and what 8 bytes there hold at first, after `change` and after `change_otherwise`.
-static PLACES: [(Address, u64, u64, u64); 8] = [
-    (0x10000, 0, 0, 0),
-    (DATA, 0, 7, 0),
-    (MAP_BASE, REFUSED, 0, 9),
-    (MAP_BASE + 0xFFC, REFUSED, 0x0807_0605_0403_0201, REFUSED),
-    (MAP_BASE + 0x2000, REFUSED, REFUSED, REFUSED),
-    (BRK_BASE, REFUSED, REFUSED, 0),
-    (STACK_TOP - 8, 0, 0, 5),
-    (STACK, 0, 0, 0),
+/// An address, and the number in 8 bytes there at first, after `change` and after
+/// `change_otherwise`.
+static PLACES: [(Address, [u64; 3]); 8] = [
+    (0x10000, [0, 0, 0]),
+    (DATA, [0, 7, 0]),
+    (MAP_BASE, [REFUSED, 0, 9]),
+    (MAP_BASE + 0xFFC, [REFUSED, 0x0807_0605_0403_0201, REFUSED]),
+    (MAP_BASE + 0x2000, [REFUSED, REFUSED, REFUSED]),
+    (BRK_BASE, [REFUSED, REFUSED, 0]),
+    (STACK_TOP - 8, [0, 0, 5]),
+    (STACK, [0, 0, 0]),
 ];
 
-fn shows(memory: &Memory, column: usize) -> bool
+/// Whether the memory holds the numbers of this column.
+fn holds(memory: &Memory, column: usize) -> bool
     requires { column < 3 }
 {
-    for &(address, at_first, changed, otherwise) in &PLACES {
-        let held = memory.load(address, 8).unwrap_or(REFUSED);
-        if held != [at_first, changed, otherwise][column] {
+    for &(address, numbers) in &PLACES {
+        if memory.load(address, 8).unwrap_or(REFUSED) != numbers[column] {
             return false;
         }
     }
     true
+}
+
+/// Checks copies of changed memories, of which `first` stays as it is.
+fn check_copies<'a>(
+    rt: &impl Abort,
+    first: &Memory<'a>,
+    left: &mut Memory<'a>,
+    right: &mut Memory<'a>,
+)
+    requires first { first.now.layout ≡ usual }
+    requires left { (left.old.image ≡ first.now.image) × (left.old.layout ≡ usual) }
+    requires right { (right.old.image ≡ first.now.image) × (right.old.layout ≡ usual) }
+{
+    change(left);
+    change_otherwise(right);
+    let changed = (holds(first, 0), holds(left, 1), holds(right, 2));
+    left.copy_from(right);
+    let copied = holds(left, 2);
+    put(left, STACK, 1);
+    let apart = (holds(right, 2), holds(left, 2));
+    left.copy_from(right);
+    let again = holds(left, 2);
+    left.copy_from(first);
+    let found = (changed, copied, apart, again, holds(left, 0));
+    check_equal(
+        rt,
+        found,
+        ((true, true, true), true, (true, false), true, true),
+    );
 }
 
 #[test]
@@ -261,16 +321,10 @@ fn a_copy_is_equal_and_apart(rt: HostRuntime) -> Result<(), Fail> {
     let first = made(rt.alloc(), &image)?;
     let mut left = made(rt.alloc(), &image)?;
     let mut right = made(rt.alloc(), &image)?;
-    change(&mut left);
-    change_otherwise(&mut right);
-    assert!(rt; shows(&first, 0) && shows(&left, 1) && shows(&right, 2));
-    left.copy_from(&right);
-    let same = shows(&left, 2);
-    put(&mut left, STACK, 1);
-    assert!(rt; same && shows(&right, 2) && !shows(&left, 2));
-    left.copy_from(&right);
-    let same = shows(&left, 2);
-    left.copy_from(&first);
-    assert!(rt; same && shows(&left, 0));
+    check_copies(&rt, &first, &mut left, &mut right);
+    // By calls, since a drop in place is proved part by part.
+    drop(right);
+    drop(left);
+    drop(first);
     Ok(())
 }

@@ -2,6 +2,8 @@
 #![tactic(auto)]
 
 #[cfg(test)]
+mod checks;
+#[cfg(test)]
 mod cost_table_tests;
 #[cfg(test)]
 mod guest_areas_tests;

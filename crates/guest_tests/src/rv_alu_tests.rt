@@ -3,6 +3,7 @@ ghost use Rattle.std.specs.Prelude.{◌≡◌, ◌^◌};
 ghost use Rattle.rv_decode.specs.Instructions.{amount_bits};
 ghost use Rattle.rv_alu.specs.Operations.{is_amo};
 
+use crate::checks::check_equal;
 use rv_alu::{atomic, immediate, register, shift, taken};
 use rv_decode::{AtomicOp, BranchOp, ImmOp, RegOp, ShiftOp};
 
@@ -10,8 +11,9 @@ const MIN: u64 = 0x8000_0000_0000_0000;
 
 const ONES: u64 = 0xFFFF_FFFF_FFFF_FFFF;
 
-// The expected values are worked out from the manual's text.
+// The expected values are worked out from the text of the RISC-V manual.
 
+/// An operation, its two operands and its result.
 static REGISTERS: [(RegOp, u64, u64, u64); 82] = [
     (RegOp::Add, ONES, 1, 0),
     (RegOp::Add, MIN, MIN, 0),
@@ -107,6 +109,7 @@ static REGISTERS: [(RegOp, u64, u64, u64); 82] = [
     (RegOp::Remuw, 0xFFFF_FFFF, 10, 5),
 ];
 
+/// An operation, its operand, its immediate and its result.
 static IMMEDIATES: [(ImmOp, u64, i32, u64); 13] = [
     (ImmOp::Addi, 0, -2048, 0xFFFF_FFFF_FFFF_F800),
     (ImmOp::Addi, ONES, 2047, 0x7FE),
@@ -123,6 +126,7 @@ static IMMEDIATES: [(ImmOp, u64, i32, u64); 13] = [
     (ImmOp::Addiw, 0x0001_0000_0000, 0, 0),
 ];
 
+/// A shift, its operand, its amount and its result.
 static SHIFTS: [(ShiftOp, u64, u8, u64); 19] = [
     (ShiftOp::Slli, 3, 0, 3),
     (ShiftOp::Slli, 3, 31, 0x0001_8000_0000),
@@ -150,6 +154,7 @@ static SHIFTS: [(ShiftOp, u64, u8, u64); 19] = [
     (ShiftOp::Sraiw, 0x7FFF_FFFF, 30, 1),
 ];
 
+/// A branch, its two operands, and whether it is taken.
 static BRANCHES: [(BranchOp, u64, u64, bool); 18] = [
     (BranchOp::Beq, MIN, 0, false),
     (BranchOp::Beq, 0, MIN, false),
@@ -171,6 +176,8 @@ static BRANCHES: [(BranchOp, u64, u64, bool); 18] = [
     (BranchOp::Bgeu, ONES, ONES, true),
 ];
 
+/// An operation, whether it is of 8 bytes and not of 4, the old value, the operand and the value that
+/// is stored.
 static ATOMICS: [(AtomicOp, bool, u64, u64, u64); 36] = [
     (AtomicOp::Amoadd, true, MIN, ONES, 0x7FFF_FFFF_FFFF_FFFF),
     (AtomicOp::Amoadd, true, 1, MIN, 0x8000_0000_0000_0001),
@@ -277,27 +284,22 @@ static ATOMICS: [(AtomicOp, bool, u64, u64, u64); 36] = [
 ];
 
 #[test]
-fn operations_at_their_edges(rt: HostRuntime) {
+fn registers_immediates_and_branches_at_their_edges(rt: HostRuntime) {
     for &(op, left, right, want) in &REGISTERS {
-        assert_eq!(rt;
-            register(op, left, right),
-            want,
-            "of {left:#x} and {right:#x}"
-        );
+        let found = register(op, left, right);
+        check_equal(&rt, (left, right, found), (left, right, want));
     }
     for &(op, left, value, want) in &IMMEDIATES {
-        assert_eq!(rt;
-            immediate(op, left, value),
-            want,
-            "of {left:#x} and {value}"
-        );
+        let found = immediate(op, left, value);
+        check_equal(&rt, (left, value, found), (left, value, want));
     }
     for &(op, left, right, want) in &BRANCHES {
-        assert_eq!(rt; taken(op, left, right), want, "of {left:#x} and {right:#x}");
+        let found = taken(op, left, right);
+        check_equal(&rt, (left, right, found), (left, right, want));
     }
 }
 
-// The first amount that a shift doesn't have.
+/// The first amount that a shift does not have.
 fn amount_limit(op: ShiftOp) -> u8
     ensures { result ≡ 2 ^ amount_bits op }
 {
@@ -316,15 +318,19 @@ fn computes(op: AtomicOp) -> bool
 #[test]
 fn shifts_and_atomics_at_their_edges(rt: HostRuntime) {
     for &(op, left, amount, want) in &SHIFTS {
-        assert!(rt; amount < amount_limit(op));
-        assert_eq!(rt; shift(op, left, amount), want, "of {left:#x} by {amount}");
+        let found = if amount < amount_limit(op) {
+            Some(shift(op, left, amount))
+        } else {
+            None
+        };
+        check_equal(&rt, (left, amount, found), (left, amount, Some(want)));
     }
     for &(op, wide, old, right, want) in &ATOMICS {
-        assert!(rt; computes(op));
-        assert_eq!(rt;
-            atomic(op, wide, old, right),
-            want,
-            "of {old:#x} and {right:#x}"
-        );
+        let found = if computes(op) {
+            Some(atomic(op, wide, old, right))
+        } else {
+            None
+        };
+        check_equal(&rt, (old, right, found), (old, right, Some(want)));
     }
 }

@@ -1,5 +1,7 @@
-//! Words that GNU as writes for riscv64, and words that no instruction of RV64IMA has.
+//! Tests of `rv_decode`: words that GNU as writes for riscv64, and words that no instruction of
+//! RV64IMA has.
 
+use crate::checks::check_equal;
 use rv_decode::AtomicOp::*;
 use rv_decode::BranchOp::*;
 use rv_decode::ImmOp::*;
@@ -198,7 +200,7 @@ static ATOMICS: [(u32, AtomicOp, bool, bool, bool, u8, u8, u8); 22] = [
     (0xE67239AF, Amomaxu, true, true, true, 19, 4, 7),
 ];
 
-/// The last has fields that are reserved: a fence whatever they are.
+/// The last has reserved fields, and is a fence whatever they are.
 static FENCES: [(u32, u8, u8, u16); 4] = [
     (0x0FF0000F, 0, 0, 0x0FF),
     (0x0210000F, 0, 0, 0x021),
@@ -285,13 +287,14 @@ static OTHERS: [u32; 62] = [
     0x0000_0057,
 ];
 
-/// The word decodes to the instruction, and what it decodes to has the word.
+/// Checks that the word decodes to the instruction, and that what it decodes to has the word.
 fn check(rt: &impl Abort, word: u32, instr: Instr) {
-    let both = match decode(word) {
-        Some(found) => found == instr && encode(found) == word,
+    let found = decode(word);
+    let has_word = match found {
+        Some(instr) => encode(instr) == word,
         None => false,
     };
-    assert!(rt; both, "{word:#010x}");
+    check_equal(rt, (word, found, has_word), (word, Some(instr), true));
 }
 
 fn upper_immediates(rt: &impl Abort) {
@@ -406,12 +409,12 @@ fn calls_and_breaks(rt: &impl Abort) {
 
 fn words_of_no_instruction(rt: &impl Abort) {
     for &word in &OTHERS {
-        assert!(rt; decode(word).is_none(), "{word:#010x}");
+        check_equal(rt, (word, decode(word)), (word, None));
     }
 }
 
 #[test]
-fn words_are_instructions(rt: HostRuntime) {
+fn words_decode_to_their_instructions_or_to_none(rt: HostRuntime) {
     upper_immediates(&rt);
     jumps(&rt);
     register_jumps(&rt);
