@@ -11,12 +11,12 @@ up_to_multiple m n = (n + (m - 1)) / m * m
 abbrev pub text_address : ℕ → ℕ
 text_address offset = TEXT_START + offset
 
--- the address of the byte at this offset of the data, after a text of so many bytes:
+-- the address of the byte at this offset of the data, after a text of `text` bytes:
 -- data begins at the first page that isn't below the text's end
 abbrev pub data_address : ℕ → ℕ → ℕ
 data_address text offset = TEXT_START + up_to_multiple PAGE text + offset
 
--- the address at which a text of so many bytes begins to run: at the offset of `_start`,
+-- the address at which a text of `text` bytes begins to run: at the offset of `_start`,
 -- if there is one and it is before the text's end; otherwise at the text's first byte
 abbrev pub entry_address : Option ℕ → ℕ → ℕ
 entry_address None text = TEXT_START
