@@ -20,7 +20,8 @@ use Rattle.line_marks.specs.Marks.{IsMark, Mark, mark_of, marks_of}
 use Rattle.function_sequences.specs.Sequences.{bytes_in}
 use Rattle.line_marks.specs.Sound.{IsIndexOf}
 use Rattle.function_lines.specs.WithLines.{with_lines}
-use Rattle.line_section.specs.WithSection.{double, with_section}
+use Rattle.written_bytes.specs.Numbers.{double}
+use Rattle.written_bytes.specs.Files.{with_section}
 use Rattle.function_lines.proofs.FirstLines.{sequences_line}
 use Rattle.function_lines.proofs.Soundness.{sound}
 

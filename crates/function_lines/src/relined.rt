@@ -11,8 +11,8 @@ ghost use Rattle.function_lines.specs.declared.relined.LinesError.TheVariants.{M
 use crate::same_program::same_image;
 use coz_types::Image;
 use elf_load::{LoadError, load, section, section_place};
-use line_section::with_section;
 use std::alloc::{AllocError, Global};
+use written_bytes::with_section;
 
 /// Why a program has no file with other lines.
 #[derive(Clone, Copy)]

@@ -30,6 +30,21 @@ fn path_below(alloc: Global, path: &[u8], name: &[u8]) -> Result<Vec<u8>, AllocE
     Ok(out)
 }
 
+/// The addresses of a function, which are this line.
+fn sequence_with(symbol: &Symbol, path: Vec<u8>, number: u32) -> Sequence
+    ensures path { result.path ≡ path }
+    ensures number { result.number ≡ number }
+    ensures address { result.address ≡ symbol.now.address }
+    ensures size { result.size ≡ symbol.now.size }
+{
+    Sequence {
+        path,
+        number,
+        address: symbol.address,
+        size: symbol.size,
+    }
+}
+
 /// Returns the sequence of a function with this name: its addresses, and the line that it is. A
 /// function whose first address has the line N of the written path P is line N of `P/NAME`, and
 /// one without a line is line 1 of `NAME`.
@@ -49,14 +64,14 @@ pub fn function_sequence(
     ensures size { IfOk result (λ s. s.size ≡ symbol.now.size) }
     ensures writable { IfOk result (λ s. IsWritable (view s)) }
 {
-    let (path, number) = match location {
-        Some(location) => (path_below(alloc, location.path, name)?, location.number),
-        None => (Vec::from_slice(alloc, name)?, 1),
-    };
-    Ok(Sequence {
-        path,
-        number,
-        address: symbol.address,
-        size: symbol.size,
-    })
+    match location {
+        Some(location) => {
+            let path = path_below(alloc, location.path, name)?;
+            Ok(sequence_with(symbol, path, location.number))
+        }
+        None => {
+            let path = Vec::from_slice(alloc, name)?;
+            Ok(sequence_with(symbol, path, 1))
+        }
+    }
 }

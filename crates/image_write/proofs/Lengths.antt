@@ -1,8 +1,10 @@
 -- How long a line program is at most.
-use Rattle.std.proofs.Common.{◌≡◌, ◌≤◌, ◌<◌, ℕ, zero, suc, ◌+◌, ◌-◌, ◌*◌, ◌/◌, ◌%◌, Bool, true, false, List, [], ◌∷◌, ◌++◌, length, refl, ap, ◌∙◌, sym, arith, append_assoc, length-append, cond, if◌then◌else◌}
+use Rattle.std.proofs.Common.{◌≡◌, ◌≤◌, ◌<◌, ℕ, zero, suc, ◌+◌, ◌*◌, ◌/◌, Bool, true, false, List, [], ◌∷◌, ◌++◌, length, refl, arith, length-append, cond, if◌then◌else◌}
 use Rattle.std.specs.Prelude.{find, unwrap_or, ℤ, pos, ◌-ℤ◌, ◌==◌, nat_lt, ◌^◌, Some}
 use Rattle.rv_decode.specs.Fields.{twos_complement, is_signed}
-use Rattle.image_write.specs.Unit.{half, word, double, groups, fewest, uleb, sleb, advance_pc, advance_line, row, rows, line_program, set_address, end_sequence, with_count, numbers, files, unit_body, sizes, ended_files, counted_files}
+use Rattle.written_bytes.specs.Numbers.{half, word, double, groups, fewest, uleb, sleb}
+use Rattle.written_bytes.specs.Programs.{advance_pc, advance_line, row, rows, set_address, end_sequence}
+use Rattle.image_write.specs.Unit.{line_program, with_count, numbers, files, unit_body, sizes, ended_files, counted_files}
 
 pub length-half : (n : ℕ) → length (half n) ≡ 2
 unfolding half
@@ -15,23 +17,6 @@ length-word n = refl
 pub length-double : (n : ℕ) → length (double n) ≡ 8
 unfolding double
 length-double n = refl
-
-pub groups_step : (j n : ℕ) → 2 ≤ j → groups j n ≡ (n % 128 + 128) ∷ groups (j - 1) (n / 128)
-groups_step zero n some = absurd (omega arith)
-groups_step (suc zero) n some = absurd (omega arith)
-groups_step (suc (suc k)) n some =
-    let one : suc k ≡ suc (suc k) - 1 = omega arith in
-    ap (λ j. (n % 128 + 128) ∷ groups j (n / 128)) one
-
--- the loop's equation goes on over a group
-pub over_group : (out : List ℕ) (count i n : ℕ) (all : List ℕ) → i < count → out ++ groups (count - i + 1) n ≡ all
-    → (out ++ (n % 128 + 128) ∷ []) ++ groups (count - (i + 1) + 1) (n / 128) ≡ all
-over_group out count i n all more kept =
-    let less : count - i + 1 - 1 ≡ count - (i + 1) + 1 = omega arith in
-    append_assoc out ((n % 128 + 128) ∷ []) (groups (count - (i + 1) + 1) (n / 128))
-    ∙ ap (λ j. out ++ (n % 128 + 128) ∷ groups j (n / 128)) (sym less)
-    ∙ ap (λ xs. out ++ xs) (sym (groups_step (count - i + 1) n (omega arith)))
-    ∙ kept
 
 pub length-groups : (k n : ℕ) → length (groups k n) ≡ k
 length-groups zero n = refl

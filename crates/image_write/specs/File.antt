@@ -6,7 +6,9 @@ use Rattle.asm_values.specs.declared.TheConstants.{TEXT_START}
 use Rattle.rv_asm.specs.declared.state.TheConstants.{MAX_SECTION}
 use Rattle.asm_values.specs.Addresses.{up_to_multiple}
 use Rattle.rv_asm.specs.Assembled.{Program}
-use Rattle.image_write.specs.Unit.{half, word, double, unit}
+use Rattle.written_bytes.specs.Numbers.{half, word, double}
+use Rattle.written_bytes.specs.Files.{header_places}
+use Rattle.image_write.specs.Unit.{unit}
 
 -- followed by zeros up to this length
 abbrev pub filled_up : ℕ → List ℕ → List ℕ
@@ -61,9 +63,7 @@ file_header entry headers segments =
     ++ half 2
     ++ half 243
     ++ word 1
-    ++ double entry
-    ++ double 64
-    ++ double headers
+    ++ header_places entry headers
     ++ word 0
     ++ half 64
     ++ half 56

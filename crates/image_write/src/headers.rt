@@ -6,10 +6,12 @@ ghost use Rattle.image_write.specs.File.{IsWritable, has_content, whole_pages, t
 
 use asm_values::up_to_multiple;
 use coz_types::PAGE;
-use elf_load::codes::{EHDR_SIZE, EM_RISCV, ET_EXEC, PHDR_SIZE, PT_LOAD, SHDR_SIZE};
-use line_unit::{push_double, push_half, push_word};
+use elf_load::codes::{
+    EHDR_SIZE, ELFCLASS64, ELFDATA2LSB, EM_RISCV, ET_EXEC, PHDR_SIZE, PT_LOAD, SHDR_SIZE,
+};
 use rv_asm::{Assembled, TEXT_START};
 use std::alloc::{AllocError, Global};
+use written_bytes::{push_doubles, push_half, push_places, push_word};
 
 /// The names of the sections, each followed by a zero.
 pub const NAMES: [u8; 35] = *b"\0.text\0.data\0.debug_line\0.shstrtab\0";
@@ -25,14 +27,45 @@ const LINES_NAME: u32 = 13;
 /// The offset of `.shstrtab` in `NAMES`.
 const NAMES_NAME: u32 = 25;
 
-/// The number of sections, with the null one.
-const SECTIONS: u16 = 5;
-
-/// The number of the section of the names.
-const NAMES_SECTION: u16 = 4;
-
 /// The version of the format (ELF64).
-const EV_CURRENT: u32 = 1;
+const EV_CURRENT: u8 = 1;
+
+// The parts of the header of the file that are the same in each.
+
+/// e_ident, of a file of 64 bits with the lowest byte first; e_type, e_machine and e_version.
+const IDENTITY: [u8; 24] = [
+    0x7F,
+    b'E',
+    b'L',
+    b'F',
+    ELFCLASS64,
+    ELFDATA2LSB,
+    EV_CURRENT,
+    0,
+    0,
+    0,
+    0,
+    0,
+    0,
+    0,
+    0,
+    0,
+    ET_EXEC as u8,
+    0,
+    EM_RISCV as u8,
+    0,
+    EV_CURRENT,
+    0,
+    0,
+    0,
+];
+
+/// No e_flags; e_ehsize and e_phentsize.
+const SIZES: [u8; 8] = [0, 0, 0, 0, EHDR_SIZE as u8, 0, PHDR_SIZE as u8, 0];
+
+/// e_shentsize; e_shnum, with the null section; and e_shstrndx, the number of the section of the
+/// names.
+const SECTION_HEADERS: [u8; 6] = [SHDR_SIZE as u8, 0, 5, 0, 4, 0];
 
 /// PF_R and PF_X.
 const TEXT_RIGHTS: u32 = 5;
@@ -147,55 +180,38 @@ pub fn file_header(
 ) -> Result<Vec<u8>, AllocError>
     ensures { IfOk result (λ v. v.items ≡ file_header entry headers segments) }
 {
-    let magic = [0x7F, 0x45, 0x4C, 0x46, 2, 1, 1, 0, 0, 0, 0, 0, 0, 0, 0, 0];
-    let mut out = Vec::from_slice(alloc, &magic)?;
-    push_half(&mut out, ET_EXEC)?;
-    push_half(&mut out, EM_RISCV)?;
-    push_word(&mut out, EV_CURRENT)?;
-    push_double(&mut out, entry)?;
-    push_double(&mut out, EHDR_SIZE as u64)?;
-    push_double(&mut out, headers)?;
-    push_word(&mut out, 0)?;
-    push_half(&mut out, EHDR_SIZE as u16)?;
-    push_half(&mut out, PHDR_SIZE as u16)?;
+    let mut out = Vec::from_slice(alloc, &IDENTITY)?;
+    push_places(&mut out, entry, headers)?;
+    out.extend_from_slice(&SIZES)?;
     push_half(&mut out, segments)?;
-    push_half(&mut out, SHDR_SIZE as u16)?;
-    push_half(&mut out, SECTIONS)?;
-    push_half(&mut out, NAMES_SECTION)?;
+    out.extend_from_slice(&SECTION_HEADERS)?;
     Ok(out)
 }
 
-/// The header of a segment.
+/// Appends the header of a segment.
 #[tactic(auto, unfolding(crate::specs::File::segment))]
-fn segment(
-    alloc: Global,
+fn push_segment(
+    out: &mut Vec<u8>,
     flags: u32,
     offset: u64,
     address: u64,
     size: u64,
-) -> Result<Vec<u8>, AllocError>
-    ensures { IfOk result (λ v. v.items ≡ segment flags offset address size) }
+) -> Result<(), AllocError>
+    ensures { IfOk result (λ _. out.new.items ≡ out.old.items ++ segment flags offset address size) }
 {
-    let mut out = Vec::new(alloc);
-    push_word(&mut out, PT_LOAD)?;
-    push_word(&mut out, flags)?;
-    push_double(&mut out, offset)?;
-    push_double(&mut out, address)?;
-    push_double(&mut out, address)?;
-    push_double(&mut out, size)?;
-    push_double(&mut out, size)?;
-    push_double(&mut out, PAGE)?;
-    Ok(out)
+    push_word(out, PT_LOAD)?;
+    push_word(out, flags)?;
+    push_doubles(out, &[offset, address, address, size, size, PAGE])
 }
 
-/// The headers of the segments: the text, and the data if there is any.
+/// Appends the headers of the segments: the text, and the data if there is any.
 #[tactic(auto, unfolding(crate::specs::File::segments))]
-pub fn segments(alloc: Global, assembled: &Assembled) -> Result<Vec<u8>, AllocError>
+pub fn push_segments(out: &mut Vec<u8>, assembled: &Assembled) -> Result<(), AllocError>
     requires { IsWritable (view assembled.now) }
-    ensures { IfOk result (λ v. v.items ≡ segments (view assembled.now)) }
+    ensures { IfOk result (λ _. out.new.items ≡ out.old.items ++ segments (view assembled.now)) }
 {
-    let mut out = segment(
-        alloc,
+    push_segment(
+        out,
         TEXT_RIGHTS,
         PAGE,
         TEXT_START,
@@ -204,76 +220,72 @@ pub fn segments(alloc: Global, assembled: &Assembled) -> Result<Vec<u8>, AllocEr
     if has_content(assembled) {
         let pages = whole_pages(assembled);
         let size = assembled.content.len() as u64;
-        let data = segment(alloc, DATA_RIGHTS, PAGE + pages, TEXT_START + pages, size)?;
-        out.extend_from_slice(&data)?;
+        push_segment(out, DATA_RIGHTS, PAGE + pages, TEXT_START + pages, size)?;
     }
-    Ok(out)
+    Ok(())
 }
 
-/// The header of a section.
+/// Appends the header of a section.
 #[tactic(auto, unfolding(crate::specs::File::section))]
-fn section(
-    alloc: Global,
+fn push_section(
+    out: &mut Vec<u8>,
     name: u32,
     kind: u32,
     flags: u64,
     offset: u64,
     size: u64,
     align: u64,
-) -> Result<Vec<u8>, AllocError>
-    ensures { IfOk result (λ v. v.items ≡ section name kind flags offset size align) }
+) -> Result<(), AllocError>
+    ensures { IfOk result (λ _.
+        out.new.items ≡ out.old.items ++ section name kind flags offset size align) }
 {
-    let mut out = Vec::new(alloc);
-    push_word(&mut out, name)?;
-    push_word(&mut out, kind)?;
-    push_double(&mut out, flags)?;
-    push_double(&mut out, 0)?;
-    push_double(&mut out, offset)?;
-    push_double(&mut out, size)?;
-    push_word(&mut out, 0)?;
-    push_word(&mut out, 0)?;
-    push_double(&mut out, align)?;
-    push_double(&mut out, 0)?;
-    Ok(out)
+    push_word(out, name)?;
+    push_word(out, kind)?;
+    // No address; no link and no further information, which have four bytes each; no entries.
+    push_doubles(out, &[flags, 0, offset, size, 0, align, 0])
 }
 
-/// The headers of the sections.
+/// Appends the headers of the sections.
 #[tactic(auto, unfolding(crate::specs::File::sections))]
-pub fn sections(alloc: Global, assembled: &Assembled, unit: &[u8]) -> Result<Vec<u8>, AllocError>
+pub fn push_sections(
+    out: &mut Vec<u8>,
+    assembled: &Assembled,
+    unit: &[u8],
+) -> Result<(), AllocError>
     requires writable { IsWritable (view assembled.now) }
     requires unit { length unit.now < 2 ^ 33 }
-    ensures { IfOk result (λ v. v.items ≡ sections unit.now (view assembled.now)) }
+    ensures { IfOk result (λ _.
+        out.new.items ≡ out.old.items ++ sections unit.now (view assembled.now)) }
 {
     let text = assembled.text.len() as u64;
     let content = assembled.content.len() as u64;
-    let mut out = section(alloc, 0, 0, 0, 0, 0, 0)?;
-    out.extend_from_slice(&section(alloc, TEXT_NAME, SHT_PROGBITS, TEXT_FLAGS, PAGE, text, 4)?)?;
-    out.extend_from_slice(&section(
-        alloc,
+    push_section(out, 0, 0, 0, 0, 0, 0)?;
+    push_section(out, TEXT_NAME, SHT_PROGBITS, TEXT_FLAGS, PAGE, text, 4)?;
+    push_section(
+        out,
         DATA_NAME,
         SHT_PROGBITS,
         DATA_FLAGS,
         content_place(assembled),
         content,
         8,
-    )?)?;
-    out.extend_from_slice(&section(
-        alloc,
+    )?;
+    push_section(
+        out,
         LINES_NAME,
         SHT_PROGBITS,
         0,
         unit_place(assembled),
         unit.len() as u64,
         1,
-    )?)?;
-    out.extend_from_slice(&section(
-        alloc,
+    )?;
+    push_section(
+        out,
         NAMES_NAME,
         SHT_STRTAB,
         0,
         names_place(assembled, unit),
         35,
         1,
-    )?)?;
-    Ok(out)
+    )
 }

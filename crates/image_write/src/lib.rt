@@ -2,7 +2,6 @@
 #![tactic(auto)]
 
 mod headers;
-mod numbers;
 mod unit;
 
 ghost use Rattle.std.specs.Prelude.{◌≡◌, ◌<◌, ◌≤◌, ◌-◌, ◌^◌, ◌++◌, length, replicate, nat_lt, IfOk, Ok, Some, codes};
@@ -15,12 +14,20 @@ ghost use Rattle.image_write.specs.Lines.{HasLines, read_table, table_of};
 
 use coz_types::PAGE;
 use headers::{
-    NAMES, file_header, headers_place, names_end, sections, segment_count, segments, text_room,
+    NAMES, file_header, headers_place, names_end, push_sections, push_segments, segment_count,
+    text_room,
 };
-use numbers::push_zeros;
 use rv_asm::Assembled;
 use std::alloc::{AllocError, Global};
 use unit::unit;
+
+/// Appends `count` zeros.
+fn push_zeros(out: &mut Vec<u8>, count: u32) -> Result<(), AllocError>
+    ensures { IfOk result (λ _. out.new.items ≡ out.old.items ++ replicate count 0) }
+{
+    let length = out.len();
+    out.resize(length + count as usize, 0)
+}
 
 /// The bytes, followed by zeros up to this length.
 fn push_filled_up(out: &mut Vec<u8>, room: u32, bytes: &[u8]) -> Result<(), AllocError>
@@ -42,7 +49,7 @@ fn both_headers(alloc: Global, assembled: &Assembled, unit: &[u8]) -> Result<Vec
 {
     let offset = headers_place(assembled, unit);
     let mut out = file_header(alloc, assembled.entry, offset, segment_count(assembled))?;
-    out.extend_from_slice(&segments(alloc, assembled)?)?;
+    push_segments(&mut out, assembled)?;
     Ok(out)
 }
 
@@ -68,14 +75,13 @@ fn file_with(alloc: Global, assembled: &Assembled, unit: &[u8]) -> Result<Vec<u8
 {
     let room = text_room(assembled) as u32;
     let gap = headers_place(assembled, unit) - names_end(assembled, unit);
-    let sections = sections(alloc, assembled, unit)?;
     let mut out = front(alloc, assembled, unit)?;
     push_filled_up(&mut out, room, assembled.text.as_slice())?;
     out.extend_from_slice(assembled.content.as_slice())?;
     out.extend_from_slice(unit)?;
     out.extend_from_slice(&NAMES)?;
     push_zeros(&mut out, gap as u32)?;
-    out.extend_from_slice(&sections)?;
+    push_sections(&mut out, assembled, unit)?;
     Ok(out)
 }
 

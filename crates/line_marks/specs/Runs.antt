@@ -1,9 +1,10 @@
 -- The sequences of lines that keep their addresses, or get those of others.
-use Rattle.std.specs.Prelude.{◌≡◌, ℕ, ◌+◌, ◌≤◌, ◌<◌, true, false, List, [], ◌∷◌, ◌++◌, get_or, All}
+use Rattle.std.specs.Prelude.{◌≡◌, ℕ, ◌+◌, ◌≤◌, ◌<◌, true, false, List, [], ◌∷◌, ◌++◌, get_or, length, sum_by, All}
 use Rattle.std.specs.List.{AllZip}
 use Rattle.line_index.specs.Index.{Index, has_line}
 use Rattle.line_unit.specs.Lines.{line_of_sequence}
 use Rattle.line_unit.specs.Unit.{IsWritable, Sequence}
+use Rattle.line_unit.specs.declared.Sequence.{Sequence as coded}
 use Rattle.line_marks.specs.Marks.{Mark}
 
 -- from an entry address of the line up to the first address after it that hasn't the line
@@ -31,3 +32,7 @@ pub record Adds (Are : List Sequence → Type 0) (old new : List Sequence) : Typ
   pub whole : new ≡ old ++ more
   pub are : Are more
   pub writable : All IsWritable more
+
+-- the bytes of their paths
+abbrev pub path_bytes : List coded → ℕ
+path_bytes sequences = sum_by (λ (s : coded). length s.path.items) sequences

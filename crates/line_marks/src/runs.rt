@@ -4,7 +4,7 @@ ghost use Rattle.std.specs.Prelude.{◌≡◌, ℕ, ◌≤◌, ◌<◌, ◌++◌
 ghost use Rattle.line_index.specs.Index.{has_line};
 ghost use Rattle.line_unit.specs.Unit.{IsWritable, view, views};
 ghost use Rattle.line_marks.specs.Marks.{IsMark, mark_of, marks_of};
-ghost use Rattle.line_marks.specs.Runs.{Adds, AreKept, AreRuns, IsRun};
+ghost use Rattle.line_marks.specs.Runs.{Adds, AreKept, AreRuns, IsRun, path_bytes};
 ghost use Rattle.line_marks.specs.Sound.{IsSound};
 
 use crate::marks::Mark;
@@ -18,13 +18,17 @@ use std::alloc::{AllocError, Global};
 /// largest file of a program.
 const MAX_PATHS: usize = 0x800_0000;
 
-/// Sequences, and how many bytes their paths have together.
+/// Sequences, whose paths have at most 128 MiB together.
 #[derive(Drop)]
 pub struct Sequences {
     /// The sequences.
     pub list: Vec<Sequence>,
-    /// The bytes of their paths.
+    /// The sum of the lengths of their paths, in bytes.
     pub bytes: usize,
+
+    ghost counted: { bytes ≡ path_bytes list.items },
+
+    ghost few: { bytes ≤ 0x800_0000 },
 }
 
 impl Sequences {
@@ -38,16 +42,17 @@ impl Sequences {
         }
     }
 
-    /// Adds a sequence. Out of memory too if the paths have more bytes than `MAX_PATHS`.
+    /// Adds a sequence. Out of memory too if the paths would have more than 128 MiB together.
     pub fn push(&mut self, sequence: Sequence) -> Result<(), AllocError>
         ensures { IfOk result (λ _.
             self.new.list.items ≡ self.old.list.items ++ sequence ∷ []) }
     {
-        self.bytes = self.bytes.saturating_add(sequence.path.len());
-        if self.bytes > MAX_PATHS {
+        let bytes = self.bytes.saturating_add(sequence.path.len());
+        if bytes > MAX_PATHS {
             return Err(AllocError);
         }
         self.list.push(sequence)?;
+        self.bytes = bytes;
         Ok(())
     }
 }

@@ -4,7 +4,7 @@ use Rattle.std.specs.Prelude.{pos, ◌-ℤ◌, if◌then◌else◌, Bool}
 use Rattle.std.proofs.lemmas.Bool.{lt-ltb}
 use Rattle.std.proofs.lemmas.Nat.{pow-add}
 use Rattle.leb_cursor.specs.Numbers.{IsOneNumber, low_bits, SpellsUnsigned, signed_number, SpellsSigned}
-use Rattle.line_unit.specs.Unit.{groups, leb}
+use Rattle.written_bytes.specs.Numbers.{groups, leb}
 
 group_front : (k n : ℕ) → (c : ℕ) × (cs : List ℕ) × (groups (suc k) n ≡ c ∷ cs)
 group_front zero n = (n % 128, [], refl)
@@ -32,9 +32,11 @@ groups_value (suc k) n below =
     omega (arith, groups_value k (n / 128) less)
 
 pub leb_spells : (n : ℕ) → n < 2 ^ 34 → SpellsUnsigned n (leb n)
+unfolding leb
 leb_spells n below = (groups_one 4 n, groups_value 4 n (omega arith))
 
 pub leb_spells_signed : (n : ℕ) → n < 2 ^ 34 → SpellsSigned (pos n) (leb n)
+unfolding leb
 leb_spells_signed n below =
     let value = groups_value 4 n (omega arith) in
     (groups_one 4 n, ap (λ (m : ℕ). signed_number 35 m) value ∙ ap (λ (b : Bool). if b then pos n else pos n -ℤ pos (2 ^ 35)) (lt-ltb (2 * n) (2 ^ 35) (omega arith)))

@@ -1,7 +1,8 @@
 -- How long a unit is.
-use Rattle.std.proofs.Common.{◌≡◌, ◌≤◌, ◌<◌, ◌^◌, ℕ, suc, ◌+◌, List, [], ◌∷◌, ◌++◌, map, length, refl, arith, length-append}
+use Rattle.std.proofs.Common.{◌≡◌, ◌≤◌, ℕ, ◌+◌, List, [], ◌∷◌, ◌++◌, length, arith, length-append}
 use Rattle.std.specs.Prelude.{flat_map}
-use Rattle.line_unit.specs.Unit.{Sequence, half, word, numbers, file_entry, header, with_count, program, body, unit}
+use Rattle.written_bytes.specs.Numbers.{half, word}
+use Rattle.line_unit.specs.Unit.{Sequence, numbers, file_entry, header, with_count, program, body, unit}
 
 pub length-counted : (bytes : List ℕ) → length (with_count bytes) ≡ length bytes + 4
 unfolding word
@@ -14,9 +15,6 @@ length-versioned bytes = length-append (half 4) bytes
 pub length-body : (header program : List ℕ) → length (body header program) ≡ 6 + length header + length program
 length-body header program =
     omega (arith, length-versioned (with_count header ++ program), length-append (with_count header) program, length-counted header)
-
-pub body_short : (header program : List ℕ) → length header + length program < 2 ^ 31 → length (body header program) < 2 ^ 32
-body_short header program short = omega (arith, length-body header program)
 
 pub length-unit : (all : List Sequence) → length (unit all) ≡ 10 + length (header all) + length (program 1 all)
 unfolding unit

@@ -1,7 +1,6 @@
 -- By the table of a unit an address has the line of the first sequence that has it.
-use Rattle.std.proofs.Common.{◌≡◌, ◌<◌, ℕ, zero, suc, ◌+◌, Bool, true, false, List, [], ◌∷◌, map, length, Option, Some, None, option_map, option_and_then, find, refl, sym, ap, ◌∙◌, arith, nat_lt, nat_le, ◌==◌, ne_eqb, if◌then◌else◌, length-append}
+use Rattle.std.proofs.Common.{◌≡◌, ◌<◌, ℕ, suc, ◌+◌, Bool, true, false, List, [], ◌∷◌, map, length, Option, Some, None, option_map, option_and_then, find, refl, ap, ◌∙◌, arith, nat_lt, nat_le, ◌==◌, ne_eqb, if◌then◌else◌, length-append}
 use Rattle.std.specs.Prelude.{◌&&◌, ◌/◌, ◌%◌, slice_get}
-use Rattle.std.specs.List.{AllByRecursion}
 use Rattle.std.proofs.lemmas.Bool.{eq-eqb}
 use Rattle.coz_types.specs.declared.image.Area.{Area}
 use Rattle.coz_types.specs.Labels.{is_escaped, escape_of, hex_digit, written}

@@ -1,5 +1,5 @@
 -- The line program goes through the rows of its sequences.
-use Rattle.std.proofs.Common.{◌≡◌, ◌<◌, ◌≤◌, ℕ, zero, suc, ◌+◌, ◌-◌, ◌%◌, ◌^◌, Bool, true, false, List, [], ◌∷◌, ◌++◌, map, length, refl, ap, ap₂, subst, ◌∙◌, sym, arith, append_assoc, lit<, if◌then◌else◌, cond, Option, Some, None, nat_lt}
+use Rattle.std.proofs.Common.{◌≡◌, ◌<◌, ◌≤◌, ℕ, suc, ◌+◌, ◌-◌, ◌^◌, Bool, true, false, List, [], ◌∷◌, ◌++◌, map, length, refl, ap, ap₂, subst, ◌∙◌, sym, arith, append_assoc, lit<, if◌then◌else◌, cond, Option, Some, None, nat_lt}
 use Rattle.std.specs.Prelude.{ℤ, pos, negsuc, ◌+ℤ◌, count_by}
 use Rattle.std.specs.List.{concat, AllByRecursion}
 use Rattle.std.proofs.lemmas.Int.{ints}
@@ -8,9 +8,11 @@ use Rattle.std.proofs.lemmas.List.{append-nil, length-map}
 use Rattle.std.proofs.lemmas.List.Folds.{concat-append}
 use Rattle.std.proofs.lemmas.List.Sums.{sum_by-append}
 use Rattle.dwarf_lines.specs.declared.Row.{Row}
-use Rattle.dwarf_lines.specs.Registers.{File, Header, Operation, Copy, AdvanceLine, SetFile, EndSequence, SetAddress, State, empty_table, state_after, has_line, first_state, file_of as file_by, is_open}
+use Rattle.dwarf_lines.specs.Registers.{File, Header, Operation, Copy, AdvanceLine, SetFile, EndSequence, SetAddress, State, state_after, has_line, file_of as file_by, is_open}
 use Rattle.dwarf_lines.specs.Spelling.{Spells, Goes}
-use Rattle.line_unit.specs.Unit.{Sequence, IsWritable, double, leb, set_address, set_line, end_sequence, spelled, program}
+use Rattle.written_bytes.specs.Numbers.{double, leb}
+use Rattle.written_bytes.specs.Programs.{set_address, set_line, end_sequence}
+use Rattle.line_unit.specs.Unit.{Sequence, IsWritable, spelled, program}
 use Rattle.line_unit.specs.Lines.{file_of, row_at, rows}
 use Rattle.line_unit.proofs.Leb.{leb_spells, leb_spells_signed}
 

@@ -1,19 +1,19 @@
 -- A unit is read as the table of its sequences.
-use Rattle.std.proofs.Common.{◌≡◌, ◌<◌, ◌≤◌, ℕ, zero, suc, ◌+◌, ◌^◌, inl, true, List, [], ◌∷◌, ◌++◌, map, length, refl, ap, subst, ◌∙◌, sym, arith, append_assoc, lit<, not, Result, Ok, Err}
-use Rattle.std.specs.Prelude.{◌==◌, IfOk, flat_map, All}
+use Rattle.std.proofs.Common.{◌≡◌, ◌<◌, ℕ, zero, suc, ◌+◌, ◌^◌, inl, true, List, [], ◌∷◌, ◌++◌, map, length, refl, ap, ◌∙◌, sym, arith, append_assoc, lit<, not}
+use Rattle.std.specs.Prelude.{◌==◌, flat_map, All}
 use Rattle.std.specs.List.{AllByRecursion}
 use Rattle.std.proofs.lemmas.List.{append-nil}
 use Rattle.std.proofs.lemmas.List.Elements.{recursion_from_All}
-use Rattle.dwarf_lines.specs.Registers.{Table, File, empty_table}
+use Rattle.dwarf_lines.specs.Registers.{File, empty_table}
 use Rattle.dwarf_lines.specs.Names.{Strings}
 use Rattle.dwarf_lines.specs.Spelling.{SpellsAll, SpellsHeader, SpellsFile, ReadsUnit, TakesUnit, IsTable}
-use Rattle.dwarf_lines.specs.Reading.{reading}
 use Rattle.dwarf_lines.proofs.UnitsAgain.{reading_again}
-use Rattle.line_unit.specs.Unit.{Sequence, IsWritable, half, word, numbers, file_entry, header, with_count, program, body, unit}
+use Rattle.written_bytes.specs.Numbers.{half, word}
+use Rattle.line_unit.specs.Unit.{Sequence, IsWritable, numbers, file_entry, header, with_count, program, body, unit}
 use Rattle.line_unit.specs.Lines.{file_of, rows, table, GivesLines}
 use Rattle.line_unit.proofs.Lengths.{length-versioned, length-unit, length-counted, few_sequences}
 use Rattle.line_unit.proofs.LineOf.{table_lines}
-use Rattle.line_unit.proofs.LineProgram.{lengths, header_of, between, AreWritable, by_program, rows_closed}
+use Rattle.line_unit.proofs.LineProgram.{header_of, between, AreWritable, by_program, rows_closed}
 
 -- ---- the header
 

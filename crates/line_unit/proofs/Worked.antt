@@ -1,7 +1,8 @@
 -- A unit byte for byte, and the lines that it gives.
-use Rattle.std.proofs.Common.{◌≡◌, ℕ, List, [], ◌∷◌, refl, Some, None}
+use Rattle.std.proofs.Common.{◌≡◌, [], ◌∷◌, refl, Some, None}
 use Rattle.std.specs.Prelude.{codes}
-use Rattle.line_unit.specs.Unit.{Sequence, half, word, double, unit}
+use Rattle.written_bytes.specs.Numbers.{half, word, double, leb}
+use Rattle.line_unit.specs.Unit.{Sequence, unit}
 use Rattle.line_unit.specs.Lines.{first_line}
 
 -- line 7 of `m.c` at four addresses within the function `f`, which is line 1 of its own file
@@ -23,5 +24,5 @@ none_behind = refl
 
 one_unit : unit (function ∷ []) ≡
     69 ∷ 0 ∷ 0 ∷ 0 ∷ 4 ∷ 0 ∷ 25 ∷ 0 ∷ 0 ∷ 0 ∷ 4 ∷ 1 ∷ 1 ∷ 251 ∷ 14 ∷ 13 ∷ 0 ∷ 1 ∷ 1 ∷ 1 ∷ 1 ∷ 0 ∷ 0 ∷ 0 ∷ 1 ∷ 0 ∷ 0 ∷ 1 ∷ 0 ∷ 102 ∷ 0 ∷ 0 ∷ 0 ∷ 0 ∷ 0 ∷ 0 ∷ 9 ∷ 2 ∷ 0 ∷ 0 ∷ 1 ∷ 0 ∷ 0 ∷ 0 ∷ 0 ∷ 0 ∷ 4 ∷ 129 ∷ 128 ∷ 128 ∷ 128 ∷ 0 ∷ 3 ∷ 128 ∷ 128 ∷ 128 ∷ 128 ∷ 0 ∷ 1 ∷ 0 ∷ 9 ∷ 2 ∷ 16 ∷ 0 ∷ 1 ∷ 0 ∷ 0 ∷ 0 ∷ 0 ∷ 0 ∷ 0 ∷ 1 ∷ 1 ∷ []
-unfolding half word double unit
+unfolding half word double leb unit
 one_unit = refl

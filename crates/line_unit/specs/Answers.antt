@@ -1,5 +1,5 @@
 -- When there is no unit.
-use Rattle.std.specs.Prelude.{ℕ, ◌<◌, List, length}
+use Rattle.std.specs.Prelude.{◌<◌, List, length}
 use Rattle.coz_types.specs.declared.TheConstants.{MAX_PROGRAM}
 use Rattle.line_unit.specs.declared.UnitError.{UnitError}
 use Rattle.line_unit.specs.declared.UnitError.TheVariants.{TooLong, Memory}

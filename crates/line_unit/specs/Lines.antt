@@ -1,5 +1,5 @@
 -- The table that a unit is read as, and the lines that addresses have by it.
-use Rattle.std.specs.Prelude.{◌≡◌, ℕ, suc, ◌+◌, Bool, true, false, ◌&&◌, List, [], ◌∷◌, map, find, nat_le, nat_lt, option_map, Option, None, Some, Result, Ok, if◌then◌else◌}
+use Rattle.std.specs.Prelude.{◌≡◌, ℕ, suc, ◌+◌, Bool, true, false, ◌&&◌, List, [], ◌∷◌, map, find, nat_le, nat_lt, option_map, Option, None, Some, Ok, if◌then◌else◌}
 use Rattle.coz_types.specs.declared.image.Area.{Area}
 use Rattle.coz_types.specs.Labels.{written}
 use Rattle.dwarf_lines.specs.declared.Row.{Row}

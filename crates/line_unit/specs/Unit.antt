@@ -1,7 +1,8 @@
 -- A line unit of version 4 in which each sequence is one line (DWARF 4, section 6.2).
-use Rattle.std.specs.Prelude.{◌≡◌, ℕ, zero, suc, ◌+◌, ◌-◌, ◌/◌, ◌%◌, ◌<◌, ◌^◌, ◌==◌, not, List, [], ◌∷◌, ◌++◌, map, flat_map, length}
+use Rattle.std.specs.Prelude.{ℕ, suc, ◌+◌, ◌<◌, ◌^◌, ◌==◌, not, List, [], ◌∷◌, ◌++◌, map, flat_map, length}
 use Rattle.std.specs.List.{AllPass}
-use Rattle.std.specs.Int.{w16, w32, w64, to_le_bytes}
+use Rattle.written_bytes.specs.Numbers.{half, word}
+use Rattle.written_bytes.specs.Programs.{sequence}
 use Rattle.line_unit.specs.declared.Sequence.{Sequence as coded}
 
 -- the addresses from a first one on that have this line, and the path of its file
@@ -26,27 +27,7 @@ pub record IsWritable (s : Sequence) : Type 0 where
   pub small : s.number < 2 ^ 32
   pub within : s.address + s.size < 2 ^ 64
 
--- ---- numbers
-
--- the lowest byte first
-unfoldable pub half : ℕ → List ℕ
-half n = to_le_bytes w16 n
-
-unfoldable pub word : ℕ → List ℕ
-word n = to_le_bytes w32 n
-
-unfoldable pub double : ℕ → List ℕ
-double n = to_le_bytes w64 n
-
--- LEB128 in `count` bytes, padded
-abbrev pub groups : ℕ → ℕ → List ℕ
-groups zero n = []
-groups (suc zero) n = n % 128 ∷ []
-groups (suc (suc k)) n = (n % 128 + 128) ∷ groups (suc k) (n / 128)
-
--- a number below 2^34, with a sign or without
-abbrev pub leb : ℕ → List ℕ
-leb n = groups 5 n
+-- ---- counts
 
 -- the bytes, after their count in four bytes
 abbrev pub with_count : List ℕ → List ℕ
@@ -71,21 +52,9 @@ header all = (numbers ++ 0 ∷ []) ++ (flat_map file_entry all ++ 0 ∷ [])
 
 -- ---- the program (6.2.5)
 
-abbrev pub set_address : ℕ → List ℕ
-set_address a = 0 ∷ 9 ∷ 2 ∷ [] ++ double a
-
-abbrev pub end_sequence : List ℕ
-end_sequence = 0 ∷ 1 ∷ 1 ∷ []
-
--- from the line of this file on, which begins as line 1
-abbrev pub set_line : ℕ → ℕ → List ℕ
-set_line file number = (4 ∷ leb file) ++ ((3 ∷ leb (number - 1)) ++ 1 ∷ [])
-
 -- the sequence whose file has this number
 abbrev pub spelled : ℕ → Sequence → List ℕ
-spelled file s =
-    set_address s.address
-    ++ (set_line file s.number ++ (set_address (s.address + s.size) ++ end_sequence))
+spelled file s = sequence file s.number s.address s.size
 
 -- the sequences whose files have the numbers from this one on
 abbrev pub program : ℕ → List Sequence → List ℕ

@@ -6,7 +6,6 @@
 #![tactic(auto)]
 
 mod header;
-mod numbers;
 mod program;
 
 ghost use Rattle.std.specs.Prelude.{◌≡◌, ◌<◌, ◌≤◌, ◌+◌, ◌^◌, ◌++◌, length, All, IfOk, IfErr};
@@ -19,9 +18,8 @@ ghost use Rattle.line_unit.specs.Unit.{IsWritable, views, body, unit, with_count
 use crate::header::header;
 use crate::program::program;
 use coz_types::{Address, MAX_PROGRAM};
-pub use numbers::{push_double, push_half, push_word};
-pub use program::{END_SEQUENCE, SET_ADDRESS};
 use std::alloc::{AllocError, Global};
+use written_bytes::{push_half, push_word};
 
 /// Consecutive addresses that have one line.
 #[derive(Debug, Drop)]
@@ -53,34 +51,36 @@ impl From<AllocError> for UnitError {
     }
 }
 
-/// The bytes of the version number, and of the two lengths.
+/// The bytes of the version number and of the length of the header.
+const VERSION_AND_LENGTH: usize = 6;
+
+/// The bytes of these and of the length of the unit.
 const COUNTS: usize = 10;
 
 /// The version of the unit.
 const VERSION: u16 = 4;
 
-/// The bytes, after their count in four bytes.
-pub fn counted(alloc: Global, bytes: &[u8]) -> Result<Vec<u8>, AllocError>
+/// Appends the bytes, after their count in four bytes.
+pub fn push_counted(out: &mut Vec<u8>, bytes: &[u8]) -> Result<(), AllocError>
     requires { length bytes.now < 2 ^ 32 }
-    ensures { IfOk result (λ v. v.items ≡ with_count bytes.now) }
+    ensures { IfOk result (λ _. out.new.items ≡ out.old.items ++ with_count bytes.now) }
 {
-    let mut out = Vec::new(alloc);
-    push_word(&mut out, bytes.len() as u32)?;
-    out.extend_from_slice(bytes)?;
-    Ok(out)
+    push_word(out, bytes.len() as u32)?;
+    out.extend_from_slice(bytes)
 }
 
-/// The unit after its length.
-#[tactic(auto, using(crate::proofs::Lengths::body_short))]
-fn body(alloc: Global, header: &[u8], program: &[u8]) -> Result<Vec<u8>, AllocError>
+/// The unit with this header and this program.
+fn unit(alloc: Global, header: &[u8], program: &[u8]) -> Result<Vec<u8>, AllocError>
     requires { length header.now + length program.now < 2 ^ 31 }
-    ensures items { IfOk result (λ v. v.items ≡ body header.now program.now) }
-    ensures short { IfOk result (λ v. length v.items < 2 ^ 32) }
+    ensures { IfOk result (λ v. v.items ≡ with_count (body header.now program.now)) }
 {
-    let header = counted(alloc, header)?;
     let mut out = Vec::new(alloc);
+    push_word(
+        &mut out,
+        (VERSION_AND_LENGTH + header.len() + program.len()) as u32,
+    )?;
     push_half(&mut out, VERSION)?;
-    out.extend_from_slice(&header)?;
+    push_counted(&mut out, header)?;
     out.extend_from_slice(program)?;
     Ok(out)
 }
@@ -104,6 +104,5 @@ pub fn write_unit(alloc: Global, sequences: &[Sequence]) -> Result<Vec<u8>, Unit
     if COUNTS + header.len() + program.len() > MAX_PROGRAM as usize {
         return Err(UnitError::TooLong);
     }
-    let body = body(alloc, &header, &program)?;
-    Ok(counted(alloc, &body)?)
+    Ok(unit(alloc, &header, &program)?)
 }

@@ -1,63 +1,12 @@
 //! The program of the unit (DWARF 4, section 6.2.5).
 
-ghost use Rattle.std.specs.Prelude.{◌≡◌, ◌<◌, ◌+◌, ◌^◌, ◌++◌, ◌∷◌, length, All, IfOk};
+ghost use Rattle.std.specs.Prelude.{◌≡◌, ◌<◌, ◌^◌, length, All, IfOk};
 ghost use Rattle.line_unit.specs.declared.Sequence.{Sequence};
-ghost use Rattle.line_unit.specs.Unit.{IsWritable, view, views, leb, set_address, set_line, spelled, program};
+ghost use Rattle.line_unit.specs.Unit.{IsWritable, views, program};
 
 use crate::Sequence;
-use crate::numbers::{push_double, push_leb};
-use dwarf_lines::codes::{
-    DW_LNE_END_SEQUENCE, DW_LNE_SET_ADDRESS, DW_LNS_ADVANCE_LINE, DW_LNS_COPY, DW_LNS_SET_FILE,
-};
 use std::alloc::{AllocError, Global};
-
-/// The end of a sequence: the extended opcode DW_LNE_end_sequence (DWARF 4, section 6.2.5.3).
-pub const END_SEQUENCE: [u8; 3] = [0, 1, DW_LNE_END_SEQUENCE];
-
-/// The first bytes of the extended opcode DW_LNE_set_address, before the eight of the address
-/// (DWARF 4, section 6.2.5.3).
-pub const SET_ADDRESS: [u8; 3] = [0, 9, DW_LNE_SET_ADDRESS];
-
-/// Appends the opcode that sets the address.
-fn push_address(out: &mut Vec<u8>, address: u64) -> Result<(), AllocError>
-    ensures { IfOk result (λ _. out.new.items ≡ out.old.items ++ set_address address) }
-{
-    out.extend_from_slice(&SET_ADDRESS)?;
-    push_double(out, address)
-}
-
-/// Appends an opcode whose operand is a LEB128 number.
-fn push_operation(out: &mut Vec<u8>, opcode: u8, operand: u64) -> Result<(), AllocError>
-    requires { operand < 2 ^ 34 }
-    ensures { IfOk result (λ _. out.new.items ≡ out.old.items ++ (opcode ∷ leb operand)) }
-{
-    out.push(opcode)?;
-    push_leb(out, operand)
-}
-
-/// Appends the row of a line in a file.
-fn push_line(out: &mut Vec<u8>, file: u64, number: u32) -> Result<(), AllocError>
-    requires file { file < 2 ^ 34 }
-    requires number { 0 < number }
-    ensures { IfOk result (λ _. out.new.items ≡ out.old.items ++ set_line file number) }
-{
-    push_operation(out, DW_LNS_SET_FILE, file)?;
-    push_operation(out, DW_LNS_ADVANCE_LINE, u64::from(number) - 1)?;
-    out.push(DW_LNS_COPY)?;
-    Ok(())
-}
-
-/// Appends a sequence whose file has this number.
-fn push_sequence(out: &mut Vec<u8>, file: u64, sequence: &Sequence) -> Result<(), AllocError>
-    requires file { file < 2 ^ 34 }
-    requires writable { IsWritable (view sequence.now) }
-    ensures { IfOk result (λ _. out.new.items ≡ out.old.items ++ spelled file (view sequence.now)) }
-{
-    push_address(out, sequence.address)?;
-    push_line(out, file, sequence.number)?;
-    push_address(out, sequence.address + sequence.size)?;
-    out.extend_from_slice(&END_SEQUENCE)
-}
+use written_bytes::push_sequence;
 
 /// The program that makes the rows.
 pub fn program(alloc: Global, sequences: &[Sequence]) -> Result<Vec<u8>, AllocError>
@@ -68,7 +17,13 @@ pub fn program(alloc: Global, sequences: &[Sequence]) -> Result<Vec<u8>, AllocEr
     let mut out = Vec::new(alloc);
     let mut file = 1;
     for sequence in sequences {
-        push_sequence(&mut out, file, sequence)?;
+        push_sequence(
+            &mut out,
+            file,
+            sequence.number,
+            sequence.address,
+            sequence.size,
+        )?;
         file += 1;
     }
     Ok(out)

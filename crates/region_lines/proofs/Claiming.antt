@@ -1,24 +1,9 @@
 -- Numbers of lines.
-use Rattle.std.proofs.Common.{◌≡◌, ◌≢◌, ℕ, zero, suc, ◌+◌, ◌^◌, ◌<◌, ◌≤◌, inl, inr, ⊎_elim, true, List, [], ◌∷◌, ◌++◌, length, get_or, Option, Some, None, is_some, refl, sym, ap, ◌∙◌, arith}
+use Rattle.std.proofs.Common.{◌≡◌, ◌≢◌, ℕ, ◌+◌, ◌^◌, ◌<◌, ◌≤◌, inl, inr, ⊎_elim, true, List, length, get_or, Option, Some, None, is_some, refl, sym, ap, ◌∙◌, arith}
 use Rattle.std.proofs.lemmas.Bool.{cases_eq, cases_lt}
-use Rattle.std.proofs.lemmas.List.{get_or-set_same, get_or-set_other, get_or_append_left, get_or_push, length-append, length-set}
+use Rattle.std.proofs.lemmas.List.{get_or-set_same, get_or-set_other, length-set}
 use Rattle.line_index.specs.Changes.{or_else}
 use Rattle.region_lines.specs.Lines.{AreClaims, claimed, number_at}
-
-pub none_pushed : (xs : List (Option ℕ)) → ((k : ℕ) → number_at xs k ≡ None) → (k : ℕ) → number_at (xs ++ None ∷ []) k ≡ None
-none_pushed [] none zero = refl
-none_pushed [] none (suc k) = refl
-none_pushed (x ∷ xs) none zero = none 0
-none_pushed (x ∷ xs) none (suc k) = none_pushed xs (λ j. none (suc j)) k
-
-pub next_pushed : (xs new : List ℕ) (n y : ℕ) → length xs ≡ n → ((k : ℕ) → k < n → get_or xs k 0 ≡ k + 1) → new ≡ xs ++ y ∷ [] → y ≡ n + 1 → (length new ≡ n + 1) × ((k : ℕ) → k < n + 1 → get_or new k 0 ≡ k + 1)
-next_pushed xs new n y many each made is = (
-  ap length made ∙ length-append xs (y ∷ []) ∙ ap (λ (m : ℕ). m + 1) many,
-  λ k lt. ap (λ (ys : List ℕ). get_or ys k 0) made ∙ ⊎_elim (λ less. get_or_append_left xs (y ∷ []) 0 k (omega (arith, less, many)) ∙ each k less) (λ le. here k (omega (arith, lt, le))) (cases_lt k n),
-)
-  where
-    here : (k : ℕ) → k ≡ n → get_or (xs ++ y ∷ []) k 0 ≡ k + 1
-    here k same = get_or_push xs y 0 k (many ∙ sym same) ∙ is ∙ ap (λ (j : ℕ). j + 1) (sym same)
 
 pub first_claims : (numbers : List (Option ℕ)) (next : List ℕ) (count : ℕ) → length numbers ≡ count → count < 2 ^ 32 → length next ≡ count → ((k : ℕ) → k < count → get_or next k 0 ≡ k + 1) → AreClaims numbers next
 first_claims numbers next count many few as_many each = record {

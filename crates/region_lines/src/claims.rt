@@ -31,10 +31,8 @@ fn no_numbers(alloc: Global, count: usize) -> Result<Vec<Option<u32>>, AllocErro
     ensures as_many { IfOk result (λ numbers. length numbers.items ≡ count) }
     ensures none { IfOk result (λ numbers. (k : ℕ) → number_at numbers.items k ≡ None) }
 {
-    let mut numbers = Vec::with_capacity(alloc, count)?;
-    while numbers.len() < count {
-        numbers.push(None)?;
-    }
+    let mut numbers = Vec::new(alloc);
+    numbers.resize(count, None)?;
     Ok(numbers)
 }
 
@@ -45,9 +43,10 @@ fn neighbours(alloc: Global, count: usize) -> Result<Vec<u32>, AllocError>
     ensures next { IfOk result (λ next. (k : ℕ) → k < count
         → slice_index_or next.items k 0 ≡ k + 1) }
 {
-    let mut next = Vec::with_capacity(alloc, count)?;
+    let mut next = Vec::new(alloc);
+    next.resize(count, 0)?;
     for line in 0..count {
-        next.push(line as u32 + 1)?;
+        next[line] = line as u32 + 1;
     }
     Ok(next)
 }

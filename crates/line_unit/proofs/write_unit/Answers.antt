@@ -1,4 +1,4 @@
-use Rattle.std.proofs.Common.{rules, arith, ◌≡◌, ◌<◌, ◌≤◌, ◌+◌, ◌^◌, ℕ, List, length, sym, ap, subst, ◌∙◌}
+use Rattle.std.proofs.Common.{rules, arith, ◌≡◌, ℕ, List, length, sym, ap, subst, ◌∙◌}
 use Rattle.std.proofs.lemmas.List.{length-map}
 use Rattle.line_unit.specs.Unit.{Sequence, view, views, unit, header, program, body, with_count}
 use Rattle.line_unit.specs.Lines.{GivesLines}
@@ -25,14 +25,14 @@ returns-then-len-2-clause-too_long c =
     let longer : c.len-3.result ≡ length c.in_ok-program.program.items = search rules in
     omega (arith, long, longer, c.if-len-2.true, ap (λ (xs : List ℕ). length xs) c.in_ok-header.ensures, ap (λ (xs : List ℕ). length xs) c.in_ok-program.ensures, length-unit all)
 
-is_unit : (header_bytes program_bytes body_bytes out : List ℕ) (all : List Sequence) → header_bytes ≡ header all → program_bytes ≡ program 1 all → body_bytes ≡ body header_bytes program_bytes → out ≡ with_count body_bytes → out ≡ unit all
+is_unit : (header_bytes program_bytes out : List ℕ) (all : List Sequence) → header_bytes ≡ header all → program_bytes ≡ program 1 all → out ≡ with_count (body header_bytes program_bytes) → out ≡ unit all
 unfolding unit
-is_unit header_bytes program_bytes body_bytes out all h p b o = o ∙ ap with_count (b ∙ (ap (λ (x : List ℕ). body x program_bytes) h ∙ ap (λ (x : List ℕ). body (header all) x) p))
+is_unit header_bytes program_bytes out all h p o = o ∙ ap with_count (ap (λ (x : List ℕ). body x program_bytes) h ∙ ap (λ (x : List ℕ). body (header all) x) p)
 
 pub returns-clause-bytes : goal.returns-clause-bytes
 returns-clause-bytes c =
-    is_unit c.deref.result.now c.deref-2.result.now c.deref-3.result.now c.in_ok-counted.field-0.items (views c.args.sequences.now)
-    (c.deref.ensures.value ∙ c.in_ok-header.ensures) (c.deref-2.ensures.value ∙ c.in_ok-program.ensures) (c.deref-3.ensures.value ∙ c.in_ok-body.ensures.items) c.in_ok-counted.ensures
+    is_unit c.deref.result.now c.deref-2.result.now c.in_ok-unit.field-0.items (views c.args.sequences.now)
+    (c.deref.ensures.value ∙ c.in_ok-header.ensures) (c.deref-2.ensures.value ∙ c.in_ok-program.ensures) c.in_ok-unit.ensures
 
 pub returns-clause-short : goal.returns-clause-short
 returns-clause-short c =

@@ -1,4 +1,4 @@
-use Rattle.std.proofs.Common.{◌≡◌, ◌<◌, ℕ, zero, suc, ◌+◌, List, [], ◌∷◌, ◌++◌, length, drop, get_or, refl, sym, ap, subst, ◌∙◌, arith, append_assoc}
+use Rattle.std.proofs.Common.{◌≡◌, ◌<◌, ℕ, zero, suc, ◌+◌, List, [], ◌∷◌, ◌++◌, length, drop, get_or, sym, ap, subst, ◌∙◌, arith, append_assoc}
 use Rattle.std.specs.List.{AllByRecursion}
 use Rattle.std.proofs.Math.Seq.{drop-cons}
 use Rattle.std.proofs.lemmas.List.Elements.{recursion_from_All}
@@ -11,9 +11,13 @@ writable_at [] i x all within is = absurd (omega arith)
 writable_at (y ∷ ys) zero x all within is = subst (λ (z : coded). IsWritable (view z)) (sym is) all.0
 writable_at (y ∷ ys) (suc i) x all within is = writable_at ys i x all.1 (omega arith) is
 
-pub push_sequence-requires-clause-writable : goal.push_sequence-requires-clause-writable
-push_sequence-requires-clause-writable c =
-    writable_at c.args.sequences.now c.loop-sequence.sequence-index c.sequence-item.result (recursion_from_All IsWritable (views c.args.sequences.now) c.requires.writable) c.loop-sequence-test.true c.sequence-item.is
+pub push_sequence-requires-clause-number : goal.push_sequence-requires-clause-number
+push_sequence-requires-clause-number c =
+    (writable_at c.args.sequences.now c.loop-sequence.sequence-index c.sequence-item.result (recursion_from_All IsWritable (views c.args.sequences.now) c.requires.writable) c.loop-sequence-test.true c.sequence-item.is).numbered
+
+pub push_sequence-requires-clause-within : goal.push_sequence-requires-clause-within
+push_sequence-requires-clause-within c =
+    (writable_at c.args.sequences.now c.loop-sequence.sequence-index c.sequence-item.result (recursion_from_All IsWritable (views c.args.sequences.now) c.requires.writable) c.loop-sequence-test.true c.sequence-item.is).within
 
 one_more : (xs : List coded) (i file next : ℕ) (x : coded) (out new all : List ℕ) → i < length xs → x ≡ get_or xs i x → next ≡ suc file → out ++ program file (views (drop i xs)) ≡ all → new ≡ out ++ spelled file (view x) → new ++ program next (views (drop (suc i) xs)) ≡ all
 one_more xs i file next x out new all within is after before made =

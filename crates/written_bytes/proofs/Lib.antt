@@ -1,0 +1,2 @@
+mod Appends
+pub mod Groups
