@@ -1,11 +1,13 @@
 //! Tests of `causal_curves`.
+use crate::checks::check_equal;
 use causal_curves::{curves, write_curves};
 use coz_files::{MemorySink, PutAnswer};
 use profile_reader::read_profile;
+use std::alloc::{AllocError, Global};
 use std::test::Fail;
 
-// Two points and four lines: visits that fail at the second point, a time that falls by less
-// than a ten thousandth, no run at speedup 0, and no net time there.
+/// Two points and four lines: no visits of the second point at a speedup, a time that changes by
+/// less than a ten thousandth, no run at speedup 0, and no net time there.
 const PROFILE: &[u8] = b"coz-ticks\tversion=1\tbudget=1000\tpoints=2\n\
 point\tindex=0\tname=p.s:1\n\
 point\tindex=1\tname=p.s:2\n\
@@ -82,14 +84,22 @@ curve\tpoint=1\tselected=d.s:1\tgain=absent\n\
 step\tspeedup=0\tvalue=absent\tbar=\n\
 step\tspeedup=50\tvalue=absent\tbar=\n";
 
-#[test]
-fn curves_are_drawn_by_rank(rt: HostRuntime) -> Result<(), Fail> {
-    let mut out = MemorySink::new(rt.alloc(), 4096, Vec::new(rt.alloc()))?;
-    let mut answer = PutAnswer::Failed;
-    if let Ok(profile) = read_profile(rt.alloc(), PROFILE) {
-        let curves = curves(rt.alloc(), &profile)?;
-        answer = write_curves(curves.as_slice(), &mut out);
+fn put_curves(alloc: Global, sink: &mut MemorySink) -> Result<PutAnswer, AllocError> {
+    match read_profile(alloc, PROFILE) {
+        Ok(profile) => {
+            let curves = curves(alloc, &profile);
+            drop(profile);
+            Ok(write_curves(curves?.as_slice(), sink))
+        }
+        Err(_) => Ok(PutAnswer::Failed),
     }
-    assert!(rt; answer == PutAnswer::Done && out.held() == CURVES);
+}
+
+#[test]
+fn curves_are_put_by_rank(rt: HostRuntime) -> Result<(), Fail> {
+    let mut sink = MemorySink::new(rt.alloc(), 4096, Vec::new(rt.alloc()))?;
+    let answer = put_curves(rt.alloc(), &mut sink)?;
+    check_equal(&rt, (answer, sink.held()), (PutAnswer::Done, CURVES));
+    drop(sink);
     Ok(())
 }

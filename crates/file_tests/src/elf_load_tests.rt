@@ -1,6 +1,7 @@
 //! Tests of `elf_load`.
 ghost use Rattle.std.specs.Prelude.{◌≤◌};
 
+use crate::checks::check_equal;
 use coz_types::{Area, Rights};
 use elf_load::ElfKind::*;
 use elf_load::codes::{
@@ -18,7 +19,7 @@ type Change = (usize, &'static [u8]);
 
 const ONES: [u8; 8] = [255; 8];
 
-// Fields that nothing reads: of the file's header, of a program header and of a section header.
+// Fields that nothing reads, of the header of the file and of a program header.
 const EI_VERSION: usize = 6;
 
 const E_VERSION: usize = 20;
@@ -50,8 +51,8 @@ const LINES_HEADER: usize = 4408;
 
 const NAMES_HEADER: usize = 4472;
 
-// What isn't zero in a file of 4,536 bytes: three instructions at 0x10000, four sections. Numbers
-// have their lowest byte first.
+/// The good file: what is not zero in 4,536 bytes, which are three instructions at 0x10000 and four
+/// sections. The lowest byte of a number is first.
 static GOOD: [Change; 44] = [
     (0, b"\x7FELF"),
     (EI_CLASS, &[ELFCLASS64]),
@@ -121,24 +122,29 @@ fn put(file: &mut [u8], place: usize, bytes: &[u8]) {
     }
 }
 
+fn put_each(file: &mut [u8], changes: &[Change]) {
+    for &(place, bytes) in changes {
+        put(file, place, bytes);
+    }
+}
+
 /// The good file with these changes.
-fn changed(alloc: Global, changes: &[Change]) -> Result<Vec<u8>, AllocError> {
-    let mut file = vec![in alloc; 0u8; 4536]?;
-    for &(place, bytes) in &GOOD {
-        put(&mut file, place, bytes);
-    }
-    for (place, bytes) in changes {
-        put(&mut file, *place, bytes);
-    }
-    Ok(file)
+fn changed(changes: &[Change]) -> [u8; 4536] {
+    let mut file = [0; 4536];
+    put_each(&mut file, &GOOD);
+    put_each(&mut file, changes);
+    file
 }
 
 fn fault_of(alloc: Global, file: &[u8]) -> Option<LoadError> {
     load(alloc, file).err()
 }
 
-fn fault(kind: ElfKind, place: u64) -> Option<LoadError> {
-    Some(LoadError::Fault(ElfFault { kind, place }))
+fn fault(kind: ElfKind, place: usize) -> Option<LoadError> {
+    Some(LoadError::Fault(ElfFault {
+        kind,
+        place: place as u64,
+    }))
 }
 
 /// Changes of the good file, and the fault that they make, with its offset.
@@ -191,7 +197,7 @@ static HEADERS: [Fault; 22] = [
         PackedLines,
         LINES_HEADER,
     ),
-    // The name counts, though a NOBITS section can't be found by it.
+    // The name counts, though a NOBITS section is not found by it.
     (
         &[
             (LINES_HEADER + SH_TYPE, &[8]),
@@ -200,7 +206,7 @@ static HEADERS: [Fault; 22] = [
         PackedLines,
         LINES_HEADER,
     ),
-    // The two sections of texts.
+    // The two sections of strings.
     (
         &[
             (NAME_OF_LINES, b".debug_str\0"),
@@ -271,8 +277,9 @@ static SEGMENTS: [Fault; 12] = [
     ),
 ];
 
-/// Two faults: the earlier row counts, then the earlier entry.
-static TWICE: [Fault; 6] = [
+/// Two faults, of which the one of the earlier row of `ElfKind` counts, and else the one of the
+/// earlier entry.
+static TWO_FAULTS: [Fault; 6] = [
     (
         &[(E_FLAGS, &[1]), (FIRST_HEADER + P_FLAGS, &[7])],
         Compressed,
@@ -320,39 +327,36 @@ static TWICE: [Fault; 6] = [
     ),
 ];
 
-/// Each of these changes makes its fault.
-fn check_faults(rt: &impl Abort, alloc: Global, rows: &[Fault]) -> Result<(), AllocError> {
-    for &(changes, kind, place) in rows {
-        let file = changed(alloc, changes)?;
-        assert_eq!(rt; fault_of(alloc, &file), fault(kind, place as u64));
+fn check_faults(rt: &impl Abort, alloc: Global, rows: &[Fault]) {
+    for (row, &(changes, kind, place)) in rows.iter().enumerate() {
+        let found = fault_of(alloc, &changed(changes));
+        check_equal(rt, (row, found), (row, fault(kind, place)));
     }
-    Ok(())
 }
 
 #[test]
-fn each_fault_has_its_place(rt: HostRuntime) -> Result<(), Fail> {
-    check_faults(&rt, rt.alloc(), &HEADERS)?;
-    check_faults(&rt, rt.alloc(), &SEGMENTS)?;
-    check_faults(&rt, rt.alloc(), &TWICE)?;
-    Ok(())
+fn wrong_files_have_their_fault_and_its_offset(rt: HostRuntime) {
+    check_faults(&rt, rt.alloc(), &HEADERS);
+    check_faults(&rt, rt.alloc(), &SEGMENTS);
+    check_faults(&rt, rt.alloc(), &TWO_FAULTS);
 }
 
 /// The fault of the good file that is cut to that length.
 fn fault_of_cut(len: usize) -> Option<LoadError> {
     match len {
-        0..64 => fault(NotElf, len as u64),
-        64..120 => fault(HeaderOut, E_PHOFF as u64),
-        _ => fault(HeaderOut, E_SHOFF as u64),
+        0..64 => fault(NotElf, len),
+        64..120 => fault(HeaderOut, E_PHOFF),
+        _ => fault(HeaderOut, E_SHOFF),
     }
 }
 
 #[test]
-fn a_file_that_is_cut_has_a_fault(rt: HostRuntime) -> Result<(), Fail> {
-    let file = changed(rt.alloc(), &[])?;
-    for len in 0..file.len() {
-        assert_eq!(rt; fault_of(rt.alloc(), &file[..len]), fault_of_cut(len));
+fn a_file_that_is_cut_has_a_fault(rt: HostRuntime) {
+    let file = changed(&[]);
+    for len in 0..4536usize {
+        let found = fault_of(rt.alloc(), &file[..len]);
+        check_equal(&rt, (len, found), (len, fault_of_cut(len)));
     }
-    Ok(())
 }
 
 /// Puts a PT_LOAD with PF_R and PF_X at an offset, with one byte of memory at this address.
@@ -390,20 +394,17 @@ fn many_headers(alloc: Global) -> Result<Vec<u8>, AllocError> {
 }
 
 #[test]
-fn many_headers_have_their_fault(rt: HostRuntime) -> Result<(), Fail> {
-    let mut many = many_headers(rt.alloc())?;
-    assert_eq!(rt;
-        fault_of(rt.alloc(), &many),
-        fault(TooMuch, 64 + 56 * 16384)
-    );
-    put(
-        &mut many,
-        64 + 56 * 65533 + P_VADDR,
-        &0x1000_0000u64.to_le_bytes(),
-    );
-    assert_eq!(rt;
-        fault_of(rt.alloc(), &many),
-        fault(SharedPage, 64 + 56 * 65533)
+fn a_fault_among_65534_program_headers_has_its_offset(rt: HostRuntime) -> Result<(), Fail> {
+    let mut file = many_headers(rt.alloc())?;
+    let too_much = fault_of(rt.alloc(), &file);
+    let last = FIRST_HEADER + PHDR_SIZE * 65533;
+    put(&mut file, last + P_VADDR, &0x1000_0000u64.to_le_bytes());
+    let shared = fault_of(rt.alloc(), &file);
+    let place = FIRST_HEADER + PHDR_SIZE * 16384;
+    check_equal(
+        &rt,
+        (too_much, shared),
+        (fault(TooMuch, place), fault(SharedPage, last)),
     );
     Ok(())
 }
@@ -482,7 +483,7 @@ static LOADED: [Loaded; 8] = [
         0x10040,
         66,
     ),
-    // No bytes run past nothing, wherever they are.
+    // No bytes of a file are within it, wherever they begin.
     (
         &[
             (E_PHNUM, &[2]),
@@ -498,30 +499,38 @@ static LOADED: [Loaded; 8] = [
     ),
     (&[(E_SHOFF, &ONES), (E_SHNUM, &[0])], &[FIRST], 0, 0),
     (&[(DATA_HEADER + SH_OFFSET, &ONES)], &[FIRST], 0, 66),
-    // A name that runs past the names is none.
+    // A name that has no end is none.
     (&[(LINES_HEADER + SH_NAME, &[34])], &[FIRST], 0, 0),
 ];
 
-/// How many bytes of lines a file has.
-fn lines_in(alloc: Global, file: &[u8]) -> Result<usize, LoadError> {
-    let image = load(alloc, file)?;
-    Ok(section(&image, b".debug_line").map_or(0, |bytes| bytes.len()))
+fn check_image(rt: &impl Abort, alloc: Global, row: &Loaded) -> Result<(), LoadError> {
+    let &(changes, areas, headers, lines) = row;
+    let file = changed(changes);
+    let image = load(alloc, &file)?;
+    let found = match section(&image, b".debug_line") {
+        Some(bytes) => bytes.len(),
+        None => 0,
+    };
+    check_equal(
+        rt,
+        (image.areas(), image.entry(), image.headers(), found),
+        (areas, 0x10000, headers, lines),
+    );
+    drop(image);
+    Ok(())
 }
 
 #[test]
-fn right_files_are_loaded(rt: HostRuntime) -> Result<(), Fail> {
-    for &(changes, areas, headers, lines) in &LOADED {
-        let file = changed(rt.alloc(), changes)?;
-        let image = load(rt.alloc(), &file).ok().ok_or("a fault")?;
-        assert_eq!(rt; image.areas(), areas);
-        let parts = (image.entry(), image.headers(), lines_in(rt.alloc(), &file));
-        assert_eq!(rt; parts, (0x10000, headers, Ok(lines)));
+fn files_without_a_fault_are_loaded(rt: HostRuntime) -> Result<(), Fail> {
+    for row in &LOADED {
+        check_image(&rt, rt.alloc(), row)?;
     }
     Ok(())
 }
 
-/// Names, and where the bytes of the section of that name begin and end in the good file.
-static FOUND: [(&str, Option<(usize, usize)>); 7] = [
+/// A name, and the offsets of the first byte and after the last byte of the section of that name
+/// in the good file.
+static SECTIONS: [(&str, Option<(usize, usize)>); 7] = [
     (".text", Some((4096, 4108))),
     (".data", Some((4108, 4108))),
     ("", None),
@@ -531,27 +540,18 @@ static FOUND: [(&str, Option<(usize, usize)>); 7] = [
     (".bss", None),
 ];
 
-/// Whether the section of that name has the bytes between these places of the file.
-fn is_section(
-    alloc: Global,
-    file: &[u8],
-    name: &str,
-    places: Option<(usize, usize)>,
-) -> Result<bool, LoadError> {
-    let image = load(alloc, file)?;
-    let wanted = places.and_then(|(start, end)| file.get(start..end));
-    Ok(section(&image, name.as_bytes()) == wanted)
-}
-
 #[test]
-fn sections_are_found_by_name(rt: HostRuntime) -> Result<(), Fail> {
-    let file = changed(rt.alloc(), &[])?;
-    for &(name, places) in &FOUND {
-        assert_eq!(rt;
-            is_section(rt.alloc(), &file, name, places),
-            Ok(true),
-            "{name}"
-        );
+fn sections_are_found_by_their_names(rt: HostRuntime) -> Result<(), Fail> {
+    let file = changed(&[]);
+    let image = load(rt.alloc(), &file)?;
+    for &(name, places) in &SECTIONS {
+        let expected = match places {
+            Some((start, end)) => file.get(start..end),
+            None => None,
+        };
+        let found = section(&image, name.as_bytes());
+        check_equal(&rt, (name, found), (name, expected));
     }
+    drop(image);
     Ok(())
 }

@@ -1,12 +1,13 @@
 //! Tests of `leb_cursor`.
+use crate::checks::check_equal;
 use leb_cursor::{Cursor, LebFault, Short};
 
 const SHORT: LebFault = LebFault::Short(Short { place: 0 });
 
 const WIDE: LebFault = LebFault::Wide { place: 0 };
 
-// Bytes, the number that they begin with, and the cursor's place after: the standard's examples,
-// padded ones, and the edges of 64 bits.
+/// Bytes, the number that they begin with, and the place of the cursor after it: the examples of the
+/// DWARF standard, padded ones, and the edges of 64 bits.
 static UNSIGNED: [(&[u8], Result<u64, LebFault>, u64); 13] = [
     (b"\x02", Ok(2), 1),
     (b"\x7F", Ok(127), 1),
@@ -63,72 +64,58 @@ static SIGNED: [(&[u8], Result<i64, LebFault>, u64); 16] = [
 ];
 
 #[test]
-fn unsigned_numbers_are_read(rt: HostRuntime) {
-    for &(bytes, want, place) in &UNSIGNED {
+fn unsigned_and_signed_numbers_are_read(rt: HostRuntime) {
+    for &(bytes, number, place) in &UNSIGNED {
         let mut cursor = Cursor::new(bytes);
-        let read = (cursor.uleb(), cursor.place());
-        assert_eq!(rt; read, (want, place), "{bytes:?}");
+        let found = (bytes, cursor.uleb(), cursor.place());
+        check_equal(&rt, found, (bytes, number, place));
+    }
+    for &(bytes, number, place) in &SIGNED {
+        let mut cursor = Cursor::new(bytes);
+        let found = (bytes, cursor.sleb(), cursor.place());
+        check_equal(&rt, found, (bytes, number, place));
     }
 }
 
-#[test]
-fn signed_numbers_are_read(rt: HostRuntime) {
-    for &(bytes, want, place) in &SIGNED {
-        let mut cursor = Cursor::new(bytes);
-        let read = (cursor.sleb(), cursor.place());
-        assert_eq!(rt; read, (want, place), "{bytes:?}");
-    }
-}
-
-/// Numbers of 1, 2, 4 and 8 bytes, two texts from 15 on, two bytes, and from 22 on a part
-/// and one byte more.
+/// Numbers of 1, 2, 4 and 8 bytes, two texts from offset 15 on, two bytes, and from offset 22 on a
+/// part and one byte more.
 const FIELDS: &[u8] = b"\x01\x02\x03\x04\x05\x06\x07\x08\x09\x0A\x0B\x0C\x0D\x0E\x0Fa.s\0\0??tail";
 
-/// A cursor at that place of the fields.
-fn cursor_at(place: u64) -> Cursor<'static> {
+#[test]
+fn the_fields_after_each_other_are_read(rt: HostRuntime) {
     let mut cursor = Cursor::new(FIELDS);
-    let _passed = cursor.skip(place);
-    cursor
-}
-
-#[test]
-fn numbers_follow_each_other(rt: HostRuntime) {
-    let mut cursor = cursor_at(0);
-    let low = (cursor.byte(), cursor.half(), cursor.word());
-    let high = (cursor.double(), cursor.place());
-    let want = (Ok(0x01), Ok(0x0302), Ok(0x07060504));
-    assert_eq!(rt; (low, high), (want, (Ok(0x0F0E0D0C0B0A0908), 15)));
-}
-
-#[test]
-fn texts_follow_each_other(rt: HostRuntime) {
-    let mut cursor = cursor_at(15);
-    let texts = (cursor.text(), cursor.text());
-    let passed = (cursor.skip(2), cursor.place());
-    let want = (Ok(b"a.s".as_slice()), Ok(b"".as_slice()));
-    assert_eq!(rt; (texts, passed), (want, (Ok(()), 22)));
-}
-
-#[test]
-fn a_part_goes_on_counting_places(rt: HostRuntime) {
-    let mut cursor = cursor_at(22);
+    let found = (cursor.byte(), cursor.half(), cursor.word(), cursor.double());
+    let expected = (
+        Ok(0x01),
+        Ok(0x0302),
+        Ok(0x0706_0504),
+        Ok(0x0F0E_0D0C_0B0A_0908),
+    );
+    check_equal(&rt, (found, cursor.place()), (expected, 15));
+    let found = (cursor.text(), cursor.text(), cursor.skip(2));
+    let expected = (Ok(b"a.s".as_slice()), Ok(b"".as_slice()), Ok(()));
+    check_equal(&rt, (found, cursor.place()), (expected, 22));
     if let Ok(mut part) = cursor.part(3) {
-        let read = (part.place(), part.half(), part.half(), part.left());
+        let found = (part.place(), part.half(), part.half(), part.left());
         let short = Err(Short { place: 24 });
-        assert_eq!(rt; read, (22, Ok(0x6174), short, 1));
+        check_equal(&rt, found, (22, Ok(0x6174), short, 1));
     }
-    assert_eq!(rt; cursor.place(), 25);
+    check_equal(&rt, cursor.place(), 25);
 }
 
 #[test]
-fn a_field_past_the_end_leaves_the_cursor(rt: HostRuntime) {
-    let mut cursor = cursor_at(25);
-    let here = Short { place: 25 };
-    let numbers = (cursor.word(), cursor.double(), cursor.text());
-    assert_eq!(rt; numbers, (Err(here), Err(here), Err(here)));
-    let passed = (cursor.skip(2), cursor.skip(u64::MAX));
-    let part = cursor.part(2).is_ok();
-    assert_eq!(rt; (passed, part), ((Err(here), Err(here)), false));
-    let last = (cursor.left(), cursor.byte(), cursor.byte());
-    assert_eq!(rt; last, (1, Ok(b'l'), Err(Short { place: 26 })));
+fn a_field_that_is_short_leaves_the_cursor_where_it_is(rt: HostRuntime) {
+    let mut cursor = Cursor::new(FIELDS);
+    let _skipped = cursor.skip(25);
+    let short = Short { place: 25 };
+    let found = (cursor.word(), cursor.double(), cursor.text());
+    check_equal(&rt, found, (Err(short), Err(short), Err(short)));
+    let found = (
+        cursor.skip(2),
+        cursor.skip(u64::MAX),
+        cursor.part(2).is_ok(),
+    );
+    check_equal(&rt, found, (Err(short), Err(short), false));
+    let found = (cursor.left(), cursor.byte(), cursor.byte());
+    check_equal(&rt, found, (1, Ok(b'l'), Err(Short { place: 26 })));
 }

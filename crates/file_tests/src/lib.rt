@@ -3,7 +3,11 @@
 #![tactic(auto)]
 
 #[cfg(test)]
+mod buffer;
+#[cfg(test)]
 mod causal_curves_tests;
+#[cfg(test)]
+mod checks;
 #[cfg(test)]
 mod coz_types_tests;
 #[cfg(test)]

@@ -1,11 +1,13 @@
-//! Tests of line tables whose files are named by entries of described formats,
-//! and in sections of texts.
+//! Tests of `dwarf_lines`: units of version 5, whose files are named by entries of formats that the
+//! unit describes, and in sections of strings.
 ghost use Rattle.std.specs.Prelude.{◌≤◌, length};
 
-use crate::dwarf_lines_tests::FOUR_ROWS;
-use dwarf_lines::{FileName, LineError, LineFault, LineKind, LineTable, Row, read_lines};
+use crate::buffer::Buffer;
+use crate::checks::check_equal;
+use crate::dwarf_lines_tests::{FOUR_ROWS, check_files, fault};
+use dwarf_lines::{LineError, LineKind, LineTable, read_lines};
 use std::alloc::Global;
-use std::test::Fail;
+use std::process::Abort;
 
 /// A unit of version 5: the directory `.`, twice the file `one.s`, of which the rows have
 /// the second. Its program begins at 56. llvm-dwarfdump prints its rows.
@@ -89,10 +91,10 @@ const END_SEQUENCE: u8 = 1;
 
 const DEFINE_FILE: u8 = 3;
 
-/// The general section of texts; its last text has no end.
+/// The bytes of `.debug_str`, whose last string has no end.
 const GENERAL: &[u8] = b"xy\0z";
 
-/// The section of lines' texts.
+/// The bytes of `.debug_line_str`.
 const LINE: &[u8] = b"l\0";
 
 /// No directories.
@@ -101,14 +103,14 @@ const NONE: &[u8] = &[0, 0];
 /// The directories `.` and `d`, each a path, which is a string.
 const TWO: &[u8] = b"\x01\x01\x08\x02.\0d\0";
 
-/// How a section is made.
-enum Made {
-    /// The unit, cut to each length from the first to the last of these,
-    /// and its first byte adjusted.
+/// A section. The unit is `FIVE`.
+enum Section {
+    /// The unit cut to each length from the first to the last of these, with a unit_length of what
+    /// is left.
     Cut(usize, usize),
     /// The unit with a byte set.
     Set(usize, u8),
-    /// A unit without a program. From offset 18 on its header has these bytes: the formats of
+    /// A unit without a program, whose header has these bytes from offset 18 on: the formats of
     /// directories and the directories; the formats of files; and the files. Each list stands
     /// after its count.
     Names(&'static [u8], &'static [u8], &'static [u8]),
@@ -119,390 +121,394 @@ enum Made {
 }
 
 /// What a section is read as.
-enum Wanted {
+enum Expected {
+    /// A fault and its offset.
     Fault(LineKind, u64),
-    /// The directory and name of each file, the file and line of each row,
-    /// and how many units were passed over.
+    /// The directory and the name of each file, the file and the line of each row, and how many
+    /// units are skipped.
     Table(&'static [(&'static [u8], &'static [u8])], &'static [(Option<u32>, u32)], u32),
 }
 
-static CASES: [(Made, Wanted); 88] = [
-    (Made::Cut(4, 5), Wanted::Fault(LineKind::Short, 4)),
-    (Made::Cut(6, 6), Wanted::Fault(LineKind::Short, 6)),
-    (Made::Cut(7, 7), Wanted::Fault(LineKind::Short, 7)),
-    (Made::Cut(8, 55), Wanted::Fault(LineKind::Short, 8)),
+static CASES: [(Section, Expected); 88] = [
+    (Section::Cut(4, 5), Expected::Fault(LineKind::Short, 4)),
+    (Section::Cut(6, 6), Expected::Fault(LineKind::Short, 6)),
+    (Section::Cut(7, 7), Expected::Fault(LineKind::Short, 7)),
+    (Section::Cut(8, 55), Expected::Fault(LineKind::Short, 8)),
     (
-        Made::Cut(56, 56),
-        Wanted::Table(&[(b"", b"one.s"), (b"", b"one.s")], &[], 0),
+        Section::Cut(56, 56),
+        Expected::Table(&[(b"", b"one.s"), (b"", b"one.s")], &[], 0),
     ),
-    (Made::Cut(57, 57), Wanted::Fault(LineKind::Short, 57)),
-    (Made::Cut(58, 66), Wanted::Fault(LineKind::Short, 58)),
+    (Section::Cut(57, 57), Expected::Fault(LineKind::Short, 57)),
+    (Section::Cut(58, 66), Expected::Fault(LineKind::Short, 58)),
     (
-        Made::Cut(67, 67),
-        Wanted::Table(&[(b"", b"one.s"), (b"", b"one.s")], &[], 0),
+        Section::Cut(67, 67),
+        Expected::Table(&[(b"", b"one.s"), (b"", b"one.s")], &[], 0),
     ),
-    (Made::Cut(68, 68), Wanted::Fault(LineKind::Unended, 68)),
-    (Made::Cut(69, 69), Wanted::Fault(LineKind::Short, 69)),
-    (Made::Cut(70, 70), Wanted::Fault(LineKind::Unended, 70)),
-    (Made::Cut(71, 71), Wanted::Fault(LineKind::Short, 71)),
-    (Made::Cut(72, 72), Wanted::Fault(LineKind::Unended, 72)),
-    (Made::Cut(73, 73), Wanted::Fault(LineKind::Unended, 73)),
-    (Made::Cut(74, 74), Wanted::Fault(LineKind::Short, 74)),
-    (Made::Cut(75, 75), Wanted::Fault(LineKind::Unended, 75)),
-    (Made::Cut(76, 76), Wanted::Fault(LineKind::Short, 76)),
-    (Made::Cut(77, 77), Wanted::Fault(LineKind::Unended, 77)),
-    (Made::Cut(78, 78), Wanted::Fault(LineKind::Unended, 78)),
-    (Made::Cut(79, 79), Wanted::Fault(LineKind::Short, 79)),
-    (Made::Cut(80, 80), Wanted::Fault(LineKind::Unended, 80)),
-    (Made::Cut(81, 81), Wanted::Fault(LineKind::Short, 81)),
-    (Made::Cut(82, 82), Wanted::Fault(LineKind::Short, 82)),
+    (Section::Cut(68, 68), Expected::Fault(LineKind::Unended, 68)),
+    (Section::Cut(69, 69), Expected::Fault(LineKind::Short, 69)),
+    (Section::Cut(70, 70), Expected::Fault(LineKind::Unended, 70)),
+    (Section::Cut(71, 71), Expected::Fault(LineKind::Short, 71)),
+    (Section::Cut(72, 72), Expected::Fault(LineKind::Unended, 72)),
+    (Section::Cut(73, 73), Expected::Fault(LineKind::Unended, 73)),
+    (Section::Cut(74, 74), Expected::Fault(LineKind::Short, 74)),
+    (Section::Cut(75, 75), Expected::Fault(LineKind::Unended, 75)),
+    (Section::Cut(76, 76), Expected::Fault(LineKind::Short, 76)),
+    (Section::Cut(77, 77), Expected::Fault(LineKind::Unended, 77)),
+    (Section::Cut(78, 78), Expected::Fault(LineKind::Unended, 78)),
+    (Section::Cut(79, 79), Expected::Fault(LineKind::Short, 79)),
+    (Section::Cut(80, 80), Expected::Fault(LineKind::Unended, 80)),
+    (Section::Cut(81, 81), Expected::Fault(LineKind::Short, 81)),
+    (Section::Cut(82, 82), Expected::Fault(LineKind::Short, 82)),
     // The unit whole, and with a byte set.
     (
-        Made::Cut(83, 83),
-        Wanted::Table(
+        Section::Cut(83, 83),
+        Expected::Table(
             &[(b"", b"one.s"), (b"", b"one.s")],
             &[(Some(1), 1), (Some(1), 2), (Some(1), 3), (Some(1), 3)],
             0,
         ),
     ),
     (
-        Made::Set(ADDRESS_SIZE, 4),
-        Wanted::Fault(LineKind::AddressSize, 6),
+        Section::Set(ADDRESS_SIZE, 4),
+        Expected::Fault(LineKind::AddressSize, 6),
     ),
     (
-        Made::Set(SEGMENT_SELECTOR_SIZE, 1),
-        Wanted::Fault(LineKind::SegmentSize, 7),
+        Section::Set(SEGMENT_SELECTOR_SIZE, 1),
+        Expected::Fault(LineKind::SegmentSize, 7),
     ),
     (
-        Made::Set(DIRECTORY_FORM, STRX),
-        Wanted::Fault(LineKind::FormOut, 32),
+        Section::Set(DIRECTORY_FORM, STRX),
+        Expected::Fault(LineKind::FormOut, 32),
     ),
     (
-        Made::Set(DIRECTORY_FORM, STRP),
-        Wanted::Fault(LineKind::TextOut, 34),
+        Section::Set(DIRECTORY_FORM, STRP),
+        Expected::Fault(LineKind::TextOut, 34),
     ),
     (
-        Made::Set(DIRECTORY_FORM, LINE_STRP),
-        Wanted::Fault(LineKind::TextOut, 34),
+        Section::Set(DIRECTORY_FORM, LINE_STRP),
+        Expected::Fault(LineKind::TextOut, 34),
     ),
     (
-        Made::Set(DIRECTORY_CONTENT, DIRECTORY_INDEX),
-        Wanted::Fault(LineKind::FormOut, 32),
+        Section::Set(DIRECTORY_CONTENT, DIRECTORY_INDEX),
+        Expected::Fault(LineKind::FormOut, 32),
     ),
     (
-        Made::Set(SECOND_CONTENT, TIMESTAMP),
-        Wanted::Table(
+        Section::Set(SECOND_CONTENT, TIMESTAMP),
+        Expected::Table(
             &[(b"", b"one.s"), (b"", b"one.s")],
             &[(Some(1), 1), (Some(1), 2), (Some(1), 3), (Some(1), 3)],
             0,
         ),
     ),
     (
-        Made::Set(SECOND_FORM, DATA2),
-        Wanted::Fault(LineKind::Short, 55),
+        Section::Set(SECOND_FORM, DATA2),
+        Expected::Fault(LineKind::Short, 55),
     ),
     (
-        Made::Set(DIRECTORY_FORMATS, 0),
-        Wanted::Fault(LineKind::EmptyEntries, 31),
+        Section::Set(DIRECTORY_FORMATS, 0),
+        Expected::Fault(LineKind::EmptyEntries, 31),
     ),
     (
-        Made::Set(FILE_FORMATS, 0),
-        Wanted::Fault(LineKind::EmptyEntries, 37),
+        Section::Set(FILE_FORMATS, 0),
+        Expected::Fault(LineKind::EmptyEntries, 37),
     ),
-    (Made::Set(VERSION, 6), Wanted::Table(&[], &[], 1)),
+    (Section::Set(VERSION, 6), Expected::Table(&[], &[], 1)),
     // Each form under a path.
     (
-        Made::Names(NONE, &[1, PATH, STRING], b"\x01a\0"),
-        Wanted::Table(&[(b"", b"a")], &[], 0),
+        Section::Names(NONE, &[1, PATH, STRING], b"\x01a\0"),
+        Expected::Table(&[(b"", b"a")], &[], 0),
     ),
     (
-        Made::Names(NONE, &[1, PATH, STRP], &[1, 1, 0, 0, 0]),
-        Wanted::Table(&[(b"", b"y")], &[], 0),
+        Section::Names(NONE, &[1, PATH, STRP], &[1, 1, 0, 0, 0]),
+        Expected::Table(&[(b"", b"y")], &[], 0),
     ),
     (
-        Made::Names(NONE, &[1, PATH, LINE_STRP], &[1, 0, 0, 0, 0]),
-        Wanted::Table(&[(b"", b"l")], &[], 0),
+        Section::Names(NONE, &[1, PATH, LINE_STRP], &[1, 0, 0, 0, 0]),
+        Expected::Table(&[(b"", b"l")], &[], 0),
     ),
     (
-        Made::Names(NONE, &[1, PATH, DATA1], &[1, 0]),
-        Wanted::Fault(LineKind::FormOut, 22),
+        Section::Names(NONE, &[1, PATH, DATA1], &[1, 0]),
+        Expected::Fault(LineKind::FormOut, 22),
     ),
     (
-        Made::Names(NONE, &[1, PATH, DATA2], &[1, 1, 0]),
-        Wanted::Fault(LineKind::FormOut, 22),
+        Section::Names(NONE, &[1, PATH, DATA2], &[1, 1, 0]),
+        Expected::Fault(LineKind::FormOut, 22),
     ),
     (
-        Made::Names(NONE, &[1, PATH, DATA4], &[1, 7, 7, 7, 7]),
-        Wanted::Fault(LineKind::FormOut, 22),
+        Section::Names(NONE, &[1, PATH, DATA4], &[1, 7, 7, 7, 7]),
+        Expected::Fault(LineKind::FormOut, 22),
     ),
     (
-        Made::Names(NONE, &[1, PATH, DATA8], &[1, 7, 7, 7, 7, 7, 7, 7, 7]),
-        Wanted::Fault(LineKind::FormOut, 22),
+        Section::Names(NONE, &[1, PATH, DATA8], &[1, 7, 7, 7, 7, 7, 7, 7, 7]),
+        Expected::Fault(LineKind::FormOut, 22),
     ),
     (
-        Made::Names(
+        Section::Names(
             NONE,
             &[1, PATH, DATA16],
             &[1, 7, 7, 7, 7, 7, 7, 7, 7, 7, 7, 7, 7, 7, 7, 7, 7],
         ),
-        Wanted::Fault(LineKind::FormOut, 22),
+        Expected::Fault(LineKind::FormOut, 22),
     ),
     (
-        Made::Names(NONE, &[1, PATH, UDATA], &[1, 128, 1]),
-        Wanted::Fault(LineKind::FormOut, 22),
+        Section::Names(NONE, &[1, PATH, UDATA], &[1, 128, 1]),
+        Expected::Fault(LineKind::FormOut, 22),
     ),
     (
-        Made::Names(NONE, &[1, PATH, BLOCK], &[1, 2, 7, 7]),
-        Wanted::Fault(LineKind::FormOut, 22),
+        Section::Names(NONE, &[1, PATH, BLOCK], &[1, 2, 7, 7]),
+        Expected::Fault(LineKind::FormOut, 22),
     ),
-    // Each form under a directory's number, the directories being `.` and `d`.
+    // Each form under a directory's index, where the directories are `.` and `d`.
     (
-        Made::Names(
+        Section::Names(
             TWO,
             &[2, PATH, STRING, DIRECTORY_INDEX, STRING],
             b"\x01a\0a\0",
         ),
-        Wanted::Fault(LineKind::FormOut, 30),
+        Expected::Fault(LineKind::FormOut, 30),
     ),
     (
-        Made::Names(
+        Section::Names(
             TWO,
             &[2, PATH, STRING, DIRECTORY_INDEX, STRP],
             b"\x01a\0\x01\0\0\0",
         ),
-        Wanted::Fault(LineKind::FormOut, 30),
+        Expected::Fault(LineKind::FormOut, 30),
     ),
     (
-        Made::Names(
+        Section::Names(
             TWO,
             &[2, PATH, STRING, DIRECTORY_INDEX, LINE_STRP],
             b"\x01a\0\0\0\0\0",
         ),
-        Wanted::Fault(LineKind::FormOut, 30),
+        Expected::Fault(LineKind::FormOut, 30),
     ),
     (
-        Made::Names(
+        Section::Names(
             TWO,
             &[2, PATH, STRING, DIRECTORY_INDEX, DATA1],
             b"\x01a\0\x01",
         ),
-        Wanted::Table(&[(b"d", b"a")], &[], 0),
+        Expected::Table(&[(b"d", b"a")], &[], 0),
     ),
     (
-        Made::Names(
+        Section::Names(
             TWO,
             &[2, PATH, STRING, DIRECTORY_INDEX, DATA2],
             b"\x01a\0\x01\0",
         ),
-        Wanted::Table(&[(b"d", b"a")], &[], 0),
+        Expected::Table(&[(b"d", b"a")], &[], 0),
     ),
     (
-        Made::Names(
+        Section::Names(
             TWO,
             &[2, PATH, STRING, DIRECTORY_INDEX, DATA4],
             b"\x01a\0\x07\x07\x07\x07",
         ),
-        Wanted::Fault(LineKind::FormOut, 30),
+        Expected::Fault(LineKind::FormOut, 30),
     ),
     (
-        Made::Names(
+        Section::Names(
             TWO,
             &[2, PATH, STRING, DIRECTORY_INDEX, DATA8],
             b"\x01a\0\x07\x07\x07\x07\x07\x07\x07\x07",
         ),
-        Wanted::Fault(LineKind::FormOut, 30),
+        Expected::Fault(LineKind::FormOut, 30),
     ),
     (
-        Made::Names(
+        Section::Names(
             TWO,
             &[2, PATH, STRING, DIRECTORY_INDEX, DATA16],
             b"\x01a\0\x07\x07\x07\x07\x07\x07\x07\x07\x07\x07\x07\x07\x07\x07\x07\x07",
         ),
-        Wanted::Fault(LineKind::FormOut, 30),
+        Expected::Fault(LineKind::FormOut, 30),
     ),
     (
-        Made::Names(
+        Section::Names(
             TWO,
             &[2, PATH, STRING, DIRECTORY_INDEX, UDATA],
             &[1, 97, 0, 129, 0],
         ),
-        Wanted::Table(&[(b"d", b"a")], &[], 0),
+        Expected::Table(&[(b"d", b"a")], &[], 0),
     ),
     (
-        Made::Names(
+        Section::Names(
             TWO,
             &[2, PATH, STRING, DIRECTORY_INDEX, BLOCK],
             b"\x01a\0\x02\x07\x07",
         ),
-        Wanted::Fault(LineKind::FormOut, 30),
+        Expected::Fault(LineKind::FormOut, 30),
     ),
-    // Each form under a content that is passed.
+    // Each form under a content that is skipped.
     (
-        Made::Names(NONE, &[1, MD5, STRING], b"\x01a\0"),
-        Wanted::Table(&[(b"", b"")], &[], 0),
-    ),
-    (
-        Made::Names(NONE, &[1, MD5, STRP], &[1, 1, 0, 0, 0]),
-        Wanted::Table(&[(b"", b"")], &[], 0),
+        Section::Names(NONE, &[1, MD5, STRING], b"\x01a\0"),
+        Expected::Table(&[(b"", b"")], &[], 0),
     ),
     (
-        Made::Names(NONE, &[1, MD5, LINE_STRP], &[1, 0, 0, 0, 0]),
-        Wanted::Table(&[(b"", b"")], &[], 0),
+        Section::Names(NONE, &[1, MD5, STRP], &[1, 1, 0, 0, 0]),
+        Expected::Table(&[(b"", b"")], &[], 0),
     ),
     (
-        Made::Names(NONE, &[1, MD5, DATA1], &[1, 0]),
-        Wanted::Table(&[(b"", b"")], &[], 0),
+        Section::Names(NONE, &[1, MD5, LINE_STRP], &[1, 0, 0, 0, 0]),
+        Expected::Table(&[(b"", b"")], &[], 0),
     ),
     (
-        Made::Names(NONE, &[1, MD5, DATA2], &[1, 1, 0]),
-        Wanted::Table(&[(b"", b"")], &[], 0),
+        Section::Names(NONE, &[1, MD5, DATA1], &[1, 0]),
+        Expected::Table(&[(b"", b"")], &[], 0),
     ),
     (
-        Made::Names(NONE, &[1, MD5, DATA4], &[1, 7, 7, 7, 7]),
-        Wanted::Table(&[(b"", b"")], &[], 0),
+        Section::Names(NONE, &[1, MD5, DATA2], &[1, 1, 0]),
+        Expected::Table(&[(b"", b"")], &[], 0),
     ),
     (
-        Made::Names(NONE, &[1, MD5, DATA8], &[1, 7, 7, 7, 7, 7, 7, 7, 7]),
-        Wanted::Table(&[(b"", b"")], &[], 0),
+        Section::Names(NONE, &[1, MD5, DATA4], &[1, 7, 7, 7, 7]),
+        Expected::Table(&[(b"", b"")], &[], 0),
     ),
     (
-        Made::Names(
+        Section::Names(NONE, &[1, MD5, DATA8], &[1, 7, 7, 7, 7, 7, 7, 7, 7]),
+        Expected::Table(&[(b"", b"")], &[], 0),
+    ),
+    (
+        Section::Names(
             NONE,
             &[1, MD5, DATA16],
             &[1, 7, 7, 7, 7, 7, 7, 7, 7, 7, 7, 7, 7, 7, 7, 7, 7],
         ),
-        Wanted::Table(&[(b"", b"")], &[], 0),
+        Expected::Table(&[(b"", b"")], &[], 0),
     ),
     (
-        Made::Names(NONE, &[1, MD5, UDATA], &[1, 128, 1]),
-        Wanted::Table(&[(b"", b"")], &[], 0),
+        Section::Names(NONE, &[1, MD5, UDATA], &[1, 128, 1]),
+        Expected::Table(&[(b"", b"")], &[], 0),
     ),
     (
-        Made::Names(NONE, &[1, MD5, BLOCK], &[1, 2, 7, 7]),
-        Wanted::Table(&[(b"", b"")], &[], 0),
+        Section::Names(NONE, &[1, MD5, BLOCK], &[1, 2, 7, 7]),
+        Expected::Table(&[(b"", b"")], &[], 0),
     ),
     // Two paths, and an entry without a path, with and without a directory.
     (
-        Made::Names(NONE, &[2, PATH, STRING, PATH, STRING], b"\x01a\0b\0"),
-        Wanted::Table(&[(b"", b"b")], &[], 0),
+        Section::Names(NONE, &[2, PATH, STRING, PATH, STRING], b"\x01a\0b\0"),
+        Expected::Table(&[(b"", b"b")], &[], 0),
     ),
     (
-        Made::Names(TWO, &[1, DIRECTORY_INDEX, DATA1], &[1, 1]),
-        Wanted::Table(&[(b"d", b"")], &[], 0),
+        Section::Names(TWO, &[1, DIRECTORY_INDEX, DATA1], &[1, 1]),
+        Expected::Table(&[(b"d", b"")], &[], 0),
     ),
     (
-        Made::Names(NONE, &[1, MD5, DATA1], &[1, 7]),
-        Wanted::Table(&[(b"", b"")], &[], 0),
+        Section::Names(NONE, &[1, MD5, DATA1], &[1, 7]),
+        Expected::Table(&[(b"", b"")], &[], 0),
     ),
     // The directories 0, 1 and one past the last.
     (
-        Made::Names(
+        Section::Names(
             TWO,
             &[2, PATH, STRING, DIRECTORY_INDEX, DATA1],
             b"\x01a\0\0",
         ),
-        Wanted::Table(&[(b"", b"a")], &[], 0),
+        Expected::Table(&[(b"", b"a")], &[], 0),
     ),
     (
-        Made::Names(
+        Section::Names(
             TWO,
             &[2, PATH, STRING, DIRECTORY_INDEX, DATA1],
             b"\x01a\0\x01",
         ),
-        Wanted::Table(&[(b"d", b"a")], &[], 0),
+        Expected::Table(&[(b"d", b"a")], &[], 0),
     ),
     (
-        Made::Names(
+        Section::Names(
             TWO,
             &[2, PATH, STRING, DIRECTORY_INDEX, DATA1],
             b"\x01a\0\x02",
         ),
-        Wanted::Table(&[(b"", b"a")], &[], 0),
+        Expected::Table(&[(b"", b"a")], &[], 0),
     ),
-    // A place past a section of texts, at its end, without a zero byte after it,
-    // and in the other section.
+    // An offset after the end of a section of strings, at its end, and of a string without a zero
+    // byte; and the same offsets in the other section.
     (
-        Made::Names(NONE, &[1, PATH, LINE_STRP], &[1, 3, 0, 0, 0]),
-        Wanted::Fault(LineKind::TextOut, 24),
-    ),
-    (
-        Made::Names(NONE, &[1, PATH, LINE_STRP], &[1, 2, 0, 0, 0]),
-        Wanted::Fault(LineKind::TextOut, 24),
+        Section::Names(NONE, &[1, PATH, LINE_STRP], &[1, 3, 0, 0, 0]),
+        Expected::Fault(LineKind::TextOut, 24),
     ),
     (
-        Made::Names(NONE, &[1, PATH, LINE_STRP], &[1, 1, 0, 0, 0]),
-        Wanted::Table(&[(b"", b"")], &[], 0),
+        Section::Names(NONE, &[1, PATH, LINE_STRP], &[1, 2, 0, 0, 0]),
+        Expected::Fault(LineKind::TextOut, 24),
     ),
     (
-        Made::Names(NONE, &[1, PATH, STRP], &[1, 3, 0, 0, 0]),
-        Wanted::Fault(LineKind::TextOut, 24),
+        Section::Names(NONE, &[1, PATH, LINE_STRP], &[1, 1, 0, 0, 0]),
+        Expected::Table(&[(b"", b"")], &[], 0),
     ),
     (
-        Made::Names(NONE, &[1, PATH, STRP], &[1, 2, 0, 0, 0]),
-        Wanted::Table(&[(b"", b"")], &[], 0),
+        Section::Names(NONE, &[1, PATH, STRP], &[1, 3, 0, 0, 0]),
+        Expected::Fault(LineKind::TextOut, 24),
     ),
     (
-        Made::Names(NONE, &[1, MD5, STRP], &[1, 3, 0, 0, 0]),
-        Wanted::Fault(LineKind::TextOut, 24),
+        Section::Names(NONE, &[1, PATH, STRP], &[1, 2, 0, 0, 0]),
+        Expected::Table(&[(b"", b"")], &[], 0),
+    ),
+    (
+        Section::Names(NONE, &[1, MD5, STRP], &[1, 3, 0, 0, 0]),
+        Expected::Fault(LineKind::TextOut, 24),
     ),
     // Counts of 0 and of 2^64 - 1, with and without a format.
-    (Made::Names(NONE, &[0], &[0]), Wanted::Table(&[], &[], 0)),
     (
-        Made::Names(NONE, &[1, PATH, STRING], &[0]),
-        Wanted::Table(&[], &[], 0),
+        Section::Names(NONE, &[0], &[0]),
+        Expected::Table(&[], &[], 0),
     ),
     (
-        Made::Names(
+        Section::Names(NONE, &[1, PATH, STRING], &[0]),
+        Expected::Table(&[], &[], 0),
+    ),
+    (
+        Section::Names(
             NONE,
             &[1, PATH, STRING],
             &[255, 255, 255, 255, 255, 255, 255, 255, 255, 1, 97, 0, 98, 0],
         ),
-        Wanted::Fault(LineKind::Short, 37),
+        Expected::Fault(LineKind::Short, 37),
     ),
     (
-        Made::Names(NONE, &[0], &[1]),
-        Wanted::Fault(LineKind::EmptyEntries, 21),
+        Section::Names(NONE, &[0], &[1]),
+        Expected::Fault(LineKind::EmptyEntries, 21),
     ),
     (
-        Made::Names(&[0, 1], &[0], &[0]),
-        Wanted::Fault(LineKind::EmptyEntries, 19),
+        Section::Names(&[0, 1], &[0], &[0]),
+        Expected::Fault(LineKind::EmptyEntries, 19),
     ),
     (
-        Made::Names(
+        Section::Names(
             &[0, 255, 255, 255, 255, 255, 255, 255, 255, 255, 1],
             &[0],
             &[0],
         ),
-        Wanted::Fault(LineKind::EmptyEntries, 19),
+        Expected::Fault(LineKind::EmptyEntries, 19),
     ),
-    // The file registers 0, 1 and 2, which is past the end, and an extended opcode
-    // 3, which is passed.
+    // The file registers 0, 1 and 2, of which 2 is after the last file, and DW_LNE_define_file,
+    // which is skipped.
     (
-        Made::Program(&[SET_FILE, 0, COPY, 0, 1, END_SEQUENCE]),
-        Wanted::Table(
+        Section::Program(&[SET_FILE, 0, COPY, 0, 1, END_SEQUENCE]),
+        Expected::Table(
             &[(b"", b"one.s"), (b"", b"one.s")],
             &[(Some(0), 1), (Some(0), 1)],
             0,
         ),
     ),
     (
-        Made::Program(&[SET_FILE, 1, COPY, 0, 1, END_SEQUENCE]),
-        Wanted::Table(
+        Section::Program(&[SET_FILE, 1, COPY, 0, 1, END_SEQUENCE]),
+        Expected::Table(
             &[(b"", b"one.s"), (b"", b"one.s")],
             &[(Some(1), 1), (Some(1), 1)],
             0,
         ),
     ),
     (
-        Made::Program(&[SET_FILE, 2, COPY, 0, 1, END_SEQUENCE]),
-        Wanted::Table(
+        Section::Program(&[SET_FILE, 2, COPY, 0, 1, END_SEQUENCE]),
+        Expected::Table(
             &[(b"", b"one.s"), (b"", b"one.s")],
             &[(None, 1), (None, 1)],
             0,
         ),
     ),
     (
-        Made::Program(&[
+        Section::Program(&[
             0,
             3,
             DEFINE_FILE,
@@ -515,7 +521,7 @@ static CASES: [(Made, Wanted); 88] = [
             1,
             END_SEQUENCE,
         ]),
-        Wanted::Table(
+        Expected::Table(
             &[(b"", b"one.s"), (b"", b"one.s")],
             &[(None, 1), (None, 1)],
             0,
@@ -523,8 +529,8 @@ static CASES: [(Made, Wanted); 88] = [
     ),
     // A unit of version 5 after one of version 4 and before one of version 6.
     (
-        Made::Between,
-        Wanted::Table(
+        Section::Between,
+        Expected::Table(
             &[(b"", b"a.s"), (b"", b"one.s"), (b"", b"one.s")],
             &[
                 (Some(0), 1),
@@ -541,124 +547,98 @@ static CASES: [(Made, Wanted); 88] = [
     ),
 ];
 
-/// These bytes, the first of them their length without the field unit_length.
-fn counted(alloc: Global, parts: &[&[u8]]) -> Result<Vec<u8>, LineError> {
-    let mut bytes = Vec::new(alloc);
-    for part in parts {
-        bytes.extend_from_slice(part)?;
-    }
-    let length = bytes.len().saturating_sub(4).min(255) as u8;
-    if let Some(first) = bytes.first_mut() {
-        *first = length;
-    }
-    Ok(bytes)
-}
+/// The header of a unit without a program up to its formats: unit_length, version, address_size,
+/// segment_selector_size, header_length, minimum_instruction_length,
+/// maximum_operations_per_instruction, default_is_stmt, line_base, line_range, opcode_base.
+const NAMES_HEADER: [u8; 18] = [0, 0, 0, 0, 5, 0, 8, 0, 0, 0, 0, 0, 4, 1, 1, 251, 14, 1];
 
-/// The section that is made so, with this length if it is cut.
-fn section_of(alloc: Global, made: &Made, length: usize) -> Result<Vec<u8>, LineError> {
-    match *made {
-        Made::Cut(_, _) => counted(alloc, &[&FIVE[..length.min(83)]]),
-        Made::Set(place, byte) => {
-            let mut section = counted(alloc, &[&FIVE])?;
-            if place < section.len() {
-                section[place] = byte;
-            }
-            Ok(section)
+/// A buffer with a section, of this length if the unit is cut.
+fn buffer_of(section: &Section, length: usize) -> Buffer {
+    let mut buffer = Buffer::new();
+    match *section {
+        Section::Cut(_, _) => buffer.add(&FIVE[..length.min(83)]),
+        Section::Set(_, _) => buffer.add(&FIVE),
+        Section::Names(directories, formats, files) => {
+            buffer.add(&NAMES_HEADER);
+            buffer.add(directories);
+            buffer.add(formats);
+            buffer.add(files);
         }
-        Made::Names(directories, formats, files) => {
-            let size = directories.len().min(60) as u8
-                + formats.len().min(60) as u8
-                + files.len().min(60) as u8
-                + 6;
-            // unit_length, version, address_size, segment_selector_size, header_length,
-            // minimum_instruction_length, maximum_operations_per_instruction, default_is_stmt,
-            // line_base, line_range, opcode_base.
-            let header = [0, 0, 0, 0, 5, 0, 8, 0, size, 0, 0, 0, 4, 1, 1, 251, 14, 1];
-            counted(alloc, &[&header, directories, formats, files])
+        Section::Program(program) => {
+            buffer.add(&FIVE[..56]);
+            buffer.add(program);
         }
-        Made::Program(program) => counted(alloc, &[&FIVE[..56], program]),
-        Made::Between => {
-            let mut section = Vec::from_slice(alloc, &FOUR_ROWS)?;
-            section.extend_from_slice(&FIVE)?;
-            section.extend_from_slice(&[2, 0, 0, 0, 6, 0])?;
-            Ok(section)
+        Section::Between => {
+            buffer.add(&FOUR_ROWS);
+            buffer.add(&FIVE);
+            buffer.add(&[2, 0, 0, 0, 6, 0]);
         }
     }
+    buffer
 }
 
-/// The lengths for which a section is made.
-fn lengths(made: &Made) -> (usize, usize) {
-    match *made {
-        Made::Cut(first, last) => (first, last),
-        _ => (0, 0),
+/// Sets the lengths that a section's bytes have, and the byte that is set.
+fn set_bytes(section: &Section, buffer: &mut Buffer) {
+    let length = buffer.bytes().len();
+    match *section {
+        Section::Set(place, byte) => buffer.set(place, byte),
+        Section::Between => {}
+        Section::Names(_, _, _) => {
+            buffer.set(0, length.saturating_sub(4).min(255) as u8);
+            buffer.set(8, length.saturating_sub(12).min(255) as u8);
+        }
+        _ => buffer.set(0, length.saturating_sub(4).min(255) as u8),
     }
 }
 
-/// Whether the file has this directory and this name.
-fn is_file(file: &FileName, wanted: &(&[u8], &[u8])) -> bool {
-    let (directory, name) = *wanted;
-    let in_directory = file.directory == directory;
-    let named = file.name == name;
-    in_directory & named
+/// The first length for which a section is made, and the one after the last.
+fn lengths(section: &Section) -> (usize, usize) {
+    match *section {
+        Section::Cut(first, last) => (first, last.saturating_add(1)),
+        _ => (0, 1),
+    }
 }
 
-/// Whether the row is of this file and this line.
-fn is_row(row: &Row, wanted: &(Option<u32>, u32)) -> bool {
-    let (file, line) = *wanted;
-    row.file == file && row.line == line
+fn expected_fault(expected: &Expected) -> Option<LineError> {
+    match *expected {
+        Expected::Fault(kind, place) => fault(kind, place),
+        Expected::Table(_, _, _) => None,
+    }
 }
 
-fn is_table(
-    table: &LineTable,
-    files: &[(&[u8], &[u8])],
-    rows: &[(Option<u32>, u32)],
-    skipped: u32,
-) -> bool {
-    let read_files = table.files.as_slice();
-    let read_rows = table.rows.as_slice();
-    table.skipped == skipped
-        && read_files.len() == files.len()
-        && read_rows.len() == rows.len()
-        && read_files
-            .iter()
-            .zip(files.iter())
-            .all(|(file, wanted)| is_file(file, wanted))
-        && read_rows
-            .iter()
-            .zip(rows.iter())
-            .all(|(row, wanted)| is_row(row, wanted))
+fn check_table(rt: &impl Abort, table: &LineTable, expected: &Expected) {
+    if let Expected::Table(files, rows, skipped) = expected {
+        let found = (table.rows.len(), table.skipped);
+        check_equal(rt, found, (rows.len(), *skipped));
+        check_files(rt, table.files.as_slice(), files);
+        for (row, expected) in table.rows.as_slice().iter().zip(rows.iter()) {
+            check_equal(rt, (row.file, row.line), *expected);
+        }
+    }
 }
 
-/// Whether the section is read so.
-fn is_read_as(alloc: Global, section: &[u8], wanted: &Wanted) -> Result<bool, LineError>
+fn check_section(rt: &impl Abort, alloc: Global, section: &[u8], expected: &Expected)
     requires { length section.now ≤ 33554432 }
 {
-    match (read_lines(alloc, section, GENERAL, LINE), wanted) {
-        (Err(LineError::Memory), _) => Err(LineError::Memory),
-        (Err(LineError::Fault(fault)), Wanted::Fault(kind, place)) => Ok(
-            fault
-                == LineFault {
-                    kind: *kind,
-                    place: *place,
-                },
-        ),
-        (Ok(table), Wanted::Table(files, rows, skipped)) => {
-            Ok(is_table(&table, files, rows, *skipped))
+    let fault = expected_fault(expected);
+    match read_lines(alloc, section, GENERAL, LINE) {
+        Ok(table) => {
+            check_equal(rt, (section, None), (section, fault));
+            check_table(rt, &table, expected);
+            drop(table);
         }
-        _ => Ok(false),
+        Err(error) => check_equal(rt, (section, Some(error)), (section, fault)),
     }
 }
 
 #[test]
-fn units_of_version_5_are_read_or_refused(rt: HostRuntime) -> Result<(), Fail> {
-    for (made, wanted) in &CASES {
-        let (first, last) = lengths(made);
-        for length in first..=last {
-            let section = section_of(rt.alloc(), made, length)?;
-            let bytes = section.as_slice();
-            let fits = bytes.len() <= 33554432 && is_read_as(rt.alloc(), bytes, wanted)?;
-            assert!(rt; fits, "{bytes:?}");
+fn units_of_version_5_have_their_files_and_rows_or_their_fault(rt: HostRuntime) {
+    for (section, expected) in &CASES {
+        let (first, end) = lengths(section);
+        for length in first..end {
+            let mut buffer = buffer_of(section, length);
+            set_bytes(section, &mut buffer);
+            check_section(&rt, rt.alloc(), buffer.bytes(), expected);
         }
     }
-    Ok(())
 }

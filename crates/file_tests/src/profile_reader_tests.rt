@@ -1,13 +1,15 @@
 //! Tests of `profile_reader`.
+use crate::buffer::Buffer;
+use crate::checks::check_equal;
 use profile_reader::BookField::*;
 use profile_reader::{BookError, BookFault, BookField, read_profile};
-use std::alloc::{AllocError, Global};
-use std::test::Fail;
+use std::alloc::Global;
 
-/// A place in the text, how many bytes go there, and the bytes that come in their place.
+/// An offset in the text, the number of bytes that are left out there, and the bytes that are
+/// inserted.
 type Change = (usize, usize, &'static [u8]);
 
-// Two experiments and no point, in 558 bytes.
+/// Two experiments and no point, in 558 bytes.
 const GOOD: &[u8] = b"coz-ticks\tversion=1\tbudget=100000000\tpoints=0\n\
 experiment\tselected=one.s:1\tspeedup=0\tend=exited:0\ttime=4200\tdelay=0\tretired=3\tstarts=1\n\
 output\tlength=0\tsha256=e3b0c44298fc1c149afbf4c8996fb92427ae41e4649b934ca495991b7852b855\n\
@@ -18,7 +20,7 @@ visits\tsha256=e3b0c44298fc1c149afbf4c8996fb92427ae41e4649b934ca495991b7852b855\
 
 const COUNT: &[u8] = b"throughput-point\tindex=0\tdelta=7\n";
 
-// Changes, and the kind and place of the first fault.
+/// Changes, and the field and offset of the first fault.
 static ROWS: [(&[Change], Option<(BookField, u64)>); 23] = [
     (&[], None),
     (
@@ -63,32 +65,33 @@ static ROWS: [(&[Change], Option<(BookField, u64)>); 23] = [
 ];
 
 /// The good text with these changes.
-fn changed(alloc: Global, changes: &[Change]) -> Result<Vec<u8>, AllocError> {
-    let mut text = Vec::new(alloc);
+fn changed(changes: &[Change]) -> Buffer {
+    let mut text = Buffer::new();
     let mut at = 0;
-    for &(place, length, put) in changes {
-        text.extend_from_slice(GOOD.get(at..place).unwrap_or(&[]))?;
-        text.extend_from_slice(put)?;
+    for &(place, length, inserted) in changes {
+        text.add(GOOD.get(at..place).unwrap_or(&[]));
+        text.add(inserted);
         at = place.saturating_add(length);
     }
-    text.extend_from_slice(GOOD.get(at..).unwrap_or(&[]))?;
-    Ok(text)
+    text.add(GOOD.get(at..).unwrap_or(&[]));
+    text
 }
 
-fn fault_of(alloc: Global, text: &[u8]) -> Result<Option<BookFault>, AllocError> {
-    match read_profile(alloc, text) {
-        Ok(_) => Ok(None),
-        Err(BookError::Fault(fault)) => Ok(Some(fault)),
-        Err(BookError::Memory) => Err(AllocError),
+fn fault_of(alloc: Global, text: &[u8]) -> Option<BookError> {
+    read_profile(alloc, text).err()
+}
+
+fn expected_fault(fault: Option<(BookField, u64)>) -> Option<BookError> {
+    match fault {
+        Some((field, place)) => Some(BookError::Fault(BookFault { field, place })),
+        None => None,
     }
 }
 
 #[test]
-fn the_first_fault_is_told(rt: HostRuntime) -> Result<(), Fail> {
-    for &(changes, wanted) in &ROWS {
-        let text = changed(rt.alloc(), changes)?;
-        let fault = wanted.map(|(field, place)| BookFault { field, place });
-        assert_eq!(rt; fault_of(rt.alloc(), &text)?, fault);
+fn the_first_fault_of_a_changed_profile_is_found(rt: HostRuntime) {
+    for (row, &(changes, fault)) in ROWS.iter().enumerate() {
+        let found = fault_of(rt.alloc(), changed(changes).bytes());
+        check_equal(&rt, (row, found), (row, expected_fault(fault)));
     }
-    Ok(())
 }

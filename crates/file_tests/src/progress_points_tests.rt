@@ -1,82 +1,107 @@
 //! Tests of `progress_points`.
-use crate::line_index_tests::{file, index_of, row};
+ghost use Rattle.std.specs.Prelude.{◌≡◌, ◌<◌, length, All};
+
+use crate::checks::check_equal;
+use crate::line_index_tests::{A_S, Statement, index_of};
 use coz_types::{Address, LineId, PointId};
 use line_index::LineIndex;
 use progress_points::{Points, PointsError};
-use std::alloc::{AllocError, Global};
+use std::alloc::Global;
+use std::process::Abort;
 use std::test::Fail;
 
 /// Lines 1 and 2 by turns, four bytes each, and then no line.
-fn index_of_two(alloc: Global) -> Result<LineIndex, AllocError> {
-    let rows = [
-        row(0, 0x10000, 0, 1),
-        row(0, 0x10004, 0, 2),
-        row(0, 0x10008, 0, 1),
-        row(0, 0x1000C, 0, 2),
-        row(0, 0x10010, 0, 0),
-    ];
-    index_of(alloc, &[file(b"a.s")], &rows)
+static STATEMENTS: [Statement; 5] = [
+    (0, 0x10000, 0, 1),
+    (0, 0x10004, 0, 2),
+    (0, 0x10008, 0, 1),
+    (0, 0x1000C, 0, 2),
+    (0, 0x10010, 0, 0),
+];
+
+/// An address and its point.
+type Place = (Address, Option<PointId>);
+
+/// The points of both lines.
+static BOTH: [Place; 7] = [
+    (0xFFFF, None),
+    (0x10000, Some(PointId(0))),
+    (0x10002, None),
+    (0x10004, Some(PointId(1))),
+    (0x10008, Some(PointId(0))),
+    (0x1000C, Some(PointId(1))),
+    (0x10010, None),
+];
+
+/// The point of the second line.
+static SECOND: [Place; 4] = [
+    (0x10000, None),
+    (0x10004, Some(PointId(0))),
+    (0x10008, None),
+    (0x1000C, Some(PointId(0))),
+];
+
+/// No points.
+static NONE: [Place; 2] = [(0x10000, None), (0x10004, None)];
+
+/// The line of the second point.
+fn second_line(points: &Points) -> Option<LineId> {
+    if points.count() > 1 {
+        Some(points.line(PointId(1)))
+    } else {
+        None
+    }
 }
 
-/// Whether the point of each address is the one beside it.
-fn are_points(points: &Points, table: &[(Address, Option<PointId>)]) -> bool {
-    table
-        .iter()
-        .all(|(address, point)| points.point_at(*address) == *point)
-}
-
-#[test]
-fn an_entry_has_the_point_of_its_line(rt: HostRuntime) -> Result<(), Fail> {
-    let index = index_of_two(rt.alloc())?;
-    assert_eq!(rt; index.count(), 2);
-    let points = Points::new(rt.alloc(), &index, &[LineId(0), LineId(1)])?;
-    let table = [
-        (0xFFFF, None),
-        (0x10000, Some(PointId(0))),
-        (0x10002, None),
-        (0x10004, Some(PointId(1))),
-        (0x10008, Some(PointId(0))),
-        (0x1000C, Some(PointId(1))),
-        (0x10010, None),
-    ];
-    assert!(rt; are_points(&points, &table) && points.count() == 2);
-    assert_eq!(rt; points.line(PointId(1)), LineId(1));
+/// Compares the points of some lines at addresses, how many there are, and the line of the second.
+fn check_points(
+    rt: &impl Abort,
+    alloc: Global,
+    index: &LineIndex,
+    lines: &[LineId],
+    places: &[Place],
+) -> Result<(), PointsError>
+    requires { All (λ line. line.0 < length index.now.lines) lines.now }
+{
+    let points = Points::new(alloc, index, lines)?;
+    for &(address, point) in places {
+        check_equal(rt, (address, points.point_at(address)), (address, point));
+    }
+    let found = (points.count() as usize, second_line(&points));
+    check_equal(rt, found, (lines.len(), lines.get(1).copied()));
+    drop(points);
     Ok(())
 }
 
-#[test]
-fn a_point_has_the_position_of_its_line(rt: HostRuntime) -> Result<(), Fail> {
-    let index = index_of_two(rt.alloc())?;
-    assert_eq!(rt; index.count(), 2);
-    let points = Points::new(rt.alloc(), &index, &[LineId(1)])?;
-    let table = [
-        (0x10000, None),
-        (0x10004, Some(PointId(0))),
-        (0x10008, None),
-        (0x1000C, Some(PointId(0))),
-    ];
-    assert!(rt; are_points(&points, &table));
+/// Checks that 64 lines may have points, and no more.
+fn check_most(rt: &impl Abort, alloc: Global, index: &LineIndex) -> Result<(), PointsError>
+    requires { length index.now.lines ≡ 2 }
+{
+    check_points(rt, alloc, index, &[LineId(0); 64], &[])?;
+    let more = Points::new(alloc, index, &[LineId(0); 65]);
+    check_equal(rt, more.err(), Some(PointsError::TooMany(65)));
     Ok(())
 }
 
-#[test]
-fn without_lines_there_are_no_points(rt: HostRuntime) -> Result<(), Fail> {
-    let index = index_of_two(rt.alloc())?;
-    let points = Points::new(rt.alloc(), &index, &[])?;
-    let table = [(0x10000, None), (0x10004, None)];
-    assert!(rt; are_points(&points, &table) && points.count() == 0);
-    Ok(())
+fn check_lists(rt: &impl Abort, alloc: Global, index: &LineIndex) -> Result<(), PointsError>
+    requires { length index.now.lines ≡ 2 }
+{
+    check_points(rt, alloc, index, &[LineId(0), LineId(1)], &BOTH)?;
+    check_points(rt, alloc, index, &[LineId(1)], &SECOND)?;
+    check_points(rt, alloc, index, &[], &NONE)?;
+    check_most(rt, alloc, index)
 }
 
 #[test]
-fn at_most_64_lines_have_points(rt: HostRuntime) -> Result<(), Fail> {
-    let index = index_of_two(rt.alloc())?;
-    assert_eq!(rt; index.count(), 2);
-    let most = Points::new(rt.alloc(), &index, &[LineId(0); 64])?;
-    let more = Points::new(rt.alloc(), &index, &[LineId(0); 65]);
-    assert_eq!(rt;
-        (most.count(), more.err()),
-        (64, Some(PointsError::TooMany(65)))
-    );
-    Ok(())
+fn the_entries_of_at_most_64_lines_have_their_points(rt: HostRuntime) -> Result<(), Fail> {
+    let index = index_of(rt.alloc(), &[A_S], &STATEMENTS)?;
+    check_equal(&rt, index.count(), 2);
+    let checked = if index.count() == 2 {
+        check_lists(&rt, rt.alloc(), &index)
+    } else {
+        Ok(())
+    };
+    // By a call, since a drop in place is proved part by part.
+    drop(index);
+    Ok(checked?)
 }
