@@ -1,3 +1,4 @@
+mod Choices
 pub mod Judged
 pub mod Pages
 pub mod Ranking

@@ -1,7 +1,14 @@
 use Rattle.std.proofs.Common.{rules}
-use Rattle.profile_book.proofs.Gathering.{line_more}
+use Rattle.coz_files.proofs.GatheredLemmas.{gathers_nothing}
+use Rattle.profile_book.proofs.Gathering.{line_more, lines_whole}
 use Rattle.page_charts.specs.Charts.{place_at}
 use Rattle.page_charts.proofs.chart.put_places.Goals as goal
 
+pub loop-step-init : goal.loop-step-init
+loop-step-init g c = gathers_nothing c.args.out.now c.args.to.now
+
 pub loop-step-preserved : goal.loop-step-preserved
-loop-step-preserved g c = line_more (place_at c.args.top) c.args.steps.now c.loop-step.step-index _ (search rules) (search rules) c.loop-step.invariant c.put_place_at.ensures
+loop-step-preserved g c = line_more (place_at c.args.top) c.args.steps.now c.loop-step.step-index _ c.loop-step-test.true (search rules) c.loop-step.invariant c.put_place_at.ensures
+
+pub returns : goal.returns
+returns g c = lines_whole (place_at c.args.top) c.args.steps.now c.loop-step.step-index c.loop-step-test.false c.loop-step.invariant
