@@ -1,17 +1,14 @@
-//! Tests of the run that counts what each line begins.
-ghost use Rattle.std.specs.Prelude.{◌≡◌, None, length};
-ghost use Rattle.elf_load.specs.Faults.{fault};
+//! Tests of `counted_run`, the run that counts what is begun of each line.
+ghost use Rattle.std.specs.Prelude.{◌≡◌, length};
 ghost use Rattle.run_engine.specs.Run.{IsChoice};
 
-use crate::lead_tests::{Guest, Program, file_of, index_of, run_of, source_of, with_line};
-use crate::shortened_run_tests::SMALL;
+use crate::checks::check_equal;
+use crate::guests::{Check, EXIT, Program, SMALL, TWO_HARTS, WRITE, check_source};
+use crate::lead_tests::{run_of, with_line};
 use counted_run::Counted;
-use coz_types::{Image, LineId, Tick};
-use elf_load::load;
-use line_index::LineIndex;
-use progress_points::Points;
+use coz_types::{LineId, Tick};
 use std::alloc::{AllocError, Global};
-use std::test::Fail;
+use std::process::Abort;
 use virtual_run::Choice;
 
 /// How many instructions of a line are begun, and their work in ticks.
@@ -19,7 +16,7 @@ type Begun = (u64, Tick);
 
 /// A program, a budget, what is begun of each line, and all work in ticks.
 struct Row {
-    guest: Guest,
+    source: &'static [u8],
     budget: u64,
     lines: &'static [Begun],
     all: Tick,
@@ -28,21 +25,21 @@ struct Row {
 /// A division takes 2,000 ticks, a system call 4,000 and each other instruction 100.
 static ROWS: [Row; 4] = [
     Row {
-        guest: Guest::One,
+        source: EXIT,
         budget: 100,
         lines: &[(1, 100), (1, 100), (1, 4000)],
         all: 4200,
     },
     // The run ends before the third line begins.
     Row {
-        guest: Guest::One,
+        source: EXIT,
         budget: 2,
         lines: &[(1, 100), (1, 100), (0, 0)],
         all: 200,
     },
     // Both harts begin lines 5 to 8.
     Row {
-        guest: Guest::Two,
+        source: TWO_HARTS,
         budget: 100,
         lines: &[
             (2, 200),
@@ -58,7 +55,7 @@ static ROWS: [Row; 4] = [
     },
     // The last line never starts.
     Row {
-        guest: Guest::Write,
+        source: WRITE,
         budget: 100,
         lines: &[
             (2, 200),
@@ -75,7 +72,7 @@ static ROWS: [Row; 4] = [
     },
 ];
 
-/// What is chosen for a run of at most this many instructions, from 1 to 100.
+/// The choice of a run of at most this many instructions, from 1 to 100.
 fn choice_of(budget: u64) -> Choice
     ensures { IsChoice result }
 {
@@ -89,100 +86,67 @@ fn choice_of(budget: u64) -> Choice
     }
 }
 
-/// How often the run of a choice starts its line.
+/// How often the run that selects the line of a choice starts it.
 fn starts_of(alloc: Global, program: &Program, choice: Choice) -> Result<u64, AllocError>
     requires choice { IsChoice choice }
 {
     let mut machine = run_of(alloc, program, choice)?;
     machine.run();
     let starts = machine.starts();
+    // By a call, since a drop in place is proved part by part.
     drop(machine);
     Ok(starts)
 }
 
-/// Whether each line of a run that has counted is begun so, and as often as the run that selects
-/// it at speedup 0 starts it.
-fn are_begun(
+/// Compares what is begun of each line in a run that has counted, and how often the run that
+/// selects the line at speedup 0 starts it.
+fn check_lines<R: Abort>(
+    rt: &R,
     alloc: Global,
     program: &Program,
     choice: Choice,
     counted: &Counted,
     lines: &[Begun],
-) -> Result<bool, AllocError>
+) -> Result<(), AllocError>
     requires choice { IsChoice choice }
     requires index { counted.now.index ≡ program.now.index.now }
     requires lines { length lines.now ≡ length program.now.index.now.lines }
 {
-    let mut all = true;
-    for line in 0..program.index.count() {
-        let (starts, cost) = lines[line as usize];
-        let line = LineId(line);
+    for number in 0..program.index.count() {
+        let line = LineId(number);
         let selected = starts_of(alloc, program, with_line(choice, line))?;
-        all = all
-            && selected == starts
-            && counted.starts(line) == starts
-            && counted.cost(line) == cost;
+        let begun = (counted.starts(line), counted.cost(line));
+        let (starts, cost) = lines[number as usize];
+        check_equal(rt, (line, selected, begun), (line, starts, (starts, cost)));
     }
-    Ok(all)
+    Ok(())
 }
 
-/// Whether the run of a program counts as the row says.
-fn counts_so(alloc: Global, program: &Program, row: &Row) -> Result<bool, AllocError>
-    requires lines { length row.now.lines.now ≡ length program.now.index.now.lines }
-{
-    let choice = choice_of(row.budget);
-    let mut counted = Counted::new(
-        alloc,
-        program.image,
-        program.index,
-        program.points,
-        b"",
-        choice,
-    )?;
-    counted.run();
-    let begun = are_begun(alloc, program, choice, &counted, row.lines);
-    let all = (counted.cost_of_all(), counted.cost_of_none());
-    drop(counted);
-    Ok(begun? && all == (row.all, 0))
-}
-
-/// Whether the row is right of a program with these lines.
-fn is_right_in(alloc: Global, image: &Image, index: &LineIndex, row: &Row) -> Option<bool> {
-    if row.lines.len() != index.count() as usize {
-        return None;
-    }
-    let points = Points::new(alloc, index, &[]).ok()?;
-    let program = Program {
-        image,
-        index,
-        points: &points,
-    };
-    counts_so(alloc, &program, row).ok()
-}
-
-/// Whether the row is right of its program.
-fn is_right_of(alloc: Global, image: &Image, row: &Row) -> Option<bool>
-    requires { fault image.now.file ≡ None }
-{
-    let index = index_of(alloc, image)?;
-    let right = is_right_in(alloc, image, &index, row);
-    drop(index);
-    right
-}
-
-fn is_right(alloc: Global, row: &Row) -> Option<bool> {
-    let file = file_of(alloc, source_of(row.guest))?;
-    match load(alloc, file.as_slice()) {
-        Ok(image) => is_right_of(alloc, &image, row),
-        Err(_) => None,
+impl Check for Row {
+    fn check<R: Abort>(&self, rt: &R, alloc: Global, program: &Program) -> Option<()> {
+        if self.lines.len() != program.index.count() as usize {
+            return None;
+        }
+        let Program {
+            image,
+            index,
+            points,
+        } = *program;
+        let choice = choice_of(self.budget);
+        let mut counted = Counted::new(alloc, image, index, points, b"", choice).ok()?;
+        counted.run();
+        let checked = check_lines(rt, alloc, program, choice, &counted, self.lines);
+        let all = (counted.cost_of_all(), counted.cost_of_none());
+        drop(counted);
+        check_equal(rt, all, (self.all, 0));
+        checked.ok()
     }
 }
 
 #[test]
-fn each_line_is_counted_as_the_run_that_selects_it_starts_it(rt: HostRuntime) -> Result<(), Fail> {
+fn each_line_is_counted_as_often_as_the_run_that_selects_it_starts_it(rt: HostRuntime) {
     for row in &ROWS {
-        let right = is_right(rt.alloc(), row);
-        assert!(rt; right == Some(true), "{:?} {}", row.guest, row.budget);
+        let checked = check_source(&rt, rt.alloc(), row.source, row);
+        check_equal(&rt, checked, Some(()));
     }
-    Ok(())
 }

@@ -1,9 +1,10 @@
 //! Tests of `experiment_claims`.
+use crate::checks::check_equal;
 use experiment_claims::Claims;
 use std::test::Fail;
 
 #[test]
-fn two_seats_draw_the_numbers_below_two(rt: HostRuntime) -> Result<(), Fail> {
+fn two_seats_draw_each_number_below_two_once(rt: HostRuntime) -> Result<(), Fail> {
     let (claims, first) = Claims::new(rt.alloc(), 2)?;
     let (mut a, mut b) = claims.split(first, 1);
     let drawn = [
@@ -11,8 +12,8 @@ fn two_seats_draw_the_numbers_below_two(rt: HostRuntime) -> Result<(), Fail> {
         claims.draw(&mut b),
         claims.draw(&mut a),
     ];
-    assert!(rt; drawn == [Some(0), Some(1), None]);
     let whole = claims.join(a, b);
-    assert!(rt; claims.finish(whole) == 3);
+    let count = claims.finish(whole);
+    check_equal(&rt, (drawn, count), ([Some(0), Some(1), None], 3));
     Ok(())
 }

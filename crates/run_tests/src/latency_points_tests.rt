@@ -2,17 +2,17 @@
 ghost use Rattle.std.specs.Prelude.{◌≡◌, ◌+◌, ◌≤◌, ◌<◌};
 ghost use Rattle.latency_points.specs.Flow.{counted};
 
+use crate::checks::check_equal;
 use coz_types::{HartId, PointId, Tick, Visit};
 use latency_points::{Flow, Latency, measure};
-use std::test::Fail;
 
 /// The latest moment that there may be.
-const EDGE: Tick = 100_000_000_000_000_000;
+const LATEST: Tick = 100_000_000_000_000_000;
 
 /// The most calls of a case.
 const MAX_CALLS: u64 = 8;
 
-/// Whether something arrives, or else departs, at each moment; the end, and the latency.
+/// Moments, at each of which a request arrives, or else one departs; the end, and the latency.
 static CALLS: [(&[(bool, Tick)], Tick, Latency); 3] = [
     (
         &[(false, 5), (true, 10), (true, 20), (false, 50)],
@@ -28,7 +28,7 @@ static CALLS: [(&[(bool, Tick)], Tick, Latency); 3] = [
     ),
     (
         &[],
-        EDGE,
+        LATEST,
         Latency {
             arrivals: 0,
             departures: 0,
@@ -40,13 +40,13 @@ static CALLS: [(&[(bool, Tick)], Tick, Latency); 3] = [
     ),
     (
         &[(true, 0)],
-        EDGE,
+        LATEST,
         Latency {
             arrivals: 1,
             departures: 0,
             stray: 0,
             unended: 1,
-            area: EDGE as u128,
+            area: LATEST as u128,
             mean: None,
         },
     ),
@@ -54,7 +54,7 @@ static CALLS: [(&[(bool, Tick)], Tick, Latency); 3] = [
 
 fn give(flow: &mut Flow, arrives: bool, net: Tick)
     requires later { flow.old.latest ≤ net }
-    requires soon { net ≤ EDGE }
+    requires soon { net ≤ LATEST }
     requires few { counted flow.old < MAX_CALLS }
     ensures latest { flow.new.latest ≡ net }
     ensures counted { counted flow.new ≡ counted flow.old + 1 }
@@ -66,8 +66,8 @@ fn give(flow: &mut Flow, arrives: bool, net: Tick)
     }
 }
 
-/// The latency of some calls. None if their moments fall, or are over the edge,
-/// or if there are too many.
+/// The latency of some calls. None if a moment is less than the one before it or later than
+/// `LATEST`, or if there are too many calls.
 fn latency_of(calls: &[(bool, Tick)], end: Tick) -> Option<Latency> {
     if calls.len() as u64 > MAX_CALLS {
         return None;
@@ -75,35 +75,33 @@ fn latency_of(calls: &[(bool, Tick)], end: Tick) -> Option<Latency> {
     let mut flow = Flow::new();
     let mut latest = 0;
     for (arrives, net) in calls {
-        if *net < latest || *net > EDGE {
+        if *net < latest || *net > LATEST {
             return None;
         }
         latest = *net;
         give(&mut flow, *arrives, latest);
     }
-    if end < latest || end > EDGE {
+    if end < latest || end > LATEST {
         return None;
     }
     Some(flow.close(end))
 }
 
 #[test]
-fn calls_have_these_latencies(rt: HostRuntime) -> Result<(), Fail> {
-    for (calls, end, latency) in &CALLS {
-        assert_eq!(rt; latency_of(*calls, *end), Some(*latency));
+fn arrivals_and_departures_have_their_latency(rt: HostRuntime) {
+    for (row, &(calls, end, latency)) in CALLS.iter().enumerate() {
+        check_equal(&rt, (row, latency_of(calls, end)), (row, Some(latency)));
     }
-    Ok(())
 }
 
 #[test]
-fn as_many_as_there_may_be(rt: HostRuntime) -> Result<(), Fail> {
+fn as_many_arrivals_and_departures_as_there_may_be_are_counted(rt: HostRuntime) {
     let mut flow = Flow::new();
     for _i in 0u32..1_048_576 {
         flow.arrive(0);
         flow.depart(0);
     }
-    let found = flow.close(0);
-    let all = Latency {
+    let expected = Latency {
         arrivals: 1_048_576,
         departures: 1_048_576,
         stray: 0,
@@ -111,18 +109,27 @@ fn as_many_as_there_may_be(rt: HostRuntime) -> Result<(), Fail> {
         area: 0,
         mean: Some(0),
     };
-    assert_eq!(rt; found, all);
-    Ok(())
+    check_equal(&rt, flow.close(0), expected);
 }
 
-#[test]
-fn a_point_of_both_lists_and_points_past_the_marks(rt: HostRuntime) -> Result<(), Fail> {
-    let visit = |point: u16, time: Tick, delay: Tick| Visit {
+fn visit(point: u16, time: Tick, delay: Tick) -> Visit
+    ensures { result ≡ record {
+      point = record { 0 = point };
+      hart = record { 0 = 0 };
+      time = time;
+      delay = delay;
+    } }
+{
+    Visit {
         point: PointId(point),
         hart: HartId(0),
         time,
         delay,
-    };
+    }
+}
+
+#[test]
+fn a_point_of_both_lists_and_points_after_the_marks_are_counted(rt: HostRuntime) {
     let visits = [
         visit(63, 10, 0),
         visit(64, 30, 10),
@@ -130,13 +137,9 @@ fn a_point_of_both_lists_and_points_past_the_marks(rt: HostRuntime) -> Result<()
         visit(65535, 60, 30),
         visit(64, 70, 30),
     ];
-    let found = measure(
-        &visits,
-        &[PointId(63), PointId(64)],
-        &[PointId(64), PointId(65535)],
-        50,
-    );
-    let latency = Latency {
+    let arrive = [PointId(63), PointId(64)];
+    let depart = [PointId(64), PointId(65535)];
+    let expected = Latency {
         arrivals: 3,
         departures: 3,
         stray: 0,
@@ -144,6 +147,5 @@ fn a_point_of_both_lists_and_points_past_the_marks(rt: HostRuntime) -> Result<()
         area: 20,
         mean: Some(6),
     };
-    assert_eq!(rt; found, latency);
-    Ok(())
+    check_equal(&rt, measure(&visits, &arrive, &depart, 50), expected);
 }

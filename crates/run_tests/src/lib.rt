@@ -2,6 +2,8 @@
 #![tactic(auto)]
 
 #[cfg(test)]
+mod checks;
+#[cfg(test)]
 mod counted_tests;
 #[cfg(test)]
 mod delay_credits_tests;
@@ -9,6 +11,8 @@ mod delay_credits_tests;
 mod experiment_claims_tests;
 #[cfg(test)]
 mod fork_tests;
+#[cfg(test)]
+mod guests;
 #[cfg(test)]
 mod hart_schedule_tests;
 #[cfg(test)]

@@ -1,54 +1,39 @@
-//! Machines with other budgets, output limits and layouts than those of the commands.
-ghost use Rattle.std.specs.Prelude.{◌≡◌, None, IfSome};
-ghost use Rattle.elf_load.specs.Faults.{fault};
+//! Tests of `virtual_run`: machines with other budgets, output limits and layouts than those of the
+//! commands.
+ghost use Rattle.std.specs.Prelude.{IfSome};
 ghost use Rattle.run_engine.specs.Run.{IsChoice};
 
-use crate::lead_tests::{file_of, index_of};
-use coz_types::{Ending, Image};
-use elf_load::load;
+use crate::checks::check_equal;
+use crate::guests::{Check, Program, check_source};
+use coz_types::Ending;
 use guest_memory::Layout;
-use progress_points::Points;
 use std::alloc::Global;
-use std::test::Fail;
+use std::process::Abort;
 use virtual_run::{Choice, Machine};
 
-/// The programs that are run.
-#[derive(Clone, Copy, Debug)]
-enum Guest {
-    /// Writes 80 times 65,536 bytes, which are 5 MiB, and exits.
-    Much,
-    /// Exits with the sum of these: 1 if the break can be moved to two pages, 2 if it can be moved
-    /// by a byte more, 4 if three pages can be mapped, 8 if a page more can be mapped, 16 if
-    /// the lowest byte of two pages of stack can be written out, 32 if the byte below it can be.
-    Rooms,
-}
+/// Writes 80 times 65,536 bytes, which are 5 MiB, and exits.
+const WRITES: &[u8] = b"li s0, 80\n\
+    again: li a0, 1\nla a1, text\nlui a2, 16\nli a7, 64\necall\n\
+    addi s0, s0, -1\nbne s0, x0, again\n\
+    li a0, 0\nli a7, 93\necall\n\
+    .data\ntext: .zero 65536\n";
 
-fn source_of(guest: Guest) -> &'static [u8] {
-    match guest {
-        Guest::Much => {
-            b"li s0, 80\n\
-            again: li a0, 1\nla a1, text\nlui a2, 16\nli a7, 64\necall\n\
-            addi s0, s0, -1\nbne s0, x0, again\n\
-            li a0, 0\nli a7, 93\necall\n\
-            .data\ntext: .zero 65536\n"
-        }
-        Guest::Rooms => {
-            b"li a0, 0\nli a7, 214\necall\nmv s1, a0\n\
-            lui t0, 2\nadd s2, s1, t0\nmv a0, s2\necall\nsub t1, a0, s2\nsltiu s0, t1, 1\n\
-            addi s2, s2, 1\nmv a0, s2\necall\nsub t1, a0, s2\nsltiu t1, t1, 1\n\
-            slli t1, t1, 1\nadd s0, s0, t1\n\
-            lui a1, 3\nli a2, 3\nli a3, 34\nli a7, 222\necall\n\
-            slt t1, x0, a0\nslli t1, t1, 2\nadd s0, s0, t1\n\
-            lui a1, 1\necall\nslt t1, x0, a0\nslli t1, t1, 3\nadd s0, s0, t1\n\
-            li t0, 64\nslli t0, t0, 32\nlui t1, 2\nsub s2, t0, t1\n\
-            li a0, 1\nmv a1, s2\nli a2, 1\nli a7, 64\necall\n\
-            slt t1, x0, a0\nslli t1, t1, 4\nadd s0, s0, t1\n\
-            li a0, 1\naddi a1, s2, -1\necall\n\
-            slt t1, x0, a0\nslli t1, t1, 5\nadd s0, s0, t1\n\
-            mv a0, s0\nli a7, 93\necall\n"
-        }
-    }
-}
+/// Exits with the sum of these: 1 if the break can be moved to two pages, 2 if it can be moved by
+/// a byte more, 4 if three pages can be mapped, 8 if a page more can be mapped, 16 if the lowest
+/// byte of two pages of stack can be written out, 32 if the byte below it can be.
+const REGIONS: &[u8] = b"li a0, 0\nli a7, 214\necall\nmv s1, a0\n\
+    lui t0, 2\nadd s2, s1, t0\nmv a0, s2\necall\nsub t1, a0, s2\nsltiu s0, t1, 1\n\
+    addi s2, s2, 1\nmv a0, s2\necall\nsub t1, a0, s2\nsltiu t1, t1, 1\n\
+    slli t1, t1, 1\nadd s0, s0, t1\n\
+    lui a1, 3\nli a2, 3\nli a3, 34\nli a7, 222\necall\n\
+    slt t1, x0, a0\nslli t1, t1, 2\nadd s0, s0, t1\n\
+    lui a1, 1\necall\nslt t1, x0, a0\nslli t1, t1, 3\nadd s0, s0, t1\n\
+    li t0, 64\nslli t0, t0, 32\nlui t1, 2\nsub s2, t0, t1\n\
+    li a0, 1\nmv a1, s2\nli a2, 1\nli a7, 64\necall\n\
+    slt t1, x0, a0\nslli t1, t1, 4\nadd s0, s0, t1\n\
+    li a0, 1\naddi a1, s2, -1\necall\n\
+    slt t1, x0, a0\nslli t1, t1, 5\nadd s0, s0, t1\n\
+    mv a0, s0\nli a7, 93\necall\n";
 
 /// Two pages below the break, three of mappings and two of stack.
 const FEW_PAGES: Layout = Layout {
@@ -57,57 +42,84 @@ const FEW_PAGES: Layout = Layout {
     stack: 8192,
 };
 
-/// How a run ends, how many instructions it retires and how many bytes it writes.
-type End = (Ending, u64, usize);
-
-/// A program, its budget, its output limit, whether it has few pages, and how it ends.
-type Row = (Guest, u64, u64, bool, End);
+/// A program, and how its run ends.
+struct Row {
+    source: &'static [u8],
+    budget: u64,
+    output_limit: u64,
+    has_few_pages: bool,
+    ending: Ending,
+    retired: u64,
+    /// The number of bytes that are written.
+    output: usize,
+}
 
 static ROWS: [Row; 5] = [
     // the greatest budget, and one byte more than the commands let be written
-    (
-        Guest::Much,
-        1_000_000_000_000,
-        4_194_305,
-        false,
-        (Ending::OutputFull, 519, 4_194_305),
-    ),
-    (
-        Guest::Much,
-        100_000_001,
-        5_242_880,
-        false,
-        (Ending::OutputFull, 639, 5_242_880),
-    ),
-    (
-        Guest::Much,
-        644,
-        67_108_864,
-        false,
-        (Ending::Exited(0), 644, 5_242_880),
-    ),
-    (Guest::Rooms, 100, 10, false, (Ending::Exited(63), 51, 2)),
-    (Guest::Rooms, 100, 10, true, (Ending::Exited(21), 51, 1)),
+    Row {
+        source: WRITES,
+        budget: 1_000_000_000_000,
+        output_limit: 4_194_305,
+        has_few_pages: false,
+        ending: Ending::OutputFull,
+        retired: 519,
+        output: 4_194_305,
+    },
+    Row {
+        source: WRITES,
+        budget: 100_000_001,
+        output_limit: 5_242_880,
+        has_few_pages: false,
+        ending: Ending::OutputFull,
+        retired: 639,
+        output: 5_242_880,
+    },
+    Row {
+        source: WRITES,
+        budget: 644,
+        output_limit: 67_108_864,
+        has_few_pages: false,
+        ending: Ending::Exited(0),
+        retired: 644,
+        output: 5_242_880,
+    },
+    Row {
+        source: REGIONS,
+        budget: 100,
+        output_limit: 10,
+        has_few_pages: false,
+        ending: Ending::Exited(63),
+        retired: 51,
+        output: 2,
+    },
+    Row {
+        source: REGIONS,
+        budget: 100,
+        output_limit: 10,
+        has_few_pages: true,
+        ending: Ending::Exited(21),
+        retired: 51,
+        output: 1,
+    },
 ];
 
 /// The choice of a row, if it is within the limits.
 fn choice_of(row: &Row) -> Option<Choice>
     ensures { IfSome result IsChoice }
 {
-    let (_, budget, output_limit, few_pages, _) = *row;
-    if budget < 1 || budget > 1_000_000_000_000 {
+    if row.budget < 1 || row.budget > 1_000_000_000_000 {
         return None;
     }
-    if output_limit < 1 || output_limit > 67_108_864 {
+    if row.output_limit < 1 || row.output_limit > 67_108_864 {
         return None;
     }
     Some(Choice {
         selected: None,
         speedup: 0,
-        budget,
-        output_limit,
+        budget: row.budget,
+        output_limit: row.output_limit,
         visit_limit: 1,
-        layout: if few_pages {
+        layout: if row.has_few_pages {
             FEW_PAGES
         } else {
             Layout::usual()
@@ -115,33 +127,28 @@ fn choice_of(row: &Row) -> Option<Choice>
     })
 }
 
-fn end_of(alloc: Global, image: &Image, row: &Row) -> Option<End>
-    requires { fault image.now.file ≡ None }
-{
-    let index = index_of(alloc, image)?;
-    let points = Points::new(alloc, &index, &[]).ok()?;
-    let choice = choice_of(row)?;
-    let mut machine = Machine::new(alloc, image, &index, &points, b"", choice).ok()?;
-    let ending = machine.run();
-    let end = (ending, machine.retired(), machine.output().len());
-    // By a call, since a drop in place is proved part by part.
-    drop(machine);
-    Some(end)
-}
-
-/// How the program of a row ends.
-fn end_in(alloc: Global, row: &Row) -> Option<End> {
-    let file = file_of(alloc, source_of(row.0))?;
-    match load(alloc, file.as_slice()) {
-        Ok(image) => end_of(alloc, &image, row),
-        Err(_) => None,
+impl Check for Row {
+    fn check<R: Abort>(&self, rt: &R, alloc: Global, program: &Program) -> Option<()> {
+        let Program {
+            image,
+            index,
+            points,
+        } = *program;
+        let choice = choice_of(self)?;
+        let mut machine = Machine::new(alloc, image, index, points, b"", choice).ok()?;
+        let ending = machine.run();
+        let found = (ending, machine.retired(), machine.output().len());
+        // By a call, since a drop in place is proved part by part.
+        drop(machine);
+        check_equal(rt, found, (self.ending, self.retired, self.output));
+        Some(())
     }
 }
 
 #[test]
-fn a_machine_ends_within_its_limits(rt: HostRuntime) -> Result<(), Fail> {
+fn a_machine_ends_at_its_budget_its_output_limit_and_its_regions(rt: HostRuntime) {
     for row in &ROWS {
-        assert_eq!(rt; end_in(rt.alloc(), row), Some(row.4));
+        let checked = check_source(&rt, rt.alloc(), row.source, row);
+        check_equal(&rt, checked, Some(()));
     }
-    Ok(())
 }

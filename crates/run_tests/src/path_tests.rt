@@ -1,51 +1,24 @@
-//! Tests of the critical path of a run, and of checks of chains.
-ghost use Rattle.std.specs.Prelude.{IfSome};
+//! Tests of `critical_path` and `critical_chains`: the heaviest chain of a run, and checks of chains.
+ghost use Rattle.std.specs.Prelude.{IfOk};
 ghost use Rattle.critical_chains.specs.Path.{Linked};
 
-use crate::lead_tests::{Guest, file_of, source_of};
-use crate::shortened_run_tests::SMALL;
+use crate::checks::check_equal;
+use crate::guests::{Check, Program, SMALL, WAIT, check_source};
 use coz_types::{HartId, Image};
 use critical_chains::{Event, Trace, check, longest};
 use critical_path::walk;
-use elf_load::load;
 use std::alloc::{AllocError, Global};
+use std::process::Abort;
 use std::test::Fail;
 
-/// What becomes of the chain of a run.
-#[derive(Clone, Copy, Debug)]
-enum Change {
-    /// It stays.
-    Whole,
-    /// Its last event is left out.
-    NoLast,
-    /// Its first event is left out.
-    NoFirst,
-    /// Its last event comes twice.
-    Twice,
-    /// An event that does not exist follows.
-    PastEnd,
-    /// Nothing is left.
-    Empty,
-}
-
-/// Whether what becomes of a chain is sound.
-static CHANGES: [(Change, bool); 6] = [
-    (Change::Whole, true),
-    (Change::NoLast, false),
-    (Change::NoFirst, false),
-    (Change::Twice, false),
-    (Change::PastEnd, false),
-    (Change::Empty, false),
-];
-
-/// An event by its cost, its sleep, its `from`, its `before` and when it is due.
-type Made = (u64, u64, Option<u32>, Option<u32>, u64);
+/// The cost of an event, its sleep, its `from`, its `before` and when it is due.
+type Fields = (u64, u64, Option<u32>, Option<u32>, u64);
 
 /// The greatest number.
 const MOST: u64 = 0xFFFF_FFFF_FFFF_FFFF;
 
-/// Events, a chain of them, and whether it is sound.
-static MADE: [(&[Made], &[u32], bool); 8] = [
+/// Events, a chain of them, and whether the chain is sound.
+static CHAINS: [(&[Fields], &[u32], bool); 8] = [
     (&[], &[], false),
     (&[(MOST, 0, None, None, MOST)], &[0], true),
     // a sum that would wrap
@@ -70,80 +43,85 @@ static MADE: [(&[Made], &[u32], bool); 8] = [
     (&[(3, 0, None, None, 3), (5, 0, None, None, 5)], &[1], true),
 ];
 
-fn trace_of(alloc: Global, image: &Image) -> Option<Trace>
-    ensures { IfSome result (λ trace. Linked trace.events) }
+fn trace_of(alloc: Global, image: &Image) -> Result<Trace, AllocError>
+    ensures { IfOk result (λ trace. Linked trace.events) }
 {
-    walk(alloc, image, &[], 100, 10, SMALL).ok()
+    walk(alloc, image, &[], 100, 10, SMALL)
 }
 
-/// What becomes of a chain of this many events.
-fn changed(alloc: Global, chain: &[u32], count: u32, change: Change) -> Option<Vec<u32>> {
-    let mut list = Vec::from_slice(alloc, chain).ok()?;
-    match change {
-        Change::Whole => {}
-        Change::NoLast => {
-            let _last = list.pop();
-        }
-        Change::NoFirst => list = Vec::from_slice(alloc, chain.get(1..)?).ok()?,
-        Change::Twice => list.push(*chain.last()?).ok()?,
-        Change::PastEnd => list.push(count).ok()?,
-        Change::Empty => list.clear(),
-    }
-    Some(list)
-}
-
-/// Whether a check of what becomes of the chain of a run says so.
-fn says(alloc: Global, trace: &Trace, change: Change, sound: bool) -> Option<bool>
-    requires { Linked trace.now.events }
-{
-    let chain = longest(alloc, trace).ok()?;
-    let count = trace.events.len() as u32;
-    let list = changed(alloc, &chain, count, change)?;
-    Some(check(trace.events.as_slice(), &list) == sound)
-}
-
-/// Whether each does of the run in which one hart waits for another.
-fn says_each(alloc: Global) -> Option<bool> {
-    let file = file_of(alloc, source_of(Guest::Wait))?;
-    let Ok(image) = load(alloc, file.as_slice()) else {
-        return None;
-    };
-    let trace = trace_of(alloc, &image)?;
-    for (change, sound) in &CHANGES {
-        if says(alloc, &trace, *change, *sound) != Some(true) {
-            return Some(false);
-        }
-    }
-    Some(true)
-}
-
-#[test]
-fn the_chain_of_a_run_is_sound_and_no_part_of_it(rt: HostRuntime) -> Result<(), Fail> {
-    assert!(rt; says_each(rt.alloc()) == Some(true));
+/// Checks that the chain is sound, and that no change of it is: without its last event, without its
+/// first one, with no event, with its last event twice, and with one more event of this number.
+fn check_changes<R: Abort>(
+    rt: &R,
+    events: &[Event],
+    chain: &mut Vec<u32>,
+    number: u32,
+) -> Result<(), AllocError> {
+    let count = chain.len();
+    let whole = check(events, chain);
+    let cut = check(events, chain.get(..count.saturating_sub(1)).unwrap_or(&[]));
+    let late = check(events, chain.get(1..).unwrap_or(&[]));
+    let empty = check(events, &[]);
+    chain.push(chain.last().copied().unwrap_or(0))?;
+    let twice = check(events, chain);
+    let _last = chain.pop();
+    chain.push(number)?;
+    let after = check(events, chain);
+    let found = (count > 1, whole, (cut, late, empty, twice, after));
+    check_equal(rt, found, (true, true, (false, false, false, false, false)));
     Ok(())
 }
 
-fn events_of(alloc: Global, rows: &[Made]) -> Result<Vec<Event>, AllocError> {
+fn check_chain<R: Abort>(rt: &R, alloc: Global, trace: &Trace) -> Result<(), AllocError>
+    requires { Linked trace.now.events }
+{
+    let mut chain = longest(alloc, trace)?;
+    let count = trace.events.len() as u32;
+    let checked = check_changes(rt, trace.events.as_slice(), &mut chain, count);
+    // By a call, since a drop in place is proved part by part.
+    drop(chain);
+    checked
+}
+
+/// Any program.
+struct Chain;
+
+impl Check for Chain {
+    fn check<R: Abort>(&self, rt: &R, alloc: Global, program: &Program) -> Option<()> {
+        let trace = trace_of(alloc, program.image).ok()?;
+        let checked = check_chain(rt, alloc, &trace);
+        // By a call, since a drop in place is proved part by part.
+        drop(trace);
+        checked.ok()
+    }
+}
+
+#[test]
+fn the_chain_of_a_run_is_sound_and_no_change_of_it_is(rt: HostRuntime) {
+    check_equal(&rt, check_source(&rt, rt.alloc(), WAIT, &Chain), Some(()));
+}
+
+fn events_of(alloc: Global, fields: &[Fields]) -> Result<Vec<Event>, AllocError> {
     let mut events = Vec::new(alloc);
-    for (cost, slept, from, before, due) in rows {
+    for &(cost, slept, from, before, due) in fields {
         events.push(Event {
             hart: HartId(0),
             address: 0,
-            cost: *cost,
-            slept: *slept,
-            from: *from,
-            before: *before,
-            due: *due,
+            cost,
+            slept,
+            from,
+            before,
+            due,
         })?;
     }
     Ok(events)
 }
 
 #[test]
-fn a_check_takes_any_events(rt: HostRuntime) -> Result<(), Fail> {
-    for (rows, chain, sound) in &MADE {
-        let events = events_of(rt.alloc(), rows)?;
-        assert!(rt; check(&events, chain) == *sound, "{rows:?}");
+fn a_check_of_a_chain_takes_any_events(rt: HostRuntime) -> Result<(), Fail> {
+    for (row, &(fields, chain, is_sound)) in CHAINS.iter().enumerate() {
+        let events = events_of(rt.alloc(), fields)?;
+        check_equal(&rt, (row, check(&events, chain)), (row, is_sound));
     }
     Ok(())
 }

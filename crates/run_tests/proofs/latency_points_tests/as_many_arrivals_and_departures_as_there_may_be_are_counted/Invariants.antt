@@ -1,5 +1,5 @@
 use Rattle.std.proofs.Common.{◌≡◌}
-use Rattle.run_tests.proofs.latency_points_tests.as_many_as_there_may_be.Given as goal
+use Rattle.run_tests.proofs.latency_points_tests.as_many_arrivals_and_departures_as_there_may_be_are_counted.Given as goal
 
 -- as many arrived as departed, all at 0
 abbrev pub invariant-loop-i : goal.invariant-loop-i
