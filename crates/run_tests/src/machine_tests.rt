@@ -5,11 +5,12 @@ ghost use Rattle.run_engine.specs.Run.{IsChoice};
 
 use crate::checks::check_equal;
 use crate::guests::{Check, Program, check_source};
+use crate::lead_tests::run_of;
 use coz_types::Ending;
 use guest_memory::Layout;
 use std::alloc::Global;
 use std::process::Abort;
-use virtual_run::{Choice, Machine};
+use virtual_run::Choice;
 
 /// Writes 80 times 65,536 bytes, which are 5 MiB, and exits.
 const WRITES: &[u8] = b"li s0, 80\n\
@@ -129,13 +130,8 @@ fn choice_of(row: &Row) -> Option<Choice>
 
 impl Check for Row {
     fn check<R: Abort>(&self, rt: &R, alloc: Global, program: &Program) -> Option<()> {
-        let Program {
-            image,
-            index,
-            points,
-        } = *program;
         let choice = choice_of(self)?;
-        let mut machine = Machine::new(alloc, image, index, points, b"", choice).ok()?;
+        let mut machine = run_of(alloc, program, choice).ok()?;
         let ending = machine.run();
         let found = (ending, machine.retired(), machine.output().len());
         // By a call, since a drop in place is proved part by part.

@@ -5,6 +5,7 @@ ghost use Rattle.run_engine.specs.Run.{IsChoice};
 
 use crate::checks::check_equal;
 use crate::guests::{Check, Program, SMALL, check_lines};
+use crate::lead_tests::run_of;
 use coz_types::{
     Account, Area, Ending, HartId, Image, Items, LineId, Outcome, PointId, Rights, Tick, Visit,
 };
@@ -346,13 +347,8 @@ impl Check for Delayed {
     }
 
     fn check<R: Abort>(&self, rt: &R, alloc: Global, program: &Program) -> Option<()> {
-        let Program {
-            image,
-            index,
-            points,
-        } = *program;
         let choice = choice_of(self.selected, self.speedup, self.visit_limit)?;
-        let mut machine = Machine::new(alloc, image, index, points, b"", choice).ok()?;
+        let mut machine = run_of(alloc, program, choice).ok()?;
         check_machine(rt, &mut machine, self);
         drop(machine);
         Some(())
