@@ -1,5 +1,8 @@
+mod Anywhere
 mod Choices
+mod Harms
 pub mod Judged
+mod Newlines
 pub mod Pages
 pub mod Ranking
 pub mod Reading

@@ -9,8 +9,8 @@ use Rattle.profile_reader.proofs.Only.{told_is}
 use Rattle.causal_curves.specs.Curves.{curves_of, ranked_curves}
 use Rattle.causal_curves.specs.declared.curve.Curve.{Curve}
 use Rattle.page_words.specs.Words.{Request}
-use Rattle.page_sources.specs.Sources.{Answers}
-use Rattle.page_values.specs.Harm.{harmful_curves}
+use Rattle.page_values.specs.Sources.{Answers}
+use Rattle.coz_page.specs.Harm.{harmful_curves}
 use Rattle.coz_page.specs.Page.{chosen_curves, curves_page, page_curves, page_text, view_for}
 use Rattle.coz_page.specs.Verdict.{book_verdict, text_verdict, profile_verdict}
 

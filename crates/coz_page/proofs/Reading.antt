@@ -7,7 +7,7 @@ use Rattle.std.proofs.lemmas.List.Elements.{All-more}
 use Rattle.coz_types.specs.Labels.{Text, path_of}
 use Rattle.coz_files.specs.Held.{Held, file_at}
 use Rattle.causal_curves.specs.declared.curve.Curve.{Curve}
-use Rattle.page_sources.specs.Sources.{AreRight, IsAnswer, look_up, source_in}
+use Rattle.page_values.specs.Sources.{AreRight, IsAnswer, look_up, source_in}
 use Rattle.coz_page.specs.Verdict.{AreSources}
 
 abbrev IsThere : Held → Curve → Type 0

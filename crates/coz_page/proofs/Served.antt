@@ -10,7 +10,7 @@ use Rattle.coz_files.specs.declared.outside.PutAnswer.TheVariants.{Done, Failed}
 use Rattle.file_steps.specs.declared.fault.FileFault.TheVariants.{Usage, Read, Write, Long, Memory}
 use Rattle.causal_curves.specs.declared.curve.Curve.{Curve}
 use Rattle.page_words.specs.Words.{Request, asked_of, request_in}
-use Rattle.page_sources.specs.Sources.{Answers}
+use Rattle.page_values.specs.Sources.{Answers}
 use Rattle.coz_page.specs.declared.judge.Ranked.{Ranked}
 use Rattle.coz_page.specs.declared.fault.Fault.{Fault}
 use Rattle.coz_page.specs.declared.fault.Fault.TheVariants.{File, Profile}

@@ -16,7 +16,7 @@ use Rattle.coz_page.specs.declared.judge.Ranked.{Ranked}
 use Rattle.coz_page.specs.declared.fault.Fault.{Fault}
 use Rattle.coz_page.specs.declared.fault.Fault.TheVariants.{File, Profile}
 use Rattle.page_words.specs.Words.{Request, asked_of}
-use Rattle.page_sources.specs.Sources.{Answers}
+use Rattle.page_values.specs.Sources.{Answers}
 use Rattle.coz_page.specs.Page.{curves_page, view_for}
 use Rattle.coz_page.specs.Verdict.{AreNamed, Verdict, text_verdict, refusal}
 

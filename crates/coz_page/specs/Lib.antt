@@ -1,3 +1,5 @@
+pub mod Lines
+pub mod Harm
 pub mod Runs
 pub mod Page
 pub mod Verdict

@@ -13,13 +13,15 @@ use Rattle.causal_curves.specs.declared.curve.Curve.{Curve}
 use Rattle.causal_curves.specs.declared.curve.CurveStep.{CurveStep}
 use Rattle.coz_files.specs.InMemory.{entries}
 use Rattle.page_words.specs.Words.{Request}
-use Rattle.page_sources.specs.Sources.{Answers, is_of_file, line_beside, look_up}
+use Rattle.page_values.specs.Sources.{Answers, look_up}
+use Rattle.coz_page.specs.Lines.{is_of_file, line_beside}
 use Rattle.coz_page.specs.declared.view.View.{View as Seen}
 use Rattle.coz_page.specs.declared.frame.TheConstants.{HEAD, NOTHING, LINES, FOOT}
 use Rattle.page_values.specs.Labels.{html}
 use Rattle.page_charts.specs.Values.{value_text, cost_text, top_for, harm_top_for}
 use Rattle.page_charts.specs.Charts.{chart_text, is_notable, small_text}
-use Rattle.page_values.specs.Harm.{worst_of, harmful_curves}
+use Rattle.page_values.specs.Harm.{worst_of}
+use Rattle.coz_page.specs.Harm.{harmful_curves}
 use Rattle.page_values.specs.Cost.{cost_of}
 use Rattle.coz_page.specs.Runs.{runs_text, visits_text}
 

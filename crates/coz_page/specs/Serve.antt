@@ -7,7 +7,7 @@ use Rattle.coz_files.specs.Puts.{AppendsPrefix}
 pub use Rattle.coz_files.specs.Puts.{IsPut}
 pub use Rattle.coz_files.specs.Verdict.{IsOfVerdict}
 use Rattle.page_words.specs.Words.{request_in}
-use Rattle.page_sources.specs.Sources.{Answers}
+use Rattle.page_values.specs.Sources.{Answers}
 use Rattle.coz_page.specs.Verdict.{AreRead, path_in, verdict}
 
 -- what is known of the line of a status

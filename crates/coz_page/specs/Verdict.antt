@@ -14,7 +14,7 @@ use Rattle.profile_reader.specs.declared.fault.BookFault.{BookFault}
 use Rattle.profile_reader.specs.ItemNames.{book_line}
 use Rattle.causal_curves.specs.declared.curve.Curve.{Curve}
 use Rattle.page_words.specs.Words.{Request, request_in}
-use Rattle.page_sources.specs.Sources.{Answers, IsAnswer, source_in}
+use Rattle.page_values.specs.Sources.{Answers, IsAnswer, source_in}
 use Rattle.coz_page.specs.Page.{page_curves, page_text}
 
 -- ---- the words

@@ -10,6 +10,7 @@ ghost use Rattle.coz_page.specs.Page.{by_point, view_of, link_text, name_text, c
 use crate::frame::{FOOT, HEAD, NOTHING};
 use crate::groups::group_length;
 use crate::judge::Ranked;
+use crate::label::put_label;
 use crate::runs::put_runs;
 use crate::sides::put_all_points;
 use crate::tables::{put_harm, put_point};
@@ -17,7 +18,6 @@ use crate::view::View;
 use causal_curves::Curve;
 use coz_files::{PutAnswer, PutBuffer, Sink};
 use coz_types::Label;
-use page_values::put_label;
 use profile_book::{Profile, put_named};
 
 fn put_link<O: Sink>(to: &mut PutBuffer, out: &mut O, index: usize, label: &Label)

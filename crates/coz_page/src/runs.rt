@@ -78,7 +78,12 @@ fn visits(point: u64, summary: &Summary) -> u64
 fn plain_run(summaries: &[Summary]) -> Option<&Summary>
     ensures { option_copied result ≡ plain_run summaries.now }
 {
-    summaries.iter().find(|summary| summary.speedup == 0)
+    for summary in summaries {
+        if summary.speedup == 0 {
+            return Some(summary);
+        }
+    }
+    None
 }
 
 fn put_count<O: Sink>(to: &mut PutBuffer, out: &mut O, point: u64, summary: &Summary)

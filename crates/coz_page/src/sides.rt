@@ -7,12 +7,13 @@ ghost use Rattle.coz_page.specs.Page.{by_point, is_behind, leads, is_notable_of,
 
 use crate::frame::LINES;
 use crate::groups::group_length;
+use crate::label::put_label;
 use crate::tables::{put_figure, top_of};
 use causal_curves::Curve;
 use coz_files::{PutBuffer, Sink};
 use coz_types::Label;
 use page_charts::is_notable;
-use page_values::{put_label, shown};
+use page_values::shown;
 
 /// Whether the other curve is of the same line, and gains more, or as much at an earlier point.
 fn is_behind(curve: &Curve, other: &Curve) -> bool
@@ -26,17 +27,16 @@ fn is_behind(curve: &Curve, other: &Curve) -> bool
             .is_lt()
 }
 
-fn is_any_behind(curves: &[Curve], curve: &Curve) -> bool
-    ensures { result ≡ list_any (is_behind curve.now) curves.now }
-{
-    curves.iter().any(|other| is_behind(curve, other))
-}
-
 /// Whether the line of the curve gains most at the curve's point.
 fn leads(curves: &[Curve], curve: &Curve) -> bool
     ensures { result ≡ leads curves.now curve.now }
 {
-    !is_any_behind(curves, curve)
+    for other in curves {
+        if is_behind(curve, other) {
+            return false;
+        }
+    }
+    true
 }
 
 fn is_notable_of(top: u64, label: &[u8], curve: &Curve) -> bool
@@ -48,7 +48,12 @@ fn is_notable_of(top: u64, label: &[u8], curve: &Curve) -> bool
 fn is_any_notable(top: u64, label: &[u8], curves: &[Curve]) -> bool
     ensures { result ≡ list_any (is_notable_of top label.now) curves.now }
 {
-    curves.iter().any(|curve| is_notable_of(top, label, curve))
+    for curve in curves {
+        if is_notable_of(top, label, curve) {
+            return true;
+        }
+    }
+    false
 }
 
 /// Whether the line of the curve gains most at its point, and is not flat at all points.

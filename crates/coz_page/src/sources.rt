@@ -2,13 +2,14 @@
 ghost use Rattle.std.specs.Prelude.{◌≡◌, ◌≤◌, None, IfOk, IfSome};
 ghost use Rattle.std.specs.Option.{option_copied};
 ghost use Rattle.coz_files.specs.InMemory.{entries};
-ghost use Rattle.page_sources.specs.Sources.{look_up};
+ghost use Rattle.page_values.specs.Sources.{look_up};
 ghost use Rattle.coz_page.specs.Page.{used};
 ghost use Rattle.coz_page.specs.Verdict.{AreNamed, AreSources};
 
+use crate::label_parts::path_of;
 use causal_curves::Curve;
 use coz_files::{Files, HeldFile};
-use page_sources::{path_of, read_source};
+use page_values::read_source;
 use std::alloc::{AllocError, Global};
 
 /// The source files of the lines of these curves, below a folder. A path whose file is already there

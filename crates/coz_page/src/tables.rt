@@ -2,20 +2,21 @@
 ghost use Rattle.std.specs.Prelude.{◌≡◌, take, length, flat_map};
 ghost use Rattle.coz_types.specs.Labels.{Text};
 ghost use Rattle.coz_files.specs.Gathered.{Gathers};
-ghost use Rattle.page_sources.specs.Sources.{look_up};
+ghost use Rattle.page_values.specs.Sources.{look_up};
 ghost use Rattle.coz_files.specs.InMemory.{entries};
 ghost use Rattle.page_values.specs.Places.{IsTop};
 ghost use Rattle.coz_page.specs.Page.{count_text};
 ghost use Rattle.coz_page.specs.Page.{view_of, source_text, row_text, rows_text, figure_text, figure_at, step_text, steps_text, values_text, pictures_text, point_name, point_number, top_of, harm_top, point_text, harm_text};
 
+use crate::label::put_label;
 use crate::runs::put_visits;
+use crate::source_lines::line_of;
 use crate::view::View;
 use causal_curves::{Curve, CurveStep};
 use coz_files::{HeldFile, PutBuffer, Sink};
 use coz_types::{Label, Summary};
 use page_charts::{harm_top_for, is_notable, put_chart, put_cost, put_small, put_value, top_for};
-use page_sources::line_of;
-use page_values::{cost_of, put_label, shown, worst_of};
+use page_values::{cost_of, shown, worst_of};
 use profile_book::{Profile, put_named};
 
 /// The text of a line, if it has one.
@@ -43,12 +44,10 @@ fn put_row<O: Sink>(
     let label = curve.selected.bytes();
     put_label(to, out, b"<tr><td>", label);
     put_source(to, out, line_of(sources, label));
-    to.push(out, b"</td><td>");
-    put_cost(to, out, cost_of(summaries, label));
-    to.push(out, b"</td><td>");
-    put_value(to, out, curve.gain);
-    to.push(out, b"</td><td>");
-    put_value(to, out, worst_of(curve.steps.as_slice()));
+    put_cost(to, out, b"</td><td>", cost_of(summaries, label));
+    put_value(to, out, b"</td><td>", curve.gain);
+    let worst = worst_of(curve.steps.as_slice());
+    put_value(to, out, b"</td><td>", worst);
     to.push(out, b"</td><td>");
     put_small(to, out, top, curve);
     to.push(out, b"</td></tr>\n");
@@ -78,8 +77,7 @@ pub fn put_figure<O: Sink>(to: &mut PutBuffer, out: &mut O, top: u64, name: &[u8
         (figure_text top name.now curve.now) }
 {
     put_label(to, out, b"<figure><figcaption>", name);
-    to.push(out, b": ");
-    put_value(to, out, curve.gain);
+    put_value(to, out, b": ", curve.gain);
     to.push(out, b"</figcaption>");
     put_chart(to, out, top, curve);
     to.push(out, b"</figure>\n");
@@ -141,8 +139,7 @@ fn put_step<O: Sink>(to: &mut PutBuffer, out: &mut O, label: &[u8], step: &Curve
 {
     put_label(to, out, b"<tr><td>", label);
     put_named(to, out, b"</td><td>", step.speedup as u64);
-    to.push(out, b"%</td><td>");
-    put_value(to, out, step.value);
+    put_value(to, out, b"%</td><td>", step.value);
     to.push(out, b"</td></tr>\n");
 }
 

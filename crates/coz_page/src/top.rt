@@ -3,7 +3,7 @@ ghost use Rattle.std.specs.Prelude.{◌≡◌, ◌≢◌, ◌↔◌, ◌⊎◌, 
 ghost use Rattle.coz_files.specs.Faults.{Rose};
 ghost use Rattle.coz_files.specs.Puts.{Puts};
 ghost use Rattle.page_words.specs.Words.{asked_of, request_in};
-ghost use Rattle.page_sources.specs.Sources.{Answers};
+ghost use Rattle.page_values.specs.Sources.{Answers};
 ghost use Rattle.coz_page.specs.Answer.{IsShown};
 ghost use Rattle.coz_page.specs.Verdict.{bytes_of, folder_of, verdict};
 ghost use Rattle.coz_page.specs.Serve.{IsOfVerdict, IsPut, IsLine, Prints, PrintsPrefix};
@@ -93,11 +93,15 @@ pub fn serve<F: Files, O: Sink, E: Sink>(
     ensures files { F.held files.new ≡ F.held files.old }
 {
     match judge(alloc, words, files) {
-        Ok(ranked) => match show(alloc, &ranked, files, out) {
-            Ok(PutAnswer::Done) => 0,
-            Ok(PutAnswer::Failed) => tell(err, Fault::File(FileFault::Write)),
-            Err(_) => tell(err, Fault::File(FileFault::Memory)),
-        },
+        Ok(ranked) => {
+            let shown = show(alloc, &ranked, files, out);
+            drop(ranked);
+            match shown {
+                Ok(PutAnswer::Done) => 0,
+                Ok(PutAnswer::Failed) => tell(err, Fault::File(FileFault::Write)),
+                Err(_) => tell(err, Fault::File(FileFault::Memory)),
+            }
+        }
         Err(fault) => tell(err, fault),
     }
 }

@@ -37,20 +37,24 @@ pub fn put_percent<O: Sink>(to: &mut PutBuffer, out: &mut O, value: i128)
     put_size(to, out, value.unsigned_abs());
 }
 
-/// A value in per cent, or that it is absent.
-pub fn put_value<O: Sink>(to: &mut PutBuffer, out: &mut O, value: Option<i128>)
-    ensures { Gathers O.holds O.faults out.old out.new to.old to.new (value_text value) }
+/// A piece of text, and after it a value in per cent, or that it is absent.
+pub fn put_value<O: Sink>(to: &mut PutBuffer, out: &mut O, before: &[u8], value: Option<i128>)
+    ensures { Gathers O.holds O.faults out.old out.new to.old to.new
+        (before.now ++ value_text value) }
 {
+    to.push(out, before);
     match value {
         Some(value) => put_percent(to, out, value),
         None => to.push(out, b"absent"),
     }
 }
 
-/// A cost in per cent, or that it is absent.
-pub fn put_cost<O: Sink>(to: &mut PutBuffer, out: &mut O, cost: Option<u128>)
-    ensures { Gathers O.holds O.faults out.old out.new to.old to.new (cost_text cost) }
+/// A piece of text, and after it a cost in per cent, or that it is absent.
+pub fn put_cost<O: Sink>(to: &mut PutBuffer, out: &mut O, before: &[u8], cost: Option<u128>)
+    ensures { Gathers O.holds O.faults out.old out.new to.old to.new
+        (before.now ++ cost_text cost) }
 {
+    to.push(out, before);
     match cost {
         Some(cost) => put_size(to, out, cost),
         None => to.push(out, b"absent"),

@@ -1,3 +1,8 @@
 pub mod Counts
 pub mod Escapes
-pub mod Harms
+pub mod Finds
+pub mod Least
+mod Looked
+mod Rights
+mod ShortFiles
+mod Utf8

@@ -3,3 +3,4 @@ pub mod Harm
 pub mod Cost
 pub mod Endings
 pub mod Places
+pub mod Sources

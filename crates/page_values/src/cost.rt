@@ -37,14 +37,24 @@ fn cost_over(base: &Summary, summary: &Summary) -> Option<u128>
 fn base_in<'a>(label: &[u8], summaries: &'a [Summary]) -> Option<&'a Summary>
     ensures { option_copied result ≡ base_in label.now summaries.now }
 {
-    summaries.iter().find(|summary| is_base(label, summary))
+    for summary in summaries {
+        if is_base(label, summary) {
+            return Some(summary);
+        }
+    }
+    None
 }
 
 /// The first run of the line at a speedup over 0.
 fn sped_in<'a>(label: &[u8], summaries: &'a [Summary]) -> Option<&'a Summary>
     ensures { option_copied result ≡ sped_in label.now summaries.now }
 {
-    summaries.iter().find(|summary| is_sped(label, summary))
+    for summary in summaries {
+        if is_sped(label, summary) {
+            return Some(summary);
+        }
+    }
+    None
 }
 
 fn cost_between(base: Option<&Summary>, sped: Option<&Summary>) -> Option<u128>

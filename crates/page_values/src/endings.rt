@@ -54,5 +54,6 @@ pub fn count_of(kind: &[u8], summaries: &[Summary]) -> u64
 pub fn others_of(summaries: &[Summary]) -> u64
     ensures { result ≡ others_of summaries.now }
 {
-    summaries.len() as u64 - count_of(b"exited", summaries)
+    let exited = count_of(b"exited", summaries);
+    summaries.len() as u64 - exited
 }

@@ -1,5 +1,5 @@
-//! What a page says of lines and runs: costs, the lines that hurt, how runs ended, labels,
-//! and where values stand in a picture.
+//! What a page says of lines and runs: costs, least values, how runs ended, the bytes of labels,
+//! source files, and where values stand in a picture.
 #![tactic(auto)]
 
 mod cost;
@@ -7,11 +7,13 @@ mod endings;
 mod harm;
 mod label;
 mod places;
+mod sources;
 mod table_lines;
 
 pub use cost::cost_of;
 pub use endings::{count_of, others_of};
-pub use harm::{harmful, worst_of};
-pub use label::{no_markup, put_label};
+pub use harm::worst_of;
+pub use label::{no_markup, reference_of};
 pub use places::{MAX_SIZE, across, height, is_cut, reaches};
+pub use sources::{MAX_SOURCE, look_up, read_source};
 pub use table_lines::shown;

@@ -2,7 +2,7 @@ use Rattle.std.proofs.Common.{rules, tests, ap, ◌∙◌}
 use Rattle.std.specs.Option.{option_copied}
 use Rattle.std.proofs.lemmas.Fn.{filter_same}
 use Rattle.causal_curves.specs.declared.curve.Curve.{Curve}
-use Rattle.page_sources.specs.Sources.{is_of_file}
+use Rattle.coz_page.specs.Lines.{is_of_file}
 use Rattle.coz_page.specs.Page.{chosen_curves}
 use Rattle.coz_page.proofs.judge.chosen.Goals as goal
 

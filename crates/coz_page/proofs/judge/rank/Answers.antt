@@ -1,6 +1,6 @@
 use Rattle.std.proofs.Common.{ap, ◌∙◌}
 use Rattle.page_words.specs.Words.{asked_of}
-use Rattle.page_values.specs.Harm.{harmful_curves}
+use Rattle.coz_page.specs.Harm.{harmful_curves}
 use Rattle.coz_page.proofs.Ranking.{curves_told, ranked_page}
 use Rattle.coz_page.proofs.judge.rank.Goals as goal
 

@@ -1,4 +1,4 @@
-use Rattle.std.proofs.Common.{rules, ap, ◌∙◌}
+use Rattle.std.proofs.Common.{rules, ap}
 use Rattle.profile_book.proofs.Gathering.{gathers_as}
 use Rattle.coz_page.specs.Runs.{warned}
 use Rattle.page_values.specs.Endings.{others_of}

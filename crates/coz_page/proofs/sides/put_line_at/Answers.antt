@@ -1,4 +1,4 @@
-use Rattle.std.proofs.Common.{List, ℕ, sym, ap, ◌∙◌}
+use Rattle.std.proofs.Common.{sym, ap, ◌∙◌}
 use Rattle.profile_book.proofs.Gathering.{gathers_as}
 use Rattle.coz_page.proofs.Choices.{put_if, put_else}
 use Rattle.coz_page.specs.Page.{line_text}

@@ -3,7 +3,7 @@ use Rattle.coz_types.specs.Labels.{Text, path_of}
 use Rattle.coz_files.specs.Held.{Held, file_at}
 use Rattle.coz_files.specs.InMemory.{entries}
 use Rattle.coz_files.specs.declared.memory_files.HeldFile.{HeldFile}
-use Rattle.page_sources.specs.Sources.{AreRight}
+use Rattle.page_values.specs.Sources.{AreRight}
 use Rattle.coz_page.proofs.Reading.{Reading, nothing_read, one_more_read, all_read}
 use Rattle.coz_page.proofs.sources.sources_below.Goals as goal
 

@@ -2,7 +2,7 @@ use Rattle.std.proofs.Common.{take}
 use Rattle.std.specs.List.{flat_map}
 use Rattle.coz_files.specs.Gathered.{Gathers}
 use Rattle.coz_files.specs.InMemory.{entries}
-use Rattle.page_sources.specs.Sources.{look_up}
+use Rattle.page_values.specs.Sources.{look_up}
 use Rattle.coz_page.specs.Page.{row_text}
 use Rattle.coz_page.proofs.tables.put_rows.Given as goal
 

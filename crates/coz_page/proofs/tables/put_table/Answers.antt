@@ -2,7 +2,7 @@ use Rattle.std.proofs.Common.{flat_map, ap}
 use Rattle.coz_files.proofs.GatheredLemmas.{gathers_then}
 use Rattle.profile_book.proofs.Gathering.{gathers_as}
 use Rattle.coz_files.specs.InMemory.{entries}
-use Rattle.page_sources.specs.Sources.{look_up}
+use Rattle.page_values.specs.Sources.{look_up}
 use Rattle.coz_page.specs.Page.{row_text}
 use Rattle.coz_page.proofs.tables.put_table.Goals as goal
 

@@ -5,7 +5,7 @@ use Rattle.coz_files.specs.Puts.{Puts}
 use Rattle.coz_files.specs.declared.memory_files.HeldFile.{HeldFile}
 use Rattle.causal_curves.specs.declared.curve.Curve.{Curve}
 use Rattle.page_words.specs.Words.{asked_of}
-use Rattle.page_sources.specs.Sources.{Answers, look_up}
+use Rattle.page_values.specs.Sources.{Answers, look_up}
 use Rattle.coz_page.specs.Page.{curves_page}
 use Rattle.coz_page.specs.Verdict.{AreNamed}
 use Rattle.coz_page.proofs.top.show.Goals as goal

@@ -1,6 +1,6 @@
 use Rattle.std.proofs.Common.{rules, ◌-◌, None, arith}
 use Rattle.causal_curves.specs.declared.curve.CurveStep.{CurveStep}
-use Rattle.page_values.proofs.Harms.{worst_at_end, worst_counts, worst_stays}
+use Rattle.page_values.proofs.Least.{worst_at_end, worst_counts, worst_stays}
 use Rattle.page_values.proofs.harm.worst_of.Goals as goal
 
 abbrev any : CurveStep

@@ -1,3 +1,0 @@
-mod Newlines
-mod Rights
-mod Utf8
