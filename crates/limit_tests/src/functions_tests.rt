@@ -129,7 +129,7 @@ static WRONG: [Row; 19] = [
 ];
 
 #[test]
-fn wrong_words_are_rejected(rt: HostRuntime) -> Result<(), Fail> {
+fn invalid_arguments_are_rejected(rt: HostRuntime) -> Result<(), Fail> {
     check_rows(&rt, Program::Functions, &programs(rt.alloc())?, &WRONG)
 }
 
@@ -267,7 +267,7 @@ static FAULTY: [Row; 10] = [
 ];
 
 #[test]
-fn the_first_fault_is_told(rt: HostRuntime) -> Result<(), Fail> {
+fn the_first_fault_is_reported(rt: HostRuntime) -> Result<(), Fail> {
     check_rows(&rt, Program::Functions, &programs(rt.alloc())?, &FAULTY)
 }
 
@@ -302,7 +302,7 @@ static FAULTS: [Fault; 7] = [
 ];
 
 #[test]
-fn faults_of_files_and_sinks_decide(rt: HostRuntime) -> Result<(), Fail> {
+fn faults_of_files_and_sinks_set_the_status(rt: HostRuntime) -> Result<(), Fail> {
     check_faults(&rt, Program::Functions, &programs(rt.alloc())?, &FAULTS)
 }
 
@@ -326,7 +326,7 @@ fn the_printed_file_ends_with_its_line_unit(rt: HostRuntime) -> Result<(), Fail>
 static BARE: [&[u8]; 3] = [b"coz-functions: ", b"no functions", b"\n"];
 
 #[test]
-fn the_status_stays_if_a_put_of_the_line_fails(rt: HostRuntime) -> Result<(), Fail> {
+fn the_status_is_kept_if_a_write_of_the_error_line_fails(rt: HostRuntime) -> Result<(), Fail> {
     let programs = programs(rt.alloc())?;
     check_failing_puts(&rt, Program::Functions, &programs, &["bare"], 14, &BARE)
 }

@@ -35,7 +35,7 @@ static WRONG: [Row; 17] = [
 ];
 
 #[test]
-fn wrong_words_are_rejected(rt: HostRuntime) -> Result<(), Fail> {
+fn invalid_arguments_are_rejected(rt: HostRuntime) -> Result<(), Fail> {
     check_rows(&rt, Program::Hot, &programs(&rt)?, &WRONG)
 }
 
@@ -127,7 +127,7 @@ line one.s:2 starts 1 cost 100 share 5000\n",
 ];
 
 #[test]
-fn lines_stand_by_falling_cost(rt: HostRuntime) -> Result<(), Fail> {
+fn lines_are_sorted_by_falling_cost(rt: HostRuntime) -> Result<(), Fail> {
     check_rows(&rt, Program::Hot, &programs(&rt)?, &PRINTED)
 }
 
@@ -179,7 +179,7 @@ static FAULTY: [Row; 8] = [
 ];
 
 #[test]
-fn the_first_fault_is_told(rt: HostRuntime) -> Result<(), Fail> {
+fn the_first_fault_is_reported(rt: HostRuntime) -> Result<(), Fail> {
     check_rows(&rt, Program::Hot, &programs(&rt)?, &FAULTY)
 }
 
@@ -249,7 +249,7 @@ static FAULTS: [Fault; 15] = [
 ];
 
 #[test]
-fn faults_of_files_and_sinks_decide(rt: HostRuntime) -> Result<(), Fail> {
+fn faults_of_files_and_sinks_set_the_status(rt: HostRuntime) -> Result<(), Fail> {
     check_faults(&rt, Program::Hot, &programs(&rt)?, &FAULTS)
 }
 
@@ -257,7 +257,7 @@ fn faults_of_files_and_sinks_decide(rt: HostRuntime) -> Result<(), Fail> {
 static ABSENT: [&[u8]; 5] = [b"coz-hot", b": ", b"read: ", b"absent", b"\n"];
 
 #[test]
-fn the_status_stays_if_a_put_of_the_line_fails(rt: HostRuntime) -> Result<(), Fail> {
+fn the_status_is_kept_if_a_write_of_the_error_line_fails(rt: HostRuntime) -> Result<(), Fail> {
     check_failing_puts(&rt, Program::Hot, &[], &["absent"], 5, &ABSENT)
 }
 

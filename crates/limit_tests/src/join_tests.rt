@@ -78,7 +78,7 @@ fn text_named<'a>(books: &'a [HeldFile], name: &str) -> &'a [u8] {
 }
 
 #[test]
-fn words_decide_on_status_and_text(rt: HostRuntime) -> Result<(), Fail> {
+fn arguments_set_the_status_and_the_output(rt: HostRuntime) -> Result<(), Fail> {
     let books = all_books(rt.alloc())?;
     for (words, status, name, line) in &ROWS {
         let expected = (*status, text_named(&books, *name), *line);
@@ -155,12 +155,12 @@ static TWICE: [&[u8]; 7] = [
 ];
 
 #[test]
-fn faults_of_files_and_sinks_decide(rt: HostRuntime) -> Result<(), Fail> {
+fn faults_of_files_and_sinks_set_the_status(rt: HostRuntime) -> Result<(), Fail> {
     check_faults(&rt, Program::Join, &all_books(rt.alloc())?, &FAULTS)
 }
 
 #[test]
-fn the_status_stays_if_a_put_of_the_line_fails(rt: HostRuntime) -> Result<(), Fail> {
+fn the_status_is_kept_if_a_write_of_the_error_line_fails(rt: HostRuntime) -> Result<(), Fail> {
     let books = all_books(rt.alloc())?;
     check_failing_puts(&rt, Program::Join, &books, &["a", "a"], 14, &TWICE)
 }

@@ -119,7 +119,7 @@ static WRONG: [Row; 16] = [
 ];
 
 #[test]
-fn wrong_words_are_rejected(rt: HostRuntime) -> Result<(), Fail> {
+fn invalid_arguments_are_rejected(rt: HostRuntime) -> Result<(), Fail> {
     check_rows(&rt, Program::Page, &files_of(rt.alloc(), &FILES)?, &WRONG)
 }
 

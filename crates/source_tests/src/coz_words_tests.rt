@@ -328,7 +328,7 @@ fn are_taken(alloc: Global, texts: &[&str], wanted: &Wanted) -> Result<bool, All
 }
 
 #[test]
-fn takes_words(rt: HostRuntime) -> Result<(), Fail> {
+fn valid_arguments_are_parsed(rt: HostRuntime) -> Result<(), Fail> {
     let alloc = rt.alloc();
     for (texts, wanted) in &TAKEN {
         let are_taken = are_taken(alloc, *texts, wanted)?;
@@ -469,7 +469,7 @@ static REFUSED: [&[&str]; 81] = [
 ];
 
 #[test]
-fn refuses_words(rt: HostRuntime) -> Result<(), Fail> {
+fn invalid_arguments_are_rejected(rt: HostRuntime) -> Result<(), Fail> {
     let alloc = rt.alloc();
     for texts in REFUSED {
         let words = words_of(alloc, texts)?;
@@ -483,7 +483,7 @@ fn refuses_words(rt: HostRuntime) -> Result<(), Fail> {
 }
 
 #[test]
-fn a_word_has_at_most_131072_bytes(rt: HostRuntime) -> Result<(), Fail> {
+fn an_argument_has_at_most_131072_bytes(rt: HostRuntime) -> Result<(), Fail> {
     let alloc = rt.alloc();
     let mut path = String::new(alloc);
     for _ in 0..131072 {

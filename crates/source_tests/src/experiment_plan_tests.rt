@@ -11,7 +11,7 @@ fn has_parts(text: &[u8], path: &[u8], number: u32) -> bool {
 }
 
 #[test]
-fn parts_and_pieces(rt: HostRuntime) {
+fn lines_have_their_path_and_number(rt: HostRuntime) {
     assert!(rt; has_parts(b"one.s:3", b"one.s", 3));
     assert!(rt; has_parts(b"a:b:4294967295", b"a:b", 4294967295));
     assert!(rt; first_piece(b"a:1,b:2,c:3") == (b"a:1".as_slice(), Some(b"b:2,c:3".as_slice())));

@@ -9,7 +9,7 @@ use std::test::Fail;
 
 // A caller of both has nothing to test in between.
 #[test]
-fn a_source_is_written(rt: HostRuntime) -> Result<(), Fail> {
+fn an_assembled_source_is_written_as_elf(rt: HostRuntime) -> Result<(), Fail> {
     let alloc = rt.alloc();
     let source = b"addi a0, x0, 0\naddi a7, x0, 93\necall\n";
     let length = match assemble(alloc, source) {

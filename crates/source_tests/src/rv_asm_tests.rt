@@ -35,8 +35,8 @@ fn program_of(alloc: Global, source: &[u8]) -> Option<(u64, u64)> {
     }
 }
 
-/// Sources, and the kind, line and column of their first fault. The places were told
-/// by an implementation that was written apart from this one.
+/// Sources, and the kind, line and column of their first fault. The positions are those
+/// of an implementation that was written apart from this one.
 static FAULTS: [(&[u8], AsmKind, u32, u32); 22] = [
     (b"    addi a0, x0, 2048", AsmKind::Range, 1, 18),
     (b"", AsmKind::Empty, 1, 1),
@@ -75,7 +75,7 @@ static FAULTS: [(&[u8], AsmKind, u32, u32); 22] = [
 ];
 
 #[test]
-fn the_first_fault_is_told(rt: HostRuntime) {
+fn the_first_fault_is_reported(rt: HostRuntime) {
     for &(source, kind, line, column) in &FAULTS {
         assert_eq!(rt; fault_of(rt.alloc(), source), Some((kind, line, column)));
     }
@@ -116,7 +116,7 @@ static WORDS: [(&[u8], u64, u64); 19] = [
 ];
 
 #[test]
-fn statements_have_their_words(rt: HostRuntime) {
+fn statements_assemble_to_their_instructions(rt: HostRuntime) {
     for &(source, words, entry) in &WORDS {
         assert_eq!(rt; program_of(rt.alloc(), source), Some((words, entry)));
     }
