@@ -1,7 +1,9 @@
 //! Tests of system calls, by programs that make them.
-use crate::calls::{Served, assembled, call, held};
-use coz_files::MemoryFiles;
+use crate::calls::{add, assembled, check_call, one_file, over, printed};
+use crate::checks::{Output, check_equal};
+use coz_files::HeldFile;
 use std::alloc::AllocError;
+use std::process::Abort;
 use std::test::Fail;
 use std::thread::Threads;
 
@@ -380,7 +382,7 @@ const HALVES: &str = "
 .dword 3, call, 94, 0, 0, 0, 0, 0, 0
 ";
 
-/// Rows for the driver, all of which answer as they say, and the output with its length.
+/// Rows for the driver, whose calls return what they say, and the output with its length.
 static ANSWERS: [(&str, &str); 7] = [
     (STREAMS, "14\nllollolsfirst \n"),
     (OWN, "0\n\n"),
@@ -394,37 +396,45 @@ static ANSWERS: [(&str, &str); 7] = [
     (HALVES, "4\nfirh\n"),
 ];
 
-/// The answer of some arguments about the program of a text and the rows after it.
-fn served<R: Threads + Sync + AllocGlobal>(
+/// An output without bytes, after its length.
+const NOTHING: &str = "0\n\n";
+
+/// The program of a text and the text after it, and its input.
+fn guest<R: Threads + Sync + AllocGlobal>(
     rt: &R,
-    words: &[&str],
     text: &str,
     rows: &str,
-) -> Result<Served, AllocError> {
+) -> Result<Vec<HeldFile>, AllocError> {
     let alloc = rt.alloc();
     let source = format!(in alloc; "{text}{rows}\n")?;
-    let mut files = assembled(rt, &[("guest.s", source.as_bytes())])?;
-    files.push(held(alloc, "input", INPUT.to_vec(alloc)?)?)?;
-    call(rt, words, MemoryFiles::new(files, Vec::new(alloc)))
+    let program = assembled(rt, "guest.s", source.as_bytes())?;
+    let mut files = one_file(alloc, "guest", &program)?;
+    add(alloc, &mut files, b"input", &INPUT)?;
+    Ok(files)
 }
 
-/// How the run has ended, and the output with its length, in what `run` prints.
-fn end_and_output(printed: &[u8]) -> (&str, &str) {
-    let text = str::from_utf8(printed).unwrap_or("");
-    let (end, rest) = text.split_once("\ntime ").unwrap_or((text, ""));
-    let (_, output) = rest.rsplit_once("\noutput ").unwrap_or(("", rest));
-    (end, output)
+/// Calls `coz` with these arguments about the program, and compares how the run ends and what it
+/// writes.
+fn check_run<R: Threads + Sync + AllocGlobal + Abort>(
+    rt: &R,
+    words: &[&str],
+    program: (&str, &str),
+    end: &str,
+    output: &str,
+) -> Result<(), Fail> {
+    let files = guest(rt, program.0, program.1)?;
+    let status = u8::from(!end.starts_with("end exited:"));
+    let expected = (status, Output::Run(end, output), b"".as_slice());
+    check_call(rt, words, &over(&files), expected)
 }
 
 /// A row that is wrong may leave harts that spin.
 const RUN: [&str; 4] = ["run", "guest", "--input=input", "--budget=100000"];
 
 #[test]
-fn calls_answer(rt: HostRuntime) -> Result<(), Fail> {
+fn calls_return_their_values(rt: HostRuntime) -> Result<(), Fail> {
     for (rows, output) in &ANSWERS {
-        let run = served(&rt, &RUN, DRIVER, *rows)?;
-        let found = end_and_output(&run.out);
-        assert_eq!(rt; found, ("end exited:0", *output), "{rows}");
+        check_run(&rt, &RUN, (DRIVER, *rows), "end exited:0", *output)?;
     }
     Ok(())
 }
@@ -438,7 +448,8 @@ const WRITTEN: &str =
 /// One worker makes the three runs of the line of `sc.w`, each from a copy of the run that
 /// has come to it: over a guest that has not begun, and over one that has gone on to its end.
 #[test]
-fn copied_guests_answer_as_the_first(rt: HostRuntime) -> Result<(), Fail> {
+fn copies_of_a_guest_return_the_same_values(rt: HostRuntime) -> Result<(), Fail> {
+    let files = guest(&rt, DRIVER, HALVES)?;
     let words = [
         "profile",
         "guest",
@@ -448,10 +459,10 @@ fn copied_guests_answer_as_the_first(rt: HostRuntime) -> Result<(), Fail> {
         "--speedups=25,50",
         "--workers=1",
     ];
-    let profile = served(&rt, &words, DRIVER, HALVES)?;
-    let text = str::from_utf8(&profile.out).unwrap_or("");
+    let profile = printed(&rt, &words, &files)?;
+    let text = str::from_utf8(&profile).unwrap_or("");
     let found = (text.matches(ENDED).count(), text.matches(WRITTEN).count());
-    assert_eq!(rt; found, (3, 3), "{text}");
+    check_equal(&rt, found, (3, 3));
     Ok(())
 }
 
@@ -504,10 +515,9 @@ static ENDS: [(&str, &str); 22] = [
 ];
 
 #[test]
-fn calls_end_the_run(rt: HostRuntime) -> Result<(), Fail> {
+fn unsupported_calls_and_exits_end_the_run(rt: HostRuntime) -> Result<(), Fail> {
     for (row, end) in &ENDS {
-        let run = served(&rt, &RUN, DRIVER, *row)?;
-        assert_eq!(rt; end_and_output(&run.out).0, *end, "{row}");
+        check_run(&rt, &RUN, (DRIVER, *row), *end, NOTHING)?;
     }
     Ok(())
 }
@@ -533,6 +543,11 @@ child:
     li a7, 93
     ecall
 ";
+
+#[test]
+fn at_most_256_harts_are_created(rt: HostRuntime) -> Result<(), Fail> {
+    check_run(&rt, &["run", "guest"], (MOST, ""), "end exited:0", NOTHING)
+}
 
 /// Sleeps for a span and reads the clock, which is to show two numbers. The sleep begins at
 /// 45 nanoseconds, and the clock is read 44 after its end.
@@ -592,9 +607,8 @@ const CALL_BY_93: [&str; 4] = ["run", "guest", "--line=guest.s:3", "--speedup=93
 
 const CALL_BY_95: [&str; 4] = ["run", "guest", "--line=guest.s:3", "--speedup=95"];
 
-/// Programs, the text after them, arguments, and how the run ends.
-static PROGRAMS: [(&str, &str, &[&str], &str); 14] = [
-    (MOST, "", &PLAIN, "end exited:0"),
+/// A program, the text after it, the arguments, and how the run ends.
+static CLOCKS: [(&str, &str, &[&str], &str); 13] = [
     // seconds and nanoseconds are rounded down
     (NAP, "0, 0, 0, 89", &PLAIN, "end exited:0"),
     (NAP, "0, 0, 0, 88", &ONE_BY_1, "end exited:0"),
@@ -629,10 +643,9 @@ static PROGRAMS: [(&str, &str, &[&str], &str); 14] = [
 ];
 
 #[test]
-fn harts_are_few_and_clocks_know_net_time(rt: HostRuntime) -> Result<(), Fail> {
-    for (text, rows, words, end) in &PROGRAMS {
-        let run = served(&rt, *words, *text, *rows)?;
-        assert_eq!(rt; end_and_output(&run.out).0, *end, "{rows}");
+fn clocks_and_sleeps_use_the_net_time(rt: HostRuntime) -> Result<(), Fail> {
+    for (text, rows, words, end) in &CLOCKS {
+        check_run(&rt, *words, (*text, *rows), *end, NOTHING)?;
     }
     Ok(())
 }

@@ -1,15 +1,18 @@
-//! How long the requests of programs are under way.
-use crate::calls::{assembled, call, copies};
-use crate::program_tests::lined_programs;
-use coz_files::HeldFile;
-use std::alloc::AllocError;
+//! The latencies that `latency` prints.
+use crate::calls::{Row, check_rows, programs_of};
+use crate::sources::{PC, STALL, Source, TWO, WAIT};
 use std::test::Fail;
-use std::thread::Threads;
 
-/// It visits its one line again and again.
-static SPIN: [(&str, &[u8]); 1] = [("spin.s", b"again: j again\n")];
+/// Programs of two harts and of one. The last one visits its one line again and again.
+static SOURCES: [Source; 5] = [
+    ("two.s", TWO),
+    ("pc.s", PC),
+    ("wait.s", WAIT),
+    ("stall.s", STALL),
+    ("spin.s", b"again: j again\n"),
+];
 
-const TWO: &[u8] =
+const BOTH_HARTS: &[u8] =
     b"latency speedup 0 end exited:0 net 8700 arrivals 2 departures 2 stray 0 open 0 area 400 mean 200\nlatency speedup 50 end exited:0 net 8650 arrivals 2 departures 2 stray 0 open 0 area 300 mean 150\n";
 
 const AT_ONCE: &[u8] =
@@ -33,20 +36,20 @@ const OPEN: &[u8] =
 const SPENT: &[u8] =
     b"latency speedup 0 end spent net 153300 arrivals 17 departures 15 stray 0 open 2 area 175000 mean 11666\nlatency speedup 95 end spent net 138600 arrivals 17 departures 16 stray 0 open 1 area 139500 mean 8718\n";
 
-const WAITED: &[u8] =
+const WAITING: &[u8] =
     b"latency speedup 0 end exited:0 net 43300 arrivals 1 departures 1 stray 0 open 0 area 34300 mean 34300\nlatency speedup 95 end exited:0 net 24300 arrivals 1 departures 1 stray 0 open 0 area 15300 mean 15300\n";
 
-const STALLED: &[u8] =
+const STALLS: &[u8] =
     b"latency speedup 0 end stalled net 4500 arrivals 1 departures 1 stray 0 open 0 area 0 mean 0\n";
 
 const FULL: &[u8] =
     b"latency speedup 0 end visits-full net 209715200 arrivals 1048576 departures 1048576 stray 0 open 0 area 0 mean 0\n";
 
-/// The arguments after `latency`, and the expected answer: the status, the output and the line
-/// of the fault. The numbers were computed from the visits that another program printed.
-static LATENCIES: [(&[&str], u8, &[u8], &[u8]); 16] = [
+/// The numbers were computed from the visits that another program printed.
+static LATENCIES: [Row; 16] = [
     (
         &[
+            "latency",
             "two",
             "--line=two.s:6",
             "--arrive=two.s:5",
@@ -54,11 +57,12 @@ static LATENCIES: [(&[&str], u8, &[u8], &[u8]); 16] = [
             "--speedups=50",
         ],
         0,
-        TWO,
+        BOTH_HARTS,
         b"",
     ),
     (
         &[
+            "latency",
             "two",
             "--line=two.s:6",
             "--arrive=two.s:5",
@@ -71,6 +75,7 @@ static LATENCIES: [(&[&str], u8, &[u8], &[u8]); 16] = [
     ),
     (
         &[
+            "latency",
             "two",
             "--line=two.s:6",
             "--arrive=two.s:7",
@@ -83,6 +88,7 @@ static LATENCIES: [(&[&str], u8, &[u8], &[u8]); 16] = [
     ),
     (
         &[
+            "latency",
             "two",
             "--line=two.s:6",
             "--arrive=two.s:5",
@@ -95,6 +101,7 @@ static LATENCIES: [(&[&str], u8, &[u8], &[u8]); 16] = [
     ),
     (
         &[
+            "latency",
             "two",
             "--line=two.s:6",
             "--arrive=two.s:5,two.s:7",
@@ -107,6 +114,7 @@ static LATENCIES: [(&[&str], u8, &[u8], &[u8]); 16] = [
     ),
     (
         &[
+            "latency",
             "pc",
             "--line=pc.s:51",
             "--arrive=pc.s:64",
@@ -119,6 +127,7 @@ static LATENCIES: [(&[&str], u8, &[u8], &[u8]); 16] = [
     ),
     (
         &[
+            "latency",
             "pc",
             "--line=pc.s:62",
             "--arrive=pc.s:13,pc.s:64",
@@ -131,6 +140,7 @@ static LATENCIES: [(&[&str], u8, &[u8], &[u8]); 16] = [
     ),
     (
         &[
+            "latency",
             "pc",
             "--line=pc.s:62",
             "--arrive=pc.s:13",
@@ -144,6 +154,7 @@ static LATENCIES: [(&[&str], u8, &[u8], &[u8]); 16] = [
     ),
     (
         &[
+            "latency",
             "wait",
             "--line=wait.s:17",
             "--arrive=wait.s:8",
@@ -151,11 +162,12 @@ static LATENCIES: [(&[&str], u8, &[u8], &[u8]); 16] = [
             "--speedups=95",
         ],
         0,
-        WAITED,
+        WAITING,
         b"",
     ),
     (
         &[
+            "latency",
             "stall",
             "--line=stall.s:1",
             "--arrive=stall.s:5",
@@ -163,11 +175,12 @@ static LATENCIES: [(&[&str], u8, &[u8], &[u8]); 16] = [
             "--speedups=0",
         ],
         1,
-        STALLED,
+        STALLS,
         b"",
     ),
     (
         &[
+            "latency",
             "spin",
             "--line=spin.s:1",
             "--arrive=spin.s:1",
@@ -180,13 +193,14 @@ static LATENCIES: [(&[&str], u8, &[u8], &[u8]); 16] = [
         b"",
     ),
     (
-        &["two", "--line=two.s:6", "--arrive=two.s:5"],
+        &["latency", "two", "--line=two.s:6", "--arrive=two.s:5"],
         2,
         b"",
         b"coz: usage\n",
     ),
     (
         &[
+            "latency",
             "two",
             "--line=two.s:9",
             "--arrive=two.s:10",
@@ -198,6 +212,7 @@ static LATENCIES: [(&[&str], u8, &[u8], &[u8]); 16] = [
     ),
     (
         &[
+            "latency",
             "two",
             "--line=two.s:1",
             "--arrive=two.s:10,two.s:9",
@@ -209,6 +224,7 @@ static LATENCIES: [(&[&str], u8, &[u8], &[u8]); 16] = [
     ),
     (
         &[
+            "latency",
             "two",
             "--line=two.s:1",
             "--arrive=two.s:1",
@@ -220,6 +236,7 @@ static LATENCIES: [(&[&str], u8, &[u8], &[u8]); 16] = [
     ),
     (
         &[
+            "latency",
             "absent",
             "--line=two.s:1",
             "--arrive=two.s:1",
@@ -231,26 +248,8 @@ static LATENCIES: [(&[&str], u8, &[u8], &[u8]); 16] = [
     ),
 ];
 
-fn programs<R: Threads + Sync + AllocGlobal>(rt: &R) -> Result<Vec<HeldFile>, AllocError> {
-    let mut programs = lined_programs(rt)?;
-    for program in assembled(rt, &SPIN)? {
-        programs.push(program)?;
-    }
-    Ok(programs)
-}
-
 #[test]
-fn requests_are_measured(rt: HostRuntime) -> Result<(), Fail> {
-    let alloc = rt.alloc();
-    let programs = programs(&rt)?;
-    for (words, status, out, err) in &LATENCIES {
-        let mut asked = vec![in alloc; "latency"]?;
-        asked.extend_from_slice(*words)?;
-        let served = call(&rt, &asked, copies(alloc, &programs)?)?;
-        assert_eq!(rt;
-            (served.status, served.out.as_slice(), served.err.as_slice()),
-            (*status, *out, *err)
-        );
-    }
-    Ok(())
+fn latencies_are_those_of_the_visits(rt: HostRuntime) -> Result<(), Fail> {
+    let programs = programs_of(&rt, &SOURCES)?;
+    check_rows(&rt, &programs, &LATENCIES)
 }

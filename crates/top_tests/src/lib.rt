@@ -1,12 +1,14 @@
-//! Tests of the top call over files, words and programs that it assembles, and nothing else.
+//! Tests of the top call over files, arguments and programs that it assembles, and nothing else.
 #![tactic(auto)]
 
+#[cfg(test)]
+mod argument_tests;
 #[cfg(test)]
 mod call_tests;
 #[cfg(test)]
 mod calls;
 #[cfg(test)]
-mod coz_cli_tests;
+mod checks;
 #[cfg(test)]
 mod latency_tests;
 #[cfg(test)]
@@ -19,5 +21,7 @@ mod profile_tests;
 mod program_tests;
 #[cfg(test)]
 mod sleep_tests;
+#[cfg(test)]
+mod sources;
 #[cfg(test)]
 mod workers_tests;

@@ -1,11 +1,12 @@
-//! Programs whose threads talk through pipes: what `run` and `really` print of them.
-use crate::calls::{asked, assembled};
+//! Programs whose harts use pipes: what `run` and `really` print of them.
+use crate::calls::{Pair, check_pairs, programs_of};
+use crate::sources::Source;
 use std::test::Fail;
 
-/// Programs of one hart that reads to the end of a pipe, that writes to a pipe that no end reads,
-/// and that reads from one that no end writes; and of more: a hart reads what another writes; it waits at an end
-/// that is closed meanwhile; two wait for one byte; and one writes more than a pipe holds.
-static PIPED: [(&str, &[u8]); 7] = [
+/// One hart reads to the end of a pipe, writes to a pipe whose reading end is closed, or reads from
+/// a pipe that nobody writes to. A hart reads what another one writes, or waits at an end that the
+/// other one closes. Two harts wait for one byte. A hart writes more than a pipe holds.
+static PIPED: [Source; 7] = [
     (
         "eof.s",
         b"la s0, ends\nmv a0, s0\nli a1, 0\nli a7, 59\necall\nli a0, 4\nla a1, text\nli a2, 3\nli a7, 64\necall\nmv s1, a0\nli a0, 4\nli a7, 57\necall\nli a0, 3\nla a1, into\nli a2, 8\nli a7, 63\necall\nadd s1, s1, a0\nli a0, 3\nli a7, 63\necall\nadd s1, s1, a0\nli a0, 1\nla a1, into\nli a2, 8\nli a7, 64\necall\nmv a0, s1\nli a7, 94\necall\n.data\nends: .dword 0\ntext: .ascii \"abc\"\ninto: .zero 8\n",
@@ -36,8 +37,7 @@ static PIPED: [(&str, &[u8]); 7] = [
     ),
 ];
 
-/// A program and options, the status, and what `run` and `really` print.
-static PIPES: [(&[&str], u8, &[u8], &[u8]); 9] = [
+static PIPES: [Pair; 9] = [
     (
         &["eof"],
         0,
@@ -105,20 +105,7 @@ static PIPES: [(&[&str], u8, &[u8], &[u8]); 9] = [
 ];
 
 #[test]
-fn pipes_come_out_alike(rt: HostRuntime) -> Result<(), Fail> {
-    let programs = assembled(&rt, &PIPED)?;
-    for (options, status, delayed, shortened) in &PIPES {
-        let run = asked(&rt, "run", options, &programs)?;
-        let really = asked(&rt, "really", options, &programs)?;
-        assert_eq!(rt;
-            (
-                run.status,
-                run.out.as_slice(),
-                really.status,
-                really.out.as_slice()
-            ),
-            (*status, *delayed, *status, *shortened)
-        );
-    }
-    Ok(())
+fn pipes_are_the_same_for_run_and_really(rt: HostRuntime) -> Result<(), Fail> {
+    let programs = programs_of(&rt, &PIPED)?;
+    check_pairs(&rt, &programs, &PIPES)
 }

@@ -1,13 +1,68 @@
-//! Profiles of a small program: what is put of them, read and plotted.
-use crate::calls::{ONE_SOURCE, Outside, Served, call, call_over, held, one_file};
-use coz_files::{FreeGate, MemoryFiles};
+//! Profiles of a small program: what is printed of them, read and plotted.
+use crate::calls::{Room, Setup, WIDE, check_call, one_file, over, printed, programs_of};
+use crate::checks::Output;
+use crate::sources::{ONE, Source};
 use std::alloc::{AllocError, Global};
+use std::process::Abort;
 use std::test::Fail;
 use std::thread::Threads;
 
-/// What is done to the text of the profile of `one.s` with two speedups: the bytes at an offset
-/// give way to others. Beside it are the status and the line of the fault that `plot` tells then.
-static DAMAGES: [(usize, usize, &[u8], u8, &[u8]); 20] = [
+static SOURCES: [Source; 1] = [("one.s", ONE)];
+
+/// The profile of the first line with two speedups.
+const PROFILE: &[u8] =
+    b"coz-ticks\tversion=1\tbudget=100000000\tpoints=0\nexperiment\tselected=one.s:1\tspeedup=0\tend=exited:0\ttime=4200\tdelay=0\tretired=3\tstarts=1\noutput\tlength=0\tsha256=e3b0c44298fc1c149afbf4c8996fb92427ae41e4649b934ca495991b7852b855\nvisits\tsha256=e3b0c44298fc1c149afbf4c8996fb92427ae41e4649b934ca495991b7852b855\nexperiment\tselected=one.s:1\tspeedup=50\tend=exited:0\ttime=4200\tdelay=50\tretired=3\tstarts=1\noutput\tlength=0\tsha256=e3b0c44298fc1c149afbf4c8996fb92427ae41e4649b934ca495991b7852b855\nvisits\tsha256=e3b0c44298fc1c149afbf4c8996fb92427ae41e4649b934ca495991b7852b855\n";
+
+static WORDS: [&str; 5] = [
+    "profile",
+    "one",
+    "--lines=one.s:1",
+    "--speedups=50",
+    "--workers=1",
+];
+
+/// Sinks with room for part of the profile.
+static ROOMS: [Room; 4] = [
+    Room {
+        bytes: 0,
+        fails: &[],
+    },
+    Room {
+        bytes: 1,
+        fails: &[],
+    },
+    Room {
+        bytes: 100,
+        fails: &[],
+    },
+    Room {
+        bytes: 557,
+        fails: &[],
+    },
+];
+
+#[test]
+fn a_full_output_holds_the_first_bytes_of_the_profile(rt: HostRuntime) -> Result<(), Fail> {
+    let programs = programs_of(&rt, &SOURCES)?;
+    let whole = (0, Output::Whole(PROFILE), b"".as_slice());
+    check_call(&rt, &WORDS, &over(&programs), whole)?;
+    for room in &ROOMS {
+        let setup = Setup {
+            rooms: (*room, WIDE),
+            ..over(&programs)
+        };
+        let first = PROFILE.get(..room.bytes as usize).unwrap_or(PROFILE);
+        let expected = (6, Output::Whole(first), b"coz: write\n".as_slice());
+        check_call(&rt, &WORDS, &setup, expected)?;
+    }
+    Ok(())
+}
+
+/// An offset, the number of bytes there that are replaced, the bytes that replace them, and the exit
+/// status and the error line of `plot` then.
+type Damage = (usize, usize, &'static [u8], u8, &'static [u8]);
+
+static DAMAGES: [Damage; 20] = [
     (0, 558, b"", 12, b"coz: profile: Head at 0\n"),
     (9, 549, b"", 12, b"coz: profile: Version at 9\n"),
     (10, 548, b"", 12, b"coz: profile: Version at 9\n"),
@@ -30,55 +85,30 @@ static DAMAGES: [(usize, usize, &[u8], u8, &[u8]); 20] = [
     (72, 1, b"0", 12, b"coz: profile: Selected at 56\n"),
 ];
 
-fn damaged(
-    alloc: Global,
-    text: &[u8],
-    place: usize,
-    gone: usize,
-    put: &[u8],
-) -> Result<Vec<u8>, AllocError> {
-    let mut bytes = Vec::new(alloc);
-    bytes.extend_from_slice(text.get(..place).unwrap_or(&[]))?;
-    bytes.extend_from_slice(put)?;
-    bytes.extend_from_slice(text.get(place.saturating_add(gone)..).unwrap_or(&[]))?;
-    Ok(bytes)
+/// The profile with a change.
+fn damaged(alloc: Global, damage: &Damage) -> Result<Vec<u8>, AllocError> {
+    let (offset, count, bytes, _, _) = *damage;
+    let mut changed = Vec::new(alloc);
+    changed.extend_from_slice(PROFILE.get(..offset).unwrap_or(&[]))?;
+    changed.extend_from_slice(bytes)?;
+    changed.extend_from_slice(PROFILE.get(offset.saturating_add(count)..).unwrap_or(&[]))?;
+    Ok(changed)
 }
 
-/// A profile of `one.s`, over an output with this much room.
-fn profiled_over<R: Threads + Sync + AllocGlobal>(
+fn check_damage<R: Threads + Sync + AllocGlobal + Abort>(
     rt: &R,
-    options: &[&str],
-    room: u64,
-) -> Result<Served, AllocError> {
-    let alloc = rt.alloc();
-    let source = one_file(alloc, "one.s", ONE_SOURCE)?;
-    let made = call(rt, &["asm", "one.s"], source)?;
-    let mut words = Vec::new(alloc);
-    words.extend_from_slice(&["profile", "one"])?;
-    words.extend_from_slice(options)?;
-    let files = one_file(alloc, "one", &made.out)?;
-    call_over(rt, &words, Outside { files, room }, &FreeGate)
-}
-
-/// The text of a profile of `one.s`.
-fn profiled<R: Threads + Sync + AllocGlobal>(
-    rt: &R,
-    options: &[&str],
-) -> Result<Vec<u8>, AllocError> {
-    Ok(profiled_over(rt, options, 100000)?.out)
+    damage: &Damage,
+) -> Result<(), Fail> {
+    let changed = damaged(rt.alloc(), damage)?;
+    let files = one_file(rt.alloc(), "p", &changed)?;
+    let expected = (damage.3, Output::Whole(b""), damage.4);
+    check_call(rt, &["plot", "p"], &over(&files), expected)
 }
 
 #[test]
-fn damaged_profiles_are_refused(rt: HostRuntime) -> Result<(), Fail> {
-    let alloc = rt.alloc();
-    let text = profiled(&rt, &["--lines=one.s:1", "--speedups=50"])?;
-    for (place, gone, put, status, err) in DAMAGES {
-        let bytes = damaged(alloc, &text, place, gone, put)?;
-        let served = call(&rt, &["plot", "p"], one_file(alloc, "p", &bytes)?)?;
-        assert_eq!(rt;
-            (served.status, served.out.len(), served.err.as_slice()),
-            (status, 0, err)
-        );
+fn damaged_profiles_are_rejected(rt: HostRuntime) -> Result<(), Fail> {
+    for damage in &DAMAGES {
+        check_damage(&rt, damage)?;
     }
     Ok(())
 }
@@ -86,37 +116,24 @@ fn damaged_profiles_are_refused(rt: HostRuntime) -> Result<(), Fail> {
 const CURVES: &[u8] =
     b"curve\tpoint=0\tselected=one.s:3\tgain=9047\nstep\tspeedup=0\tvalue=0\tbar=\nstep\tspeedup=95\tvalue=9047\tbar=####################################\ncurve\tpoint=0\tselected=one.s:1\tgain=226\nstep\tspeedup=0\tvalue=0\tbar=\nstep\tspeedup=95\tvalue=226\tbar=\n";
 
+static TWO_LINES: [&str; 5] = [
+    "profile",
+    "one",
+    "--lines=one.s:1,one.s:3",
+    "--speedups=95",
+    "--progress=one.s:3",
+];
+
+/// A second read of the profile would fail.
 #[test]
 fn profiles_are_plotted(rt: HostRuntime) -> Result<(), Fail> {
-    let options = [
-        "--lines=one.s:1,one.s:3",
-        "--speedups=95",
-        "--progress=one.s:3",
-    ];
-    let text = profiled(&rt, &options)?;
-    // A second read of the file would fail.
-    let held_files = vec![in rt.alloc(); held(rt.alloc(), "p", text)?]?;
-    let files = MemoryFiles::new(held_files, vec![in rt.alloc(); 1u64]?);
-    let served = call(&rt, &["plot", "p"], files)?;
-    assert_eq!(rt;
-        (served.status, served.out.as_slice(), served.err.len()),
-        (0, CURVES, 0)
-    );
-    Ok(())
-}
-
-#[test]
-fn what_is_put_of_a_profile_is_a_prefix(rt: HostRuntime) -> Result<(), Fail> {
-    let options = ["--lines=one.s:1", "--speedups=50", "--workers=1"];
-    let whole = profiled_over(&rt, &options, 1000)?;
-    assert_eq!(rt; (whole.status, whole.out.len()), (0, 558));
-    for room in [0, 1, 100, 557] {
-        let cut = profiled_over(&rt, &options, room)?;
-        let prefix = whole.out.get(..room as usize).unwrap_or(&[]);
-        assert_eq!(rt;
-            (cut.status, cut.out.as_slice(), cut.err.as_slice()),
-            (6, prefix, b"coz: write\n".as_slice())
-        );
-    }
-    Ok(())
+    let programs = programs_of(&rt, &SOURCES)?;
+    let profile = printed(&rt, &TWO_LINES, &programs)?;
+    let files = one_file(rt.alloc(), "p", &profile)?;
+    let setup = Setup {
+        fails: &[1],
+        ..over(&files)
+    };
+    let expected = (0, Output::Whole(CURVES), b"".as_slice());
+    check_call(&rt, &["plot", "p"], &setup, expected)
 }

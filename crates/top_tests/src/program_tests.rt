@@ -1,13 +1,27 @@
 //! Programs that are assembled, run and profiled, and what is printed.
-use crate::calls::{ONE_SOURCE, Outside, assembled, call, call_over, copies, held, one_file};
-use coz_files::{FreeGate, HeldFile};
+use crate::calls::{
+    Row, add, assembled, check_call, check_rows, one_file, over, printed, programs_of,
+};
+use crate::checks::{Expected, Output, check_equal};
+use crate::sources::{LINED, ONE, Source};
+use coz_files::HeldFile;
 use std::alloc::{AllocError, Global};
+use std::process::Abort;
 use std::test::Fail;
 use std::thread::Threads;
 
 /// What `run` prints of the program of three instructions.
-pub(crate) const ONE: &[u8] =
+pub(crate) const ONE_RUN: &[u8] =
     b"end exited:0\ntime 4200\ndelay 0\nnet 4200\nretired 3\nstarts 0\nhart 0 own 0 paused 0 credited 0\noutput 0\n\n";
+
+#[test]
+fn an_assembled_program_runs(rt: HostRuntime) -> Result<(), Fail> {
+    let program = assembled(&rt, "one.s", ONE)?;
+    check_equal(&rt, program.len(), 4536);
+    let files = one_file(rt.alloc(), "made", &program)?;
+    let expected = (0, Output::Whole(ONE_RUN), b"".as_slice());
+    check_call(&rt, &["run", "made"], &over(&files), expected)
+}
 
 /// Line tables of 13 bytes, and the lines of their faults: the beginning of a unit whose header
 /// says that it is longer, and one of the form of 64 bits.
@@ -31,86 +45,65 @@ fn with_table(alloc: Global, file: &[u8], table: &[u8]) -> Result<Vec<u8>, Alloc
     Ok(cut)
 }
 
+fn check_table<R: Threads + Sync + AllocGlobal + Abort>(
+    rt: &R,
+    program: &[u8],
+    table: &[u8],
+    err: &[u8],
+) -> Result<(), Fail> {
+    let cut = with_table(rt.alloc(), program, table)?;
+    let files = one_file(rt.alloc(), "cut", &cut)?;
+    check_call(
+        rt,
+        &["run", "cut"],
+        &over(&files),
+        (4, Output::Whole(b""), err),
+    )
+}
+
 #[test]
-fn what_is_assembled_runs(rt: HostRuntime) -> Result<(), Fail> {
-    let alloc = rt.alloc();
-    let source = ONE_SOURCE;
-    let made = call(&rt, &["asm", "one.s"], one_file(alloc, "one.s", source)?)?;
-    assert_eq!(rt; (made.status, made.out.len(), made.err.len()), (0, 4536, 0));
-    let run = call(&rt, &["run", "made"], one_file(alloc, "made", &made.out)?)?;
-    assert_eq!(rt;
-        (run.status, run.out.as_slice(), run.err.len()),
-        (0, ONE, 0)
-    );
+fn faults_of_line_tables_are_reported(rt: HostRuntime) -> Result<(), Fail> {
+    let program = assembled(&rt, "one.s", ONE)?;
     for (table, err) in &TABLES {
-        let cut = with_table(alloc, &made.out, table)?;
-        let refused = call(&rt, &["run", "cut"], one_file(alloc, "cut", &cut)?)?;
-        assert_eq!(rt;
-            (refused.status, refused.out.len(), refused.err.as_slice()),
-            (4, 0, *err)
-        );
+        check_table(&rt, &program, table, *err)?;
     }
     Ok(())
 }
 
 /// Programs that write 1,024 bytes again and again, which fill the output, and 1,000, of which
-/// 304 of the last have room; and how the records of their runs begin.
-static FILLS: [(&[u8], &[u8]); 2] = [
+/// the last write is cut to 304.
+static WRITERS: [Source; 2] = [
     (
+        "whole.s",
         b"again: li a0, 1\nla a1, text\nli a2, 1024\nli a7, 64\necall\nj again\n.data\ntext: .zero 1024\n",
+    ),
+    (
+        "cut.s",
+        b"again: li a0, 1\nla a1, text\nli a2, 1000\nli a7, 64\necall\nj again\n.data\ntext: .zero 1000\n",
+    ),
+];
+
+/// The arguments, and how the record of the run begins.
+static FULL: [(&[&str], &[u8]); 2] = [
+    (
+        &["run", "whole"],
         b"end output-full\ntime 19251000\ndelay 0\nnet 19251000\nretired 28671\nstarts 0\nhart 0 own 0 paused 0 credited 0\noutput 4194304\n",
     ),
     (
-        b"again: li a0, 1\nla a1, text\nli a2, 1000\nli a7, 64\necall\nj again\n.data\ntext: .zero 1000\n",
+        &["run", "cut"],
         b"end output-full\ntime 19716300\ndelay 0\nnet 19716300\nretired 29364\nstarts 0\nhart 0 own 0 paused 0 credited 0\noutput 4194304\n",
     ),
 ];
 
 #[test]
-fn a_run_ends_as_its_output_is_full(rt: HostRuntime) -> Result<(), Fail> {
-    let alloc = rt.alloc();
-    for (source, head) in &FILLS {
-        let made = call(&rt, &["asm", "fill.s"], one_file(alloc, "fill.s", *source)?)?;
-        let files = one_file(alloc, "fill", &made.out)?;
-        let outside = Outside {
-            files,
-            room: 5000000,
-        };
-        let run = call_over(&rt, &["run", "fill"], outside, &FreeGate)?;
-        assert_eq!(rt;
-            (run.status, run.out.len(), run.out.get(..head.len())),
-            (1, 4194427, Some(*head))
-        );
+fn a_run_ends_when_its_output_is_full(rt: HostRuntime) -> Result<(), Fail> {
+    let programs = programs_of(&rt, &WRITERS)?;
+    for (words, head) in &FULL {
+        let expected = (1, Output::Head(*head, 4_194_427), b"".as_slice());
+        check_call(&rt, *words, &over(&programs), expected)?;
     }
     Ok(())
 }
-
-/// Programs of one hart and of two, one that traps, and four whose harts wait: for nobody,
-/// for an exit, for a wake, and each for the other.
-static LINED: [(&str, &[u8]); 7] = [
-    ("d/one.s", ONE_SOURCE),
-    (
-        "two.s",
-        b"li a0, 69376\nli a1, 0\nli a7, 220\necall\naddi t0, t0, 1\nli a0, 0\nli a7, 93\necall\n",
-    ),
-    ("trap.s", b"    ebreak\n"),
-    (
-        "stall.s",
-        b"la a0, word\nli a1, 0\nli a2, 0\nli a7, 98\necall\n.data\nword: .word 0\n",
-    ),
-    (
-        "join.s",
-        b"la a4, word\nli a0, 2166528\nli a7, 220\necall\nbeq a0, x0, child\nmv a0, a4\nli a1, 0\nli a2, 1\nli a7, 98\necall\nli a0, 0\nli a7, 94\necall\nchild: li a7, 124\necall\nli a7, 93\necall\n.data\nword: .word 1\n",
-    ),
-    (
-        "wait.s",
-        b"li a0, 69376\nli a7, 220\necall\nbeq a0, x0, child\nla a0, word\nli a1, 0\nli a2, 0\nli a7, 98\necall\nli a0, 0\nli a7, 94\necall\nchild: li a7, 124\necall\necall\nli t0, 10\nagain: div t1, t1, t0\naddi t0, t0, -1\nbne t0, x0, again\nla a0, word\nli a1, 1\nli a2, 1\nli a7, 98\necall\nli a7, 93\necall\n.data\nword: .word 0\n",
-    ),
-    (
-        "pc.s",
-        b"# pc.s\n.text\n_start:\nla s0, slot\nla s1, left\nli a0, 69376\nli a7, 220\necall\nbeq a0, x0, consume\nli s2, 50\nproduce:\nmul t1, s2, s2\naddi t1, t1, 7\nwait_free:\nlw t0, 0(s0)\nbeq t0, x0, put\nmv a0, s0\nli a1, 0\nmv a2, t0\nli a7, 98\necall\nj wait_free\nput:\nsw s2, 0(s0)\nmv a0, s0\nli a1, 1\nli a2, 1\nli a7, 98\necall\naddi s2, s2, -1\nbne s2, x0, produce\nfinish:\nlw t0, 0(s1)\nbeq t0, x0, say\nmv a0, s1\nli a1, 0\nmv a2, t0\nli a7, 98\necall\nj finish\nsay:\nli a0, 1\nla a1, text\nli a2, 5\nli a7, 64\necall\nli a0, 0\nli a7, 94\necall\nconsume:\nli s3, 50\ntake:\nlw t0, 0(s0)\nbne t0, x0, got\nmv a0, s0\nli a1, 0\nli a2, 0\nli a7, 98\necall\nj take\ngot:\ndiv t2, t0, s3\ndiv t2, t2, s3\nsw x0, 0(s0)\nmv a0, s0\nli a1, 1\nli a2, 1\nli a7, 98\necall\naddi s3, s3, -1\nbne s3, x0, take\nsw x0, 0(s1)\nmv a0, s1\nli a1, 1\nli a2, 1\nli a7, 98\necall\nli a0, 0\nli a7, 93\necall\n.data\nslot: .word 0\nleft: .word 1\ntext: .ascii \"done\\n\"\n",
-    ),
-];
 
 const ONE_LINES: &[u8] = b"skipped 0\nd/one.s:1\t0x10000\nd/one.s:2\t0x10004\nd/one.s:3\t0x10008\n";
 
@@ -140,16 +133,16 @@ const CHILD_IS_CREDITED: &[u8] =
 const TRAP_IS_VISITED: &[u8] =
     b"end trapped:break:0:0x10000\nnet 50\nretired 1\nstarts 1\nvisit 0 hart 0 net 50\noutput 0\n\n";
 
-const STALLED: &[u8] =
+const STALLS: &[u8] =
     b"end stalled\ntime 4500\ndelay 0\nnet 4500\nretired 6\nstarts 0\nhart 0 own 0 paused 0 credited 0\noutput 0\n\n";
 
-const JOINED: &[u8] =
+const JOINS: &[u8] =
     b"end exited:0\ntime 17000\ndelay 0\nnet 17000\nretired 20\nstarts 0\nhart 0 own 0 paused 0 credited 0\nhart 1 own 0 paused 0 credited 0\noutput 0\n\n";
 
 const WAITER_IS_CREDITED: &[u8] =
     b"end exited:0\ntime 43300\ndelay 19000\nnet 24300\nretired 57\nstarts 10\nhart 0 own 0 paused 0 credited 19000\nhart 1 own 19000 paused 0 credited 0\noutput 0\n\n";
 
-const WAITED: &[u8] =
+const WAITS: &[u8] =
     b"end exited:0\ntime 43300\ndelay 0\nnet 43300\nretired 57\nstarts 10\nhart 0 own 0 paused 0 credited 0\nhart 1 own 0 paused 0 credited 0\noutput 0\n\n";
 
 const DONE: &[u8] =
@@ -164,9 +157,7 @@ const PLANNED: &[u8] =
 const SPENT_RUNS: &[u8] =
     b"coz-ticks\tversion=1\tbudget=2\tpoints=0\nexperiment\tselected=d/one.s:1\tspeedup=0\tend=spent\ttime=200\tdelay=0\tretired=2\tstarts=1\noutput\tlength=0\tsha256=e3b0c44298fc1c149afbf4c8996fb92427ae41e4649b934ca495991b7852b855\nvisits\tsha256=e3b0c44298fc1c149afbf4c8996fb92427ae41e4649b934ca495991b7852b855\nexperiment\tselected=d/one.s:1\tspeedup=50\tend=spent\ttime=200\tdelay=50\tretired=2\tstarts=1\noutput\tlength=0\tsha256=e3b0c44298fc1c149afbf4c8996fb92427ae41e4649b934ca495991b7852b855\nvisits\tsha256=e3b0c44298fc1c149afbf4c8996fb92427ae41e4649b934ca495991b7852b855\n";
 
-/// Words about these programs, and what they give: the status, the output
-/// and the line of the fault.
-static NAMED: [(&[&str], u8, &[u8], &[u8]); 24] = [
+static NAMED: [Row; 24] = [
     (&["lines", "d/one"], 0, ONE_LINES, b""),
     (&["lines", "five"], 0, ONE_LINES, b""),
     (
@@ -266,15 +257,15 @@ static NAMED: [(&[&str], u8, &[u8], &[u8]); 24] = [
         b"",
         b"coz: selection: no line s:1\n",
     ),
-    (&["run", "stall"], 1, STALLED, b""),
-    (&["run", "join"], 0, JOINED, b""),
+    (&["run", "stall"], 1, STALLS, b""),
+    (&["run", "join"], 0, JOINS, b""),
     (
         &["run", "wait", "--line", "wait.s:17", "--speedup", "95"],
         0,
         WAITER_IS_CREDITED,
         b"",
     ),
-    (&["run", "wait", "--line", "wait.s:17"], 0, WAITED, b""),
+    (&["run", "wait", "--line", "wait.s:17"], 0, WAITS, b""),
     (&["run", "pc"], 0, DONE, b""),
     (
         &["profile", "d/one", "--lines", "one.s:1", "--speedups", "50"],
@@ -319,79 +310,88 @@ static NAMED: [(&[&str], u8, &[u8], &[u8]); 24] = [
         b"coz: selection: no line one.s:9\n",
     ),
 ];
-/// The programs of these sources, and the first with lines of version 5.
-pub(crate) fn lined_programs<R: Threads + Sync + AllocGlobal>(
-    rt: &R,
-) -> Result<Vec<HeldFile>, AllocError> {
-    let alloc = rt.alloc();
-    let mut programs = assembled(rt, &LINED)?;
-    let (name, source) = LINED[0];
-    let words = ["asm", "--dwarf=5", name];
-    let made = call(rt, &words, one_file(alloc, name, source)?)?;
-    programs.push(held(alloc, "five", made.out)?)?;
+
+/// The programs with lines, and the first one with lines of version 5.
+fn lined_programs<R: Threads + Sync + AllocGlobal>(rt: &R) -> Result<Vec<HeldFile>, AllocError> {
+    let mut programs = programs_of(rt, &LINED)?;
+    let source = one_file(rt.alloc(), "d/one.s", ONE)?;
+    let program = printed(rt, &["asm", "--dwarf=5", "d/one.s"], &source)?;
+    add(rt.alloc(), &mut programs, b"five", &program)?;
     Ok(programs)
 }
 
 #[test]
-fn lines_are_named(rt: HostRuntime) -> Result<(), Fail> {
-    let alloc = rt.alloc();
+fn commands_find_lines_by_their_names(rt: HostRuntime) -> Result<(), Fail> {
     let programs = lined_programs(&rt)?;
-    for (words, status, out, err) in &NAMED {
-        let served = call(&rt, words, copies(alloc, &programs)?)?;
-        assert_eq!(rt;
-            (served.status, served.out.as_slice(), served.err.as_slice()),
-            (*status, *out, *err)
-        );
-    }
-    Ok(())
+    check_rows(&rt, &programs, &NAMED)
 }
-/// A source of `count` instructions, one a line, and the list of its lines.
-fn long_source(alloc: Global, count: u32) -> Result<(Vec<u8>, String), AllocError> {
-    let mut source = Vec::new(alloc);
-    let mut list = String::new(alloc);
-    for line in 0..count {
+
+/// A program of `count` instructions, one a line.
+fn long_program<R: Threads + Sync + AllocGlobal>(
+    rt: &R,
+    count: usize,
+) -> Result<Vec<HeldFile>, AllocError> {
+    let mut source = Vec::new(rt.alloc());
+    for _ in 0..count {
         source.extend_from_slice(b"nop\n")?;
-        if line > 0 {
-            list.push_str(",")?;
-        }
-        let named = format!(in alloc; "p.s:{}", line + 1)?;
+    }
+    let program = assembled(rt, "p.s", &source)?;
+    one_file(rt.alloc(), "p", &program)
+}
+
+/// The list of the lines from 1 to `count`.
+fn list_of_lines(alloc: Global, count: usize) -> Result<String, AllocError> {
+    let mut list = String::from_str(alloc, "p.s:1")?;
+    for line in 1..count {
+        let named = format!(in alloc; ",p.s:{}", line + 1)?;
         list.push_str(named.as_str())?;
     }
-    Ok((source, list))
+    Ok(list)
 }
 
-#[test]
-fn there_are_64_points_at_most(rt: HostRuntime) -> Result<(), Fail> {
-    let alloc = rt.alloc();
-    for (count, status, err) in [
-        (64u32, 1u8, b"".as_slice()),
-        (65, 7, b"coz: selection: 65 points\n".as_slice()),
-    ] {
-        let (source, list) = long_source(alloc, count)?;
-        let made = call(&rt, &["asm", "p.s"], one_file(alloc, "p.s", &source)?)?;
-        let words = ["really", "p", "--progress", list.as_str()];
-        let served = call(&rt, &words, one_file(alloc, "p", &made.out)?)?;
-        assert_eq!(rt; (served.status, served.err.as_slice()), (status, err));
-    }
-    Ok(())
+/// Calls `really` with all lines of a program of `count` instructions as its points.
+fn check_points<R: Threads + Sync + AllocGlobal + Abort>(
+    rt: &R,
+    count: usize,
+    expected: Expected,
+) -> Result<(), Fail> {
+    let files = long_program(rt, count)?;
+    let list = list_of_lines(rt.alloc(), count)?;
+    let words = ["really", "p", "--progress", list.as_str()];
+    check_call(rt, &words, &over(&files), expected)
 }
 
+/// How the record of a run of 64 instructions and as many points begins.
+const LONG_HEAD: &[u8] = b"end trapped:illegal:0:0x10100\nnet ";
+
 #[test]
-fn there_are_100000_experiments_at_most(rt: HostRuntime) -> Result<(), Fail> {
-    let alloc = rt.alloc();
-    let (source, list) = long_source(alloc, 5001)?;
-    let made = call(&rt, &["asm", "p.s"], one_file(alloc, "p.s", &source)?)?;
-    let planned = call(&rt, &["profile", "p"], one_file(alloc, "p", &made.out)?)?;
-    assert_eq!(rt;
-        (planned.status, planned.err.as_slice()),
-        (9, b"coz: plan: 100020 experiments\n".as_slice())
+fn at_most_64_points_are_accepted(rt: HostRuntime) -> Result<(), Fail> {
+    let accepted = (1, Output::Head(LONG_HEAD, 1_650), b"".as_slice());
+    check_points(&rt, 64, accepted)?;
+    let rejected = (
+        7,
+        Output::Whole(b""),
+        b"coz: selection: 65 points\n".as_slice(),
     );
-    // The points are judged first.
+    check_points(&rt, 65, rejected)
+}
+
+/// The points are checked before the number of experiments.
+#[test]
+fn at_most_100000_experiments_are_planned(rt: HostRuntime) -> Result<(), Fail> {
+    let files = long_program(&rt, 5001)?;
+    let too_long = (
+        9,
+        Output::Whole(b""),
+        b"coz: plan: 100020 experiments\n".as_slice(),
+    );
+    check_call(&rt, &["profile", "p"], &over(&files), too_long)?;
+    let rejected = (
+        7,
+        Output::Whole(b""),
+        b"coz: selection: 5001 points\n".as_slice(),
+    );
+    let list = list_of_lines(rt.alloc(), 5001)?;
     let words = ["profile", "p", "--progress", list.as_str()];
-    let served = call(&rt, &words, one_file(alloc, "p", &made.out)?)?;
-    assert_eq!(rt;
-        (served.status, served.err.as_slice()),
-        (7, b"coz: selection: 5001 points\n".as_slice())
-    );
-    Ok(())
+    check_call(&rt, &words, &over(&files), rejected)
 }

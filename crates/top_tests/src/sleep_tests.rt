@@ -1,28 +1,19 @@
 //! Programs whose harts sleep and read the clock: the net times of `run` are the times of `really`.
-use crate::calls::{asked, assembled};
+use crate::calls::{Pair, Row, check_pairs, check_rows, programs_of};
+use crate::sources::{CLOCK, DOZE, NAP, Source};
 use std::test::Fail;
 
-/// Programs of one hart that sleeps, that asks for a moment which is too late,
-/// and that reads the clock; and of two: one sleeps beside another that works; for no time
-/// beside another that is due at the same moment, the first in number and the second; one leaves
-/// while the other sleeps; both sleep; one wakes nobody and ends the run while the other sleeps.
-static SLEEPERS: [(&str, &[u8]); 9] = [
-    (
-        "nap.s",
-        b"la a0, span\nli a1, 0\nli a7, 101\necall\nli a0, 0\nli a7, 94\necall\n.data\nspan: .dword 0, 50\n",
-    ),
-    (
-        "clock.s",
-        b"la a0, span\nli a1, 0\nli a7, 101\necall\nli a0, 0\nli a7, 94\necall\n.data\nspan: .dword 100000, 0\n",
-    ),
+/// One hart sleeps, or reads the clock. Of two harts one sleeps beside one that works, or for no time
+/// beside one that is due at the same time, as the first hart or the second. One hart exits while the
+/// other sleeps, or both sleep, or one ends the run while the other sleeps.
+static SLEEPERS: [Source; 9] = [
+    ("nap.s", NAP),
+    ("clock.s", CLOCK),
     (
         "read.s",
         b"div t0, t0, t0\nla a1, room\nli a0, 1\nli a7, 113\necall\nld a0, 8(a1)\nli a7, 94\necall\n.data\nroom: .dword 0, 0\n",
     ),
-    (
-        "doze.s",
-        b"li a0, 69376\nli a7, 220\necall\nbeq a0, x0, child\nla a0, span\nli a7, 101\necall\nli a7, 94\necall\nchild: div t0, t0, t0\nj child\n.data\nspan: .dword 0, 50\n",
-    ),
+    ("doze.s", DOZE),
     (
         "first.s",
         b"li a0, 69376\nli a7, 220\necall\nbeq a0, x0, other\nla a0, span\nli a7, 101\necall\nli a7, 94\necall\nother: la a0, span\nli a7, 124\necall\nagain: j again\n.data\nspan: .dword 0, 0\n",
@@ -45,8 +36,7 @@ static SLEEPERS: [(&str, &[u8]); 9] = [
     ),
 ];
 
-/// A program and options, the status, and what `run` and `really` print.
-static SLEEPS: [(&[&str], u8, &[u8], &[u8]); 11] = [
+static SLEEPS: [Pair; 11] = [
     // Its wake starts a selected instruction, which visits as it retires.
     (
         &["nap", "--line=nap.s:5", "--progress=nap.s:5"],
@@ -136,40 +126,45 @@ static SLEEPS: [(&[&str], u8, &[u8], &[u8]); 11] = [
 ];
 
 #[test]
-fn sleepers_come_out_alike(rt: HostRuntime) -> Result<(), Fail> {
-    let programs = assembled(&rt, &SLEEPERS)?;
-    for (options, status, delayed, shortened) in &SLEEPS {
-        let run = asked(&rt, "run", options, &programs)?;
-        let really = asked(&rt, "really", options, &programs)?;
-        assert_eq!(rt;
-            (
-                run.status,
-                run.out.as_slice(),
-                really.status,
-                really.out.as_slice()
-            ),
-            (*status, *delayed, *status, *shortened)
-        );
-    }
-    Ok(())
+fn sleeps_are_the_same_for_run_and_really(rt: HostRuntime) -> Result<(), Fail> {
+    let programs = programs_of(&rt, &SLEEPERS)?;
+    check_pairs(&rt, &programs, &SLEEPS)
 }
 
 /// The first start of line 8 is at a wake.
 const DOZE_PROFILE: &[u8] =
     b"coz-ticks\tversion=1\tbudget=100000000\tpoints=0\nexperiment\tselected=doze.s:8\tspeedup=0\tend=exited:0\ttime=17800\tdelay=0\tretired=24\tstarts=1\noutput\tlength=0\tsha256=e3b0c44298fc1c149afbf4c8996fb92427ae41e4649b934ca495991b7852b855\nvisits\tsha256=e3b0c44298fc1c149afbf4c8996fb92427ae41e4649b934ca495991b7852b855\nexperiment\tselected=doze.s:8\tspeedup=50\tend=exited:0\ttime=17800\tdelay=50\tretired=24\tstarts=1\noutput\tlength=0\tsha256=e3b0c44298fc1c149afbf4c8996fb92427ae41e4649b934ca495991b7852b855\nvisits\tsha256=e3b0c44298fc1c149afbf4c8996fb92427ae41e4649b934ca495991b7852b855\nexperiment\tselected=doze.s:10\tspeedup=0\tend=exited:0\ttime=17800\tdelay=0\tretired=24\tstarts=7\noutput\tlength=0\tsha256=e3b0c44298fc1c149afbf4c8996fb92427ae41e4649b934ca495991b7852b855\nvisits\tsha256=e3b0c44298fc1c149afbf4c8996fb92427ae41e4649b934ca495991b7852b855\nexperiment\tselected=doze.s:10\tspeedup=50\tend=exited:0\ttime=29800\tdelay=12000\tretired=34\tstarts=12\noutput\tlength=0\tsha256=e3b0c44298fc1c149afbf4c8996fb92427ae41e4649b934ca495991b7852b855\nvisits\tsha256=e3b0c44298fc1c149afbf4c8996fb92427ae41e4649b934ca495991b7852b855\n";
 
-#[test]
-fn a_lead_stops_at_a_wake(rt: HostRuntime) -> Result<(), Fail> {
-    let programs = assembled(&rt, &SLEEPERS)?;
-    for workers in ["--workers=1", "--workers=16"] {
-        let options = [
+/// By one worker, and by as many as there may be.
+static DOZE_PROFILES: [Row; 2] = [
+    (
+        &[
+            "profile",
             "doze",
             "--lines=doze.s:8,doze.s:10",
             "--speedups=50",
-            workers,
-        ];
-        let profile = asked(&rt, "profile", &options, &programs)?;
-        assert_eq!(rt; (profile.status, profile.out.as_slice()), (0, DOZE_PROFILE));
-    }
-    Ok(())
+            "--workers=1",
+        ],
+        0,
+        DOZE_PROFILE,
+        b"",
+    ),
+    (
+        &[
+            "profile",
+            "doze",
+            "--lines=doze.s:8,doze.s:10",
+            "--speedups=50",
+            "--workers=16",
+        ],
+        0,
+        DOZE_PROFILE,
+        b"",
+    ),
+];
+
+#[test]
+fn a_line_that_starts_first_at_a_wake_is_profiled(rt: HostRuntime) -> Result<(), Fail> {
+    let programs = programs_of(&rt, &SLEEPERS)?;
+    check_rows(&rt, &programs, &DOZE_PROFILES)
 }

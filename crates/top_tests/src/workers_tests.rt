@@ -1,11 +1,14 @@
-//! Tests of `workers`.
-use crate::calls::{Outside, call_over, copies};
-use crate::program_tests::lined_programs;
-use coz_files::{FreeGate, Gate};
-use sha2::{Digest, Sha256};
+//! Profiles and trials that several workers make.
+use crate::calls::{Room, Setup, Sinks, WIDE, check_call, over, programs_of, status_of, two_sinks};
+use crate::checks::{Output, check_equal};
+use crate::sources::{PC, Source, TWO};
+use coz_files::{Gate, HeldFile};
+use std::process::Abort;
 use std::sync::atomic::{AtomicU64, Ordering};
 use std::test::Fail;
-use std::thread;
+use std::thread::{self, Threads};
+
+static SOURCES: [Source; 2] = [("two.s", TWO), ("pc.s", PC)];
 
 /// The SHA-256 of the profile of three lines of `pc`.
 const PC_PROFILE: [u8; 32] = [
@@ -27,66 +30,91 @@ const PC_WHOLE: [u8; 32] = [
 
 const THREE_LINES: &str = "--lines=pc.s:12,pc.s:24,pc.s:62";
 
-/// What a profile of `pc` with these options prints, over a sink with this much room: the status,
-/// the length of the output and its SHA-256, and the line of the fault.
-static PC_PROFILES: [(&[&str], u64, u8, usize, [u8; 32], &[u8]); 5] = [
+/// The arguments, the room of the output, and the expected exit status, output and error line.
+type Profile = (
+    &'static [&'static str],
+    u64,
+    u8,
+    Output<'static>,
+    &'static [u8],
+);
+
+static PC_PROFILES: [Profile; 5] = [
     (
-        &[THREE_LINES, "--workers=1"],
+        &[
+            "profile",
+            "pc",
+            "--progress=pc.s:64",
+            THREE_LINES,
+            "--workers=1",
+        ],
         100000,
         0,
-        18018,
-        PC_PROFILE,
+        Output::Digest(PC_PROFILE, 18018),
         b"",
     ),
     (
-        &[THREE_LINES, "--workers=2"],
+        &[
+            "profile",
+            "pc",
+            "--progress=pc.s:64",
+            THREE_LINES,
+            "--workers=2",
+        ],
         100000,
         0,
-        18018,
-        PC_PROFILE,
+        Output::Digest(PC_PROFILE, 18018),
         b"",
     ),
     (
-        &[THREE_LINES, "--workers=16"],
+        &[
+            "profile",
+            "pc",
+            "--progress=pc.s:64",
+            THREE_LINES,
+            "--workers=16",
+        ],
         100000,
         0,
-        18018,
-        PC_PROFILE,
+        Output::Digest(PC_PROFILE, 18018),
         b"",
     ),
     (
-        &[THREE_LINES, "--workers=2"],
+        &[
+            "profile",
+            "pc",
+            "--progress=pc.s:64",
+            THREE_LINES,
+            "--workers=2",
+        ],
         100,
         6,
-        100,
-        PC_BEGINNING,
+        Output::Digest(PC_BEGINNING, 100),
         b"coz: write\n",
     ),
     // All lines at all speedups: 1,380 experiments.
-    (&[], 500000, 0, 410444, PC_WHOLE, b""),
+    (
+        &["profile", "pc", "--progress=pc.s:64"],
+        500000,
+        0,
+        Output::Digest(PC_WHOLE, 410_444),
+        b"",
+    ),
 ];
 
 #[test]
-fn any_number_of_workers_prints_the_same(rt: HostRuntime) -> Result<(), Fail> {
-    let alloc = rt.alloc();
-    let programs = lined_programs(&rt)?;
-    for (options, room, status, length, digest, err) in &PC_PROFILES {
-        let mut words = vec![in alloc; "profile", "pc", "--progress=pc.s:64"]?;
-        words.extend_from_slice(*options)?;
-        let outside = Outside {
-            files: copies(alloc, &programs)?,
-            room: *room,
+fn any_number_of_workers_prints_the_same_profile(rt: HostRuntime) -> Result<(), Fail> {
+    let programs = programs_of(&rt, &SOURCES)?;
+    for (words, bytes, status, out, err) in &PC_PROFILES {
+        let room = Room {
+            bytes: *bytes,
+            fails: &[],
         };
-        let served = call_over(&rt, &words, outside, &FreeGate)?;
-        assert_eq!(rt;
-            (
-                served.status,
-                served.out.len(),
-                Sha256::digest(served.out.as_slice()),
-                served.err.as_slice()
-            ),
-            (*status, *length, *digest, *err)
-        );
+        let setup = Setup {
+            rooms: (room, WIDE),
+            ..over(&programs)
+        };
+        check_call(&rt, *words, &setup, (*status, *out, *err))?;
     }
     Ok(())
 }
@@ -107,7 +135,7 @@ struct HoldingGate {
     met: AtomicU64,
     /// 256^k for each time that claim k was made.
     claims: AtomicU64,
-    /// How often a worker had a number that none has.
+    /// How often a worker had a number that no worker has.
     strangers: AtomicU64,
 }
 
@@ -229,29 +257,44 @@ fn gate_rows() -> [GateRow; 7] {
     ]
 }
 
+fn check_gate_in<R: Threads + Sync + AllocGlobal + Abort>(
+    rt: &R,
+    row: &GateRow,
+    programs: &[HeldFile],
+    sinks: &mut Sinks,
+) -> Result<(), Fail> {
+    let mut words = Vec::new(rt.alloc());
+    words.extend_from_slice(row.words)?;
+    words.push(row.option)?;
+    let gate = HoldingGate::new(row);
+    let status = status_of(rt, &words, &over(programs), sinks, &gate)?;
+    let found = (
+        status,
+        gate.met.load(Ordering::SeqCst),
+        gate.claims.load(Ordering::SeqCst),
+        gate.strangers.load(Ordering::SeqCst),
+    );
+    check_equal(rt, found, (0, row.met, row.claims, 0));
+    Ok(())
+}
+
+fn check_gate<R: Threads + Sync + AllocGlobal + Abort>(
+    rt: &R,
+    row: &GateRow,
+    programs: &[HeldFile],
+) -> Result<(), Fail> {
+    let mut sinks = two_sinks(rt.alloc(), (WIDE, WIDE))?;
+    let checked = check_gate_in(rt, row, programs, &mut sinks);
+    // By one call, since a drop in place is proved part by part.
+    drop(sinks);
+    checked
+}
+
 #[test]
-fn workers_work_beside_each_other_and_draw(rt: HostRuntime) -> Result<(), Fail> {
-    let alloc = rt.alloc();
-    let programs = lined_programs(&rt)?;
+fn workers_run_at_the_same_time(rt: HostRuntime) -> Result<(), Fail> {
+    let programs = programs_of(&rt, &SOURCES)?;
     for row in &gate_rows() {
-        let mut words = Vec::new(alloc);
-        words.extend_from_slice(row.words)?;
-        words.push(row.option)?;
-        let gate = HoldingGate::new(row);
-        let outside = Outside {
-            files: copies(alloc, &programs)?,
-            room: 100000,
-        };
-        let served = call_over(&rt, &words, outside, &gate)?;
-        assert_eq!(rt;
-            (
-                served.status,
-                gate.met.load(Ordering::SeqCst),
-                gate.claims.load(Ordering::SeqCst),
-                gate.strangers.load(Ordering::SeqCst)
-            ),
-            (0, row.met, row.claims, 0)
-        );
+        check_gate(&rt, row, &programs)?;
     }
     Ok(())
 }
