@@ -1,5 +1,5 @@
 -- What the arguments give, with the files that the paths hold: a status, a text for the output
--- and a line for the errors, behind the program's name.
+-- and a line for the errors, after the program's name.
 use Rattle.std.specs.Prelude.{ℕ, List, codes, Option, None, Some}
 use Rattle.coz_files.specs.Held.{Held}
 use Rattle.coz_words.specs.declared.request.Request.{Request}

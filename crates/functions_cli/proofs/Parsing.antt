@@ -30,7 +30,7 @@ pub texts : (words : List (String Global)) → AreTexts (map string_bytes words)
 texts [] = tt
 texts (word ∷ words) = coz_texts.are_texts (word ∷ word ∷ words)
 
--- ---- the words begin behind the program's name
+-- ---- the words begin after the program's name
 
 walk_is : (s : Shape) (names : Names) (w : Walk) (words : List Text) → walk_fault (without_name s) names w words ≡ walk_fault s names w words
 unfolding walk_fault

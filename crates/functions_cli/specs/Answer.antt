@@ -56,7 +56,7 @@ IsOfFunctions target (Step (File (Long path))) = path.now ≡ target
 IsOfFunctions target (Step (File Memory)) = Unit {0}
 IsOfFunctions target _ = ⊥
 
--- the faults that a request may have behind the reading of its file
+-- the faults that a request may have after the reading of its file
 abbrev pub IsOfProgram : Request → Fault → Type 0
 IsOfProgram request (Step (File Usage)) = ⊥
 IsOfProgram request (Step (File (Read path))) = ⊥

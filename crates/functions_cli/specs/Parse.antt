@@ -4,7 +4,7 @@ use Rattle.clap.specs.Simple.{App, Shape}
 use Rattle.coz_words.specs.Parse as parse
 use Rattle.functions_cli.specs.Words.{option_names}
 
--- the words begin behind the program's name
+-- the words begin after the program's name
 abbrev pub without_name : Shape → Shape
 without_name s = record s { no_binary_name = true }
 

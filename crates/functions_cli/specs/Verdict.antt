@@ -1,5 +1,5 @@
 -- What the words and the file of the program that they name come to: a status, a text for the
--- output and a line for the errors, behind the program's name.
+-- output and a line for the errors, after the program's name.
 use Rattle.std.specs.Prelude.{◌≡◌, ℕ, ◌≤◌, ◌⊎◌, true, List, [], ◌++◌, length, codes, Option, Some, None, Result, Ok, Err}
 use Rattle.coz_types.specs.Image.{ImageParts}
 use Rattle.coz_types.specs.Labels.{Text}

@@ -46,7 +46,7 @@ static CHANGED: [Change; 8] = [
     ("lineless", &[(378, b'x')]),
     // The section of the names has another name.
     ("nameless", &[(369, b'x')]),
-    // `main` is an object, and `work` ends behind the executable area.
+    // `main` is an object, and `work` ends after the executable area.
     ("objects", &[(180, 0x11), (218, 1)]),
     // All of the file is loaded.
     ("loaded", &[(96, 0xD0), (97, 2), (104, 0xD0), (105, 2)]),

@@ -4,3 +4,4 @@ pub mod Judged
 pub mod Telling
 mod Reading
 mod Numbers
+mod Examples

@@ -5,7 +5,7 @@ use Rattle.coz_files.specs.Held.{Held}
 use Rattle.coz_files.specs.Verdict.{IsOfVerdict}
 use Rattle.program_steps.specs.Verdict.{Verdict}
 
--- what is known of the line of a status: behind the program's name it is that of the fault with
+-- what is known of the line of a status: after the program's name, it is the line of the fault with
 -- this status, or the verdict's. `IsNamed` are the paths that the words name; `told` are the
 -- files, if they are known, and `judged` is the verdict with them.
 pub record IsFaultLine (name : List ℕ) (IsNamed : List ℕ → Type 0) (judged : Held → Verdict)

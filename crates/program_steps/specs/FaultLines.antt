@@ -1,5 +1,5 @@
 -- The texts of the faults of a program, of its line table, of a selection, a plan, a source
--- and a profile, behind the program's name.
+-- and a profile, after the program's name.
 use Rattle.std.specs.Prelude.{ℕ, List, ◌++◌, codes, decimal}
 use Rattle.elf_load.specs.declared.ElfKind.{ElfKind}
 use Rattle.elf_load.specs.declared.ElfKind.TheVariants.{NotElf, NotClass64, NotLittle, NotExec, NotRiscv, Compressed, HeaderOut, PackedLines, Interp, SizeOrder, AddressOut, WritableCode, SharedPage, TooMuch, EntryOut}
