@@ -68,8 +68,9 @@ pub fn serve_functions<F: Files, O: Sink, E: Sink>(
         × Appends (O.holds out.old) (O.holds out.new) written
         × (is_same_program image (load_answer written) ≡ true))) }
 
-    // By its line table each executable address has the line that is kept, else that of its
-    // function, else none. The table is read without a fault, and nothing of it is skipped.
+    // By its line table each executable address has the line that is kept, else that of the first
+    // region that has its line, else that of its function, else none. The table is read without a
+    // fault, and nothing of it is skipped.
     ensures lines { IfSome (F.held files.old) (λ held. result ≡ 0 →
         ProgramHas (bytes_of words.now) held (λ image index marks. (written : List ℕ)
         × Appends (O.holds out.old) (O.holds out.new) written
