@@ -1,9 +1,10 @@
-# make         proves and builds the programs, and leaves them as build/coz, build/coz-page,
-#              build/coz-join, build/coz-hot and build/coz-functions
+# make         proves and builds the programs, as many crates at a time as there are processors, and leaves them as
+#              build/coz, build/coz-page, build/coz-join, build/coz-hot and build/coz-functions
 # make test    runs the merge gate, and then checks the man pages and that machines take no memory and,
 #              if the programs are built, the outputs that README and TUTORIAL show and an example's profile
 # make try ARGS="run examples/one"    runs the program with no proof, in some minutes
-# make quick   builds the same programs without proving them, in some minutes; they run slower
+# make quick   builds the same programs without proving them, in two or three minutes; CHECKS=1 leaves their run-time
+#              checks in, which a changed tree needs
 # make guests  builds, with Debian's packages, what guests/coz-cc links programs with
 # make examples    builds the examples in C as they stand, with a C library of their own
 # make page    the same of build/coz-page alone; make join of build/coz-join, make hot of build/coz-hot,
@@ -17,30 +18,11 @@ EXAMPLES = longer ledger
 
 .PHONY: build page join hot functions test try quick guests examples install uninstall clean
 
-build: page join hot functions
-	cd crates/coz && rt run -- run data/one > /dev/null
-	mkdir -p build
-	cp crates/coz/out/coz build/coz
+build:
+	tools/prove
 
-page:
-	cd crates/coz_page_main && rt run -- data/profile > /dev/null
-	mkdir -p build
-	cp crates/coz_page_main/out/coz_page_main build/coz-page
-
-join:
-	cd crates/coz_join && rt run -- data/a data/b > /dev/null
-	mkdir -p build
-	cp crates/coz_join/out/coz_join build/coz-join
-
-hot:
-	cd crates/coz_hot && rt run -- data/one > /dev/null
-	mkdir -p build
-	cp crates/coz_hot/out/coz_hot build/coz-hot
-
-functions:
-	cd crates/coz_functions_main && rt run -- ../../examples/longer > /dev/null
-	mkdir -p build
-	cp crates/coz_functions_main/out/coz_functions_main build/coz-functions
+page join hot functions:
+	tools/prove coz-$@
 
 test:
 	bash .ci/run
@@ -54,7 +36,7 @@ try:
 	cd crates/coz && rt try $(foreach file,$(wildcard $(ARGS)),--data $(file)=$(abspath $(file))) -- $(ARGS)
 
 quick:
-	tools/quick-build
+	tools/quick-build $(if $(CHECKS),--checks)
 
 guests:
 	guests/build
