@@ -163,10 +163,12 @@ long __coz_timed_wait(volatile int *address, int value, const struct timespec *s
     return 0;
 }
 
-// What a program asks for by syscall(): waits with a time-out are made here, a requeue wakes those
-// that it would move, and a bitset has to be full.
+// Waits that may be cancelled come here, and what a program asks for by syscall(): waits with a
+// time-out are made here, a requeue wakes those that it would move, and a bitset has to be full. A
+// wait stays private if it is, since a kernel wakes only those who agree in this.
 static long futex_(long *a) {
     int operation = a[1] & 127, wait = operation == 0 || operation == 9;
+    int private = a[1] & FUTEX_PRIVATE;
     if (operation == 9 || operation == 10) {
         if ((int)a[5] != -1) __coz_unsupported(SYS_futex, a);
         operation -= 9;
@@ -185,10 +187,10 @@ static long futex_(long *a) {
     if (operation == 3 || operation == 4) {
         if (operation == 4 && *(volatile int *)a[0] != (int)a[5]) return -EAGAIN;
         long count = (long)(int)a[2] + (int)a[3];
-        return __coz_ecall(SYS_futex, a[0], 1, count > INT_MAX ? INT_MAX : count, 0, 0, 0);
+        return __coz_ecall(SYS_futex, a[0], 1 | private, count > INT_MAX ? INT_MAX : count, 0, 0, 0);
     }
     if (operation > 1) __coz_unsupported(SYS_futex, a);
-    return __coz_ecall(SYS_futex, a[0], operation, a[2], 0, 0, 0);
+    return __coz_ecall(SYS_futex, a[0], operation | private, a[2], 0, 0, 0);
 }
 
 // ---- Signals: none but those that the program sends to itself ----
