@@ -31,6 +31,7 @@ static long net_time(struct timespec *to) {
 // stack, with room for the auxiliary pairs behind the environment.
 hidden long *__coz_start(long *stack) {
     long *words = __coz_args.words;
+    __coz_start_files();
     if (!words) return stack;
     long *from = stack + 1 + stack[0] + 1, *to = words + 1 + words[0] + 1;
     while (*from++);
@@ -42,6 +43,13 @@ hidden long *__coz_start(long *stack) {
         from += 2;
     } while (from[-2]);
     return words;
+}
+
+// ---- The end ----
+
+static long exit_group_(long *a) {
+    __coz_end_files();
+    for (;;) __coz_ecall(SYS_exit_group, a[0], 0, 0, 0, 0, 0);
 }
 
 // ---- A call without an answer ----
@@ -216,7 +224,7 @@ static long raise_here(long number) {
     if (handler == SIG_DFL) {
         if (number == SIGCHLD || number == SIGCONT || number == SIGURG || number == SIGWINCH)
             return 0;
-        for (;;) __coz_ecall(SYS_exit_group, 128 + number, 0, 0, 0, 0, 0);
+        exit_group_((long[]){128 + number});
     }
     handler(number);
     a_inc(&raised);
@@ -424,14 +432,13 @@ static long normal_priority(long *a) {
     return 20;
 }
 
-// The profiler answers these whatever their arguments are. With the first four, musl doesn't come
+// The profiler answers these whatever their arguments are. With the first two, musl doesn't come
 // here.
 #define OF_COZ(number) \
-    number == SYS_exit || number == SYS_exit_group || number == SYS_set_tid_address || \
-        number == SYS_nanosleep || number == SYS_sched_yield || number == SYS_rt_sigprocmask || \
-        number == SYS_getpid || number == SYS_gettid || number == SYS_brk || \
-        number == SYS_munmap || number == SYS_mremap || number == SYS_mprotect || \
-        number == SYS_pipe2
+    number == SYS_exit || number == SYS_set_tid_address || number == SYS_nanosleep || \
+        number == SYS_sched_yield || number == SYS_rt_sigprocmask || number == SYS_getpid || \
+        number == SYS_gettid || number == SYS_brk || number == SYS_munmap || \
+        number == SYS_mremap || number == SYS_mprotect || number == SYS_pipe2
 
 static coz_answer *const answers[] = {
     [SYS_getcwd] = getcwd_,
@@ -448,8 +455,8 @@ static coz_answer *const answers[] = {
     [SYS_truncate] = __coz_truncate,
     [SYS_ftruncate] = __coz_ftruncate,
     [SYS_fallocate] = __coz_fallocate,
-    [SYS_faccessat] = __coz_faccessat,
-    [SYS_faccessat2] = __coz_faccessat,
+    [SYS_faccessat] = __coz_name_exists,
+    [SYS_faccessat2] = __coz_name_exists,
     [SYS_chdir] = chdir_,
     [SYS_fchmod] = __coz_end_exists,
     [SYS_fchmodat] = __coz_name_exists,
@@ -476,6 +483,7 @@ static coz_answer *const answers[] = {
     [SYS_fdatasync] = __coz_fsync,
     [SYS_utimensat] = zero,
     [SYS_waitid] = no_child,
+    [SYS_exit_group] = exit_group_,
     [SYS_futex] = futex_,
     [SYS_set_robust_list] = zero,
     [SYS_setitimer] = zero,

@@ -21,13 +21,17 @@ struct coz_file {
     long length;
 };
 
-// What guests/coz-args fills in: it finds this by its first bytes. Each is 0 in a program that it
-// didn't touch.
+// What guests/coz-args fills in: it finds this by its first bytes. `prints` names the files that are
+// written to the output at the end, and `errors` the one to which standard error goes. Each is 0 in
+// a program that it didn't touch.
 struct coz_args {
     char mark[16];
     long *words;
     struct coz_file *files;
     long file_count;
+    const char **prints;
+    long print_count;
+    const char *errors;
 };
 extern hidden struct coz_args __coz_args;
 
@@ -45,8 +49,11 @@ hidden long __coz_pages(long bytes);
 // -ETIMEDOUT.
 hidden long __coz_timed_wait(volatile int *address, int value, const struct timespec *span);
 
+// The files of the program's beginning and of its end, in files.c.
+hidden void __coz_start_files(void), __coz_end_files(void);
+
 // The calls about files and their ends, in files.c.
-hidden coz_answer __coz_close, __coz_dup, __coz_dup3, __coz_faccessat, __coz_fallocate, __coz_fcntl,
+hidden coz_answer __coz_close, __coz_dup, __coz_dup3, __coz_fallocate, __coz_fcntl,
     __coz_fstat, __coz_fsync, __coz_ftruncate, __coz_ioctl, __coz_lseek, __coz_mmap,
     __coz_newfstatat, __coz_openat, __coz_pread64, __coz_pwrite64, __coz_read, __coz_readlinkat,
     __coz_readv, __coz_renameat, __coz_statfs, __coz_truncate, __coz_unlinkat, __coz_write,

@@ -1,6 +1,6 @@
-// Files of the guest: those that guests/coz-args put into the program, which are read only, and
-// those that the program makes, which live in memory until it ends. Their ends have numbers from
-// 1,000 on; 0 to 2 are the profiler's, as those of pipes are.
+// Files of the guest: those that guests/coz-args put into the program, and those that the program
+// makes. All live in memory until it ends, and can be written, removed and renamed. Their ends have
+// numbers from 1,000 on; 0 to 2 are the profiler's, as those of pipes are.
 #include "coz.h"
 #include <fcntl.h>
 #include <stdio.h>
@@ -17,12 +17,13 @@
 #define LONGEST_NAME 256
 
 // Bytes with a name. A file that was removed has none, and keeps its bytes for the ends that are
-// open.
+// open. Those of coz-args have their bytes in the program and no room; where one grows, its bytes
+// are moved.
 struct file {
     char name[LONGEST_NAME];
     unsigned char *bytes;
     long length, room;
-    char used, read_only;
+    char used;
 };
 
 // Where bytes come from and go to: a file, an end of the profiler's, nothing at all, or a fixed
@@ -79,7 +80,7 @@ static void take_files(void) {
         strlcpy(to->name, plain(from->name), sizeof to->name);
         to->bytes = from->bytes;
         to->length = from->length;
-        to->used = to->read_only = 1;
+        to->used = 1;
     }
 }
 
@@ -174,7 +175,6 @@ static long open_file(struct opened *o, const char *name, int flags) {
     int writes = (flags & O_ACCMODE) != O_RDONLY;
     struct file *file = find(name);
     if (file && (flags & O_CREAT) && (flags & O_EXCL)) return -EEXIST;
-    if (file && file->read_only && writes) return -EACCES;
     if (!file && is_folder(name)) return writes ? -EISDIR : -EACCES;
     if (file && (flags & O_DIRECTORY)) return -ENOTDIR;
     if (!file && !(flags & O_CREAT)) return -ENOENT;
@@ -296,8 +296,8 @@ static long make_room(struct file *file, long length) {
 }
 
 static long set_length(struct file *file, long length) {
-    if (length < 0 || file->read_only) return -EINVAL;
-    if (make_room(file, length)) return -ENOSPC;
+    if (length < 0) return -EINVAL;
+    if (length > file->length && make_room(file, length)) return -ENOSPC;
     if (length > file->length) memset(file->bytes + file->length, 0, length - file->length);
     file->length = length;
     return 0;
@@ -461,7 +461,7 @@ static void put_stat(struct kstat *to, mode_t mode, long number, long length) {
 }
 
 static void put_file_stat(struct kstat *to, struct file *file) {
-    put_stat(to, S_IFREG | (file->read_only ? 0444 : 0644), file - files + 10, file->length);
+    put_stat(to, S_IFREG | 0644, file - files + 10, file->length);
 }
 
 long __coz_fstat(long *a) {
@@ -504,12 +504,6 @@ long __coz_name_exists(long *a) {
     return is_there((void *)a[1]) ? 0 : -ENOENT;
 }
 
-long __coz_faccessat(long *a) {
-    struct file *file = find((void *)a[1]);
-    if (file && file->read_only && (a[2] & 2)) return -EACCES;
-    return is_there((void *)a[1]) ? 0 : -ENOENT;
-}
-
 long __coz_readlinkat(long *a) {
     return is_there((void *)a[1]) ? -EINVAL : -ENOENT;
 }
@@ -535,7 +529,7 @@ static void remove_name(struct file *file) {
 long __coz_unlinkat(long *a) {
     LOCK(lock);
     struct file *file = find((void *)a[1]);
-    long error = !file ? -ENOENT : file->read_only ? -EACCES : 0;
+    long error = file ? 0 : -ENOENT;
     if (!error) remove_name(file);
     UNLOCK(lock);
     return error;
@@ -545,14 +539,37 @@ long __coz_renameat(long *a) {
     const char *to = plain((void *)a[3]);
     LOCK(lock);
     struct file *file = find((void *)a[1]), *other = find(to);
-    long error = !file                                            ? -ENOENT
-                 : file->read_only || (other && other->read_only) ? -EACCES
-                 : strlen(to) >= LONGEST_NAME                     ? -ENAMETOOLONG
-                                                                  : 0;
+    long error = !file ? -ENOENT : strlen(to) >= LONGEST_NAME ? -ENAMETOOLONG : 0;
     if (!error && file != other) {
         if (other) remove_name(other);
         strcpy(file->name, to);
     }
     UNLOCK(lock);
     return error;
+}
+
+// ---- What coz-args asks for ----
+
+// Opens the file to which standard error goes, before the program begins.
+void __coz_start_files(void) {
+    if (!__coz_args.errors) return;
+    long end = __coz_openat((long[]){0, (long)__coz_args.errors, O_WRONLY | O_CREAT | O_TRUNC});
+    if (end < 0) return;
+    __coz_dup3((long[]){end, 2, 0});
+    __coz_close(&end);
+}
+
+static void print(const char *name) {
+    struct file *file = find(name);
+    const char *bytes = file ? (void *)file->bytes : "there is no such file\n";
+    for (long left = file ? file->length : strlen(bytes), done; left > 0; left -= done) {
+        done = __coz_ecall(SYS_write, 1, (long)bytes, left, 0, 0, 0);
+        if (done <= 0) return;
+        bytes += done;
+    }
+}
+
+// Writes to the output the files that coz-args names, as the program ends.
+void __coz_end_files(void) {
+    for (long i = 0; i < __coz_args.print_count; i++) print(__coz_args.prints[i]);
 }

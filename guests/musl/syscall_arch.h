@@ -7,11 +7,11 @@
 
 __attribute__((__visibility__("hidden"))) long __coz_call(long, long, long, long, long, long, long);
 
-// exit, exit_group, set_tid_address, futex, nanosleep, sched_yield, rt_sigprocmask, getpid, gettid,
+// exit, set_tid_address, futex, nanosleep, sched_yield, rt_sigprocmask, getpid, gettid,
 // brk, munmap, mremap, mprotect. Where the number isn't known as this is compiled, __coz_call finds
 // out.
 #define __COZ_HAS(n) \
-    (__builtin_constant_p(n) && ((n) == 93 || (n) == 94 || (n) == 96 || (n) == 98 || (n) == 101 || \
+    (__builtin_constant_p(n) && ((n) == 93 || (n) == 96 || (n) == 98 || (n) == 101 || \
                                  (n) == 124 || (n) == 135 || (n) == 172 || (n) == 178 || \
                                  (n) == 214 || (n) == 215 || (n) == 216 || (n) == 226))
 
