@@ -9,12 +9,14 @@
 # make examples    builds the examples in C as they stand, with a C library of their own
 # make page    the same of build/coz-page alone; make join of build/coz-join, make hot of build/coz-hot,
 #              make functions of build/coz-functions
-# make install PREFIX=DIR    puts the programs and their man pages below DIR; make uninstall takes them away
+# make install PREFIX=DIR    puts the programs, the scripts, and their man pages below DIR; make uninstall takes them away
 
 ARGS ?= run examples/one
 PREFIX ?= /usr/local
 
 EXAMPLES = longer ledger
+PAGES = TUTORIAL.md GUESTS.md FORMATS.md GLOSSARY.md CLUSTER.md
+SHELLS = bash-completion/completions/coz-study zsh/site-functions/_coz-study
 
 .PHONY: build page join hot functions test try quick guests examples install uninstall clean
 
@@ -52,6 +54,13 @@ install: build
 	install -D -m 755 build/coz-hot $(DESTDIR)$(PREFIX)/bin/coz-hot
 	install -D -m 755 build/coz-functions $(DESTDIR)$(PREFIX)/bin/coz-functions
 	install -D -m 755 tools/coz-study $(DESTDIR)$(PREFIX)/bin/coz-study
+	install -d $(DESTDIR)$(PREFIX)/lib/coz/study
+	install -m 644 tools/study/*.py $(DESTDIR)$(PREFIX)/lib/coz/study
+	tools/install-guests "$(DESTDIR)" "$(PREFIX)"
+	install -D -m 755 tools/to-coz $(DESTDIR)$(PREFIX)/bin/to-coz
+	install -D -m 755 cluster/coz-shard $(DESTDIR)$(PREFIX)/bin/coz-shard
+	for name in $(PAGES); do install -D -m 644 docs/$$name $(DESTDIR)$(PREFIX)/share/doc/coz/$$name || exit 1; done
+	for name in $(SHELLS); do mkdir -p "$(DESTDIR)$(PREFIX)/share/$${name%/*}" && tools/coz-study completions $${name%%[-/]*} > "$(DESTDIR)$(PREFIX)/share/$$name" || exit 1; done
 	install -D -m 644 docs/coz.1 $(DESTDIR)$(PREFIX)/share/man/man1/coz.1
 	install -D -m 644 docs/coz-page.1 $(DESTDIR)$(PREFIX)/share/man/man1/coz-page.1
 	install -D -m 644 docs/coz-join.1 $(DESTDIR)$(PREFIX)/share/man/man1/coz-join.1
@@ -66,6 +75,10 @@ uninstall:
 	rm -f $(DESTDIR)$(PREFIX)/bin/coz-hot $(DESTDIR)$(PREFIX)/share/man/man1/coz-hot.1
 	rm -f $(DESTDIR)$(PREFIX)/bin/coz-functions $(DESTDIR)$(PREFIX)/share/man/man1/coz-functions.1
 	rm -f $(DESTDIR)$(PREFIX)/bin/coz-study $(DESTDIR)$(PREFIX)/share/man/man1/coz-study.1
+	rm -f $(patsubst guests/%,$(DESTDIR)$(PREFIX)/bin/%,$(wildcard guests/coz-*))
+	rm -f $(DESTDIR)$(PREFIX)/bin/to-coz $(DESTDIR)$(PREFIX)/bin/coz-shard
+	rm -f $(addprefix $(DESTDIR)$(PREFIX)/share/,$(SHELLS))
+	rm -rf $(DESTDIR)$(PREFIX)/lib/coz $(DESTDIR)$(PREFIX)/share/doc/coz
 
 clean:
 	rm -rf build crates/*/out

@@ -1,0 +1,199 @@
+"""The words of coz-study: one table of its commands and options, by which words are read, help is printed, and shells complete."""
+import difflib
+import os
+import types
+
+from study.told import Wrong
+
+VERSION = "coz-study 3"
+
+
+# ---- what a value may be
+
+def text(value):
+    return value
+
+
+def count(value):
+    number = value.replace("_", "").replace(",", "")
+    if not number.isdigit() or int(number) < 1:
+        raise ValueError("a number from 1 on")
+    return int(number)
+
+
+def count_or_none(value):
+    return 0 if value == "0" else count(value)
+
+
+def numbers(value):
+    found = [int(it) for it in value.split(",") if it.isdigit()]
+    if len(found) != value.count(",") + 1 or not all(it <= 95 for it in found):
+        raise ValueError("numbers from 0 to 95 with commas between, as in 25,50,75,95")
+    return sorted(set(found) - {0}) or [50]
+
+
+def per_cent(value):
+    whole, _, part = value.partition(".")
+    if not (whole + part).isdigit() or not 0 <= float(value) <= 100:
+        raise ValueError("a number from 0 to 100, as in 0.1")
+    return float(value)
+
+
+def one_of(*choices):
+    def read(value):
+        if value not in choices:
+            raise ValueError("one of " + ", ".join(choices))
+        return value
+    read.choices = choices
+    return read
+
+
+# ---- the table
+
+class Option:
+    """An option: its name, what its value is called (None if it has none), how it is read, what it is without one, its help."""
+
+    def __init__(self, name, value, read, default, help_text, completes=None):
+        self.name, self.value, self.read, self.default, self.help = name, value, read, default, help_text
+        self.completes = completes or ("choices" if hasattr(read, "choices") else None)
+
+
+class Command:
+    """A command: its word, what its other word is called and names, a line about it, its page, and its options."""
+
+    def __init__(self, name, wants, completes, about, page, options):
+        self.name, self.wants, self.completes, self.about, self.page = name, wants, completes, about, page
+        self.options = {it.name: it for it in options}
+
+
+PROGRESS = Option("progress", "LIST", text, None,
+                  "the progress points: lines as PATH:NUMBER, or names of coz.h, with commas between")
+INPUT = Option("input", "FILE", text, None, "what the program reads from its standard input", "file")
+BUDGET = Option("budget", "N", count, 100_000_000, "the most instructions of a run (100000000)")
+JOBS = Option("jobs", "N", count, os.cpu_count() or 1, "how many runs are made at a time (the number of processors)")
+ANYWAY = Option("anyway", None, None, False, "goes on although a run does not exit, or a point is never visited")
+
+COMMANDS = {it.name: it for it in (
+    Command("study", "PROG", "file", "tells which lines of a program are worth making faster", """
+PROG is a program that coz runs. The study
+1. looks at PROG, at its progress points, and at one run, and says what is wrong with them and how to mend it;
+2. finds by a counting run which functions and lines can matter, and leaves out the others;
+3. profiles each of the functions as if it were one line, and finds those that gain most;
+4. profiles the lines of these functions, and the lines with the greatest shares of the critical path;
+5. leaves the pages of their curves in DIR/functions.html and DIR/index.html, and prints the best and the worst lines.
+
+Without --progress, the points are those of coz.h's macros in the program. Without these, it is the line of the program's own
+files whose visits fill the run most evenly; `coz-study points PROG` lists the others.
+
+Before it profiles, it says how many runs it will make, and about how long they take. Lines and functions that have less than
+--least per cent of the cost and of the critical path are left out; it says how many. The critical path is that of the first
+4,000,000 instructions.
+
+Lines are ranked by the mean of their values over the speedups above 0. A line whose value is more than what is taken from the
+line itself is marked, and the mark explained.
+
+The runs are made in shards, and each shard is a file in DIR that is renamed when it is whole. A study that was interrupted
+goes on where it was, if it is started again by the same words; --jobs may differ. It writes the runs that are done and the
+time left to standard error: on a terminal in one line, elsewhere once a minute.
+""", [
+        PROGRESS, INPUT, BUDGET,
+        Option("speedups", "NUMBERS", numbers, [25, 50, 75, 95], "in per cent, with commas between (25,50,75,95)"),
+        Option("functions", "N", count_or_none, 5, "the functions whose lines are profiled, by what they gain; 0 profiles none (5)"),
+        Option("top", "N", count, 60, "the lines of the critical path that are profiled, by their share (60)"),
+        Option("least", "PERCENT", per_cent, 0.1, "leaves out what has less of the cost and of the critical path (0.1)"),
+        Option("source", "SRC", text, None,
+               "the folder in which the paths of the lines begin: the page shows the text of each line", "folder"),
+        Option("dir", "DIR", text, None, "where the study is kept (PROG.study)", "folder"), JOBS, ANYWAY]),
+    Command("points", "PROG", "file", "lists the lines that are proposed as progress points", """
+A progress point is a line that is passed once for each unit of work. The lines of the program's own files are listed by how
+evenly their visits fill the run, one for each group of lines that are visited equally often. The points of coz.h's macros are
+listed first. `coz-study PROG` takes the macros, or without them the first line.
+""", [INPUT, BUDGET, JOBS]),
+    Command("export", "DIR", "folder", "prints all curves of a study as CSV or JSON", """
+DIR is where `coz-study PROG` keeps its study. Values and costs are in per cent, net times in ticks. A value says how much less
+net time a visit of the point takes; it is empty, or null, if nothing can be said.
+""", [Option("format", "FORMAT", one_of("csv", "json"), "csv", "csv, a row for each line, point and speedup, or json (csv)")]),
+    Command("completions", "SHELL", ("bash", "zsh"), "prints a script that completes the words of coz-study", """
+SHELL is bash or zsh. For bash, write the script to ~/.local/share/bash-completion/completions/coz-study. For zsh, write it as
+_coz-study into a folder of fpath.
+""", []),
+    Command("help", "COMMAND", None, "prints the page of a command", """
+Without COMMAND it is the page of a study, with the list of commands.
+""", []),
+)}
+HELP, VERSIONS = {"--help", "-h"}, {"--version", "-V"}
+
+
+# ---- reading
+
+def called(command):
+    return "coz-study" if command.name == "study" else f"coz-study {command.name}"
+
+
+def nearest(word, known):
+    found = difflib.get_close_matches(word, known, 1, 0.5)
+    return found[0] if found else None
+
+
+def command_of(arguments):
+    """The command that the first word names, and the other words. Without such a word it is a study."""
+    if arguments and arguments[0] in COMMANDS:
+        return COMMANDS[arguments[0]], arguments[1:]
+    return COMMANDS["study"], arguments
+
+
+def read_option(command, word, value, rest):
+    """The option that a word names, and its value, which may be the next word."""
+    option = command.options.get(word)
+    if option is None:
+        near = nearest(word, [*command.options, "help", "version"])
+        known = f"; do you mean --{near}?" if near else f"; {called(command)} --help lists them"
+        raise Wrong(f"--{word} is no option of {called(command)}{known}")
+    if option.value is None:
+        if value is not None:
+            raise Wrong(f"--{word} has no value")
+        return option, True
+    if value is None:
+        if not rest or rest[0].startswith("--"):
+            raise Wrong(f"--{word} wants its {option.value}: {option.help}")
+        value = rest.pop(0)
+    try:
+        return option, option.read(value)
+    except ValueError as error:
+        raise Wrong(f"--{word} wants {error}, and '{value}' is not")
+
+
+def read(command, arguments):
+    """What the words ask of a command, by the names of its options and the name of its other word."""
+    asked = {it.name: it.default for it in command.options.values()}
+    rest, others, given = list(arguments), [], set()
+    while rest:
+        word = rest.pop(0)
+        if word == "--":
+            others += rest
+            break
+        if not word.startswith("-") or word == "-":
+            others.append(word)
+            continue
+        name, equals, value = word.partition("=")
+        if not name.startswith("--"):
+            raise Wrong(f"{word} is no option of {called(command)}: its options begin with two hyphens, and a path with ./")
+        option, asked_value = read_option(command, name[2:], value if equals else None, rest)
+        if option.name in given:
+            raise Wrong(f"{name} is given twice")
+        given.add(option.name)
+        asked[option.name] = asked_value
+    return with_other(command, others, asked)
+
+
+def with_other(command, others, asked):
+    wants = command.wants
+    if len(others) > 1:
+        near = nearest(others[0], COMMANDS) if command.name == "study" else None
+        means = f"; do you mean the command {near}?" if near else ""
+        words = "; a program gets its words by coz-args" if wants == "PROG" and not means else ""
+        raise Wrong(f"one {wants} is wanted, and '{others[1]}' is too much{means}{words}")
+    if not others and command.name != "help":
+        raise Wrong(f"{wants} is required; {called(command)} --help says more")
+    asked[{"PROG": "program", "DIR": "dir"}.get(wants, wants.lower())] = others[0] if others else None
+    return types.SimpleNamespace(**asked)
