@@ -1,5 +1,5 @@
 -- The greatest length of a source.
-use Rattle.std.proofs.Common.{◌≡◌, ℕ, ◌-◌, ◌*◌, ◌^◌, refl}
+use Rattle.std.proofs.Common.{◌≡◌, ◌^◌, refl}
 use Rattle.asm_tokens.specs.declared.TheConstants.{MAX_SOURCE}
 
 -- 4 MiB

@@ -3,7 +3,7 @@
 use rv_decode::{AtomicOp, BranchOp, ImmOp, LoadOp, RegOp, ShiftOp, StoreOp, UpperOp};
 
 /// The section into which a statement puts its bytes.
-#[derive(Clone, Copy, Debug, PartialEq, Eq)]
+#[derive(Clone, Copy, PartialEq, Eq)]
 pub enum Section {
     /// `.text`.
     Text,

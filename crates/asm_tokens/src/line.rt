@@ -11,7 +11,7 @@ use crate::words::{escaped, is_digit, is_of_name, spelled, word_length};
 use std::alloc::{AllocError, AllocFailed, Global};
 
 /// Why a line is rejected, with the column; or out of memory.
-#[derive(Debug, Drop)]
+#[derive(Drop)]
 pub enum TokenError {
     /// Out of memory.
     Memory,

@@ -2,7 +2,7 @@
 use coz_types::{Items, Label};
 
 /// The effect of the speedups of a line on a progress point.
-#[derive(Debug, Drop)]
+#[derive(Drop)]
 pub struct Curve {
     /// The progress point, by its position.
     pub point: u32,
@@ -15,7 +15,7 @@ pub struct Curve {
 }
 
 /// The effect of one speedup.
-#[derive(Clone, Copy, Debug, PartialEq, Eq)]
+#[derive(Clone, Copy, PartialEq, Eq)]
 pub struct CurveStep {
     /// The speedup in per cent.
     pub speedup: u8,

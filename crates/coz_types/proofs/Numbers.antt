@@ -1,5 +1,5 @@
 -- The limits, each as a number of its own: a constant that changes is refused here.
-use Rattle.std.proofs.Common.{◌≡◌, ℕ, ◌-◌, ◌*◌, ◌^◌, refl}
+use Rattle.std.proofs.Common.{◌≡◌, ◌-◌, ◌*◌, ◌^◌, refl}
 use Rattle.coz_types.specs.declared.TheConstants.{PAGE, LOAD_END, MAX_LOADED, MAX_PROGRAM, MAX_WORD, HARTS, MAX_LINE, MAX_SPEEDUP, MAX_BUDGET, MAX_OUTPUT, MAX_VISITS, MAX_POINTS, MAX_WORKERS, MAX_SIZE, MIN_VERSION, MAX_VERSION, MAX_NUMBER, MAX_COUNT}
 
 -- 4 KiB (RISC-V privileged architecture, section "Sv39")

@@ -4,7 +4,7 @@ ghost use Rattle.std.specs.Prelude.{◌≡◌, List, length};
 use std::marker::Model;
 
 /// A list of items. It is made from a vector and given back as one without taking memory.
-#[derive(Debug, Drop)]
+#[derive(Drop)]
 pub struct Items<T> {
     held: Vec<T>,
 }

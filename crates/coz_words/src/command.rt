@@ -4,7 +4,7 @@ ghost use Rattle.coz_words.specs.Request.{option_names, has_option};
 ghost use Rattle.coz_words.specs.Slow.{command_of};
 
 /// A command, by its name.
-#[derive(Clone, Copy, Debug, PartialEq, Eq)]
+#[derive(Clone, Copy, PartialEq, Eq)]
 pub enum Command {
     /// To run a program, with a selected line sped up virtually.
     Run,

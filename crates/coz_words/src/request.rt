@@ -28,7 +28,7 @@ const USUAL_WORKERS: u64 = 4;
 const USUAL_SIZE: u64 = 100;
 
 /// The request that the arguments make. A field that the command lacks is `None`, 0 or empty.
-#[derive(Debug, Drop)]
+#[derive(Drop)]
 pub struct Request {
     /// The command.
     pub command: Command,
@@ -64,7 +64,7 @@ pub struct Request {
 }
 
 /// Why there is no request.
-#[derive(Clone, Copy, Debug, PartialEq, Eq)]
+#[derive(Clone, Copy, PartialEq, Eq)]
 pub enum WordsError {
     /// The arguments are no request.
     Usage,

@@ -6,7 +6,7 @@ use crate::event::Event;
 use coz_types::{HartId, Tick};
 
 /// The way in which a hart came to carry a path.
-#[derive(Clone, Copy, Debug)]
+#[derive(Clone, Copy)]
 pub enum Handover {
     /// The program began with it.
     Start,
@@ -17,7 +17,7 @@ pub enum Handover {
 }
 
 /// A maximal run of a path on one hart.
-#[derive(Clone, Copy, Debug)]
+#[derive(Clone, Copy)]
 pub struct Segment {
     /// The hart.
     pub hart: HartId,

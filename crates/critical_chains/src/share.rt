@@ -8,7 +8,7 @@ use std::alloc::AllocError;
 use std::cmp::Reverse;
 
 /// The share of a line: its part of the ticks of a path.
-#[derive(Clone, Copy, Debug)]
+#[derive(Clone, Copy)]
 pub struct Share {
     /// The line, by its position.
     pub line: u32,

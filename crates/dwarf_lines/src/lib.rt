@@ -140,7 +140,7 @@ pub struct Row {
 }
 
 /// A file by its directory, which may be empty, and its name.
-#[derive(Clone, Copy, Debug, Drop)]
+#[derive(Clone, Copy, Drop)]
 pub struct FileName<'a> {
     /// The path of its directory.
     pub directory: &'a [u8],
@@ -150,7 +150,7 @@ pub struct FileName<'a> {
 
 /// The files and rows of a section in its order, and how many units of other versions were
 /// passed over.
-#[derive(Debug, Drop)]
+#[derive(Drop)]
 pub struct LineTable<'a> {
     /// The files that its units name.
     pub files: Items<FileName<'a>>,

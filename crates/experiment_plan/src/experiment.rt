@@ -13,7 +13,7 @@ use std::marker::Model;
 pub const MAX_PAIRS: u64 = 100_000;
 
 /// A line and how many per cent faster it is to be, 0 to `MAX_SPEEDUP`.
-#[derive(Clone, Copy, Debug, PartialEq, Eq)]
+#[derive(Clone, Copy, PartialEq, Eq)]
 pub struct Experiment {
     /// The selected line.
     pub line: LineId,
@@ -22,7 +22,7 @@ pub struct Experiment {
 }
 
 /// Why there is no plan.
-#[derive(Clone, Copy, Debug, PartialEq, Eq)]
+#[derive(Clone, Copy, PartialEq, Eq)]
 pub enum PlanError {
     /// The number of pairs, which exceeds `MAX_PAIRS`.
     TooMany(u64),

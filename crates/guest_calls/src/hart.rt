@@ -9,7 +9,7 @@ use coz_types::Address;
 use rv_execute::HartState;
 
 /// The status of a hart.
-#[derive(Clone, Copy, Debug, PartialEq, Eq)]
+#[derive(Clone, Copy, PartialEq, Eq)]
 pub enum HartStatus {
     /// The hart has a next instruction.
     Running,

@@ -38,7 +38,7 @@ pub const PIPE_BYTES: usize = 65536;
 pub const ATOMIC_BYTES: usize = 4096;
 
 /// Whether a read or a write of some bytes can be made, must wait, or fails.
-#[derive(Clone, Copy, Debug, PartialEq, Eq)]
+#[derive(Clone, Copy, PartialEq, Eq)]
 pub enum Ready {
     /// A number of bytes that can be taken or put now.
     Now(u32),

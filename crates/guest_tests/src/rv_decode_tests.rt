@@ -294,7 +294,7 @@ fn check(rt: &impl Abort, word: u32, instr: Instr) {
         Some(instr) => encode(instr) == word,
         None => false,
     };
-    check_equal(rt, (word, found, has_word), (word, Some(instr), true));
+    check_equal(rt, (word, found == Some(instr), has_word), (word, true, true));
 }
 
 fn upper_immediates(rt: &impl Abort) {
@@ -409,7 +409,7 @@ fn calls_and_breaks(rt: &impl Abort) {
 
 fn words_of_no_instruction(rt: &impl Abort) {
     for &word in &OTHERS {
-        check_equal(rt, (word, decode(word)), (word, None));
+        check_equal(rt, (word, decode(word).is_none()), (word, true));
     }
 }
 

@@ -7,7 +7,7 @@ use coz_types::{HartId, Tick};
 use machines::Fate;
 
 /// The cause of a hart's next event.
-#[derive(Clone, Copy, Debug)]
+#[derive(Clone, Copy)]
 pub struct Cause {
     /// The event that started the hart, or began its sleep.
     pub from: Option<u32>,

@@ -7,7 +7,7 @@ use std::alloc::AllocError;
 use std::cmp::Reverse;
 
 /// The instructions of a line that a run began: their number and their cost.
-#[derive(Clone, Copy, Debug)]
+#[derive(Clone, Copy)]
 pub struct HotLine {
     /// The line, by its position.
     pub line: u32,

@@ -22,7 +22,7 @@ use std::alloc::{AllocError, Global};
 use written_bytes::{push_half, push_word};
 
 /// Consecutive addresses that have one line.
-#[derive(Debug, Drop)]
+#[derive(Drop)]
 pub struct Sequence {
     /// The path of the line's file.
     pub path: Vec<u8>,
@@ -35,7 +35,7 @@ pub struct Sequence {
 }
 
 /// Why there is no unit.
-#[derive(Clone, Copy, Debug, PartialEq, Eq)]
+#[derive(Clone, Copy, PartialEq, Eq)]
 pub enum UnitError {
     /// The file would have more than 33,554,432 bytes.
     TooLong,

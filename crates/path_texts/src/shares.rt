@@ -15,7 +15,7 @@ use line_index::LineIndex;
 use std::alloc::{AllocError, Global};
 
 /// The shares of a path: of each line, of code without a line, and of sleep.
-#[derive(Debug, Drop)]
+#[derive(Drop)]
 pub struct Shares {
     /// The lines that have some of it, by falling ticks, and then in the order of lines.
     pub lines: Items<Share>,

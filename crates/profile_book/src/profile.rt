@@ -2,7 +2,7 @@
 use coz_types::{Items, Label, Summary};
 
 /// A profile: the budget, the progress points, and the summary of each run.
-#[derive(Debug, Drop)]
+#[derive(Drop)]
 pub struct Profile {
     /// The number of instructions that each run may retire.
     pub budget: u64,

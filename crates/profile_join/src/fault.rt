@@ -6,7 +6,7 @@ use coz_types::Label;
 use std::alloc::AllocError;
 
 /// Why a part cannot be joined to the parts before it.
-#[derive(Debug, Drop)]
+#[derive(Drop)]
 pub enum PartKind {
     /// The budget of the part is not that of the first part.
     Budget,
@@ -22,7 +22,7 @@ pub enum PartKind {
 }
 
 /// A part that doesn't belong to the same profile as the parts before it.
-#[derive(Debug, Drop)]
+#[derive(Drop)]
 pub struct PartFault {
     /// The kind of the fault.
     pub kind: PartKind,
@@ -31,7 +31,7 @@ pub struct PartFault {
 }
 
 /// Why there is no joined profile.
-#[derive(Debug, Drop)]
+#[derive(Drop)]
 pub enum JoinError {
     /// A part doesn't belong to the same profile as the parts before it.
     Unlike(PartFault),

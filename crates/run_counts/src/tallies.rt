@@ -6,7 +6,7 @@ use coz_types::{LineId, Tick};
 use std::alloc::{AllocError, Global};
 
 /// The instructions of a line that a run began: their number and their cost.
-#[derive(Clone, Copy, Debug)]
+#[derive(Clone, Copy)]
 pub struct Tally {
     /// The number of instructions of the line that were begun.
     pub starts: u64,

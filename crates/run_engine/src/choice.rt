@@ -12,7 +12,7 @@ use line_index::LineIndex;
 use progress_points::Points;
 
 /// The options of a run.
-#[derive(Clone, Copy, Debug)]
+#[derive(Clone, Copy)]
 pub struct Choice {
     /// The line whose instructions are to cost less.
     pub selected: Option<LineId>,

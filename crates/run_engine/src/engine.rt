@@ -59,7 +59,7 @@ pub struct Engine<'a> {
 }
 
 /// A hart that has retired an instruction, and its fate.
-#[derive(Clone, Copy, Debug)]
+#[derive(Clone, Copy)]
 pub struct Retired {
     /// The hart that retired.
     pub hart: HartId,
@@ -68,7 +68,7 @@ pub struct Retired {
 }
 
 /// A hart, and when it retires or wakes, in net ticks.
-#[derive(Clone, Copy, Debug)]
+#[derive(Clone, Copy)]
 pub struct Turn {
     /// The hart that is due.
     pub hart: HartId,
@@ -77,7 +77,7 @@ pub struct Turn {
 }
 
 /// An event: the move of the hart that was due first.
-#[derive(Clone, Copy, Debug)]
+#[derive(Clone, Copy)]
 pub enum Event {
     /// A hart slept, and runs from its due moment on.
     Woke(Turn),

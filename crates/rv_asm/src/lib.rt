@@ -23,7 +23,7 @@ use std::alloc::Global;
 
 /// A fault, and where in the source it is: its line and the column of its first byte,
 /// both counted from 1.
-#[derive(Clone, Copy, Debug, PartialEq, Eq)]
+#[derive(Clone, Copy, PartialEq, Eq)]
 pub struct AsmFault {
     /// The kind of the fault.
     pub kind: AsmKind,

@@ -27,7 +27,7 @@ mod operations;
 pub use decoder::decode;
 
 /// An operation on the upper 20 bits.
-#[derive(Clone, Copy, Debug, PartialEq, Eq)]
+#[derive(Clone, Copy, PartialEq, Eq)]
 pub enum UpperOp {
     /// The value, with zeros below.
     Lui,
@@ -36,7 +36,7 @@ pub enum UpperOp {
 }
 
 /// The test of a branch.
-#[derive(Clone, Copy, Debug, PartialEq, Eq)]
+#[derive(Clone, Copy, PartialEq, Eq)]
 pub enum BranchOp {
     /// The registers are equal.
     Beq,
@@ -53,7 +53,7 @@ pub enum BranchOp {
 }
 
 /// A load.
-#[derive(Clone, Copy, Debug, PartialEq, Eq)]
+#[derive(Clone, Copy, PartialEq, Eq)]
 pub enum LoadOp {
     /// A byte, with its sign.
     Lb,
@@ -72,7 +72,7 @@ pub enum LoadOp {
 }
 
 /// A store.
-#[derive(Clone, Copy, Debug, PartialEq, Eq)]
+#[derive(Clone, Copy, PartialEq, Eq)]
 pub enum StoreOp {
     /// A byte.
     Sb,
@@ -85,7 +85,7 @@ pub enum StoreOp {
 }
 
 /// An operation on a register and an immediate.
-#[derive(Clone, Copy, Debug, PartialEq, Eq)]
+#[derive(Clone, Copy, PartialEq, Eq)]
 pub enum ImmOp {
     /// The sum.
     Addi,
@@ -104,7 +104,7 @@ pub enum ImmOp {
 }
 
 /// A shift by an immediate.
-#[derive(Clone, Copy, Debug, PartialEq, Eq)]
+#[derive(Clone, Copy, PartialEq, Eq)]
 pub enum ShiftOp {
     /// To the left.
     Slli,
@@ -121,7 +121,7 @@ pub enum ShiftOp {
 }
 
 /// An operation on two registers.
-#[derive(Clone, Copy, Debug, PartialEq, Eq)]
+#[derive(Clone, Copy, PartialEq, Eq)]
 pub enum RegOp {
     /// The sum.
     Add,
@@ -182,7 +182,7 @@ pub enum RegOp {
 }
 
 /// An operation on memory in one step.
-#[derive(Clone, Copy, Debug, PartialEq, Eq)]
+#[derive(Clone, Copy, PartialEq, Eq)]
 pub enum AtomicOp {
     /// The sum is stored.
     Amoadd,
@@ -209,7 +209,7 @@ pub enum AtomicOp {
 }
 
 /// An instruction. Registers are numbers below 32; offsets are in bytes.
-#[derive(Clone, Copy, Debug, PartialEq, Eq)]
+#[derive(Clone, Copy, PartialEq, Eq)]
 pub enum Instr {
     /// `value` is the 20 bits that stand above the lower 12.
     Upper {

@@ -5,7 +5,7 @@ ghost use Rattle.rv_execute.specs.Execution.{ChangesHart, register, with_registe
 use coz_types::{Address, TrapCause};
 
 /// The registers and the pc of a hart. Register 0 reads as 0 and is never written.
-#[derive(Clone, Copy, Debug, PartialEq, Eq)]
+#[derive(Clone, Copy, PartialEq, Eq)]
 pub struct HartState {
     /// By number.
     pub registers: [u64; 32],
