@@ -1,0 +1,4 @@
+pub mod Written
+pub mod Filled
+pub mod Flat
+pub mod Changed
