@@ -1,5 +1,5 @@
 -- Memory: a byte at each address, and the rights of each page.
-use Rattle.std.specs.Prelude.{◌≡◌, ◌⊎◌, ℕ, zero, suc, ◌+◌, ◌*◌, Bool, true, false, not, ◌&&◌, ◌||◌, if◌then◌else◌, nat_le, nat_lt, ◌==◌, List, [], ◌∷◌, take, drop, fold, Option, Some, None, IsTrue}
+use Rattle.std.specs.Prelude.{◌≡◌, ◌⊎◌, ℕ, zero, suc, ◌+◌, ◌*◌, Bool, true, false, not, ◌&&◌, ◌||◌, if◌then◌else◌, nat_le, nat_lt, ◌==◌, ◌≤◌, ◌<◌, List, [], ◌∷◌, take, drop, fold, Option, Some, None, IsTrue}
 use Rattle.std.specs.Int.{bytes_low_first}
 use Rattle.coz_types.specs.declared.image.Rights.{Rights}
 use Rattle.coz_types.specs.declared.image.Area.{Area}
@@ -122,3 +122,10 @@ abbrev pub first_memory : ImageParts → Layout → MemoryMap
 first_memory image layout =
     with_rights_from (page_of (stack_base layout)) (page_of layout.stack) read_and_write
     (fold (with_area image) (empty_memory image layout) image.areas)
+
+-- so many bytes from an address on, and their rights, are as in the first memory
+abbrev pub IsFirstFrom : ℕ → ℕ → MemoryMap → Type 0
+IsFirstFrom start size m =
+    (a : ℕ) → start ≤ a → a < start + size
+    → (rights_at m a ≡ rights_at (first_memory m.image m.layout) a)
+    × (byte_at m a ≡ byte_at (first_memory m.image m.layout) a)

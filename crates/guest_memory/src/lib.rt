@@ -1,20 +1,19 @@
 //! The memory of a guest: a byte at each address, and the rights of each page of 4,096 bytes.
 //!
 //! Contracts see a memory as two finite maps, the bytes that aren't zero by their addresses
-//! and the rights by the numbers of their pages. The code keeps flat lists of all pages and bytes
-//! of the load areas and the three regions.
+//! and the rights by the numbers of their pages. The code keeps lists of all pages and bytes of the
+//! load areas and the three regions; bytes that were never written take no work.
 #![tactic(auto)]
 
 mod copies;
 mod find;
 mod lay;
-mod numbers;
 mod pages;
 
-ghost use Rattle.std.specs.Prelude.{ℕ, ◌≡◌, ◌%◌, if◌then◌else◌, length, false, ◌≤◌, ◌+◌, ◌-◌, ◌<◌, ◌^◌, IfOk, MatchOption, MatchResult, IsTrue};
+ghost use Rattle.std.specs.Prelude.{ℕ, ◌≡◌, ◌%◌, if◌then◌else◌, length, false, ◌≤◌, ◌+◌, ◌-◌, ◌<◌, ◌^◌, IfOk, IfSome, MatchOption, MatchResult, IsTrue};
 ghost use Rattle.std.specs.Result.{result_ok};
 ghost use Rattle.coz_types.specs.Maps.{value_or};
-ghost use Rattle.guest_memory.specs.Memory.{empty_memory, first_memory, with_area, with_rights_from, with_zeros, IsSize, load, store, fetch, is_allowed, is_readable, is_writable, byte_at, number_at, with_rights, with_byte, with_bytes, bytes_at, rights_at, no_rights, IsHeld};
+ghost use Rattle.guest_memory.specs.Memory.{empty_memory, first_memory, with_area, with_rights_from, with_zeros, IsSize, load, store, fetch, is_allowed, is_readable, is_writable, byte_at, number_at, with_rights, with_byte, with_bytes, bytes_at, rights_at, no_rights, IsHeld, IsFirstFrom};
 ghost use Rattle.guest_memory.specs.Right.{has_right};
 ghost use Rattle.guest_memory.specs.Regions.{IsLayout, IsKnown, usual, page_of};
 ghost use Rattle.std.specs.List.{Contains};
@@ -22,11 +21,13 @@ ghost use Rattle.coz_types.specs.Image.{IsAreaOf};
 
 use crate::find::{find, find_for, pick};
 use crate::lay::spans;
-use crate::numbers::{number_of, write_number, zero_from};
 use crate::pages::Pages;
 use coz_types::{Address, Area, Image, LOAD_END, PAGE, Rights};
 use std::alloc::{AllocError, Global};
 use std::marker::Model;
+use zero_bytes::{Bytes, number_of};
+
+const _: () = prove!(zero_bytes::PAGE as u64 == PAGE);
 
 /// The first address of the region below the break: the end of the load areas.
 pub const BRK_BASE: Address = LOAD_END;
@@ -69,6 +70,15 @@ impl Layout {
             stack: STACK_SIZE,
         }
     }
+}
+
+/// Pages of code in a row.
+#[derive(Clone, Copy)]
+pub struct CodePages {
+    /// The first address.
+    pub start: Address,
+    /// The number of bytes.
+    pub size: u64,
 }
 
 /// A byte of a range lacks the right that was asked for.
@@ -114,7 +124,7 @@ pub struct Memory<'a> {
     /// The index of the span that the entry is in, where a fetch looks first.
     code: usize,
     pages: Pages,
-    bytes: Vec<u8>,
+    bytes: Bytes,
 }
 
 impl<'a> Model for Memory<'a> {
@@ -125,10 +135,10 @@ impl<'a> Model for Memory<'a> {
     ghost Value = { MemoryMap };
 
     ghost view = { λ m.
-        map_of m.image.now m.layout m.spans.items m.pages.each.items m.bytes.items };
+        map_of m.image.now m.layout m.spans.items m.pages.each.items m.bytes };
 
     ghost invariant = { λ m.
-        IsMemory m.image.now m.layout m.spans.items m.pages.each.items m.bytes.items
+        IsMemory m.image.now m.layout m.spans.items m.pages.each.items m.bytes
         × (m.code < length m.spans.items) };
 }
 
@@ -250,7 +260,7 @@ impl<'a> Memory<'a> {
             None => unreachable!(),
             Some(index) => {
                 self.pages.touch(index);
-                zero_from(&mut self.bytes, index * PAGE as usize);
+                self.bytes.zero(index * PAGE as usize);
             }
         }
     }
@@ -281,7 +291,7 @@ impl<'a> Memory<'a> {
             Some(index) => {
                 self.pages.touch(index);
                 let offset = index * PAGE as usize + (address % PAGE) as usize;
-                self.bytes[offset..offset + bytes.len()].copy_from_slice(bytes);
+                self.bytes.put(offset, bytes);
             }
         }
     }
@@ -305,8 +315,10 @@ impl<'a> Memory<'a> {
     {
         let (spans, total) = spans(alloc, image, layout)?;
         let code = pick(&spans, image.entry() / PAGE).unwrap_or(0);
-        let pages = Pages::new(alloc, total)?;
-        let bytes = vec![in alloc; 0u8; total * PAGE as usize]?;
+        let first = spans[code];
+        let end = first.at + first.count;
+        let pages = Pages::new(alloc, total, first.at as usize, end as usize)?;
+        let bytes = Bytes::new(alloc, total * PAGE as usize)?;
         Ok(Memory {
             image,
             layout,
@@ -315,6 +327,22 @@ impl<'a> Memory<'a> {
             pages,
             bytes,
         })
+    }
+
+    /// The pages that the entry is among, if they are as they were at first: none since one of
+    /// them was written or given rights.
+    pub fn first_code(&self) -> Option<CodePages>
+        ensures { IfSome result (λ code. IsFirstFrom code.start code.size self.now) }
+    {
+        let span = &self.spans[self.code];
+        if span.count > 0 && self.pages.is_clean(span.at, span.count) {
+            Some(CodePages {
+                start: span.first * PAGE,
+                size: span.count * PAGE,
+            })
+        } else {
+            None
+        }
     }
 
     /// The layout that the memory was made with.
@@ -358,7 +386,7 @@ impl<'a> Memory<'a> {
                 }
                 let within = (address % PAGE) as usize;
                 if within + size as usize <= PAGE as usize {
-                    Ok(number_of(&self.bytes, index * PAGE as usize + within, size))
+                    Ok(self.bytes.number(index * PAGE as usize + within, size))
                 } else {
                     self.read_across(address, size, right)
                 }
@@ -454,7 +482,8 @@ impl<'a> Memory<'a> {
                 }
                 let within = (address % PAGE) as usize;
                 if within + size as usize <= PAGE as usize {
-                    write_number(&mut self.bytes, index * PAGE as usize + within, size, value);
+                    self.bytes
+                        .write(index * PAGE as usize + within, size, value);
                     Ok(())
                 } else {
                     self.store_by_bytes(address, size, value)
@@ -511,7 +540,7 @@ impl<'a> Memory<'a> {
             None => into.fill(0),
             Some(index) => {
                 let offset = index * PAGE as usize + (address % PAGE) as usize;
-                into.copy_from_slice(&self.bytes[offset..offset + into.len()]);
+                self.bytes.read(offset, into);
             }
         }
     }

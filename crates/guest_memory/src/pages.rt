@@ -1,8 +1,8 @@
 //! The pages of a memory, and which of them were touched.
-ghost use Rattle.std.specs.Prelude.{◌≡◌, ◌*◌, ◌<◌, length, get_or, set, replicate, IfOk};
+ghost use Rattle.std.specs.Prelude.{◌≡◌, ◌+◌, ◌*◌, ◌≤◌, ◌<◌, length, get_or, set, replicate, true, IfOk, IsTrue};
 ghost use Rattle.coz_types.specs.declared.TheConstants.{PAGE};
 ghost use Rattle.guest_memory.specs.Copies.{AreCopied};
-ghost use Rattle.guest_memory.specs.Marks.{AreMarked, touched_with, rights_of};
+ghost use Rattle.guest_memory.specs.Marks.{AreMarked, AreClean, touched_with, rights_of};
 ghost use Rattle.guest_memory.specs.Memory.{no_rights};
 ghost use Rattle.guest_memory.specs.declared.Page.{Page};
 
@@ -10,6 +10,7 @@ use crate::copies::copy_touched;
 use crate::{NO_RIGHTS, Page};
 use coz_types::Rights;
 use std::alloc::{AllocError, Global};
+use zero_bytes::Bytes;
 
 /// The pages that share a mark.
 pub const CHUNK: usize = 64;
@@ -22,12 +23,25 @@ pub struct Pages {
     pub each: Vec<Page>,
     /// By chunk, whether it has a touched page.
     pub marks: Vec<bool>,
+    /// The first page of the code.
+    code: usize,
+    /// The page after the last of the code.
+    code_end: usize,
+    /// Whether no page of the code was touched.
+    whole: bool,
     ghost marked: { AreMarked each.items marks.items },
+    ghost clean: { AreClean code code_end whole each.items },
 }
 
 impl Pages {
-    /// `total` pages with no rights, all of them touched.
-    pub fn new(alloc: Global, total: usize) -> Result<Pages, AllocError>
+    /// `total` pages with no rights, all of them touched. Those from `code` up to `code_end` are
+    /// the code.
+    pub fn new(
+        alloc: Global,
+        total: usize,
+        code: usize,
+        code_end: usize,
+    ) -> Result<Pages, AllocError>
         ensures { IfOk result (λ pages.
             pages.each.items ≡ replicate total (touched_with no_rights)) }
     {
@@ -37,7 +51,22 @@ impl Pages {
         };
         let each = vec![in alloc; page; total]?;
         let marks = vec![in alloc; true; total / CHUNK + 1]?;
-        Ok(Pages { each, marks })
+        Ok(Pages {
+            each,
+            marks,
+            code,
+            code_end,
+            whole: false,
+        })
+    }
+
+    /// Whether these pages are of the code, and none of it was touched.
+    #[inline]
+    pub fn is_clean(&self, first: u64, count: u64) -> bool
+        requires { first + count ≤ length self.now.each.items }
+        ensures { IsTrue result → AreClean first (first + count) true self.now.each.items }
+    {
+        self.whole && self.code as u64 <= first && first + count <= self.code_end as u64
     }
 
     /// Makes a page a touched one.
@@ -47,8 +76,8 @@ impl Pages {
             (touched_with (get_or self.old.each.items index d).rights) }
     {
         if !self.each[index].touched {
-            self.each[index].touched = true;
-            self.marks[index / CHUNK] = true;
+            let rights = self.each[index].rights;
+            self.give(index, rights);
         }
     }
 
@@ -62,6 +91,9 @@ impl Pages {
             touched: true,
         };
         self.marks[index / CHUNK] = true;
+        if self.code <= index && index < self.code_end {
+            self.whole = false;
+        }
     }
 
     /// From now on no page is a touched one.
@@ -72,17 +104,22 @@ impl Pages {
             page.touched = false;
         }
         self.marks.fill(false);
+        self.whole = true;
     }
 
     /// Copies each page that either has touched, with its bytes.
-    pub fn copy_from(&mut self, bytes: &mut [u8], other: &Pages, from: &[u8])
+    pub fn copy_from(&mut self, bytes: &mut Bytes, other: &Pages, from: &Bytes)
         requires same_pages { length other.now.each.items ≡ length self.old.each.items }
         requires same_bytes { length from.now ≡ length bytes.old }
         requires each_byte { length bytes.old ≡ PAGE * length self.old.each.items }
+        requires few { length self.old.each.items ≤ 0x4000000 }
         ensures { AreCopied (length self.old.each.items) self.old.each.items other.now.each.items
             self.new.each.items bytes.old from.now bytes.new }
     {
         copy_touched(&mut self.each, bytes, &self.marks, other, from);
         self.marks.copy_from_slice(&other.marks);
+        self.code = other.code;
+        self.code_end = other.code_end;
+        self.whole = other.whole;
     }
 }

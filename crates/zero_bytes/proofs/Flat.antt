@@ -5,7 +5,7 @@ use Rattle.std.proofs.Math.Seq.{sets, length-sets}
 use Rattle.std.proofs.lemmas.Bool.{cases_eq, cases_lt}
 use Rattle.std.proofs.lemmas.List.{length-set, length-take, length-drop, length-replicate, get_or-take, get_or-drop, get_or-replicate, get_or-set_other, get_or-set_same, get_or_past, ext_get_or}
 use Rattle.std.proofs.lemmas.List.Edits.{sets-eq}
-use Rattle.std.proofs.lemmas.List.Elements.{All-get_or, All-replicate, All-set}
+use Rattle.std.proofs.lemmas.List.Elements.{All-get_or, All-replicate}
 use Rattle.byteorder.specs.Endian.{little_from}
 use Rattle.zero_bytes.specs.Bytes.{bytes_with_number, bytes_with_put, IsZeroedFrom, IsCopiedAt}
 use Rattle.zero_bytes.specs.Pieces.{filled, piece_byte, flat_from, ArePieces}
@@ -232,13 +232,6 @@ zeros-pieces ps m n e room = record {
   each = subst (λ (xs : List (List ℕ)). All (λ (p : List ℕ). length p ≡ 262144) xs) (sym e)
       (All-replicate (λ (p : List ℕ). length p ≡ 262144) m (filled 262144 []) (length-filled 262144 [] (omega arith)));
   room = omega (arith, room, ap (λ (xs : List (List ℕ)). length xs) e, length-replicate m (filled 262144 []));
-}
-
--- pieces after a change of one
-pub set-pieces : (ps : List (List ℕ)) (n k : ℕ) (q : List ℕ) → ArePieces n ps → length q ≡ 262144 → ArePieces n (set ps k q)
-set-pieces ps n k q are size = record {
-  each = All-set (λ (p : List ℕ). length p ≡ 262144) ps k q size are.each;
-  room = omega (arith, are.room, length-set ps k q);
 }
 
 -- the piece of a place has its size

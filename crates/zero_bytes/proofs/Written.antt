@@ -7,7 +7,6 @@ use Rattle.std.proofs.lemmas.List.{length-set, get_or-set_other, append_assoc, a
 use Rattle.std.proofs.lemmas.List.Edits.{sets-eq}
 use Rattle.byteorder.specs.Numbers.{length-bytes_low_first}
 use Rattle.std.proofs.Math.Seq.{sets, length-sets}
-use Rattle.std.proofs.lemmas.Slice.{put_mid-paste}
 use Rattle.zero_bytes.specs.Bytes.{bytes_with_number, bytes_with_put}
 
 byte_is : (i x v : ℕ) → v ≡ x / 256 ^ i → v % 256 ≡ byte_at i x
@@ -73,9 +72,3 @@ length-bytes_with_number p (suc n) v bytes = length-bytes_with_number (p + 1) n 
 pub length-bytes_with_put : (p : ℕ) (ws bytes : List ℕ) → p + length ws ≤ length bytes → length (bytes_with_put p ws bytes) ≡ length bytes
 length-bytes_with_put p ws bytes inside =
     ap (λ (bs : List ℕ). length bs) (sym (sets-eq ws bytes p inside)) ∙ length-sets bytes p ws
-
-pub put_mid-put : (p k : ℕ) (bytes was ws now : List ℕ) → k ≡ length ws → p + length ws ≤ length bytes → was ≡ bytes → now ≡ ws → put_mid p k was now ≡ bytes_with_put p ws bytes
-put_mid-put p k bytes was ws now size inside old new =
-    ap (λ (xs : List ℕ). put_mid p k xs now) old ∙ ap (λ (ys : List ℕ). put_mid p k bytes ys) new
-    ∙ put_mid-paste p k bytes ws ws (length ws) refl (sym size) refl
-    ∙ ap (λ (xs : List ℕ). take p bytes ++ xs ++ drop (p + length ws) bytes) (take_all (length ws) ws (omega arith))

@@ -1,8 +1,8 @@
-use Rattle.std.proofs.Common.{ℕ, ◌≡◌, ◌<◌, List, false, length, get_or, set, subst, refl, sym, ap, ◌∙◌, ⊎_elim, arith}
+use Rattle.std.proofs.Common.{ℕ, ◌≡◌, ◌<◌, List, true, false, length, get_or, set, subst, refl, sym, ap, ◌∙◌, ⊎_elim, arith}
 use Rattle.std.proofs.lemmas.Bool.{both_ways, cases_eq}
 use Rattle.std.proofs.lemmas.List.{with_items_is, get_or-set_other, get_or-set_same}
 use Rattle.guest_memory.specs.declared.Page.{Page}
-use Rattle.guest_memory.specs.Marks.{AreMarked}
+use Rattle.guest_memory.specs.Marks.{AreMarked, AreClean}
 use Rattle.guest_memory.specs.Memory.{no_rights}
 use Rattle.guest_memory.proofs.Pieces.{rights-set_same}
 use Rattle.guest_memory.proofs.pages.Pages.forget_touched.Goals as goal
@@ -32,4 +32,8 @@ invariant_of-self c =
     let clear : AreMarked c.loop-page.page-items c.fill.new.self.items = record {
       many = omega (arith, c.fill.ensures.len, s.marked.many);
       marked = λ k d below touched. absurd (both_ways (get_or c.loop-page.page-items k d).touched (c.loop-page.invariant.clear k d (omega arith)) touched);
-    } in record { marked = subst (λ (ps : List Page). AreMarked ps c.fill.new.self.items) (sym items) clear }
+    } in
+    let clean : AreClean s.code s.code_end true c.loop-page.page-items = λ k d whole from to below. c.loop-page.invariant.clear k d (omega arith) in record {
+      marked = subst (λ (ps : List Page). AreMarked ps c.fill.new.self.items) (sym items) clear;
+      clean = subst (λ (ps : List Page). AreClean s.code s.code_end true ps) (sym items) clean;
+    }
