@@ -141,7 +141,7 @@ fn the_break_moves_within_its_region_and_the_entry_stack_is_written(
 }
 
 /// Calls, one after the other, and what they answer.
-static CALLS: [(Call, i64); 21] = [
+static CALLS: [(Call, i64); 22] = [
     (Call::Map(0, 3), -22),
     (Call::Map(1, 4), -13),
     (Call::Map(u64::MAX, 3), -12),
@@ -163,6 +163,7 @@ static CALLS: [(Call, i64); 21] = [
     (Call::Protect(MAP_BASE, u64::MAX, 3), -12),
     (Call::Protect(MAP_BASE + 0x1000, 4096, 1), 0),
     (Call::Protect(TEXT, 4096, 2), 0),
+    (Call::Unmap(MAP_BASE + 0x4000, 4096), 0),
 ];
 
 fn check_calls(rt: &impl Abort, areas: &mut Areas, memory: &mut Memory)
@@ -174,11 +175,12 @@ fn check_calls(rt: &impl Abort, areas: &mut Areas, memory: &mut Memory)
 }
 
 /// The address of a page, and whether it may be read and written after those calls.
-static RIGHTS: [(Address, bool, bool); 6] = [
+static RIGHTS: [(Address, bool, bool); 7] = [
     (MAP_BASE, true, false),
     (MAP_BASE + 0x1000, true, false),
     (MAP_BASE + 0x2000, true, true),
-    (MAP_BASE + 0x4000, true, false),
+    (MAP_BASE + 0x3000, true, false),
+    (MAP_BASE + 0x4000, false, false),
     (MAP_BASE + 0x5000, false, false),
     (TEXT, true, true),
 ];

@@ -30,6 +30,11 @@ fn the_oldest_waiters_of_an_address_are_woken(rt: HostRuntime) -> Result<(), Fai
     other.wake(0x20000, 1, &mut woken);
     check_equal(&rt, woken.harts(), &[HartId(3), HartId(5), HartId(2)]);
     woken.clear();
+    // Nobody waits after the first of these.
+    other.wake(THERE, 9, &mut woken);
+    other.wake(THERE, 9, &mut woken);
+    check_equal(&rt, woken.harts(), &[HartId(255)]);
+    woken.clear();
     queue.wake(THERE, u32::MAX, &mut woken);
     check_equal(&rt, woken.harts(), &[HartId(255)]);
     woken.clear();

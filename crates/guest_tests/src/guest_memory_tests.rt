@@ -253,6 +253,8 @@ fn change_otherwise(memory: &mut Memory)
     ensures layout { memory.new.layout ≡ memory.old.layout }
 {
     give_map(memory, 0, 1, READ_AND_WRITE);
+    put(memory, MAP_BASE + 8, 3);
+    give_map(memory, 0, 1, READ_AND_WRITE);
     put(memory, MAP_BASE, 9);
     put(memory, STACK_TOP - 8, 5);
     give_brk(memory);
@@ -263,10 +265,11 @@ const REFUSED: u64 = u64::MAX;
 
 /// An address, and the number in 8 bytes there at first, after `change` and after
 /// `change_otherwise`.
-static PLACES: [(Address, [u64; 3]); 8] = [
+static PLACES: [(Address, [u64; 3]); 9] = [
     (0x10000, [0, 0, 0]),
     (DATA, [0, 7, 0]),
     (MAP_BASE, [REFUSED, 0, 9]),
+    (MAP_BASE + 8, [REFUSED, 0, 0]),
     (MAP_BASE + 0xFFC, [REFUSED, 0x0807_0605_0403_0201, REFUSED]),
     (MAP_BASE + 0x2000, [REFUSED, REFUSED, REFUSED]),
     (BRK_BASE, [REFUSED, REFUSED, 0]),
