@@ -40,7 +40,7 @@ use Rattle.critical_chains.specs.Path.{event_at, last_of, Linked}
 use Rattle.hart_causes.specs.Causes.{no_cause, cause_at, woken_with, turned, at_rest, after_own}
 use Rattle.critical_path.specs.Events.{Traced, AreBefores, work, untraced, traced}
 use Rattle.critical_path.specs.Events.{events_of as whole_events}
-use Rattle.critical_path.specs.Walk.{plain_choice, plain}
+use Rattle.critical_path.specs.Walk.{plain_choice, plain, IsMadeOf, IsTraceOf}
 use Rattle.critical_path.specs.Recording.{IsBegun, ticks_from, CanRecord, IsRecorded}
 use Rattle.critical_path.proofs.Begun.{same_turned_by}
 use Rattle.critical_path.proofs.Recorded.{stands_at, many_events, befores_are, last_due, linked}
@@ -251,34 +251,25 @@ module _ (image : ImageParts) (input : List ℕ) (setting : Setting) where
   pub more_left : (engine : Engine) (causes : List Cause) (events : List Event) → IsWalked engine causes events → engine.ending ≡ None → events_of engine < 2 * setting.choice.budget
   more_left engine causes events walked none = events_below image (position_at setting.index.now) (point_of setting.points.now) input setting.choice walked.valid engine walked.reached none
 
--- what a run of x leaves, by its events
-pub record IsDone (x : Experiment Guest) (end : Ending) (list : List Event) (bytes : List ℕ) : Type 0 where
-  pub events : list ≡ whole_events x pc_of
-  pub ending : end ≡ (shortened_record x).ending
-  pub output : bytes ≡ (shortened_record x).output
-  pub linked : Linked list
-  pub many : length list ≡ (shortened_record x).retired
-  pub whole : (event_at list (last_of list)).due ≡ (shortened_record x).time
-  pub befores : AreBefores list
-
 record_parts : (x : Experiment Guest) → ((shortened_record x).retired ≡ (shortened x (enough x)).retired) × ((shortened_record x).time ≡ (shortened x (enough x)).time)
 unfolding shortened_record
 record_parts x = (refl, refl)
 
-module _ (image : ImageParts) (input : List ℕ) (setting : Setting) (engine : Engine) (causes : List Cause) (events : List Event) (walked : IsWalked image input setting engine causes events) (a : Ending) (ended : engine.ending ≡ Some a) where
-  pub done : IsDone (x image input setting) a events engine.guest.output
+module _ (image : ImageParts) (input : List ℕ) (setting : Setting) (engine : Engine) (causes : List Cause) (events : List Event) (walked : IsWalked image input setting engine causes events) (a : Ending) (ended : engine.ending ≡ Some a) (trace : Trace) (made : IsMadeOf trace a events engine.guest.output) where
+  -- the trace that is made as it ends
+  pub done : IsTraceOf (x image input setting) trace
   done =
       let run : Experiment Guest = x image input setting in
       let lawful : IsLawful run IsOrderly = lawful_run image (position_at setting.index.now) (point_of setting.points.now) input setting.choice walked.valid.speedup in
       let over : (shortened run (events_of engine)).ending ≡ Some a = ended_now image (position_at setting.index.now) (point_of setting.points.now) input setting.choice walked.valid engine walked.reached a ended in
       let within : events_of engine ≤ enough run = within_enough image (position_at setting.index.now) (point_of setting.points.now) input setting.choice walked.valid engine walked.reached in
       let kept : net_record_of run (shortened run (events_of engine)) a ≡ shortened_record run = recorded_now image (position_at setting.index.now) (point_of setting.points.now) input setting.choice walked.valid engine walked.reached a ended in
-      let are : events ≡ whole_events run pc_of = walked.events_are ∙ all_events run IsOrderly lawful pc_of (events_of engine) a within over in
+      let are : trace.events ≡ whole_events run pc_of = made.events ∙ walked.events_are ∙ all_events run IsOrderly lawful pc_of (events_of engine) a within over in
       let parts = record_parts run in
       record {
         events = are;
-        ending = ap (λ (r : NetRecord). r.ending) kept;
-        output = ap (λ (o : Shortened Guest). o.guest.output) (sym walked.reached.reached.state) ∙ ap (λ (r : NetRecord). r.output) kept;
+        ending = made.ending ∙ ap (λ (r : NetRecord). r.ending) kept;
+        output = made.output ∙ ap (λ (o : Shortened Guest). o.guest.output) (sym walked.reached.reached.state) ∙ ap (λ (r : NetRecord). r.output) kept;
         linked = subst Linked (sym are) (linked run IsOrderly lawful pc_of walked.valid.some_budget walked.few);
         many = ap length are ∙ many_events run IsOrderly lawful pc_of ∙ sym parts.0;
         whole = ap (λ (es : List Event). (event_at es (last_of es)).due) are ∙ last_due run IsOrderly lawful pc_of walked.valid.some_budget ∙ sym parts.1;
@@ -294,3 +285,11 @@ plain_is image position point input budget output_limit layout none =
 pub traced_done : (r : Result Trace AllocError) (P Q : Trace → Type 0) → ((t : Trace) → P t → Q t) → IfOk r P → IfOk r Q
 traced_done (Ok t) P Q f p = f t p
 traced_done (Err e) P Q f p = p
+
+-- so what is known of the trace of a run is known of one with no line selected and no points
+pub plain_traced : (image : ImageParts) (position point : ℕ → Option ℕ) (input : List ℕ) (budget output_limit : ℕ) (layout : Layout) → ((a : ℕ) → point a ≡ None)
+    → (Q : Experiment Guest → Trace → Type 0) → ((run : Experiment Guest) (t : Trace) → IsTraceOf run t → Q run t)
+    → (r : Result Trace AllocError) → IfOk r (IsTraceOf (experiment image position point input (plain_choice budget output_limit layout))) → IfOk r (Q (plain image input budget output_limit layout))
+plain_traced image position point input budget output_limit layout none Q f r is =
+    traced_done r (IsTraceOf (experiment image position point input (plain_choice budget output_limit layout))) (Q (plain image input budget output_limit layout))
+    (λ t of. f (plain image input budget output_limit layout) t (subst (λ (run : Experiment Guest). IsTraceOf run t) (plain_is image position point input budget output_limit layout none) of)) is

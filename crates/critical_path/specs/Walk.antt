@@ -1,15 +1,21 @@
 -- The run whose events are walked: no line is selected, and there are no progress points.
-use Rattle.std.specs.Prelude.{◌≡◌, ℕ, List, None}
+use Rattle.std.specs.Prelude.{◌≡◌, ℕ, List, length, None}
 use Rattle.coz_types.specs.declared.ending.Ending.{Ending}
 use Rattle.coz_types.specs.declared.TheConstants.{MAX_VISITS}
 use Rattle.coz_types.specs.Image.{ImageParts}
 use Rattle.machines.specs.Guest.{Experiment}
+use Rattle.machines.specs.Records.{shortened_record}
 use Rattle.guest_memory.specs.declared.Layout.{Layout}
-use Rattle.guest_calls.specs.Guest.{Guest}
+use Rattle.guest_calls.specs.Guest.{Guest, pc_of}
 use Rattle.run_engine.specs.declared.choice.Choice.{Choice}
+use Rattle.run_engine.specs.declared.choice.Setting.{Setting}
+use Rattle.run_engine.specs.declared.engine.Engine.{Engine}
+use Rattle.run_engine.specs.Engine.{IsFirst}
 use Rattle.run_engine.specs.Run.{experiment}
 use Rattle.critical_chains.specs.declared.event.Event.{Event}
 use Rattle.critical_chains.specs.declared.event.Trace.{Trace}
+use Rattle.critical_chains.specs.Path.{event_at, last_of, Linked}
+use Rattle.critical_path.specs.Events.{events_of, AreBefores}
 
 -- no line is selected; the limit of visits is that of the commands
 abbrev pub plain_choice : ℕ → ℕ → Layout → Choice
@@ -32,3 +38,19 @@ pub record IsMadeOf (trace : Trace) (end : Ending) (list : List Event)
   pub events : trace.events ≡ list
   pub ending : trace.ending ≡ end
   pub output : trace.output ≡ bytes
+
+-- the trace of a run
+pub record IsTraceOf (x : Experiment Guest) (trace : Trace) : Type 0 where
+  pub events : trace.events ≡ events_of x pc_of
+  pub ending : trace.ending ≡ (shortened_record x).ending
+  pub output : trace.output ≡ (shortened_record x).output
+  pub linked : Linked trace.events
+  pub many : length trace.events ≡ (shortened_record x).retired
+  pub whole : (event_at trace.events (last_of trace.events)).due ≡ (shortened_record x).time
+  pub befores : AreBefores trace.events
+
+-- the engine begins the run of some image on some input
+pub record IsFirstOfSome (setting : Setting) (engine : Engine) : Type 0 where
+  pub image : ImageParts
+  pub input : List ℕ
+  pub first : IsFirst setting image input engine

@@ -1,16 +1,18 @@
 //! The events of a program's run.
-ghost use Rattle.std.specs.Prelude.{◌≡◌, ◌≤◌, ℕ, [], None, length, IfOk, if◌then◌else◌, ◌==◌};
+ghost use Rattle.std.specs.Prelude.{◌≡◌, ◌≤◌, ℕ, List, [], None, length, IfOk, if◌then◌else◌, ◌==◌};
 ghost use Rattle.coz_types.specs.declared.TheConstants.{HARTS};
+ghost use Rattle.coz_types.specs.Image.{ImageParts};
 ghost use Rattle.machines.specs.Records.{shortened_record};
 ghost use Rattle.progress_points.specs.Points.{point_of};
 ghost use Rattle.guest_calls.specs.Guest.{pc_of};
-ghost use Rattle.run_engine.specs.Run.{IsChoice};
+ghost use Rattle.run_engine.specs.Engine.{IsFirst};
+ghost use Rattle.run_engine.specs.Run.{IsChoice, experiment_in};
 ghost use Rattle.critical_chains.specs.declared.TheConstants.{MAX_EVENTS};
 ghost use Rattle.critical_chains.specs.Path.{event_at, last_of, Linked};
 ghost use Rattle.hart_causes.specs.Causes.{no_cause, cause_at};
 ghost use Rattle.critical_path.specs.Events.{events_of, AreBefores};
 ghost use Rattle.critical_path.specs.Recording.{ticks_from};
-ghost use Rattle.critical_path.specs.Walk.{plain_choice, plain, IsMadeOf};
+ghost use Rattle.critical_path.specs.Walk.{plain_choice, plain, IsMadeOf, IsTraceOf, IsFirstOfSome};
 
 use crate::recording::{Walked, record_move, ticks_from};
 use coz_types::{Ending, HARTS, HartId, Image, Items, MAX_VISITS};
@@ -86,6 +88,44 @@ fn trace_of(
     })
 }
 
+/// Runs an engine that begins a run to its end, and gives the events of that run, its ending and
+/// its output. The caller drops the engine, which has many parts.
+fn trace_engine(alloc: Global, engine: &mut Engine, setting: &Setting) -> Result<Trace, AllocError>
+    requires choice { IsChoice setting.now.choice }
+    requires few { setting.now.choice.budget ≤ MAX_EVENTS }
+    requires first { IsFirstOfSome setting.now engine.old }
+    ensures { IfOk result (λ trace. (image : ImageParts) (input : List ℕ)
+        → IsFirst setting.now image input engine.old
+        → IsTraceOf (experiment_in image input setting.now) trace) }
+{
+    let mut walked = first_walked(alloc, engine)?;
+    while engine.ending().is_none() {
+        let address = engine.address_due();
+        let moved = engine.advance(setting, 0);
+        record_move(engine, moved, address, &mut walked)?;
+    }
+    let Some(ending) = engine.ending() else {
+        unreachable!()
+    };
+    trace_of(alloc, engine, walked, ending)
+}
+
+/// Runs a program in a setting, and gives its events, its ending and its output.
+fn trace_run<'a>(
+    alloc: Global,
+    image: &'a Image<'a>,
+    input: &'a [u8],
+    setting: &Setting,
+) -> Result<Trace, AllocError>
+    requires choice { IsChoice setting.now.choice }
+    requires few { setting.now.choice.budget ≤ MAX_EVENTS }
+    ensures { IfOk result (λ trace.
+        IsTraceOf (experiment_in image.now input.now setting.now) trace) }
+{
+    let mut engine = Engine::new(alloc, image, input, setting)?;
+    trace_engine(alloc, &mut engine, setting)
+}
+
 /// Runs a program with no selected line and no points, and gives its events, its ending and
 /// its output. Fails only if out of memory.
 #[inline(never)]
@@ -127,15 +167,5 @@ pub fn walk<'a>(
         points: &points,
         choice,
     };
-    let mut engine = Engine::new(alloc, image, input, &setting)?;
-    let mut walked = first_walked(alloc, &engine)?;
-    while engine.ending().is_none() {
-        let address = engine.address_due();
-        let moved = engine.advance(&setting, 0);
-        record_move(&engine, moved, address, &mut walked)?;
-    }
-    let Some(ending) = engine.ending() else {
-        unreachable!()
-    };
-    trace_of(alloc, &engine, walked, ending)
+    trace_run(alloc, image, input, &setting)
 }
