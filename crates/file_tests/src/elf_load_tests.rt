@@ -226,10 +226,19 @@ static HEADERS: [Fault; 22] = [
 ];
 
 /// Faults of the program headers and of the entry.
-static SEGMENTS: [Fault; 12] = [
+static SEGMENTS: [Fault; 13] = [
     // PT_INTERP.
     (&[(FIRST_HEADER + P_TYPE, &[3])], Interp, FIRST_HEADER),
     (&[(FIRST_HEADER + P_MEMSZ, &[11])], SizeOrder, FIRST_HEADER),
+    (
+        &[
+            (E_PHNUM, &[2]),
+            (SECOND_HEADER + P_TYPE, &[1]),
+            (SECOND_HEADER + P_FILESZ, &[1]),
+        ],
+        SizeOrder,
+        SECOND_HEADER,
+    ),
     (
         &[(FIRST_HEADER + P_VADDR, &[0, 0, 0])],
         AddressOut,

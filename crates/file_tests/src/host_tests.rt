@@ -114,6 +114,11 @@ fn a_file_of_the_system_is_read_up_to_a_limit(rt: HostRuntime) -> Result<(), Fai
 fn a_stream_that_takes_pieces_gets_all_bytes(rt: HostRuntime) {
     let mut sink = HostSink::new(Pieces::new(b"one more."));
     // A byte that is left out of a text shows at the next text.
-    let puts = [sink.put(b"one "), sink.put(b"more"), sink.put(b".")];
-    check_equal(&rt, puts, [PutAnswer::Done; 3]);
+    let puts = [
+        sink.put(b"one "),
+        sink.put(b""),
+        sink.put(b"more"),
+        sink.put(b"."),
+    ];
+    check_equal(&rt, puts, [PutAnswer::Done; 4]);
 }

@@ -36,9 +36,11 @@ static UNSIGNED: [(&[u8], Result<u64, LebFault>, u64); 13] = [
     (b"", Err(SHORT), 0),
 ];
 
-static SIGNED: [(&[u8], Result<i64, LebFault>, u64); 16] = [
+static SIGNED: [(&[u8], Result<i64, LebFault>, u64); 18] = [
     (b"\x02", Ok(2), 1),
     (b"\x7E", Ok(-2), 1),
+    (b"\x3F", Ok(63), 1),
+    (b"\x40", Ok(-64), 1),
     (b"\xFF\x00", Ok(127), 2),
     (b"\x81\x7F", Ok(-127), 2),
     (b"\x80\x01", Ok(128), 2),

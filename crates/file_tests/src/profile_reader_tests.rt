@@ -21,7 +21,7 @@ visits\tsha256=e3b0c44298fc1c149afbf4c8996fb92427ae41e4649b934ca495991b7852b855\
 const COUNT: &[u8] = b"throughput-point\tindex=0\tdelta=7\n";
 
 /// Changes, and the field and offset of the first fault.
-static ROWS: [(&[Change], Option<(BookField, u64)>); 23] = [
+static ROWS: [(&[Change], Option<(BookField, u64)>); 25] = [
     (&[], None),
     (
         &[
@@ -62,6 +62,19 @@ static ROWS: [(&[Change], Option<(BookField, u64)>); 23] = [
     (&[(558, 0, b"x")], Some((Experiment, 558))),
     (&[(56, 17, b"\tselected=one%2es:1")], Some((Selected, 56))),
     (&[(557, 1, b"")], Some((Newline, 557))),
+    // The first point has the number 1, and the name of the second one is before that of the first.
+    (
+        &[(36, 10, b"\tpoints=1\npoint\tindex=1\tname=a:1\n")],
+        Some((Index, 51)),
+    ),
+    (
+        &[(
+            36,
+            10,
+            b"\tpoints=2\npoint\tindex=0\tname=b:1\npoint\tindex=1\tname=a:1\n",
+        )],
+        Some((Name, 82)),
+    ),
 ];
 
 /// The good text with these changes.
@@ -93,5 +106,38 @@ fn the_first_fault_of_a_changed_profile_is_found(rt: HostRuntime) {
     for (row, &(changes, fault)) in ROWS.iter().enumerate() {
         let found = fault_of(rt.alloc(), changed(changes).bytes());
         check_equal(&rt, (row, found), (row, expected_fault(fault)));
+    }
+}
+
+/// The kinds of items, by their names.
+static NAMES: [(BookField, &[u8]); 22] = [
+    (Head, b"Head"),
+    (Version, b"Version"),
+    (Budget, b"Budget"),
+    (Points, b"Points"),
+    (Point, b"Point"),
+    (Index, b"Index"),
+    (Name, b"Name"),
+    (Experiment, b"Experiment"),
+    (Selected, b"Selected"),
+    (Speedup, b"Speedup"),
+    (End, b"End"),
+    (Time, b"Time"),
+    (Delay, b"Delay"),
+    (Retired, b"Retired"),
+    (Starts, b"Starts"),
+    (Output, b"Output"),
+    (Length, b"Length"),
+    (Digest, b"Digest"),
+    (Throughput, b"Throughput"),
+    (Delta, b"Delta"),
+    (Visits, b"Visits"),
+    (Newline, b"Newline"),
+];
+
+#[test]
+fn each_kind_of_item_has_its_name(rt: HostRuntime) {
+    for &(field, name) in &NAMES {
+        check_equal(&rt, (field, field.name()), (field, name));
     }
 }
