@@ -35,5 +35,12 @@ fn the_other_hart_pauses_for_a_raise_and_a_woken_hart_is_credited(
     other.take_credit(SECOND, FIRST);
     let credited = (other.account(SECOND, 5).credited, other.pause(SECOND, 5));
     check_equal(&rt, credited, (7, 0));
+    // The other hart has paid one of four when three more are raised.
+    credits.raise(FIRST, 4, 4);
+    credits.raise(FIRST, 3, 5);
+    other.copy_from(&credits);
+    other.raise(FIRST, 2, 6);
+    let raised = (credits.pause(SECOND, 5), other.pause(SECOND, 6));
+    check_equal(&rt, raised, (6, 7));
     Ok(())
 }

@@ -18,7 +18,7 @@ type Fields = (u64, u64, Option<u32>, Option<u32>, u64);
 const MOST: u64 = 0xFFFF_FFFF_FFFF_FFFF;
 
 /// Events, a chain of them, and whether the chain is sound.
-static CHAINS: [(&[Fields], &[u32], bool); 8] = [
+static CHAINS: [(&[Fields], &[u32], bool); 9] = [
     (&[], &[], false),
     (&[(MOST, 0, None, None, MOST)], &[0], true),
     // a sum that would wrap
@@ -41,6 +41,8 @@ static CHAINS: [(&[Fields], &[u32], bool); 8] = [
     // an event that is due later than the last
     (&[(5, 0, None, None, 5), (3, 0, None, None, 3)], &[1], false),
     (&[(3, 0, None, None, 3), (5, 0, None, None, 5)], &[1], true),
+    // an end that is as heavy as the last event
+    (&[(5, 0, None, None, 5), (5, 0, None, None, 5)], &[0], false),
 ];
 
 fn trace_of(alloc: Global, image: &Image) -> Result<Trace, AllocError>
