@@ -8,7 +8,7 @@ import os
 import statistics
 
 from study import program
-from study.places import call, tool
+from study.places import tool
 from study.target import Target, tell_marks
 from study.told import Stop, listed, say, several
 from study.weigh import costs_of

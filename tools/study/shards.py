@@ -69,8 +69,8 @@ class Stage:
 
     def make_shard(self, pool, progress, file, shard):
         study, part = self.study, file + ".part"
-        words = [study.coz, "profile", self.program, *study.options, "--progress", ",".join(study.points), "--lines", ",".join(shard),
-                 "--speedups", ",".join(map(str, study.speedups)), "--workers", "1"]
+        words = [study.coz, "profile", self.program, *study.options, "--progress", ",".join(study.points),
+                 "--lines", ",".join(shard), "--speedups", ",".join(map(str, study.speedups)), "--workers", "1"]
         try:
             with open(part, "wb") as out:
                 status, said = pool.child(words, out)
@@ -115,7 +115,8 @@ class Pool:
         with self.lock:
             if self.stopped:
                 return None, ""
-            running = subprocess.Popen(words, stdin=subprocess.DEVNULL, stdout=out, stderr=subprocess.PIPE, start_new_session=True)
+            running = subprocess.Popen(words, stdin=subprocess.DEVNULL, stdout=out, stderr=subprocess.PIPE,
+                                       start_new_session=True)
             self.children.add(running)
         said = running.communicate()[1].decode(errors="replace").strip()
         with self.lock:

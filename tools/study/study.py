@@ -3,17 +3,16 @@ import hashlib
 import json
 import os
 
-from study import points, weigh
+from study import points
 from study.curves import Profile, rows_of, show
-from study.lines import Lines
+from study.latencies import latencies
 from study.places import call, tool, write_whole
-from study.program import functions_of
+from study.plan import Plan, rest_of
 from study.shards import Progress, Stage, remove_parts
 from study.target import Target, tell_marks
 from study.told import Stop, say, several, span
 
 BEST, WORST = 10, 5
-LATENCY_LINES = 3
 PLAN = 3
 
 
@@ -32,7 +31,8 @@ class Study(Target):
     def same(self):
         """What a study must have in common with the one that it goes on with."""
         return {"plan": PLAN, "program": digest(self.data), "input": digest(self.input), "points": self.points,
-                "budget": self.budget, "speedups": self.speedups, "functions": self.functions, "top": self.top, "least": self.least}
+                "budget": self.budget, "speedups": self.speedups, "functions": self.functions, "top": self.top,
+                "least": self.least}
 
     def path(self, name):
         return os.path.join(self.dir, name)
@@ -98,65 +98,16 @@ def choose_points(study):
         tell_marks(study)
 
 
-class Functions:
-    """The program in which each function is one line, and what its functions weigh."""
-
-    def __init__(self, study):
-        self.study, self.program = study, study.path("functions")
-        write_whole(self.program, call([tool("coz-functions"), study.program, "--keep", ",".join(study.points)], 0))
-        self.lines = Lines(study.coz, self.program)
-        self.labels = [it for it in self.lines.entries if it not in study.points]
-        self.weights = weigh.Weights(study.coz, study.hot, self.program, study.options, study.budget)
-        self.sizes = functions_of(study.data)
-
-    def lines_of(self, labels):
-        """The lines that begin in these functions."""
-        addresses = [it for label in labels for it in self.lines.entries[label] if it in self.sizes]
-        ranges = [range(it, it + self.sizes[it]) for it in addresses]
-        return {label for label, entries in self.study.lines.entries.items() if any(it in some for it in entries for some in ranges)}
-
-    def heaviest(self):
-        """The functions with the greatest parts of the critical path."""
-        return sorted(self.weights.path, key=lambda it: -self.weights.path[it])[:self.study.functions]
-
-    def best(self, rows):
-        return [it for it in rows if it.mean > 0 or it.best > 0][:self.study.functions]
-
-
-class Plan:
-    """Which functions and lines are profiled."""
-
-    def __init__(self, study):
-        self.study = study
-        self.weights = weigh.Weights(study.coz, study.hot, study.program, study.options, study.budget)
-        self.functions = Functions(study) if study.functions else None
-        if self.functions:
-            self.functions.weights.tell_left_out("functions", self.functions.labels, study.least)
-        self.weights.tell_left_out("lines", list(study.lines.entries), study.least)
-        if self.functions:
-            weigh.tell_without_lines(self.functions.weights, self.functions.lines.entries, study.library)
-
-    def lines(self, functions):
-        """The lines of these functions and of the critical path that can matter."""
-        path = sorted(self.weights.path, key=lambda it: -self.weights.path[it])[:self.study.top]
-        wanted = set(path) | (self.functions.lines_of(functions) if self.functions else set())
-        return self.weights.kept(self.study.in_order(wanted), self.study.least)
-
-    def function_stage(self):
-        labels = self.functions.weights.kept(self.functions.labels, self.study.least) if self.functions else []
-        return Stage(self.study, "functions", self.functions.program, labels) if labels else None
-
-
 def tell_runs(study, stage, seconds, rest=0):
     """Says how many runs are left: those of this stage, and about so many of the later ones."""
     left = stage.runs_left() if stage else 0
     if rest:
         say(f"about {several(left + rest, 'run')} are left, at most {span((left + rest) * seconds / study.jobs)} "
             f"with {study.jobs} at a time")
-    if stage and left:
-        say(f"{several(len(stage.labels), stage.name[:-1])}: {several(left, 'run')}{' left' if left < stage.runs(len(stage.labels)) else ''}")
-    elif stage:
-        say(f"{several(len(stage.labels), stage.name[:-1])}: all runs are made")
+    if stage:
+        what = several(len(stage.labels), stage.name[:-1])
+        some = " left" if left < stage.runs(len(stage.labels)) else ""
+        say(f"{what}: {several(left, 'run')}{some}" if left else f"{what}: all runs are made")
 
 
 def make(stage):
@@ -167,36 +118,6 @@ def make(stage):
 
 def write_page(study, name, page, options=()):
     write_whole(study.path(page), call([study.page, study.path(f"{name}.profile"), *options], 0))
-
-
-def latencies(study, rows):
-    """Prints how long requests between COZ_BEGIN and COZ_END take, and what the best lines do to that."""
-    for pair in [it for it in study.pairs() if it.begins.isdisjoint(it.ends)]:
-        begins, ends = (",".join(study.in_order(it)) for it in (pair.begins, pair.ends))
-        told = False
-        for row in [it for it in rows if it.best > 0][:LATENCY_LINES] or rows[:1]:
-            text = call([study.coz, "latency", study.program, *study.options, "--line", row.label, "--arrive", begins, "--depart", ends,
-                         "--speedups", ",".join(map(str, study.speedups))]).decode()
-            found = [dict(zip(it[1::2], it[2::2])) for it in (row.split() for row in text.splitlines())]
-            if not told:
-                tell_pair(pair, found[0])
-                told = True
-            if found[0]["mean"] not in ("absent", "0"):
-                say("  " + ", ".join(shorter(it, found[0]) for it in found[1:]) + f"  {row.label}")
-
-
-def tell_pair(pair, base):
-    stray = f", {base['stray']} stray" if base["stray"] != "0" else ""
-    still = f", {base['open']} open" if base["open"] != "0" else ""
-    say(f"latency of '{pair.name}': {base['departures']} of {base['arrivals']} done{stray}{still}, mean {base['mean']} ticks; "
-        "with a line faster:")
-
-
-def shorter(step, base):
-    if step["mean"] == "absent":
-        return f"{step['speedup']} %: absent"
-    change = 100 * (int(step["mean"]) / int(base["mean"]) - 1)
-    return f"at {step['speedup']} %: {int(step['mean']):,} ({change:+.1f} %)"
 
 
 def report(study, rows):
@@ -234,16 +155,3 @@ def carry_out(asked):
     rows = make(stage)
     write_page(study, "lines", "index.html", [f"--source={study.source}"] if study.source else [])
     report(study, rows)
-
-
-def rest_of(plan):
-    """The runs after those of the functions, if the functions with most of the critical path are those that gain most."""
-    study = plan.study
-    if os.path.exists(study.path("lines.profile")):
-        return 0
-    if os.path.exists(study.path("lines.plan")):
-        with open(study.path("lines.plan"), encoding="utf-8") as file:
-            shards = json.load(file)
-        left = [it for k, it in enumerate(shards) if not os.path.exists(study.path(f"lines.{k}.profile"))]
-        return sum(map(len, left)) * (len(study.speedups) + 1)
-    return len(plan.lines(plan.functions.heaviest())) * (len(study.speedups) + 1)

@@ -1,6 +1,5 @@
 """The program that is studied: its bytes, its lines, its points, and how it is run."""
 import collections
-import os
 import re
 import time
 
@@ -12,9 +11,9 @@ from study.told import Stop, say
 
 # Paths of the C library's own files, as builds of musl name them.
 LIBRARY = re.compile(
-    r"^(musl/|(\./|src_musl/|\.\./)*(src/)?(thread|string|stdio|malloc|internal|env|exit|errno|ctype|stdlib|unistd|time|signal|"
-    r"locale|multibyte|math|misc|process|mman|prng|ldso|linux|complex|regex|network|conf|aio|stat|fcntl|sched|select|termios|"
-    r"temp|search|passwd|mq|ipc|fenv|dirent|crypt|setjmp|legacy|coz)/[^/]*(/[^/]*)?:|\./(arch|src|include|obj)/|(.*/)?crt/|\.\./)")
+    r"^(musl/|src/(thread|string|stdio|malloc|internal|env|exit|errno|ctype|stdlib|unistd|time|signal|locale|multibyte|math|"
+    r"misc|process|mman|prng|ldso|linux|complex|regex|network|conf|aio|stat|fcntl|sched|select|termios|temp|search|passwd|mq|"
+    r"ipc|fenv|dirent|crypt|setjmp|legacy|coz)/|\./(arch|src|include|obj)/|crt/|\.\./)")
 
 # A pair of COZ_BEGIN and COZ_END of one name, as labels of lines.
 Pair = collections.namedtuple("Pair", "name begins ends")
@@ -53,7 +52,8 @@ class Target:
 
     def pairs(self):
         """The names that have both COZ_BEGIN and COZ_END."""
-        names = {it.name for it in self.marks if it.kind == program.BEGIN} & {it.name for it in self.marks if it.kind == program.END}
+        begun, ended = ({it.name for it in self.marks if it.kind == kind} for kind in (program.BEGIN, program.END))
+        names = begun & ended
         return [Pair(it, self.labels_of(program.BEGIN, it), self.labels_of(program.END, it)) for it in sorted(names)]
 
     def resolve(self, text):
@@ -91,4 +91,5 @@ def tell_marks(target):
             say(f"  warning: {len(macros)} points are in the line {label}, and coz counts them as one: "
                 "write them in lines of their own")
         elif not set(target.lines.entries[label]) <= {it.address for it in them}:
-            say(f"  warning: the line {label} has other code than its point, which is visited too: write the macro in a line of its own")
+            say(f"  warning: the line {label} has other code than its point, which is visited too: "
+                "write the macro in a line of its own")
