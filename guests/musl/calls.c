@@ -27,6 +27,24 @@ static long net_time(struct timespec *to) {
 
 // ---- The beginning ----
 
+// The first thread's stack: a mapping, of the size that Linux gives by default.
+#define STACK (8l << 20)
+static char *stack_top;
+
+// Where the first thread's stack begins: at the end of that mapping, or where it is without one.
+hidden void *__coz_stack(long *stack) {
+    long pages = __coz_pages(STACK);
+    stack_top = (char *)((uintptr_t)stack & -16);
+    if (pages > 0) stack_top = (char *)pages + STACK;
+    return stack_top;
+}
+
+hidden int __coz_stack_of_main(pthread_attr_t *to) {
+    to->_a_stackaddr = (uintptr_t)stack_top;
+    to->_a_stacksize = STACK;
+    return 1;
+}
+
 // The words with which the program begins: those of coz-args, if there are some. They lie as on a
 // stack, with room for the auxiliary pairs behind the environment.
 hidden long *__coz_start(long *stack) {
@@ -79,13 +97,12 @@ static int follows_call(unsigned long word) {
     return (before & 0xfff) == 0xef || (before & 0xfff) == 0xe7;
 }
 
-#define STACK_END 0x4000000000
-
 // Where the program called the C library: the first word of the stack that looks like it. A
-// thread's stack ends below what it knows of itself, the first thread's at a fixed place.
+// thread's stack ends below what it knows of itself.
 static unsigned long program_address(long *stack) {
-    long *self = (long *)__pthread_self(), *end = self > stack ? self : (long *)STACK_END;
-    for (; stack < end; stack++)
+    char *from = (char *)stack, *end = (char *)__pthread_self();
+    if (from <= stack_top && from > stack_top - STACK) end = stack_top;
+    for (; stack < (long *)end; stack++)
         if (follows_call(*stack)) return *stack - 4;
     return 0;
 }
@@ -215,11 +232,47 @@ static long rt_sigaction_(long *a) {
     return 0;
 }
 
-// A signal to the program itself runs its handler at once, in the thread that sends it, is ignored,
-// or ends the run with the status that a shell would show.
+// Signals for which a thread waits by sigwait, or has once waited, as a set of bits, and those of them
+// that were sent and not yet taken.
+static volatile uint64_t awaited, pending;
+static volatile int sent;
+
+static uint64_t bit_of(long number) {
+    return number > 0 && number <= 64 ? 1ul << (number - 1) : 0;
+}
+
+static long rt_sigtimedwait_(long *a) {
+    uint64_t set = *(uint64_t *)a[0];
+    siginfo_t *about = (void *)a[1];
+    __atomic_or_fetch(&awaited, set, __ATOMIC_SEQ_CST);
+    for (;;) {
+        int seen = sent;
+        uint64_t here = pending & set, one = here & -here;
+        if (one && __atomic_fetch_and(&pending, ~one, __ATOMIC_SEQ_CST) & one) {
+            int number = a_ctz_64(one) + 1;
+            if (about) memset(about, 0, sizeof *about);
+            if (about) about->si_signo = number;
+            return number;
+        }
+        if (one) continue;
+        if (!a[2])
+            __coz_ecall(SYS_futex, (long)&sent, FUTEX_WAIT | FUTEX_PRIVATE, seen, 0, 0, 0);
+        else if (__coz_timed_wait(&sent, seen, (void *)a[2]))
+            return -EAGAIN;
+    }
+}
+
+// A signal to the program itself waits for those that wait for it, runs its handler at once, in the
+// thread that sends it, is ignored, or ends the run with the status that a shell would show.
 static long raise_here(long number) {
     if (number < 0 || number >= _NSIG) return -EINVAL;
     void (*handler)(int) = actions[number].handler;
+    if (awaited & bit_of(number)) {
+        __atomic_or_fetch(&pending, bit_of(number), __ATOMIC_SEQ_CST);
+        a_inc(&sent);
+        __wake(&sent, -1, 1);
+        return 0;
+    }
     if (number == 0 || number == SIGCANCEL || handler == SIG_IGN) return 0;
     if (handler == SIG_DFL) {
         if (number == SIGCHLD || number == SIGCONT || number == SIGURG || number == SIGWINCH)
@@ -327,7 +380,7 @@ static long sysinfo_(long *a) {
 }
 
 static void put_limit(long which, struct rlimit *to) {
-    rlim_t limit = which == RLIMIT_STACK    ? 1 << 20
+    rlim_t limit = which == RLIMIT_STACK    ? STACK
                    : which == RLIMIT_NOFILE ? 1024
                    : which == RLIMIT_CORE   ? 0
                                             : RLIM_INFINITY;
@@ -506,6 +559,7 @@ static coz_answer *const answers[] = {
     [SYS_rt_sigsuspend] = rt_sigsuspend_,
     [SYS_rt_sigaction] = rt_sigaction_,
     [SYS_rt_sigpending] = rt_sigpending_,
+    [SYS_rt_sigtimedwait] = rt_sigtimedwait_,
     [SYS_setpriority] = zero,
     [SYS_getpriority] = normal_priority,
     [SYS_setgid] = zero,
