@@ -9,6 +9,9 @@ const FEW: &[u8] = b"coz-ticks\tversion=1\tbudget=3\tpoints=0\n";
 const POINT: &[u8] =
     b"coz-ticks\tversion=1\tbudget=100000000\tpoints=1\npoint\tindex=0\tname=one.s:3\n";
 
+const OTHER_POINT: &[u8] =
+    b"coz-ticks\tversion=1\tbudget=100000000\tpoints=1\npoint\tindex=0\tname=one.s:2\n";
+
 const CUT: &[u8] = b"coz-ticks\tversion=1\tbudget=100000000\tpoints=0\nexperiment\tsel";
 
 const OUTPUT: &[u8] =
@@ -63,7 +66,7 @@ struct Book {
     visits: &'static [u8],
 }
 
-static BOOKS: [Book; 15] = [
+static BOOKS: [Book; 16] = [
     Book {
         path: "a",
         head: HEAD,
@@ -105,6 +108,12 @@ static BOOKS: [Book; 15] = [
         head: HEAD,
         blocks: &[OTHER_0, OTHER_50],
         visits: NO_VISITS,
+    },
+    Book {
+        path: "i",
+        head: OTHER_POINT,
+        blocks: &[THREE_0, THREE_50],
+        visits: VISITS,
     },
     Book {
         path: "k",

@@ -11,7 +11,7 @@ use std::test::Fail;
 /// The words, the status, the profile that is printed, and the line on the error stream.
 type Row = (&'static [&'static str], u8, &'static str, &'static [u8]);
 
-static ROWS: [Row; 30] = [
+static ROWS: [Row; 32] = [
     (&["a", "b"], 0, "all", b""),
     (&["b", "a"], 0, "all", b""),
     (&["--", "a", "b"], 0, "all", b""),
@@ -49,6 +49,8 @@ static ROWS: [Row; 30] = [
     (&["b", "m"], 14, "", b"coz-join: parts: Speedups in m\n"),
     (&["a", "m"], 14, "", b"coz-join: parts: Speedups in m\n"),
     (&["a", "h"], 14, "", b"coz-join: parts: Baseline in h\n"),
+    (&["m", "s"], 14, "", b"coz-join: parts: Baseline in s\n"),
+    (&["g", "i"], 14, "", b"coz-join: parts: Points in i\n"),
     (
         &["a", "a"],
         14,

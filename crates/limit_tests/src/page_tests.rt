@@ -89,8 +89,29 @@ output\tlength=0\tsha256=e3b0c44298fc1c149afbf4c8996fb92427ae41e4649b934ca495991
 throughput-point\tindex=0\tdelta=2\n\
 visits\tsha256=01658dd2859e0c94e814be8cb0670089cc9cc13590e7a6c3154812dd1f67d4ac\n";
 
-static FILES: [(&str, &[u8]); 5] = [
+/// Two runs of each of two lines, whose net times at speedup 0 differ. One run is cut.
+const COSTS: &[u8] = b"coz-ticks\tversion=1\tbudget=1000\tpoints=1\n\
+point\tindex=0\tname=src/a.s:8\n\
+experiment\tselected=lib/b.s:2\tspeedup=0\tend=exited:0\ttime=8700\tdelay=0\tretired=13\tstarts=2\n\
+output\tlength=0\tsha256=e3b0c44298fc1c149afbf4c8996fb92427ae41e4649b934ca495991b7852b855\n\
+throughput-point\tindex=0\tdelta=2\n\
+visits\tsha256=e3b0c44298fc1c149afbf4c8996fb92427ae41e4649b934ca495991b7852b855\n\
+experiment\tselected=lib/b.s:2\tspeedup=50\tend=exited:0\ttime=8750\tdelay=100\tretired=13\tstarts=2\n\
+output\tlength=0\tsha256=e3b0c44298fc1c149afbf4c8996fb92427ae41e4649b934ca495991b7852b855\n\
+throughput-point\tindex=0\tdelta=2\n\
+visits\tsha256=e3b0c44298fc1c149afbf4c8996fb92427ae41e4649b934ca495991b7852b855\n\
+experiment\tselected=src/a.s:3\tspeedup=0\tend=exited:0\ttime=1000\tdelay=0\tretired=13\tstarts=2\n\
+output\tlength=0\tsha256=e3b0c44298fc1c149afbf4c8996fb92427ae41e4649b934ca495991b7852b855\n\
+throughput-point\tindex=0\tdelta=2\n\
+visits\tsha256=e3b0c44298fc1c149afbf4c8996fb92427ae41e4649b934ca495991b7852b855\n\
+experiment\tselected=src/a.s:3\tspeedup=50\tend=spent\ttime=1000\tdelay=100\tretired=13\tstarts=2\n\
+output\tlength=0\tsha256=e3b0c44298fc1c149afbf4c8996fb92427ae41e4649b934ca495991b7852b855\n\
+throughput-point\tindex=0\tdelta=2\n\
+visits\tsha256=e3b0c44298fc1c149afbf4c8996fb92427ae41e4649b934ca495991b7852b855\n";
+
+static FILES: [(&str, &[u8]); 6] = [
     ("p", PROFILE),
+    ("costs", COSTS),
     ("none", NONE),
     ("points", TWO_POINTS),
     ("d/src/a.s", b"one\ntwo\n  three < 3\nfour\nfive\n"),
@@ -161,7 +182,7 @@ fn the_profile_is_read_once(rt: HostRuntime) -> Result<(), Fail> {
     check_pieces(&rt, &RIGHT)
 }
 
-static PIECES: [Piece; 20] = [
+static PIECES: [Piece; 23] = [
     (&["p"], &[], b"<td>lib/b.s:2</td>", true),
     (&["p"], &[], b"<td>src/a.s:3</td>", true),
     (&["p"], &[], b"Only lines of files", false),
@@ -212,6 +233,10 @@ static PIECES: [Piece; 20] = [
     (&["p", "--source=d"], &[], b"<td>lib/b.s:2</td>", true),
     (&["p", "--source=d"], &[1, 2], b"<td>src/a.s:3</td>", true),
     (&["p", "--source=d/src"], &[], b"<code>", false),
+    // 50 of 95 steps of 11.4 each, from 200 on
+    (&["p"], &[], b" cx=\"770\"", true),
+    (&["costs"], &[], b"</td><td>20.00%", true),
+    (&["costs"], &[], b"Warning: runs that did not exit: 1", true),
 ];
 
 #[test]
