@@ -1,10 +1,8 @@
 -- What the functions of the calls share.
-use borrow.Rule.Slice.PartMut.{put_mid, post_of}
-use Rattle.std.specs.Vec.{with_items}
-use Rattle.std.proofs.Common.{ℕ, zero, suc, ◌-◌, min, Vec, append_assoc, ⊎_elim, ◌≡◌, ◌≢◌, ◌+◌, ◌<◌, ◌≤◌, ◌^◌, ◌++◌, List, [], ◌∷◌, length, take, drop, set, Bool, true, false, if◌then◌else◌, Option, Some, None, refl, sym, ap, ◌∙◌, arith, pos, replicate, get_or}
+use Rattle.std.proofs.Common.{ℕ, zero, suc, ◌-◌, min, ⊎_elim, ◌≡◌, ◌≢◌, ◌+◌, ◌<◌, ◌≤◌, ◌^◌, ◌++◌, List, [], ◌∷◌, length, take, set, Bool, true, false, if◌then◌else◌, Option, Some, None, refl, sym, ap, ◌∙◌, arith, pos, replicate, get_or}
 use Rattle.std.proofs.lemmas.Bool.{ne_eqb}
-use Rattle.std.proofs.lemmas.Bool.{cases_lt, false≢true}
-use Rattle.std.proofs.lemmas.List.{get_or_past, length-append, length-take, length-drop, take_all, take-append-le, with_items_is}
+use Rattle.std.proofs.lemmas.Bool.{cases_lt}
+use Rattle.std.proofs.lemmas.List.{get_or_past, take_all}
 use Rattle.std.proofs.Math.Nat.{mod-eq_of_lt}
 use Rattle.std.proofs.Math.Seq.{take-append-add}
 use Rattle.coz_types.specs.Maps.{Map, value_at}
@@ -100,15 +98,6 @@ pub running-made : (g : Guest) (h : ℕ) → is_running g h ≡ true → IsMade 
 running-made g h runs = made-running g.harts h runs
 
 -- what is appended to an output
-slice_length : (xs : List ℕ) (w k : ℕ) → k ≤ length xs - w → length (take (w + k - w) (drop w xs)) ≡ k
-slice_length xs w k fits = simp (length-take, length-drop) (omega arith)
-
-pub unreadable-part : (m : MemoryMap) (a n w k : ℕ) (xs : List ℕ) → is_readable m a (length (take (w + k - w) (drop w xs))) ≡ false → is_readable m a n ≡ true → k ≤ n → k ≤ length xs - w → ⊥
-unreadable-part m a n w k xs refused may less fits =
-    let l = slice_length xs w k fits in
-    let part = readable-part m a n k may less in
-    false≢true (sym refused ∙ ap (is_readable m a) l ∙ part)
-
 bytes_prefix : (m : MemoryMap) (a n k : ℕ) → k ≤ n → take k (bytes_at m a n) ≡ bytes_at m a k
 bytes_prefix m a n zero fits = refl
 bytes_prefix m a zero (suc k) fits = absurd (omega arith)
@@ -121,57 +110,19 @@ cut_bytes m a n room =
     (λ (more : n ≤ room). take_all room (bytes_at m a n) (omega (arith, length-bytes_at m a n)) ∙ ap (bytes_at m a) (let e : n ≡ min n room = omega arith in e))
     (cases_lt room n)
 
--- the first w of xs, k others, and the rest of xs
-overwritten : (xs into : List ℕ) (w k : ℕ) → w ≤ length xs → length into ≡ k → take (w + k) (put_mid w (w + k - w) xs into) ≡ take w xs ++ into
-overwritten xs into w k inside size =
-    ap (take (w + k)) (sym (append_assoc (take w xs) into (post_of w (w + k - w) xs)))
-    ∙ take-append-le (w + k) (take w xs ++ into) (post_of w (w + k - w) xs) (simp (length-append, length-take) (omega arith))
-    ∙ take_all (w + k) (take w xs ++ into) (simp (length-append, length-take) (omega arith))
-
-overwritten_length : (xs into : List ℕ) (w k : ℕ) → w + k ≤ length xs → length into ≡ k → length (put_mid w (w + k - w) xs into) ≡ length xs
-overwritten_length xs into w k inside size = simp (length-append, length-take, length-drop) (omega arith)
-
-limited : (xs : List ℕ) (m : MemoryMap) (a n w : ℕ) → w ≤ length xs → take (length xs) (take w xs ++ bytes_at m a n) ≡ take w xs ++ bytes_at m a (min n (length xs - w))
-limited xs m a n w inside =
-    let size : length xs ≡ length (take w xs) + (length xs - w) = simp length-take (omega arith) in
-    ap (λ (k : ℕ). take k (take w xs ++ bytes_at m a n)) size
-    ∙ take-append-add (take w xs) (bytes_at m a n) (length xs - w)
-    ∙ ap (λ (bs : List ℕ). take w xs ++ bs) (cut_bytes m a n (length xs - w))
-
 abbrev pub written : List ℕ → ℕ → Written
 written bytes limit = record { bytes = bytes; limit = limit }
 
-pub appended : {Z : Type 0} (places : Vec ℕ Z) (now into : List ℕ) (w k n : ℕ) (m : MemoryMap) (a : ℕ) (old : Written) → now ≡ places.items → w ≤ length places.items → k ≡ min n (length places.items - w)
-    → into ≡ bytes_at m a (length (take (w + k - w) (drop w now))) → written (take w places.items) (length places.items) ≡ old
-    → written (take (w + k) (with_items places (put_mid w (w + k - w) now into)).items) (length (with_items places (put_mid w (w + k - w) now into)).items) ≡ with_bytes_written (bytes_at m a n) old
-appended places now into w k n m a old there inside e got was =
-    let ws : List ℕ = put_mid w (w + k - w) now into in
-    let same : length now ≡ length places.items = ap (λ (xs : List ℕ). length xs) there in
-    let fits : k ≤ length now - w = omega arith in
-    let size : length into ≡ k = ap (λ (xs : List ℕ). length xs) got ∙ length-bytes_at m a (length (take (w + k - w) (drop w now))) ∙ slice_length now w k fits in
-    let taken : into ≡ bytes_at m a k = got ∙ ap (bytes_at m a) (slice_length now w k fits) in
-    let total : length ws ≡ length now = overwritten_length now into w k (omega arith) size in
-    let items : (with_items places ws).items ≡ ws = with_items_is places ws (total ∙ same ∙ sym places.ok.0) in
-    let front : take (w + k) (with_items places ws).items ≡ take (length places.items) (take w places.items ++ bytes_at m a n) =
-    ap (take (w + k)) items
-    ∙ overwritten now into w k (omega arith) size
-    ∙ ap (λ (xs : List ℕ). take w xs ++ into) there
-    ∙ ap (λ (bs : List ℕ). take w places.items ++ bs) (taken ∙ ap (bytes_at m a) e)
-    ∙ sym (limited places.items m a n w inside) in
-    let limit : length (with_items places ws).items ≡ length places.items = ap (λ (xs : List ℕ). length xs) items ∙ total ∙ same in
-    ap (λ (bs : List ℕ). written bs (length (with_items places ws).items)) front
-    ∙ ap (written (take (length places.items) (take w places.items ++ bytes_at m a n))) limit
+pub appended : (bytes now : List ℕ) (limit n k : ℕ) (m : MemoryMap) (a : ℕ) (old : Written) → length bytes ≤ limit → k ≡ min n (limit - length bytes) → now ≡ bytes ++ bytes_at m a k → written bytes limit ≡ old
+    → written now limit ≡ with_bytes_written (bytes_at m a n) old
+appended bytes now limit n k m a old inside e new was =
+    let cut : take limit (bytes ++ bytes_at m a n) ≡ bytes ++ bytes_at m a k =
+    ap (λ (l : ℕ). take l (bytes ++ bytes_at m a n)) (let f : limit ≡ length bytes + (limit - length bytes) = omega arith in f)
+    ∙ take-append-add bytes (bytes_at m a n) (limit - length bytes)
+    ∙ ap (λ (bs : List ℕ). bytes ++ bs) (cut_bytes m a n (limit - length bytes))
+    ∙ ap (λ (l : ℕ). bytes ++ bytes_at m a l) (sym e) in
+    ap (λ (bs : List ℕ). written bs limit) (new ∙ sym cut)
     ∙ ap (with_bytes_written (bytes_at m a n)) was
-
--- an output after the written places of another one
-pub written_over : {Z : Type 0} (places : Vec ℕ Z) (into there : List ℕ) (w : ℕ) (other : Written) → length into ≡ length places.items → take w into ≡ take w there → length places.items ≡ length there → written (take w there) (length there) ≡ other
-    → written (take w (with_items places into).items) (length (with_items places into).items) ≡ other
-written_over places into there w other kept copied sizes was =
-    let items : (with_items places into).items ≡ into = with_items_is places into (kept ∙ sym places.ok.0) in
-    ap (λ (xs : List ℕ). written (take w xs) (length xs)) items
-    ∙ ap (λ (bs : List ℕ). written bs (length into)) copied
-    ∙ ap (written (take w there)) (kept ∙ sizes)
-    ∙ was
 
 pub first-layout : (m : MemoryMap) (image : ImageParts) (layout : Layout) → m ≡ first_memory image layout → m.layout ≡ layout
 first-layout m image layout e = ap (λ (x : MemoryMap). x.layout) e ∙ (same_regions-first image layout).1

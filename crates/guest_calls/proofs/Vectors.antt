@@ -1,6 +1,6 @@
 -- The pieces of vectored reads and writes, one by one.
 use Rattle.std.proofs.Common.{ℕ, zero, suc, ◌≡◌, ◌+◌, ◌-◌, ◌*◌, ◌<◌, ◌≤◌, ◌++◌, min, List, [], ◌∷◌, length, take, drop, get_or, Bool, true, false, ◌&&◌, Some, refl, sym, ap, ◌∙◌, arith, append_assoc, add-one}
-use Rattle.std.proofs.lemmas.List.{append-nil, length-take, take_all}
+use Rattle.std.proofs.lemmas.List.{append-nil, take_all}
 use Rattle.std.proofs.Math.Seq.{drop-cons}
 use Rattle.std.proofs.lemmas.List.{length-drop}
 use Rattle.guest_memory.specs.Memory.{MemoryMap, is_allowed, is_readable, is_writable, no_rights, rights_at, number_at, bytes_at, load}
@@ -68,11 +68,10 @@ pub readable-next : (m : MemoryMap) (ps : List Piece) (i : ℕ) → i < length p
 readable-next m ps i below e = ap (is_each_readable m) (sym (next-piece ps i below)) ∙ e
 
 -- an output with nothing more
-pub written-none : (xs : List ℕ) (k : ℕ) (w : Written) → written (take k xs) (length xs) ≡ w → w ≡ with_bytes_written [] w
-written-none xs k w view =
-    let same : take k xs ≡ take (length xs) (take k xs ++ []) =
-    sym (ap (take (length xs)) (append-nil (take k xs)) ∙ take_all (length xs) (take k xs) (simp length-take (omega arith))) in
-    sym view ∙ ap (λ (bs : List ℕ). written bs (length xs)) same ∙ ap (with_bytes_written []) view
+pub written-none : (bytes : List ℕ) (limit : ℕ) (w : Written) → length bytes ≤ limit → written bytes limit ≡ w → w ≡ with_bytes_written [] w
+written-none bytes limit w inside view =
+    let same : bytes ≡ take limit (bytes ++ []) = sym (ap (take limit) (append-nil bytes) ∙ take_all limit bytes inside) in
+    sym view ∙ ap (λ (bs : List ℕ). written bs limit) same ∙ ap (with_bytes_written []) view
 
 pub written-next : (m : MemoryMap) (ps : List Piece) (i : ℕ) (old new : Written) → i < length ps → new ≡ with_bytes_written (bytes_at m (get_or ps i no_piece).address (get_or ps i no_piece).length) old
     → with_bytes_written (bytes_of m (drop (i + 1) ps)) new ≡ with_bytes_written (bytes_of m (drop i ps)) old

@@ -1,5 +1,6 @@
 //! The output of a guest, up to its limit.
-ghost use Rattle.std.specs.Prelude.{◌≡◌, ◌≤◌, ◌%◌, ◌^◌, [], length, take, IfOk, IsTrue};
+ghost use Rattle.std.specs.Prelude.{◌≡◌, ◌+◌, ◌≤◌, ◌%◌, ◌^◌, [], ◌++◌, length, IfOk, IsTrue};
+ghost use Rattle.std.specs.Vec.{vec_capacity};
 ghost use Rattle.coz_types.specs.declared.TheConstants.{MAX_OUTPUT};
 ghost use Rattle.guest_memory.specs.Memory.{is_readable, bytes_at};
 ghost use Rattle.guest_calls.specs.Output.{with_bytes_written};
@@ -11,35 +12,42 @@ use guest_memory::Memory;
 use std::alloc::{AllocError, Global};
 use std::marker::Model;
 
-/// The output of a guest, up to a limit. Its memory is allocated by `new`.
+/// The output of a guest, up to a limit. Its room is taken by `new`, which alone can be out of
+/// memory.
 #[derive(Drop)]
 pub struct Output {
     places: Vec<u8>,
-    written: usize,
+    limit: usize,
 }
 
 impl Model for Output {
-    ghost use Rattle.std.specs.Prelude.{◌≤◌, length, take};
+    ghost use Rattle.std.specs.Prelude.{◌≤◌, length};
+    ghost use Rattle.std.specs.Vec.{vec_capacity};
     ghost use Rattle.coz_types.specs.declared.TheConstants.{MAX_OUTPUT};
     ghost use Rattle.guest_calls.specs.Output.{Written};
 
     ghost Value = { Written };
 
-    ghost view = { λ o.
-        record { bytes = take o.written o.places.items; limit = length o.places.items } };
+    ghost view = { λ o. record { bytes = o.places.items; limit = o.limit } };
 
-    ghost invariant = { λ o.
-        (o.written ≤ length o.places.items) × (length o.places.items ≤ MAX_OUTPUT) };
+    ghost invariant = { λ o. (length o.places.items ≤ o.limit) × (o.limit ≤ MAX_OUTPUT)
+        × (o.limit ≤ vec_capacity o.places) };
 }
 
-/// Copies the first bytes of a list over those of another one of the same length.
-fn copy_front(into: &mut [u8], from: &[u8], count: usize)
-    requires sizes { length into.old ≡ length from.now }
-    requires fits { count ≤ length into.old }
-    ensures len { length into.new ≡ length into.old }
-    ensures front { take count into.new ≡ take count from.now }
+/// Appends bytes of the memory that may be read, in the room that the list has.
+fn read_on(places: &mut Vec<u8>, memory: &Memory, address: Address, count: usize)
+    requires readable { IsTrue (is_readable memory.now address count) }
+    requires room { length places.old.items + count ≤ vec_capacity places.old }
+    ensures bytes { places.new.items ≡ places.old.items ++ bytes_at memory.now address count }
+    ensures room { vec_capacity places.old ≤ vec_capacity places.new }
 {
-    into[..count].copy_from_slice(&from[..count]);
+    let start = places.len();
+    let Ok(()) = places.resize(start + count, 0) else {
+        unreachable!()
+    };
+    let Ok(()) = memory.read_at(address, &mut places[start..]) else {
+        unreachable!()
+    };
 }
 
 impl Output {
@@ -48,8 +56,8 @@ impl Output {
         requires { limit ≤ MAX_OUTPUT }
         ensures { IfOk result (λ output. output ≡ record { bytes = []; limit = limit }) }
     {
-        let places = vec![in alloc; 0u8; limit]?;
-        Ok(Output { places, written: 0 })
+        let places = Vec::with_capacity(alloc, limit)?;
+        Ok(Output { places, limit })
     }
 
     /// The bytes that were written.
@@ -57,17 +65,18 @@ impl Output {
         ensures bytes { result.now ≡ self.now.bytes }
         ensures few { length result.now ≤ MAX_OUTPUT }
     {
-        &self.places[..self.written]
+        &self.places
     }
 
-    /// Makes this equal to another one of the same limit. Of the places only those
-    /// that were written are copied.
+    /// Makes this equal to another one of the same limit.
     pub fn copy_from(&mut self, other: &Output)
         requires { self.old.limit ≡ other.now.limit }
         ensures { self.new ≡ other.now }
     {
-        copy_front(&mut self.places, &other.places, other.written);
-        self.written = other.written;
+        self.places.clear();
+        let Ok(()) = self.places.extend_from_slice(&other.places) else {
+            unreachable!()
+        };
     }
 
     /// Appends bytes of the memory that may be read, as far as there is room.
@@ -75,12 +84,13 @@ impl Output {
         requires { IsTrue (is_readable memory.now address count) }
         ensures { self.new ≡ with_bytes_written (bytes_at memory.now address count) self.old }
     {
-        let room = self.places.len() - self.written;
-        let end = self.written + count.min(room as u64) as usize;
-        let Ok(()) = memory.read_at(address, &mut self.places[self.written..end]) else {
-            unreachable!()
-        };
-        self.written = end;
+        let room = self.limit - self.places.len();
+        read_on(
+            &mut self.places,
+            memory,
+            address,
+            count.min(room as u64) as usize,
+        );
     }
 
     /// Appends the bytes of pieces that may all be read, in order, as far as there is room.

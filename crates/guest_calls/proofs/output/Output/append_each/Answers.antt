@@ -38,7 +38,7 @@ returns c =
     let sum = c.loop-piece.invariant.sum in
     let fits = c.loop-piece.invariant.fits in
     record {
-      output = written-none c.self.inside.places.items c.self.inside.written c.loop-piece.self c.self.view_is
+      output = written-none c.self.inside.places.items c.self.inside.limit c.loop-piece.self c.self.invariant.0 c.self.view_is
           ∙ ap (λ (qs : List Piece). with_bytes_written (bytes_of c.args.memory.now qs) c.loop-piece.self) (sym none)
           ∙ c.loop-piece.invariant.output;
       total = omega arith;

@@ -1,14 +1,15 @@
-use Rattle.std.proofs.Common.{◌≡◌, ℕ, List, length, take, ap, sym, ◌∙◌}
+use Rattle.std.proofs.Common.{◌≡◌, length, arith, sym, ap, ◌∙◌}
 use Rattle.guest_calls.specs.Output.{Written}
-use Rattle.guest_calls.proofs.Rows.{written_over}
 use Rattle.guest_calls.proofs.output.Output.copy_from.Goals as goal
 
-pub returns : goal.returns
-returns c =
-    let places = c.self.inside.places.items in
-    let there = c.other.inside.places.items in
-    let sizes : length places ≡ length there = ap (λ (o : Written). o.limit) c.self.view_is ∙ c.requires ∙ sym (ap (λ (o : Written). o.limit) c.other.view_is) in
-    written_over c.self.inside.places c.copy_front.new.into there c.other.inside.written c.args.other.now
-    (c.copy_front.ensures.len ∙ ap (λ (xs : List ℕ). length xs) c.deref_mut.ensures.value)
-    (c.copy_front.ensures.front ∙ ap (λ (xs : List ℕ). take c.other.inside.written xs) c.deref.ensures.value)
-    sizes c.other.view_is
+pub unreachable-requires : goal.unreachable-requires
+unreachable-requires c =
+    let given = ap length c.deref.ensures.value in
+    let few = c.other.invariant.0 in
+    let limits : c.self.inside.limit ≡ c.other.inside.limit =
+    ap (λ (w : Written). w.limit) c.self.view_is ∙ c.requires ∙ sym (ap (λ (w : Written). w.limit) c.other.view_is) in
+    let many = c.self.invariant.2 in
+    let room = c.clear.ensures.capacity in
+    let none = c.clear.ensures.len in
+    let full = c.in_default.ensures.full in
+    omega arith
