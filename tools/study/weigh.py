@@ -64,8 +64,8 @@ class Weights:
 
     def tell_left_out(self, what, labels, least):
         kept, started = len(self.kept(labels, least)), sum(it in self.started for it in labels)
-        say(f"{len(labels):,} {what}: {len(labels) - started:,} never start, {started - kept:,} have less than {least:g} per cent "
-            f"of the cost and of the critical path, and {kept:,} can matter")
+        say(f"{len(labels):,} {what}: {len(labels) - started:,} never start, {started - kept:,} have less than {least:g} "
+            f"per cent of the cost and of the critical path, and {kept:,} can matter")
 
 
 def kind_of(name, address, library):
@@ -88,9 +88,10 @@ def tell_without_lines(weights, entries, library):
     most = sorted(bare, key=lambda it: -weights.cost[it])
     named = [it for it in most if weights.cost[it] >= WORTH_NAMING]
     if named:
-        told = [f"{bare[it]} {weights.cost[it]:.1f} per cent ({kind_of(bare[it], min(entries.get(it, [0])), library)})" for it in named]
+        kinds = {it: kind_of(bare[it], min(entries.get(it, [0])), library) for it in named}
+        told = [f"{bare[it]} {weights.cost[it]:.1f} per cent ({kinds[it]})" for it in named]
         say(f"functions without lines that cost most: {listed(told, NAMED)}")
     floats = sum(weights.cost[it] for it in bare if SOFT_FLOAT.match(bare[it]))
     if floats > FLOATS_WARNED:
-        say(f"warning: {floats:.1f} per cent of the cost are routines for floats, since coz has no float registers: on a machine "
-            "that has them this share all but vanishes, and what other lines gain grows")
+        say(f"warning: {floats:.1f} per cent of the cost are routines for floats, since coz has no float registers: "
+            "on a machine that has them this share all but vanishes, and what other lines gain grows")
