@@ -294,7 +294,11 @@ fn check(rt: &impl Abort, word: u32, instr: Instr) {
         Some(instr) => encode(instr) == word,
         None => false,
     };
-    check_equal(rt, (word, found == Some(instr), has_word), (word, true, true));
+    check_equal(
+        rt,
+        (word, found == Some(instr), has_word),
+        (word, true, true),
+    );
 }
 
 fn upper_immediates(rt: &impl Abort) {
