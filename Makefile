@@ -1,7 +1,7 @@
 # make         proves and builds the programs, as many crates at a time as there are processors, and leaves them as
 #              build/coz, build/coz-page, build/coz-join, build/coz-hot and build/coz-functions
-# make test    runs the merge gate, and then checks the man pages and that machines take no memory and,
-#              if the programs are built, the outputs that README and TUTORIAL show and an example's profile
+# make test    runs the merge gate, and then checks the man pages, that what the documents name exists, that machines
+#              take no memory and, if the programs are built, the outputs that README and TUTORIAL show and an example's profile
 # make try ARGS="run examples/one"    runs the program with no proof, in some minutes
 # make quick   builds the same programs without proving them, in two or three minutes; CHECKS=1 leaves their run-time
 #              checks in, which a changed tree needs
@@ -28,11 +28,7 @@ page join hot functions:
 
 test:
 	bash .ci/run
-	tools/check-man
-	tools/check-docs
-	tools/check-memory
-	tools/check-examples
-	tools/test-study
+	tools/check
 
 try:
 	cd crates/coz && rt try $(foreach file,$(wildcard $(ARGS)),--data $(file)=$(abspath $(file))) -- $(ARGS)
