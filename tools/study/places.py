@@ -20,7 +20,7 @@ BUILD = f"build it with {COMPILER}, as {PAGES}/GUESTS.md says"
 
 
 def tool(name):
-    """The path of a program of coz."""
+    """The whole path of a program of coz."""
     folders = [os.path.join(TOP, "tools"), os.path.join(TOP, "build")] if IN_REPOSITORY else [os.path.join(PREFIX, "bin")]
     for folder in folders:
         path = os.path.join(folder, name)
@@ -30,7 +30,7 @@ def tool(name):
     if not found:
         where = "in build/ nor on the path: run make, or make quick" if IN_REPOSITORY else "beside coz-study nor on the path"
         raise Stop(f"{name} is neither {where}")
-    return found
+    return os.path.abspath(found)
 
 
 def call(words, most=1):

@@ -1,91 +1,41 @@
-"""Which functions and lines are profiled, and how many runs that are."""
-import json
+"""coz-study plan PROG: the runs of the stage that is next, as shell commands for other machines."""
+import contextlib
 import os
+import shlex
+import sys
 
-from study import weigh
-from study.lines import Lines
-from study.places import call, tool, write_whole
-from study.program import functions_of
-from study.shards import Stage
+from study.study import Study, make, stages
+from study.told import say, several
 
-
-class Functions:
-    """The program in which each function is one line, and what its functions weigh."""
-
-    def __init__(self, study):
-        self.study, self.program = study, study.path("functions")
-        write_whole(self.program, call([tool("coz-functions"), study.program, "--keep", ",".join(study.points)], 0))
-        self.lines = Lines(study.coz, self.program)
-        self.labels = [it for it in self.lines.entries if it not in study.points]
-        self.weights = weigh.Weights(study.coz, study.hot, self.program, study.options, study.budget)
-        self.sizes = functions_of(study.data)
-
-    def lines_of(self, labels):
-        """The lines that begin in these functions."""
-        addresses = [it for label in labels for it in self.lines.entries[label] if it in self.sizes]
-        ranges = [range(it, it + self.sizes[it]) for it in addresses]
-        return {label for label, entries in self.study.lines.entries.items()
-                if any(it in some for it in entries for some in ranges)}
-
-    def heaviest(self):
-        """The functions with the greatest parts of the critical path."""
-        return sorted(self.weights.path, key=lambda it: -self.weights.path[it])[:self.study.functions]
-
-    def best(self, rows):
-        return [it for it in rows if it.mean > 0 or it.best > 0][:self.study.functions]
+# Keeps what the other words print as the file of the first one, whole or not at all. Status 1 says that a run did not exit.
+# A file that is half has a name of its machine and process, and is removed at the end, unless the shell is killed.
+KEEP = ('f=$1 p=$1.$(uname -n).$$.half; shift; [ -e "$f" ] || { trap "rm -f \\"\\$p\\"" EXIT; trap "exit 1" HUP INT TERM; '
+        '"$@" > "$p" || [ $? = 1 ] && mv -f "$p" "$f"; }')
+NEXT = {"functions": "when they are done, plan the lines by the same words",
+        "lines": "when they are done, the same words without plan tell what they found"}
 
 
-class Plan:
-    """Which functions and lines are profiled."""
-
-    def __init__(self, study):
-        self.study = study
-        self.weights = weigh.Weights(study.coz, study.hot, study.program, study.options, study.budget)
-        self.functions = Functions(study) if study.functions else None
-        if self.functions:
-            self.functions.weights.tell_left_out("functions", self.functions.labels, study.least)
-        self.weights.tell_left_out("lines", list(study.lines.entries), study.least)
-        if self.functions:
-            weigh.tell_without_lines(self.functions.weights, self.functions.lines.entries, study.library)
-
-    def wanted(self, functions):
-        """The lines of these functions and of the critical path that can matter."""
-        path = sorted(self.weights.path, key=lambda it: -self.weights.path[it])[:self.study.top]
-        wanted = set(path) | (self.functions.lines_of(functions) if self.functions else set())
-        return self.weights.kept(self.study.in_order(wanted), self.study.least)
-
-    def expected(self):
-        """As many lines as are wanted if the functions with most of the critical path are those that gain most."""
-        return len(self.wanted(self.functions.heaviest())) if self.functions else None
-
-    def lines(self, functions):
-        """The lines that are wanted, with the heaviest others or without the lightest, so that the runs in all are by at most
-        a tenth more or fewer than was expected."""
-        wanted, expected = self.wanted(functions), self.expected()
-        if expected is None:
-            return wanted
-        slack = (expected + len(self.function_labels())) // 10
-        heavy = sorted(wanted, key=lambda it: -self.weights.of(it))[:expected + slack]
-        others = [it for it in self.weights.kept(self.study.lines.entries, self.study.least) if it not in set(wanted)]
-        others.sort(key=lambda it: -self.weights.of(it))
-        return self.study.in_order({*heavy, *others[:max(0, expected - slack - len(heavy))]})
-
-    def function_labels(self):
-        return self.functions.weights.kept(self.functions.labels, self.study.least) if self.functions else []
-
-    def function_stage(self):
-        labels = self.function_labels()
-        return Stage(self.study, "functions", self.functions.program, labels) if labels else None
+def kept(file, words):
+    """A command of any shell that leaves what the words print as a file."""
+    return shlex.join(["sh", "-c", KEEP, "-", file, *words])
 
 
-def rest_of(plan):
-    """The runs after those of the functions, if the functions with most of the critical path are those that gain most."""
-    study = plan.study
-    if os.path.exists(study.path("lines.profile")):
-        return 0
-    if os.path.exists(study.path("lines.plan")):
-        with open(study.path("lines.plan"), encoding="utf-8") as file:
-            shards = json.load(file)
-        left = [it for k, it in enumerate(shards) if not os.path.exists(study.path(f"lines.{k}.profile"))]
-        return sum(map(len, left)) * (len(study.speedups) + 1)
-    return plan.expected() * (len(study.speedups) + 1)
+def commands(study):
+    """The commands of the first stage that has runs left."""
+    for stage in stages(study):
+        if stage.left:
+            say(f"{several(len(stage.left), 'command')}: {NEXT[stage.name]}")
+            return [kept(file, stage.words(shard)) for file, shard in stage.left]
+        make(stage)
+    say("no runs are left: the same words without plan tell what they found")
+    return []
+
+
+def carry_out(asked):
+    for it in ("program", "input", "dir"):
+        if getattr(asked, it) is not None:
+            setattr(asked, it, os.path.abspath(getattr(asked, it)))
+    with contextlib.redirect_stdout(sys.stderr):
+        planned = commands(Study(asked))
+    for it in planned:
+        say(it)

@@ -65,15 +65,20 @@ class Stage:
         pool = Pool(self.study.jobs)
         pool.run([lambda it=it: self.make_shard(pool, progress, *it) for it in self.left])
         write_whole(self.whole, call([self.study.join, *self.files]))
+        remove(self.study.dir, f"{self.name}.*.half")
         return self.whole
 
+    def words(self, shard):
+        """The command that prints the profile of a shard."""
+        study = self.study
+        return [study.coz, "profile", self.program, *study.options, "--progress", ",".join(study.points),
+                "--lines", ",".join(shard), "--speedups", ",".join(map(str, study.speedups)), "--workers", "1"]
+
     def make_shard(self, pool, progress, file, shard):
-        study, part = self.study, file + ".part"
-        words = [study.coz, "profile", self.program, *study.options, "--progress", ",".join(study.points),
-                 "--lines", ",".join(shard), "--speedups", ",".join(map(str, study.speedups)), "--workers", "1"]
+        part = file + ".part"
         try:
             with open(part, "wb") as out:
-                status, said = pool.child(words, out)
+                status, said = pool.child(self.words(shard), out)
             if pool.stopped:
                 return
             if status not in (0, 1):
@@ -85,9 +90,9 @@ class Stage:
                 os.unlink(part)
 
 
-def remove_parts(folder):
-    """Removes what a study that was killed left half."""
-    for it in glob.glob(os.path.join(glob.escape(folder), "*.part")):
+def remove(folder, pattern):
+    """Removes the files of a folder whose names have a pattern."""
+    for it in glob.glob(os.path.join(glob.escape(folder), pattern)):
         os.unlink(it)
 
 

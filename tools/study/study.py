@@ -7,8 +7,8 @@ from study import points
 from study.curves import Profile, rows_of, show
 from study.latencies import latencies
 from study.places import call, tool, write_whole
-from study.plan import Plan, rest_of
-from study.shards import Progress, Stage, remove_parts
+from study.selection import Selection, rest_of
+from study.shards import Progress, Stage, remove
 from study.target import Target, tell_marks
 from study.told import Stop, say, several, span
 
@@ -50,7 +50,7 @@ class Study(Target):
     def open(self):
         """Makes the folder, or goes on in it if it is of the same study. The jobs may differ."""
         os.makedirs(self.dir, exist_ok=True)
-        remove_parts(self.dir)
+        remove(self.dir, "*.part")
         same = self.same()
         if not self.kept:
             write_whole(self.path("study.json"), json.dumps(same).encode())
@@ -113,11 +113,18 @@ def tell_runs(study, stage, seconds, rest=0):
 def make(stage):
     with Progress(stage.runs_left()) as progress:
         stage.make(progress)
-    return rows_of(Profile(stage.whole))
 
 
 def write_page(study, name, page, options=()):
     write_whole(study.path(page), call([study.page, study.path(f"{name}.profile"), *options], 0))
+
+
+def tell_functions(study, selection, stage):
+    """Says which functions gain most, and gives their labels."""
+    rows = selection.functions.best(rows_of(Profile(stage.whole)))
+    write_page(study, "functions", "functions.html")
+    show(rows, "functions by what they gain in the mean of the speedups:")
+    return [it.label for it in rows]
 
 
 def report(study, rows):
@@ -133,25 +140,30 @@ def report(study, rows):
     say(f"page: {study.path('index.html')}")
 
 
-def carry_out(asked):
-    study = Study(asked)
+def stages(study):
+    """The stages of a study, the functions and the lines. The second is chosen by what the first found, so the profile of a
+    stage must be whole before the next stage is asked for."""
     choose_points(study)
     seconds = first_run(study)
     study.hot, study.join, study.page = tool("coz-hot"), tool("coz-join"), tool("coz-page")
     study.open()
-    plan = Plan(study)
-    stage, best = plan.function_stage(), []
+    selection = Selection(study)
+    stage, best = selection.function_stage(), []
     if stage:
-        tell_runs(study, stage, seconds, rest=rest_of(plan))
-        rows = plan.functions.best(make(stage))
-        write_page(study, "functions", "functions.html")
-        show(rows, "functions by what they gain in the mean of the speedups:")
-        best = [it.label for it in rows]
-    labels = plan.lines(best)
+        tell_runs(study, stage, seconds, rest=rest_of(selection))
+        yield stage
+        best = tell_functions(study, selection, stage)
+    labels = selection.lines(best)
     if not labels:
         raise Stop("the run starts no line that could matter: compile the program with -g, or give a smaller --least")
     stage = Stage(study, "lines", study.program, labels)
     tell_runs(study, stage, seconds)
-    rows = make(stage)
+    yield stage
+
+
+def carry_out(asked):
+    study = Study(asked)
+    for stage in stages(study):
+        make(stage)
     write_page(study, "lines", "index.html", [f"--source={study.source}"] if study.source else [])
-    report(study, rows)
+    report(study, rows_of(Profile(stage.whole)))

@@ -73,6 +73,16 @@ BUDGET = Option("budget", "N", count, 100_000_000, "the most instructions of a r
 JOBS = Option("jobs", "N", count, os.cpu_count() or 1, "how many runs are made at a time (the number of processors)")
 ANYWAY = Option("anyway", None, None, False, "goes on although a run does not exit, or a point is never visited")
 
+STUDIED = [
+    PROGRESS, INPUT, BUDGET,
+    Option("speedups", "NUMBERS", numbers, [25, 50, 75, 95], "in per cent, with commas between (25,50,75,95)"),
+    Option("functions", "N", count_or_none, 5, "the functions whose lines are profiled, by what they gain; 0 profiles none (5)"),
+    Option("top", "N", count, 60, "the lines of the critical path that are profiled, by their share (60)"),
+    Option("least", "PERCENT", per_cent, 0.1, "leaves out what has less of the cost and of the critical path (0.1)"),
+    Option("source", "SRC", text, None,
+           "the folder in which the paths of the lines begin: the page shows the text of each line", "folder"),
+    Option("dir", "DIR", text, None, "where the study is kept (PROG.study)", "folder"), JOBS, ANYWAY]
+
 COMMANDS = {it.name: it for it in (
     Command("study", "PROG", "file", "tells which lines of a program are worth making faster", """
 PROG is a program that coz runs. The study
@@ -95,15 +105,21 @@ line itself is marked, and the mark explained.
 The runs are made in shards, and each shard is a file in DIR that is renamed when it is whole. A study that was interrupted
 goes on where it was, if it is started again by the same words; --jobs may differ. It writes the runs that are done and the
 time left to standard error: on a terminal in one line, elsewhere once a minute.
-""", [
-        PROGRESS, INPUT, BUDGET,
-        Option("speedups", "NUMBERS", numbers, [25, 50, 75, 95], "in per cent, with commas between (25,50,75,95)"),
-        Option("functions", "N", count_or_none, 5, "the functions whose lines are profiled, by what they gain; 0 profiles none (5)"),
-        Option("top", "N", count, 60, "the lines of the critical path that are profiled, by their share (60)"),
-        Option("least", "PERCENT", per_cent, 0.1, "leaves out what has less of the cost and of the critical path (0.1)"),
-        Option("source", "SRC", text, None,
-               "the folder in which the paths of the lines begin: the page shows the text of each line", "folder"),
-        Option("dir", "DIR", text, None, "where the study is kept (PROG.study)", "folder"), JOBS, ANYWAY]),
+""", STUDIED),
+    Command("plan", "PROG", "file", "prints the runs that are next as shell commands, for other machines", """
+PROG and the options are those of `coz-study PROG`, which goes on from what the commands leave. A study has two stages, the
+functions and then the lines, and the plan is that of the stage that is next:
+
+  coz-study plan PROG > runs
+  parallel < runs
+  coz-study plan PROG > runs
+  parallel < runs
+  coz-study PROG
+
+Each line is a command for any shell. It makes one shard and leaves it as a file in DIR, whole or not at all. It does nothing if
+the file is there, so all of them may be run again. The machines must share PROG, DIR, the file of --input and the programs of
+coz, with the same paths. What the plan has to say goes to standard error. If no runs are left, it prints no command.
+""", STUDIED),
     Command("points", "PROG", "file", "lists the lines that are proposed as progress points", """
 A progress point is a line that is passed once for each unit of work. The lines of the program's own files are listed by how
 evenly their visits fill the run, one for each group of lines that are visited equally often. The points of coz.h's macros are
