@@ -1,9 +1,16 @@
 #!/bin/sh
 #SBATCH --array=0-6
-#SBATCH --cpus-per-task=4
+# sbatch array.sh RUNS
 # sbatch array.sh LINES DIR PROG WORD..
-# One shard for each task of a Slurm array. Submit it in the folder that has cluster/.
+# Each task of a Slurm array runs its part of the commands of the file RUNS, as `coz-study plan` prints them; or
+# makes one shard of a profile of the file LINES, with as many workers as it has processors. A task has one
+# processor, or as many as --cpus-per-task says. Submit it in the folder that has cluster/.
 set -eu
+task=$SLURM_ARRAY_TASK_ID tasks=$SLURM_ARRAY_TASK_COUNT
+if [ $# = 1 ]; then
+    runs=$(awk -v i="$task" -v n="$tasks" 'NR % n == (i + 1) % n' "$1")
+    printf '%s\n' "$runs" | sh -e
+    exit
+fi
 lines=$1 dir=$2 prog=$3; shift 3
-exec cluster/coz-shard "$SLURM_ARRAY_TASK_ID" "$SLURM_ARRAY_TASK_COUNT" "$lines" "$dir" "$prog" \
-    --workers "$SLURM_CPUS_PER_TASK" "$@"
+exec cluster/coz-shard "$task" "$tasks" "$lines" "$dir" "$prog" --workers "${SLURM_CPUS_ON_NODE:-1}" "$@"
