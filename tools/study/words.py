@@ -117,8 +117,8 @@ functions and then the lines, and the plan is that of the stage that is next:
   coz-study PROG
 
 Each line is a command for any shell. It makes one shard and leaves it as a file in DIR, whole or not at all. It does nothing if
-the file is there, so all of them may be run again. The machines must share PROG, DIR, the file of --input and the programs of
-coz, with the same paths. What the plan has to say goes to standard error. If no runs are left, it prints no command.
+the file is there, so all of them may be run again. The machines must share PROG, DIR, the file of --input and coz, with the
+same paths. What the plan has to say goes to standard error. If no runs are left, it prints no command.
 """, STUDIED),
     Command("points", "PROG", "file", "lists the lines that are proposed as progress points", """
 A progress point is a line that is passed once for each unit of work. The lines of the program's own files are listed by how
