@@ -6,6 +6,8 @@
 # make quick   builds the same programs without proving them, in two or three minutes; CHECKS=1 leaves their run-time
 #              checks in, which a changed tree needs
 # make guests  builds, with Debian's packages, what guests/coz-cc links programs with
+# make guests-cxx  builds what guests/coz-c++ and -fopenmp link programs with: GCC's library of C++, its unwinder and OpenMP, in
+#              at most 10 minutes on four processors
 # make examples    builds the examples in C as they stand, with a C library of their own
 # make page    the same of build/coz-page alone; make join of build/coz-join, make hot of build/coz-hot,
 #              make functions of build/coz-functions
@@ -18,7 +20,7 @@ EXAMPLES = longer ledger
 PAGES = TUTORIAL.md GUESTS.md FORMATS.md GLOSSARY.md CLUSTER.md
 SHELLS = bash-completion/completions/coz-study zsh/site-functions/_coz-study
 
-.PHONY: build page join hot functions test try quick guests examples install uninstall clean
+.PHONY: build page join hot functions test try quick guests guests-cxx examples install uninstall clean
 
 build:
 	tools/prove
@@ -38,6 +40,9 @@ quick:
 
 guests:
 	guests/build
+
+guests-cxx: guests
+	guests/build-cxx
 
 examples:
 	guests/build plain
