@@ -1,6 +1,7 @@
 """What a profile says: its blocks, and the curve of each line at each progress point."""
 import collections
 
+from study.names import readable
 from study.told import say
 
 # A run of a profile: its net time, and the visits of each point.
@@ -79,11 +80,11 @@ def rows_of(profile):
 
 
 def show(rows, title):
-    say(title)
-    say("    mean     best    worst     cost  line")
+    told = [title, "    mean     best    worst     cost  line"]
     for it in rows:
         cost = f"{it.cost:7.2f}%" if it.cost is not None else "       -"
-        say(f"{it.mean:7.2f}% {it.best:7.2f}% {it.worst:7.2f}% {cost}  {it.label}{' *' if it.above else ''}")
+        told.append(f"{it.mean:7.2f}% {it.best:7.2f}% {it.worst:7.2f}% {cost}  {it.label}{' *' if it.above else ''}")
+    say(readable("\n".join(told)))
     if any(it.above for it in rows):
         say("  * gains more than the time that is taken from the line itself: it holds a lock shorter, so that others wait less,")
         say("    or it is an accident of this one schedule. Look whether its curve rises steadily, and try another input.")

@@ -1,4 +1,5 @@
 """How long requests take from COZ_BEGIN to COZ_END, and what the best lines do to that."""
+from study.names import readable
 from study.places import call
 from study.told import say
 
@@ -18,7 +19,7 @@ def latencies(study, rows):
                 tell_pair(pair, found[0])
                 told = True
             if found[0]["mean"] not in ("absent", "0"):
-                say("  " + ", ".join(shorter(it, found[0]) for it in found[1:]) + f"  {row.label}")
+                say("  " + ", ".join(shorter(it, found[0]) for it in found[1:]) + f"  {readable(row.label)}")
 
 
 def tell_pair(pair, base):

@@ -1,11 +1,13 @@
 """coz-study PROG: from a program to the lines that are worth making faster."""
 import hashlib
+import html
 import json
 import os
 
 from study import points
 from study.curves import Profile, rows_of, show
 from study.latencies import latencies
+from study.names import readable
 from study.places import call, tool, write_whole
 from study.selection import Selection, rest_of
 from study.shards import Progress, Stage, remove
@@ -116,7 +118,8 @@ def make(stage):
 
 
 def write_page(study, name, page, options=()):
-    write_whole(study.path(page), call([study.page, study.path(f"{name}.profile"), *options], 0))
+    text = call([study.page, study.path(f"{name}.profile"), *options], 0).decode(errors="surrogateescape")
+    write_whole(study.path(page), readable(text, html.escape).encode(errors="surrogateescape"))
 
 
 def tell_functions(study, selection, stage):

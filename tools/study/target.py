@@ -9,9 +9,9 @@ from study.places import call, tool
 from study.runs import Run, why_not_exited
 from study.told import Stop, say
 
-# Paths of the C library's own files, as builds of musl name them.
+# Paths of the C library's own files, as builds of musl name them, and of the headers of C++.
 LIBRARY = re.compile(
-    r"^(musl/|src/(thread|string|stdio|malloc|internal|env|exit|errno|ctype|stdlib|unistd|time|signal|locale|multibyte|math|"
+    r"^(musl/|cxx/include/|src/(thread|string|stdio|malloc|internal|env|exit|errno|ctype|stdlib|unistd|time|signal|locale|multibyte|math|"
     r"misc|process|mman|prng|ldso|linux|complex|regex|network|conf|aio|stat|fcntl|sched|select|termios|temp|search|passwd|mq|"
     r"ipc|fenv|dirent|crypt|setjmp|legacy|coz)/|\./(arch|src|include|obj)/|crt/|\.\./)")
 

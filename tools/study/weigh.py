@@ -1,6 +1,7 @@
 """What can matter: what each line or function costs in one run, and what it has of the critical path."""
 import re
 
+from study.names import readable
 from study.places import call
 from study.told import listed, say
 
@@ -76,6 +77,8 @@ def kind_of(name, address, library):
         return "soft float of long double"
     if COMPILER.match(name):
         return "the compiler's library"
+    if name.startswith("_Z") and library is not None and address >= library:
+        return "library of C++"
     return "C library" if library is None or address >= library else "code without -g"
 
 
@@ -90,7 +93,7 @@ def tell_without_lines(weights, entries, library):
     if named:
         kinds = {it: kind_of(bare[it], min(entries.get(it, [0])), library) for it in named}
         told = [f"{bare[it]} {weights.cost[it]:.1f} per cent ({kinds[it]})" for it in named]
-        say(f"functions without lines that cost most: {listed(told, NAMED)}")
+        say(readable(f"functions without lines that cost most: {listed(told, NAMED)}"))
     floats = sum(weights.cost[it] for it in bare if SOFT_FLOAT.match(bare[it]))
     if floats > FLOATS_WARNED:
         say(f"warning: {floats:.1f} per cent of the cost are routines for floats, since coz has no float registers: "
