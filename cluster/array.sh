@@ -8,8 +8,11 @@
 set -eu
 task=$SLURM_ARRAY_TASK_ID tasks=$SLURM_ARRAY_TASK_COUNT
 if [ $# = 1 ]; then
+    # When this shell ends, Slurm kills what is left of the task. So if the task is cancelled, both shells wait for
+    # the command, which removes what is half.
+    trap 'exit 143' TERM
     runs=$(awk -v i="$task" -v n="$tasks" 'NR % n == (i + 1) % n' "$1")
-    printf '%s\n' "$runs" | sh -e
+    printf '%s\n' "trap 'exit 143' TERM" "$runs" | sh -e
     exit
 fi
 lines=$1 dir=$2 prog=$3; shift 3
