@@ -6,10 +6,10 @@ TOP = os.path.realpath(f"{os.path.dirname(os.path.realpath(__file__))}/..")
 # Each program that is installed, with its crate. The first one is built first.
 PROGRAMS = {
     "coz": "coz",
-    "coz-page": "coz_page_main",
+    "coz-page": "coz_page",
     "coz-join": "coz_join",
     "coz-hot": "coz_hot",
-    "coz-functions": "coz_functions_main",
+    "coz-functions": "coz_functions",
 }
 
 

@@ -4,7 +4,7 @@ use Rattle.std.specs.Cmp.{IsStrictWeakOrder}
 use Rattle.std.specs.Cmp.Lexicographic.{options_total}
 use Rattle.std.proofs.lemmas.Cmp.{nat_cmp_total, int_cmp_total, on_total, then_total, back_total}
 use Rattle.std.proofs.lemmas.List.Sorted.{ranks_by}
-use Rattle.profile_lists.proofs.Sorting.{stable_is_one}
+use Rattle.profile_labels.proofs.Sorting.{stable_is_one}
 use Rattle.causal_curves.specs.Curves.{ranked_curves, ranks_before, IsRanking}
 use Rattle.causal_curves.specs.declared.curve.Curve.{Curve}
 

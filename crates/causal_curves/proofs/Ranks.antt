@@ -13,7 +13,7 @@ use Rattle.std.specs.Ordering.{nat_cmp, int_cmp, ordering_then}
 use Rattle.std.specs.Option.{option_cmp}
 use Rattle.std.specs.declared.cmp.Ordering.{Ordering}
 use Rattle.std.specs.declared.cmp.Reverse.{Reverse}
-use Rattle.profile_lists.specs.Groups.{groups_by, groups}
+use Rattle.profile_labels.specs.Groups.{groups_by, groups}
 use Rattle.causal_curves.specs.Curves.{curve_of, curves_at, IsRanking}
 use Rattle.causal_curves.specs.Measured.{IsMeasured}
 use Rattle.causal_curves.specs.declared.curve.Curve.{Curve}

@@ -8,8 +8,8 @@ use Rattle.std.specs.Option.{option_cmp}
 use Rattle.coz_types.specs.Labels.{Text}
 use Rattle.coz_types.specs.declared.record.Summary.{Summary}
 use Rattle.profile_book.specs.declared.profile.Profile.{Profile}
-use Rattle.profile_lists.specs.Groups.{groups}
-use Rattle.profile_lists.specs.Sorted.{sorted_by}
+use Rattle.profile_labels.specs.Groups.{groups}
+use Rattle.profile_labels.specs.Sorted.{sorted_by}
 use Rattle.causal_curves.specs.declared.curve.Curve.{Curve}
 use Rattle.causal_curves.specs.declared.curve.CurveStep.{CurveStep}
 

@@ -10,7 +10,7 @@ use crate::curve::Curve;
 use crate::steps::curve;
 use coz_types::{Items, Summary};
 use profile_book::Profile;
-use profile_lists::group_length;
+use profile_labels::group_length;
 use std::alloc::{AllocError, Global};
 use std::cmp::Reverse;
 

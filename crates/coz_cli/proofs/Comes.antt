@@ -23,12 +23,12 @@ use Rattle.run_engine.specs.Run.{selected_line, has_selected}
 use Rattle.coz_words.specs.Request.{IsFit}
 use Rattle.coz_words.specs.Said.{Text}
 use Rattle.coz_words.specs.declared.request.Request.{Request}
-use Rattle.program_steps.specs.LineTable.{table_in}
+use Rattle.program_load.specs.LineTable.{table_in}
 use Rattle.progress_points.specs.Points.{point_in}
-use Rattle.program_inputs.specs.Experiment.{choice_of, entries_of, experiment_by_table}
-use Rattle.program_steps.specs.FaultLines.{plan_line, points_line}
-use Rattle.command_answers.specs.Verdict.{Verdict, Judging, refusal, bytes_verdict, program_verdict, read_verdict, files_verdict, named_verdict, points_verdict, plan_verdict, loaded_verdict, table_verdict}
-use Rattle.program_inputs.specs.Verdict.{input_verdict}
+use Rattle.run_inputs.specs.Experiment.{choice_of, entries_of, experiment_by_table}
+use Rattle.program_load.specs.FaultLines.{plan_line, points_line}
+use Rattle.coz_commands.specs.Verdict.{Verdict, Judging, refusal, bytes_verdict, program_verdict, read_verdict, files_verdict, named_verdict, points_verdict, plan_verdict, loaded_verdict, table_verdict}
+use Rattle.run_inputs.specs.Verdict.{input_verdict}
 use Rattle.coz_cli.specs.Headline.{IsAsked, IsInput}
 
 -- ---- the experiments of a request
@@ -120,12 +120,12 @@ short_enough : (most : ℕ) (path file : List ℕ) (next : List ℕ → Verdict)
 short_enough most path file next true low = absurd (omega arith)
 short_enough most path file next false low = refl
 
-record IsRead (most : ℕ) (path : List ℕ) (found : Option (List ℕ)) (next : List ℕ → Verdict) : Type 0 where
+record IsFound (most : ℕ) (path : List ℕ) (found : Option (List ℕ)) (next : List ℕ → Verdict) : Type 0 where
   file : List ℕ
   is : found ≡ Some file
   same : read_verdict most path found next ≡ next file
 
-read_is : (most : ℕ) (path : List ℕ) (found : Option (List ℕ)) (next : List ℕ → Verdict) → (read_verdict most path found next).status ≤ 1 → IsRead most path found next
+read_is : (most : ℕ) (path : List ℕ) (found : Option (List ℕ)) (next : List ℕ → Verdict) → (read_verdict most path found next).status ≤ 1 → IsFound most path found next
 read_is most path None next low = absurd (omega arith)
 read_is most path (Some file) next low = record { file = file; is = refl; same = short_enough most path file next (nat_lt most (length file)) low }
 

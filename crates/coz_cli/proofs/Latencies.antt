@@ -12,11 +12,11 @@ use Rattle.machines.specs.Standing.{delayed_record}
 use Rattle.guest_calls.specs.Guest.{Guest}
 use Rattle.coz_words.specs.Request.{IsFit}
 use Rattle.coz_words.specs.declared.request.Request.{Request}
-use Rattle.program_steps.specs.Selection.{line_named, lines_named}
-use Rattle.program_inputs.specs.Experiment.{Runs, experiment_by_table}
-use Rattle.command_answers.specs.Latencies.{at_each, latency_printed as printed_of, latency_verdict, lines_of_both, marked_verdict, net_at_each, speedups_of}
-use Rattle.command_answers.specs.Verdict.{Verdict, files_verdict, named_verdict}
-use Rattle.command_answers.proofs.LatencySteps.{few_rising}
+use Rattle.program_load.specs.Selection.{line_named, lines_named}
+use Rattle.run_inputs.specs.Experiment.{Runs, experiment_by_table}
+use Rattle.coz_commands.specs.Latencies.{at_each, latency_printed as printed_of, latency_verdict, lines_of_both, marked_verdict, net_at_each, speedups_of}
+use Rattle.coz_commands.specs.Verdict.{Verdict, files_verdict, named_verdict}
+use Rattle.coz_commands.proofs.LatencySteps.{few_rising}
 use Rattle.coz_cli.specs.Headline.{PrintsLatency}
 use Rattle.coz_cli.proofs.Comes.{IsLike, Found, files_come, few_points, like, named_is}
 

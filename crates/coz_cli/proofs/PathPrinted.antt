@@ -12,16 +12,16 @@ use Rattle.machines.specs.Records.{IsShortened, shortened_record}
 use Rattle.machines.proofs.Ends.{record_is}
 use Rattle.guest_calls.specs.Guest.{Guest, pc_of}
 use Rattle.guest_calls.specs.Orderly.{IsOrderly}
-use Rattle.critical_chains.specs.declared.event.Event.{Event}
-use Rattle.critical_chains.specs.Path.{chain_of, weight, Sound}
-use Rattle.critical_chains.proofs.Chains.{sound_of}
-use Rattle.critical_chains.proofs.Heaviest.{none_heavier}
+use Rattle.path_chains.specs.declared.event.Event.{Event}
+use Rattle.path_chains.specs.Path.{chain_of, weight, Sound}
+use Rattle.path_chains.proofs.Chains.{sound_of}
+use Rattle.path_chains.proofs.Heaviest.{none_heavier}
 use Rattle.critical_path.specs.Events.{events_of}
 use Rattle.critical_path.proofs.Recorded.{last_due, linked}
 use Rattle.coz_words.specs.declared.request.Request.{Request}
-use Rattle.program_inputs.specs.Experiment.{experiment_by_table}
-use Rattle.command_answers.specs.CriticalPath.{path_of_run, path_printed, plain_run}
-use Rattle.command_answers.specs.Verdict.{Verdict, path_verdict}
+use Rattle.run_inputs.specs.Experiment.{experiment_by_table}
+use Rattle.coz_commands.specs.CriticalPath.{path_of_run, path_printed, plain_run}
+use Rattle.coz_commands.specs.Verdict.{Verdict, path_verdict}
 use Rattle.coz_cli.specs.Headline.{PrintsPath}
 use Rattle.coz_cli.proofs.Comes.{OnTable, budget_is, bytes_come, law}
 

@@ -17,11 +17,11 @@ use Rattle.coz_words.specs.declared.command.Command.TheVariants.{Run, Profile, R
 use Rattle.coz_words.proofs.Exact.{exact_back}
 use Rattle.coz_words.proofs.Fit.{fit_in}
 use Rattle.coz_words.specs.Slow.{request_of}
-use Rattle.program_steps.specs.Selection.{line_named, lines_named}
-use Rattle.program_inputs.specs.Experiment.{Runs, choice_of, experiment_by_table}
-use Rattle.command_answers.specs.Profiled.{all_lines, experiment_of_pair, pairs_of, profile_of}
-use Rattle.command_answers.proofs.Profiling.{speedups_small}
-use Rattle.command_answers.specs.Verdict.{Verdict, command_verdict, files_verdict, asked_verdict, named_verdict, points_verdict, plan_verdict, profile_verdict, profiled_verdict, run_verdict, really_verdict}
+use Rattle.program_load.specs.Selection.{line_named, lines_named}
+use Rattle.run_inputs.specs.Experiment.{Runs, choice_of, experiment_by_table}
+use Rattle.coz_commands.specs.Profiled.{all_lines, experiment_of_pair, pairs_of, profile_of}
+use Rattle.coz_commands.proofs.Profiling.{speedups_small}
+use Rattle.coz_commands.specs.Verdict.{Verdict, command_verdict, files_verdict, asked_verdict, named_verdict, points_verdict, plan_verdict, profile_verdict, profiled_verdict, run_verdict, really_verdict}
 use Rattle.coz_cli.specs.Verdict.{verdict, request_verdict}
 use Rattle.coz_cli.specs.Headline.{IsAsked, PrintsRun, PrintsProfile, PrintsReally, PrintsLatency, PrintsPath, PrintsShortened}
 use Rattle.coz_cli.proofs.Comes.{IsLike, Found, files_come, few_pairs, few_points, like, like_asked, low_of, named_is}

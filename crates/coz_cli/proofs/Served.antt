@@ -6,18 +6,18 @@ use Rattle.coz_files.specs.Faults.{Rose}
 use Rattle.coz_files.specs.Held.{Held}
 use Rattle.coz_files.specs.Puts.{AppendsPrefix}
 use Rattle.coz_words.specs.declared.request.Request.{Request}
-use Rattle.printed_texts.specs.declared.printed.Printed.{Printed}
-use Rattle.program_steps.specs.declared.fault.Fault.{Fault}
+use Rattle.command_texts.specs.declared.printed.Printed.{Printed}
+use Rattle.program_load.specs.declared.fault.Fault.{Fault}
 use Rattle.coz_words.specs.Slow.{request_of}
-use Rattle.command_answers.specs.Verdict.{Verdict, command_verdict}
+use Rattle.coz_commands.specs.Verdict.{Verdict, command_verdict}
 use Rattle.coz_cli.specs.Verdict.{request_verdict, verdict}
-use Rattle.command_answers.specs.Answer.{Answer, IsMemory, IsMemoryFault, IsReadFault, Suits, Settles, fault_line, fault_status, printed_verdict, text_bytes}
+use Rattle.coz_commands.specs.Answer.{Answer, IsMemory, IsMemoryFault, IsReadFault, Suits, Settles, fault_line, fault_status, printed_verdict, text_bytes}
 use Rattle.coz_cli.specs.Headline.{PrintsForAnyWorkers, PrintsShortened}
-use Rattle.program_inputs.specs.Answer.{Names}
-use Rattle.program_steps.specs.Verdict.{refusal}
+use Rattle.run_inputs.specs.Answer.{Names}
+use Rattle.program_load.specs.Verdict.{refusal}
 use Rattle.coz_cli.specs.Serve.{IsLine}
 use Rattle.coz_cli.proofs.Printed.{prints_shortened}
-use Rattle.program_inputs.proofs.Telling.{names_read, no_write, read_cause, told_line, usage_line}
+use Rattle.run_inputs.proofs.Telling.{names_read, no_write, read_cause, told_line, usage_line}
 use Rattle.coz_cli.proofs.Workers.{printed_alike}
 
 -- nothing is asked of a status that is above a run's
@@ -55,8 +55,8 @@ module _ (words : List (List ℕ)) (faults now : ℕ) where
           status_is = refl;
           named = λ path is. subst (λ request. Names request path.now) makes (names_read asked fault suits path is);
           no_write = no_write asked fault suits;
-          settled = subst (λ request. IsSettled told request (Err fault)) makes settled;
-          untold = untold;
+          verdict = subst (λ request. IsSettled told request (Err fault)) makes settled;
+          read_fault_has_cause = untold;
         })
 
     pub fault_cause : (told : Option Held) (fault : Fault)

@@ -5,11 +5,11 @@ use Rattle.coz_files.specs.Held.{Held}
 use Rattle.coz_words.specs.declared.command.Command.{Command}
 use Rattle.coz_words.specs.declared.command.Command.TheVariants.{Trial}
 use Rattle.coz_words.specs.declared.request.Request.{Request}
-use Rattle.program_steps.specs.declared.fault.Fault.{Fault}
+use Rattle.program_load.specs.declared.fault.Fault.{Fault}
 use Rattle.coz_words.specs.Slow.{request_of}
-use Rattle.command_answers.specs.Answer.{Answer, IsMemory, IsOfTrial, IsRead, IsReadFault, Settles, Suits}
-use Rattle.command_answers.specs.Verdict.{Verdict, command_verdict, trial_verdict}
-use Rattle.program_inputs.proofs.Faults.{memory_is}
+use Rattle.coz_commands.specs.Answer.{Answer, IsMemory, IsOfTrial, FailedToRead, IsReadFault, Settles, Suits}
+use Rattle.coz_commands.specs.Verdict.{Verdict, command_verdict, trial_verdict}
+use Rattle.run_inputs.proofs.Faults.{memory_is}
 use Rattle.coz_cli.specs.Serve.{AskTrial}
 
 pub trial_suits : (asked : Request) (v : Verdict) (answer : Answer) → IsOfTrial v answer → Suits asked answer
@@ -20,10 +20,10 @@ pub trial_settled : (told : Option Held) (asked : Request) (command : Command) (
     → IfSome told (λ held. (IsMemory answer → ⊥) → Settles (command_verdict command asked held) before now answer)
 trial_settled None asked command before now answer is of = tt
 trial_settled (Some held) asked command before now (Ok p) is of = λ other.
-    subst (λ (c : Command). Settles (command_verdict c asked held) before now (Ok p)) (sym is) (inl of.settled)
+    subst (λ (c : Command). Settles (command_verdict c asked held) before now (Ok p)) (sym is) (inl of.verdict)
 trial_settled (Some held) asked command before now (Err fault) is of = λ other. absurd (other of.memory)
 
-pub trial_no_read : (v : Verdict) (answer : Answer) → IsOfTrial v answer → IsRead answer → ⊥
+pub trial_no_read : (v : Verdict) (answer : Answer) → IsOfTrial v answer → FailedToRead answer → ⊥
 trial_no_read v (Ok p) of read = read
 trial_no_read v (Err fault) of read = subst IsReadFault (memory_is fault of.memory) read
 

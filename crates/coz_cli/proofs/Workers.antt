@@ -5,8 +5,8 @@ use Rattle.coz_files.specs.Held.{Held}
 use Rattle.coz_words.specs.declared.command.Command.{Command}
 use Rattle.coz_words.specs.declared.command.Command.TheVariants.{Run, Really, Profile, Lines, Plot, Asm, Trial, Latency, Path}
 use Rattle.coz_words.specs.declared.request.Request.{Request}
-use Rattle.command_answers.specs.Latencies.{latency_verdict}
-use Rattle.command_answers.specs.Verdict.{Verdict, command_verdict, profiled_verdict}
+use Rattle.coz_commands.specs.Latencies.{latency_verdict}
+use Rattle.coz_commands.specs.Verdict.{Verdict, command_verdict, profiled_verdict}
 use Rattle.coz_cli.specs.Verdict.{request_verdict, verdict}
 use Rattle.coz_cli.specs.Headline.{AskAlike, PrintsForAnyWorkers}
 

@@ -23,20 +23,20 @@ use Rattle.profile_book.specs.Profile.{profile_text}
 use Rattle.machines.specs.Guest.{Experiment}
 use Rattle.machines.specs.Records.{Record, NetRecord, net, IsDelayed, IsShortened}
 use Rattle.guest_calls.specs.Guest.{Guest, pc_of}
-use Rattle.critical_chains.specs.declared.event.Event.{Event}
-use Rattle.critical_chains.specs.Path.{IsChain, Sound, weight}
+use Rattle.path_chains.specs.declared.event.Event.{Event}
+use Rattle.path_chains.specs.Path.{IsChain, Sound, weight}
 use Rattle.critical_path.specs.Events.{events_of}
 use Rattle.coz_words.specs.declared.request.Request.{Request}
 use Rattle.coz_words.specs.declared.command.Command.TheVariants.{Run, Really, Profile, Latency, Path}
 use Rattle.coz_words.specs.Slow.{request_of}
-use Rattle.program_steps.specs.LineTable.{table_in}
-use Rattle.program_steps.specs.Selection.{line_named, lines_named}
-use Rattle.program_inputs.specs.Experiment.{Runs, choice_of, experiment_by_table}
-use Rattle.command_answers.specs.CriticalPath.{path_of_run, plain_run}
-use Rattle.command_answers.specs.Profiled.{all_lines, experiment_of_pair, pairs_of, profile_with}
-use Rattle.command_answers.specs.Latencies.{at_each, lines_of_both, speedups_of}
-use Rattle.printed_texts.specs.LatencyText.{latency_text}
-use Rattle.printed_texts.specs.Text.{run_text, really_text}
+use Rattle.program_load.specs.LineTable.{table_in}
+use Rattle.program_load.specs.Selection.{line_named, lines_named}
+use Rattle.run_inputs.specs.Experiment.{Runs, choice_of, experiment_by_table}
+use Rattle.coz_commands.specs.CriticalPath.{path_of_run, plain_run}
+use Rattle.coz_commands.specs.Profiled.{all_lines, experiment_of_pair, pairs_of, profile_with}
+use Rattle.coz_commands.specs.Latencies.{at_each, lines_of_both, speedups_of}
+use Rattle.command_texts.specs.LatencyText.{latency_text}
+use Rattle.command_texts.specs.Text.{run_text, really_text}
 use Rattle.coz_cli.specs.Verdict.{verdict}
 
 -- the bytes of the input that is named, and none if none is

@@ -3,9 +3,9 @@
 use Rattle.std.specs.Prelude.{ℕ, List, codes, Option, None, Some}
 use Rattle.coz_files.specs.Held.{Held}
 use Rattle.coz_words.specs.declared.request.Request.{Request}
-use Rattle.program_steps.specs.Verdict.{Verdict, refusal}
+use Rattle.program_load.specs.Verdict.{Verdict, refusal}
 use Rattle.coz_words.specs.Slow.{request_of}
-use Rattle.command_answers.specs.Verdict.{command_verdict}
+use Rattle.coz_commands.specs.Verdict.{command_verdict}
 
 -- of what the words ask for
 abbrev pub request_verdict : Option Request → Held → Verdict

@@ -3,10 +3,10 @@ ghost use Rattle.std.specs.Prelude.{◌≡◌, IfErr, IfSome, IfNone};
 ghost use Rattle.coz_files.specs.Faults.{Rose};
 ghost use Rattle.coz_words.specs.Request.{IsFit};
 ghost use Rattle.coz_words.specs.declared.command.Command.TheVariants.{Trial};
-ghost use Rattle.command_answers.specs.Verdict.{command_verdict};
-ghost use Rattle.command_answers.specs.Answer.{IsMemory, IsMemoryFault, IsRead, Suits, Settles};
+ghost use Rattle.coz_commands.specs.Verdict.{command_verdict};
+ghost use Rattle.coz_commands.specs.Answer.{IsMemory, IsMemoryFault, FailedToRead, Suits, Settles};
 
-use command_answers::{
+use coz_commands::{
     Answer, judge_latency, judge_lines, judge_path, judge_plot, judge_profile, judge_really,
     judge_run, judge_source, judge_trial,
 };
@@ -25,13 +25,13 @@ pub fn judge<'r, R: Threads + Sync, F: Files, G: Gate>(
 ) -> Answer<'r>
     requires { IsFit request.now }
     ensures same { F.held files.new ≡ F.held files.old }
-    ensures suits { Suits request.now result }
-    ensures settled { IfSome (F.held files.old) (λ held. (IsMemory result → ⊥) →
+    ensures fault_of_request { Suits request.now result }
+    ensures verdict { IfSome (F.held files.old) (λ held. (IsMemory result → ⊥) →
         Settles (command_verdict request.now.command request.now held)
         (F.faults files.old) (F.faults files.new) result) }
-    ensures untold { IsRead result
+    ensures read_fault_has_cause { FailedToRead result
         → IfNone (F.held files.old) (Rose (F.faults files.old) (F.faults files.new)) }
-    ensures no_fault { (IsRead result → ⊥) → F.faults files.new ≡ F.faults files.old }
+    ensures no_fault { (FailedToRead result → ⊥) → F.faults files.new ≡ F.faults files.old }
     ensures trial { request.now.command ≡ Trial
         → (files.new ≡ files.old) × IfErr result IsMemoryFault }
 {

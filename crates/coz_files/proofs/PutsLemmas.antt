@@ -38,7 +38,7 @@ prefix_stop old new xs ys first = (
 pub puts_then : {S : Type 0} {holds : S → Option (List ℕ)} {faults : S → ℕ} {old mid new : S} {answer : PutAnswer} {xs ys : List ℕ} → Puts holds faults old mid Done xs → Puts holds faults mid new answer ys → Puts holds faults old new answer (xs ++ ys)
 puts_then {holds = holds} {faults = faults} {old = old} {mid = mid} {new = new} {xs = xs} {ys = ys} first second = record {
   done = λ is. appends_then (holds old) (holds mid) (holds new) xs ys (first.done (refl)) (second.done is);
-  torn = λ is. prefix_then (holds old) (holds mid) (holds new) xs ys (first.done (refl)) (second.torn is);
+  prefix = λ is. prefix_then (holds old) (holds mid) (holds new) xs ys (first.done (refl)) (second.prefix is);
   failed = λ is. let same : faults mid ≡ faults old = first.no_fault (refl) in omega (arith, second.failed is);
   no_fault = λ is. second.no_fault is ∙ first.no_fault (refl);
   later = let same : faults mid ≡ faults old = first.no_fault (refl) in omega (arith, second.later);
@@ -48,7 +48,7 @@ puts_then {holds = holds} {faults = faults} {old = old} {mid = mid} {new = new} 
 pub puts_stop : {S : Type 0} {holds : S → Option (List ℕ)} {faults : S → ℕ} {old new : S} {xs : List ℕ} (ys : List ℕ) → Puts holds faults old new Failed xs → Puts holds faults old new Failed (xs ++ ys)
 puts_stop {holds = holds} {old = old} {new = new} {xs = xs} ys first = record {
   done = λ is. let no : ⊥ = cc in absurd no;
-  torn = λ is. prefix_stop (holds old) (holds new) xs ys (first.torn is);
+  prefix = λ is. prefix_stop (holds old) (holds new) xs ys (first.prefix is);
   failed = first.failed;
   no_fault = λ is. let no : ⊥ = cc in absurd no;
   later = first.later;
@@ -58,7 +58,7 @@ puts_stop {holds = holds} {old = old} {new = new} {xs = xs} ys first = record {
 pub puts_nothing : {S : Type 0} {holds : S → Option (List ℕ)} {faults : S → ℕ} (sink : S) → Puts holds faults sink sink Done []
 puts_nothing {holds = holds} {faults = faults} sink = record {
   done = λ _. appends_nothing (holds sink);
-  torn = λ is. let no : ⊥ = cc in absurd no;
+  prefix = λ is. let no : ⊥ = cc in absurd no;
   failed = λ is. let no : ⊥ = cc in absurd no;
   no_fault = λ _. refl;
   later = omega arith;

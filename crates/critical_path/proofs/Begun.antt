@@ -7,8 +7,8 @@ use Rattle.machines.specs.declared.Fate.{Fate}
 use Rattle.machines.specs.declared.Fate.TheVariants.{Goes, Waits, Leaves, Sleeps, Ends}
 use Rattle.machines.specs.Places.{is_among}
 use Rattle.run_engine.specs.Begin.{started_by}
-use Rattle.hart_causes.specs.declared.cause.Cause.{Cause}
-use Rattle.hart_causes.specs.Causes.{no_cause, cause_at, after_own, at_rest, started_with, turned}
+use Rattle.path_causes.specs.declared.cause.Cause.{Cause}
+use Rattle.path_causes.specs.Causes.{no_cause, cause_at, after_own, at_rest, started_with, turned}
 
 set_by : (causes : List Cause) (h k : ℕ) (v : Cause) → h < length causes → (k ≡ h) ⊎ (k ≡ h → ⊥) → cause_at (set causes h v) k ≡ (if k == h then v else cause_at causes k)
 set_by causes h k v below (inl same) = rw (same, eq-eqb h h refl) (get_or-set_same causes h v no_cause below)

@@ -4,8 +4,8 @@ use Rattle.std.specs.Option.{ForSome}
 use Rattle.std.proofs.Math.Seq.{get_or-append_seam}
 use Rattle.std.proofs.lemmas.Bool.{cases_lt}
 use Rattle.std.proofs.lemmas.List.{get_or_append_left}
-use Rattle.critical_chains.specs.declared.event.Event.{Event}
-use Rattle.critical_chains.specs.Path.{event_at, no_event, ticks, IsDue, IsBehind}
+use Rattle.path_chains.specs.declared.event.Event.{Event}
+use Rattle.path_chains.specs.Path.{event_at, no_event, ticks, IsDue, IsBehind}
 use Rattle.critical_path.specs.Events.{latest, AreBefores}
 
 -- the moment of an event, or the beginning

@@ -11,10 +11,10 @@ use Rattle.machines.proofs.Harts.{cut_le}
 use Rattle.machines.proofs.Turns.{turn_has}
 use Rattle.machines.proofs.Short.{Lives, turn_runs, move_is, move_over, retire_counts, wake_counts, come_by}
 use Rattle.machines.proofs.Ends.{GoesOn, HasEnded, goes_or_ended, next_is, turn_by, within_budget}
-use Rattle.critical_chains.specs.declared.TheConstants.{MAX_EVENTS}
-use Rattle.critical_chains.specs.declared.event.Event.{Event}
-use Rattle.critical_chains.specs.Path.{event_at, last_of, Linked}
-use Rattle.hart_causes.specs.Causes.{no_cause, after_own, at_rest, started_with, woken_with}
+use Rattle.path_chains.specs.declared.TheConstants.{MAX_EVENTS}
+use Rattle.path_chains.specs.declared.event.Event.{Event}
+use Rattle.path_chains.specs.Path.{event_at, last_of, Linked}
+use Rattle.path_causes.specs.Causes.{no_cause, after_own, at_rest, started_with, woken_with}
 use Rattle.critical_path.specs.Events.{Traced, AreBefores, work, event_of, retired, woken, after_move, after_move_by, untraced, traced, events_of}
 use Rattle.critical_path.proofs.Turns.{turn_least}
 use Rattle.critical_path.proofs.Grown.{Hangs, more_length, new_at, hangs_more}

@@ -5,8 +5,8 @@ use Rattle.machines.specs.declared.Fate.TheVariants.{Goes, Waits}
 use Rattle.machines.specs.Guest.{Experiment}
 use Rattle.machines.proofs.Computed.{moves_on_literals}
 use Rattle.machines.proofs.Small.{Instruction, plain, naps, exits, run_of, gone}
-use Rattle.critical_chains.specs.declared.event.Event.{Event}
-use Rattle.critical_chains.specs.Path.{chain_of}
+use Rattle.path_chains.specs.declared.event.Event.{Event}
+use Rattle.path_chains.specs.Path.{chain_of}
 use Rattle.critical_path.specs.Events.{traced}
 
 abbrev pub event : ℕ → ℕ → ℕ → ℕ → Option ℕ → Option ℕ → ℕ → Event

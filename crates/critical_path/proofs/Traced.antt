@@ -7,10 +7,10 @@ use Rattle.machines.specs.Places.{is_among}
 use Rattle.machines.specs.Guest.{Experiment, Retirement, cost, cut, started_harts, IsLater}
 use Rattle.machines.specs.Shortened.{Turn, ending, rest}
 use Rattle.machines.proofs.Harts.{cut_le}
-use Rattle.critical_chains.specs.declared.event.Event.{Event}
-use Rattle.critical_chains.specs.Path.{event_at}
-use Rattle.hart_causes.specs.declared.cause.Cause.{Cause}
-use Rattle.hart_causes.specs.Causes.{after_own, at_rest, started_with}
+use Rattle.path_chains.specs.declared.event.Event.{Event}
+use Rattle.path_chains.specs.Path.{event_at}
+use Rattle.path_causes.specs.declared.cause.Cause.{Cause}
+use Rattle.path_causes.specs.Causes.{after_own, at_rest, started_with}
 use Rattle.critical_path.specs.Events.{Traced, latest, work, event_of, cause_after, retired}
 use Rattle.critical_path.proofs.Grown.{since, Hangs, Comes, more_length, new_at, old_at, since_old, latest_new, latest_below}
 

@@ -32,12 +32,12 @@ use Rattle.run_engine.specs.Run.{IsChoice, experiment, experiment_in}
 use Rattle.run_engine.specs.Visits.{Visits}
 use Rattle.run_engine.proofs.Keys.{has_place, next_is}
 use Rattle.run_engine.proofs.Law.{lawful_run, reached_next, reached_woken, steady, events_below, ended_now, within_enough, recorded_now}
-use Rattle.critical_chains.specs.declared.TheConstants.{MAX_EVENTS}
-use Rattle.hart_causes.specs.declared.cause.Cause.{Cause}
-use Rattle.critical_chains.specs.declared.event.Event.{Event}
-use Rattle.critical_chains.specs.declared.event.Trace.{Trace}
-use Rattle.critical_chains.specs.Path.{event_at, last_of, Linked}
-use Rattle.hart_causes.specs.Causes.{no_cause, cause_at, woken_with, turned, at_rest, after_own}
+use Rattle.path_chains.specs.declared.TheConstants.{MAX_EVENTS}
+use Rattle.path_causes.specs.declared.cause.Cause.{Cause}
+use Rattle.path_chains.specs.declared.event.Event.{Event}
+use Rattle.path_chains.specs.declared.event.Trace.{Trace}
+use Rattle.path_chains.specs.Path.{event_at, last_of, Linked}
+use Rattle.path_causes.specs.Causes.{no_cause, cause_at, woken_with, turned, at_rest, after_own}
 use Rattle.critical_path.specs.Events.{Traced, AreBefores, work, untraced, traced}
 use Rattle.critical_path.specs.Events.{events_of as whole_events}
 use Rattle.critical_path.specs.Walk.{plain_choice, plain, IsMadeOf, IsTraceOf}

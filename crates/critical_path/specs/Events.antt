@@ -4,10 +4,10 @@ use Rattle.std.specs.Prelude.{◌≡◌, ℕ, zero, suc, ◌-◌, List, [], ◌�
 use Rattle.coz_types.specs.declared.ending.Ending.{Ending}
 use Rattle.machines.specs.Guest.{Experiment, Retirement, cost, cut, started_harts, enough}
 use Rattle.machines.specs.Shortened.{Shortened, Turn, next_turn, shortened}
-use Rattle.critical_chains.specs.declared.event.Event.{Event}
-use Rattle.hart_causes.specs.declared.cause.Cause.{Cause}
-use Rattle.critical_chains.specs.Path.{event_at}
-use Rattle.hart_causes.specs.Causes.{no_cause, woken_with, turned}
+use Rattle.path_chains.specs.declared.event.Event.{Event}
+use Rattle.path_causes.specs.declared.cause.Cause.{Cause}
+use Rattle.path_chains.specs.Path.{event_at}
+use Rattle.path_causes.specs.Causes.{no_cause, woken_with, turned}
 
 -- the causes by hart, and the events so far
 pub record Traced : Type 0 where

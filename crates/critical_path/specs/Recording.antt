@@ -9,9 +9,9 @@ use Rattle.run_engine.specs.declared.engine.Engine.{Engine}
 use Rattle.run_engine.specs.declared.engine.Event as moves
 use Rattle.run_engine.specs.declared.engine.Event.TheVariants.{Woke, Retired}
 use Rattle.run_engine.specs.Begin.{started_by}
-use Rattle.hart_causes.specs.declared.cause.Cause.{Cause}
-use Rattle.critical_chains.specs.declared.event.Event.{Event}
-use Rattle.hart_causes.specs.Causes.{cause_at, woken_with, turned}
+use Rattle.path_causes.specs.declared.cause.Cause.{Cause}
+use Rattle.path_chains.specs.declared.event.Event.{Event}
+use Rattle.path_causes.specs.Causes.{cause_at, woken_with, turned}
 
 -- a hart that is due isn't due before a moment
 abbrev pub IsBegun : Keys → ℕ → ℕ → Type 0

@@ -12,9 +12,9 @@ use Rattle.run_engine.specs.declared.choice.Setting.{Setting}
 use Rattle.run_engine.specs.declared.engine.Engine.{Engine}
 use Rattle.run_engine.specs.Engine.{IsFirst}
 use Rattle.run_engine.specs.Run.{experiment}
-use Rattle.critical_chains.specs.declared.event.Event.{Event}
-use Rattle.critical_chains.specs.declared.event.Trace.{Trace}
-use Rattle.critical_chains.specs.Path.{event_at, last_of, Linked}
+use Rattle.path_chains.specs.declared.event.Event.{Event}
+use Rattle.path_chains.specs.declared.event.Trace.{Trace}
+use Rattle.path_chains.specs.Path.{event_at, last_of, Linked}
 use Rattle.critical_path.specs.Events.{events_of, AreBefores}
 
 -- no line is selected; the limit of visits is that of the commands

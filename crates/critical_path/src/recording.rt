@@ -5,13 +5,13 @@ ghost use Rattle.hart_schedule.specs.Keys.{key_of};
 ghost use Rattle.machines.specs.Places.{is_among};
 ghost use Rattle.machines.specs.Guest.{IsLater};
 ghost use Rattle.run_engine.specs.Begin.{started_by};
-ghost use Rattle.hart_causes.specs.Causes.{cause_at, started_with, woken_with, turned};
+ghost use Rattle.path_causes.specs.Causes.{cause_at, started_with, woken_with, turned};
 ghost use Rattle.critical_path.specs.Recording.{ticks_from, IsBegun, CanRecord, IsRecorded};
 
 use coz_types::{Address, HARTS, HartId, Tick};
-use critical_chains::Event;
-use hart_causes::{Cause, go_on, leave, start, wake_up};
 use machines::Fate;
+use path_causes::{Cause, go_on, leave, start, wake_up};
+use path_chains::Event;
 use run_engine::{Engine, Event as Move, Retired, Turn};
 use std::alloc::{AllocError, Global};
 

@@ -4,7 +4,7 @@ use Rattle.std.specs.Prelude.{All}
 use Rattle.std.proofs.lemmas.List.{length-map}
 use Rattle.std.proofs.Math.Seq.{take-append_seam}
 use Rattle.machines.specs.Places.{change, change_from}
-use Rattle.machines.specs.Delayed.{Hart, idle_hart, run, stop, credit, raise_hart, total, is_running}
+use Rattle.machines.specs.Delayed.{Hart, idle_hart, run, stop, credit, raise_hart, total, has_load}
 use Rattle.delay_credits.specs.Ticks.{hart_after_ticks}
 use Rattle.machines.proofs.Maps.{change_from_is}
 use Rattle.coz_types.specs.declared.record.Account.{Account as GivenAccount}
@@ -106,11 +106,11 @@ hart-at v latest now raised h p seats s view sound below later index item =
     ap (hart_of_seat now) (item ∙ ap (λ i. get_or seats i s) index) ∙ hart-later v latest now raised h seats s view sound below later
 
 -- a hart that doesn't run is credited
-credited : (latest goal : ℕ) (s : Seat) → is_running (hart_of_seat latest s) ≡ false
+credited : (latest goal : ℕ) (s : Seat) → has_load (hart_of_seat latest s) ≡ false
     → hart_of_seat latest (record { account = record s.account { credited = s.account.credited + (goal - (s.account.own + s.account.paused + s.account.credited)) }; pending = None }) ≡ credit goal (hart_of_seat latest s)
 credited latest goal s = go s.account s.pending
   where
-    go : (a : GivenAccount) (pending : Option Pending) → is_running (hart_of_seat latest (record { account = a; pending = pending })) ≡ false
+    go : (a : GivenAccount) (pending : Option Pending) → has_load (hart_of_seat latest (record { account = a; pending = pending })) ≡ false
         → hart_of_seat latest (record { account = record a { credited = a.credited + (goal - (a.own + a.paused + a.credited)) }; pending = None }) ≡ credit goal (hart_of_seat latest (record { account = a; pending = pending }))
     go a None waits = refl
     go a (Some p) waits = cc
@@ -119,21 +119,21 @@ credited latest goal s = go s.account s.pending
 abbrev credited_seat : ℕ → Seat → Seat
 credited_seat raised s = record { account = record s.account { credited = s.account.credited + (raised - (s.account.own + s.account.paused + s.account.credited)) }; pending = None }
 
-pub credited-at : (v : Delays) (latest raised woken waker p : ℕ) (seats : List Seat) (s : Seat) → seen latest raised seats ≡ v → woken < length v.harts → is_running (hart_at v woken) ≡ false → total (hart_at v waker).account ≡ v.raised
+pub credited-at : (v : Delays) (latest raised woken waker p : ℕ) (seats : List Seat) (s : Seat) → seen latest raised seats ≡ v → woken < length v.harts → has_load (hart_at v woken) ≡ false → total (hart_at v waker).account ≡ v.raised
     → p ≡ woken → s ≡ get_or seats p s → seen latest raised (set seats p (credited_seat raised s)) ≡ with_credit woken waker v
 credited-at v latest raised woken waker p seats s view below waits whole index item =
-    subst (λ (w : Delays). woken < length w.harts → is_running (hart_at w woken) ≡ false → total (hart_at w waker).account ≡ w.raised → seen latest raised (set seats p (credited_seat raised s)) ≡ with_credit woken waker w)
+    subst (λ (w : Delays). woken < length w.harts → has_load (hart_at w woken) ≡ false → total (hart_at w waker).account ≡ w.raised → seen latest raised (set seats p (credited_seat raised s)) ≡ with_credit woken waker w)
     view go below waits whole
   where
     read : s ≡ get_or seats woken s
     read = item ∙ ap (λ i. get_or seats i s) index
 
-    go : woken < length (seen latest raised seats).harts → is_running (hart_at (seen latest raised seats) woken) ≡ false → total (hart_at (seen latest raised seats) waker).account ≡ raised
+    go : woken < length (seen latest raised seats).harts → has_load (hart_at (seen latest raised seats) woken) ≡ false → total (hart_at (seen latest raised seats) waker).account ≡ raised
         → seen latest raised (set seats p (credited_seat raised s)) ≡ with_credit woken waker (seen latest raised seats)
     go below waits whole =
         let at_seat : woken < length seats = below-seats latest raised woken seats below in
         let hart : get_or (map (hart_of_seat latest) seats) woken idle_hart ≡ hart_of_seat latest s = standing-read latest woken seats s at_seat ∙ ap (hart_of_seat latest) (sym read) in
-        let still : is_running (hart_of_seat latest s) ≡ false = ap is_running (sym hart) ∙ waits in
+        let still : has_load (hart_of_seat latest s) ≡ false = ap has_load (sym hart) ∙ waits in
         let one : hart_of_seat latest (credited_seat raised s) ≡ credit raised (hart_of_seat latest (get_or seats woken s)) = credited latest raised s still ∙ ap (λ (x : Seat). credit raised (hart_of_seat latest x)) read in
         let all : map (hart_of_seat latest) (set seats woken (credited_seat raised s)) ≡ change idle_hart woken (credit raised) (map (hart_of_seat latest) seats) = standing-set latest woken (credit raised) seats (credited_seat raised s) s at_seat one in
         ap (λ i. seen latest raised (set seats i (credited_seat raised s))) index

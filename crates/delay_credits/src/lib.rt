@@ -8,7 +8,7 @@
 mod seat;
 
 ghost use Rattle.std.specs.Prelude.{◌≡◌, ◌+◌, ◌≤◌, ◌<◌, ◌^◌, false, length, replicate, IfOk, IsTrue};
-ghost use Rattle.machines.specs.Delayed.{idle_hart, is_running, total};
+ghost use Rattle.machines.specs.Delayed.{idle_hart, has_load, total};
 ghost use Rattle.delay_credits.specs.Delays.{none_raised, hart_at, pause_of, account_as, at, with_start, with_stop, with_raise, with_credit};
 
 use crate::seat::{Pending, Seat, is_unpaused, raise_each, settle};
@@ -101,7 +101,7 @@ impl Credits {
     pub fn stop(&mut self, hart: HartId, now: Tick)
         requires below { hart.0 < length self.old.harts }
         requires later { self.old.latest ≤ now }
-        requires running { IsTrue (is_running (hart_at self.old hart.0)) }
+        requires running { IsTrue (has_load (hart_at self.old hart.0)) }
         requires unpaused { pause_of (hart_at (at now self.old) hart.0) ≡ 0 }
         ensures { self.new ≡ with_stop hart.0 now self.old }
     {
@@ -119,7 +119,7 @@ impl Credits {
     pub fn raise(&mut self, hart: HartId, ticks: Tick, now: Tick)
         requires below { hart.0 < length self.old.harts }
         requires later { self.old.latest ≤ now }
-        requires running { IsTrue (is_running (hart_at self.old hart.0)) }
+        requires running { IsTrue (has_load (hart_at self.old hart.0)) }
         requires few { self.old.raised + ticks ≤ 10 ^ 17 }
         ensures { self.new ≡ with_raise hart.0 ticks now self.old }
     {
@@ -133,7 +133,7 @@ impl Credits {
     pub fn take_credit(&mut self, woken: HartId, waker: HartId)
         requires woken_below { woken.0 < length self.old.harts }
         requires waker_below { waker.0 < length self.old.harts }
-        requires waits { is_running (hart_at self.old woken.0) ≡ false }
+        requires waits { has_load (hart_at self.old woken.0) ≡ false }
         requires whole { total (hart_at self.old waker.0).account ≡ self.old.raised }
         ensures { self.new ≡ with_credit woken.0 waker.0 self.old }
     {

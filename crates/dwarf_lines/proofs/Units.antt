@@ -11,7 +11,7 @@ use Rattle.dwarf_lines.specs.declared.LineKind.TheVariants as kinds
 use Rattle.dwarf_lines.specs.Registers.{Table, Header, Operation, Copy, AdvancePc, AdvanceLine, SetFile, SetColumn, NegateStmt, ConstAddPc, FixedAdvancePc, Special, EndSequence, SetAddress, DefineFile, Pass, State, first_state, empty_table}
 use Rattle.dwarf_lines.specs.Names.{Strings}
 use Rattle.dwarf_lines.specs.Spelling as spelled
-use Rattle.dwarf_lines.specs.Spelling.{SpellsStandard, SpellsExtended, IsPassed, Spells, SpellsHeader, IsRead, ReadsUnit, TakesUnit, Takes, IsTable}
+use Rattle.dwarf_lines.specs.Spelling.{SpellsStandard, SpellsExtended, IsPassed, Spells, SpellsHeader, IsSupported, ReadsUnit, TakesUnit, Takes, IsTable}
 use Rattle.dwarf_lines.specs.Reading.{fault, field, check, word, half_field, announced_bytes, header, program, is_read, sizes, unit_body, unit, units, reading}
 use Rattle.dwarf_lines.proofs.Programs.{bind_ok, wanted_ok, program_takes}
 use Rattle.dwarf_lines.proofs.Headers.{field_ok, ok_is}
@@ -97,7 +97,7 @@ not_both a b e both = let no : true ≡ false = sym (ap (λ (x : Bool). x && b) 
 
 decided : (version : ℕ) (strings : Strings) (reads : Bool) (t u : Table) (a : Ahead) → is_read version ≡ reads → IsBytes a.bytes
     → (elim reads as (λ x. Result Table LineFault) [ true ↦ unit_body version strings t a | false ↦ Ok (record t { skipped = t.skipped + 1 }) ]) ≡ Ok u
-    → (IsRead version × ReadsUnit version strings a.bytes t u) ⊎ ((IsRead version → ⊥) × (u ≡ record t { skipped = t.skipped + 1 }))
+    → (IsSupported version × ReadsUnit version strings a.bytes t u) ⊎ ((IsSupported version → ⊥) × (u ≡ record t { skipped = t.skipped + 1 }))
 decided version strings true t u a is fits e =
     let both = both_true (nat_le 2 version) (nat_le version 5) is in
     inl ((leb-true _ _ both.0, leb-true _ _ both.1), body_takes version strings t u a fits e)
@@ -105,7 +105,7 @@ decided version strings false t u a is fits e =
     inr ((λ in_range. not_both (nat_le 2 version) (nat_le version 5) is (le-leb _ _ in_range.0, le-leb _ _ in_range.1)), sym (ok_is (record t { skipped = t.skipped + 1 }) u e))
 
 unit_by : (strings : Strings) (t u : Table) (a b p c v : Ahead) (n version : ℕ) → Consumes (IsNumber w32 (2 ^ 32) n) a b → n < 0xFFFFFFF0 → Consumes (IsPart n b p) b c → Consumes (IsNumber w16 (2 ^ 16) version) p v
-    → (IsRead version × ReadsUnit version strings v.bytes t u) ⊎ ((IsRead version → ⊥) × (u ≡ record t { skipped = t.skipped + 1 }))
+    → (IsSupported version × ReadsUnit version strings v.bytes t u) ⊎ ((IsSupported version → ⊥) × (u ≡ record t { skipped = t.skipped + 1 }))
     → Consumes (λ code. TakesUnit strings code t u) a c
 unit_by strings t u a b p c v n version number small part half which =
     let inside : p.bytes ≡ to_le_bytes w16 version ++ v.bytes = half.parts ∙ ap (λ (z : List ℕ). z ++ v.bytes) half.is.0 in

@@ -12,7 +12,7 @@ use Rattle.dwarf_lines.specs.declared.LineKind.TheVariants as kinds
 use Rattle.dwarf_lines.specs.Registers.{Table, Header, State, first_state, empty_table}
 use Rattle.dwarf_lines.specs.Names.{Strings}
 use Rattle.dwarf_lines.specs.Spelling as spelled
-use Rattle.dwarf_lines.specs.Spelling.{SpellsHeader, IsRead, ReadsUnit, TakesUnit, Takes, IsTable}
+use Rattle.dwarf_lines.specs.Spelling.{SpellsHeader, IsSupported, ReadsUnit, TakesUnit, Takes, IsTable}
 use Rattle.dwarf_lines.specs.Reading.{fault, field, check, word, half_field, announced_bytes, header, program, is_read, sizes, unit_body, unit, units, reading}
 use Rattle.dwarf_lines.specs.Law.{HasOne}
 use Rattle.dwarf_lines.proofs.Again.{programs_again}
@@ -62,12 +62,12 @@ after_version reads version strings t a = elim reads [ true ↦ unit_body versio
 both_are : (a b : Bool) → a ≡ true → b ≡ true → (a && b) ≡ true
 both_are a b e f = ap (λ (x : Bool). x && b) e ∙ f
 
-not_read : (version : ℕ) (b : Bool) → is_read version ≡ b → (IsRead version → ⊥) → b ≡ false
+not_read : (version : ℕ) (b : Bool) → is_read version ≡ b → (IsSupported version → ⊥) → b ≡ false
 not_read version false e never = refl
 not_read version true e never = let both = both_true (nat_le 2 version) (nat_le version 5) e in absurd (never (leb-true _ _ both.0, leb-true _ _ both.1))
 
 decided_back : (version : ℕ) (strings : Strings) (t u : Table) (place : ℕ) (bytes : List ℕ) → 2 + length bytes < 0xFFFFFFF0
-    → (IsRead version × ReadsUnit version strings bytes t u) ⊎ ((IsRead version → ⊥) × (u ≡ record t { skipped = t.skipped + 1 }))
+    → (IsSupported version × ReadsUnit version strings bytes t u) ⊎ ((IsSupported version → ⊥) × (u ≡ record t { skipped = t.skipped + 1 }))
     → after_version (is_read version) version strings t (ahead place bytes) ≡ Ok u
 decided_back version strings t u place bytes small (inl is) =
     ap (λ (b : Bool). after_version b version strings t (ahead place bytes)) (both_are (nat_le 2 version) (nat_le version 5) (le-leb _ _ is.0.0) (le-leb _ _ is.0.1)) ∙ body_back version strings t u place bytes small is.1

@@ -192,8 +192,8 @@ SpellsHeader version strings h bytes =
     × (h.opcode_base ≡ 1 + length h.lengths)
     × SpellsNames (version == 5) strings h.directories h.files names
 
-abbrev pub IsRead : ℕ → Type 0
-IsRead version = (2 ≤ version) × (version ≤ 5)
+abbrev pub IsSupported : ℕ → Type 0
+IsSupported version = (2 ≤ version) × (version ≤ 5)
 
 -- what a unit of a version that is read has after its version
 abbrev pub ReadsUnit : ℕ → Strings → List ℕ → Table → Table → Type 0
@@ -211,8 +211,8 @@ TakesUnit strings unit t u =
     (version : ℕ) × (bytes : List ℕ)
     × (unit ≡ to_le_bytes w32 (2 + length bytes) ++ to_le_bytes w16 version ++ bytes)
     × (2 + length bytes < 0xFFFFFFF0) × (version < 2 ^ 16)
-    × ((IsRead version × ReadsUnit version strings bytes t u)
-    ⊎ ((IsRead version → ⊥) × (u ≡ record t { skipped = t.skipped + 1 })))
+    × ((IsSupported version × ReadsUnit version strings bytes t u)
+    ⊎ ((IsSupported version → ⊥) × (u ≡ record t { skipped = t.skipped + 1 })))
 
 abbrev pub Takes : Strings → List (List ℕ) → Table → Table → Type 0
 Takes strings [] t u = u ≡ t

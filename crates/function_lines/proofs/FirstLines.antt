@@ -6,14 +6,14 @@ use Rattle.coz_types.specs.Image.{ImageParts}
 use Rattle.line_index.specs.Changes.{or_else}
 use Rattle.line_index.specs.Index.{Index, has_line, position_at}
 use Rattle.line_index.proofs.Pieces.{Among, to_among}
-use Rattle.line_unit.specs.Lines.{first_line, has_address, line_of_sequence}
-use Rattle.line_unit.specs.Unit.{Sequence}
-use Rattle.code_symbols.specs.declared.symbols.Symbol.{Symbol}
+use Rattle.line_write.specs.Lines.{first_line, has_address, line_of_sequence}
+use Rattle.line_write.specs.Unit.{Sequence}
+use Rattle.elf_symbols.specs.declared.symbols.Symbol.{Symbol}
 use Rattle.function_lines.specs.ByFunction.{line_by_function, reaches}
-use Rattle.line_marks.specs.Marks.{Mark, marked}
-use Rattle.line_marks.specs.Runs.{AreKept, AreRuns, IsRun}
+use Rattle.line_remap.specs.Marks.{Mark, marked}
+use Rattle.line_remap.specs.Runs.{AreKept, AreRuns, IsRun}
 use Rattle.function_sequences.specs.Sequences.{AreFunctions, AreSequences, falling, function_line, functions_in, names_in}
-use Rattle.line_marks.specs.Sound.{BeginsAt, IsSound}
+use Rattle.line_remap.specs.Sound.{BeginsAt, IsSound}
 
 pub first_line-append : (xs ys : List Sequence) (a : ℕ) → first_line (xs ++ ys) a ≡ or_else (first_line xs a) (first_line ys a)
 first_line-append [] ys a = refl

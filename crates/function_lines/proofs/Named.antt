@@ -12,9 +12,9 @@ use Rattle.std.proofs.lemmas.List.Folds.{Any-from_list_any}
 use Rattle.std.proofs.lemmas.Map.Views.{All-values-insert_entry}
 use Rattle.coz_types.specs.declared.image.Area.{Area}
 use Rattle.coz_types.specs.Image.{ImageParts, IsAreaOf, IsImage}
-use Rattle.code_symbols.specs.declared.symbols.Symbol.{Symbol}
+use Rattle.elf_symbols.specs.declared.symbols.Symbol.{Symbol}
 use Rattle.function_sequences.specs.Sequences.{IsNamed, bytes_in, falling, functions_in, names_in}
-use Rattle.code_symbols.specs.Symbols.{has_name, is_in_area, symbols}
+use Rattle.elf_symbols.specs.Symbols.{has_name, is_in_area, symbols}
 use Rattle.function_sequences.specs.Functions.{by_address, functions, is_function, with_function}
 
 in_area : (file : List ℕ) (areas : List Area) (s : Symbol) → All (IsAreaOf file) areas → list_any (is_in_area s) areas ≡ true → s.address + s.size < 2 ^ 64

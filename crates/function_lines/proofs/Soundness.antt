@@ -11,7 +11,7 @@ use Rattle.line_index.specs.Index.{Index, IsIndex, has_line, position_at}
 use Rattle.line_index.specs.Keys.{is_at}
 use Rattle.line_index.specs.Lines.{Line, Begins, is_executable, line_of}
 use Rattle.line_index.proofs.Order.{one_place}
-use Rattle.line_marks.specs.Sound.{BeginsAt, IsIndexOf, IsSound}
+use Rattle.line_remap.specs.Sound.{BeginsAt, IsIndexOf, IsSound}
 
 -- ---- positions
 

@@ -12,16 +12,16 @@ use Rattle.dwarf_lines.specs.Registers.{Table}
 use Rattle.elf_load.specs.Loaded.{section, section_place}
 use Rattle.line_index.specs.Index.{Index}
 use Rattle.line_index.specs.Lines.{is_executable, line_of}
-use Rattle.line_unit.specs.Lines.{GivesLines, table}
-use Rattle.line_unit.specs.Unit.{Sequence, unit}
-use Rattle.function_lines.specs.ByFunction.{IsByFunction, IsLongWith, IsRead, IsUnit, ReadsAs}
-use Rattle.line_marks.specs.declared.marks.Mark.{Mark as coded_mark}
-use Rattle.line_marks.specs.Marks.{IsMark, Mark, mark_of, marks_of}
+use Rattle.line_write.specs.Lines.{GivesLines, table}
+use Rattle.line_write.specs.Unit.{Sequence, unit}
+use Rattle.function_lines.specs.ByFunction.{IsByFunction, IsLongWith, ReadsWithoutFault, IsUnit, ReadsAs}
+use Rattle.line_remap.specs.declared.marks.Mark.{Mark as coded_mark}
+use Rattle.line_remap.specs.Marks.{IsMark, Mark, mark_of, marks_of}
 use Rattle.function_sequences.specs.Sequences.{bytes_in}
-use Rattle.line_marks.specs.Sound.{IsIndexOf}
+use Rattle.line_remap.specs.Sound.{IsIndexOf}
 use Rattle.function_lines.specs.WithLines.{with_lines}
-use Rattle.written_bytes.specs.Numbers.{double}
-use Rattle.written_bytes.specs.Files.{with_section}
+use Rattle.byte_write.specs.Numbers.{double}
+use Rattle.byte_write.specs.Files.{with_section}
 use Rattle.function_lines.proofs.FirstLines.{sequences_line}
 use Rattle.function_lines.proofs.Soundness.{sound}
 
@@ -36,7 +36,7 @@ same_ok x y e = cc
 unit_as : (file unit : List ℕ) (all : List Sequence) → section file (codes ".debug_line") ≡ Some unit → GivesLines all unit → ReadsAs file (table all)
 unit_as file unit all is gives strings = ap (reading strings) (section_is file unit is) ∙ gives.read strings
 
-pub unit_read : (image : ImageParts) (index : Index) (marks : List Mark) (file unit : List ℕ) → IsUnit image index marks unit → section file (codes ".debug_line") ≡ Some unit → IsRead file
+pub unit_read : (image : ImageParts) (index : Index) (marks : List Mark) (file unit : List ℕ) → IsUnit image index marks unit → section file (codes ".debug_line") ≡ Some unit → ReadsWithoutFault file
 unfolding table
 unit_read image index marks file unit has is = record {
   table = table has.sequences;

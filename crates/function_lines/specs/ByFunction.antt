@@ -9,15 +9,15 @@ use Rattle.elf_load.specs.Loaded.{section_place}
 use Rattle.line_index.specs.Changes.{or_else}
 use Rattle.line_index.specs.Index.{Index, position_at}
 use Rattle.line_index.specs.Lines.{Line, is_executable, line_of}
-use Rattle.line_unit.specs.Lines.{GivesLines}
-use Rattle.line_unit.specs.Unit.{Sequence, unit}
-use Rattle.line_unit.specs.declared.UnitError.{UnitError}
-use Rattle.line_unit.specs.declared.UnitError.TheVariants.{TooLong}
-use Rattle.line_unit.specs.declared.UnitError.TheVariants as units
-use Rattle.code_symbols.specs.declared.symbols.Symbol.{Symbol}
+use Rattle.line_write.specs.Lines.{GivesLines}
+use Rattle.line_write.specs.Unit.{Sequence, unit}
+use Rattle.line_write.specs.declared.UnitError.{UnitError}
+use Rattle.line_write.specs.declared.UnitError.TheVariants.{TooLong}
+use Rattle.line_write.specs.declared.UnitError.TheVariants as units
+use Rattle.elf_symbols.specs.declared.symbols.Symbol.{Symbol}
 use Rattle.function_lines.specs.declared.file.FunctionsError.{FunctionsError}
 use Rattle.function_lines.specs.declared.file.FunctionsError.TheVariants.{NoFunctions, NoLines, Much, Overlap, Memory}
-use Rattle.line_marks.specs.Marks.{Mark, marked}
+use Rattle.line_remap.specs.Marks.{Mark, marked}
 use Rattle.function_sequences.specs.Sequences.{AreSequences, bytes_in, falling, function_line, functions_in, names_in}
 use Rattle.function_lines.specs.WithLines.{has_lines, with_lines}
 
@@ -72,7 +72,7 @@ ReadsAs file table =
     (strings : Strings) → reading strings (bytes_in file (codes ".debug_line")) ≡ Ok table
 
 -- its line table is read without a fault, and nothing of it is skipped
-pub record IsRead (file : List ℕ) : Type 0 where
+pub record ReadsWithoutFault (file : List ℕ) : Type 0 where
   pub table : Table
   pub reads : ReadsAs file table
   pub whole : table.skipped ≡ 0

@@ -5,7 +5,7 @@ use Rattle.elf_load.specs.Loaded.{load_answer, section, section_place}
 use Rattle.function_lines.specs.declared.relined.LinesError.{LinesError}
 use Rattle.function_lines.specs.declared.relined.LinesError.TheVariants.{NoLines, Overlap, Memory}
 use Rattle.function_lines.specs.SameProgram.{is_same_program}
-use Rattle.written_bytes.specs.Files.{with_section}
+use Rattle.byte_write.specs.Files.{with_section}
 
 -- the file whose section `.debug_line` is to be the unit, unless it has no such section
 abbrev pub with_lines : List ℕ → List ℕ → Option (List ℕ)

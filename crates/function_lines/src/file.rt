@@ -6,25 +6,25 @@ ghost use Rattle.coz_types.specs.declared.TheConstants.{MAX_PROGRAM};
 ghost use Rattle.coz_types.specs.Image.{IsImage};
 ghost use Rattle.elf_load.specs.Faults.{fault};
 ghost use Rattle.elf_load.specs.Loaded.{load_answer, section};
-ghost use Rattle.function_lines.specs.ByFunction.{IsByFunction, IsCauseOf, IsFileCause, IsRead, IsUnit, IsUnitCause, IsWithFunctions};
-ghost use Rattle.line_marks.specs.Marks.{IsMark, marks_of, positions_of, spelled_lines};
-ghost use Rattle.region_lines.specs.Regions.{chosen_marks, regions_of};
-ghost use Rattle.region_lines.specs.declared.lines.Region.{Region};
+ghost use Rattle.function_lines.specs.ByFunction.{IsByFunction, IsCauseOf, IsFileCause, ReadsWithoutFault, IsUnit, IsUnitCause, IsWithFunctions};
+ghost use Rattle.line_remap.specs.Marks.{IsMark, marks_of, positions_of, spelled_lines};
+ghost use Rattle.line_regions.specs.Regions.{chosen_marks, regions_of};
+ghost use Rattle.line_regions.specs.declared.lines.Region.{Region};
 ghost use Rattle.function_lines.specs.SameProgram.{is_same_program};
 ghost use Rattle.function_sequences.specs.Sequences.{IsNamed, bytes_in, falling, functions_in, names_in};
-ghost use Rattle.line_marks.specs.Sound.{IsIndexOf, IsSound};
+ghost use Rattle.line_remap.specs.Sound.{IsIndexOf, IsSound};
 ghost use Rattle.function_lines.specs.WithLines.{with_lines};
 ghost use Rattle.function_lines.specs.declared.file.FunctionsError.TheVariants.{Memory};
 
 use crate::relined::{LINES, LinesError, with_lines};
-use code_symbols::Symbol;
 use coz_types::{Image, LineId, MAX_PROGRAM};
 use elf_load::section_place;
+use elf_symbols::Symbol;
 use function_sequences::{Functions, bytes_in, functions, sequences};
 use line_index::LineIndex;
-use line_marks::{Mark, kept_marks};
-use line_unit::{UnitError, write_unit};
-use region_lines::{Lines, Region};
+use line_regions::{Lines, Region};
+use line_remap::{Mark, kept_marks};
+use line_write::{UnitError, write_unit};
 use std::alloc::{AllocError, Global};
 
 /// Why a program has no file in which each function is one line.
@@ -144,7 +144,7 @@ pub fn by_marks(
     ensures short { IfOk result (λ v. length v.items ≤ MAX_PROGRAM) }
     ensures file { IfOk result (λ v.
         IsWithFunctions image.now index.now (marks_of marks.now) v.items) }
-    ensures reads { IfOk result (λ v. IsRead v.items) }
+    ensures reads { IfOk result (λ v. ReadsWithoutFault v.items) }
     ensures lines { IfOk result (λ v.
         IsByFunction image.now index.now (marks_of marks.now) v.items) }
     ensures cause { IfErr result (IsCauseOf image.now index.now (marks_of marks.now)) }
@@ -206,7 +206,7 @@ pub fn by_function<'a>(
     ensures short { IfOk result (λ v. length v.items ≤ MAX_PROGRAM) }
     ensures file { IfOk result (λ v. IsWithFunctions image.now index.now
         (chosen_marks index.now (positions_of kept.now) (regions_of regions.now)) v.items) }
-    ensures reads { IfOk result (λ v. IsRead v.items) }
+    ensures reads { IfOk result (λ v. ReadsWithoutFault v.items) }
     ensures lines { IfOk result (λ v. IsByFunction image.now index.now
         (chosen_marks index.now (positions_of kept.now) (regions_of regions.now)) v.items) }
     ensures cause { IfErr result (IsCauseOf image.now index.now

@@ -9,10 +9,10 @@ ghost use Rattle.function_lines.specs.WithLines.{IsCause, has_lines, is_section,
 ghost use Rattle.function_lines.specs.declared.relined.LinesError.TheVariants.{Memory};
 
 use crate::same_program::same_image;
+use byte_write::with_section;
 use coz_types::Image;
 use elf_load::{LoadError, load, section, section_place};
 use std::alloc::{AllocError, Global};
-use written_bytes::with_section;
 
 /// Why a program has no file with other lines.
 #[derive(Clone, Copy)]

@@ -4,9 +4,9 @@ use Rattle.std.specs.Prelude.{All}
 use Rattle.std.proofs.lemmas.List.Elements.{All-append}
 use Rattle.coz_types.specs.Image.{ImageParts}
 use Rattle.line_index.specs.Index.{Index}
-use Rattle.line_unit.specs.Unit.{IsWritable, Sequence}
-use Rattle.line_marks.specs.Marks.{Mark}
-use Rattle.line_marks.specs.Runs.{Adds, AreKept}
+use Rattle.line_write.specs.Unit.{IsWritable, Sequence}
+use Rattle.line_remap.specs.Marks.{Mark}
+use Rattle.line_remap.specs.Runs.{Adds, AreKept}
 use Rattle.function_sequences.specs.Sequences.{AreFunctions, AreSequences, falling, functions_in, names_in}
 
 pub joined : (image : ImageParts) (index : Index) (marks : List Mark) (first mid new : List Sequence) → first ≡ [] → Adds (AreKept index marks) first mid → Adds (AreFunctions index (names_in image.file) (falling (functions_in image))) mid new → AreSequences image index marks new

@@ -9,10 +9,10 @@ use Rattle.std.proofs.lemmas.List.Folds.{length-prefix_len}
 use Rattle.std.proofs.lemmas.List.Sums.{prefix_len_passes}
 use Rattle.std.proofs.Math.Seq.{drop-cons}
 use Rattle.coz_types.specs.Labels.{written}
-use Rattle.code_symbols.specs.declared.symbols.Symbol.{Symbol}
-use Rattle.code_symbols.specs.Symbols.{name_of}
-use Rattle.line_marks.specs.Marks.{has_zero}
-use Rattle.line_marks.proofs.Texts.{raw_text}
+use Rattle.elf_symbols.specs.declared.symbols.Symbol.{Symbol}
+use Rattle.elf_symbols.specs.Symbols.{name_of}
+use Rattle.line_remap.specs.Marks.{has_zero}
+use Rattle.line_remap.proofs.Texts.{raw_text}
 use Rattle.function_sequences.specs.Sequences.{IsNamed}
 
 abbrev is_byte : ℕ → Bool

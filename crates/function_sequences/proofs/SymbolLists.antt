@@ -2,8 +2,8 @@
 use Rattle.std.proofs.Common.{◌≡◌, ◌<◌, ◌≤◌, ℕ, zero, suc, ◌+◌, ◌-◌, ◌*◌, ◌/◌, List, [], ◌∷◌, map, length, sym, ap, ◌∙◌, arith}
 use Rattle.coz_types.specs.declared.image.Area.{Area}
 use Rattle.elf_load.specs.Tables.{places}
-use Rattle.code_symbols.specs.declared.symbols.Symbol.{Symbol}
-use Rattle.code_symbols.specs.Symbols.{symbol_at}
+use Rattle.elf_symbols.specs.declared.symbols.Symbol.{Symbol}
+use Rattle.elf_symbols.specs.Symbols.{symbol_at}
 use Rattle.function_sequences.specs.Functions.{by_address, with_function}
 
 abbrev pub left_symbols : List ℕ → ℕ → List Symbol

@@ -4,8 +4,8 @@ use Rattle.std.specs.Prelude.{codes}
 use Rattle.std.specs.Int.{w32, w64, to_le_bytes}
 use Rattle.coz_types.specs.declared.image.Area.{Area}
 use Rattle.elf_load.specs.Tables.{number}
-use Rattle.code_symbols.specs.declared.symbols.Symbol.{Symbol}
-use Rattle.code_symbols.specs.Symbols.{ended, name_of}
+use Rattle.elf_symbols.specs.declared.symbols.Symbol.{Symbol}
+use Rattle.elf_symbols.specs.Symbols.{ended, name_of}
 use Rattle.function_sequences.specs.Functions.{functions}
 
 -- an entry in section 1

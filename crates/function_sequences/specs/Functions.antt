@@ -4,8 +4,8 @@ use Rattle.std.specs.Ordering.{nat_cmp}
 use Rattle.std.specs.BTreeMap.{insert_entry}
 use Rattle.std.specs.List.{list_any}
 use Rattle.coz_types.specs.declared.image.Area.{Area}
-use Rattle.code_symbols.specs.declared.symbols.Symbol.{Symbol}
-use Rattle.code_symbols.specs.Symbols.{ended, has_name, is_in_area, symbols}
+use Rattle.elf_symbols.specs.declared.symbols.Symbol.{Symbol}
+use Rattle.elf_symbols.specs.Symbols.{ended, has_name, is_in_area, symbols}
 
 -- a defined symbol of type STT_FUNC of some bytes within an executable area, at an instruction,
 -- with a name

@@ -5,12 +5,12 @@ use Rattle.coz_types.specs.Image.{ImageParts}
 use Rattle.elf_load.specs.Loaded.{section}
 use Rattle.line_index.specs.Index.{Index}
 use Rattle.line_index.specs.Lines.{Line}
-use Rattle.line_unit.specs.Lines.{line_of_sequence}
-use Rattle.line_unit.specs.Unit.{Sequence}
-use Rattle.code_symbols.specs.declared.symbols.Symbol.{Symbol}
-use Rattle.code_symbols.specs.Symbols.{ended, has_name, name_of}
-use Rattle.line_marks.specs.Marks.{Mark, own_line}
-use Rattle.line_marks.specs.Runs.{AreKept}
+use Rattle.line_write.specs.Lines.{line_of_sequence}
+use Rattle.line_write.specs.Unit.{Sequence}
+use Rattle.elf_symbols.specs.declared.symbols.Symbol.{Symbol}
+use Rattle.elf_symbols.specs.Symbols.{ended, has_name, name_of}
+use Rattle.line_remap.specs.Marks.{Mark, own_line}
+use Rattle.line_remap.specs.Runs.{AreKept}
 use Rattle.function_sequences.specs.Functions.{functions}
 use Rattle.function_sequences.specs.Labels.{labelled}
 

@@ -3,15 +3,15 @@
 ghost use Rattle.std.specs.Prelude.{◌≡◌, ◌<◌, ◌+◌, ◌^◌, ◌++◌, ◌∷◌, ◌==◌, not, true, false, length, IfOk, IfSome};
 ghost use Rattle.std.specs.List.{AllPass};
 ghost use Rattle.coz_types.specs.Labels.{is_written, written};
-ghost use Rattle.line_marks.specs.Locations.{lines_of};
+ghost use Rattle.line_remap.specs.Locations.{lines_of};
 ghost use Rattle.function_sequences.specs.Labels.{labelled};
-ghost use Rattle.line_marks.specs.Marks.{IsText, has_zero};
-ghost use Rattle.line_unit.specs.Lines.{line_of_sequence};
-ghost use Rattle.line_unit.specs.Unit.{IsWritable, view};
+ghost use Rattle.line_remap.specs.Marks.{IsText, has_zero};
+ghost use Rattle.line_write.specs.Lines.{line_of_sequence};
+ghost use Rattle.line_write.specs.Unit.{IsWritable, view};
 
-use code_symbols::Symbol;
-use line_marks::{Location, unwritten};
-use line_unit::Sequence;
+use elf_symbols::Symbol;
+use line_remap::{Location, unwritten};
+use line_write::Sequence;
 use std::alloc::{AllocError, Global};
 
 /// The path of a name below the path that is written so.

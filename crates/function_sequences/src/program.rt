@@ -2,19 +2,19 @@
 
 ghost use Rattle.std.specs.Prelude.{◌≡◌, None, All, IfOk};
 ghost use Rattle.elf_load.specs.Faults.{fault};
-ghost use Rattle.line_unit.specs.Unit.{IsWritable, view, views};
-ghost use Rattle.line_marks.specs.Marks.{IsMark, marks_of};
-ghost use Rattle.line_marks.specs.Runs.{Adds};
-ghost use Rattle.line_marks.specs.Sound.{IsSound};
+ghost use Rattle.line_write.specs.Unit.{IsWritable, view, views};
+ghost use Rattle.line_remap.specs.Marks.{IsMark, marks_of};
+ghost use Rattle.line_remap.specs.Runs.{Adds};
+ghost use Rattle.line_remap.specs.Sound.{IsSound};
 ghost use Rattle.function_sequences.specs.Sequences.{AreFunctions, AreSequences, IsNamed, IsOfFunction, bytes_in, falling, functions_in, names_in};
 
 use crate::labels::function_sequence;
-use code_symbols::{Symbol, ended, name_of};
 use coz_types::Image;
 use elf_load::section;
+use elf_symbols::{Symbol, ended, name_of};
 use line_index::LineIndex;
-use line_marks::{Mark, Sequences, location_at, push_kept};
-use line_unit::Sequence;
+use line_remap::{Mark, Sequences, location_at, push_kept};
+use line_write::Sequence;
 use std::alloc::{AllocError, Global};
 
 /// The bytes of a program's section of this name, none if it has no such section.

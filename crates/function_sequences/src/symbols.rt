@@ -2,11 +2,11 @@
 
 ghost use Rattle.std.specs.Prelude.{◌≡◌, All, AllPairs, IfOk};
 ghost use Rattle.coz_types.specs.Image.{AreApart};
-ghost use Rattle.code_symbols.specs.Code.{IsSpan};
+ghost use Rattle.elf_symbols.specs.Code.{IsSpan};
 ghost use Rattle.function_sequences.specs.Functions.{functions, is_function, with_function};
 
-use code_symbols::{Code, SYM_SIZE, Symbol, ended, has_name, symbol_at};
 use coz_types::{Address, Area};
+use elf_symbols::{Code, SYM_SIZE, Symbol, ended, has_name, symbol_at};
 use std::alloc::{AllocError, Global};
 use std::collections::BTreeMap;
 

@@ -3,13 +3,13 @@ use Rattle.std.proofs.Common.{◌≡◌, ◌≢◌, ℕ, List, [], Option, Some,
 use Rattle.coz_types.specs.Image.{ImageParts}
 use Rattle.coz_types.specs.Labels.{Text}
 use Rattle.coz_files.specs.Verdict.{Verdict, refusal, text_verdict}
-use Rattle.file_steps.specs.declared.fault.FileFault.TheVariants.{Usage, Read, Write, Long, Memory}
-use Rattle.program_steps.specs.declared.fault.Fault.{Fault as StepFault}
-use Rattle.program_steps.specs.declared.fault.Fault.TheVariants.{File, Program, Lines, NoLine, ManyPoints, ManyExperiments, Source, Profile}
-use Rattle.program_steps.specs.Answer as steps
-use Rattle.program_steps.specs.LineTable.{table_in}
-use Rattle.program_steps.specs.Verdict.{loaded_verdict, named_verdict, table_verdict}
-use Rattle.program_steps.proofs.Loads.{loaded_file}
+use Rattle.file_read.specs.declared.fault.FileFault.TheVariants.{Usage, Read, Write, Long, Memory}
+use Rattle.program_load.specs.declared.fault.Fault.{Fault as StepFault}
+use Rattle.program_load.specs.declared.fault.Fault.TheVariants.{File, Program, Lines, NoLine, ManyPoints, ManyExperiments, Source, Profile}
+use Rattle.program_load.specs.Answer as steps
+use Rattle.program_load.specs.LineTable.{table_in}
+use Rattle.program_load.specs.Verdict.{loaded_verdict, named_verdict, table_verdict}
+use Rattle.program_load.proofs.Loads.{loaded_file}
 use Rattle.elf_load.specs.declared.ElfFault.{ElfFault}
 use Rattle.elf_load.specs.Faults.{fault}
 use Rattle.elf_load.specs.Loaded.{image, load_answer}

@@ -10,7 +10,7 @@ use Rattle.coz_types.specs.Labels.{Text}
 use Rattle.experiment_plan.specs.Lists.{is_colon, is_line, is_number, is_path, line_parts, number_in, pieces, pieces_left}
 use Rattle.experiment_plan.proofs.Bools.{both_true}
 use Rattle.line_index.specs.Lines.{Line}
-use Rattle.region_lines.specs.Regions.{Region}
+use Rattle.line_regions.specs.Regions.{Region}
 use Rattle.functions_cli.specs.Regions.{is_hyphen, region_named, regions_of_pieces, with_region}
 
 -- if a hyphen stands right before an offset and none after it, that is the offset after the last

@@ -7,30 +7,30 @@ use Rattle.coz_types.specs.Labels.{Text}
 use Rattle.coz_files.specs.Faults.{Rose}
 use Rattle.coz_files.specs.Held.{Held, file_at}
 use Rattle.coz_files.specs.Verdict.{Verdict, IsOfVerdict, refusal, text_verdict}
-use Rattle.file_steps.specs.declared.fault.FileFault.TheVariants.{Usage, Read, Write, Long, Memory}
-use Rattle.program_steps.specs.declared.fault.Fault.TheVariants.{File, Program, Lines, NoLine, ManyPoints, ManyExperiments, Source, Profile}
-use Rattle.file_steps.specs.Reading as reading
-use Rattle.file_steps.specs.Reading.{file_in, read_verdict}
-use Rattle.file_steps.specs.declared.fault.FileFault.{FileFault}
-use Rattle.file_steps.proofs.ReadBytes.{told_by}
+use Rattle.file_read.specs.declared.fault.FileFault.TheVariants.{Usage, Read, Write, Long, Memory}
+use Rattle.program_load.specs.declared.fault.Fault.TheVariants.{File, Program, Lines, NoLine, ManyPoints, ManyExperiments, Source, Profile}
+use Rattle.file_read.specs.Reading as reading
+use Rattle.file_read.specs.Reading.{file_in, read_verdict}
+use Rattle.file_read.specs.declared.fault.FileFault.{FileFault}
+use Rattle.file_read.proofs.ReadBytes.{told_by}
 use Rattle.elf_load.specs.declared.ElfFault.{ElfFault}
 use Rattle.elf_load.specs.Loaded.{load_answer}
 use Rattle.dwarf_lines.specs.declared.LineFault.{LineFault}
 use Rattle.dwarf_lines.specs.Registers.{Table}
 use Rattle.line_index.specs.Index.{Index, IsIndex}
-use Rattle.line_marks.specs.Marks.{Mark, spelled_lines}
-use Rattle.region_lines.specs.Regions.{Region, chosen_marks}
+use Rattle.line_remap.specs.Marks.{Mark, spelled_lines}
+use Rattle.line_regions.specs.Regions.{Region, chosen_marks}
 use Rattle.function_lines.specs.declared.file.FunctionsError.{FunctionsError}
 use Rattle.function_lines.specs.declared.file.FunctionsError.TheVariants.{NoFunctions, NoLines, Much, Overlap}
 use Rattle.function_lines.specs.declared.file.FunctionsError.TheVariants as errors
-use Rattle.program_steps.specs.LineTable.{table_in}
-use Rattle.program_steps.specs.Selection.{lines_named}
+use Rattle.program_load.specs.LineTable.{table_in}
+use Rattle.program_load.specs.Selection.{lines_named}
 use Rattle.functions_cli.specs.declared.fault.Fault.{Fault}
 use Rattle.functions_cli.specs.declared.fault.Fault.TheVariants.{Step, Functions}
 use Rattle.functions_cli.specs.Regions.{regions_named}
 use Rattle.functions_cli.specs.Words.{Request, request_in}
 use Rattle.functions_cli.specs.Verdict.{IsVerdict, IsRequestVerdict, IsFileVerdict, IsLoadedVerdict, IsKeptVerdict, IsRegionsVerdict, IsFunctionsVerdict, IsWritten, error_verdict}
-use Rattle.functions_cli.specs.Answer.{Answer, verdict_of, fault_verdict, fault_status, fault_line, IsMemory, IsMemoryFault, IsRead, IsReadFault, Suits, IsSettled}
+use Rattle.functions_cli.specs.Answer.{Answer, verdict_of, fault_verdict, fault_status, fault_line, IsMemory, IsMemoryFault, FailedToRead, IsReadFault, Suits, IsSettled}
 use Rattle.functions_cli.specs.Serve.{VerdictHas, ProgramHas, IsLine}
 
 -- ---- the verdict of the words
@@ -245,7 +245,7 @@ module _ (words : List Text) (before now : ℕ) where
   fault_complete status (Some held) fault P B is settled p = λ steady _ other.
       elim (fault_has held fault P settled (no_memory fault (λ ten. other (is ∙ ten))) p) [ inl has ↦ has | inr failed ↦ absurd (steady failed.1) ]
 
-  pub fault_read : (status : ℕ) (told : Option Held) (fault : Fault) → status ≡ fault_status fault → IsSettledIn told (Err fault) → (IsRead (Err fault) → IfNone told (Rose before now))
+  pub fault_read : (status : ℕ) (told : Option Held) (fault : Fault) → status ≡ fault_status fault → IsSettledIn told (Err fault) → (FailedToRead (Err fault) → IfNone told (Rose before now))
       → status ≡ 5 → Rose before now ⊎ IsSomeAnd told (λ held. VerdictHas words held (λ v. v.status ≡ 5))
   fault_read status None fault is settled untold five = inl (untold (is_read fault (sym is ∙ five)))
   fault_read status (Some held) fault is settled untold five =

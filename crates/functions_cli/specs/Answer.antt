@@ -4,12 +4,12 @@ use Rattle.std.specs.Global.{Vec}
 use Rattle.coz_types.specs.Labels.{Text}
 use Rattle.coz_files.specs.Faults.{Rose}
 use Rattle.coz_files.specs.Held.{Held}
-use Rattle.file_steps.specs.declared.fault.FileFault.TheVariants.{Usage, Read, Write, Long, Memory}
-use Rattle.program_steps.specs.Answer as steps
-use Rattle.program_steps.specs.declared.fault.Fault.{Fault as StepFault}
-use Rattle.program_steps.specs.declared.fault.Fault.TheVariants.{File, NoLine}
-use Rattle.region_lines.specs.declared.lines.Region.{Region as coded}
-use Rattle.region_lines.specs.Regions.{Region, regions_of}
+use Rattle.file_read.specs.declared.fault.FileFault.TheVariants.{Usage, Read, Write, Long, Memory}
+use Rattle.program_load.specs.Answer as steps
+use Rattle.program_load.specs.declared.fault.Fault.{Fault as StepFault}
+use Rattle.program_load.specs.declared.fault.Fault.TheVariants.{File, NoLine}
+use Rattle.line_regions.specs.declared.lines.Region.{Region as coded}
+use Rattle.line_regions.specs.Regions.{Region, regions_of}
 use Rattle.functions_cli.specs.declared.fault.Fault.{Fault}
 use Rattle.functions_cli.specs.declared.fault.Fault.TheVariants.{Step, Functions}
 use Rattle.functions_cli.specs.Words.{Request}
@@ -39,8 +39,8 @@ abbrev pub IsReadFault : Fault → Type 0
 IsReadFault (Step fault) = steps.IsReadFault fault
 IsReadFault (Functions refusal) = ⊥
 
-abbrev pub IsRead : Answer → Type 0
-IsRead answer = IsErrAnd answer IsReadFault
+abbrev pub FailedToRead : Answer → Type 0
+FailedToRead answer = IsErrAnd answer IsReadFault
 
 abbrev pub IsMemoryFault : Fault → Type 0
 IsMemoryFault (Step fault) = steps.IsMemoryFault fault
@@ -87,4 +87,4 @@ Suits (Some request) (Err fault) = IsOfRequest request fault
 -- an answer is one of the verdict of the words, or that of a read that failed with a counted fault
 abbrev pub IsSettled : List Text → Held → ℕ → ℕ → Answer → Type 0
 IsSettled words held before now answer =
-    IsVerdict words held (verdict_of answer) ⊎ (IsRead answer × Rose before now)
+    IsVerdict words held (verdict_of answer) ⊎ (FailedToRead answer × Rose before now)

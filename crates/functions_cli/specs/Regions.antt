@@ -5,7 +5,7 @@ use Rattle.coz_types.specs.Labels.{Text}
 use Rattle.coz_types.specs.declared.TheConstants.{MAX_LINE}
 use Rattle.experiment_plan.specs.Lists.{is_line, line_parts, number_in, pieces}
 use Rattle.line_index.specs.Lines.{Line}
-use Rattle.region_lines.specs.Regions.{Region, region_found}
+use Rattle.line_regions.specs.Regions.{Region, region_found}
 
 abbrev pub is_hyphen : ℕ → Bool
 is_hyphen b = b == 45

@@ -8,10 +8,10 @@ pub use Rattle.coz_files.specs.Verdict.{IsOfVerdict}
 use Rattle.dwarf_lines.specs.Registers.{Table}
 use Rattle.elf_load.specs.Loaded.{load_answer}
 use Rattle.line_index.specs.Index.{Index, IsIndex}
-use Rattle.line_marks.specs.Marks.{Mark, spelled_lines}
-use Rattle.region_lines.specs.Regions.{Region, chosen_marks}
-use Rattle.program_steps.specs.LineTable.{table_in}
-use Rattle.program_steps.specs.Selection.{lines_named}
+use Rattle.line_remap.specs.Marks.{Mark, spelled_lines}
+use Rattle.line_regions.specs.Regions.{Region, chosen_marks}
+use Rattle.program_load.specs.LineTable.{table_in}
+use Rattle.program_load.specs.Selection.{lines_named}
 use Rattle.functions_cli.specs.Regions.{regions_named}
 use Rattle.functions_cli.specs.Words.{Request, request_in}
 use Rattle.functions_cli.specs.Verdict.{Verdict, IsVerdict}

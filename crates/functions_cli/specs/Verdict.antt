@@ -6,21 +6,21 @@ use Rattle.coz_types.specs.Labels.{Text}
 use Rattle.coz_types.specs.declared.TheConstants.{MAX_PROGRAM}
 use Rattle.coz_files.specs.Held.{Held, file_at}
 pub use Rattle.coz_files.specs.Verdict.{Verdict, refusal, text_verdict}
-use Rattle.file_steps.specs.Reading.{file_in}
+use Rattle.file_read.specs.Reading.{file_in}
 use Rattle.elf_load.specs.declared.ElfFault.{ElfFault}
 use Rattle.elf_load.specs.Loaded.{load_answer}
 use Rattle.dwarf_lines.specs.declared.LineFault.{LineFault}
 use Rattle.dwarf_lines.specs.Registers.{Table}
 use Rattle.line_index.specs.Index.{Index, IsIndex}
-use Rattle.function_lines.specs.ByFunction.{IsByFunction, IsCauseOf, IsRead, IsWithFunctions}
-use Rattle.line_marks.specs.Marks.{Mark, spelled_lines}
-use Rattle.region_lines.specs.Regions.{Region, chosen_marks}
+use Rattle.function_lines.specs.ByFunction.{IsByFunction, IsCauseOf, ReadsWithoutFault, IsWithFunctions}
+use Rattle.line_remap.specs.Marks.{Mark, spelled_lines}
+use Rattle.line_regions.specs.Regions.{Region, chosen_marks}
 use Rattle.function_lines.specs.SameProgram.{is_same_program}
 use Rattle.function_lines.specs.declared.file.FunctionsError.{FunctionsError}
 use Rattle.function_lines.specs.declared.file.FunctionsError.TheVariants.{NoFunctions, NoLines, Much, Overlap, Memory}
-use Rattle.program_steps.specs.FaultLines.{program_line, table_line, no_line_line}
-use Rattle.program_steps.specs.LineTable.{table_in}
-use Rattle.program_steps.specs.Selection.{lines_named}
+use Rattle.program_load.specs.FaultLines.{program_line, table_line, no_line_line}
+use Rattle.program_load.specs.LineTable.{table_in}
+use Rattle.program_load.specs.Selection.{lines_named}
 use Rattle.functions_cli.specs.declared.fault.Refusal.{Refusal}
 use Rattle.functions_cli.specs.declared.fault.Refusal.TheVariants as refusals
 use Rattle.functions_cli.specs.Regions.{regions_named}
@@ -36,7 +36,7 @@ pub record IsWritten (image : ImageParts) (index : Index) (marks : List Mark)
   pub file : IsWithFunctions image index marks written
   pub same_program : is_same_program image (load_answer written) ≡ true
   pub short : length written ≤ MAX_PROGRAM
-  pub reads : IsRead written
+  pub reads : ReadsWithoutFault written
   pub lines : IsByFunction image index marks written
 
 abbrev pub refusal_text : Refusal → Text

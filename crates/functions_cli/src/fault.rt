@@ -3,9 +3,9 @@ ghost use Rattle.std.specs.Prelude.{◌≡◌, Some};
 ghost use Rattle.functions_cli.specs.Answer.{IsMemoryFault, IsOfFunctions, IsReadFault, fault_verdict};
 ghost use Rattle.functions_cli.specs.Verdict.{error_verdict};
 
-use file_steps::FileFault;
+use file_read::FileFault;
 use function_lines::FunctionsError;
-use program_steps::Fault as StepFault;
+use program_load::Fault as StepFault;
 
 /// Why a program has no file in which each function is one line, if such a file isn't too long.
 #[derive(Clone, Copy)]

@@ -7,24 +7,24 @@ ghost use Rattle.coz_files.specs.Verdict.{bytes_of};
 ghost use Rattle.elf_load.specs.Faults.{fault};
 ghost use Rattle.elf_load.specs.Loaded.{load_answer};
 ghost use Rattle.experiment_plan.specs.Lists.{is_list};
-ghost use Rattle.line_marks.specs.Marks.{positions_of, spelled_lines};
-ghost use Rattle.line_marks.specs.Sound.{IsIndexOf};
-ghost use Rattle.program_steps.specs.LineTable.{table_in};
-ghost use Rattle.program_steps.specs.Selection.{lines_named};
+ghost use Rattle.line_remap.specs.Marks.{positions_of, spelled_lines};
+ghost use Rattle.line_remap.specs.Sound.{IsIndexOf};
+ghost use Rattle.program_load.specs.LineTable.{table_in};
+ghost use Rattle.program_load.specs.Selection.{lines_named};
 ghost use Rattle.functions_cli.specs.Words.{request_in, request_of};
 ghost use Rattle.functions_cli.specs.Regions.{regions_named};
 ghost use Rattle.functions_cli.specs.Verdict.{IsKeptVerdict, IsLoadedVerdict, IsRegionsVerdict};
-ghost use Rattle.functions_cli.specs.Answer.{IsMemory, IsOfProgram, IsRead, IsSettled, Suits, verdict_of};
+ghost use Rattle.functions_cli.specs.Answer.{IsMemory, IsOfProgram, FailedToRead, IsSettled, Suits, verdict_of};
 
 use crate::fault::{Fault, fault_of};
 use crate::regions::regions_named;
 use crate::words::{Asked, asked_of};
 use coz_files::Files;
 use coz_types::{LineId, MAX_PROGRAM};
-use file_steps::{FileFault, read_file};
+use file_read::{FileFault, read_file};
 use function_lines::by_function;
-use program_steps::{Fault as StepFault, Program, listed_lines, read_program};
-use region_lines::Lines;
+use line_regions::Lines;
+use program_load::{Fault as StepFault, Program, listed_lines, read_program};
 use std::alloc::{AllocError, Global};
 
 /// The file of a program in which each function is one line, these lines keep their addresses, and
@@ -121,12 +121,12 @@ pub fn judge<'w, F: Files>(
     files: &mut F,
 ) -> Result<Vec<u8>, Fault<'w>>
     ensures same { F.held files.new ≡ F.held files.old }
-    ensures suits { Suits (request_in (bytes_of words.now)) result }
-    ensures settled { IfSome (F.held files.old) (λ held. (IsMemory result → ⊥) →
+    ensures fault_of_request { Suits (request_in (bytes_of words.now)) result }
+    ensures verdict { IfSome (F.held files.old) (λ held. (IsMemory result → ⊥) →
         IsSettled (bytes_of words.now) held (F.faults files.old) (F.faults files.new) result) }
-    ensures untold { IsRead result
+    ensures read_fault_has_cause { FailedToRead result
         → IfNone (F.held files.old) (Rose (F.faults files.old) (F.faults files.new)) }
-    ensures no_fault { (IsRead result → ⊥) → F.faults files.new ≡ F.faults files.old }
+    ensures no_fault { (FailedToRead result → ⊥) → F.faults files.new ≡ F.faults files.old }
 {
     let said = match asked_of(alloc, words) {
         Ok(said) => said,

@@ -2,17 +2,17 @@
 ghost use Rattle.std.specs.Prelude.{◌≡◌, ◌<◌, ◌≤◌, ◌-◌, not, true, length, option_map, All, IfOk, IfSome};
 ghost use Rattle.std.specs.List.{after_last, before_last, suffix_len};
 ghost use Rattle.std.specs.Option.{option_copied};
-ghost use Rattle.region_lines.specs.declared.lines.Region.{Region};
-ghost use Rattle.region_lines.specs.Regions.{region_of};
+ghost use Rattle.line_regions.specs.declared.lines.Region.{Region};
+ghost use Rattle.line_regions.specs.Regions.{region_of};
 ghost use Rattle.experiment_plan.specs.Lists.{is_line, pieces};
 ghost use Rattle.functions_cli.specs.Regions.{are_regions, is_hyphen, region_in, region_named, region_to, regions_named, regions_of_pieces};
 ghost use Rattle.functions_cli.specs.Answer.{AreRegions};
 
 use coz_types::MAX_LINE;
 use experiment_plan::{first_piece, is_line, line_parts, number_in};
-use file_steps::FileFault;
-use program_steps::Fault as StepFault;
-use region_lines::{Lines, Region};
+use file_read::FileFault;
+use line_regions::{Lines, Region};
+use program_load::Fault as StepFault;
 use std::alloc::Global;
 
 /// The index after the last `-`, or 0 if there is none.

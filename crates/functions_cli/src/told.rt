@@ -48,7 +48,7 @@ pub fn tell<E: Sink>(err: &mut E, fault: Fault) -> u8
         (codes "coz-functions: " ++ fault_line fault.entry ++ codes "\n") }
 {
     match fault {
-        Fault::Step(fault) => program_steps::tell(err, b"coz-functions", fault),
+        Fault::Step(fault) => program_load::tell(err, b"coz-functions", fault),
         Fault::Functions(refusal) => tell_refusal(err, refusal),
     }
 }

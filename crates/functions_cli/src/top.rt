@@ -5,7 +5,7 @@ ghost use Rattle.coz_files.specs.Faults.{Rose};
 ghost use Rattle.coz_files.specs.Puts.{AppendsPrefix};
 ghost use Rattle.coz_files.specs.Verdict.{bytes_of};
 ghost use Rattle.elf_load.specs.Loaded.{load_answer};
-ghost use Rattle.function_lines.specs.ByFunction.{IsByFunction, IsRead};
+ghost use Rattle.function_lines.specs.ByFunction.{IsByFunction, ReadsWithoutFault};
 ghost use Rattle.function_lines.specs.SameProgram.{is_same_program};
 ghost use Rattle.functions_cli.specs.Words.{request_in};
 ghost use Rattle.functions_cli.specs.Serve.{IsLine, IsOfVerdict, IsPut, ProgramHas, VerdictHas};
@@ -14,8 +14,8 @@ use crate::fault::Fault;
 use crate::judge::judge;
 use crate::told::tell;
 use coz_files::{Files, PutAnswer, Sink};
-use file_steps::FileFault;
-use program_steps::Fault as StepFault;
+use file_read::FileFault;
+use program_load::Fault as StepFault;
 use std::alloc::Global;
 
 /// All that the program does: reads the program that the words name, and writes it with a line
@@ -57,7 +57,7 @@ pub fn serve_functions<F: Files, O: Sink, E: Sink>(
     ensures text { IfSome (F.held files.old) (λ held. result ≡ 0 →
         VerdictHas (bytes_of words.now) held (λ v.
         (result ≡ v.status) × Appends (O.holds out.old) (O.holds out.new) v.text)) }
-    ensures torn { IfSome (F.held files.old) (λ held. result ≡ 6 →
+    ensures prefix { IfSome (F.held files.old) (λ held. result ≡ 6 →
         VerdictHas (bytes_of words.now) held (λ v.
         AppendsPrefix (O.holds out.old) (O.holds out.new) v.text)) }
     ensures nothing { result ≢ 0 → result ≢ 6 → O.holds out.new ≡ O.holds out.old }
@@ -74,10 +74,10 @@ pub fn serve_functions<F: Files, O: Sink, E: Sink>(
     ensures lines { IfSome (F.held files.old) (λ held. result ≡ 0 →
         ProgramHas (bytes_of words.now) held (λ image index marks. (written : List ℕ)
         × Appends (O.holds out.old) (O.holds out.new) written
-        × IsByFunction image index marks written × IsRead written)) }
+        × IsByFunction image index marks written × ReadsWithoutFault written)) }
 
     // The line on the error sink.
-    ensures quiet { result ≡ 0 → err.new ≡ err.old }
+    ensures no_error_line { result ≡ 0 → err.new ≡ err.old }
     ensures line { result ≢ 0 → (line : _)
         × IsLine result (bytes_of words.now) (F.held files.old) line
         × IsPut E.holds E.faults err.old err.new (line ++ codes "\n") }

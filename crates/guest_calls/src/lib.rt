@@ -2,7 +2,6 @@
 #![tactic(auto)]
 
 mod calls;
-mod carrier;
 mod hart;
 mod linux;
 mod output;
@@ -10,6 +9,7 @@ mod pieces;
 mod pipes;
 mod threads;
 mod times;
+mod transfer_buffer;
 
 ghost use Rattle.std.specs.Prelude.{◌≡◌, ◌≤◌, [], length, IfOk, IsTrue};
 ghost use Rattle.std.specs.Result.{result_ok};
@@ -21,9 +21,9 @@ ghost use Rattle.guest_calls.specs.Guest.{IsMade, is_running, is_sleeping, with_
 ghost use Rattle.guest_calls.specs.Calls.{retirement};
 ghost use Rattle.guest_calls.specs.Retire.{word_at, next_of, step_result, step, trap_of, retire};
 
-use crate::carrier::Carrier;
 use crate::hart::Hart;
 use crate::output::Output;
+use crate::transfer_buffer::TransferBuffer;
 use cost_table::word_cycles;
 use coz_types::{Address, Ending, HARTS, HartId, Image, Tick, Trap, TrapCause};
 use guest_areas::Areas;
@@ -46,7 +46,7 @@ pub struct Guest<'a> {
     reservations: Reservations,
     queue: Queue,
     pipes: Pipes,
-    carrier: Carrier,
+    transfer_buffer: TransferBuffer,
     /// The input that is left.
     input: &'a [u8],
     whole_input: &'a [u8],
@@ -86,7 +86,7 @@ impl<'a> Guest<'a> {
     {
         let queue = Queue::new(alloc)?;
         let pipes = Pipes::new(alloc)?;
-        let carrier = Carrier::new(alloc)?;
+        let transfer_buffer = TransferBuffer::new(alloc)?;
         let mut harts = Vec::with_capacity(alloc, HARTS)?;
         let output = Output::new(alloc, output_limit as usize)?;
         // The memory has many parts: little that may fail comes after it.
@@ -102,7 +102,7 @@ impl<'a> Guest<'a> {
             reservations: Reservations::new(),
             queue,
             pipes,
-            carrier,
+            transfer_buffer,
             input,
             whole_input: input,
             output,

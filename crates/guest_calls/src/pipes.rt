@@ -131,7 +131,7 @@ impl<'a> Guest<'a> {
             (λ _. (is_writable (memory_of self.old) address count ≡ false)
             × (self.new ≡ self.old)) }
     {
-        self.carrier
+        self.transfer_buffer
             .deliver(&self.pipes, number, count, &mut self.memory, address)?;
         self.reservations.end_at(address, u64::from(count));
         Ok(())
@@ -209,7 +209,7 @@ impl<'a> Guest<'a> {
             ≡ with_pipes (put number (bytes_at (memory_of self.old) address count) self.old.pipes)
             (woken_for Reading number self.old.pipes) self.old }
     {
-        self.carrier.send(
+        self.transfer_buffer.send(
             &self.memory,
             address,
             count,

@@ -4,13 +4,13 @@ use Rattle.line_index.specs.Lines.{Line}
 use Rattle.line_index.specs.Listed.{lines_in, position_in}
 use Rattle.machines.specs.Standing.{delayed_record}
 use Rattle.coz_words.specs.declared.request.Request.{Request}
-use Rattle.program_steps.specs.Selection.{lines_named}
-use Rattle.program_inputs.specs.Experiment.{Runs, experiment_by_table}
-use Rattle.program_inputs.proofs.Judged.{Judged, fault_of_request, judged_named, judged_points, judged_program, low}
-use Rattle.hot_run.specs.HotRun.{plain_run}
-use Rattle.hot_run.specs.HotRun as counting
+use Rattle.program_load.specs.Selection.{lines_named}
+use Rattle.run_inputs.specs.Experiment.{Runs, experiment_by_table}
+use Rattle.run_inputs.proofs.Judged.{Judged, fault_of_request, judged_named, judged_points, judged_program, low}
+use Rattle.hot_lines.specs.HotRun.{plain_run}
+use Rattle.hot_lines.specs.HotRun as counting
 use Rattle.hot_cli.specs.declared.asked.HotRequest.{HotRequest}
-use Rattle.hot_cli.specs.Answer.{Answer, IsMemory, IsRead, Suits, verdict_of}
+use Rattle.hot_cli.specs.Answer.{Answer, IsMemory, FailedToRead, Suits, verdict_of}
 use Rattle.hot_cli.specs.Verdict.{Verdict, has_exited, hot_judging, hot_on, hot_printed}
 
 judged_printed : (asked : HotRequest) (runs : counting.Runs) (position : ℕ → Option ℕ) (lines : List Line) → Judged (hot_printed asked runs position lines)
@@ -28,10 +28,10 @@ judged_file asked file input =
     judged_program file _ (λ image table.
     judged_run asked (position_in table image.areas) (lines_in table image.areas) (experiment_by_table image table input))
 
-suits_of : (asked : Request) (v : Verdict) → Judged v → (answer : Answer) → (IsRead answer → ⊥) → ((IsMemory answer → ⊥) → verdict_of answer ≡ v) → Suits asked answer
+suits_of : (asked : Request) (v : Verdict) → Judged v → (answer : Answer) → (FailedToRead answer → ⊥) → ((IsMemory answer → ⊥) → verdict_of answer ≡ v) → Suits asked answer
 suits_of asked v judged (Ok hot) no_read settled = tt
 suits_of asked v judged (Err fault) no_read settled = fault_of_request asked v judged fault no_read settled
 
-pub suits_file : (asked : HotRequest) (file input : List ℕ) (answer : Answer) → (IsRead answer → ⊥)
+pub suits_file : (asked : HotRequest) (file input : List ℕ) (answer : Answer) → (FailedToRead answer → ⊥)
     → ((IsMemory answer → ⊥) → verdict_of answer ≡ hot_on asked file input) → Suits asked.run answer
 suits_file asked file input answer = suits_of asked.run (hot_on asked file input) (judged_file asked file input) answer

@@ -6,14 +6,14 @@ use Rattle.line_index.specs.Index.{Index, position_at}
 use Rattle.progress_points.specs.Points.{Points, IsPoints}
 use Rattle.run_engine.specs.Run.{experiment}
 use Rattle.coz_words.specs.Said.{Text}
-use Rattle.program_steps.specs.Selection.{lines_named}
+use Rattle.program_load.specs.Selection.{lines_named}
 use Rattle.hot_cli.specs.declared.asked.HotRequest.{HotRequest}
-use Rattle.hot_run.specs.declared.left.HotRun.{HotRun}
-use Rattle.hot_run.specs.HotRun.{hot_text, hot_written, plain_run, runs_of}
-use Rattle.hot_run.specs.HotRun as counting
-use Rattle.program_inputs.specs.Experiment.{runs_in}
+use Rattle.hot_lines.specs.declared.left.HotRun.{HotRun}
+use Rattle.hot_lines.specs.HotRun.{hot_text, hot_written, plain_run, runs_of}
+use Rattle.hot_lines.specs.HotRun as counting
+use Rattle.run_inputs.specs.Experiment.{runs_in}
 use Rattle.hot_cli.specs.Verdict.{Verdict, ended_verdict, hot_judging, hot_printed, named_verdict, points_verdict}
-use Rattle.program_inputs.proofs.Indexed.{points_are}
+use Rattle.run_inputs.proofs.Indexed.{points_are}
 
 module _ (asked : HotRequest) (image : ImageParts) (index : Index) (input : List ℕ) where
   -- with these points

@@ -6,14 +6,14 @@ use Rattle.coz_files.specs.Held.{Held}
 use Rattle.coz_files.specs.Puts.{AppendsPrefix}
 use Rattle.hot_cli.specs.declared.asked.HotRequest.{HotRequest}
 use Rattle.hot_cli.specs.declared.hot.Hot.{Hot}
-use Rattle.program_steps.specs.declared.fault.Fault.{Fault}
+use Rattle.program_load.specs.declared.fault.Fault.{Fault}
 use Rattle.hot_cli.specs.Words.{hot_request}
 use Rattle.hot_cli.specs.Verdict.{Verdict, hot_verdict}
 use Rattle.hot_cli.specs.Verdict.{request_verdict, verdict}
 use Rattle.hot_cli.specs.Answer.{Answer, IsMemory, IsMemoryFault, IsReadFault, Suits, Settles, fault_line, fault_status, text_in}
-use Rattle.program_steps.specs.Verdict.{refusal}
+use Rattle.program_load.specs.Verdict.{refusal}
 use Rattle.hot_cli.specs.Serve.{IsLine, NamesPath}
-use Rattle.program_inputs.proofs.Telling.{names_read, no_write, read_cause, told_line, usage_line}
+use Rattle.run_inputs.proofs.Telling.{names_read, no_write, read_cause, told_line, usage_line}
 
 module _ (words : List (List ℕ)) (faults now : ℕ) where
   -- what an answer settles of a request it settles of the words
@@ -37,8 +37,8 @@ module _ (words : List (List ℕ)) (faults now : ℕ) where
           status_is = refl;
           named = λ path is. subst (λ request. NamesPath request path.now) makes (names_read asked.run fault suits path is);
           no_write = no_write asked.run fault suits;
-          settled = subst (λ request. IsSettled told request (Err fault)) makes settled;
-          untold = untold;
+          verdict = subst (λ request. IsSettled told request (Err fault)) makes settled;
+          read_fault_has_cause = untold;
         })
 
     pub fault_cause : (told : Option Held) (fault : Fault)

@@ -1,12 +1,12 @@
 -- What is known of an answer before it is written.
 use Rattle.std.specs.Prelude.{ℕ, List, Result, Ok, Err}
-use Rattle.printed_texts.specs.Printed.{ended_verdict}
-pub use Rattle.program_steps.specs.Answer.{fault_status, fault_line, fault_verdict, verdict_after, IsReadFault, IsRead, IsMemoryFault, IsMemory, SettlesThen}
-use Rattle.program_steps.specs.Verdict.{Verdict}
-use Rattle.program_steps.specs.declared.fault.Fault.{Fault}
-pub use Rattle.program_inputs.specs.Answer.{Names, IsOfRequest}
+use Rattle.command_texts.specs.Printed.{ended_verdict}
+pub use Rattle.program_load.specs.Answer.{fault_status, fault_line, fault_verdict, verdict_after, IsReadFault, FailedToRead, IsMemoryFault, IsMemory, SettlesThen}
+use Rattle.program_load.specs.Verdict.{Verdict}
+use Rattle.program_load.specs.declared.fault.Fault.{Fault}
+pub use Rattle.run_inputs.specs.Answer.{Names, IsOfRequest}
 use Rattle.coz_words.specs.declared.request.Request.{Request}
-use Rattle.hot_run.specs.HotRun.{hot_written}
+use Rattle.hot_lines.specs.HotRun.{hot_written}
 use Rattle.hot_cli.specs.declared.hot.Hot.{Hot}
 
 -- what is printed of a run

@@ -4,8 +4,8 @@ use Rattle.coz_files.specs.Held.{Held}
 pub use Rattle.coz_files.specs.Puts.{IsPut}
 pub use Rattle.coz_files.specs.Verdict.{IsOfVerdict}
 use Rattle.hot_cli.specs.declared.asked.HotRequest.{HotRequest}
-use Rattle.program_inputs.specs.Answer.{Names}
-use Rattle.program_inputs.specs.FaultLine.{IsFaultLine}
+use Rattle.run_inputs.specs.Answer.{Names}
+use Rattle.run_inputs.specs.FaultLine.{IsFaultLine}
 use Rattle.hot_cli.specs.Words.{hot_request}
 use Rattle.hot_cli.specs.Verdict.{verdict}
 

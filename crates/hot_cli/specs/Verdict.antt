@@ -5,12 +5,12 @@ use Rattle.coz_files.specs.Held.{Held}
 use Rattle.line_index.specs.Lines.{Line}
 use Rattle.line_index.specs.Listed.{lines_in, position_in}
 use Rattle.machines.specs.Standing.{delayed_record}
-pub use Rattle.printed_texts.specs.Printed.{ended_verdict, has_exited}
-pub use Rattle.program_steps.specs.Verdict.{Verdict, refusal, program_verdict, named_verdict, points_verdict}
-use Rattle.program_steps.specs.Selection.{lines_named}
-use Rattle.program_inputs.specs.Experiment.{experiment_by_table}
-pub use Rattle.program_inputs.specs.Verdict.{Judging, bytes_verdict}
-use Rattle.hot_run.specs.HotRun.{Runs, hot_text, plain_run}
+pub use Rattle.command_texts.specs.Printed.{ended_verdict, has_exited}
+pub use Rattle.program_load.specs.Verdict.{Verdict, refusal, program_verdict, named_verdict, points_verdict}
+use Rattle.program_load.specs.Selection.{lines_named}
+use Rattle.run_inputs.specs.Experiment.{experiment_by_table}
+pub use Rattle.run_inputs.specs.Verdict.{Judging, bytes_verdict}
+use Rattle.hot_lines.specs.HotRun.{Runs, hot_text, plain_run}
 use Rattle.hot_cli.specs.declared.asked.HotRequest.{HotRequest}
 use Rattle.hot_cli.specs.Words.{hot_request}
 

@@ -1,13 +1,13 @@
 //! What is printed of a run that counted.
 ghost use Rattle.std.specs.Prelude.{◌≡◌, ◌≤◌};
 ghost use Rattle.coz_files.specs.Puts.{Puts};
-ghost use Rattle.printed_texts.specs.Printed.{ending_status};
+ghost use Rattle.command_texts.specs.Printed.{ending_status};
 ghost use Rattle.hot_cli.specs.Answer.{text_in};
 
+use command_texts::ending_status;
 use coz_files::{PutAnswer, Sink};
-use hot_run::{HotRun, write_hot};
+use hot_lines::{HotRun, write_hot};
 use line_index::LineIndex;
-use printed_texts::ending_status;
 
 /// A run that counted, and what is printed of it.
 #[derive(Drop)]

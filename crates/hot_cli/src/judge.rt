@@ -4,17 +4,17 @@ ghost use Rattle.coz_types.specs.declared.TheConstants.{MAX_BUDGET, MAX_PROGRAM}
 ghost use Rattle.coz_files.specs.Faults.{Rose};
 ghost use Rattle.coz_words.specs.Request.{IsFit};
 ghost use Rattle.line_index.specs.Index.{position_at};
-ghost use Rattle.hot_run.specs.HotRun.{hot_written};
-ghost use Rattle.program_inputs.specs.Experiment.{runs_on};
+ghost use Rattle.hot_lines.specs.HotRun.{hot_written};
+ghost use Rattle.run_inputs.specs.Experiment.{runs_on};
 ghost use Rattle.hot_cli.specs.Verdict.{ended_verdict, hot_judging, hot_on, hot_verdict};
-ghost use Rattle.hot_cli.specs.Answer.{verdict_after, verdict_in, verdict_of, IsMemory, IsRead, Suits, Settles};
+ghost use Rattle.hot_cli.specs.Answer.{verdict_after, verdict_in, verdict_of, IsMemory, FailedToRead, Suits, Settles};
 
 use crate::asked::HotRequest;
 use crate::hot::Hot;
 use coz_files::Files;
-use hot_run::{HotRun, hot_run};
-use program_inputs::read_inputs;
-use program_steps::{Fault, Program, bytes_of, progress_points, read_program};
+use hot_lines::{HotRun, hot_run};
+use program_load::{Fault, Program, bytes_of, progress_points, read_program};
+use run_inputs::read_inputs;
 use std::alloc::Global;
 
 /// The run of a program that a request asks for, if the program has the lines that are named.
@@ -27,8 +27,8 @@ fn found_run<'r>(
     requires fit { IsFit asked.now.run }
     requires some_budget { 1 ≤ asked.now.run.budget }
     requires few { asked.now.run.budget ≤ MAX_BUDGET }
-    ensures no_read { IsRead result → ⊥ }
-    ensures settled { (IsMemory result → ⊥) → verdict_after result (λ run.
+    ensures no_read { FailedToRead result → ⊥ }
+    ensures verdict { (IsMemory result → ⊥) → verdict_after result (λ run.
         ended_verdict run.ending (hot_written asked.now.names program.now.index.lines run))
         ≡ hot_judging asked.now (position_at program.now.index) program.now.index.lines
         (runs_on program.now input.now) }
@@ -57,8 +57,8 @@ fn hot_of_file<'r>(
     requires fit { IsFit asked.now.run }
     requires some_budget { 1 ≤ asked.now.run.budget }
     requires few { asked.now.run.budget ≤ MAX_BUDGET }
-    ensures no_read { IsRead result → ⊥ }
-    ensures settled { (IsMemory result → ⊥)
+    ensures no_read { FailedToRead result → ⊥ }
+    ensures verdict { (IsMemory result → ⊥)
         → verdict_of result ≡ hot_on asked.now file.now input.now }
 {
     let program = read_program(alloc, file)?;
@@ -87,12 +87,12 @@ pub fn judge_hot<'r, F: Files>(
     requires some_budget { 1 ≤ asked.now.run.budget }
     requires few { asked.now.run.budget ≤ MAX_BUDGET }
     ensures same { F.held files.new ≡ F.held files.old }
-    ensures suits { Suits asked.now.run result }
-    ensures settled { IfSome (F.held files.old) (λ held. (IsMemory result → ⊥) →
+    ensures fault_of_request { Suits asked.now.run result }
+    ensures verdict { IfSome (F.held files.old) (λ held. (IsMemory result → ⊥) →
         Settles (hot_verdict asked.now held) (F.faults files.old) (F.faults files.new) result) }
-    ensures untold { IsRead result
+    ensures read_fault_has_cause { FailedToRead result
         → IfNone (F.held files.old) (Rose (F.faults files.old) (F.faults files.new)) }
-    ensures no_fault { (IsRead result → ⊥) → F.faults files.new ≡ F.faults files.old }
+    ensures no_fault { (FailedToRead result → ⊥) → F.faults files.new ≡ F.faults files.old }
 {
     let inputs = read_inputs(alloc, &asked.run, files)?;
     hot_of_file(alloc, &inputs.program, &inputs.input, asked)

@@ -16,8 +16,8 @@ use crate::judge::judge_hot;
 use crate::told::tell;
 use coz_files::{Files, PutAnswer, Sink};
 use coz_words::WordsError;
-use file_steps::FileFault;
-use program_steps::Fault;
+use file_read::FileFault;
+use program_load::Fault;
 use std::alloc::Global;
 
 /// The request that the words make, by the clauses of `read_hot` that `serve_hot` needs.
@@ -67,13 +67,13 @@ pub fn serve_hot<F: Files, O: Sink, E: Sink>(
     // speedup 0 counts; its cost is the work of its instructions in the run with no line selected.
     ensures text { IfSome (F.held files.old) (λ held. result ≤ 1 →
         Appends (O.holds out.old) (O.holds out.new) (verdict (bytes_of words.now) held).text) }
-    ensures torn { IfSome (F.held files.old) (λ held. result ≡ 6 →
+    ensures prefix { IfSome (F.held files.old) (λ held. result ≡ 6 →
         AppendsPrefix (O.holds out.old) (O.holds out.new)
         (verdict (bytes_of words.now) held).text) }
     ensures nothing { 2 ≤ result → result ≢ 6 → O.holds out.new ≡ O.holds out.old }
 
     // The line on the error sink.
-    ensures quiet { result ≤ 1 → err.new ≡ err.old }
+    ensures no_error_line { result ≤ 1 → err.new ≡ err.old }
     ensures line { 2 ≤ result → (line : _)
         × IsLine result (bytes_of words.now) (F.held files.old)
         (F.faults files.old) (F.faults files.new) line

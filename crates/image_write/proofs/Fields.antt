@@ -7,7 +7,7 @@ use Rattle.std.proofs.lemmas.Nat.{from_le_bytes-to_le_bytes_2, from_le_bytes-to_
 use Rattle.elf_load.specs.declared.tables.Segment.{Segment}
 use Rattle.elf_load.specs.declared.tables.Section.{Section}
 use Rattle.elf_load.specs.Tables.{number, kind_of, machine, entry, phoff, shoff, flags, phentsize, phnum, shentsize, shnum, shstrndx, segment_at, section_at}
-use Rattle.written_bytes.specs.Numbers.{half, word, double}
+use Rattle.byte_write.specs.Numbers.{half, word, double}
 use Rattle.image_write.specs.File.{file_header, segment, section}
 use Rattle.image_write.proofs.Fronts.{length-file_header}
 

@@ -6,7 +6,7 @@ use Rattle.asm_tokens.specs.Tokens.{tokens}
 use Rattle.asm_tokens.specs.Table.{rows, form_of, register_of}
 use Rattle.rv_asm.specs.Statements.{statement}
 use Rattle.rv_asm.specs.Assembled.{Program, assembled, take_lines, take_tokens, with_pieces, load_address, filled_pieces}
-use Rattle.written_bytes.specs.Numbers.{half, word, double, fewest}
+use Rattle.byte_write.specs.Numbers.{half, word, double, fewest}
 use Rattle.image_write.specs.Unit.{unit}
 use Rattle.image_write.specs.File.{file_header, segment, segments, section, sections, front, file_with, written_file}
 

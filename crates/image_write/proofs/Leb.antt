@@ -9,8 +9,8 @@ use Rattle.std.specs.List.{list_any, AllByRecursion}
 use Rattle.std.proofs.lemmas.Bool.{ltb-true, lt-ltb, le-ltb, cases_Bool}
 use Rattle.std.proofs.lemmas.Nat.{pow-add}
 use Rattle.leb_cursor.specs.Numbers.{SpellsUnsigned, signed_number, SpellsSigned}
-use Rattle.line_unit.proofs.Leb.{groups_one, groups_value}
-use Rattle.written_bytes.specs.Numbers.{groups, fewest, uleb, sleb}
+use Rattle.line_write.proofs.Leb.{groups_one, groups_value}
+use Rattle.byte_write.specs.Numbers.{groups, fewest, uleb, sleb}
 
 -- the count that is found passes the test, if one does
 found_passes : (test : ℕ → Bool) (xs : List ℕ) → list_any test xs ≡ true → test (unwrap_or (find test xs) 10) ≡ true

@@ -2,8 +2,8 @@
 use Rattle.std.proofs.Common.{◌≡◌, ◌≤◌, ◌<◌, ℕ, zero, suc, ◌+◌, ◌*◌, ◌/◌, Bool, true, false, List, [], ◌∷◌, ◌++◌, length, refl, arith, length-append, cond, if◌then◌else◌}
 use Rattle.std.specs.Prelude.{find, unwrap_or, ℤ, pos, ◌-ℤ◌, ◌==◌, nat_lt, ◌^◌, Some}
 use Rattle.rv_decode.specs.Fields.{twos_complement, is_signed}
-use Rattle.written_bytes.specs.Numbers.{half, word, double, groups, fewest, uleb, sleb}
-use Rattle.written_bytes.specs.Programs.{advance_pc, advance_line, row, rows, set_address, end_sequence}
+use Rattle.byte_write.specs.Numbers.{half, word, double, groups, fewest, uleb, sleb}
+use Rattle.byte_write.specs.Programs.{advance_pc, advance_line, row, rows, set_address, end_sequence}
 use Rattle.image_write.specs.Unit.{line_program, with_count, numbers, files, unit_body, sizes, ended_files, counted_files}
 
 pub length-half : (n : ℕ) → length (half n) ≡ 2

@@ -13,8 +13,8 @@ use Rattle.leb_cursor.specs.Ahead.{fits_64_signed}
 use Rattle.dwarf_lines.specs.declared.Row.{Row}
 use Rattle.dwarf_lines.specs.Registers.{File, Header, Operation, Copy, AdvancePc, AdvanceLine, EndSequence, SetAddress, State, empty_table, state_after, has_line, first_state, file_of, is_open}
 use Rattle.dwarf_lines.specs.Spelling.{Spells, Goes}
-use Rattle.written_bytes.specs.Numbers.{double, uleb, sleb}
-use Rattle.written_bytes.specs.Programs.{set_address, end_sequence, advance_pc, advance_line, row, rows}
+use Rattle.byte_write.specs.Numbers.{double, uleb, sleb}
+use Rattle.byte_write.specs.Programs.{set_address, end_sequence, advance_pc, advance_line, row, rows}
 use Rattle.image_write.specs.Unit.{line_program}
 use Rattle.image_write.specs.Lines.{files_of, file_at, row_at, rows_from, rows_of}
 use Rattle.image_write.proofs.Leb.{uleb_spells, sleb_spells}

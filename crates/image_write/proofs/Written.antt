@@ -16,7 +16,7 @@ use Rattle.dwarf_lines.specs.declared.forms.Format.{Format}
 use Rattle.dwarf_lines.specs.Reading.{reading}
 use Rattle.dwarf_lines.proofs.UnitsAgain.{reading_again}
 use Rattle.rv_asm.specs.Assembled.{Program, IsProgram}
-use Rattle.written_bytes.specs.Numbers.{half, word}
+use Rattle.byte_write.specs.Numbers.{half, word}
 use Rattle.image_write.specs.Unit.{numbers, sizes, files, ended_files, counted_files, with_count, unit_body, line_program, unit}
 use Rattle.image_write.specs.Lines.{rows_of, table_of}
 use Rattle.image_write.specs.File.{IsName, IsVersion, written_file}

@@ -6,8 +6,8 @@ use Rattle.asm_values.specs.declared.TheConstants.{TEXT_START}
 use Rattle.rv_asm.specs.declared.state.TheConstants.{MAX_SECTION}
 use Rattle.asm_values.specs.Addresses.{up_to_multiple}
 use Rattle.rv_asm.specs.Assembled.{Program}
-use Rattle.written_bytes.specs.Numbers.{half, word, double}
-use Rattle.written_bytes.specs.Files.{header_places}
+use Rattle.byte_write.specs.Numbers.{half, word, double}
+use Rattle.byte_write.specs.Files.{header_places}
 use Rattle.image_write.specs.Unit.{unit}
 
 -- followed by zeros up to this length

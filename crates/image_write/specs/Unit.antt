@@ -1,9 +1,9 @@
 -- The line unit of a written file, of version 4 or 5.
 use Rattle.std.specs.Prelude.{ℕ, List, [], ◌∷◌, ◌++◌, ◌==◌, if◌then◌else◌}
 use Rattle.asm_values.specs.declared.TheConstants.{TEXT_START}
-use Rattle.written_bytes.specs.Numbers.{half}
-use Rattle.written_bytes.specs.Programs as programs
-pub use Rattle.line_unit.specs.Unit.{with_count, numbers}
+use Rattle.byte_write.specs.Numbers.{half}
+use Rattle.byte_write.specs.Programs as programs
+pub use Rattle.line_write.specs.Unit.{with_count, numbers}
 
 -- the program, of the words of the text
 abbrev pub line_program : List ℕ → List ℕ

@@ -5,13 +5,13 @@ ghost use Rattle.rv_asm.specs.Assembled.{view};
 ghost use Rattle.image_write.specs.File.{IsWritable, has_content, whole_pages, text_room, content_place, unit_place, names_place, names_end, headers_place, segment_count, file_header, segment, segments, section, sections};
 
 use asm_values::up_to_multiple;
+use byte_write::{push_doubles, push_half, push_places, push_word};
 use coz_types::PAGE;
 use elf_load::codes::{
     EHDR_SIZE, ELFCLASS64, ELFDATA2LSB, EM_RISCV, ET_EXEC, PHDR_SIZE, PT_LOAD, SHDR_SIZE,
 };
 use rv_asm::{Assembled, TEXT_START};
 use std::alloc::{AllocError, Global};
-use written_bytes::{push_doubles, push_half, push_places, push_word};
 
 /// The names of the sections, each followed by a zero.
 pub const NAMES: [u8; 35] = *b"\0.text\0.data\0.debug_line\0.shstrtab\0";

@@ -3,10 +3,10 @@
 ghost use Rattle.std.specs.Prelude.{◌≡◌, ◌<◌, ◌^◌, ◌++◌, length, IfOk};
 ghost use Rattle.image_write.specs.Unit.{numbers, ended_files, counted_files, files, unit_body, unit};
 
-use line_unit::push_counted;
+use byte_write::{push_half, push_words};
+use line_write::push_counted;
 use rv_asm::TEXT_START;
 use std::alloc::{AllocError, Global};
-use written_bytes::{push_half, push_words};
 
 /// minimum_instruction_length, maximum_operations_per_instruction, default_is_stmt, line_base,
 /// line_range, opcode_base, and the lengths of the opcodes from 1 to 12.

@@ -11,7 +11,7 @@ use Rattle.dwarf_lines.specs.Registers.{Table}
 use Rattle.dwarf_lines.proofs.Units.{reading_takes}
 use Rattle.line_index.specs.Lines.{Line, IsRight, line_cmp}
 use Rattle.line_index.specs.Index.{Index}
-use Rattle.program_steps.specs.LineTable.{bytes_in, strings_in, table_in}
+use Rattle.program_load.specs.LineTable.{bytes_in, strings_in, table_in}
 use Rattle.join_cli.specs.Shards.{AreIndexed}
 use Rattle.join_cli.proofs.Tables.{AreBytes, IsPlain, dropped, taken, table_plain}
 use Rattle.join_cli.proofs.Righted.{lines_rise, lines_right}

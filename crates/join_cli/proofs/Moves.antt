@@ -10,7 +10,7 @@ use Rattle.machines.specs.declared.Fate.TheVariants.{Goes, Waits, Leaves, Sleeps
 use Rattle.machines.specs.Places.{is_among, AllApart, change, change_each}
 use Rattle.machines.specs.Guest.{Experiment, Retirement, IsLawful, cost, cut, goes_on, started_harts, is_timed, ending_after}
 use Rattle.machines.specs.Delayed.{is_any}
-use Rattle.machines.specs.Shortened.{Shortened, NetVisit, Turn, next_turn, runs_any, over_or, retirement, leave, ending, begin, rest, retire, wake, unbegun, shortened}
+use Rattle.machines.specs.Shortened.{Shortened, NetVisit, Turn, next_turn, has_due_any, over_or, retirement, leave, ending, begin, rest, retire, wake, unbegun, shortened}
 use Rattle.machines.proofs.Maps.{change_same, change_other}
 use Rattle.machines.proofs.Turns.{turn_has}
 use Rattle.machines.proofs.Short.{Lives, lives_on, wakes_on, turn_runs, come_by, move_is, move_over}
@@ -311,7 +311,7 @@ module _ (image : ImageParts) (position point : ℕ → Option ℕ) (input : Lis
   under_limit s t none =
       let r : Retirement Guest = retirement run t s in
       leb-false choice.visit_limit (length (leave run t s).visits)
-      (none_full r.fate (nat_le choice.output_limit (length (run.guest.output r.guest))) (nat_le choice.visit_limit (length (leave run t s).visits)) (is_any (started_harts t.hart r) || runs_any (leave run t s).dues) (leave run t s).retired choice.budget none)
+      (none_full r.fate (nat_le choice.output_limit (length (run.guest.output r.guest))) (nat_le choice.visit_limit (length (leave run t s).visits)) (is_any (started_harts t.hart r) || has_due_any (leave run t s).dues) (leave run t s).retired choice.budget none)
 
   apart : (s : Shortened Guest) (t : Turn) → Comes run IsOrderly law s t → run.guest.is_sleeping s.guest t.hart ≡ false → AllApart (started_harts t.hart (retirement run t s))
   unfolding retirement

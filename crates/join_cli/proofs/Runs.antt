@@ -10,7 +10,7 @@ use Rattle.machines.specs.declared.Fate.{Fate}
 use Rattle.machines.specs.declared.Fate.TheVariants.{Goes, Waits, Leaves, Sleeps, Ends}
 use Rattle.machines.specs.Guest.{Experiment, Retirement, IsLawful, enough, own_ending, ending_if, first_ending, ending_after, started_harts}
 use Rattle.machines.specs.Delayed.{Delayed, is_any}
-use Rattle.machines.specs.Shortened.{Shortened, Turn, runs_any, retirement, leave, ending, begin, retire, wake, unbegun, shortened}
+use Rattle.machines.specs.Shortened.{Shortened, Turn, has_due_any, retirement, leave, ending, begin, retire, wake, unbegun, shortened}
 use Rattle.machines.specs.Agreement.{Agrees}
 use Rattle.machines.specs.Records.{Record, net_visit}
 use Rattle.machines.specs.Standing.{standing, delayed_record}
@@ -89,7 +89,7 @@ module _ (image : ImageParts) (position point : ℕ → Option ℕ) (input : Lis
   ending_low s t e fit is =
       let r : Retirement Guest = retirement run t s in
       any_ending r.fate (nat_le choice.output_limit (length (run.guest.output r.guest))) (nat_le choice.visit_limit (length (leave run t s).visits))
-      (not (is_any (started_harts t.hart r) || runs_any (leave run t s).dues)) (nat_le choice.budget (leave run t s).retired) e fit is
+      (not (is_any (started_harts t.hart r) || has_due_any (leave run t s).dues)) (nat_le choice.budget (leave run t s).retired) e fit is
 
   retire_sound : (s : Shortened Guest) (t : Turn) → Comes run IsOrderly rules s t → run.guest.is_sleeping s.guest t.hart ≡ false → IsSound s → IsSound (retire run t s)
   retire_sound s t comes awake sound =

@@ -16,10 +16,10 @@ use Rattle.profile_book.specs.Profile.{IsProfile, profile_text}
 use Rattle.profile_book.specs.declared.profile.Profile.{Profile}
 use Rattle.profile_shards.specs.Shards.{AreLines, AreTogether, AreDisjoint, IsTwice, profile_at}
 use Rattle.profile_pool.specs.Profiles.{profile_of_lines}
-use Rattle.join_answers.specs.Verdict.{IsVerdict, has_exited, profile_status}
-use Rattle.join_answers.specs.Serve.{IsLine, VerdictHas}
-use Rattle.join_answers.specs.Shards.{HoldProfiles, IsShardsVerdict, twice_line}
-use Rattle.join_answers.proofs.Sharded.{shards_verdict}
+use Rattle.join_parts.specs.Verdict.{IsVerdict, has_exited, profile_status}
+use Rattle.join_parts.specs.Serve.{IsLine, VerdictHas}
+use Rattle.join_parts.specs.Shards.{HoldProfiles, IsShardsVerdict, twice_line}
+use Rattle.join_parts.proofs.Sharded.{shards_verdict}
 use Rattle.join_cli.specs.Shards.{AreIndexed, IsAsked, HoldTexts, JoinsShards, JoinsAllShards}
 use Rattle.join_cli.specs.Ranges.{ProfilesAreRight}
 use Rattle.join_cli.proofs.Blocks.{are_blocks, block_at, profile_is, some_speedups, speedups_rise}
@@ -109,7 +109,7 @@ module _ (words : List Text) (Tells : Text → Type 0) (before now : Option Text
       joined = λ disjoint of.
           let same = status_of disjoint of in
           (same, text_of disjoint (subst (λ (n : ℕ). n ≤ 1) (sym same) (low whole)));
-      torn = λ disjoint six.
+      prefix = λ disjoint six.
           let v = torn six in
           subst (λ (w : Verdict). AppendsPrefix before now w.text) ((law v.0 v.1).joined disjoint) v.2;
       twice = λ place part two of.

@@ -9,7 +9,7 @@ use Rattle.dwarf_lines.specs.declared.forms.Form.TheVariants.{String, Strp, Line
 use Rattle.dwarf_lines.specs.declared.forms.Format.{Format}
 use Rattle.dwarf_lines.specs.Names.{Strings, Value, Text, Number, Other, Entry, empty_entry, entry_of, with_value, directory_of, paths, files_of}
 use Rattle.dwarf_lines.specs.Registers.{File, Table, Header, Operation, Copy, AdvancePc, AdvanceLine, SetFile, SetColumn, NegateStmt, ConstAddPc, FixedAdvancePc, Special, EndSequence, SetAddress, DefineFile, Pass, State, empty_table, natural, fits_line, row, state_after, registers_after, is_appending, is_ending, defined_files, has_line, first_state, directory}
-use Rattle.dwarf_lines.specs.Spelling.{SpellsText, SpellsFile, SpellsAll, Spells, Goes, SpellsPlace, SpellsValue, SpellsValues, SpellsEntry, SpellsListed, sizes, operations, SpellsNames, SpellsHeader, IsRead, ReadsUnit, TakesUnit, Takes, IsTable}
+use Rattle.dwarf_lines.specs.Spelling.{SpellsText, SpellsFile, SpellsAll, Spells, Goes, SpellsPlace, SpellsValue, SpellsValues, SpellsEntry, SpellsListed, sizes, operations, SpellsNames, SpellsHeader, IsSupported, ReadsUnit, TakesUnit, Takes, IsTable}
 
 -- ---- bytes
 
@@ -248,7 +248,7 @@ module _ (strings : Strings) (general : AreBytes strings.general) (line : AreByt
       bytes : AreBytes takes.1
       bytes = right front takes.1 (subst AreBytes takes.2 are)
 
-      by : (IsRead takes.0 × ReadsUnit takes.0 strings takes.1 t m) ⊎ ((IsRead takes.0 → ⊥) × (m ≡ record t { skipped = t.skipped + 1 })) → IsPlain m
+      by : (IsSupported takes.0 × ReadsUnit takes.0 strings takes.1 t m) ⊎ ((IsSupported takes.0 → ⊥) × (m ≡ record t { skipped = t.skipped + 1 })) → IsPlain m
       by (inl read) = unit_plain takes.0 takes.1 t m read.1 bytes plain
       by (inr passed) = subst IsPlain (sym passed.1) (record { files = plain.files; rows = plain.rows })
 

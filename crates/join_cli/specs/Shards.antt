@@ -18,11 +18,11 @@ use Rattle.profile_book.specs.Profile.{profile_text}
 use Rattle.profile_book.specs.declared.profile.Profile.{Profile}
 use Rattle.profile_shards.specs.Shards.{AreLines, AreTogether, AreDisjoint, IsTwice}
 use Rattle.profile_reader.specs.declared.TheConstants.{MAX_PROFILE}
-use Rattle.program_steps.specs.LineTable.{table_in}
+use Rattle.program_load.specs.LineTable.{table_in}
 use Rattle.profile_pool.specs.Profiles.{profile_of_lines}
-use Rattle.join_answers.specs.Words.{paths_in}
-use Rattle.join_answers.specs.Verdict.{profile_status}
-use Rattle.join_answers.specs.Shards.{twice_line}
+use Rattle.join_parts.specs.Words.{paths_in}
+use Rattle.join_parts.specs.Verdict.{profile_status}
+use Rattle.join_parts.specs.Shards.{twice_line}
 use Rattle.line_index.specs.Lines.{label_at}
 
 -- The index is that of a program: its lines are those of the line table in the program's file,
@@ -62,7 +62,7 @@ pub record JoinsShards (lists : List (List ℕ)) (whole : Profile) (label : ℕ 
     (status : ℕ) : Type 0 where
   pub joined : AreDisjoint lists → IsOfVerdict status
       → (status ≡ profile_status whole) × Appends before now (profile_text whole)
-  pub torn : AreDisjoint lists → status ≡ 6 → AppendsPrefix before now (profile_text whole)
+  pub prefix : AreDisjoint lists → status ≡ 6 → AppendsPrefix before now (profile_text whole)
   pub twice : (line part : ℕ) → IsTwice lists line part → IsOfVerdict status
       → (status ≡ 14) × Tells (codes "coz-join: " ++ twice_line (label line) paths part)
 

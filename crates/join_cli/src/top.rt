@@ -3,13 +3,13 @@ ghost use Rattle.std.specs.Prelude.{◌≡◌, ◌≢◌, ◌↔◌, ◌⊎◌, 
 ghost use Rattle.std.specs.Io.KnownBytes.{Appends};
 ghost use Rattle.coz_files.specs.Faults.{Rose};
 ghost use Rattle.coz_files.specs.Puts.{AppendsPrefix};
-ghost use Rattle.join_answers.specs.Words.{paths_in};
-ghost use Rattle.join_answers.specs.Verdict.{bytes_of};
-ghost use Rattle.join_answers.specs.Serve.{IsLine, IsOfVerdict, IsPut, VerdictHas};
+ghost use Rattle.join_parts.specs.Words.{paths_in};
+ghost use Rattle.join_parts.specs.Verdict.{bytes_of};
+ghost use Rattle.join_parts.specs.Serve.{IsLine, IsOfVerdict, IsPut, VerdictHas};
 ghost use Rattle.join_cli.specs.Shards.{JoinsAllShards};
 
 use coz_files::{Files, Sink};
-use join_answers::serve_parts;
+use join_parts::serve_parts;
 use std::alloc::Global;
 
 /// All that the program does: reads the files of the paths that the words name, joins the
@@ -50,7 +50,7 @@ pub fn serve_join<F: Files, O: Sink, E: Sink>(
     ensures text { IfSome (F.held files.old) (λ held. result ≤ 1 →
         VerdictHas (bytes_of words.now) held (λ v.
         (result ≡ v.status) × Appends (O.holds out.old) (O.holds out.new) v.text)) }
-    ensures torn { IfSome (F.held files.old) (λ held. result ≡ 6 →
+    ensures prefix { IfSome (F.held files.old) (λ held. result ≡ 6 →
         VerdictHas (bytes_of words.now) held (λ v.
         AppendsPrefix (O.holds out.old) (O.holds out.new) v.text)) }
     ensures nothing { 2 ≤ result → result ≢ 6 → O.holds out.new ≡ O.holds out.old }
@@ -62,7 +62,7 @@ pub fn serve_join<F: Files, O: Sink, E: Sink>(
         (O.holds out.old) (O.holds out.new) result) }
 
     // The line on the error sink.
-    ensures quiet { result ≤ 1 → err.new ≡ err.old }
+    ensures no_error_line { result ≤ 1 → err.new ≡ err.old }
     ensures line { 2 ≤ result → (line : _)
         × IsLine result (bytes_of words.now) (F.held files.old) line
         × IsPut E.holds E.faults err.old err.new (line ++ codes "\n") }

@@ -1,7 +1,7 @@
 -- The harts with a load are those that run or sleep.
 use Rattle.std.proofs.Common.{◌≡◌, ℕ, ap, ◌∙◌, refl, get_or, Option, Some, None, is_some}
 use Rattle.machines.specs.Guest.{Experiment, is_timed, IsLawful}
-use Rattle.machines.specs.Delayed.{Delayed, Hart, Account, Load, idle_hart, events, is_running, delayed}
+use Rattle.machines.specs.Delayed.{Delayed, Hart, Account, Load, idle_hart, events, has_load, delayed}
 use Rattle.machines.specs.Shortened.{Shortened, shortened}
 use Rattle.machines.specs.Agreement.{Agrees, LoadAgrees, LoadsAreTimed}
 use Rattle.machines.proofs.Short.{Lives}
@@ -15,7 +15,7 @@ same_some now delay a None (Some due) e = elim e [ ]
 same_some now delay a (Some l) None e = elim e [ ]
 
 module _ {G : Type 0} (x : Experiment G) (Good : G → Type 0) (law : IsLawful x Good) where
-  timed_beside : (d : Delayed G) (s : Shortened G) → Agrees d s → Lives x Good s → (k : ℕ) → is_timed x.guest d.guest k ≡ is_running (get_or d.harts k idle_hart)
+  timed_beside : (d : Delayed G) (s : Shortened G) → Agrees d s → Lives x Good s → (k : ℕ) → is_timed x.guest d.guest k ≡ has_load (get_or d.harts k idle_hart)
   timed_beside d s a lives k =
       let hart : Hart = get_or d.harts k idle_hart in
       ap (λ g. is_timed x.guest g k) a.guest ∙ lives.running k ∙ same_some d.now d.delay hart.account hart.load (get_or s.dues k None) (a.harts k)

@@ -5,7 +5,7 @@ ghost use Rattle.coz_files.specs.Verdict.{bytes_of};
 ghost use Rattle.page_words.specs.Words.{asked_of, request_in, request_of, request_by, scanned, has_hyphen, is_path, is_free, is_right, none_or_some, number_in, top_in};
 
 use crate::scan::{Next, Scan, scan_of};
-use profile_lists::decimal;
+use profile_labels::decimal;
 
 /// The number of lines of a table, if the arguments do not give one.
 const USUAL_TOP: u64 = 20;

@@ -6,12 +6,12 @@ use Rattle.std.proofs.lemmas.List.{append-nil, drop_all, get_or_past}
 use Rattle.std.proofs.lemmas.List.Elements.{All-get_or}
 use Rattle.coz_types.specs.Labels.{Text}
 use Rattle.coz_files.specs.Gathered.{Gathers, Rest}
-use Rattle.critical_chains.specs.declared.event.Event.{Event}
-use Rattle.critical_chains.specs.Path.{event_at, no_event}
-use Rattle.critical_chains.specs.declared.segment.Segment.{Segment}
-use Rattle.critical_chains.specs.Segments.{first_segment, next_segment, segments_from, segments_of}
+use Rattle.path_chains.specs.declared.event.Event.{Event}
+use Rattle.path_chains.specs.Path.{event_at, no_event}
+use Rattle.path_chains.specs.declared.segment.Segment.{Segment}
+use Rattle.path_chains.specs.Segments.{first_segment, next_segment, segments_from, segments_of}
 use Rattle.path_texts.specs.PathText.{segment_line, events_on}
-use Rattle.critical_chains.specs.Segments.{after}
+use Rattle.path_chains.specs.Segments.{after}
 use Rattle.path_texts.specs.Segments.{closed}
 
 -- one more, if an event ends a segment

@@ -6,16 +6,16 @@ use Rattle.std.specs.List.{filter, range_with_len}
 use Rattle.std.proofs.lemmas.Bool.{ltb-false, ltb-true}
 use Rattle.std.proofs.lemmas.List.Sums.{sum_by-cons, sum_by_push, sum_by_more_le}
 use Rattle.std.proofs.lemmas.List.{get_or-map, length-replicate, take_more, take_all}
-use Rattle.profile_lists.specs.Sorted.{sorted_by}
-use Rattle.critical_chains.specs.declared.event.Event.{Event}
-use Rattle.critical_chains.specs.Path.{chain_of, event_at, no_event, ticks, weight}
+use Rattle.profile_labels.specs.Sorted.{sorted_by}
+use Rattle.path_chains.specs.declared.event.Event.{Event}
+use Rattle.path_chains.specs.Path.{chain_of, event_at, no_event, ticks, weight}
 use Rattle.coz_types.specs.Labels.{Text}
 use Rattle.coz_types.specs.declared.ending.Ending.{Ending}
 use Rattle.line_index.specs.Lines.{Line}
-use Rattle.critical_chains.specs.declared.share.Share.{Share}
+use Rattle.path_chains.specs.declared.share.Share.{Share}
 use Rattle.path_texts.specs.declared.shares.Shares.{Shares}
 use Rattle.path_texts.specs.declared.shares.Sums.{Sums}
-use Rattle.critical_chains.specs.Shares.{has_more}
+use Rattle.path_chains.specs.Shares.{has_more}
 use Rattle.path_texts.specs.PathText.{events_on, path_lines, path_text, has_some, is_on, share_of, shares_of, slept_on, work_on, work_elsewhere}
 use Rattle.path_texts.specs.Shares.{place_in, share_in, work_in, IsCounted}
 

@@ -1,9 +1,9 @@
 -- A chain of as many numbers as there are events has all events, in order.
 use Rattle.std.proofs.Common.{◌≡◌, ℕ, zero, suc, ◌+◌, ◌<◌, ◌≤◌, List, [], ◌∷◌, ◌++◌, length, take, Option, Some, None, refl, sym, ap, ◌∙◌, arith}
 use Rattle.std.proofs.lemmas.List.{length-append, map-append, take_all, take_more}
-use Rattle.critical_chains.specs.declared.event.Event.{Event}
-use Rattle.critical_chains.specs.Path.{chain_of, chain_to, event_at, last_of, no_event, Linked}
-use Rattle.critical_chains.proofs.Chains.{from_lower}
+use Rattle.path_chains.specs.declared.event.Event.{Event}
+use Rattle.path_chains.specs.Path.{chain_of, chain_to, event_at, last_of, no_event, Linked}
+use Rattle.path_chains.proofs.Chains.{from_lower}
 use Rattle.path_texts.specs.PathText.{events_on}
 
 module _ (events : List Event) (linked : Linked events) where

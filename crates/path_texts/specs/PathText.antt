@@ -7,15 +7,15 @@ use Rattle.coz_types.specs.declared.ending.Ending.{Ending}
 use Rattle.line_index.specs.Lines.{Line, label_at}
 use Rattle.line_index.specs.Index.{Index}
 use Rattle.profile_book.specs.Pieces.{named, number_line, end_line}
-use Rattle.profile_lists.specs.Sorted.{sorted_by}
-use Rattle.critical_chains.specs.declared.event.Event.{Event}
-use Rattle.critical_chains.specs.declared.segment.Segment.{Segment}
-use Rattle.critical_chains.specs.declared.segment.Handover.{Handover}
-use Rattle.critical_chains.specs.declared.segment.Handover.TheVariants.{Start, Clone, Wake}
-use Rattle.critical_chains.specs.declared.share.Share.{Share}
-use Rattle.critical_chains.specs.Path.{event_at}
-use Rattle.critical_chains.specs.Segments.{segments_of}
-use Rattle.critical_chains.specs.Shares.{has_more}
+use Rattle.profile_labels.specs.Sorted.{sorted_by}
+use Rattle.path_chains.specs.declared.event.Event.{Event}
+use Rattle.path_chains.specs.declared.segment.Segment.{Segment}
+use Rattle.path_chains.specs.declared.segment.Handover.{Handover}
+use Rattle.path_chains.specs.declared.segment.Handover.TheVariants.{Start, Clone, Wake}
+use Rattle.path_chains.specs.declared.share.Share.{Share}
+use Rattle.path_chains.specs.Path.{event_at}
+use Rattle.path_chains.specs.Segments.{segments_of}
+use Rattle.path_chains.specs.Shares.{has_more}
 use Rattle.path_texts.specs.declared.texts.CriticalPath.{CriticalPath}
 
 -- ---- shares

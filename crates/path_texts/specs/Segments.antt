@@ -1,9 +1,9 @@
 -- Segments of a path while they are written.
 use Rattle.std.specs.Prelude.{◌≡◌, ℕ, ◌+◌, ◌==◌, List, [], if◌then◌else◌}
 use Rattle.coz_types.specs.Labels.{Text}
-use Rattle.critical_chains.specs.declared.event.Event.{Event}
-use Rattle.critical_chains.specs.Path.{event_at}
-use Rattle.critical_chains.specs.declared.segment.Segment.{Segment}
+use Rattle.path_chains.specs.declared.event.Event.{Event}
+use Rattle.path_chains.specs.Path.{event_at}
+use Rattle.path_chains.specs.declared.segment.Segment.{Segment}
 use Rattle.path_texts.specs.PathText.{segment_line}
 
 -- the line of a segment, if the event after it ends it

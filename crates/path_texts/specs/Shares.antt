@@ -1,9 +1,9 @@
 -- Shares of a path while they are counted.
 use Rattle.std.specs.Prelude.{◌≡◌, ℕ, ◌+◌, ◌==◌, nat_lt, List, length, get_or, sum_by, if◌then◌else◌, Option, Some, None, All}
-use Rattle.critical_chains.specs.declared.event.Event.{Event}
+use Rattle.path_chains.specs.declared.event.Event.{Event}
 use Rattle.path_texts.specs.declared.shares.TheConstants.{KEPT_ADDRESSES}
 use Rattle.path_texts.specs.declared.shares.Found.{Found}
-use Rattle.critical_chains.specs.declared.share.Share.{Share}
+use Rattle.path_chains.specs.declared.share.Share.{Share}
 use Rattle.path_texts.specs.declared.shares.Sums.{Sums}
 use Rattle.path_texts.specs.PathText.{slept_on}
 

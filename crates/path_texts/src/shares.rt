@@ -2,16 +2,16 @@
 ghost use Rattle.std.specs.Prelude.{◌≡◌, ◌+◌, ◌^◌, ◌<◌, ◌≤◌, ◌++◌, [], ◌∷◌, ◌==◌, ℕ, map, length, get_or, sum_by, if◌then◌else◌, IfOk, OnOk};
 ghost use Rattle.std.specs.List.{filter, range_with_len};
 ghost use Rattle.line_index.specs.Index.{position_at};
-ghost use Rattle.profile_lists.specs.Sorted.{sorted_by};
-ghost use Rattle.critical_chains.specs.Path.{event_at, ticks, weight};
-ghost use Rattle.critical_chains.specs.Shares.{has_more};
+ghost use Rattle.profile_labels.specs.Sorted.{sorted_by};
+ghost use Rattle.path_chains.specs.Path.{event_at, ticks, weight};
+ghost use Rattle.path_chains.specs.Shares.{has_more};
 ghost use Rattle.path_texts.specs.declared.shares.TheConstants.{KEPT_ADDRESSES};
 ghost use Rattle.path_texts.specs.PathText.{events_on, has_some, shares_of, slept_on, work_elsewhere};
 ghost use Rattle.path_texts.specs.Shares.{place_in, share_in, AreKept, IsCounted};
 
 use coz_types::{Address, HartId, Items, Tick};
-use critical_chains::{Event, Share, by_falling_ticks};
 use line_index::LineIndex;
+use path_chains::{Event, Share, by_falling_ticks};
 use std::alloc::{AllocError, Global};
 
 /// The shares of a path: of each line, of code without a line, and of sleep.

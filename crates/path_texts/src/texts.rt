@@ -3,19 +3,19 @@ ghost use Rattle.std.specs.Prelude.{◌≡◌, ◌≤◌, ◌+◌, ◌↔◌, le
 ghost use Rattle.coz_files.specs.Gathered.{Gathers};
 ghost use Rattle.coz_files.specs.Puts.{Puts};
 ghost use Rattle.line_index.specs.Index.{position_at};
-ghost use Rattle.critical_chains.specs.Path.{event_at, last_of, chain_of, Linked};
+ghost use Rattle.path_chains.specs.Path.{event_at, last_of, chain_of, Linked};
 ghost use Rattle.line_index.specs.Lines.{label_at};
-ghost use Rattle.critical_chains.specs.Segments.{after, segments_of};
+ghost use Rattle.path_chains.specs.Segments.{after, segments_of};
 ghost use Rattle.path_texts.specs.PathText.{amount_line, by_text, events_on, head_lines, path_text, segment_line, share_line, share_lines, written_path};
 ghost use Rattle.path_texts.specs.Segments.{closed, AreFourOfFirst};
 
 use crate::shares::{Shares, event_of, shares_of_chain};
 use coz_files::{PutAnswer, PutBuffer, Sink};
 use coz_types::{LineId, Tick};
-use critical_chains::{
+use line_index::LineIndex;
+use path_chains::{
     Event, Handover, Segment, Share, Trace, after, first_segment, longest, whole_segment,
 };
-use line_index::LineIndex;
 use profile_book::{put_end, put_field, put_line, put_named};
 use std::alloc::{AllocError, Global};
 

@@ -13,8 +13,8 @@ use Rattle.std.proofs.lemmas.Slice.Eq.{bytes_eq-Decides}
 use Rattle.coz_types.specs.Labels.{Text, is_label, label_before}
 use Rattle.coz_types.specs.declared.record.Summary.{Summary}
 use Rattle.profile_book.specs.Profile.{summary_before}
-use Rattle.profile_lists.specs.LabelOrder.{label_cmp}
-use Rattle.profile_lists.proofs.LabelOrder.{label_cmp_total, tied_are_one}
+use Rattle.profile_labels.specs.LabelOrder.{label_cmp}
+use Rattle.profile_labels.proofs.LabelOrder.{label_cmp_total, tied_are_one}
 use Rattle.profile_join.specs.Order.{block_cmp, tag_before}
 use Rattle.profile_join.specs.declared.tagged.Tagged.{Tagged}
 use Rattle.profile_join.proofs.Rising.{IsStrict}

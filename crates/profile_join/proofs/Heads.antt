@@ -6,7 +6,7 @@ use Rattle.coz_types.specs.Labels.{Text}
 use Rattle.profile_join.specs.declared.fault.PartKind.{PartKind}
 use Rattle.coz_types.specs.declared.record.Summary.{Summary}
 use Rattle.profile_book.specs.declared.profile.Profile.{Profile}
-use Rattle.profile_lists.specs.Groups.{groups}
+use Rattle.profile_labels.specs.Groups.{groups}
 use Rattle.profile_join.specs.Parts.{Head, IsKind, head_of, first_group, blocks_of, is_baseline}
 use Rattle.profile_join.proofs.Loops.{no_groups}
 

@@ -17,8 +17,8 @@ use Rattle.std.proofs.lemmas.List.Sorted.{ranks_by, sorted_far, sum_by-IsPermuta
 use Rattle.coz_types.specs.declared.record.Summary.{Summary}
 use Rattle.profile_book.specs.declared.profile.Profile.{Profile}
 use Rattle.profile_book.specs.Profile.{IsProfile, summary_before}
-use Rattle.profile_lists.specs.Sorted.{put_by, sorted_by}
-use Rattle.profile_lists.proofs.Sorting as sorting
+use Rattle.profile_labels.specs.Sorted.{put_by, sorted_by}
+use Rattle.profile_labels.proofs.Sorting as sorting
 use Rattle.profile_join.specs.Order.{block_cmp, tag_before, tag_cmp, comes_before}
 use Rattle.profile_join.specs.Parts.{tag, tagged, numbered, tags_of, in_order}
 use Rattle.profile_join.specs.declared.tagged.NumberedPart.{NumberedPart}

@@ -14,7 +14,7 @@ use Rattle.coz_types.specs.Ranges.{IsSummary}
 use Rattle.coz_types.specs.declared.record.Summary.{Summary}
 use Rattle.profile_book.specs.declared.profile.Profile.{Profile}
 use Rattle.profile_book.specs.Profile.{is_rising, summary_before, IsProfile}
-use Rattle.profile_lists.proofs.Sorting.{Rises, sorted_rises}
+use Rattle.profile_labels.proofs.Sorting.{Rises, sorted_rises}
 use Rattle.profile_join.specs.Order.{block_cmp, tag_before, are_alike}
 use Rattle.profile_join.specs.Parts.{blocks_of, tag, tagged, numbered, first_alike, head_of, IsKind, IsJoin, twice, twice_at, in_order}
 use Rattle.profile_join.specs.declared.fault.PartKind.TheVariants.{Twice}

@@ -3,7 +3,7 @@ use Rattle.std.proofs.Common.{◌≡◌, ℕ, zero, suc, ◌+◌, ◌<◌, List,
 use Rattle.std.proofs.lemmas.List.{length-map, get_or-map, take_more_same}
 use Rattle.std.proofs.lemmas.List.Elements.{All-cons, All-head, All-nil, All-tail}
 use Rattle.coz_types.specs.declared.record.Summary.{Summary}
-use Rattle.profile_lists.specs.Groups.{groups_by, groups}
+use Rattle.profile_labels.specs.Groups.{groups_by, groups}
 use Rattle.profile_join.specs.Parts.{speedups_in, AreTimes}
 
 any_default : {X : Type 0} (xs : List X) (i : ℕ) (d e : X) → i < length xs → get_or xs i d ≡ get_or xs i e

@@ -2,7 +2,7 @@
 use Rattle.std.specs.Prelude.{Bool}
 use Rattle.std.specs.declared.cmp.Ordering.{Ordering}
 use Rattle.std.specs.Ordering.{is_lt, is_eq, nat_cmp, ordering_then}
-use Rattle.profile_lists.specs.LabelOrder.{label_cmp}
+use Rattle.profile_labels.specs.LabelOrder.{label_cmp}
 use Rattle.coz_types.specs.declared.record.Summary.{Summary}
 use Rattle.profile_join.specs.declared.tagged.Tagged.{Tagged}
 

@@ -6,8 +6,8 @@ use Rattle.coz_types.specs.Labels.{Text}
 use Rattle.coz_types.specs.declared.record.Summary.{Summary}
 use Rattle.profile_book.specs.declared.profile.Profile.{Profile}
 use Rattle.profile_book.specs.Profile.{IsProfile}
-use Rattle.profile_lists.specs.Groups.{groups}
-use Rattle.profile_lists.specs.Sorted.{sorted_by}
+use Rattle.profile_labels.specs.Groups.{groups}
+use Rattle.profile_labels.specs.Sorted.{sorted_by}
 use Rattle.profile_join.specs.Order.{tag_before, are_alike}
 use Rattle.profile_join.specs.declared.fault.PartFault.{PartFault}
 use Rattle.profile_join.specs.declared.fault.PartKind.{PartKind}

@@ -6,7 +6,7 @@ ghost use Rattle.profile_join.specs.Parts.{speedups_in, first_group, blocks_of, 
 use crate::fault::{PartFault, PartKind};
 use coz_types::{Label, Summary};
 use profile_book::Profile;
-use profile_lists::group_length;
+use profile_labels::group_length;
 
 /// Returns whether two lists of blocks have the same speedups.
 fn same_speedups(a: &[Summary], b: &[Summary]) -> bool
@@ -41,7 +41,7 @@ fn same_labels(a: &[Label], b: &[Label]) -> bool
 }
 
 /// Returns whether two blocks differ in nothing but their labels and their starts.
-fn came_alike(a: &Summary, b: &Summary) -> bool
+fn same_run(a: &Summary, b: &Summary) -> bool
     ensures same { result ≡ true → unlabelled a.now ≡ unlabelled b.now }
     ensures other { result ≡ false → unlabelled a.now ≡ unlabelled b.now → ⊥ }
 {
@@ -57,7 +57,7 @@ fn came_alike(a: &Summary, b: &Summary) -> bool
 }
 
 /// Returns whether the blocks of each label have the speedups of these.
-fn are_times(speedups: &[Summary], summaries: &[Summary]) -> bool
+fn have_speedups(speedups: &[Summary], summaries: &[Summary]) -> bool
     ensures same { result ≡ true → AreTimes (speedups_in speedups.now) summaries.now }
     ensures other { result ≡ false → AreTimes (speedups_in speedups.now) summaries.now → ⊥ }
 {
@@ -74,7 +74,7 @@ fn are_times(speedups: &[Summary], summaries: &[Summary]) -> bool
 
 /// Returns whether each block at speedup 0 equals the first one of all but for its label and
 /// its starts.
-fn all_came_as(first: Option<&Summary>, summaries: &[Summary]) -> bool
+fn baselines_agree(first: Option<&Summary>, summaries: &[Summary]) -> bool
     ensures same { result ≡ true → AllCameAs (option_copied first.entry) summaries.now }
     ensures other { result ≡ false → AllCameAs (option_copied first.entry) summaries.now → ⊥ }
 {
@@ -82,7 +82,7 @@ fn all_came_as(first: Option<&Summary>, summaries: &[Summary]) -> bool
         return true;
     };
     for i in 0..summaries.len() {
-        if summaries[i].speedup == 0 && !came_alike(&summaries[i], first) {
+        if summaries[i].speedup == 0 && !same_run(&summaries[i], first) {
             return false;
         }
     }
@@ -111,10 +111,10 @@ fn kind_of(
     if !same_labels(part.points.as_slice(), points) {
         return Some(PartKind::Points);
     }
-    if !are_times(group, part.summaries.as_slice()) {
+    if !have_speedups(group, part.summaries.as_slice()) {
         return Some(PartKind::Speedups);
     }
-    if !all_came_as(first, part.summaries.as_slice()) {
+    if !baselines_agree(first, part.summaries.as_slice()) {
         return Some(PartKind::Baseline);
     }
     None

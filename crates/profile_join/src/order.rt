@@ -4,7 +4,7 @@ ghost use Rattle.profile_join.specs.Order.{block_cmp, tag_cmp};
 
 use crate::tagged::{NumberedPart, Tagged};
 use coz_types::Summary;
-use profile_lists::label_order;
+use profile_labels::label_order;
 use std::cmp::Ordering;
 
 /// Returns the order of two blocks: by label, then by speedup.

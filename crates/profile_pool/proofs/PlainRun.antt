@@ -19,7 +19,7 @@ use Rattle.profile_pool.specs.declared.plain.Plain.{Plain}
 use Rattle.run_engine.specs.Choices.{choice_of}
 use Rattle.profile_pool.specs.Made.{parts_made}
 use Rattle.profile_pool.specs.Plain.{starts_at, SaysOf, IsPlain}
-use Rattle.net_visits.specs.Summaries.{relabelled}
+use Rattle.run_summary.specs.Summaries.{relabelled}
 use Rattle.profile_pool.specs.Summaries.{summary_of, summary_in}
 
 -- what the run of a program with no line selected is made with

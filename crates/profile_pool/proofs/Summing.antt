@@ -16,7 +16,7 @@ use Rattle.guest_calls.specs.Guest.{Guest}
 use Rattle.machines.specs.KeptVisits.{net_of}
 use Rattle.virtual_run.specs.DelayedRun.{outcome_of}
 use Rattle.machines.specs.KeptVisits.{visit_as}
-use Rattle.net_visits.specs.Summaries.{kept}
+use Rattle.run_summary.specs.Summaries.{kept}
 use Rattle.profile_pool.specs.Summaries.{outcome_in, summary_of}
 
 abbrev pub outcome_at : Delayed Guest → Ending → Outcome

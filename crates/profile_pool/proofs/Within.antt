@@ -6,8 +6,8 @@ use Rattle.coz_types.specs.declared.record.Outcome.{Outcome}
 use Rattle.coz_types.specs.Labels.{is_label}
 use Rattle.coz_types.specs.Ranges.{is_ending, IsSummary}
 use Rattle.machines.specs.Records.{Record, net, net_visit}
-use Rattle.net_visits.proofs.Counting.{counts_within}
-use Rattle.net_visits.proofs.Hashing.{sha256_is}
+use Rattle.run_summary.proofs.Counting.{counts_within}
+use Rattle.run_summary.proofs.Hashing.{sha256_is}
 use Rattle.virtual_run.specs.DelayedRun.{IsSmall}
 use Rattle.profile_pool.specs.Summaries.{outcome_in, summary_of}
 

@@ -12,7 +12,7 @@ use Rattle.machines.specs.Standing.{delayed_record}
 use Rattle.progress_points.specs.Points.{Points}
 use Rattle.guest_calls.specs.Guest.{Guest}
 use Rattle.run_engine.specs.Seen.{Seen, experiment_of}
-use Rattle.net_visits.specs.Summaries.{relabelled}
+use Rattle.run_summary.specs.Summaries.{relabelled}
 use Rattle.counted_run.specs.CountedRun.{selecting_line}
 use Rattle.profile_pool.specs.declared.plain.Plain.{Plain}
 use Rattle.profile_pool.specs.Summaries.{summary_in}

@@ -11,7 +11,7 @@ use Rattle.line_index.specs.Index.{Index, position_at}
 use Rattle.progress_points.specs.Points.{Points, point_of}
 use Rattle.run_engine.specs.Run.{experiment}
 use Rattle.sha2.specs.Sha256.{sha256}
-use Rattle.net_visits.specs.Kept.{visits_bytes, counts_of}
+use Rattle.run_summary.specs.Kept.{visits_bytes, counts_of}
 use Rattle.run_engine.specs.Choices.{choice_of}
 
 -- how the run of a record came out

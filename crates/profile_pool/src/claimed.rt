@@ -15,7 +15,7 @@ use crate::work::{Runner, Work};
 use claim_workers::ClaimWork;
 use coz_types::{Items, LineId, Summary};
 use experiment_plan::Experiment;
-use net_visits::{is_undelayed, relabelled};
+use run_summary::{is_undelayed, relabelled};
 use std::alloc::{AllocError, Global};
 use virtual_run::{Choice, Lead, Machine};
 

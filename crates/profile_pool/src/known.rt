@@ -3,7 +3,7 @@ ghost use Rattle.std.specs.Prelude.{◌≡◌, IfOk};
 ghost use Rattle.sha2.specs.Sha256.{sha256};
 
 use coz_types::Digest;
-use net_visits::digest_of_bytes;
+use run_summary::digest_of_bytes;
 use std::alloc::{AllocError, Global};
 
 /// The output of a run, and its digest.

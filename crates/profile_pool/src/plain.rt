@@ -7,7 +7,7 @@ ghost use Rattle.coz_types.specs.Ranges.{IsSummary};
 ghost use Rattle.machines.specs.Records.{record_of};
 ghost use Rattle.run_engine.specs.Seen.{experiment_of};
 ghost use Rattle.profile_pool.specs.Summaries.{summary_of};
-ghost use Rattle.net_visits.specs.Summaries.{relabelled};
+ghost use Rattle.run_summary.specs.Summaries.{relabelled};
 ghost use Rattle.profile_pool.specs.Plain.{starts_at, SaysOf, IsPlain};
 ghost use Rattle.profile_pool.specs.Worth.{is_worth};
 
@@ -16,8 +16,8 @@ use crate::worth::is_worth;
 use counted_run::Counted;
 use coz_types::{Image, LineId, Summary};
 use line_index::LineIndex;
-use net_visits::{digest_of_bytes, summary_of_run};
 use progress_points::Points;
+use run_summary::{digest_of_bytes, summary_of_run};
 use std::alloc::{AllocError, Global};
 use virtual_run::Choice;
 

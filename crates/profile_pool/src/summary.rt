@@ -11,8 +11,8 @@ ghost use Rattle.profile_pool.specs.Summaries.{summary_of};
 use crate::known::{KnownOutput, digest_of_output};
 use crate::outcomes::ended;
 use coz_types::{Label, Summary};
-use net_visits::summary_of_run;
 use progress_points::Points;
+use run_summary::summary_of_run;
 use std::alloc::{AllocError, Global};
 use virtual_run::Machine;
 

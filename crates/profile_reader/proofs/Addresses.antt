@@ -14,7 +14,7 @@ use Rattle.coz_types.specs.Endings.{address_text}
 use Rattle.coz_types.specs.Ranges.{last_word}
 use Rattle.profile_reader.specs.EndingSpellings.{is_address}
 use Rattle.profile_reader.proofs.FieldSteps.{both, same_bytes}
-use Rattle.profile_lists.proofs.Spellings.{not_so}
+use Rattle.profile_labels.proofs.Spellings.{not_so}
 
 -- what an address's text is
 pub address_is : (text : Text) → is_address text ≡ true → (text ≡ address_text (digits_value 16 (drop 2 text))) × (digits_value 16 (drop 2 text) ≤ last_word)

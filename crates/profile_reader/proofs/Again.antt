@@ -17,7 +17,7 @@ use Rattle.coz_types.specs.Ranges.{IsDigest}
 use Rattle.profile_reader.specs.Grammar.{value_in, number_in, field_name, is_field, has_number, has_label, is_lower_hex, is_digest, comes_after, not_before, goes_on}
 use Rattle.profile_reader.specs.Reading.{Ahead, bind, item_at, judged_item, word_at, number_at, label_at, speedup_at, is_speedup, digest_at, bytes_in, lower_value, head_at, name_at, names_at, count_at, counts_at, selection_at, output_at, visits_at, selected_of, speedup_of}
 use Rattle.profile_reader.proofs.FieldSteps.{both, same_bytes, all_below, below}
-use Rattle.profile_lists.proofs.Spellings.{is_written}
+use Rattle.profile_labels.proofs.Spellings.{is_written}
 use Rattle.profile_reader.proofs.LineSteps.{IsHead, IsOutput, IsSelection, rises_after}
 
 -- the reader reads these items, whatever follows them, as this value

@@ -23,7 +23,7 @@ use Rattle.profile_reader.specs.Items.{items_of, join, begins_item, is_cut}
 use Rattle.profile_reader.specs.Grammar.{is_lower_hex}
 use Rattle.profile_reader.proofs.Cuts.{newline_is, joins, one_apart}
 use Rattle.profile_reader.proofs.FieldSteps.{both}
-use Rattle.profile_lists.proofs.Spellings.{spelled}
+use Rattle.profile_labels.proofs.Spellings.{spelled}
 use Rattle.profile_reader.proofs.Again.{head_items, name_items, names_items, count_items, counts_items, selection_items, output_items, visits_items, hex_is, and_both}
 use Rattle.profile_reader.proofs.BlocksAgain.{outcome_items, block_items, blocks_items, book_items}
 

@@ -18,7 +18,7 @@ use Rattle.coz_types.specs.declared.ending.TrapCause.TheVariants.{Fetch, Illegal
 use Rattle.profile_reader.specs.Parts.{parts}
 use Rattle.profile_reader.specs.Reading.{ending_in, ending_in_parts, cause_in}
 use Rattle.profile_reader.proofs.FieldSteps.{both}
-use Rattle.profile_lists.proofs.Spellings.{is_written}
+use Rattle.profile_labels.proofs.Spellings.{is_written}
 use Rattle.profile_reader.proofs.Addresses.{right_address}
 
 -- no byte is a colon

@@ -12,8 +12,8 @@ use Rattle.std.proofs.lemmas.Cmp.{nat_cmp_total, nat_list_cmp_total, on_total, t
 use Rattle.std.proofs.lemmas.Map.Text.{is_eq-slice_cmp}
 use Rattle.std.proofs.lemmas.Slice.Eq.{bytes_eq-Decides}
 use Rattle.coz_types.specs.Labels.{Text, is_label, label_before}
-use Rattle.profile_lists.specs.LabelOrder.{label_cmp}
-use Rattle.profile_lists.proofs.LabelOrder.{label_cmp_total, tied_are_one}
+use Rattle.profile_labels.specs.LabelOrder.{label_cmp}
+use Rattle.profile_labels.proofs.LabelOrder.{label_cmp_total, tied_are_one}
 
 -- a label comes after another or is that one, unless it comes before it
 pub falls : (a b : Text) → is_label a ≡ true → is_label b ≡ true → (label_before a b || bytes_eq a b) ≡ not (label_before b a)

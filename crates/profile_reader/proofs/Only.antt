@@ -6,12 +6,12 @@ use Rattle.profile_book.specs.declared.profile.Profile.{Profile}
 use Rattle.profile_reader.specs.declared.fault.BookFault.{BookFault}
 use Rattle.failures.specs.declared.Failure.{Failure}
 use Rattle.failures.specs.declared.Failure.TheVariants as errors
-use Rattle.profile_reader.specs.Judging.{IsRead}
+use Rattle.profile_reader.specs.Judging.{IsParsedAs}
 use Rattle.profile_book.specs.Profile.{IsProfile, IsTextOf, profile_text}
 use Rattle.profile_reader.specs.Items.{items_of}
 use Rattle.profile_reader.specs.Reading.{profile_at}
 use Rattle.failures.specs.Answers.{Gives}
-use Rattle.profile_reader.specs.Told.{or_nothing, told}
+use Rattle.profile_reader.specs.Parsed.{or_nothing, parsed_profile}
 use Rattle.profile_reader.specs.Grammar.{book_fault}
 use Rattle.profile_reader.proofs.Texts.{items_few, reading_is, IsReading}
 use Rattle.profile_reader.proofs.Again.{head_items, names_items}
@@ -34,13 +34,13 @@ few p is =
 pub written_is_read : (p : Profile) → IsProfile p → profile_at (length (profile_text p)) (items_of (profile_text p)) ≡ Ok p
 written_is_read p is = ap (profile_at (length (profile_text p))) (items_are p is) ∙ profile_again p (length (profile_text p)) (few p is) is
 
-pub only_by : (bytes : Text) (result : Result Profile (Failure BookFault)) → Gives (λ q. q) result (profile_at (length bytes) (items_of bytes)) → (p : Profile) → IsTextOf p bytes → IsRead result p
+pub only_by : (bytes : Text) (result : Result Profile (Failure BookFault)) → Gives (λ q. q) result (profile_at (length bytes) (items_of bytes)) → (p : Profile) → IsTextOf p bytes → IsParsedAs result p
 only_by bytes result gives p is = by result (subst (Gives (λ q. q) result) reads gives)
   where
     reads : profile_at (length bytes) (items_of bytes) ≡ Ok p
     reads = ap (λ (t : Text). profile_at (length t) (items_of t)) is.1 ∙ written_is_read p is.0
 
-    by : (r : Result Profile (Failure BookFault)) → Gives (λ q. q) r (Ok p) → IsRead r p
+    by : (r : Result Profile (Failure BookFault)) → Gives (λ q. q) r (Ok p) → IsParsedAs r p
     by (Ok q) e = cc
     by (Err errors.Memory) e = tt
     by (Err (errors.Fault f)) e = cc
@@ -59,6 +59,6 @@ no_fault_of_text bytes p is =
     let reads : profile_at (length bytes) (items_of bytes) ≡ Ok p = ap (λ (t : Text). profile_at (length t) (items_of t)) is.1 ∙ written_is_read p is.0 in
     (subst (IsReading bytes) reads (reading_is bytes)).0
 
-pub told_is : (bytes : Text) (p : Profile) → IsTextOf p bytes → told bytes ≡ p
-unfolding told
+pub told_is : (bytes : Text) (p : Profile) → IsTextOf p bytes → parsed_profile bytes ≡ p
+unfolding parsed_profile
 told_is bytes p is = ap or_nothing (ap (λ (t : Text). profile_at (length t) (items_of t)) is.1 ∙ written_is_read p is.0)

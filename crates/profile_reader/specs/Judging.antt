@@ -16,7 +16,7 @@ IsJudged (Ok x) fault = fault ≡ None
 IsJudged (Err e) fault = IsError e fault
 
 -- this profile, unless memory ran out
-abbrev pub IsRead : Result Profile (Failure BookFault) → Profile → Type 0
-IsRead (Ok q) p = q ≡ p
-IsRead (Err errors.Memory) p = Unit {0}
-IsRead (Err (errors.Fault f)) p = ⊥
+abbrev pub IsParsedAs : Result Profile (Failure BookFault) → Profile → Type 0
+IsParsedAs (Ok q) p = q ≡ p
+IsParsedAs (Err errors.Memory) p = Unit {0}
+IsParsedAs (Err (errors.Fault f)) p = ⊥

@@ -3,7 +3,7 @@ pub mod EndingSpellings
 pub mod Grammar
 pub mod Judging
 pub mod Reading
-pub mod Told
+pub mod Parsed
 pub mod Standing
 pub mod Parts
 pub mod ItemNames

@@ -6,7 +6,7 @@ ghost use Rattle.profile_reader.specs.Reading.{Tells, cause_in, ending_in_parts,
 
 use crate::numbers::parse_address;
 use coz_types::{Ending, HARTS, HartId, Trap, TrapCause};
-use profile_lists::decimal;
+use profile_labels::decimal;
 
 /// The greatest code of an exit.
 const MAX_CODE: u64 = 255;

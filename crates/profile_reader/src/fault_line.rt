@@ -4,7 +4,7 @@ ghost use Rattle.profile_reader.specs.ItemNames.{book_line};
 
 use crate::fault::BookFault;
 use coz_files::{PutAnswer, Sink};
-use file_steps::put_kind_at;
+use file_read::put_kind_at;
 
 /// Puts the name of the first wrong item of a profile's text and its offset in bytes, unless a put
 /// failed before. The caller puts the program's name before, and ends the line.

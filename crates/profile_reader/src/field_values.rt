@@ -4,7 +4,7 @@ ghost use Rattle.profile_reader.specs.Grammar.{prefix, is_field, value_in, has_n
 ghost use Rattle.profile_reader.specs.Reading.{Tells};
 
 use crate::fault::BookField;
-use profile_lists::decimal;
+use profile_labels::decimal;
 
 fn prefix(kind: BookField) -> &'static [u8]
     ensures { result.now ≡ prefix kind }

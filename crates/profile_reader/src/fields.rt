@@ -15,7 +15,7 @@ use crate::field_values::{number_of, value};
 use crate::order::{comes_after, goes_on, not_before};
 use crate::scan::{fault, next_item};
 use coz_types::{Digest, Ending, Label, MAX_SPEEDUP, Summary};
-use profile_lists::is_label;
+use profile_labels::is_label;
 
 /// The item that is these bytes. Err if another item stands there, or none.
 #[tactic(auto, unfolding(crate::specs::Reading::word_at))]

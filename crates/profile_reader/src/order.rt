@@ -4,7 +4,7 @@ ghost use Rattle.profile_reader.specs.Grammar.{comes_after, not_before, goes_on}
 ghost use Rattle.profile_reader.specs.Reading.{selected_of, speedup_of};
 
 use coz_types::{Label, Summary};
-use profile_lists::is_before;
+use profile_labels::is_before;
 
 /// Whether a name comes after the last one.
 pub fn comes_after(last: Option<&Label>, label: &[u8]) -> bool

@@ -6,8 +6,8 @@ ghost use Rattle.profile_reader.specs.Items.{items_of};
 ghost use Rattle.profile_reader.specs.Grammar.{book_fault, not_before};
 ghost use Rattle.profile_reader.specs.Reading.{profile_at};
 ghost use Rattle.failures.specs.Answers.{Gives};
-ghost use Rattle.profile_reader.specs.Told.{told};
-ghost use Rattle.profile_reader.specs.Judging.{IsJudged, IsRead};
+ghost use Rattle.profile_reader.specs.Parsed.{parsed_profile};
+ghost use Rattle.profile_reader.specs.Judging.{IsJudged, IsParsedAs};
 ghost use Rattle.profile_book.specs.declared.profile.Profile.{Profile};
 
 use crate::block_lines::parse_head;
@@ -42,7 +42,7 @@ pub fn read_profile(alloc: Global, bytes: &[u8]) -> Result<Profile, BookError>
     // What is read is within the ranges and orders, and the bytes are its text.
     ensures found { IfOk result (λ p. IsTextOf p bytes.now) }
     // A profile's text is read as this profile, unless memory runs out.
-    ensures only { (p : Profile) → IsTextOf p bytes.now → IsRead result p }
+    ensures only { (p : Profile) → IsTextOf p bytes.now → IsParsedAs result p }
 {
     parse_profile(alloc, bytes)
 }
@@ -54,7 +54,7 @@ pub fn texts_have_no_fault()
 
 /// A profile's text tells this profile.
 pub fn texts_tell_their_profile()
-    ensures { (bytes : List ℕ) (p : Profile) → IsTextOf p bytes → told bytes ≡ p }
+    ensures { (bytes : List ℕ) (p : Profile) → IsTextOf p bytes → parsed_profile bytes ≡ p }
 {}
 
 /// A label that may not follow the one before it is less than that one.

@@ -13,10 +13,10 @@ use Rattle.std.proofs.lemmas.Slice.Eq.{bytes_eq-Decides}
 use Rattle.coz_types.specs.Labels.{Text}
 use Rattle.coz_types.specs.declared.record.Summary.{Summary}
 use Rattle.profile_book.specs.declared.profile.Profile.{Profile}
-use Rattle.profile_lists.specs.Groups.{groups_by, groups, goes_with, have_one_label, join}
-use Rattle.profile_lists.proofs.FirstGroups.{joined, apart}
-use Rattle.profile_lists.proofs.LabelOrder.{label_cmp_total}
-use Rattle.profile_lists.specs.LabelOrder.{label_cmp}
+use Rattle.profile_labels.specs.Groups.{groups_by, groups, goes_with, have_one_label, join}
+use Rattle.profile_labels.proofs.FirstGroups.{joined, apart}
+use Rattle.profile_labels.proofs.LabelOrder.{label_cmp_total}
+use Rattle.profile_labels.specs.LabelOrder.{label_cmp}
 use Rattle.profile_join.specs.Parts.{speedups_in, first_group, blocks_of, is_baseline, unlabelled, CameAs, AreTimes, AllCameAs, IsKind, head_of}
 use Rattle.profile_join.proofs.Among.{Among, among_mapped, out_of_all, one_of, each_of}
 use Rattle.profile_shards.specs.Shards.{AreBlocks, blocks_at, profile_at}

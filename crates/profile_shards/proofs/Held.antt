@@ -11,8 +11,8 @@ use Rattle.std.proofs.lemmas.List.{map-append}
 use Rattle.std.proofs.lemmas.List.Elements.{filter-append}
 use Rattle.coz_types.specs.Labels.{Text}
 use Rattle.coz_types.specs.declared.record.Summary.{Summary}
-use Rattle.profile_lists.specs.LabelOrder.{label_cmp}
-use Rattle.profile_lists.proofs.LabelOrder.{label_cmp_total}
+use Rattle.profile_labels.specs.LabelOrder.{label_cmp}
+use Rattle.profile_labels.proofs.LabelOrder.{label_cmp_total}
 use Rattle.profile_join.specs.Order.{block_cmp, tag_before}
 use Rattle.profile_join.specs.Parts.{tag, tagged}
 use Rattle.profile_join.specs.declared.tagged.Tagged.{Tagged}

@@ -4,7 +4,7 @@ use Rattle.std.specs.List.Sorted.{ties}
 use Rattle.std.specs.Ordering.{is_lt, is_eq, ordering_reverse}
 use Rattle.std.specs.declared.cmp.Ordering.{Ordering}
 use Rattle.std.specs.declared.cmp.Ordering.TheVariants.{Less, Equal, Greater}
-use Rattle.profile_lists.proofs.Sorting.{IsFirst, Rises, self}
+use Rattle.profile_labels.proofs.Sorting.{IsFirst, Rises, self}
 use Rattle.profile_join.specs.Order.{block_cmp, tag_before, are_alike}
 use Rattle.profile_join.specs.Parts.{first_alike}
 use Rattle.profile_join.specs.declared.tagged.Tagged.{Tagged}

@@ -10,8 +10,8 @@ use Rattle.std.proofs.lemmas.List.{length-map}
 use Rattle.coz_types.specs.Labels.{Text}
 use Rattle.coz_types.specs.declared.record.Summary.{Summary}
 use Rattle.profile_book.specs.declared.profile.Profile.{Profile}
-use Rattle.profile_lists.specs.Sorted.{sorted_by}
-use Rattle.profile_lists.proofs.Sorting.{sorted_rises, sorted_keeps}
+use Rattle.profile_labels.specs.Sorted.{sorted_by}
+use Rattle.profile_labels.proofs.Sorting.{sorted_rises, sorted_keeps}
 use Rattle.profile_join.specs.Order.{tag_before}
 use Rattle.profile_join.specs.Parts.{tag, tagged, first_alike, in_order}
 use Rattle.profile_join.specs.declared.tagged.Tagged.{Tagged}

@@ -7,7 +7,7 @@ use Rattle.hart_schedule.specs.Keys.{Keys, key_of, with_key, without_key, IsEmpt
 use Rattle.machines.specs.Places.{change}
 use Rattle.machines.specs.declared.Fate.{Fate}
 use Rattle.machines.specs.declared.Fate.TheVariants.{Goes, Waits, Leaves, Sleeps, Ends}
-use Rattle.machines.specs.Shortened.{next_turn, runs_any, rest}
+use Rattle.machines.specs.Shortened.{next_turn, has_due_any, rest}
 use Rattle.machines.proofs.Maps.{change_same, change_other}
 use Rattle.machines.proofs.Turns.{IsNext, turn_is}
 use Rattle.run_engine.specs.Begin.{keys_at_rest}
@@ -91,13 +91,13 @@ next_is keys dues h v are due first =
     turn_is dues h v next
 
 -- some hart runs
-pub runs_some : (dues : List (Option ℕ)) (k v : ℕ) → get_or dues k None ≡ Some v → runs_any dues ≡ true
+pub runs_some : (dues : List (Option ℕ)) (k v : ℕ) → get_or dues k None ≡ Some v → has_due_any dues ≡ true
 runs_some [] k v has = absurd (let no : ◌≡◌ {A = Option ℕ} None (Some v) = has in cc)
 runs_some (Some u ∷ dues) k v has = refl
 runs_some (None ∷ dues) zero v has = absurd (let no : ◌≡◌ {A = Option ℕ} None (Some v) = has in cc)
 runs_some (None ∷ dues) (suc k) v has = runs_some dues k v has
 
-pub runs_none : (dues : List (Option ℕ)) → ((k : ℕ) → get_or dues k None ≡ None) → runs_any dues ≡ false
+pub runs_none : (dues : List (Option ℕ)) → ((k : ℕ) → get_or dues k None ≡ None) → has_due_any dues ≡ false
 runs_none [] none = refl
 runs_none (Some u ∷ dues) none = absurd (let no : ◌≡◌ {A = Option ℕ} (Some u) None = none 0 in cc)
 runs_none (None ∷ dues) none = runs_none dues (λ k. none (suc k))
@@ -107,20 +107,20 @@ runs_by true c up down = sym (up refl)
 runs_by false true up down = down refl
 runs_by false false up down = refl
 
-pub some_runs : (dues : List (Option ℕ)) → runs_any dues ≡ true → (k : ℕ) × (u : ℕ) × (get_or dues k None ≡ Some u)
+pub some_runs : (dues : List (Option ℕ)) → has_due_any dues ≡ true → (k : ℕ) × (u : ℕ) × (get_or dues k None ≡ Some u)
 some_runs [] e = absurd (let no : false ≡ true = e in cc)
 some_runs (None ∷ dues) e = let r = some_runs dues e in (suc r.0, r.1, r.2)
 some_runs (Some u ∷ dues) e = (0, u, refl)
 
 -- some hart runs in both or in none
-pub same_runs : (keys : Keys) (dues : List (Option ℕ)) → AreDues keys dues → runs_any keys ≡ runs_any dues
+pub same_runs : (keys : Keys) (dues : List (Option ℕ)) → AreDues keys dues → has_due_any keys ≡ has_due_any dues
 same_runs keys dues are =
-    runs_by (runs_any keys) (runs_any dues)
+    runs_by (has_due_any keys) (has_due_any dues)
     (λ e. let r = some_runs keys e in runs_some dues r.0 r.1 (sym (are r.0) ∙ r.2))
     (λ e. let r = some_runs dues e in runs_some keys r.0 r.1 (are r.0 ∙ r.2))
 
 -- a hart is found exactly if some hart runs
-pub runs_least : (keys : Keys) (found : Option HartId) → MatchOption found (IsEmpty keys) (λ hart. IsLeast keys hart.0) → is_some found ≡ runs_any keys
+pub runs_least : (keys : Keys) (found : Option HartId) → MatchOption found (IsEmpty keys) (λ hart. IsLeast keys hart.0) → is_some found ≡ has_due_any keys
 runs_least keys None empty = sym (runs_none keys empty)
 runs_least keys (Some hart) first = sym (runs_some keys hart.0 first.key first.has)
 

@@ -10,7 +10,7 @@ use Rattle.machines.specs.Guest.{Experiment, Retirement, cost, cut, goes_on, sta
 use Rattle.machines.specs.Places.{change, change_each, is_among, AllApart}
 use Rattle.machines.specs.Delayed.{is_any}
 use Rattle.machines.specs.Shortened as short
-use Rattle.machines.specs.Shortened.{Shortened, NetVisit, Turn, next_turn, move, move_by, retirement, leave, ending, begin, over_or, runs_any, unbegun, shortened}
+use Rattle.machines.specs.Shortened.{Shortened, NetVisit, Turn, next_turn, move, move_by, retirement, leave, ending, begin, over_or, has_due_any, unbegun, shortened}
 use Rattle.machines.proofs.Maps.{change_each_at}
 use Rattle.cost_table.specs.Costs.{cycles_of}
 use Rattle.line_index.specs.Index.{position_at}
@@ -48,7 +48,7 @@ abbrev pub moved_by : Experiment Guest → ℕ → Retirement Guest → Option �
 moved_by x h r moment due wakes starts dues visits retired count =
     let left : Shortened Guest = state due r.guest (change None h (λ _. moment) dues) visits (retired + 1) wakes starts None in
     over_or
-    (ending_after x r count (is_any (started_harts h r) || runs_any (change None h (λ _. moment) dues)) (retired + 1))
+    (ending_after x r count (is_any (started_harts h r) || has_due_any (change None h (λ _. moment) dues)) (retired + 1))
     left
     (begin x (started_harts h r) due left)
 
@@ -62,8 +62,8 @@ turned x time g dues visits h due retired wakes starts turn awake =
     let t : Turn = record { hart = h; due = due } in
     ap (λ (o : Option Turn). move_by x None o s) turn ∙ ap (λ b. if b then short.wake x t s else short.retire x t s) awake
 
-any_started : (b : Bool) (h : ℕ) (others : List ℕ) (keys dues : List (Option ℕ)) → runs_any keys ≡ runs_any dues
-    → (is_any (if b then h ∷ others else others) || runs_any dues) ≡ (b || is_any others || runs_any keys)
+any_started : (b : Bool) (h : ℕ) (others : List ℕ) (keys dues : List (Option ℕ)) → has_due_any keys ≡ has_due_any dues
+    → (is_any (if b then h ∷ others else others) || has_due_any dues) ≡ (b || is_any others || has_due_any keys)
 any_started true h others keys dues same = refl
 any_started false h others keys dues same = rw same refl
 
@@ -105,8 +105,8 @@ module _ (setting : Setting) (first : Guest) where
   x = experiment_from first (position_at setting.index.now) (point_of setting.points.now) setting.choice
 
   -- the ending of the machine is that of the code
-  ends_as : (g : Guest) (fate : Fate) (others : List ℕ) (h : ℕ) (keys dues : List (Option ℕ)) (count retired : ℕ) → runs_any keys ≡ runs_any dues
-      → ending_after x (outcome g fate others) count (is_any (started_harts h (outcome g fate others)) || runs_any dues) retired
+  ends_as : (g : Guest) (fate : Fate) (others : List ℕ) (h : ℕ) (keys dues : List (Option ℕ)) (count retired : ℕ) → has_due_any keys ≡ has_due_any dues
+      → ending_after x (outcome g fate others) count (is_any (started_harts h (outcome g fate others)) || has_due_any dues) retired
       ≡ ending_of fate (nat_le setting.choice.output_limit (length g.output)) (nat_le setting.choice.visit_limit count) (runs_after fate others keys) retired setting.choice.budget
   unfolding ending_after
   ends_as g fate others h keys dues count retired same =
@@ -143,7 +143,7 @@ module _ (setting : Setting) (first : Guest) where
 
     moved : move x (state_of engine dues) ≡ over_or e rest (begin x (started_by h fate others) due rest)
     moved =
-        let same : runs_any left ≡ runs_any (taken h fate dues) = same_runs left (taken h fate dues) dues_left in
+        let same : has_due_any left ≡ has_due_any (taken h fate dues) = same_runs left (taken h fate dues) dues_left in
         ap (λ (o : Option Ending). move x (state engine.time engine.guest dues (map net_of engine.visits.kept) engine.retired engine.wakes engine.starts o)) m.goes
         ∙ turned x engine.time engine.guest dues (map net_of engine.visits.kept) h due engine.retired engine.wakes engine.starts (next_is engine.schedule dues h due are m.turn m.first) m.was_awake
         ∙ ap (λ (r : Retirement Guest). moved_by x h r (short.rest r.fate) due engine.wakes engine.starts dues net engine.retired (length net)) (sym m.retires)

@@ -5,7 +5,7 @@ use Rattle.coz_types.specs.declared.ending.Ending.TheVariants.{OutputFull, Visit
 use Rattle.machines.specs.declared.Fate.{Fate}
 use Rattle.machines.specs.Guest.{goes_on, own_ending, ending_if, first_ending}
 use Rattle.machines.specs.Delayed.{is_any}
-use Rattle.machines.specs.Shortened.{runs_any}
+use Rattle.machines.specs.Shortened.{has_due_any}
 use Rattle.hart_schedule.specs.Keys.{Keys}
 
 -- how a run ends with a retirement of this fate: by whether the output and the visits are full,
@@ -23,4 +23,4 @@ ending_of fate output_full visits_full some_hart_runs retired budget =
 -- some hart runs after a retirement of this fate: the retiring one, one that it made or woke,
 -- or one of these others
 abbrev pub runs_after : Fate → List ℕ → Keys → Bool
-runs_after fate started others = goes_on fate || is_any started || runs_any others
+runs_after fate started others = goes_on fate || is_any started || has_due_any others

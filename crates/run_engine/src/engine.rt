@@ -4,7 +4,7 @@ ghost use Rattle.coz_types.specs.declared.TheConstants.{MAX_SPEEDUP, MAX_OUTPUT,
 ghost use Rattle.hart_schedule.specs.Keys.{key_of, without_key, IsEmpty, IsLeast};
 ghost use Rattle.machines.specs.Delayed.{is_any};
 ghost use Rattle.machines.specs.Guest.{goes_on};
-ghost use Rattle.machines.specs.Shortened.{runs_any};
+ghost use Rattle.machines.specs.Shortened.{has_due_any};
 ghost use Rattle.progress_points.specs.Points.{point_of};
 ghost use Rattle.guest_calls.specs.Calls.{retirement};
 ghost use Rattle.guest_calls.specs.Guest.{making, is_running, is_sleeping, pc_of, IsMade};
@@ -184,8 +184,8 @@ pub fn has_any(started: &HartList) -> bool
 }
 
 /// Whether some hart is in the schedule.
-fn runs_any(schedule: &Schedule) -> bool
-    ensures { result ≡ runs_any schedule.now }
+fn has_due_any(schedule: &Schedule) -> bool
+    ensures { result ≡ has_due_any schedule.now }
 {
     schedule.least().is_some()
 }
@@ -519,7 +519,7 @@ impl<'a> Engine<'a> {
     {
         match fate {
             Fate::Goes => true,
-            _ => has_any(&self.started) || runs_any(&self.schedule),
+            _ => has_any(&self.started) || has_due_any(&self.schedule),
         }
     }
 

@@ -1,12 +1,12 @@
-//! Tests of `critical_path` and `critical_chains`: the heaviest chain of a run, and checks of chains.
+//! Tests of `critical_path` and `path_chains`: the heaviest chain of a run, and checks of chains.
 ghost use Rattle.std.specs.Prelude.{IfOk};
-ghost use Rattle.critical_chains.specs.Path.{Linked};
+ghost use Rattle.path_chains.specs.Path.{Linked};
 
 use crate::checks::check_equal;
 use crate::guests::{Check, Program, SMALL, WAIT, check_source};
 use coz_types::{HartId, Image};
-use critical_chains::{Event, Trace, check, longest};
 use critical_path::walk;
+use path_chains::{Event, Trace, check, longest};
 use std::alloc::{AllocError, Global};
 use std::process::Abort;
 use std::test::Fail;

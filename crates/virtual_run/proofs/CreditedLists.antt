@@ -5,7 +5,7 @@ use Rattle.std.proofs.lemmas.List.{drop_all}
 use Rattle.std.proofs.Math.Seq.{drop-cons}
 use Rattle.coz_types.specs.declared.HartId.{HartId}
 use Rattle.machines.specs.Places.{change, change_each, change_from, is_among}
-use Rattle.machines.specs.Delayed.{Account, Load, Hart, total, idle_hart, is_running, run, credit, raise_hart}
+use Rattle.machines.specs.Delayed.{Account, Load, Hart, total, idle_hart, has_load, run, credit, raise_hart}
 use Rattle.delay_credits.specs.Ticks.{hart_after_ticks}
 use Rattle.machines.proofs.Maps.{change_same, change_other, change_all_at}
 use Rattle.delay_credits.specs.Delays.{Delays, hart_at, at, with_start, with_raise, with_credit}
@@ -41,11 +41,11 @@ change_length zero f (hart ∷ harts) below = refl
 change_length (suc h) f (hart ∷ harts) below = let less : h < length harts = omega arith in ap suc (change_length h f harts less)
 
 -- a change after which each hart runs as before
-still_by : (h k : ℕ) (f : Hart → Hart) (harts : List Hart) → ((hart : Hart) → is_running (f hart) ≡ is_running hart) → (h ≡ k) ⊎ (h ≡ k → ⊥) → is_running (get_or (change idle_hart h f harts) k idle_hart) ≡ is_running (get_or harts k idle_hart)
-still_by h k f harts same (inl is) = subst (λ i. is_running (get_or (change idle_hart h f harts) i idle_hart) ≡ is_running (get_or harts i idle_hart)) is (ap is_running (change_same idle_hart h f harts) ∙ same (get_or harts h idle_hart))
-still_by h k f harts same (inr n) = ap is_running (change_other idle_hart h k f harts n)
+still_by : (h k : ℕ) (f : Hart → Hart) (harts : List Hart) → ((hart : Hart) → has_load (f hart) ≡ has_load hart) → (h ≡ k) ⊎ (h ≡ k → ⊥) → has_load (get_or (change idle_hart h f harts) k idle_hart) ≡ has_load (get_or harts k idle_hart)
+still_by h k f harts same (inl is) = subst (λ i. has_load (get_or (change idle_hart h f harts) i idle_hart) ≡ has_load (get_or harts i idle_hart)) is (ap has_load (change_same idle_hart h f harts) ∙ same (get_or harts h idle_hart))
+still_by h k f harts same (inr n) = ap has_load (change_other idle_hart h k f harts n)
 
-still : (h k : ℕ) (f : Hart → Hart) (harts : List Hart) → ((hart : Hart) → is_running (f hart) ≡ is_running hart) → is_running (get_or (change idle_hart h f harts) k idle_hart) ≡ is_running (get_or harts k idle_hart)
+still : (h k : ℕ) (f : Hart → Hart) (harts : List Hart) → ((hart : Hart) → has_load (f hart) ≡ has_load hart) → has_load (get_or (change idle_hart h f harts) k idle_hart) ≡ has_load (get_or harts k idle_hart)
 still h k f harts same = still_by h k f harts same (cases_eq h k)
 
 -- no ticks at once
@@ -122,14 +122,14 @@ from_length : (f : ℕ → Hart → Hart) (i : ℕ) (harts : List Hart) → leng
 from_length f i [] = refl
 from_length f i (hart ∷ harts) = ap suc (from_length f (suc i) harts)
 
-runs_raised : (ticks h k : ℕ) (hart : Hart) → is_running (raise_hart ticks h k hart) ≡ is_running hart
+runs_raised : (ticks h k : ℕ) (hart : Hart) → has_load (raise_hart ticks h k hart) ≡ has_load hart
 runs_raised ticks h k hart = go hart.account hart.load
   where
-    by : (a : Account) (l : Load) (b : Bool) → is_running (if b then record { account = record a { own = a.own + ticks }; load = Some l } else record { account = a; load = Some (record l { pause = l.pause + ticks }) }) ≡ true
+    by : (a : Account) (l : Load) (b : Bool) → has_load (if b then record { account = record a { own = a.own + ticks }; load = Some l } else record { account = a; load = Some (record l { pause = l.pause + ticks }) }) ≡ true
     by a l true = refl
     by a l false = refl
 
-    go : (a : Account) (o : Option Load) → is_running (raise_hart ticks h k (record { account = a; load = o })) ≡ is_some o
+    go : (a : Account) (o : Option Load) → has_load (raise_hart ticks h k (record { account = a; load = o })) ≡ is_some o
     go a None = refl
     go a (Some l) = by a l (k == h)
 
@@ -141,7 +141,7 @@ raised_one ticks h now goal hs c small b =
           let r : Runs c k = b.run k (among_rest h k hs among) in
           record {
             below = rw (from_length (raise_hart (ticks h) h) 0 c.harts) r.below;
-            runs = ap is_running (change_all_at idle_hart (raise_hart (ticks h) h) (λ i. refl) k c.harts) ∙ runs_raised (ticks h) h k (hart_at c k) ∙ r.runs;
+            runs = ap has_load (change_all_at idle_hart (raise_hart (ticks h) h) (λ i. refl) k c.harts) ∙ runs_raised (ticks h) h k (hart_at c k) ∙ r.runs;
           };
       now = b.now;
       few = let f : c.raised + 3800 * suc (length hs) ≤ 10 ^ 17 = b.few in omega arith;
@@ -164,15 +164,15 @@ raises_latest ticks [] c = refl
 raises_latest ticks (h ∷ hs) c = raises_latest ticks hs (with_one_raise (ticks h) h c)
 
 -- harts that were started run
-runs_each : (hs : List ℕ) (k : ℕ) (harts : List Hart) → (is_among k hs ≡ true) ⊎ (is_running (get_or harts k idle_hart) ≡ true) → is_running (get_or (change_each idle_hart hs (λ _. run 0) harts) k idle_hart) ≡ true
+runs_each : (hs : List ℕ) (k : ℕ) (harts : List Hart) → (is_among k hs ≡ true) ⊎ (has_load (get_or harts k idle_hart) ≡ true) → has_load (get_or (change_each idle_hart hs (λ _. run 0) harts) k idle_hart) ≡ true
 runs_each [] k harts (inl e) = absurd (let no : false ≡ true = e in cc)
 runs_each [] k harts (inr e) = e
 runs_each (h ∷ hs) k harts given = runs_each hs k (change idle_hart h (run 0) harts) (go (cases_eq h k) given)
   where
-    go : (h ≡ k) ⊎ (h ≡ k → ⊥) → (is_among k (h ∷ hs) ≡ true) ⊎ (is_running (get_or harts k idle_hart) ≡ true) → (is_among k hs ≡ true) ⊎ (is_running (get_or (change idle_hart h (run 0) harts) k idle_hart) ≡ true)
-    go (inl same) given = inr (subst (λ i. is_running (get_or (change idle_hart h (run 0) harts) i idle_hart) ≡ true) same (ap is_running (change_same idle_hart h (run 0) harts)))
+    go : (h ≡ k) ⊎ (h ≡ k → ⊥) → (is_among k (h ∷ hs) ≡ true) ⊎ (has_load (get_or harts k idle_hart) ≡ true) → (is_among k hs ≡ true) ⊎ (has_load (get_or (change idle_hart h (run 0) harts) k idle_hart) ≡ true)
+    go (inl same) given = inr (subst (λ i. has_load (get_or (change idle_hart h (run 0) harts) i idle_hart) ≡ true) same (ap has_load (change_same idle_hart h (run 0) harts)))
     go (inr n) (inl e) = inl (rw (ne_eqb k h (λ s. n (sym s))) at e)
-    go (inr n) (inr e) = inr (ap is_running (change_other idle_hart h k (run 0) harts n) ∙ e)
+    go (inr n) (inr e) = inr (ap has_load (change_other idle_hart h k (run 0) harts n) ∙ e)
 
 pub starts_run : (hs : List ℕ) (c : Delays) → AllBelow c hs → AllRun (with_starts hs c) hs
 starts_run hs c below k among = record { below = rw (credits_length hs (λ _. run 0) c.harts below) (below k among); runs = runs_each hs k c.harts (inl among) }

@@ -18,7 +18,7 @@ use Rattle.machines.specs.declared.Fate.{Fate}
 use Rattle.machines.specs.declared.Fate.TheVariants.{Goes, Waits, Leaves, Sleeps, Ends}
 use Rattle.machines.specs.Places.{is_among}
 use Rattle.machines.specs.Guest.{Experiment, Retirement, IsLawful, enough, goes_on, own_ending, ending_if, first_ending, started_harts, is_timed}
-use Rattle.machines.specs.Delayed.{Account, Load, Hart, Delayed, Visit, total, idle_hart, is_running, run as run_from, begin, unbegun, events, after, delayed}
+use Rattle.machines.specs.Delayed.{Account, Load, Hart, Delayed, Visit, total, idle_hart, has_load, run as run_from, begin, unbegun, events, after, delayed}
 use Rattle.machines.specs.Shortened.{Shortened, Turn, shortened}
 use Rattle.machines.specs.Shortened as short
 use Rattle.machines.specs.Agreement.{LoadAgrees, Agrees}
@@ -216,7 +216,7 @@ module _ (image : ImageParts) (input : List ℕ) (setting : Setting) (engine : E
     pub is_later : credits.latest ≤ later_now
     is_later = steps.later x IsOrderly law (events_of engine) t later_now credits next
 
-    pub hart_runs : is_running (hart_at credits h) ≡ true
+    pub hart_runs : has_load (hart_at credits h) ≡ true
     hart_runs = steps.running x IsOrderly law (events_of engine) t later_now credits next
 
     pub hart_unpaused : pause_of (hart_at (at later_now credits) h) ≡ 0

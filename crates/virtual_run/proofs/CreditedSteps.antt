@@ -5,7 +5,7 @@ use Rattle.coz_types.specs.declared.ending.Ending.{Ending}
 use Rattle.machines.specs.declared.Fate.{Fate}
 use Rattle.machines.specs.declared.Fate.TheVariants.{Goes, Waits, Leaves, Sleeps, Ends}
 use Rattle.machines.specs.Guest.{Experiment, Retirement, IsLawful, started_harts, is_timed}
-use Rattle.machines.specs.Delayed.{Account, Load, Hart, Visit, Delayed, total, idle_hart, is_ready, is_running, account_of, over_or, begin, retirement, leave, give_credit, ending, retire, wake}
+use Rattle.machines.specs.Delayed.{Account, Load, Hart, Visit, Delayed, total, idle_hart, is_ready, has_load, account_of, over_or, begin, retirement, leave, give_credit, ending, retire, wake}
 use Rattle.machines.specs.Shortened.{Shortened, Turn, next_turn, shortened}
 use Rattle.machines.specs.Agreement.{Agrees}
 use Rattle.machines.specs.Steps.{Passes, jump}
@@ -26,10 +26,10 @@ use Rattle.virtual_run.proofs.CreditedBounds.{begin_starts, credit_starts}
 use Rattle.virtual_run.proofs.Credited.{rest_of, with_rest_is, holds_jump, holds_leave, holds_credit, holds_begin}
 
 -- a hart without its work
-pub runs_held : (hart : Hart) → is_running (without_work hart) ≡ is_running hart
+pub runs_held : (hart : Hart) → has_load (without_work hart) ≡ has_load hart
 runs_held hart = go hart.account hart.load
   where
-    go : (a : Account) (o : Option Load) → is_running (without_work (record { account = a; load = o })) ≡ is_some o
+    go : (a : Account) (o : Option Load) → has_load (without_work (record { account = a; load = o })) ≡ is_some o
     go a None = refl
     go a (Some l) = refl
 
@@ -147,10 +147,10 @@ module _ {G : Type 0} (x : Experiment G) (Good : G → Type 0) (law : IsLawful x
     lives = (goes_on_at x Good law n (sym (agrees x Good law n).ending ∙ next.goes)).lives
 
     -- the hart counts as running, if it sleeps too
-    pub running : is_running (hart_at c t.hart) ≡ true
+    pub running : has_load (hart_at c t.hart) ≡ true
     running =
         let this : Hart = get_or d.harts t.hart idle_hart in
-        ap is_running (next.holds.harts t.hart)
+        ap has_load (next.holds.harts t.hart)
         ∙ runs_held this
         ∙ alike d.now d.delay this.account this.load (get_or s.dues t.hart None) ((agrees x Good law n).harts t.hart)
         ∙ ap is_some (turn_has s.dues t next.turn)
@@ -182,19 +182,19 @@ module _ {G : Type 0} (x : Experiment G) (Good : G → Type 0) (law : IsLawful x
     timed_here : is_timed x.guest s.guest t.hart ≡ true
     timed_here = lives.running t.hart ∙ ap is_some (turn_has s.dues t next.turn)
 
-    idle_by : (fate : Fate) (i : ℕ) → is_timed x.guest s.guest i ≡ false → (t.hart ≡ i) ⊎ (t.hart ≡ i → ⊥) → is_running (hart_at (with_rest t.hart fate now c) i) ≡ false
+    idle_by : (fate : Fate) (i : ℕ) → is_timed x.guest s.guest i ≡ false → (t.hart ≡ i) ⊎ (t.hart ≡ i → ⊥) → has_load (hart_at (with_rest t.hart fate now c) i) ≡ false
     idle_by fate i none (inl same) = absurd (let no : true ≡ false = sym timed_here ∙ ap (is_timed x.guest s.guest) same ∙ none in cc)
     idle_by fate i none (inr other) =
         let that : Hart = get_or (jump k d).harts i idle_hart in
-        ap (λ (o : Delays). is_running (hart_at o i)) (with_rest_is t.hart fate now c)
-        ∙ ap is_running (change_other idle_hart t.hart i (rest_of fate) (at now c).harts other ∙ held.harts i)
+        ap (λ (o : Delays). has_load (hart_at o i)) (with_rest_is t.hart fate now c)
+        ∙ ap has_load (change_other idle_hart t.hart i (rest_of fate) (at now c).harts other ∙ held.harts i)
         ∙ runs_held that
         ∙ alike (jump k d).now (jump k d).delay that.account that.load (get_or s.dues i None) (both.harts i)
         ∙ sym (lives.running i)
         ∙ none
 
     -- a hart that neither runs nor sleeps doesn't run after it
-    pub idle : (fate : Fate) (i : ℕ) → is_timed x.guest s.guest i ≡ false → is_running (hart_at (with_rest t.hart fate now c) i) ≡ false
+    pub idle : (fate : Fate) (i : ℕ) → is_timed x.guest s.guest i ≡ false → has_load (hart_at (with_rest t.hart fate now c) i) ≡ false
     idle fate i none = idle_by fate i none (cases_eq t.hart i)
 
     jump_goes : (jump k d).ending ≡ None

@@ -6,7 +6,7 @@ use Rattle.cost_table.specs.Costs.{cycles_of}
 use Rattle.hart_schedule.specs.Keys.{Keys, key_of}
 use Rattle.machines.specs.Places.{is_among, AllApart}
 use Rattle.machines.specs.Guest.{Experiment, IsLawful, cut}
-use Rattle.machines.specs.Delayed.{Delayed, Hart, idle_hart, is_running, raise}
+use Rattle.machines.specs.Delayed.{Delayed, Hart, idle_hart, has_load, raise}
 use Rattle.machines.specs.Shortened.{Shortened, shortened}
 use Rattle.machines.specs.Standing.{standing}
 use Rattle.machines.specs.Lead.{Before, at_speedup, before, raise_counted}
@@ -102,7 +102,7 @@ module _ (image : ImageParts) (input : List ℕ) (setting : Setting) (engine : E
       let hart : Hart = get_or d.harts k idle_hart in
       record {
         below = subst (λ (n : ℕ). k < n) (p.reached.room ∙ sym p.room) (has_place engine.schedule k due.0 due.1);
-        runs = ap is_running (p.holds.harts k) ∙ runs_held hart
+        runs = ap has_load (p.holds.harts k) ∙ runs_held hart
             ∙ alike d.now d.delay hart.account hart.load (get_or (shortened x (events_of engine)).dues k None) ((agree image input setting engine credits now p).harts k)
             ∙ ap is_some (sym (p.reached.reached.dues k)) ∙ due_here k here;
       }

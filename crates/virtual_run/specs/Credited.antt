@@ -6,7 +6,7 @@ use Rattle.cost_table.specs.Costs.{cycles_of, raise_of}
 use Rattle.machines.specs.declared.Fate.{Fate}
 use Rattle.machines.specs.Guest.{goes_on, is_sleeper}
 use Rattle.machines.specs.Places.{change_each, change_from, is_among}
-use Rattle.machines.specs.Delayed.{Delayed, Hart, idle_hart, is_running, total, run, credit, raise_hart}
+use Rattle.machines.specs.Delayed.{Delayed, Hart, idle_hart, has_load, total, run, credit, raise_hart}
 use Rattle.delay_credits.specs.Delays.{Delays, hart_at, pause_of, at, with_start, with_stop}
 use Rattle.delay_credits.specs.Ticks.{without_work}
 use Rattle.guest_calls.specs.Guest.{Guest, IsMade}
@@ -50,11 +50,11 @@ with_raises ticks (h ∷ hs) c = with_raises ticks hs (with_one_raise (ticks h) 
 -- a hart of these credits runs, or doesn't
 pub record Runs (c : Delays) (k : ℕ) : Type 0 where
   pub below : k < length c.harts
-  pub runs : is_running (hart_at c k) ≡ true
+  pub runs : has_load (hart_at c k) ≡ true
 
 pub record Rests (c : Delays) (k : ℕ) : Type 0 where
   pub below : k < length c.harts
-  pub rests : is_running (hart_at c k) ≡ false
+  pub rests : has_load (hart_at c k) ≡ false
 
 -- each of these harts runs, or none does, or each is one of these credits'
 abbrev pub AllRun : Delays → List ℕ → Type 0
@@ -127,7 +127,7 @@ pub record CanAccountRetirement (c : Delays) (engine : Engine) (hart : ℕ) (fat
     (now : ℕ) : Type 0 where
   pub below : hart < length c.harts
   pub later : c.latest ≤ now
-  pub running : is_running (hart_at c hart) ≡ true
+  pub running : has_load (hart_at c hart) ≡ true
   pub unpaused : pause_of (hart_at (at now c) hart) ≡ 0
   pub can : engine.ending ≡ None
       → CanBegin (with_rest hart fate now c) engine.guest hart fate engine.started engine.selected

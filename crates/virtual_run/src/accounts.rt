@@ -3,7 +3,7 @@
 ghost use Rattle.std.specs.Prelude.{◌≡◌, ◌+◌, ◌*◌, ◌^◌, ◌≤◌, ◌<◌, [], ◌∷◌, length, map, None, if◌then◌else◌, IsTrue};
 ghost use Rattle.coz_types.specs.declared.TheConstants.{MAX_SPEEDUP};
 ghost use Rattle.cost_table.specs.declared.TheConstants.{MAX_RAISE};
-ghost use Rattle.machines.specs.Delayed.{is_running, total};
+ghost use Rattle.machines.specs.Delayed.{has_load, total};
 ghost use Rattle.machines.specs.Guest.{goes_on};
 ghost use Rattle.delay_credits.specs.Delays.{hart_at, pause_of, at, with_stop};
 ghost use Rattle.guest_calls.specs.Guest.{IsMade};
@@ -152,7 +152,7 @@ fn go_on(credits: &mut Credits, engine: &Engine, hart: HartId, speedup: u8, now:
 fn stop_retired(credits: &mut Credits, hart: HartId, fate: Fate, now: Tick)
     requires below { hart.0 < length credits.old.harts }
     requires later { credits.old.latest ≤ now }
-    requires running { IsTrue (is_running (hart_at credits.old hart.0)) }
+    requires running { IsTrue (has_load (hart_at credits.old hart.0)) }
     requires unpaused { pause_of (hart_at (at now credits.old) hart.0) ≡ 0 }
     ensures { credits.new ≡ with_rest hart.0 fate now credits.old }
 {
@@ -191,7 +191,7 @@ fn account_retirement(
 )
     requires below { retired.hart.0 < length credits.old.harts }
     requires later { credits.old.latest ≤ now }
-    requires running { IsTrue (is_running (hart_at credits.old retired.hart.0)) }
+    requires running { IsTrue (has_load (hart_at credits.old retired.hart.0)) }
     requires unpaused { pause_of (hart_at (at now credits.old) retired.hart.0) ≡ 0 }
     requires can { engine.now.ending ≡ None →
         CanBegin (with_rest retired.hart.0 retired.fate now credits.old)
@@ -213,7 +213,7 @@ fn account_retirement(
 fn account_plain(credits: &mut Credits, engine: &Engine, hart: HartId, speedup: u8, now: Tick)
     requires below { hart.0 < length credits.old.harts }
     requires later { credits.old.latest ≤ now }
-    requires running { IsTrue (is_running (hart_at credits.old hart.0)) }
+    requires running { IsTrue (has_load (hart_at credits.old hart.0)) }
     requires unpaused { pause_of (hart_at (at now credits.old) hart.0) ≡ 0 }
     requires can { engine.now.ending ≡ None →
         CanBegin (with_rest hart.0 Fate.Goes now credits.old)

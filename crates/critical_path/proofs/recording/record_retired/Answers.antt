@@ -1,7 +1,7 @@
 use Rattle.std.proofs.Common.{◌≡◌, ℕ, ◌∙◌, if◌then◌else◌, true, List, ap, subst}
 use Rattle.machines.specs.Places.{is_among}
-use Rattle.hart_causes.specs.declared.cause.Cause.{Cause}
-use Rattle.hart_causes.specs.Causes.{cause_at, started_with}
+use Rattle.path_causes.specs.declared.cause.Cause.{Cause}
+use Rattle.path_causes.specs.Causes.{cause_at, started_with}
 use Rattle.critical_path.specs.Recording.{ticks_from}
 use Rattle.critical_path.proofs.Begun.{all_turned, other_started, self_started}
 use Rattle.critical_path.proofs.recording.record_retired.Goals as goal

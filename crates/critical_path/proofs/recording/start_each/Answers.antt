@@ -1,8 +1,8 @@
 use Rattle.std.proofs.Common.{◌≡◌, ℕ, ◌+◌, ◌<◌, ◌∙◌, ◌==◌, if◌then◌else◌, true, List, ap, sym, subst, map, drop, length, arith, get_or}
 use Rattle.coz_types.specs.declared.HartId.{HartId}
 use Rattle.machines.specs.Places.{is_among}
-use Rattle.hart_causes.specs.declared.cause.Cause.{Cause}
-use Rattle.hart_causes.specs.Causes.{cause_at, started_with}
+use Rattle.path_causes.specs.declared.cause.Cause.{Cause}
+use Rattle.path_causes.specs.Causes.{cause_at, started_with}
 use Rattle.critical_path.specs.Recording.{ticks_from}
 use Rattle.critical_path.proofs.Begun.{set_at, begun_step, still_among, self_among, numbers_from}
 use Rattle.critical_path.proofs.recording.start_each.Goals as goal

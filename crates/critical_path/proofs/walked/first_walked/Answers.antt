@@ -1,6 +1,6 @@
 use Rattle.std.proofs.Common.{ℕ, ◌<◌, ◌==◌, ◌∙◌, if◌then◌else◌, List, length, ap, arith}
-use Rattle.hart_causes.specs.declared.cause.Cause.{Cause}
-use Rattle.hart_causes.specs.Causes.{no_cause, cause_at}
+use Rattle.path_causes.specs.declared.cause.Cause.{Cause}
+use Rattle.path_causes.specs.Causes.{no_cause, cause_at}
 use Rattle.critical_path.proofs.Begun.{set_at, none_at}
 use Rattle.critical_path.proofs.walked.first_walked.Goals as goal
 

@@ -3,7 +3,7 @@ use Rattle.machines.specs.Records.{shortened_record}
 use Rattle.line_index.specs.Index.{position_at}
 use Rattle.progress_points.specs.Points.{point_of}
 use Rattle.guest_calls.specs.Guest.{pc_of}
-use Rattle.critical_chains.specs.Path.{event_at, last_of, Linked}
+use Rattle.path_chains.specs.Path.{event_at, last_of, Linked}
 use Rattle.critical_path.specs.Events.{events_of, AreBefores}
 use Rattle.critical_path.proofs.Walking.{plain_traced}
 use Rattle.critical_path.proofs.walked.walk.Goals as goal

@@ -3,10 +3,10 @@ use Rattle.std.specs.Global.{Vec}
 use Rattle.std.specs.Prelude.{codes, is_some}
 use Rattle.std.proofs.lemmas.Result.{IfOk-weaker}
 use Rattle.elf_load.specs.Loaded.{section}
-use Rattle.line_unit.specs.Unit.{unit}
-use Rattle.line_unit.specs.declared.UnitError.{UnitError}
-use Rattle.function_lines.specs.ByFunction.{IsByFunction, IsLongUnit, IsRead, IsUnit, IsUnitCause}
-use Rattle.line_marks.specs.Marks.{marks_of}
+use Rattle.line_write.specs.Unit.{unit}
+use Rattle.line_write.specs.declared.UnitError.{UnitError}
+use Rattle.function_lines.specs.ByFunction.{IsByFunction, IsLongUnit, ReadsWithoutFault, IsUnit, IsUnitCause}
+use Rattle.line_remap.specs.Marks.{marks_of}
 use Rattle.function_lines.proofs.Soundness.{sound}
 use Rattle.function_lines.proofs.Whole.{long_unit, marks_within, unit_lines, unit_read}
 use Rattle.function_lines.proofs.file.by_marks.Goals as goal
@@ -21,7 +21,7 @@ returns-in-Ok-clause-reads c =
     let marks = marks_of c.args.marks.now in
     let bytes = c.deref-in-Ok.result.now in
     let is_unit : IsUnit image index marks bytes = subst (λ (bs : List ℕ). IsUnit image index marks bs) (sym c.deref-in-Ok.ensures.value) c.in-Ok.ensures.unit in
-    IfOk-weaker c.file_of.result (λ (v : Vec ℕ). section v.items (codes ".debug_line") ≡ Some bytes) (λ (v : Vec ℕ). IsRead v.items)
+    IfOk-weaker c.file_of.result (λ (v : Vec ℕ). section v.items (codes ".debug_line") ≡ Some bytes) (λ (v : Vec ℕ). ReadsWithoutFault v.items)
     (λ v is. unit_read image index marks v.items bytes is_unit is) c.file_of.ensures.lines
 
 pub returns-in-Ok-clause-lines : goal.returns-in-Ok-clause-lines

@@ -3,7 +3,7 @@ use Rattle.std.specs.Global.{Vec}
 use Rattle.std.specs.Prelude.{All}
 use Rattle.std.proofs.lemmas.Result.{IfOk-weaker}
 use Rattle.coz_types.specs.declared.image.Area.{Area}
-use Rattle.code_symbols.specs.declared.symbols.Symbol.{Symbol}
+use Rattle.elf_symbols.specs.declared.symbols.Symbol.{Symbol}
 use Rattle.function_sequences.specs.Sequences.{IsNamed, falling, functions_in, names_in}
 use Rattle.function_sequences.specs.Functions.{functions}
 use Rattle.function_lines.proofs.Named.{functions_named}

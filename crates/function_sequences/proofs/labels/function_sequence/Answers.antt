@@ -2,11 +2,11 @@ use Rattle.std.proofs.Common.{◌≡◌, ℕ, List, ◌∷◌, ◌++◌, Option,
 use Rattle.std.specs.Global.{Vec}
 use Rattle.coz_types.specs.Labels.{written}
 use Rattle.line_index.specs.Lines.{Line}
-use Rattle.line_unit.specs.declared.Sequence.{Sequence}
-use Rattle.line_unit.specs.Lines.{line_of_sequence}
-use Rattle.line_unit.specs.Unit.{view}
-use Rattle.line_marks.specs.declared.location.Location.{Location}
-use Rattle.line_marks.specs.Locations.{lines_of}
+use Rattle.line_write.specs.declared.Sequence.{Sequence}
+use Rattle.line_write.specs.Lines.{line_of_sequence}
+use Rattle.line_write.specs.Unit.{view}
+use Rattle.line_remap.specs.declared.location.Location.{Location}
+use Rattle.line_remap.specs.Locations.{lines_of}
 use Rattle.function_sequences.specs.Labels.{labelled}
 use Rattle.function_sequences.proofs.labels.function_sequence.Goals as goal
 

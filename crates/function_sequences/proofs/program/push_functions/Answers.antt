@@ -1,9 +1,9 @@
 use Rattle.std.proofs.Common.{get_or}
 use Rattle.std.proofs.lemmas.List.{get_or_default}
-use Rattle.line_unit.specs.Unit.{views}
-use Rattle.code_symbols.specs.declared.symbols.Symbol.{Symbol}
+use Rattle.line_write.specs.Unit.{views}
+use Rattle.elf_symbols.specs.declared.symbols.Symbol.{Symbol}
 use Rattle.function_sequences.specs.Sequences.{IsOfFunction}
-use Rattle.line_marks.proofs.Adding.{adds_next}
+use Rattle.line_remap.proofs.Adding.{adds_next}
 use Rattle.function_sequences.proofs.program.push_functions.Goals as goal
 
 abbrev zero_symbol : Symbol

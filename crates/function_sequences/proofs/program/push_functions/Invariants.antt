@@ -1,7 +1,7 @@
 use Rattle.std.proofs.Common.{take}
 use Rattle.std.specs.List.{AllZip}
-use Rattle.line_unit.specs.Unit.{views}
-use Rattle.line_marks.specs.Runs.{Adds}
+use Rattle.line_write.specs.Unit.{views}
+use Rattle.line_remap.specs.Runs.{Adds}
 use Rattle.function_sequences.specs.Sequences.{IsOfFunction}
 use Rattle.function_sequences.proofs.program.push_functions.Given as goal
 

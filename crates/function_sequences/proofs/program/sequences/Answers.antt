@@ -1,8 +1,8 @@
 use Rattle.std.proofs.Common.{ap, subst, ◌∙◌}
-use Rattle.line_unit.specs.Unit.{views}
-use Rattle.line_marks.specs.Marks.{marks_of}
-use Rattle.line_marks.specs.Runs.{Adds, AreKept}
-use Rattle.code_symbols.specs.Symbols.{ended}
+use Rattle.line_write.specs.Unit.{views}
+use Rattle.line_remap.specs.Marks.{marks_of}
+use Rattle.line_remap.specs.Runs.{Adds, AreKept}
+use Rattle.elf_symbols.specs.Symbols.{ended}
 use Rattle.function_sequences.specs.Sequences.{AreFunctions, falling, functions_in}
 use Rattle.function_sequences.proofs.Joined.{joined, joined_writable}
 use Rattle.function_sequences.proofs.program.sequences.Goals as goal

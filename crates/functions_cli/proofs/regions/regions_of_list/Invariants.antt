@@ -2,8 +2,8 @@ use Rattle.std.proofs.Common.{◌≡◌, ◌<◌}
 use Rattle.std.specs.Prelude.{All}
 use Rattle.std.specs.Option.{option_copied}
 use Rattle.experiment_plan.specs.Lists.{length_left, pieces, pieces_left}
-use Rattle.region_lines.specs.declared.lines.Region.{Region}
-use Rattle.region_lines.specs.Regions.{regions_of}
+use Rattle.line_regions.specs.declared.lines.Region.{Region}
+use Rattle.line_regions.specs.Regions.{regions_of}
 use Rattle.functions_cli.specs.Regions.{regions_of_pieces}
 use Rattle.functions_cli.proofs.Naming.{onto}
 use Rattle.functions_cli.proofs.regions.regions_of_list.Given as goal

@@ -4,7 +4,7 @@ use Rattle.coz_words.specs.declared.request.WordsError.{WordsError}
 use Rattle.hot_cli.specs.Answer.{fault_line}
 use Rattle.hot_cli.specs.Serve.{IsLine, NamesPath}
 use Rattle.hot_cli.specs.Verdict.{verdict}
-use Rattle.program_inputs.proofs.Telling.{memory_line, write_line}
+use Rattle.run_inputs.proofs.Telling.{memory_line, write_line}
 use Rattle.hot_cli.specs.Words.{hot_request}
 use Rattle.hot_cli.proofs.Served.{fault_cause, fault_told, no_request_line, torn}
 use Rattle.hot_cli.proofs.Budgets.{run_budget}
@@ -32,12 +32,12 @@ returns-in-Err-Memory-clause-line g c = λ two.
     )
 
 -- what was put before a write failed
-pub returns-in-Failed-clause-torn : goal.returns-in-Failed-clause-torn
-returns-in-Failed-clause-torn g c =
+pub returns-in-Failed-clause-prefix : goal.returns-in-Failed-clause-prefix
+returns-in-Failed-clause-prefix g c =
     torn (bytes_of c.args.words.now) (g.F.Files.faults c.args.files.now) (g.F.Files.faults c.judge_hot.new.files) c.in-Ok.request (sym c.in-Ok.ensures.asked)
     (g.F.Files.held c.args.files.now) (g.O.Sink.holds c.args.out.now) (g.O.Sink.holds c.put_hot.new.out) c.in-Ok-judge_hot.hot c.tell-in-Failed.result
-    c.in-Ok-judge_hot.ensures.settled
-    (c.in-Failed.ensures.torn refl)
+    c.in-Ok-judge_hot.ensures.verdict
+    (c.in-Failed.ensures.prefix refl)
 
 -- the line of a failed write is its own
 pub returns-in-Failed-clause-line : goal.returns-in-Failed-clause-line
@@ -57,7 +57,7 @@ returns-in-Err-clause-line g c = λ two.
     let fault = c.in-Err.fault in (
       codes "coz-hot: " ++ fault_line fault,
       subst (λ status. IsLine status words told before now (codes "coz-hot: " ++ fault_line fault)) (sym c.tell-status.ensures.status)
-          (fault_told words before now c.in-Ok.request (sym c.in-Ok.ensures.asked) told fault c.in-Err.ensures.suits c.in-Err.ensures.settled c.in-Err.ensures.untold),
+          (fault_told words before now c.in-Ok.request (sym c.in-Ok.ensures.asked) told fault c.in-Err.ensures.fault_of_request c.in-Err.ensures.verdict c.in-Err.ensures.read_fault_has_cause),
       c.tell-status.ensures.line,
     )
 
@@ -72,7 +72,7 @@ returns-in-Err-clause-write_count g c = λ other. refl
 pub returns-in-Err-clause-read : goal.returns-in-Err-clause-read
 returns-in-Err-clause-read g c = λ five.
     fault_cause (bytes_of c.args.words.now) (g.F.Files.faults c.args.files.now) (g.F.Files.faults c.judge_hot.new.files) c.in-Ok.request (sym c.in-Ok.ensures.asked)
-    (g.F.Files.held c.args.files.now) c.in-Err.fault c.in-Err.ensures.settled c.in-Err.ensures.untold (sym c.tell-status.ensures.status ∙ five)
+    (g.F.Files.held c.args.files.now) c.in-Err.fault c.in-Err.ensures.verdict c.in-Err.ensures.read_fault_has_cause (sym c.tell-status.ensures.status ∙ five)
 
 pub judge_hot-requires-clause-some_budget : goal.judge_hot-requires-clause-some_budget
 judge_hot-requires-clause-some_budget g c = (run_budget c.in-Ok.request.run c.in-Ok.ensures.fit c.in-Ok.ensures.run).0

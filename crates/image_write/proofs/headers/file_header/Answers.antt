@@ -1,5 +1,5 @@
 use Rattle.std.proofs.Common.{◌≡◌, ℕ, List, ◌++◌, ap, ◌∙◌}
-use Rattle.written_bytes.specs.Numbers.{half, word, double}
+use Rattle.byte_write.specs.Numbers.{half, word, double}
 use Rattle.image_write.specs.File.{file_header}
 use Rattle.image_write.proofs.headers.file_header.Goals as goal
 

@@ -1,5 +1,5 @@
 use Rattle.std.proofs.Common.{◌≡◌, ℕ, List, ◌++◌, ap, ◌∙◌, append_assoc, IfOk, Result, Ok, Err}
-use Rattle.written_bytes.specs.Numbers.{word, double}
+use Rattle.byte_write.specs.Numbers.{word, double}
 use Rattle.image_write.specs.File.{section}
 use Rattle.image_write.proofs.headers.push_section.Goals as goal
 

@@ -1,6 +1,6 @@
 use Rattle.std.proofs.Common.{◌∙◌, ◌++◌, [], ◌∷◌, ℕ, List, sym, ap, if◌then◌else◌, arith}
 use Rattle.std.proofs.lemmas.List.FromFn.{filter_of_map_range_with_len_more}
-use Rattle.critical_chains.specs.declared.share.Share.{Share}
+use Rattle.path_chains.specs.declared.share.Share.{Share}
 use Rattle.path_texts.specs.PathText.{has_some}
 use Rattle.path_texts.specs.Shares.{share_in}
 use Rattle.path_texts.proofs.shares.shares_in.Goals as goal

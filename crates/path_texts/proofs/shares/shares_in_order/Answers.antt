@@ -1,7 +1,7 @@
 use Rattle.std.proofs.Common.{◌∙◌, ℕ, List, ap, map}
 use Rattle.std.specs.List.{filter, range_with_len}
-use Rattle.profile_lists.specs.Sorted.{sorted_by}
-use Rattle.critical_chains.specs.Shares.{has_more}
+use Rattle.profile_labels.specs.Sorted.{sorted_by}
+use Rattle.path_chains.specs.Shares.{has_more}
 use Rattle.path_texts.specs.PathText.{has_some}
 use Rattle.path_texts.specs.Shares.{share_in}
 use Rattle.path_texts.proofs.shares.shares_in_order.Goals as goal

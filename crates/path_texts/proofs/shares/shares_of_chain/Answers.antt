@@ -1,8 +1,8 @@
 use Rattle.std.proofs.Common.{◌≡◌, ℕ, List, length, sym, ap, subst, arith, rules, sum_by}
 use Rattle.std.specs.Prelude.{IfOk}
 use Rattle.line_index.specs.Index.{position_at}
-use Rattle.critical_chains.specs.declared.event.Event.{Event}
-use Rattle.critical_chains.specs.Path.{ticks}
+use Rattle.path_chains.specs.declared.event.Event.{Event}
+use Rattle.path_chains.specs.Path.{ticks}
 use Rattle.path_texts.specs.PathText.{shares_of, slept_on, work_elsewhere}
 use Rattle.path_texts.proofs.PathShares.{weight_is}
 use Rattle.path_texts.proofs.shares.shares_of_chain.Goals as goal

@@ -1,8 +1,8 @@
 use Rattle.std.proofs.Common.{◌≡◌, length, ◌∙◌, get_or, map}
 use Rattle.std.specs.List.{filter, range_with_len}
 use Rattle.line_index.specs.Index.{position_at}
-use Rattle.profile_lists.specs.Sorted.{sorted_by}
-use Rattle.critical_chains.specs.Shares.{has_more}
+use Rattle.profile_labels.specs.Sorted.{sorted_by}
+use Rattle.path_chains.specs.Shares.{has_more}
 use Rattle.path_texts.specs.PathText.{events_on, has_some, shares_of, slept_on, work_elsewhere}
 use Rattle.path_texts.specs.Shares.{share_in}
 use Rattle.path_texts.proofs.PathShares.{if_shares, lines_are, none_are}

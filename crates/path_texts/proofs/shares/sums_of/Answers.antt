@@ -1,6 +1,6 @@
 use Rattle.std.proofs.Common.{ℕ, ◌≤◌, List, rules, arith, length}
 use Rattle.line_index.specs.Index.{position_at}
-use Rattle.critical_chains.specs.declared.event.Event.{Event}
+use Rattle.path_chains.specs.declared.event.Event.{Event}
 use Rattle.path_texts.specs.PathText.{events_on}
 use Rattle.path_texts.proofs.PathShares.{all_counted, chain_item, counts_more, fits_sleep, fits_work, many_on, place_below, weight_is, within}
 use Rattle.path_texts.proofs.shares.sums_of.Goals as goal

@@ -1,7 +1,7 @@
 use Rattle.std.proofs.Common.{ℕ, List, rules, refl, arith, length}
 use Rattle.line_index.specs.Index.{position_at}
-use Rattle.critical_chains.specs.declared.event.Event.{Event}
-use Rattle.critical_chains.specs.Path.{event_at}
+use Rattle.path_chains.specs.declared.event.Event.{Event}
+use Rattle.path_chains.specs.Path.{event_at}
 use Rattle.path_texts.proofs.PathShares.{all_counted, counts_more, fits_sleep, fits_work, place_below}
 use Rattle.path_texts.proofs.shares.sums_of_all.Goals as goal
 

@@ -1,5 +1,5 @@
 use Rattle.std.proofs.Common.{◌≡◌, ℕ, ◌-◌, ◌<◌, ◌≤◌, length}
-use Rattle.critical_chains.specs.Path.{event_at}
+use Rattle.path_chains.specs.Path.{event_at}
 use Rattle.path_texts.proofs.texts.are_of_first.Given as goal
 
 -- the events so far are of the first hart

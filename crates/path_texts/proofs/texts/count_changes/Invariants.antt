@@ -1,5 +1,5 @@
 use Rattle.std.proofs.Common.{◌≡◌, ◌+◌, ◌≤◌, drop, length}
-use Rattle.critical_chains.specs.Segments.{segments_from, segments_of}
+use Rattle.path_chains.specs.Segments.{segments_from, segments_of}
 use Rattle.path_texts.specs.PathText.{events_on}
 use Rattle.path_texts.proofs.texts.count_changes.Given as goal
 

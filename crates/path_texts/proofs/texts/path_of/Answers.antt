@@ -1,7 +1,7 @@
 use Rattle.std.proofs.Common.{◌≡◌, ◌∙◌, ℕ, List, length, ap, ap₂, subst, sym, arith}
 use Rattle.line_index.specs.Index.{position_at}
-use Rattle.critical_chains.specs.declared.event.Event.{Event}
-use Rattle.critical_chains.specs.Path.{chain_of, event_at, last_of, weight, Linked}
+use Rattle.path_chains.specs.declared.event.Event.{Event}
+use Rattle.path_chains.specs.Path.{chain_of, event_at, last_of, weight, Linked}
 use Rattle.path_texts.specs.PathText.{events_on, shares_of, slept_on, work_elsewhere}
 use Rattle.path_texts.proofs.PathShares.{text_is}
 use Rattle.path_texts.proofs.WholeRuns.{all_events}

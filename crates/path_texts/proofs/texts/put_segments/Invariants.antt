@@ -1,6 +1,6 @@
 use Rattle.std.proofs.Common.{drop}
 use Rattle.std.specs.List.{flat_map}
-use Rattle.critical_chains.specs.Segments.{segments_of}
+use Rattle.path_chains.specs.Segments.{segments_of}
 use Rattle.path_texts.specs.PathText.{events_on, segment_line}
 use Rattle.path_texts.proofs.PathSegments.{IsPut}
 use Rattle.path_texts.proofs.texts.put_segments.Given as goal

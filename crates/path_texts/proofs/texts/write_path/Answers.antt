@@ -3,8 +3,8 @@ use Rattle.std.specs.List.{flat_map}
 use Rattle.coz_files.specs.Gathered.{Gathers, Rest}
 use Rattle.coz_files.proofs.GatheredLemmas.{gathers_then, puts_whole}
 use Rattle.profile_book.proofs.Gathering.{gathers_as}
-use Rattle.critical_chains.specs.declared.event.Event.{Event}
-use Rattle.critical_chains.specs.Segments.{segments_of}
+use Rattle.path_chains.specs.declared.event.Event.{Event}
+use Rattle.path_chains.specs.Segments.{segments_of}
 use Rattle.path_texts.specs.PathText.{events_on, head_lines, segment_line}
 use Rattle.path_texts.proofs.texts.write_path.Goals as goal
 

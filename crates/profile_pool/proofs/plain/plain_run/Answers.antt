@@ -10,7 +10,7 @@ use Rattle.run_engine.specs.Seen.{Seen, experiment_of}
 use Rattle.counted_run.specs.CountedRun.{plain_choice}
 use Rattle.profile_pool.specs.declared.plain.Plain.{Plain}
 use Rattle.profile_pool.specs.Made.{parts_made}
-use Rattle.net_visits.specs.Summaries.{relabelled}
+use Rattle.run_summary.specs.Summaries.{relabelled}
 use Rattle.profile_pool.specs.Plain.{starts_at, SaysOf, IsPlain}
 use Rattle.profile_pool.specs.Summaries.{summary_of}
 use Rattle.profile_pool.proofs.PlainRun.{plain_parts, plain_is, all_ok}

@@ -7,7 +7,7 @@ use Rattle.sha2.specs.Sha256.{sha256}
 use Rattle.machines.specs.Records.{record_of}
 use Rattle.run_engine.specs.Seen.{experiment_of}
 use Rattle.virtual_run.specs.DelayedRun.{IsSmall}
-use Rattle.net_visits.specs.Summaries.{relabelled}
+use Rattle.run_summary.specs.Summaries.{relabelled}
 use Rattle.profile_pool.proofs.Within.{is_within, IsWithin, summary_is}
 use Rattle.profile_pool.proofs.Summing.{ending_is, few_visits, ok_as, ok_so, outcome_is, summed}
 use Rattle.profile_pool.proofs.PlainRun.{relabels}

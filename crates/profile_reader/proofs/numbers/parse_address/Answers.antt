@@ -1,5 +1,5 @@
 use Rattle.std.proofs.Common.{rules, ◌∙◌, sym}
-use Rattle.profile_lists.proofs.Spellings.{differ, agree}
+use Rattle.profile_labels.proofs.Spellings.{differ, agree}
 use Rattle.profile_reader.proofs.Addresses.{not_text, not_number, not_spelled, right_address}
 use Rattle.profile_reader.proofs.numbers.parse_address.Goals as goal
 

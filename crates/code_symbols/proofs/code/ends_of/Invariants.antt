@@ -1,7 +1,0 @@
-use Rattle.std.specs.BTreeMap.{get}
-use Rattle.std.specs.Ordering.{nat_cmp}
-use Rattle.code_symbols.specs.Code.{AreEnds}
-use Rattle.code_symbols.proofs.code.ends_of.Given as goal
-
-abbrev pub invariant-loop-area : goal.invariant-loop-area
-invariant-loop-area l = AreEnds l.areas l.area-index (get nat_cmp l.ends)

@@ -1,0 +1,149 @@
+//! The runs of programs, and what is written of them.
+ghost use Rattle.std.specs.Prelude.{◌≡◌, IfOk, IsSome, map, Some};
+ghost use Rattle.coz_types.specs.declared.ending.Ending.{Ending};
+ghost use Rattle.delay_credits.specs.Delays.{account_as};
+ghost use Rattle.line_index.specs.Index.{position_at};
+ghost use Rattle.progress_points.specs.Points.{point_of};
+ghost use Rattle.run_engine.specs.Run.{IsChoice, experiment};
+ghost use Rattle.run_engine.specs.Seen.{experiment_of};
+ghost use Rattle.guest_calls.specs.Guest.{Guest};
+ghost use Rattle.machines.specs.Delayed.{Hart};
+ghost use Rattle.machines.specs.Records.{net_record_of, record_of, shortened_record};
+ghost use Rattle.machines.specs.Standing.{delayed_record};
+ghost use Rattle.command_texts.specs.Text.{really_text, run_text};
+ghost use Rattle.coz_commands.specs.Verdict.{ended_verdict, ending_status, really_verdict, run_verdict};
+ghost use Rattle.coz_commands.specs.Answer.{verdict_of, printed_verdict, IsMemory, FailedToRead};
+
+use crate::answer::Answer;
+use command_texts::{Printed, RunRecord, ShortRecord, Text, ending_status, really_text, run_text};
+use coz_types::{Account, Ending, HartId};
+use program_load::Program;
+use progress_points::Points;
+use shortened_run::Short;
+use std::alloc::{AllocError, Global};
+use virtual_run::{Choice, Machine};
+
+/// The account of each hart that was made.
+fn accounts(alloc: Global, machine: &Machine) -> Result<Vec<Account>, AllocError>
+    ensures { IfOk result (λ accounts. map account_as accounts.items
+        ≡ map (λ (hart : Hart). hart.account) machine.now.state.harts) }
+{
+    let mut accounts = Vec::new(alloc);
+    for number in 0..machine.harts() {
+        let Some(account) = machine.account(HartId(number as u16)) else {
+            unreachable!()
+        };
+        accounts.push(account)?;
+    }
+    Ok(accounts)
+}
+
+/// The text that `run` prints of a run that has ended.
+fn machine_text(alloc: Global, machine: &Machine) -> Result<Vec<u8>, AllocError>
+    requires { IsSome machine.now.state.ending }
+    ensures { (ending : Ending) → machine.now.state.ending ≡ Some ending
+        → IfOk result (λ text. text.items ≡
+        run_text (record_of (experiment_of machine.now) machine.now.state ending)) }
+{
+    let Some(outcome) = machine.outcome() else {
+        unreachable!()
+    };
+    let accounts = accounts(alloc, machine)?;
+    let record = RunRecord {
+        outcome,
+        accounts: &accounts,
+        visits: machine.visits(),
+        output: machine.output(),
+    };
+    run_text(alloc, record)
+}
+
+/// The text of a run that came to this end, and its status.
+fn printed_run(ending: Ending, text: Vec<u8>) -> Printed
+    ensures { printed_verdict result ≡ ended_verdict ending text.items }
+{
+    Printed {
+        status: ending_status(ending),
+        text: Text::Bytes(text),
+    }
+}
+
+/// The text of a machine's run.
+fn machine_answer<'r>(alloc: Global, machine: &mut Machine) -> Answer<'r>
+    ensures no_read { FailedToRead result → ⊥ }
+    ensures verdict { (IsMemory result → ⊥) → verdict_of result ≡
+        run_verdict (delayed_record (experiment_of machine.old)) }
+{
+    let ending = machine.run();
+    let text = machine_text(alloc, machine)?;
+    Ok(printed_run(ending, text))
+}
+
+/// The text of a program's delayed run. Fails only if it is out of memory.
+pub fn run_answer<'r>(
+    alloc: Global,
+    program: &Program,
+    points: &Points,
+    input: &[u8],
+    choice: Choice,
+) -> Answer<'r>
+    requires { IsChoice choice }
+    ensures no_read { FailedToRead result → ⊥ }
+    ensures verdict { (IsMemory result → ⊥) → verdict_of result ≡
+        run_verdict (delayed_record
+        (experiment program.now.image (position_at program.now.index) (point_of points.now) input.now choice)) }
+{
+    let mut machine = Machine::new(alloc, &program.image, &program.index, points, input, choice)?;
+    let answer = machine_answer(alloc, &mut machine);
+    // By one call, since a drop in place is proved part by part.
+    drop(machine);
+    answer
+}
+
+/// The text that `really` prints of a run with this ending.
+fn short_text(alloc: Global, short: &Short, ending: Ending) -> Result<Vec<u8>, AllocError>
+    ensures { IfOk result (λ text. text.items ≡
+        really_text (net_record_of (experiment_of short.now) short.now.state ending)) }
+{
+    let record = ShortRecord {
+        ending,
+        net: short.net(),
+        retired: short.retired(),
+        starts: short.starts(),
+        visits: short.visits(),
+        output: short.output(),
+    };
+    really_text(alloc, record)
+}
+
+/// The text of a shortened run.
+fn short_answer<'r>(alloc: Global, short: &mut Short) -> Answer<'r>
+    ensures no_read { FailedToRead result → ⊥ }
+    ensures verdict { (IsMemory result → ⊥) → verdict_of result ≡
+        really_verdict (shortened_record (experiment_of short.old)) }
+{
+    let ending = short.run();
+    let text = short_text(alloc, short, ending)?;
+    Ok(printed_run(ending, text))
+}
+
+/// The text of a program's shortened run. Fails only if it is out of memory.
+pub fn really_answer<'r>(
+    alloc: Global,
+    program: &Program,
+    points: &Points,
+    input: &[u8],
+    choice: Choice,
+) -> Answer<'r>
+    requires { IsChoice choice }
+    ensures no_read { FailedToRead result → ⊥ }
+    ensures verdict { (IsMemory result → ⊥) → verdict_of result ≡
+        really_verdict (shortened_record
+        (experiment program.now.image (position_at program.now.index) (point_of points.now) input.now choice)) }
+{
+    let mut short = Short::new(alloc, &program.image, &program.index, points, input, choice)?;
+    let answer = short_answer(alloc, &mut short);
+    // By one call, since a drop in place is proved part by part.
+    drop(short);
+    answer
+}

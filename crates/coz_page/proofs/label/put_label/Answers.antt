@@ -1,5 +1,0 @@
-use Rattle.coz_files.proofs.GatheredLemmas.{gathers_then}
-use Rattle.coz_page.proofs.label.put_label.Goals as goal
-
-pub returns : goal.returns
-returns g c = gathers_then c.push.ensures.gathers c.put_bytes.ensures

@@ -1,7 +1,0 @@
-use Rattle.std.proofs.Common.{ap}
-use Rattle.profile_book.proofs.Gathering.{gathers_as}
-use Rattle.coz_page.specs.Runs.{visits_in}
-use Rattle.coz_page.proofs.runs.put_visits.Goals as goal
-
-pub returns : goal.returns
-returns g c = gathers_as (ap (visits_in c.args.point) c.plain_run.ensures) c.put_visits_in.ensures

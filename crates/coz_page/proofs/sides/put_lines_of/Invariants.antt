@@ -1,8 +1,0 @@
-use Rattle.std.proofs.Common.{take}
-use Rattle.std.specs.List.{flat_map}
-use Rattle.coz_files.specs.Gathered.{Gathers}
-use Rattle.coz_page.specs.Page.{line_at}
-use Rattle.coz_page.proofs.sides.put_lines_of.Given as goal
-
-abbrev pub invariant-loop-curve : goal.invariant-loop-curve
-invariant-loop-curve g l = Gathers g.O.Sink.holds g.O.Sink.faults l.fn.out l.out l.fn.to l.to (flat_map (line_at l.top l.points l.curves) (take l.curve-index l.group))

@@ -1,8 +1,0 @@
-use Rattle.std.proofs.Common.{take}
-use Rattle.std.specs.List.{flat_map}
-use Rattle.coz_files.specs.Gathered.{Gathers}
-use Rattle.coz_page.specs.Page.{steps_text}
-use Rattle.coz_page.proofs.tables.put_all_steps.Given as goal
-
-abbrev pub invariant-loop-curve : goal.invariant-loop-curve
-invariant-loop-curve g l = Gathers g.O.Sink.holds g.O.Sink.faults l.fn.out l.out l.fn.to l.to (flat_map steps_text (take l.curve-index l.curves))

@@ -1,6 +1,0 @@
-use Rattle.std.proofs.Common.{ℕ, ◌<◌}
-use Rattle.critical_chains.specs.Path.{IsTimely}
-use Rattle.critical_chains.proofs.checked.are_timely.Given as goal
-
-abbrev pub invariant-loop-number : goal.invariant-loop-number
-invariant-loop-number l = (k : ℕ) → k < l.number → IsTimely l.events k

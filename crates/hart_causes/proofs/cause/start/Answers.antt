@@ -1,5 +1,0 @@
-use Rattle.std.proofs.Common.{rules}
-use Rattle.hart_causes.proofs.cause.start.Goals as goal
-
-pub returns : goal.returns
-returns c = search rules

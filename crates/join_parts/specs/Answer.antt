@@ -1,0 +1,86 @@
+-- What is known of an answer before it is written.
+use Rattle.std.specs.Prelude.{◌≡◌, ℕ, ◌⊎◌, List, take, slice_get, Option, Some, None, IfSome, Result, Ok, Err, IfErr, IsErrAnd}
+use Rattle.coz_types.specs.Labels.{Text}
+use Rattle.coz_files.specs.Faults.{Rose}
+use Rattle.coz_files.specs.Held.{Held}
+use Rattle.file_read.specs.declared.fault.FileFault.TheVariants.{Usage, Read, Write}
+use Rattle.file_read.specs.Faults.{file_status, file_line}
+use Rattle.file_read.specs.Reading as reading
+use Rattle.profile_book.specs.declared.profile.Profile.{Profile as Book}
+use Rattle.join_parts.specs.declared.fault.Fault.{Fault}
+use Rattle.join_parts.specs.declared.fault.Fault.TheVariants.{File, Profile, Parts}
+use Rattle.join_parts.specs.Verdict.{Verdict, refusal, profile_line, parts_line, parts_in, profile_verdict, IsVerdict}
+
+abbrev pub fault_status : Fault → ℕ
+fault_status (File fault) = file_status fault
+fault_status (Profile fault path) = 12
+fault_status (Parts kind path) = 14
+
+-- the text of a fault, after the program's name
+abbrev pub fault_line : Fault → Text
+fault_line (File fault) = file_line fault
+fault_line (Profile fault path) = profile_line path.now fault
+fault_line (Parts kind path) = parts_line kind path.now
+
+abbrev pub fault_verdict : Fault → Verdict
+fault_verdict fault = refusal (fault_status fault) (fault_line fault)
+
+-- the result of a step, with the verdict of its fault
+abbrev pub judged : {A B : Type 0} → (A → B) → Result A Fault → Result B Verdict
+judged view (Ok value) = Ok (view value)
+judged view (Err fault) = Err (fault_verdict fault)
+
+-- the verdict of an answer
+abbrev pub verdict_of : Result Book Fault → Verdict
+verdict_of (Ok joined) = profile_verdict joined
+verdict_of (Err fault) = fault_verdict fault
+
+abbrev pub IsReadFault : Fault → Type 0
+IsReadFault (File fault) = reading.IsReadFault fault
+IsReadFault _ = ⊥
+
+abbrev pub FailedToRead : {A : Type 0} → Result A Fault → Type 0
+FailedToRead step = IsErrAnd step IsReadFault
+
+abbrev pub IsMemoryFault : Fault → Type 0
+IsMemoryFault (File fault) = reading.IsMemoryFault fault
+IsMemoryFault _ = ⊥
+
+abbrev pub IsMemory : {A : Type 0} → Result A Fault → Type 0
+IsMemory step = IsErrAnd step IsMemoryFault
+
+-- a step is the expected one, or a read that failed with a counted fault
+abbrev pub Settles : {A B : Type 0} → (A → B) → Result B Verdict → ℕ → ℕ → Result A Fault → Type 0
+Settles view expected before now step =
+    (judged view step ≡ expected) ⊎ (FailedToRead step × Rose before now)
+
+-- the path of a read that failed: each file before it holds a profile
+pub record IsReadAt (paths : List Text) (told : Option Held) (path : Text) : Type 0 where
+  pub place : ℕ
+  pub at : slice_get paths place ≡ Some path
+  pub before : IfSome told (λ held. IfErr (parts_in (take place paths) held) (λ _. ⊥))
+
+-- the faults that the reading of a path's file may have
+abbrev pub IsOfPath : Text → Fault → Type 0
+IsOfPath path (File fault) = reading.IsOfPath path fault
+IsOfPath path (Profile fault p) = p.now ≡ path
+IsOfPath path _ = ⊥
+
+-- the faults that the reading of the files of these paths may have
+abbrev pub IsOfPaths : List Text → Option Held → Fault → Type 0
+IsOfPaths paths told (File (Read path)) = IsReadAt paths told path.now
+IsOfPaths paths told (File Usage) = ⊥
+IsOfPaths paths told (File Write) = ⊥
+IsOfPaths paths told _ = Unit {0}
+
+-- which answers the words that name these paths, or none, may have
+abbrev pub Suits : Option (List Text) → Option Held → Result Book Fault → Type 0
+Suits None told (Err (File Usage)) = Unit {0}
+Suits None told _ = ⊥
+Suits (Some paths) told (Ok joined) = Unit {0}
+Suits (Some paths) told (Err fault) = IsOfPaths paths told fault
+
+-- an answer is one of the verdict of the words, or that of a read that failed with a counted fault
+abbrev pub IsSettled : List Text → Held → ℕ → ℕ → Result Book Fault → Type 0
+IsSettled words held before now answer =
+    IsVerdict words held (verdict_of answer) ⊎ (FailedToRead answer × Rose before now)

@@ -1,6 +1,0 @@
-use Rattle.std.proofs.Common.{◌≡◌, drop}
-use Rattle.line_marks.specs.Marks.{has_zero}
-use Rattle.line_marks.proofs.marks.has_zero.Given as goal
-
-abbrev pub invariant-loop-start : goal.invariant-loop-start
-invariant-loop-start l = has_zero (drop l.start l.path) ≡ has_zero l.path

@@ -1,8 +1,0 @@
-use Rattle.std.proofs.Common.{take}
-use Rattle.line_unit.specs.Unit.{views}
-use Rattle.line_marks.specs.Marks.{marks_of}
-use Rattle.line_marks.specs.Runs.{Adds, AreKept}
-use Rattle.line_marks.proofs.runs.push_kept.Given as goal
-
-abbrev pub invariant-loop-mark : goal.invariant-loop-mark
-invariant-loop-mark l = Adds (AreKept l.index (marks_of (take l.mark-index l.marks))) (views l.initial.out.list.items) (views l.out.list.items)

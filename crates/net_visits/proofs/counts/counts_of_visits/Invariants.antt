@@ -1,6 +1,0 @@
-use Rattle.std.proofs.Common.{take}
-use Rattle.net_visits.proofs.Counting.{AreCounts}
-use Rattle.net_visits.proofs.counts.counts_of_visits.Given as goal
-
-abbrev pub invariant-loop-visit : goal.invariant-loop-visit
-invariant-loop-visit l = AreCounts l.points (take l.visit-index l.visits) l.counts.items

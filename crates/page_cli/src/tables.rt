@@ -1,0 +1,291 @@
+//! What the page has of one progress point.
+ghost use Rattle.std.specs.Prelude.{◌≡◌, take, length, flat_map};
+ghost use Rattle.coz_types.specs.Labels.{Text};
+ghost use Rattle.coz_files.specs.Gathered.{Gathers};
+ghost use Rattle.page_values.specs.Sources.{look_up};
+ghost use Rattle.coz_files.specs.InMemory.{entries};
+ghost use Rattle.page_values.specs.Places.{IsTop};
+ghost use Rattle.page_cli.specs.Page.{count_text};
+ghost use Rattle.page_cli.specs.Page.{view_of, source_text, row_text, rows_text, figure_text, figure_at, step_text, steps_text, values_text, pictures_text, point_name, point_number, top_of, harm_top, point_text, harm_text};
+
+use crate::label::put_label;
+use crate::runs::put_visits;
+use crate::source_lines::line_of;
+use crate::view::View;
+use causal_curves::{Curve, CurveStep};
+use coz_files::{HeldFile, PutBuffer, Sink};
+use coz_types::{Label, Summary};
+use page_charts::{harm_top_for, is_notable, put_chart, put_cost, put_small, put_value, top_for};
+use page_values::{cost_of, shown, worst_of};
+use profile_book::{Profile, put_named};
+
+/// The text of a line, if it has one.
+fn put_source<O: Sink>(to: &mut PutBuffer, out: &mut O, line: &[u8])
+    ensures { Gathers O.holds O.faults out.old out.new to.old to.new (source_text line.now) }
+{
+    if !line.is_empty() {
+        put_label(to, out, b"<br><code>", line);
+        to.push(out, b"</code>");
+    }
+}
+
+fn put_row<O: Sink>(
+    to: &mut PutBuffer,
+    out: &mut O,
+    top: u64,
+    sources: &[HeldFile],
+    summaries: &[Summary],
+    curve: &Curve,
+)
+    requires { IsTop top }
+    ensures { Gathers O.holds O.faults out.old out.new to.old to.new
+        (row_text top (look_up (entries sources.now)) summaries.now curve.now) }
+{
+    let label = curve.selected.bytes();
+    put_label(to, out, b"<tr><td>", label);
+    put_source(to, out, line_of(sources, label));
+    put_cost(to, out, b"</td><td>", cost_of(summaries, label));
+    put_value(to, out, b"</td><td>", curve.gain);
+    let worst = worst_of(curve.steps.as_slice());
+    put_value(to, out, b"</td><td>", worst);
+    to.push(out, b"</td><td>");
+    put_small(to, out, top, curve);
+    to.push(out, b"</td></tr>\n");
+}
+
+fn put_rows<O: Sink>(
+    to: &mut PutBuffer,
+    out: &mut O,
+    top: u64,
+    sources: &[HeldFile],
+    summaries: &[Summary],
+    curves: &[Curve],
+)
+    requires { IsTop top }
+    ensures { Gathers O.holds O.faults out.old out.new to.old to.new
+        (flat_map (row_text top (look_up (entries sources.now)) summaries.now) curves.now) }
+{
+    for curve in curves {
+        put_row(to, out, top, sources, summaries, curve);
+    }
+}
+
+/// A large picture of a curve, with a name.
+pub fn put_figure<O: Sink>(to: &mut PutBuffer, out: &mut O, top: u64, name: &[u8], curve: &Curve)
+    requires { IsTop top }
+    ensures { Gathers O.holds O.faults out.old out.new to.old to.new
+        (figure_text top name.now curve.now) }
+{
+    put_label(to, out, b"<figure><figcaption>", name);
+    put_value(to, out, b": ", curve.gain);
+    to.push(out, b"</figcaption>");
+    put_chart(to, out, top, curve);
+    to.push(out, b"</figure>\n");
+}
+
+fn put_figure_at<O: Sink>(to: &mut PutBuffer, out: &mut O, top: u64, curve: &Curve)
+    requires { IsTop top }
+    ensures { Gathers O.holds O.faults out.old out.new to.old to.new (figure_at top curve.now) }
+{
+    if is_notable(top, curve) {
+        put_figure(to, out, top, curve.selected.bytes(), curve);
+    }
+}
+
+fn put_figures<O: Sink>(to: &mut PutBuffer, out: &mut O, top: u64, curves: &[Curve])
+    requires { IsTop top }
+    ensures { Gathers O.holds O.faults out.old out.new to.old to.new
+        (flat_map (figure_at top) curves.now) }
+{
+    for curve in curves {
+        put_figure_at(to, out, top, curve);
+    }
+}
+
+fn put_count<O: Sink>(to: &mut PutBuffer, out: &mut O, most: u64, lines: u64)
+    ensures { Gathers O.holds O.faults out.old out.new to.old to.new (count_text most lines) }
+{
+    let shown = lines.min(most);
+    put_named(to, out, b"</table>\n<p>Lines: ", lines);
+    put_named(to, out, b". Shown: ", shown);
+    put_named(to, out, b". Not shown: ", lines - shown);
+    to.push(out, b".</p>\n");
+}
+
+fn put_table<O: Sink>(
+    to: &mut PutBuffer,
+    out: &mut O,
+    top: u64,
+    view: &View,
+    summaries: &[Summary],
+    curves: &[Curve],
+)
+    requires { IsTop top }
+    ensures { Gathers O.holds O.faults out.old out.new to.old to.new
+        (rows_text top (view_of view.now) summaries.now curves.now) }
+{
+    to.push(
+        out,
+        b"\">\n<tr><th>Line</th><th>Cost</th><th>Gain</th><th>Worst</th><th>Curve</th></tr>\n",
+    );
+    let first = shown(curves, view.most);
+    put_rows(to, out, top, view.sources, summaries, first);
+    put_count(to, out, view.most, curves.len() as u64);
+}
+
+fn put_step<O: Sink>(to: &mut PutBuffer, out: &mut O, label: &[u8], step: &CurveStep)
+    ensures { Gathers O.holds O.faults out.old out.new to.old to.new
+        (step_text label.now step.now) }
+{
+    put_label(to, out, b"<tr><td>", label);
+    put_named(to, out, b"</td><td>", step.speedup as u64);
+    put_value(to, out, b"%</td><td>", step.value);
+    to.push(out, b"</td></tr>\n");
+}
+
+fn put_steps<O: Sink>(to: &mut PutBuffer, out: &mut O, label: &[u8], steps: &[CurveStep])
+    ensures { Gathers O.holds O.faults out.old out.new to.old to.new
+        (flat_map (step_text label.now) steps.now) }
+{
+    for step in steps {
+        put_step(to, out, label, step);
+    }
+}
+
+fn put_curve_steps<O: Sink>(to: &mut PutBuffer, out: &mut O, curve: &Curve)
+    ensures { Gathers O.holds O.faults out.old out.new to.old to.new (steps_text curve.now) }
+{
+    put_steps(to, out, curve.selected.bytes(), curve.steps.as_slice());
+}
+
+fn put_all_steps<O: Sink>(to: &mut PutBuffer, out: &mut O, curves: &[Curve])
+    ensures { Gathers O.holds O.faults out.old out.new to.old to.new
+        (flat_map steps_text curves.now) }
+{
+    for curve in curves {
+        put_curve_steps(to, out, curve);
+    }
+}
+
+/// The value of each line at each speedup.
+fn put_values<O: Sink>(to: &mut PutBuffer, out: &mut O, curves: &[Curve])
+    ensures { Gathers O.holds O.faults out.old out.new to.old to.new (values_text curves.now) }
+{
+    to.push(
+        out,
+        b"<details><summary>The values at each speedup</summary>\n",
+    );
+    to.push(
+        out,
+        b"<table>\n<tr><th>Line</th><th>Faster by</th><th>Value</th></tr>\n",
+    );
+    put_all_steps(to, out, curves);
+    to.push(out, b"</table>\n</details>\n");
+}
+
+/// The large pictures of a table's lines, and their values.
+fn put_pictures<O: Sink>(to: &mut PutBuffer, out: &mut O, top: u64, most: u64, curves: &[Curve])
+    requires { IsTop top }
+    ensures { Gathers O.holds O.faults out.old out.new to.old to.new
+        (pictures_text top most curves.now) }
+{
+    to.push(out, b"<div class=\"charts\">\n");
+    put_figures(to, out, top, shown(curves, most));
+    to.push(out, b"</div>\n");
+    put_values(to, out, shown(curves, most));
+    to.push(out, b"</details>\n");
+}
+
+fn point_name<'a>(points: &'a [Label], curves: &[Curve]) -> &'a [u8]
+    ensures { result.now ≡ point_name points.now curves.now }
+{
+    match curves.first() {
+        Some(curve) => match points.get(curve.point as usize) {
+            Some(name) => name.bytes(),
+            None => b"",
+        },
+        None => b"",
+    }
+}
+
+fn point_number(curves: &[Curve]) -> u64
+    ensures { result ≡ point_number curves.now }
+{
+    match curves.first() {
+        Some(curve) => curve.point as u64,
+        None => 0,
+    }
+}
+
+/// The upper end of the axis of values of the point that these curves are of.
+pub fn top_of(curves: &[Curve]) -> u64
+    ensures top { result ≡ top_of curves.now }
+    ensures range { IsTop result }
+{
+    match curves.first() {
+        Some(curve) => top_for(curve.gain),
+        None => 100,
+    }
+}
+
+fn harm_top(curves: &[Curve]) -> u64
+    ensures top { result ≡ harm_top curves.now }
+    ensures range { IsTop result }
+{
+    match curves.first() {
+        Some(curve) => harm_top_for(worst_of(curve.steps.as_slice())),
+        None => 100,
+    }
+}
+
+/// Puts the part of the page about the point of these curves.
+pub fn put_point<O: Sink>(
+    to: &mut PutBuffer,
+    out: &mut O,
+    view: &View,
+    profile: &Profile,
+    curves: &[Curve],
+)
+    ensures { Gathers O.holds O.faults out.old out.new to.old to.new
+        (point_text (view_of view.now) profile.now curves.now) }
+{
+    let summaries = profile.summaries.as_slice();
+    let point = point_number(curves);
+    let top = top_of(curves);
+    let name = point_name(profile.points.as_slice(), curves);
+    put_label(
+        to,
+        out,
+        b"<details name=\"point\" open><summary>Progress point ",
+        name,
+    );
+    to.push(out, b"</summary>\n");
+    put_visits(to, out, summaries, point);
+    put_named(to, out, b"<table id=\"p", point);
+    put_table(to, out, top, view, summaries, curves);
+    put_pictures(to, out, top, view.most, curves);
+}
+
+/// The lines that hurt the point that these curves are of.
+pub fn put_harm<O: Sink>(
+    to: &mut PutBuffer,
+    out: &mut O,
+    view: &View,
+    profile: &Profile,
+    curves: &[Curve],
+)
+    ensures { Gathers O.holds O.faults out.old out.new to.old to.new
+        (harm_text (view_of view.now) profile.now curves.now) }
+{
+    let top = harm_top(curves);
+    let name = point_name(profile.points.as_slice(), curves);
+    put_label(
+        to,
+        out,
+        b"<details open><summary>Lines that hurt, by their worst value: ",
+        name,
+    );
+    put_named(to, out, b"</summary>\n<table id=\"h", point_number(curves));
+    put_table(to, out, top, view, profile.summaries.as_slice(), curves);
+    put_pictures(to, out, top, view.most, curves);
+}

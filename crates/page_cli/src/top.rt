@@ -1,0 +1,107 @@
+//! The top call.
+ghost use Rattle.std.specs.Prelude.{◌≡◌, ◌≢◌, ◌↔◌, ◌⊎◌, ◌++◌, ◌≤◌, None, codes, IfOk, IfSome, IsSomeAnd, OnErr};
+ghost use Rattle.coz_files.specs.Faults.{Rose};
+ghost use Rattle.coz_files.specs.Puts.{Puts};
+ghost use Rattle.page_words.specs.Words.{asked_of, request_in};
+ghost use Rattle.page_values.specs.Sources.{Answers};
+ghost use Rattle.page_cli.specs.Answer.{IsShown};
+ghost use Rattle.page_cli.specs.Verdict.{bytes_of, folder_of, verdict};
+ghost use Rattle.page_cli.specs.Serve.{IsOfVerdict, IsPut, IsLine, Prints, PrintsPrefix};
+
+use crate::fault::Fault;
+use crate::fault_line::tell;
+use crate::judge::{Ranked, judge};
+use crate::page::write_page;
+use crate::sources::read_sources;
+use crate::view::View;
+use coz_files::{Files, PutAnswer, Sink};
+use file_read::FileFault;
+use std::alloc::{AllocError, Global};
+
+/// Reads the source files of a page and puts the page. Fails only if out of memory.
+fn show<F: Files, O: Sink>(
+    alloc: Global,
+    ranked: &Ranked,
+    files: &mut F,
+    out: &mut O,
+) -> Result<PutAnswer, AllocError>
+    ensures same { F.held files.new ≡ F.held files.old }
+    ensures unread { (asked_of ranked.now.asked).source ≡ None
+        → F.faults files.new ≡ F.faults files.old }
+    ensures shown { IfOk result (λ answer. IsShown (F.held files.old) (F.faults files.old)
+        (F.faults files.new) O.holds O.faults out.old out.new ranked.now answer) }
+    ensures nothing { OnErr result (out.new ≡ out.old) }
+{
+    let curves = ranked.curves.as_slice();
+    let sources = read_sources(alloc, files, ranked.asked.source, curves)?;
+    let view = View {
+        most: ranked.asked.top,
+        sources: sources.as_slice(),
+    };
+    Ok(write_page(&view, ranked, out))
+}
+
+/// All that the program does.
+pub fn serve<F: Files, O: Sink, E: Sink>(
+    alloc: Global,
+    words: &[String],
+    files: &mut F,
+    out: &mut O,
+    err: &mut E,
+) -> u8
+    // The words alone decide on usage.
+    ensures usage { (result ≡ 2) ↔ (request_in (bytes_of words.now) ≡ None) }
+
+    // No other status is answered.
+    ensures known { result ≤ 12 }
+
+    // If the files are known, the status is the verdict's, unless a fault is counted
+    // or it is out of memory.
+    ensures verdict { IfSome (F.held files.old) (λ held.
+        IsOfVerdict result → (answers : Answers)
+        → result ≡ (verdict (bytes_of words.now) held answers).status) }
+
+    // A failed read and a failed write have a cause outside.
+    ensures read { result ≡ 5 → Rose (F.faults files.old) (F.faults files.new)
+        ⊎ IsSomeAnd (F.held files.old) (λ held. (answers : Answers)
+        → (verdict (bytes_of words.now) held answers).status ≡ 5) }
+    ensures write { result ≡ 6 → Rose (O.faults out.old) (O.faults out.new) }
+    ensures write_last { IfSome (F.held files.old) (λ held.
+        result ≡ 6 → (answers : Answers)
+        → (verdict (bytes_of words.now) held answers).status ≡ 0) }
+
+    // What is printed: the page of the profile that the file is the text of, with the lines of
+    // the source files below the folder, if one is named.
+    ensures text { IfSome (F.held files.old) (λ held. result ≡ 0 →
+        Prints (bytes_of words.now) held (F.faults files.old) (F.faults files.new)
+        (O.holds out.old) (O.holds out.new)) }
+    ensures prefix { IfSome (F.held files.old) (λ held. result ≡ 6 →
+        PrintsPrefix (bytes_of words.now) held (F.faults files.old) (F.faults files.new)
+        (O.holds out.old) (O.holds out.new)) }
+    ensures nothing { result ≢ 0 → result ≢ 6 → O.holds out.new ≡ O.holds out.old }
+
+    // The line on the error sink.
+    ensures no_error_line { result ≡ 0 → err.new ≡ err.old }
+    ensures line { result ≢ 0 → (line : _)
+        × IsLine result (bytes_of words.now) (F.held files.old) line
+        × IsPut E.holds E.faults err.old err.new (line ++ codes "\n") }
+
+    // The first fault ends the call, except for a fault of a source file.
+    ensures read_count { result ≢ 5 → folder_of (request_in (bytes_of words.now)) ≡ None
+        → F.faults files.new ≡ F.faults files.old }
+    ensures write_count { result ≢ 6 → O.faults out.new ≡ O.faults out.old }
+    ensures files { F.held files.new ≡ F.held files.old }
+{
+    match judge(alloc, words, files) {
+        Ok(ranked) => {
+            let shown = show(alloc, &ranked, files, out);
+            drop(ranked);
+            match shown {
+                Ok(PutAnswer::Done) => 0,
+                Ok(PutAnswer::Failed) => tell(err, Fault::File(FileFault::Write)),
+                Err(_) => tell(err, Fault::File(FileFault::Memory)),
+            }
+        }
+        Err(fault) => tell(err, fault),
+    }
+}

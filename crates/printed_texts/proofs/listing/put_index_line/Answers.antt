@@ -1,7 +1,0 @@
-use Rattle.std.proofs.Common.{◌∙◌, ap, sym, Some}
-use Rattle.printed_texts.proofs.IndexText.{has_line}
-use Rattle.printed_texts.proofs.listing.put_index_line.Goals as goal
-
-pub returns : goal.returns
-returns g c =
-    has_line c.args.index.now c.args.line.0 c.bytes.result.now c.entries.result.now (c.label-label.ensures.label ∙ ap Some (sym c.bytes.ensures)) c.entries.ensures c.put_labelled.ensures

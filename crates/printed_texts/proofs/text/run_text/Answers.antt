@@ -1,4 +1,0 @@
-use Rattle.printed_texts.proofs.text.run_text.Goals as goal
-
-pub returns : goal.returns
-returns c = c.finish.ensures c.new-text.result _ c.new-text.ensures.buffer c.new-text.ensures.text c.put_run.ensures

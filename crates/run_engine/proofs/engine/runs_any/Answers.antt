@@ -1,6 +1,0 @@
-use Rattle.std.proofs.Common.{◌∙◌}
-use Rattle.run_engine.proofs.Keys.{runs_least}
-use Rattle.run_engine.proofs.engine.runs_any.Goals as goal
-
-pub returns : goal.returns
-returns c = c.is_some.ensures ∙ runs_least c.args.schedule.now c.least.result c.least.ensures

@@ -1,6 +1,0 @@
-use Rattle.std.proofs.Common.{◌≡◌, ◌≤◌, ◌-◌, ◌+◌, ◌++◌}
-use Rattle.written_bytes.specs.Numbers.{groups}
-use Rattle.written_bytes.proofs.leb.push_groups.Given as goal
-
-abbrev pub invariant-loop : goal.invariant-loop
-invariant-loop l = (l.counter ≤ l.count) × (l.out.items ++ groups (l.count - l.counter + 1) l.left ≡ l.initial.out.items ++ groups l.count l.n)
