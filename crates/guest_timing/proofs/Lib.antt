@@ -1,0 +1,2 @@
+mod Sleepers
+mod Lawful
