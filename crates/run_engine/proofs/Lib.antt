@@ -3,6 +3,8 @@ pub mod Many
 pub mod Begin
 pub mod Moves
 pub mod Law
+pub mod Far
+pub mod WordMarks
 mod Rows
 pub mod Advance
 pub mod Choices

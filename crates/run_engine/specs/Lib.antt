@@ -4,5 +4,7 @@ pub mod Run
 pub mod Choices
 pub mod Engine
 pub mod Advance
+pub mod Far
+pub mod Marked
 pub mod Seen
 pub mod Visits

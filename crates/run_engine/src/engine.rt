@@ -15,7 +15,7 @@ ghost use Rattle.run_engine.specs.Visits.{visits_of};
 ghost use Rattle.run_engine.specs.Advance.{is_wake};
 
 use crate::start::{add_if, begin, begin_again, begin_each, begin_next};
-use crate::{Choice, Setting, Visits};
+use crate::{Choice, MarkedSetting, Setting, Visits};
 use coz_types::{Address, Ending, HARTS, HartId, Image, Tick, Visit};
 use guest_calls::{Fate, Guest};
 use guest_futex::HartList;
@@ -217,6 +217,7 @@ impl<'a> Engine<'a> {
     ghost use Rattle.run_engine.specs.Run.{selected_of, ticks_in, IsChoice};
     ghost use Rattle.run_engine.specs.Engine.{IsSteady, IsFirst};
     ghost use Rattle.run_engine.specs.Advance.{CanComplete, IsAdvance, IsRetired, IsCompleted, IsWoken};
+    ghost use Rattle.run_engine.specs.Far.{IsFarAdvance};
 
     /// A run that is about to begin.
     pub fn new(
@@ -265,6 +266,20 @@ impl<'a> Engine<'a> {
         } else {
             Event::Retired(self.retire(setting, turn, delay))
         }
+    }
+
+    /// Makes one move or more: quiet retirements, which go on, start no other hart, visit no point
+    /// and begin no instruction of the selected line, and after them one move as `advance` makes
+    /// it. Returns the event of the last move. `delay` is that of all moves: a quiet
+    /// retirement raises none.
+    #[inline]
+    pub fn advance_far(&mut self, marked: &MarkedSetting, delay: Tick) -> Event
+        requires steady { IsSteady self.old }
+        requires choice { IsChoice marked.now.choice }
+        requires delay { delay ≤ 10 ^ 17 }
+        ensures { IsFarAdvance marked.now self.old result delay self.new }
+    {
+        self.advance(marked.setting(), delay)
     }
 
     /// Wakes a sleeping hart whose turn it is, and begins its next instruction.

@@ -6,9 +6,11 @@
 
 mod choice;
 mod engine;
+mod marked;
 mod start;
 mod visits;
 
 pub use choice::{Choice, MAX_RUN_OUTPUT, Setting};
 pub use engine::{Engine, Event, FIRST, Retired, Turn, has_any, is_wake};
+pub use marked::{MAX_WORDS, MarkedSetting};
 pub use visits::Visits;
