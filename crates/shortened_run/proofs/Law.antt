@@ -1,9 +1,10 @@
 -- What holds of a shortened run from move to move, and at its end.
-use Rattle.std.proofs.Common.{◌≡◌, ℕ, ◌+◌, ◌*◌, ◌<◌, List, [], ◌++◌, Option, Some, None, refl, sym, ap, subst, arith}
+use Rattle.std.proofs.Common.{◌≡◌, ℕ, suc, ◌+◌, ◌*◌, ◌<◌, List, [], ◌++◌, Option, Some, None, refl, sym, ap, subst, arith}
 use Rattle.std.proofs.lemmas.List.Elements.{All-nil, All-cons, All-append}
 use Rattle.coz_types.specs.declared.ending.Ending.{Ending}
 use Rattle.coz_types.specs.declared.record.Visit.{Visit}
 use Rattle.coz_types.specs.Image.{ImageParts}
+use Rattle.machines.specs.declared.Fate.TheVariants.{Goes}
 use Rattle.machines.specs.Guest.{Experiment, enough}
 use Rattle.machines.specs.Shortened.{Shortened, shortened}
 use Rattle.machines.specs.Records.{net_record_of, IsShortened, shortened_record}
@@ -16,10 +17,12 @@ use Rattle.run_engine.specs.declared.engine.Event.{Event}
 use Rattle.run_engine.specs.declared.engine.Event.TheVariants.{Woke, Retired}
 use Rattle.run_engine.specs.declared.engine.Engine.{Engine}
 use Rattle.run_engine.specs.Advance.{IsAdvance}
+use Rattle.run_engine.specs.Far.{IsQuiet, IsFarAdvance}
 use Rattle.run_engine.specs.Engine.{events_of}
 use Rattle.run_engine.specs.Visits.{Visits, visits_of}
 use Rattle.run_engine.specs.Run.{experiment_in}
 use Rattle.run_engine.specs.Seen.{machine_view}
+use Rattle.run_engine.proofs.Far.{after_all}
 use Rattle.run_engine.proofs.Law.{reached_next, reached_woken, events_below, recorded_now, last_now, shortened_is}
 use Rattle.shortened_run.specs.ShortenedRun.{AreUndelayed, IsShort}
 
@@ -62,6 +65,35 @@ module _ (image : ImageParts) (input : List ℕ) (setting : Setting) (engine : E
 
   pub short_below : events_of engine < 2 * setting.choice.budget
   short_below = events_below image (position_at setting.index.now) (point_of setting.points.now) input setting.choice short.valid engine short.reached none
+
+-- after some quiet retirements it goes on, and counts each
+record IsShortAfter (image : ImageParts) (input : List ℕ) (setting : Setting) (engine : Engine) (n : ℕ) (new : Engine) : Type 0 where
+  pub short : IsShort image input setting new
+  pub goes : new.ending ≡ None
+  pub count : events_of new ≡ events_of engine + n
+
+after_quiet : (image : ImageParts) (input : List ℕ) (setting : Setting) (engine : Engine) (n : ℕ) (last new : Engine) → IsShortAfter image input setting engine n last → IsQuiet setting last new → IsShortAfter image input setting engine (suc n) new
+after_quiet image input setting engine n last new before one =
+    let event : Event = Retired (record { hart = record { 0 = one.hart }; fate = Goes }) in
+    let count : events_of new ≡ events_of last + 1 = short_count image input setting last before.short before.goes new event (one.retired 0) in
+    record {
+      short = short_next image input setting last before.short before.goes new event (one.retired 0);
+      goes = one.goes;
+      count = omega (arith, count, before.count);
+    }
+
+-- several moves keep it, and are one or more
+module _ (image : ImageParts) (input : List ℕ) (setting : Setting) (engine : Engine) (short : IsShort image input setting engine) (none : engine.ending ≡ None) (new : Engine) (event : Event) (did : IsFarAdvance setting engine event 0 new) where
+  before_last : IsShortAfter image input setting engine did.1 did.0
+  before_last = after_all setting (IsShortAfter image input setting engine) (after_quiet image input setting engine) did.1 engine did.0 did.2 (record { short = short; goes = none; count = omega arith })
+
+  pub short_far : IsShort image input setting new
+  short_far = short_next image input setting did.0 before_last.short before_last.goes new event did.3
+
+  pub far_count : events_of engine < events_of new
+  far_count =
+      let count : events_of new ≡ events_of did.0 + 1 = short_count image input setting did.0 before_last.short before_last.goes new event did.3 in
+      omega (arith, count, before_last.count)
 
 module _ (image : ImageParts) (input : List ℕ) (setting : Setting) (engine : Engine) (short : IsShort image input setting engine) (old : Experiment Guest) (same : old ≡ experiment_in image input setting) where
   abbrev x : Experiment Guest

@@ -11,7 +11,7 @@ use coz_types::{Ending, Image, Tick, Visit};
 use line_index::LineIndex;
 use progress_points::Points;
 pub use run_engine::Choice;
-use run_engine::{Engine, Setting};
+use run_engine::{Engine, MarkedSetting, Setting};
 use std::alloc::{AllocError, Global};
 use std::marker::Model;
 
@@ -20,7 +20,7 @@ use std::marker::Model;
 pub struct Short<'a> {
     image: &'a Image<'a>,
     input: &'a [u8],
-    setting: Setting<'a>,
+    setting: MarkedSetting<'a>,
     engine: Engine<'a>,
 }
 
@@ -65,11 +65,12 @@ impl<'a> Short<'a> {
             points,
             choice,
         };
+        let marked = MarkedSetting::new(alloc, image, setting)?;
         let engine = Engine::new(alloc, image, input, &setting)?;
         Ok(Short {
             image,
             input,
-            setting,
+            setting: marked,
             engine,
         })
     }
@@ -85,7 +86,7 @@ impl<'a> Short<'a> {
         ensures rest { self.new ≡ record self.old { state = self.new.state } }
     {
         while self.engine.ending().is_none() {
-            self.engine.advance(&self.setting, 0);
+            self.engine.advance_far(&self.setting, 0);
         }
         match self.engine.ending() {
             Some(ending) => ending,

@@ -8,26 +8,26 @@ use Rattle.run_engine.specs.Run.{experiment_in}
 use Rattle.run_engine.specs.Seen.{Seen, view_in, experiment_of}
 use Rattle.run_engine.specs.Engine.{events_of}
 use Rattle.run_engine.proofs.Law.{steady, none_is, ended_now}
-use Rattle.shortened_run.proofs.Law.{short_next, short_count, short_below, recorded_of, last_of, shortened_of, same_seen}
+use Rattle.shortened_run.proofs.Law.{short_far, far_count, short_below, recorded_of, last_of, shortened_of, same_seen}
 use Rattle.shortened_run.proofs.Short.run.Goals as goal
 use Rattle.shortened_run.proofs.Short.run.Goals.{In-Some}
 
-pub advance-requires-clause-steady : goal.advance-requires-clause-steady
-advance-requires-clause-steady c =
+pub advance_far-requires-clause-steady : goal.advance_far-requires-clause-steady
+advance_far-requires-clause-steady c =
     let now = c.loop-self.self-inside in
     let short = c.loop-self.invariant.0 in
     steady now.image.now (position_at now.setting.index.now) (point_of now.setting.points.now) now.input.now now.setting.choice short.valid now.engine short.reached
     (sym c.ending.ensures ∙ none_is c.ending.result c.is_none.result c.is_none.ensures c.loop-self-test.true)
 
-pub advance-requires-clause-speedup : goal.advance-requires-clause-speedup
-advance-requires-clause-speedup c = c.loop-self.invariant.0.valid.speedup
+pub advance_far-requires-clause-choice : goal.advance_far-requires-clause-choice
+advance_far-requires-clause-choice c = c.loop-self.invariant.0.valid
 
 pub loop-self-preserved : goal.loop-self-preserved
 loop-self-preserved c =
     let now = c.loop-self.self-inside in
     let before = c.loop-self.invariant in
     let none = sym c.ending.ensures ∙ none_is c.ending.result c.is_none.result c.is_none.ensures c.loop-self-test.true in (
-      short_next now.image.now now.input.now now.setting now.engine before.0 none c.advance.new.self c.advance.result c.advance.ensures,
+      short_far now.image.now now.input.now now.setting now.engine before.0 none c.advance_far.new.self c.advance_far.result c.advance_far.ensures,
       before.1,
       before.2,
       before.3,
@@ -38,9 +38,9 @@ loop-self-smaller c =
     let now = c.loop-self.self-inside in
     let short = c.loop-self.invariant.0 in
     let none = sym c.ending.ensures ∙ none_is c.ending.result c.is_none.result c.is_none.ensures c.loop-self-test.true in
-    let below : events_of now.engine < 2 * now.setting.choice.budget = short_below now.image.now now.input.now now.setting now.engine short none c.advance.new.self in
-    let count : events_of c.advance.new.self ≡ events_of now.engine + 1 = short_count now.image.now now.input.now now.setting now.engine short none c.advance.new.self c.advance.result c.advance.ensures in
-    omega (arith, below, count)
+    let below : events_of now.engine < 2 * now.setting.choice.budget = short_below now.image.now now.input.now now.setting now.engine short none c.advance_far.new.self in
+    let more : events_of now.engine < events_of c.advance_far.new.self = far_count now.image.now now.input.now now.setting now.engine short none c.advance_far.new.self c.advance_far.result c.advance_far.ensures in
+    omega (arith, below, more)
 
 pub returns-clause-ended : goal.returns-clause-ended
 returns-clause-ended c =
