@@ -222,6 +222,9 @@ module _ (image : ImageParts) (input : List ℕ) (setting : Setting) (engine : E
     pub hart_unpaused : pause_of (hart_at (at later_now credits) h) ≡ 0
     hart_unpaused = steps.unpaused x IsOrderly law (events_of engine) t later_now credits next
 
+    pub hart_still : run_from 0 (hart_at (at later_now credits) h) ≡ hart_at (at later_now credits) h
+    hart_still = steps.still x IsOrderly law (events_of engine) t later_now credits next
+
     abbrev stopped : Delays
     stopped = with_rest h fate later_now credits
 
@@ -846,9 +849,6 @@ going_first image input setting engine credits now p v view =
 lawful_of : (v : Seen (Delayed Guest)) → IsChoice v.choice → IsLawful (experiment_of v) IsOrderly
 lawful_of v valid = lawful_run v.image (position_at v.index) (point_of v.points) v.input v.choice valid.speedup
 
-budget_left : (n retired budget : ℕ) → retired ≡ n → (retired ≡ 0) ⊎ (retired < budget) → 1 ≤ budget → n < budget
-budget_left n retired budget count within some = omega arith
-
 module _ (old now : Seen (Delayed Guest)) (g : IsAt old now) where
   -- a run that goes on has come to fewer events than it can
   events_left : now.state.ending ≡ None → events now.state < 2 * old.choice.budget
@@ -867,42 +867,27 @@ module _ (old now : Seen (Delayed Guest)) (g : IsAt old now) where
     stands = next ∙ ap₂ (λ (y : Experiment Guest) (n : ℕ). standing y n) (ap experiment_of g.rest) (sym count);
   }
 
+  -- one event or more later
+  pub at_far : (new : Seen (Delayed Guest)) → new.state ≡ standing (experiment_of now) (events new.state) → new ≡ record now { state = new.state } → IsAt old new
+  at_far new next rest = record {
+    valid = g.valid;
+    rest = rest ∙ ap (λ (v : Seen (Delayed Guest)). record v { state = new.state }) g.rest;
+    stands = next ∙ ap (λ (y : Experiment Guest). standing y (events new.state)) (ap experiment_of g.rest);
+  }
+
+  pub far_smaller : (new : Seen (Delayed Guest)) → now.state.ending ≡ None → events now.state < events new.state → 2 * old.choice.budget - events new.state < 2 * old.choice.budget - events now.state
+  far_smaller new none more = let left : events now.state < 2 * old.choice.budget = events_left none in omega (arith, more)
+
   pub at_smaller : (new : Seen (Delayed Guest)) → now.state.ending ≡ None → events new.state ≡ events now.state + 1 → 2 * old.choice.budget - events new.state < 2 * old.choice.budget - events now.state
   at_smaller new none count = let left : events now.state < 2 * old.choice.budget = events_left none in omega (arith, count)
 
 module _ (old now : Seen (Delayed Guest)) (g : IsGoing old now) where
-  -- a run that goes on has budget left
-  pub left_over : now.state.ending ≡ None → now.state.retired < old.choice.budget
-  left_over none =
-      let x : Experiment Guest = experiment_of old in
-      let n : ℕ = events now.state in
-      let agree : Agrees (standing x n) (shortened x n) = agrees x IsOrderly (lawful_of old g.at.valid) n in
-      let goes : (shortened x n).ending ≡ None = sym agree.ending ∙ ap (λ (d : Delayed Guest). d.ending) (sym g.at.stands) ∙ none in
-      let on = goes_on_at x IsOrderly (lawful_of old g.at.valid) n goes in
-      budget_left now.state.retired (shortened x n).retired old.choice.budget (sym agree.retired ∙ ap (λ (d : Delayed Guest). d.retired) (sym g.at.stands)) on.lives.within g.at.valid.some_budget
-
-  same_run : experiment_of now ≡ experiment_of old
-  same_run = ap experiment_of g.at.rest
-
-  pub going_next : (new : Seen (Delayed Guest)) → now.state.ending ≡ None → (now.state.ending ≡ None → new.state ≡ standing (experiment_of now) (events new.state)) → (now.state.ending ≡ None → Steps (experiment_of now) now.state new.state)
-      → new ≡ record now { state = new.state } → IsGoing old new
-  going_next new none next steps rest =
-      let count : new.state.retired ≡ now.state.retired + 1 = (steps none).retires in
-      let left : now.state.retired < old.choice.budget = left_over none in
-      record {
-        at = record {
-          valid = g.at.valid;
-          rest = rest ∙ ap (λ (v : Seen (Delayed Guest)). record v { state = new.state }) g.at.rest;
-          stands = next none ∙ ap (λ (y : Experiment Guest). standing y (events new.state)) same_run;
-        };
-        within = omega arith;
-      }
-
-  pub going_smaller : (new : Seen (Delayed Guest)) → now.state.ending ≡ None → (now.state.ending ≡ None → Steps (experiment_of now) now.state new.state) → old.choice.budget - new.state.retired < old.choice.budget - now.state.retired
-  going_smaller new none steps =
-      let count : new.state.retired ≡ now.state.retired + 1 = (steps none).retires in
-      let left : now.state.retired < old.choice.budget = left_over none in
-      omega arith
+  -- one event or more later
+  pub going_far : (new : Seen (Delayed Guest)) → new.state ≡ standing (experiment_of now) (events new.state) → new.state.retired ≤ now.choice.budget → new ≡ record now { state = new.state } → IsGoing old new
+  going_far new next within rest = record {
+    at = at_far old now g.at new next rest;
+    within = subst (λ (v : Seen (Delayed Guest)). new.state.retired ≤ v.choice.budget) g.at.rest within;
+  }
 
   abbrev run_x : Experiment Guest
   run_x = experiment_of old

@@ -5,7 +5,7 @@ use Rattle.coz_types.specs.declared.ending.Ending.{Ending}
 use Rattle.machines.specs.declared.Fate.{Fate}
 use Rattle.machines.specs.declared.Fate.TheVariants.{Goes, Waits, Leaves, Sleeps, Ends}
 use Rattle.machines.specs.Guest.{Experiment, Retirement, IsLawful, started_harts, is_timed}
-use Rattle.machines.specs.Delayed.{Account, Load, Hart, Visit, Delayed, total, idle_hart, is_ready, has_load, account_of, over_or, begin, retirement, leave, give_credit, ending, retire, wake}
+use Rattle.machines.specs.Delayed.{Account, Load, Hart, Visit, Delayed, total, idle_hart, is_ready, has_load, run, account_of, over_or, begin, retirement, leave, give_credit, ending, retire, wake}
 use Rattle.machines.specs.Shortened.{Shortened, Turn, next_turn, shortened}
 use Rattle.machines.specs.Agreement.{Agrees}
 use Rattle.machines.specs.Steps.{Passes, jump}
@@ -47,6 +47,14 @@ unpaused_ready hart r = go hart.account hart.load r
     go : (a : Account) (o : Option Load) → is_ready (record { account = a; load = o }) ≡ true → pause_of (without_work (record { account = a; load = o })) ≡ 0
     go a None r = refl
     go a (Some l) r = let none : l.work + l.pause ≡ 0 = eqb-true _ _ r in omega arith
+
+-- so it is as one that has just begun with no pause
+still_ready : (hart : Hart) → is_ready hart ≡ true → run 0 (without_work hart) ≡ without_work hart
+still_ready hart r = go hart.account hart.load r
+  where
+    go : (a : Account) (o : Option Load) → is_ready (record { account = a; load = o }) ≡ true → run 0 (without_work (record { account = a; load = o })) ≡ without_work (record { account = a; load = o })
+    go a None r = absurd (let no : false ≡ true = r in cc)
+    go a (Some l) r = let sum : l.work + l.pause ≡ 0 = eqb-true _ _ r in let none : l.pause ≡ 0 = omega arith in cc
 
 -- a run that ends with a retirement, or goes on
 over_ended : {G : Type 0} (o : Option Ending) (d next : Delayed G) (a : Ending) → next.ending ≡ None → (over_or o d next).ending ≡ Some a → over_or o d next ≡ record d { ending = Some a }
@@ -136,6 +144,10 @@ module _ {G : Type 0} (x : Experiment G) (Good : G → Type 0) (law : IsLawful x
     -- the hart has no pause before it then
     pub unpaused : pause_of (hart_at (at now c) t.hart) ≡ 0
     unpaused = ap pause_of (held.harts t.hart) ∙ unpaused_ready (get_or (jump k d).harts t.hart idle_hart) this_ready
+
+    -- it is then as one that has just begun with no pause
+    pub still : run 0 (hart_at (at now c) t.hart) ≡ hart_at (at now c) t.hart
+    still = subst (λ (hart : Hart). run 0 hart ≡ hart) (sym (held.harts t.hart)) (still_ready (get_or (jump k d).harts t.hart idle_hart) this_ready)
 
     due_is : (jump k d).now - (jump k d).delay ≡ t.due
     due_is =

@@ -22,7 +22,7 @@ use Rattle.run_engine.specs.Run.{IsChoice, experiment_in}
 use Rattle.run_engine.proofs.Choices.{valid_at, valid_with}
 use Rattle.run_engine.specs.Engine.{events_of}
 use Rattle.virtual_run.specs.Lead.{arguments, is_unstarted, starts_next, Stands, IsShared, IsLead}
-use Rattle.virtual_run.proofs.CreditedRun.{seen_of, ending_now, events_now, starts_now, IsAt, at_next, at_smaller, going_first}
+use Rattle.virtual_run.proofs.CreditedRun.{seen_of, ending_now, events_now, starts_now, IsAt, at_far, far_smaller, going_first}
 use Rattle.virtual_run.proofs.Forks.{sped_setting}
 use Rattle.virtual_run.proofs.Again.{lined_setting}
 
@@ -44,17 +44,18 @@ pub record IsLed (old now : Seen (Delayed Guest)) : Type 0 where
   pub stays : is_unstarted old.state ≡ false → now ≡ old
 
 module _ (old now : Seen (Delayed Guest)) (l : IsLed old now) (unstarted : is_unstarted now.state ≡ true) (new : Seen (Delayed Guest))
-    (next : new.state ≡ standing (experiment_of now) (events now.state + 1)) (count : events new.state ≡ events now.state + 1) (rest : new ≡ record now { state = new.state }) where
+    (next : new.state ≡ standing (experiment_of now) (events new.state)) (more : events now.state < events new.state) (starts : (standing (experiment_of now) (events new.state - 1)).starts ≡ now.state.starts) (rest : new ≡ record now { state = new.state }) where
   goes : now.state.ending ≡ None
   goes = (goes_unstarted now.state unstarted).0
 
   none_next : started_none old (events new.state)
   none_next =
       let x : Experiment Guest = experiment_of old in
-      let more : events new.state ≡ suc (events now.state) = omega (arith, count) in
-      ap (λ (n : ℕ). (before x n).state.starts) more
-      ∙ before_starts x (events now.state)
-      ∙ ap (λ (d : Delayed Guest). d.starts) (sym l.at.stands)
+      let last : events new.state ≡ suc (events new.state - 1) = omega (arith, more) in
+      ap (λ (n : ℕ). (before x n).state.starts) last
+      ∙ before_starts x (events new.state - 1)
+      ∙ ap (λ (y : Experiment Guest). (standing y (events new.state - 1)).starts) (sym (ap experiment_of l.at.rest))
+      ∙ starts
       ∙ (goes_unstarted now.state unstarted).1
 
   stays_next : is_unstarted old.state ≡ false → new ≡ old
@@ -62,10 +63,10 @@ module _ (old now : Seen (Delayed Guest)) (l : IsLed old now) (unstarted : is_un
       absurd (let no : true ≡ false = sym unstarted ∙ ap (λ (v : Seen (Delayed Guest)). is_unstarted v.state) (l.stays over) ∙ over in cc)
 
   pub led_next : IsLed old new
-  led_next = record { at = at_next old now l.at new next count rest; none = none_next; stays = stays_next }
+  led_next = record { at = at_far old now l.at new next rest; none = none_next; stays = stays_next }
 
   pub led_smaller : 2 * old.choice.budget - events new.state < 2 * old.choice.budget - events now.state
-  led_smaller = at_smaller old now l.at new goes count
+  led_smaller = far_smaller old now l.at new goes more
 
 -- what contracts see of a fork
 module _ (image : ImageParts) (input : List ℕ) (setting : Setting) (engine : Engine) (credits : Delays) (now : ℕ) (p : IsPaced image input setting engine credits now) (v : Seen (Delayed Guest)) (view : seen_of image input setting engine ≡ v) where

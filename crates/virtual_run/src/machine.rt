@@ -15,7 +15,7 @@ use coz_types::{Account, Ending, HARTS, HartId, Image, LineId, Outcome, Tick, Vi
 use delay_credits::Credits;
 use line_index::LineIndex;
 use progress_points::Points;
-use run_engine::{Choice, Engine, Event, FIRST, Setting, is_wake};
+use run_engine::{Choice, Engine, Event, FIRST, MarkedSetting, Setting, is_wake};
 use std::alloc::{AllocError, Global};
 use std::marker::Model;
 
@@ -33,7 +33,7 @@ fn is_unstarted(engine: &Engine) -> bool
 pub struct Machine<'a> {
     image: &'a Image<'a>,
     input: &'a [u8],
-    setting: Setting<'a>,
+    setting: MarkedSetting<'a>,
     engine: Engine<'a>,
     credits: Credits,
     /// The real moment of the last event, in ticks.
@@ -89,6 +89,7 @@ impl<'a> Machine<'a> {
         };
         let mut credits = Credits::new(alloc, HARTS as u32)?;
         credits.start(FIRST, 0);
+        let marked = MarkedSetting::new(alloc, image, setting)?;
         let engine = Engine::new(alloc, image, input, &setting)?;
         raise_harts(
             &mut credits,
@@ -100,7 +101,7 @@ impl<'a> Machine<'a> {
         Ok(Machine {
             image,
             input,
-            setting,
+            setting: marked,
             engine,
             credits,
             moment: 0,
@@ -142,15 +143,38 @@ impl<'a> Machine<'a> {
         ensures rest { self.new ≡ record self.old { state = self.new.state } }
     {
         let raised = self.credits.raised();
-        let event = self.engine.advance(&self.setting, raised);
+        let event = self.engine.advance(self.setting.setting(), raised);
         self.moment = account_event(
             &mut self.credits,
             &self.engine,
             event,
-            self.setting.choice.speedup,
+            self.setting.choice().speedup,
             raised,
         );
         event
+    }
+
+    /// One event or more of a run that goes on. Those before the last one are retirements after
+    /// which nothing is accounted for: one hart goes on, no other begins, and nothing is selected.
+    #[inline(always)]
+    fn events_far(&mut self)
+        requires { self.old.state.ending ≡ None }
+        ensures next { self.new.state ≡ standing (experiment_of self.old) (events self.new.state) }
+        ensures more { events self.old.state < events self.new.state }
+        ensures starts { (standing (experiment_of self.old) (events self.new.state - 1)).starts
+            ≡ self.old.state.starts }
+        ensures within { self.new.state.retired ≤ self.old.choice.budget }
+        ensures rest { self.new ≡ record self.old { state = self.new.state } }
+    {
+        let raised = self.credits.raised();
+        let event = self.engine.advance_far(&self.setting, raised);
+        self.moment = account_event(
+            &mut self.credits,
+            &self.engine,
+            event,
+            self.setting.choice().speedup,
+            raised,
+        );
     }
 
     /// Runs to the end, and returns the ending. A further run changes nothing and returns the
@@ -172,7 +196,8 @@ impl<'a> Machine<'a> {
     {
         let mut ending = self.engine.ending;
         while ending.is_none() {
-            ending = self.step();
+            self.events_far();
+            ending = self.ending();
         }
         match ending {
             Some(ending) => ending,
@@ -208,7 +233,7 @@ impl<'a> Machine<'a> {
     {
         let mut going = is_unstarted(&self.engine);
         while going {
-            self.event();
+            self.events_far();
             going = self.is_unstarted();
         }
         self.ending()
@@ -229,8 +254,8 @@ impl<'a> Machine<'a> {
     {
         self.image = lead.image;
         self.input = lead.input;
-        self.setting = lead.setting;
-        self.setting.choice.speedup = speedup;
+        self.setting.copy_from(&lead.setting);
+        self.setting.set_speedup(speedup);
         self.engine.copy_from(&lead.engine);
         self.credits.copy_from(&lead.credits);
         self.moment = lead.moment;
@@ -251,10 +276,10 @@ impl<'a> Machine<'a> {
     {
         self.image = first.image;
         self.input = first.input;
-        self.setting = first.setting;
-        self.setting.choice.selected = Some(line);
+        self.setting.copy_from(&first.setting);
+        self.setting.select(Some(line));
         self.engine.copy_from(&first.engine);
-        self.engine.count_first(&self.setting);
+        self.engine.count_first(self.setting.setting());
         self.credits.copy_from(&first.credits);
         self.moment = first.moment;
     }

@@ -1,6 +1,7 @@
-use Rattle.std.proofs.Common.{◌≡◌, ℕ, ◌+◌, ◌*◌, ◌^◌, ◌≤◌, None, subst, sym, ◌∙◌, arith}
+use Rattle.std.proofs.Common.{◌≡◌, ℕ, ◌+◌, ◌*◌, ◌^◌, ◌≤◌, None, subst, sym, ◌∙◌, arith, ap}
 use Rattle.machines.specs.Standing.{standing}
-use Rattle.virtual_run.specs.Credited.{moment_of}
+use Rattle.run_engine.specs.declared.choice.Choice.{Choice}
+use Rattle.virtual_run.specs.Credited.{raise_ticks, moment_of, credited_by}
 use Rattle.run_engine.specs.Run.{experiment_in}
 use Rattle.run_engine.specs.Engine.{events_of}
 use Rattle.virtual_run.specs.DelayedRun.{IsPaced}
@@ -26,7 +27,7 @@ account_event-self-inside-requires-clause-few c =
     let delay : ℕ = c.raised-raised.result in
     let none : m.engine.ending ≡ None = goes_seen m.image.now m.input.now m.setting m.engine m.credits m.moment c.self.invariant c.args.self.now c.self.view_is c.requires in
     let few : m.credits.raised ≤ 10 ^ 16 = raised_few m.image.now m.input.now m.setting m.engine m.credits m.moment c.self.invariant in
-    let time : moment_of event new ≤ 2 * 10 ^ 16 = event_few m.image.now m.input.now m.setting m.engine m.credits m.moment c.self.invariant new event delay c.raised-raised.ensures none c.advance-event.ensures in
+    let time : moment_of event new ≤ 2 * 10 ^ 16 = event_few m.image.now m.input.now m.setting m.engine m.credits m.moment c.self.invariant new event delay c.raised-raised.ensures none (rw c.setting.ensures at c.advance-event.ensures) in
     omega (arith, c.raised-raised.ensures)
 
 pub account_event-self-inside-requires-clause-can : goal.account_event-self-inside-requires-clause-can
@@ -36,7 +37,7 @@ account_event-self-inside-requires-clause-can c =
     let event = c.advance-event.result in
     let delay : ℕ = c.raised-raised.result in
     let none : m.engine.ending ≡ None = goes_seen m.image.now m.input.now m.setting m.engine m.credits m.moment c.self.invariant c.args.self.now c.self.view_is c.requires in
-    (can_follow m.image.now m.input.now m.setting m.engine m.credits m.moment c.self.invariant new event delay c.raised-raised.ensures none c.advance-event.ensures)
+    (can_follow m.image.now m.input.now m.setting m.engine m.credits m.moment c.self.invariant new event delay c.raised-raised.ensures none (rw c.setting.ensures at c.advance-event.ensures))
 
 pub invariant_of-self : goal.invariant_of-self
 invariant_of-self c =
@@ -46,8 +47,8 @@ invariant_of-self c =
     let delay : ℕ = c.raised-raised.result in
     let none : m.engine.ending ≡ None = goes_seen m.image.now m.input.now m.setting m.engine m.credits m.moment c.self.invariant c.args.self.now c.self.view_is c.requires in
     subst (λ (now : ℕ). IsPaced m.image.now m.input.now m.setting new c.account_event-self-inside.new.credits now) (sym c.account_event-self-inside.ensures.moment)
-    (paced_event m.image.now m.input.now m.setting m.engine m.credits m.moment c.self.invariant new event delay c.raised-raised.ensures none c.advance-event.ensures c.account_event-self-inside.new.credits
-    c.account_event-self-inside.ensures.credits)
+    (paced_event m.image.now m.input.now m.setting m.engine m.credits m.moment c.self.invariant new event delay c.raised-raised.ensures none (rw c.setting.ensures at c.advance-event.ensures) c.account_event-self-inside.new.credits
+    (c.account_event-self-inside.ensures.credits ∙ ap (λ (choice : Choice). credited_by c.advance-event.result c.advance-event.new.self (raise_ticks c.advance-event.new.self.guest choice.speedup) (moment_of c.advance-event.result c.advance-event.new.self + c.raised-raised.result) m.credits) c.choice.ensures))
 
 pub returns-clause-next : goal.returns-clause-next
 returns-clause-next c =
@@ -56,7 +57,7 @@ returns-clause-next c =
     let event = c.advance-event.result in
     let delay : ℕ = c.raised-raised.result in
     let none : m.engine.ending ≡ None = goes_seen m.image.now m.input.now m.setting m.engine m.credits m.moment c.self.invariant c.args.self.now c.self.view_is c.requires in
-    next_seen m.image.now m.input.now m.setting m.engine m.credits m.moment c.self.invariant c.args.self.now (events_of new) c.self.view_is (event_count m.image.now m.input.now m.setting m.engine m.credits m.moment c.self.invariant new event delay c.raised-raised.ensures none c.advance-event.ensures)
+    next_seen m.image.now m.input.now m.setting m.engine m.credits m.moment c.self.invariant c.args.self.now (events_of new) c.self.view_is (event_count m.image.now m.input.now m.setting m.engine m.credits m.moment c.self.invariant new event delay c.raised-raised.ensures none (rw c.setting.ensures at c.advance-event.ensures))
 
 pub returns-clause-count : goal.returns-clause-count
 returns-clause-count c =
@@ -66,10 +67,10 @@ returns-clause-count c =
     let delay : ℕ = c.raised-raised.result in
     let none : m.engine.ending ≡ None = goes_seen m.image.now m.input.now m.setting m.engine m.credits m.moment c.self.invariant c.args.self.now c.self.view_is c.requires in
     let after : IsPaced m.image.now m.input.now m.setting new c.account_event-self-inside.new.credits (moment_of event new + delay) =
-    paced_event m.image.now m.input.now m.setting m.engine m.credits m.moment c.self.invariant new event delay c.raised-raised.ensures none c.advance-event.ensures c.account_event-self-inside.new.credits
-    c.account_event-self-inside.ensures.credits in
+    paced_event m.image.now m.input.now m.setting m.engine m.credits m.moment c.self.invariant new event delay c.raised-raised.ensures none (rw c.setting.ensures at c.advance-event.ensures) c.account_event-self-inside.new.credits
+    (c.account_event-self-inside.ensures.credits ∙ ap (λ (choice : Choice). credited_by c.advance-event.result c.advance-event.new.self (raise_ticks c.advance-event.new.self.guest choice.speedup) (moment_of c.advance-event.result c.advance-event.new.self + c.raised-raised.result) m.credits) c.choice.ensures) in
     events_now m.image.now m.input.now m.setting new c.account_event-self-inside.new.credits (moment_of event new + delay) after
-    ∙ count_seen m.image.now m.input.now m.setting m.engine m.credits m.moment c.self.invariant c.args.self.now (events_of new) c.self.view_is (event_count m.image.now m.input.now m.setting m.engine m.credits m.moment c.self.invariant new event delay c.raised-raised.ensures none c.advance-event.ensures)
+    ∙ count_seen m.image.now m.input.now m.setting m.engine m.credits m.moment c.self.invariant c.args.self.now (events_of new) c.self.view_is (event_count m.image.now m.input.now m.setting m.engine m.credits m.moment c.self.invariant new event delay c.raised-raised.ensures none (rw c.setting.ensures at c.advance-event.ensures))
 
 pub returns-clause-happens : goal.returns-clause-happens
 returns-clause-happens c =
@@ -78,4 +79,4 @@ returns-clause-happens c =
     let event = c.advance-event.result in
     let delay : ℕ = c.raised-raised.result in
     let none : m.engine.ending ≡ None = goes_seen m.image.now m.input.now m.setting m.engine m.credits m.moment c.self.invariant c.args.self.now c.self.view_is c.requires in
-    happens_seen m.image.now m.input.now m.setting m.engine m.credits m.moment c.self.invariant c.args.self.now event (standing (experiment_in m.image.now m.input.now m.setting) (events_of new)) c.self.view_is (happens_event m.image.now m.input.now m.setting m.engine m.credits m.moment c.self.invariant new event delay c.raised-raised.ensures none c.advance-event.ensures)
+    happens_seen m.image.now m.input.now m.setting m.engine m.credits m.moment c.self.invariant c.args.self.now event (standing (experiment_in m.image.now m.input.now m.setting) (events_of new)) c.self.view_is (happens_event m.image.now m.input.now m.setting m.engine m.credits m.moment c.self.invariant new event delay c.raised-raised.ensures none (rw c.setting.ensures at c.advance-event.ensures))

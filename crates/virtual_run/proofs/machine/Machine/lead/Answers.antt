@@ -11,16 +11,16 @@ loop-going-init c =
 
 pub loop-going-preserved : goal.loop-going-preserved
 loop-going-preserved c =
-    let e = c.event.ensures in
-    (led_next c.args.self.now c.loop-going.self c.loop-going.invariant.0 (sym c.loop-going.invariant.1 ∙ c.loop-going-test.true) c.event.new.self e.next e.count e.rest, c.is_unstarted-going-in-loop-going.ensures)
+    let e = c.events_far.ensures in
+    (led_next c.args.self.now c.loop-going.self c.loop-going.invariant.0 (sym c.loop-going.invariant.1 ∙ c.loop-going-test.true) c.events_far.new.self e.next e.more e.starts e.rest, c.is_unstarted-going-in-loop-going.ensures)
 
-pub event-requires : goal.event-requires
-event-requires c = (goes_unstarted c.loop-going.self.state (sym c.loop-going.invariant.1 ∙ c.loop-going-test.true)).0
+pub events_far-requires : goal.events_far-requires
+events_far-requires c = (goes_unstarted c.loop-going.self.state (sym c.loop-going.invariant.1 ∙ c.loop-going-test.true)).0
 
 pub loop-going-smaller : goal.loop-going-smaller
 loop-going-smaller c =
-    let e = c.event.ensures in
-    led_smaller c.args.self.now c.loop-going.self c.loop-going.invariant.0 (sym c.loop-going.invariant.1 ∙ c.loop-going-test.true) c.event.new.self e.next e.count e.rest
+    let e = c.events_far.ensures in
+    led_smaller c.args.self.now c.loop-going.self c.loop-going.invariant.0 (sym c.loop-going.invariant.1 ∙ c.loop-going-test.true) c.events_far.new.self e.next e.more e.starts e.rest
 
 pub returns-clause-stops : goal.returns-clause-stops
 returns-clause-stops c = sym c.loop-going.invariant.1 ∙ c.loop-going-test.false

@@ -1,3 +1,6 @@
+use Rattle.std.proofs.Common.{subst, sym}
+use Rattle.run_engine.specs.declared.choice.Setting.{Setting}
+use Rattle.virtual_run.specs.DelayedRun.{IsPaced}
 use Rattle.virtual_run.proofs.CreditedRun.{first_made_here, first_runs_here, first_paced}
 use Rattle.virtual_run.proofs.machine.Machine.new.Goals as goal
 
@@ -12,5 +15,6 @@ raise_harts-requires-clause-run c =
 
 pub invariant_of-result : goal.invariant_of-result
 invariant_of-result c =
-    first_paced c.args.image.now c.args.input.now (record { index = c.args.index; points = c.args.points; choice = c.args.choice }) c.in_ok-engine.engine c.requires c.in_ok-engine.ensures
-    c.in_ok-credits.credits c.start.new.self c.raise_harts.new.credits _ c.in_ok-credits.ensures c.start.ensures c.harts.ensures c.raise_harts.ensures
+    subst (λ (setting : Setting). IsPaced c.args.image.now c.args.input.now setting c.in_ok-engine.engine c.raise_harts.new.credits 0) (sym c.in_ok-marked.ensures)
+    (first_paced c.args.image.now c.args.input.now (record { index = c.args.index; points = c.args.points; choice = c.args.choice }) c.in_ok-engine.engine c.requires c.in_ok-engine.ensures
+    c.in_ok-credits.credits c.start.new.self c.raise_harts.new.credits _ c.in_ok-credits.ensures c.start.ensures c.harts.ensures c.raise_harts.ensures)

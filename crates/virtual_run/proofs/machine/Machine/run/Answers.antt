@@ -3,7 +3,7 @@ use Rattle.machines.specs.Delayed.{Delayed}
 use Rattle.guest_calls.specs.Guest.{Guest}
 use Rattle.run_engine.specs.Seen.{Seen}
 use Rattle.run_engine.proofs.Law.{none_is}
-use Rattle.virtual_run.proofs.CreditedRun.{ending_now, going_first, going_next, going_smaller, record_now, last_now, agrees_last, delayed_now, law_now, moves_now, once_now, shortened_now}
+use Rattle.virtual_run.proofs.CreditedRun.{ending_now, going_first, going_far, far_smaller, record_now, last_now, agrees_last, delayed_now, law_now, moves_now, once_now, shortened_now}
 use Rattle.virtual_run.proofs.machine.Machine.run.Goals as goal
 
 pub loop-ending-init : goal.loop-ending-init
@@ -15,15 +15,16 @@ loop-ending-init c =
 
 pub loop-ending-preserved : goal.loop-ending-preserved
 loop-ending-preserved c =
-    let none : c.loop-ending.self.state.ending ≡ None = sym c.loop-ending.invariant.1 ∙ none_is c.loop-ending.ending c.is_none.result c.is_none.ensures c.loop-ending-test.true in
-    let e = c.step-ending.ensures in
-    (going_next c.args.self.now c.loop-ending.self c.loop-ending.invariant.0 c.step-ending.new.self none e.next e.steps e.rest, e.ended)
+    let e = c.events_far.ensures in
+    (going_far c.args.self.now c.loop-ending.self c.loop-ending.invariant.0 c.events_far.new.self e.next e.within e.rest, c.ending-ending.ensures)
+
+pub events_far-requires : goal.events_far-requires
+events_far-requires c = sym c.loop-ending.invariant.1 ∙ none_is c.loop-ending.ending c.is_none.result c.is_none.ensures c.loop-ending-test.true
 
 pub loop-ending-smaller : goal.loop-ending-smaller
 loop-ending-smaller c =
     let none : c.loop-ending.self.state.ending ≡ None = sym c.loop-ending.invariant.1 ∙ none_is c.loop-ending.ending c.is_none.result c.is_none.ensures c.loop-ending-test.true in
-    let e = c.step-ending.ensures in
-    going_smaller c.args.self.now c.loop-ending.self c.loop-ending.invariant.0 c.step-ending.new.self none e.steps
+    far_smaller c.args.self.now c.loop-ending.self c.loop-ending.invariant.0.at c.events_far.new.self none c.events_far.ensures.more
 
 pub returns-clause-ended : goal.returns-clause-ended
 returns-clause-ended c =
