@@ -1,0 +1,98 @@
+//! Steps of one hart after another.
+ghost use Rattle.std.specs.Prelude.{◌≡◌, ◌≤◌, ◌<◌, ◌^◌, ℕ};
+ghost use Rattle.coz_types.specs.declared.TheConstants.{HARTS};
+ghost use Rattle.guest_memory.specs.Memory.{fetch};
+ghost use Rattle.rv_execute.specs.Execution.{setting, execution};
+ghost use Rattle.hart_steps.specs.Words.{IsWordOf};
+ghost use Rattle.hart_steps.specs.Steps.{step, after, moment, IsQuiet};
+
+use crate::code::{Code, Word};
+use code_words::Marks;
+use coz_types::{HartId, Tick};
+use guest_memory::Memory;
+use rv_execute::{HartState, Reservations, Step, execute};
+
+/// Steps of a hart, one after another.
+#[derive(Clone, Copy)]
+pub struct Advance {
+    /// The number of steps before the last one.
+    pub quiet: u64,
+    /// When the last one was, in net ticks.
+    pub net: Tick,
+    /// What follows the last one.
+    pub step: Step,
+}
+
+/// Executes the word at a hart's pc.
+#[inline(always)]
+fn execute_word(
+    state: &mut HartState,
+    number: HartId,
+    memory: &mut Memory,
+    reservations: &mut Reservations,
+    word: Word,
+) -> Step
+    requires number { number.0 < HARTS }
+    requires word { IsWordOf (fetch memory.old state.old.pc) word }
+    ensures { execution state.new memory.new reservations.new result
+        ≡ step number.0 (setting state.old memory.old reservations.old) }
+{
+    match word.found {
+        Ok(instr) => execute(state, number, memory, reservations, instr),
+        Err(cause) => Step::Fault(cause),
+    }
+}
+
+/// Executes instructions of a hart, the first of them at a net time, and at least one. It goes on
+/// only to an instruction that has no mark and is due before `limit`, and only while it executed
+/// fewer than `most`.
+pub fn step_on(
+    state: &mut HartState,
+    number: HartId,
+    memory: &mut Memory,
+    reservations: &mut Reservations,
+    code: &Code,
+    marks: &Marks,
+    net: Tick,
+    limit: Tick,
+    most: u64,
+) -> Advance
+    requires number { number.0 < HARTS }
+    requires some { 1 ≤ most }
+    requires net { net ≤ 2 ^ 62 }
+    requires limit { limit ≤ 2 ^ 62 }
+    ensures no_error_line { (i : ℕ) → i < result.quiet → IsQuiet marks.now limit number.0
+        (after i number.0 (setting state.old memory.old reservations.old))
+        (moment i number.0 (setting state.old memory.old reservations.old) net) }
+    ensures few { result.quiet < most }
+    ensures net { result.net
+        ≡ moment result.quiet number.0 (setting state.old memory.old reservations.old) net }
+    ensures effect { execution state.new memory.new reservations.new result.step
+        ≡ step number.0
+        (after result.quiet number.0 (setting state.old memory.old reservations.old)) }
+{
+    let mut quiet = 0;
+    let mut due = net;
+    let mut word = code.fetch(memory, state.pc);
+    loop {
+        let step = execute_word(state, number, memory, reservations, word);
+        if !matches!(step, Step::Next) || quiet + 1 >= most || !marks.is_quiet_at(state.pc) {
+            return Advance {
+                quiet,
+                net: due,
+                step,
+            };
+        }
+        word = code.fetch(memory, state.pc);
+        let later = due + u64::from(word.ticks);
+        if later >= limit {
+            return Advance {
+                quiet,
+                net: due,
+                step,
+            };
+        }
+        due = later;
+        quiet += 1;
+    }
+}
