@@ -1,5 +1,6 @@
 pub mod Steady
 pub mod Steps
+pub mod Strides
 pub mod Rows
 pub mod Among
 pub mod Waiting

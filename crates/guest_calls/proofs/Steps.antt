@@ -1,9 +1,7 @@
 -- How a retirement follows from the step of a hart.
-use Rattle.std.proofs.Common.{ℕ, ◌≡◌, List, [], length, get_or, set, Option, Some, None, refl, sym, ap, ◌∙◌, subst, option_and_then}
+use Rattle.std.proofs.Common.{ℕ, ◌≡◌, List, length, get_or, set, Option, Some, None, refl, sym, ap, ◌∙◌, subst, option_and_then}
 use Rattle.std.proofs.lemmas.List.{set-get_or, length-set}
-use Rattle.coz_types.specs.declared.ending.TrapCause.{TrapCause}
 use Rattle.coz_types.specs.declared.ending.TrapCause.TheVariants.{Fetch, Illegal}
-use Rattle.machines.specs.declared.Fate.TheVariants.{Goes}
 use Rattle.rv_decode.specs.declared.Instr.{Instr}
 use Rattle.rv_decode.specs.declared.Instr.TheVariants.{Ecall}
 use Rattle.rv_decode.specs.Instructions.{instruction_of}
@@ -12,7 +10,7 @@ use Rattle.guest_memory.specs.Memory.{MemoryMap}
 use Rattle.guest_areas.specs.Space.{RegionMap, SharesRegions}
 use Rattle.rv_execute.specs.declared.hart.HartState.{HartState}
 use Rattle.rv_execute.specs.declared.hart.Step.{Step}
-use Rattle.rv_execute.specs.declared.hart.Step.TheVariants.{Next, Call, Fault}
+use Rattle.rv_execute.specs.declared.hart.Step.TheVariants.{Call, Fault}
 use Rattle.rv_execute.specs.Reservations.{Reservations}
 use Rattle.rv_execute.specs.Execution.{Setting, Executed, setting, execution, execute}
 use Rattle.guest_futex.specs.Waiters.{Waiter}
@@ -21,8 +19,7 @@ use Rattle.guest_calls.specs.declared.hart.Hart.{Hart}
 use Rattle.guest_calls.specs.Guest.{Guest, no_hart, setting_of, with_setting}
 use Rattle.guest_calls.specs.Output.{Written}
 use Rattle.guest_calls.specs.Kept.{guest_of}
-use Rattle.guest_calls.specs.Calls.{retirement, call_of}
-use Rattle.guest_calls.specs.Retire.{word_at, next_of, Stepped, step_result, stepped_by, step, trap_of, retirement_after, retire}
+use Rattle.guest_calls.specs.Retire.{word_at, next_of, Stepped, step_result, stepped_by, step, retirement_after, retire}
 use Rattle.guest_calls.proofs.Steady.{only_ecall, ecall-unchanged, regions-kept}
 
 -- the next instruction, and its absence
@@ -35,11 +32,11 @@ unfolding next_of
 next-absent g h e = ap (option_and_then instruction_of) e
 
 -- what a step does, by the word at the pc and its instruction
-abbrev decoded : Guest → ℕ → Option Instr → Stepped
+abbrev pub decoded : Guest → ℕ → Option Instr → Stepped
 decoded g h None = step_result g (Fault Illegal)
 decoded g h (Some i) = stepped_by g h (execute h i (setting_of g h))
 
-abbrev fetched : Guest → ℕ → Option ℕ → Stepped
+abbrev pub fetched : Guest → ℕ → Option ℕ → Stepped
 fetched g h None = step_result g (Fault Fetch)
 fetched g h (Some w) = decoded g h (instruction_of w)
 
@@ -52,7 +49,7 @@ fetched-is : (g : Guest) (h : ℕ) (o : Option ℕ)
 fetched-is g h None = refl
 fetched-is g h (Some w) = decoded-is g h (instruction_of w)
 
-step-is : (g : Guest) (h : ℕ) → step g h ≡ fetched g h (word_at g h)
+pub step-is : (g : Guest) (h : ℕ) → step g h ≡ fetched g h (word_at g h)
 unfolding step
 step-is g h = fetched-is g h (word_at g h)
 
@@ -66,7 +63,7 @@ pub step-executed : (g : Guest) (h w : ℕ) (i : Instr) (s : HartState) (m : Mem
     → execution s m r result ≡ execute h i (setting_of g h) → step_result (with_setting h (setting s m r) g) result ≡ step g h
 step-executed g h w i s m r result e f x = ap (stepped_by g h) x ∙ ap (decoded g h) f ∙ ap (fetched g h) e ∙ sym (step-is g h)
 
-same_setting : (g : Guest) (h : ℕ) → with_setting h (setting_of g h) g ≡ g
+pub same_setting : (g : Guest) (h : ℕ) → with_setting h (setting_of g h) g ≡ g
 same_setting g h = ap (λ (harts : List Hart). record g { harts = harts }) (set-get_or g.harts h no_hart)
 
 -- a step that is a call leaves the guest as it is, at an ecall
@@ -109,17 +106,9 @@ step-guest Has g h here after = subst (λ (s : Stepped). Has s.guest) (sym (step
 pub step-harts : (g : Guest) (h : ℕ) → length (step g h).guest.harts ≡ length g.harts
 step-harts g h = step-guest (λ x. length x.harts ≡ length g.harts) g h refl (λ i. length-set g.harts h _)
 
-pub retire-next : (g after : Guest) (h v : ℕ) (s : Step) → step_result after s ≡ step g h → s ≡ Next → retirement after Goes [] ≡ retire g h v
+pub retire-after : (g after : Guest) (h v : ℕ) (s : Step) → step_result after s ≡ step g h → retirement_after h v (step_result after s) ≡ retire g h v
 unfolding retire
-retire-next g after h v s e is = ap (λ (x : Step). retirement_after h v (step_result after x)) (sym is) ∙ ap (retirement_after h v) e
-
-pub retire-call : (g after : Guest) (h v : ℕ) (s : Step) → step_result after s ≡ step g h → s ≡ Call → call_of after h v ≡ retire g h v
-unfolding retire
-retire-call g after h v s e is = ap (λ (x : Step). retirement_after h v (step_result after x)) (sym is) ∙ ap (retirement_after h v) e
-
-pub retire-fault : (g after : Guest) (h v : ℕ) (s : Step) (cause : TrapCause) → step_result after s ≡ step g h → s ≡ Fault cause → retirement after (trap_of after h cause) [] ≡ retire g h v
-unfolding retire
-retire-fault g after h v s cause e is = ap (λ (x : Step). retirement_after h v (step_result after x)) (sym is) ∙ ap (retirement_after h v) e
+retire-after g after h v s e = ap (retirement_after h v) e
 
 -- what is asked of a call holds after the step that reaches it
 pub call-same : (g after : Guest) (h : ℕ) (s : Step) → step_result after s ≡ step g h → s ≡ Call → IsCall g h (step_result after s) (next_of g h)

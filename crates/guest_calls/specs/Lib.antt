@@ -7,3 +7,4 @@ pub mod Calls
 pub mod Retire
 pub mod Plug
 pub mod Orderly
+pub mod Quiet

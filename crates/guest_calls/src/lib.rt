@@ -11,19 +11,23 @@ mod threads;
 mod times;
 mod transfer_buffer;
 
-ghost use Rattle.std.specs.Prelude.{◌≡◌, ◌≤◌, [], length, IfOk, IsTrue};
+ghost use Rattle.std.specs.Prelude.{◌≡◌, ◌≤◌, ◌<◌, ◌^◌, ℕ, [], Some, length, IfOk, IsTrue};
 ghost use Rattle.std.specs.Result.{result_ok};
 ghost use Rattle.coz_types.specs.declared.TheConstants.{MAX_OUTPUT};
 ghost use Rattle.cost_table.specs.declared.TheConstants.{MAX_CYCLES};
 ghost use Rattle.cost_table.specs.Costs.{cycles_of};
 ghost use Rattle.guest_memory.specs.Regions.{IsLayout};
+ghost use Rattle.rv_decode.specs.declared.Instr.TheVariants.{Ecall};
+ghost use Rattle.rv_execute.specs.declared.hart.Step.TheVariants.{Call};
 ghost use Rattle.guest_calls.specs.Guest.{IsMade, is_running, is_sleeping, with_wake, making, pc_of, hart_at, first_guest};
 ghost use Rattle.guest_calls.specs.Calls.{retirement};
-ghost use Rattle.guest_calls.specs.Retire.{word_at, next_of, step_result, step, trap_of, retire};
+ghost use Rattle.guest_calls.specs.Quiet.{after_steps, moment_after, IsQuietStep};
+ghost use Rattle.guest_calls.specs.Retire.{word_at, next_of, step_result, step, trap_of, retirement_after, retire};
 
 use crate::hart::Hart;
 use crate::output::Output;
 use crate::transfer_buffer::TransferBuffer;
+use code_words::Marks;
 use cost_table::word_cycles;
 use coz_types::{Address, Ending, HARTS, HartId, Image, Tick, Trap, TrapCause};
 use guest_areas::Areas;
@@ -31,11 +35,23 @@ use guest_futex::{HartList, Queue};
 use guest_memory::{Access, Layout, Memory};
 use guest_pipes::Pipes;
 pub use hart::HartStatus;
+use hart_steps::{Advance, Code, step_on};
 pub use machines::Fate;
 use rv_decode::{Instr, decode};
 use rv_execute::{Reservations, Step, execute};
 use std::alloc::{AllocError, Global};
 use std::marker::Model;
+
+/// Retirements of one hart, one after another.
+#[derive(Clone, Copy)]
+pub struct Stretch {
+    /// The number of retirements before the last one.
+    pub quiet: u64,
+    /// When the last one was, in net ticks.
+    pub net: Tick,
+    /// What followed the last one.
+    pub fate: Fate,
+}
 
 /// A guest. All its room is taken when it is made.
 #[derive(Drop)]
@@ -44,6 +60,7 @@ pub struct Guest<'a> {
     memory: Memory<'a>,
     areas: Areas,
     reservations: Reservations,
+    code: Code,
     queue: Queue,
     pipes: Pipes,
     transfer_buffer: TransferBuffer,
@@ -89,6 +106,7 @@ impl<'a> Guest<'a> {
         let transfer_buffer = TransferBuffer::new(alloc)?;
         let mut harts = Vec::with_capacity(alloc, HARTS)?;
         let output = Output::new(alloc, output_limit as usize)?;
+        let code = Code::of_image(alloc, image)?;
         // The memory has many parts: little that may fail comes after it.
         let mut memory = Memory::new(alloc, image, layout)?;
         let areas = Areas::new(alloc, &mut memory, image)?;
@@ -100,6 +118,7 @@ impl<'a> Guest<'a> {
             memory,
             areas,
             reservations: Reservations::new(),
+            code,
             queue,
             pipes,
             transfer_buffer,
@@ -169,10 +188,44 @@ impl<'a> Guest<'a> {
     {
         // The invariant of `self` is known to a proof once a field is used.
         let _ = &self.harts;
-        match self.step(hart) {
-            Step::Next => Fate::Goes,
-            Step::Call => self.call(hart, net, started),
-            Step::Fault(cause) => self.trap(hart, cause),
+        let step = self.step(hart);
+        self.follow(hart, net, step, started)
+    }
+
+    /// Retires instructions of a running hart, the first of them at a net time, and at least one.
+    /// It goes on only to an instruction that has no mark and is due before `limit`, and only
+    /// while it retired fewer than `most`. What the last one did is what `retire` says of it.
+    pub fn retire_far(
+        &mut self,
+        hart: HartId,
+        net: Tick,
+        limit: Tick,
+        most: u64,
+        marks: &Marks,
+        started: &mut HartList,
+    ) -> Stretch
+        requires running { IsTrue (is_running self.old hart.0) }
+        requires started { started.old ≡ [] }
+        requires some { 1 ≤ most }
+        requires net { net ≤ 2 ^ 62 }
+        requires limit { limit ≤ 2 ^ 62 }
+        ensures no_error_line { (i : ℕ) → i < result.quiet →
+            IsQuietStep marks.now limit (after_steps i self.old hart.0) hart.0
+            (moment_after i self.old hart.0 net) }
+        ensures few { result.quiet < most }
+        ensures net { result.net ≡ moment_after result.quiet self.old hart.0 net }
+        ensures effect { retirement self.new result.fate started.new
+            ≡ retire (after_steps result.quiet self.old hart.0) hart.0 result.net }
+        ensures made { making self.new ≡ making self.old }
+    {
+        // The invariant of `self` is known to a proof once a field is used.
+        let _ = &self.harts;
+        let done = self.step_on(hart, net, limit, most, marks);
+        let fate = self.follow(hart, done.net, done.step, started);
+        Stretch {
+            quiet: done.quiet,
+            net: done.net,
+            fate,
         }
     }
 
@@ -234,6 +287,52 @@ impl<'a> Guest<'a> {
         };
         let state = &mut self.harts[hart.0 as usize].state;
         execute(state, hart, &mut self.memory, &mut self.reservations, instr)
+    }
+
+    /// Executes a hart's next instructions, the first of them at a net time, and at least one. It
+    /// goes on as `retire_far` says.
+    #[inline(never)]
+    fn step_on(&mut self, hart: HartId, net: Tick, limit: Tick, most: u64, marks: &Marks) -> Advance
+        requires made { IsMade self.old hart.0 }
+        requires some { 1 ≤ most }
+        requires net { net ≤ 2 ^ 62 }
+        requires limit { limit ≤ 2 ^ 62 }
+        ensures no_error_line { (i : ℕ) → i < result.quiet →
+            IsQuietStep marks.now limit (after_steps i self.old hart.0) hart.0
+            (moment_after i self.old hart.0 net) }
+        ensures few { result.quiet < most }
+        ensures net { result.net ≡ moment_after result.quiet self.old hart.0 net }
+        ensures effect { step_result self.new result.step
+            ≡ step (after_steps result.quiet self.old hart.0) hart.0 }
+    {
+        let state = &mut self.harts[hart.0 as usize].state;
+        step_on(
+            state,
+            hart,
+            &mut self.memory,
+            &mut self.reservations,
+            &self.code,
+            marks,
+            net,
+            limit,
+            most,
+        )
+    }
+
+    /// Does what follows a step of a hart, which runs, at a net time.
+    #[inline(always)]
+    fn follow(&mut self, hart: HartId, net: Tick, step: Step, started: &mut HartList) -> Fate
+        requires running { IsTrue (is_running self.old hart.0) }
+        requires started { started.old ≡ [] }
+        requires call { step ≡ Call → next_of self.old hart.0 ≡ Some Ecall }
+        ensures { retirement self.new result started.new
+            ≡ retirement_after hart.0 net (step_result self.old step) }
+    {
+        match step {
+            Step::Next => Fate::Goes,
+            Step::Call => self.call(hart, net, started),
+            Step::Fault(cause) => self.trap(hart, cause),
+        }
     }
 
     /// The word at a hart's pc.

@@ -70,7 +70,7 @@ fn word_of(raw: u32) -> Word
 
 impl Code {
     /// Decodes the words of the load area that a program's entry is in.
-    pub fn new(alloc: Global, image: &Image) -> Result<Code, AllocError> {
+    pub fn of_image(alloc: Global, image: &Image) -> Result<Code, AllocError> {
         let entry = image.entry();
         for area in image.areas() {
             if area.start <= entry && entry - area.start < area.size {
