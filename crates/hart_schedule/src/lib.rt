@@ -11,11 +11,11 @@
 
 mod heap;
 
-ghost use Rattle.std.specs.Prelude.{◌≡◌, ◌<◌, ◌≤◌, length, replicate, IfOk, MatchOption};
+ghost use Rattle.std.specs.Prelude.{◌≡◌, ℕ, ◌<◌, ◌≤◌, length, replicate, IfOk, MatchOption};
 ghost use Rattle.coz_types.specs.declared.TheConstants.{HARTS};
 ghost use Rattle.hart_schedule.specs.Keys.{key_of, with_key, without_key, IsEmpty, IsLeast};
 
-use crate::heap::{refill, rise};
+use crate::heap::{earlier_below, refill, rise};
 use coz_types::{HartId, Tick};
 pub use heap::Contender;
 use std::alloc::{AllocError, Global};
@@ -105,6 +105,23 @@ impl Schedule {
             None
         } else {
             Some(self.entries[1])
+        }
+    }
+
+    /// The hart that is due next after the first one, with its key. None exactly if the schedule
+    /// has fewer than two harts.
+    #[inline]
+    pub fn second(&self) -> Option<Contender>
+        ensures none { IsEmpty self.now → result ≡ None }
+        ensures next { (first : ℕ) → IsLeast self.now first
+            → MatchOption result (IsEmpty (without_key first self.now))
+            (λ second. IsLeast (without_key first self.now) second.hart.0
+            × (key_of (without_key first self.now) second.hart.0 ≡ Some second.key)) }
+    {
+        if self.count < 2 {
+            None
+        } else {
+            Some(self.entries[earlier_below(&self.entries, self.count, 1)])
         }
     }
 
