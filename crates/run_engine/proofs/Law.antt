@@ -24,7 +24,7 @@ use Rattle.run_engine.specs.declared.choice.Choice.{Choice}
 use Rattle.run_engine.specs.declared.choice.Setting.{Setting}
 use Rattle.run_engine.specs.declared.engine.Engine.{Engine}
 use Rattle.run_engine.specs.Visits.{Visits}
-use Rattle.run_engine.specs.Begin.{started_by, keys_at_rest, many, IsIdle, AreIdle}
+use Rattle.run_engine.specs.Begin.{last_moment, started_by, keys_at_rest, many, IsIdle, AreIdle}
 use Rattle.run_engine.specs.Ending.{ending_of}
 use Rattle.run_engine.specs.Run.{experiment, has_selected, selected_line, is_selecting, selected_of, ticks_in, IsChoice}
 use Rattle.run_engine.specs.Engine.{events_of, AreWithin, IsStateOf, IsSteady, IsEngineOf, IsFirst, state_of}
@@ -224,7 +224,7 @@ module _ (image : ImageParts) (position point : ℕ → Option ℕ) (input : Lis
         some_hart = not_empty g.lives.some_hart.0 g.lives.some_hart.1;
         room = r.room;
         unfull = subst (λ (n : ℕ). length engine.visits.kept < n) (sym r.limit) (r.unfull none);
-        within = within_later (10 ^ 16 + 4000 * (events_of engine + 1)) (2 ^ 60) engine.schedule (omega (arith, below, few, followed_by)) r.within;
+        within = within_later (10 ^ 16 + 4000 * (events_of engine + 1)) last_moment engine.schedule (omega (arith, below, few, followed_by)) r.within;
         retired = omega (arith, below, few);
         wakes = omega (arith, below, few, followed_by);
         few = r.few;

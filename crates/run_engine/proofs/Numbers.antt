@@ -1,5 +1,5 @@
 -- The limits of the runs.
-use Rattle.std.proofs.Common.{◌≡◌, ℕ, ◌-◌, ◌*◌, ◌^◌, refl}
+use Rattle.std.proofs.Common.{◌≡◌, ◌^◌, refl}
 use Rattle.run_engine.specs.declared.choice.TheConstants.{MAX_RUN_OUTPUT}
 
 -- 4 MiB

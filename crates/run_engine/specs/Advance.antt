@@ -5,6 +5,7 @@ use Rattle.cost_table.specs.declared.TheConstants.{MAX_TICKS}
 use Rattle.coz_types.specs.declared.ending.Ending.{Ending}
 use Rattle.hart_schedule.specs.Keys.{Keys, key_of, IsLeast}
 use Rattle.machines.specs.declared.Fate.{Fate}
+use Rattle.machines.specs.declared.Fate.TheVariants.{Sleeps}
 use Rattle.machines.specs.Shortened.{move}
 use Rattle.line_index.specs.Index.{position_at}
 use Rattle.progress_points.specs.Points.{point_of}
@@ -15,7 +16,7 @@ use Rattle.run_engine.specs.declared.choice.Setting.{Setting}
 use Rattle.run_engine.specs.declared.engine.Event.{Event}
 use Rattle.run_engine.specs.declared.engine.Event.TheVariants.{Woke, Retired}
 use Rattle.run_engine.specs.declared.engine.Engine.{Engine}
-use Rattle.run_engine.specs.Begin.{started_by, keys_at_rest, many, AreIdle, AreBegun}
+use Rattle.run_engine.specs.Begin.{last_moment, started_by, keys_at_rest, many, AreIdle, AreBegun}
 use Rattle.run_engine.specs.Ending.{ending_of, runs_after}
 use Rattle.run_engine.specs.Run.{experiment_from, selected_of, ticks_in}
 use Rattle.run_engine.specs.Engine.{events_of, state_of, AreDues, AreWithin, IsStateOf}
@@ -73,7 +74,8 @@ pub record CanComplete (setting : Setting) (engine : Engine) (hart : ℕ) (fate 
   pub idle : told_in setting fate engine (keys_at_rest hart fate engine.schedule) ≡ None
       → AreIdle engine.guest (keys_at_rest hart fate engine.schedule)
       (started_by hart fate engine.started)
-  pub moment : engine.time ≤ 2 ^ 60
+  pub moment : engine.time ≤ last_moment
+  pub wake : (moment : ℕ) → fate ≡ Sleeps moment → moment ≤ last_moment
   pub speedup : setting.choice.speedup ≤ MAX_SPEEDUP
   pub room : length engine.schedule ≡ HARTS
   pub selected : engine.selected ≡ []

@@ -1,5 +1,5 @@
 -- How harts begin their next instructions.
-use Rattle.std.specs.Prelude.{◌≡◌, ℕ, suc, ◌+◌, ◌*◌, ◌<◌, Bool, true, if◌then◌else◌, List, [], ◌∷◌, length, Some, None}
+use Rattle.std.specs.Prelude.{◌≡◌, ℕ, suc, ◌+◌, ◌*◌, ◌^◌, ◌<◌, Bool, true, if◌then◌else◌, List, [], ◌∷◌, length, Some, None}
 use Rattle.cost_table.specs.Costs.{cycles_of, reduced_cost}
 use Rattle.hart_schedule.specs.Keys.{Keys, key_of, with_key, without_key}
 use Rattle.machines.specs.declared.Fate.{Fate}
@@ -8,6 +8,10 @@ use Rattle.machines.specs.Guest.{goes_on}
 use Rattle.machines.specs.Places.{is_among, AllApart}
 use Rattle.guest_calls.specs.Guest.{Guest, IsMade, pc_of}
 use Rattle.guest_calls.specs.Retire.{next_of}
+
+-- no moment of a run is later: an instruction that begins then is due before 2^56
+abbrev pub last_moment : ℕ
+last_moment = 7 * 10 ^ 16
 
 -- the ticks of a hart's next instruction: fewer if its address is a selected one,
 -- as the speedup in per cent says

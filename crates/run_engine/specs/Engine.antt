@@ -11,7 +11,7 @@ use Rattle.guest_calls.specs.Guest.{Guest, is_timed}
 use Rattle.guest_calls.specs.Orderly.{IsOrderly}
 use Rattle.run_engine.specs.declared.choice.Setting.{Setting}
 use Rattle.run_engine.specs.declared.engine.Engine.{Engine}
-use Rattle.run_engine.specs.Begin.{many}
+use Rattle.run_engine.specs.Begin.{last_moment, many}
 use Rattle.run_engine.specs.Run.{experiment_in, selected_of}
 use Rattle.machines.specs.KeptVisits.{net_of}
 
@@ -54,7 +54,7 @@ pub record IsSteady (engine : Engine) : Type 0 where
   pub some_hart : ¬ IsEmpty engine.schedule
   pub room : length engine.schedule ≡ HARTS
   pub unfull : length engine.visits.kept < engine.visits.limit
-  pub within : AreWithin (2 ^ 60) engine.schedule
+  pub within : AreWithin last_moment engine.schedule
   pub retired : engine.retired ≤ 2 ^ 60
   pub wakes : engine.wakes ≤ 2 ^ 60
   pub few : engine.starts ≤ events_of engine + many engine.schedule

@@ -3,13 +3,14 @@ ghost use Rattle.std.specs.Prelude.{◌≡◌, ℕ, map, true, ◌+◌, ◌^◌,
 ghost use Rattle.coz_types.specs.declared.TheConstants.{MAX_SPEEDUP, MAX_OUTPUT, MAX_VISITS};
 ghost use Rattle.hart_schedule.specs.Keys.{key_of, without_key, IsEmpty, IsLeast};
 ghost use Rattle.machines.specs.Delayed.{is_any};
+ghost use Rattle.machines.specs.declared.Fate.TheVariants.{Sleeps};
 ghost use Rattle.machines.specs.Guest.{goes_on};
 ghost use Rattle.machines.specs.Shortened.{has_due_any};
 ghost use Rattle.progress_points.specs.Points.{point_of};
 ghost use Rattle.guest_calls.specs.Calls.{retirement};
 ghost use Rattle.guest_calls.specs.Guest.{making, is_running, is_sleeping, pc_of, IsMade};
 ghost use Rattle.guest_calls.specs.Retire.{retire};
-ghost use Rattle.run_engine.specs.Begin.{started_by, keys_at_rest, many, AreIdle, AreBegun};
+ghost use Rattle.run_engine.specs.Begin.{last_moment, started_by, keys_at_rest, many, AreIdle, AreBegun};
 ghost use Rattle.run_engine.specs.Ending.{ending_of, runs_after};
 ghost use Rattle.run_engine.specs.Visits.{visits_of};
 ghost use Rattle.run_engine.specs.Advance.{is_wake};
@@ -124,7 +125,8 @@ fn retire_due(guest: &mut Guest, turn: Turn, started: &mut HartList) -> Fate
 /// Takes the hart that retired out of the schedule, or puts it at its wake, unless it goes on.
 #[inline(always)]
 fn reschedule(schedule: &mut Schedule, hart: HartId, fate: Fate)
-    requires { hart.0 < length schedule.old }
+    requires below { hart.0 < length schedule.old }
+    requires wake { (moment : ℕ) → fate ≡ Sleeps moment → moment ≤ last_moment }
     ensures { schedule.new
         ≡ (if goes_on fate then schedule.old else keys_at_rest hart.0 fate schedule.old) }
 {
@@ -544,7 +546,7 @@ impl<'a> Engine<'a> {
         requires idle { AreIdle self.old.guest
             (if goes_on fate then without_key hart.0 self.old.schedule else self.old.schedule)
             (started_by hart.0 fate self.old.started) }
-        requires moment { self.old.time ≤ 2 ^ 60 }
+        requires moment { self.old.time ≤ last_moment }
         requires speedup { setting.now.choice.speedup ≤ MAX_SPEEDUP }
         requires room { length self.old.schedule ≡ HARTS }
         requires selected { self.old.selected ≡ [] }

@@ -6,7 +6,7 @@ ghost use Rattle.cost_table.specs.declared.TheConstants.{MAX_TICKS};
 ghost use Rattle.hart_schedule.specs.Keys.{with_key, without_key};
 ghost use Rattle.machines.specs.Guest.{goes_on};
 ghost use Rattle.guest_calls.specs.Guest.{IsMade, pc_of};
-ghost use Rattle.run_engine.specs.Begin.{many, IsIdle, AreIdle, AreBegun};
+ghost use Rattle.run_engine.specs.Begin.{last_moment, many, IsIdle, AreIdle, AreBegun};
 ghost use Rattle.run_engine.specs.Run.{is_selecting, selected_of, ticks_in};
 
 use crate::Setting;
@@ -69,7 +69,7 @@ pub fn begin(
     moment: Tick,
 )
     requires idle { IsIdle guest.now schedule.old hart.0 }
-    requires moment { moment ≤ 2 ^ 60 }
+    requires moment { moment ≤ last_moment }
     requires speedup { setting.now.choice.speedup ≤ MAX_SPEEDUP }
     requires few { length selected.old < HARTS }
     ensures due { schedule.new
@@ -94,7 +94,7 @@ pub fn begin_next(
     moment: Tick,
 )
     requires idle { IsIdle guest.now (without_key hart.0 schedule.old) hart.0 }
-    requires moment { moment ≤ 2 ^ 60 }
+    requires moment { moment ≤ last_moment }
     requires speedup { setting.now.choice.speedup ≤ MAX_SPEEDUP }
     requires few { length selected.old < HARTS }
     ensures due { schedule.new ≡ with_key hart.0 (moment + ticks_in setting.now guest.now hart.0)
@@ -120,7 +120,7 @@ pub fn begin_again(
 )
     requires idle { IsTrue (goes_on fate)
         → IsIdle guest.now (without_key hart.0 schedule.old) hart.0 }
-    requires moment { moment ≤ 2 ^ 60 }
+    requires moment { moment ≤ last_moment }
     requires speedup { setting.now.choice.speedup ≤ MAX_SPEEDUP }
     requires selected { selected.old ≡ [] }
     ensures due { schedule.new
@@ -145,7 +145,7 @@ pub fn begin_each(
     moment: Tick,
 )
     requires idle { AreIdle guest.now schedule.old (map (λ hart. hart.0) harts.now) }
-    requires moment { moment ≤ 2 ^ 60 }
+    requires moment { moment ≤ last_moment }
     requires speedup { setting.now.choice.speedup ≤ MAX_SPEEDUP }
     requires room { length schedule.old ≡ HARTS }
     requires few { length selected.old ≤ many schedule.old }

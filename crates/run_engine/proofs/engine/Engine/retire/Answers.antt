@@ -1,6 +1,9 @@
-use Rattle.std.proofs.Common.{◌≡◌, ℕ, ◌≤◌, ◌<◌, length, refl, arith, rules, subst}
+use Rattle.std.proofs.Common.{◌≡◌, ◌∙◌, ℕ, ◌^◌, ◌≤◌, ◌<◌, length, ap, sym, refl, arith, rules, subst}
 use Rattle.hart_schedule.specs.Keys.{Keys}
 use Rattle.machines.specs.declared.Fate.{Fate}
+use Rattle.machines.specs.Guest.{Retirement}
+use Rattle.guest_calls.specs.Guest.{Guest}
+use Rattle.guest_calls.proofs.Law.{sleeps_few}
 use Rattle.run_engine.specs.Begin.{keys_at_rest, many}
 use Rattle.run_engine.proofs.Keys.{has_place}
 use Rattle.run_engine.proofs.Many.{many_few}
@@ -37,6 +40,10 @@ complete-requires c =
           })
           none;
       moment = search rules;
+      wake = λ moment sleeps.
+          let few : moment ≤ 10 ^ 16 = sleeps_few c.args.self.now.guest h c.args.turn.due c.requires.steady.orderly c.requires.running moment
+          (ap (λ (r : Retirement Guest). r.fate) (sym c.retire_due-fate.ensures.effect) ∙ sleeps) in
+          omega (arith, few);
       speedup = c.requires.speedup;
       room = room;
       selected = c.clear-2.ensures;
