@@ -45,7 +45,7 @@ no_image = record { file = []; areas = []; entry = 0; headers = 0; header_count 
 abbrev plain : Choice
 plain = record { selected = None; speedup = 0; budget = 1; output_limit = 1; visit_limit = 1; layout = usual }
 
-law : IsLawful (experiment no_image (λ _. None) (λ _. None) [] plain) IsOrderly
+pub law : IsLawful (experiment no_image (λ _. None) (λ _. None) [] plain) IsOrderly
 law = lawful_run no_image (λ _. None) (λ _. None) [] plain (omega arith)
 
 -- the first hart of a program that begins

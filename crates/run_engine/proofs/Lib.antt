@@ -7,5 +7,6 @@ pub mod Far
 pub mod WordMarks
 mod Rows
 pub mod Advance
+pub mod Quiet
 pub mod Choices
 mod Numbers

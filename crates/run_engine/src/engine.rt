@@ -1,6 +1,6 @@
 //! The engine that both machines use, and its events.
 ghost use Rattle.std.specs.Prelude.{◌≡◌, ℕ, map, true, ◌+◌, ◌^◌, ◌≤◌, ◌<◌, ◌++◌, [], ◌∷◌, Some, length, nat_le, is_some, IfOk, All, if◌then◌else◌, IsTrue};
-ghost use Rattle.coz_types.specs.declared.TheConstants.{MAX_SPEEDUP, MAX_OUTPUT, MAX_VISITS};
+ghost use Rattle.coz_types.specs.declared.TheConstants.{MAX_BUDGET, MAX_SPEEDUP, MAX_OUTPUT, MAX_VISITS};
 ghost use Rattle.hart_schedule.specs.Keys.{key_of, without_key, IsEmpty, IsLeast};
 ghost use Rattle.machines.specs.Delayed.{is_any};
 ghost use Rattle.machines.specs.declared.Fate.TheVariants.{Sleeps};
@@ -12,6 +12,8 @@ ghost use Rattle.guest_calls.specs.Guest.{making, is_running, is_sleeping, pc_of
 ghost use Rattle.guest_calls.specs.Retire.{retire};
 ghost use Rattle.run_engine.specs.Begin.{last_moment, started_by, keys_at_rest, many, AreIdle, AreBegun};
 ghost use Rattle.run_engine.specs.Ending.{ending_of, runs_after};
+ghost use Rattle.run_engine.specs.Engine.{AreWithin};
+ghost use Rattle.run_engine.specs.Far.{IsLimit};
 ghost use Rattle.run_engine.specs.Visits.{visits_of};
 ghost use Rattle.run_engine.specs.Advance.{is_wake};
 
@@ -25,6 +27,9 @@ use std::alloc::{AllocError, Global};
 
 /// The hart that a program begins with: hart 0.
 pub const FIRST: HartId = HartId(0);
+
+/// No moment of a run is later, in ticks.
+const LATEST: Tick = 70_000_000_000_000_000;
 
 /// A run of a program in net time, which the delayed and the shortened machine share:
 /// its guest, the harts that are due, the visits and the counts. It has no delays:
@@ -107,6 +112,21 @@ fn first_turn(schedule: &Schedule) -> Turn
     Turn {
         hart: first.hart,
         due: first.key,
+    }
+}
+
+/// The moment before which no other hart than this one, which is due first, has its turn.
+#[inline(always)]
+fn limit_of(schedule: &Schedule, hart: HartId) -> Tick
+    requires first { IsLeast schedule.now hart.0 }
+    requires within { AreWithin last_moment schedule.now }
+    ensures limit { IsLimit schedule.now hart.0 result }
+    ensures soon { result ≤ last_moment + 1 }
+{
+    match schedule.second() {
+        Some(second) if hart.0 < second.hart.0 => second.key + 1,
+        Some(second) => second.key,
+        None => LATEST,
     }
 }
 
@@ -219,7 +239,7 @@ impl<'a> Engine<'a> {
     ghost use Rattle.run_engine.specs.Run.{selected_of, ticks_in, IsChoice};
     ghost use Rattle.run_engine.specs.Engine.{IsSteady, IsFirst};
     ghost use Rattle.run_engine.specs.Advance.{CanComplete, IsAdvance, IsRetired, IsCompleted, IsWoken};
-    ghost use Rattle.run_engine.specs.Far.{IsFarAdvance};
+    ghost use Rattle.run_engine.specs.Far.{IsFarAdvance, IsFarRetired, AllowsQuiet};
 
     /// A run that is about to begin.
     pub fn new(
@@ -281,7 +301,74 @@ impl<'a> Engine<'a> {
         requires delay { delay ≤ 10 ^ 17 }
         ensures { IsFarAdvance marked.now self.old result delay self.new }
     {
-        self.advance(marked.setting(), delay)
+        let turn = first_turn(&self.schedule);
+        if self.guest.is_sleeping(turn.hart) {
+            self.wake(marked.setting(), turn);
+            Event::Woke(turn)
+        } else {
+            Event::Retired(self.retire_far(marked, turn, delay))
+        }
+    }
+
+    /// Retires instructions of a running hart whose turn it is, up to the first that isn't quiet
+    /// or after which another hart has its turn, and completes that one as `retire` does.
+    #[inline(always)]
+    fn retire_far(&mut self, marked: &MarkedSetting, turn: Turn, delay: Tick) -> Retired
+        requires steady { IsSteady self.old }
+        requires choice { IsChoice marked.now.choice }
+        requires delay { delay ≤ 10 ^ 17 }
+        requires turn { key_of self.old.schedule turn.hart.0 ≡ Some turn.due }
+        requires first { IsLeast self.old.schedule turn.hart.0 }
+        requires running { is_running self.old.guest turn.hart.0 ≡ true }
+        ensures retired { IsFarRetired marked.now self.old turn.hart.0 result.fate delay self.new }
+        ensures hart { result.hart.0 ≡ turn.hart.0 }
+    {
+        let setting = marked.setting();
+        let address = self.guest.pc(turn.hart);
+        let most = self.most_from(marked, address);
+        let limit = limit_of(&self.schedule, turn.hart);
+        keep_visit(
+            setting,
+            &mut self.visits,
+            address,
+            turn.hart,
+            turn.due + delay,
+            delay,
+        );
+        self.started.clear();
+        self.selected.clear();
+        let stretch = self.guest.retire_far(
+            turn.hart,
+            turn.due,
+            limit,
+            most,
+            marked.marks(),
+            &mut self.started,
+        );
+        self.time = stretch.net;
+        self.retired += stretch.quiet + 1;
+        self.complete(setting, turn.hart, stretch.fate);
+        Retired {
+            hart: turn.hart,
+            fate: stretch.fate,
+        }
+    }
+
+    /// The most instructions to retire in a row from this address on: one if it may have a point
+    /// or a limit is reached, and else as many as the budget leaves.
+    #[inline(always)]
+    fn most_from(&self, marked: &MarkedSetting, address: Address) -> u64
+        requires { IsChoice marked.now.choice }
+        ensures some { 1 ≤ result }
+        ensures few { result ≤ MAX_BUDGET }
+        ensures allows { 1 < result → AllowsQuiet marked.now self.now address result }
+    {
+        let choice = marked.choice();
+        if marked.may_visit(address) || self.ends_with(&choice, Fate::Goes) {
+            1
+        } else {
+            choice.budget - self.retired
+        }
     }
 
     /// Wakes a sleeping hart whose turn it is, and begins its next instruction.

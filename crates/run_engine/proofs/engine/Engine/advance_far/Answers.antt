@@ -1,7 +1,9 @@
-use Rattle.std.proofs.Common.{refl}
-use Rattle.run_engine.specs.declared.choice.Setting.{Setting}
-use Rattle.run_engine.specs.Advance.{IsAdvance}
+use Rattle.std.proofs.Common.{ap, is_some, ◌∙◌}
+use Rattle.guest_calls.proofs.Law.{timed_low}
 use Rattle.run_engine.proofs.engine.Engine.advance_far.Goals as goal
 
-pub returns : goal.returns
-returns c = (c.args.self.now, 0, refl, (rw c.setting.ensures at c.advance.ensures))
+pub is_sleeping-requires : goal.is_sleeping-requires
+is_sleeping-requires c =
+    let s = c.args.self.now in
+    let h = c.first_turn-turn.result.hart.0 in
+    (timed_low s.guest h c.requires.steady.orderly (c.requires.steady.timed h ∙ ap is_some c.first_turn-turn.ensures.due)).0
