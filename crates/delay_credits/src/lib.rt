@@ -11,7 +11,7 @@ ghost use Rattle.std.specs.Prelude.{◌≡◌, ◌+◌, ◌≤◌, ◌<◌, ◌^
 ghost use Rattle.machines.specs.Delayed.{idle_hart, has_load, total};
 ghost use Rattle.delay_credits.specs.Delays.{none_raised, hart_at, pause_of, account_as, at, with_start, with_stop, with_raise, with_credit};
 
-use crate::seat::{Pending, Seat, is_unpaused, raise_each, settle};
+use crate::seat::{Raises, Seat, account_of, is_unpaused, pause_of, raise, renew, start};
 use coz_types::{Account, HartId, Tick};
 use std::alloc::{AllocError, Global};
 use std::marker::Model;
@@ -20,33 +20,34 @@ use std::marker::Model;
 /// A hart that sleeps counts as one that runs.
 ///
 /// Contracts see each hart as it is at the latest moment that `start`, `stop` or `raise` got.
-/// The code keeps a hart as it was at an earlier moment, and works out a later one when it is asked
-/// for. `new` alone can be out of memory.
+/// The code keeps of a running hart what it has not paused for, and of the raises at the latest
+/// moment their sum, so a raise touches the seat of the hart that raises and no other. Only if some
+/// hart may still pause for an earlier raise does a raise look at all of them. `new` alone can be
+/// out of memory.
 #[derive(Drop)]
 pub struct Credits {
     seats: Vec<Seat>,
-    // One past the greatest number of a hart that was ever started, so a raise ends here.
-    used: usize,
     latest: Tick,
     raised: Tick,
+    raises: Raises,
 }
 
 impl Model for Credits {
-    ghost use Rattle.std.specs.Prelude.{◌≤◌, ◌^◌, length, map, All};
+    ghost use Rattle.std.specs.Prelude.{◌≤◌, ◌^◌, map, All};
     ghost use Rattle.delay_credits.specs.Delays.{Delays};
 
     ghost Value = { Delays };
 
-    ghost use Rattle.delay_credits.specs.Seats.{hart_of_seat, AreIdleFrom, IsSound};
+    ghost use Rattle.delay_credits.specs.Seats.{hart_of_seat, IsSound};
 
     ghost view = { λ c. record {
       latest = c.latest;
       raised = c.raised;
-      harts = map (hart_of_seat c.latest) c.seats.items;
+      harts = map (hart_of_seat c.raised c.raises c.latest) c.seats.items;
     } };
 
-    ghost invariant = { λ c. (c.raised ≤ 10 ^ 17) × All (IsSound c.latest c.raised) c.seats.items
-        × (c.used ≤ length c.seats.items) × AreIdleFrom c.used c.seats.items };
+    ghost invariant = { λ c. (c.raised ≤ 10 ^ 17) × (c.raises.at ≤ c.latest)
+        × (c.raises.sum ≤ c.raised) × All (IsSound c.raised c.raises) c.seats.items };
 }
 
 /// The seat of a hart that does not run, with nothing in its account.
@@ -56,7 +57,7 @@ const NOT_RUNNING: Seat = Seat {
         paused: 0,
         credited: 0,
     },
-    pending: None,
+    running: None,
 };
 
 impl Credits {
@@ -66,9 +67,9 @@ impl Credits {
     {
         Ok(Credits {
             seats: vec![in alloc; NOT_RUNNING; harts as usize]?,
-            used: 0,
             latest: 0,
             raised: 0,
+            raises: Raises { at: 0, sum: 0 },
         })
     }
 
@@ -81,19 +82,11 @@ impl Credits {
     {
         let index = usize::from(hart.0);
         let seat = self.seats[index];
-        if is_unpaused(seat) {
+        if is_unpaused(seat, self.raises, now) {
             self.latest = now;
             return;
         }
-        let account = settle(seat, now).account;
-        self.seats[index] = Seat {
-            account,
-            pending: Some(Pending {
-                since: now,
-                pause: 0,
-            }),
-        };
-        self.used = self.used.max(index + 1);
+        self.seats[index] = start(seat, self.raised, self.raises, now);
         self.latest = now;
     }
 
@@ -106,10 +99,10 @@ impl Credits {
         ensures { self.new ≡ with_stop hart.0 now self.old }
     {
         let index = usize::from(hart.0);
-        let account = settle(self.seats[index], now).account;
+        let account = account_of(self.seats[index], self.raised, self.raises, now);
         self.seats[index] = Seat {
             account,
-            pending: None,
+            running: None,
         };
         self.latest = now;
     }
@@ -123,7 +116,13 @@ impl Credits {
         requires few { self.old.raised + ticks ≤ 10 ^ 17 }
         ensures { self.new ≡ with_raise hart.0 ticks now self.old }
     {
-        raise_each(&mut self.seats, self.used, ticks, now, usize::from(hart.0));
+        let raises = renew(&mut self.seats, self.raises, now);
+        let index = usize::from(hart.0);
+        self.seats[index] = raise(self.seats[index], raises, ticks);
+        self.raises = Raises {
+            sum: raises.sum + ticks,
+            ..raises
+        };
         self.raised += ticks;
         self.latest = now;
     }
@@ -145,7 +144,7 @@ impl Credits {
                 credited: account.credited + (self.raised - total),
                 ..account
             },
-            pending: None,
+            running: None,
         };
     }
 
@@ -162,10 +161,7 @@ impl Credits {
         requires later { self.now.latest ≤ now }
         ensures { result ≡ pause_of (hart_at (at now self.now) hart.0) }
     {
-        match self.seats[usize::from(hart.0)].pending {
-            None => 0,
-            Some(pending) => pending.pause.saturating_sub(now - pending.since),
-        }
+        pause_of(self.seats[usize::from(hart.0)], self.raises, now)
     }
 
     /// A hart's account at a moment.
@@ -174,7 +170,12 @@ impl Credits {
         requires later { self.now.latest ≤ now }
         ensures { account_as result ≡ (hart_at (at now self.now) hart.0).account }
     {
-        settle(self.seats[usize::from(hart.0)], now).account
+        account_of(
+            self.seats[usize::from(hart.0)],
+            self.raised,
+            self.raises,
+            now,
+        )
     }
 
     /// Makes these credits equal to others of as many harts.
@@ -183,8 +184,8 @@ impl Credits {
         ensures { self.new ≡ other.now }
     {
         self.seats.copy_from_slice(&other.seats);
-        self.used = other.used;
         self.latest = other.latest;
         self.raised = other.raised;
+        self.raises = other.raises;
     }
 }
