@@ -15,7 +15,7 @@ returns-in-Some-clause-due c =
 pub returns-in-None-clause-due : goal.returns-in-None-clause-due
 returns-in-None-clause-due c =
     let m = c.self.inside in
-    c.key.ensures ∙ due_goes m.image.now m.input.now m.setting m.engine m.credits m.moment c.self.invariant c.args.hart.0 c.in-None.is ∙ ap (λ (v : Seen (Delayed Guest)). net_due_of v.state c.args.hart.0) c.self.view_is
+    c.key.ensures.key ∙ due_goes m.image.now m.input.now m.setting m.engine m.credits m.moment c.self.invariant c.args.hart.0 c.in-None.is ∙ ap (λ (v : Seen (Delayed Guest)). net_due_of v.state c.args.hart.0) c.self.view_is
 
 pub returns-in-Some-clause-shortened : goal.returns-in-Some-clause-shortened
 returns-in-Some-clause-shortened c none =
@@ -25,7 +25,7 @@ returns-in-Some-clause-shortened c none =
 pub returns-in-None-clause-shortened : goal.returns-in-None-clause-shortened
 returns-in-None-clause-shortened c none =
     let m = c.self.inside in
-    c.key.ensures ∙ due_seen m.image.now m.input.now m.setting m.engine m.credits m.moment c.self.invariant c.args.self.now c.args.hart.0 c.self.view_is
+    c.key.ensures.key ∙ due_seen m.image.now m.input.now m.setting m.engine m.credits m.moment c.self.invariant c.args.self.now c.args.hart.0 c.self.view_is
 
 pub returns-in-Some-clause-timed : goal.returns-in-Some-clause-timed
 returns-in-Some-clause-timed c none =
@@ -35,4 +35,4 @@ returns-in-Some-clause-timed c none =
 pub returns-in-None-clause-timed : goal.returns-in-None-clause-timed
 returns-in-None-clause-timed c none =
     let m = c.self.inside in
-    ap (λ (o : Option ℕ). is_some o) c.key.ensures ∙ timed_seen m.image.now m.input.now m.setting m.engine m.credits m.moment c.self.invariant c.args.self.now c.args.hart.0 c.self.view_is none
+    ap (λ (o : Option ℕ). is_some o) c.key.ensures.key ∙ timed_seen m.image.now m.input.now m.setting m.engine m.credits m.moment c.self.invariant c.args.self.now c.args.hart.0 c.self.view_is none
