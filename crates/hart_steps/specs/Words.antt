@@ -1,12 +1,13 @@
 -- What a hart finds at its pc.
-use Rattle.std.specs.Prelude.{ℕ, ◌≡◌, ◌*◌, Option, Some, None, Result, Ok, Err, option_and_then, IfOk}
+use Rattle.std.specs.Prelude.{ℕ, ◌≡◌, ◌*◌, ◌≤◌, Option, Some, None, Result, Ok, Err, IfSome}
 use Rattle.coz_types.specs.declared.ending.TrapCause.{TrapCause}
 use Rattle.coz_types.specs.declared.ending.TrapCause.TheVariants.{Fetch, Illegal}
+use Rattle.cost_table.specs.declared.TheConstants.{MAX_TICKS}
 use Rattle.cost_table.specs.Costs.{cycles_of}
+use Rattle.guest_memory.specs.Memory.{MemoryMap, fetch}
 use Rattle.rv_decode.specs.declared.Instr.{Instr}
 use Rattle.rv_decode.specs.Instructions.{instruction_of, InRange}
 use Rattle.hart_steps.specs.declared.code.Word.{Word}
-use Rattle.hart_steps.specs.declared.code.Entry.{Entry}
 
 -- the instruction of a word that was fetched, or why there is none
 abbrev pub decoded : Option Instr → Result Instr TrapCause
@@ -18,11 +19,14 @@ abbrev pub found : Option ℕ → Result Instr TrapCause
 found None = Err Fetch
 found (Some w) = decoded (instruction_of w)
 
--- the instruction that was found, and its ticks
-pub record IsWordOf (fetched : Option ℕ) (word : Word) : Type 0 where
-  pub found : word.found ≡ found fetched
-  pub ticks : word.ticks ≡ 100 * cycles_of (option_and_then instruction_of fetched)
-  pub fields : IfOk word.found InRange
+-- it is decoded, and its ticks are those of its instruction
+pub record IsWord (word : Word) : Type 0 where
+  pub instr : word.instr ≡ instruction_of word.raw
+  pub ticks : word.ticks ≡ 100 * cycles_of word.instr
+  pub few : word.ticks ≤ MAX_TICKS
+  pub fields : IfSome word.instr InRange
 
-abbrev pub IsEntry : Entry → Type 0
-IsEntry entry = IsWordOf (Some entry.raw) entry.word
+-- it is what is fetched from an address
+pub record IsWordAt (m : MemoryMap) (a : ℕ) (word : Word) : Type 0 where
+  pub fetched : fetch m a ≡ Some word.raw
+  pub is : IsWord word

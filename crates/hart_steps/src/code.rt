@@ -1,11 +1,10 @@
 //! Words of code, and the instructions that they are.
-ghost use Rattle.std.specs.Prelude.{◌≡◌, Some};
-ghost use Rattle.guest_memory.specs.Memory.{fetch};
-ghost use Rattle.hart_steps.specs.Words.{IsWordOf};
+ghost use Rattle.std.specs.Prelude.{◌≡◌, IfSome};
+ghost use Rattle.hart_steps.specs.Words.{IsWord, IsWordAt};
 
 use byteorder::{ByteOrder, LittleEndian};
 use cost_table::cycles;
-use coz_types::{Address, Area, Image, TrapCause};
+use coz_types::{Address, Area, Image};
 use guest_memory::Memory;
 use rv_decode::{Instr, decode};
 use std::alloc::{AllocError, Global};
@@ -14,57 +13,44 @@ use std::marker::Model;
 /// The most words that are decoded ahead.
 const MAX_WORDS: usize = 1 << 20;
 
-/// What a hart finds at its pc.
+/// A word, and what it is decoded to.
 #[derive(Clone, Copy)]
 pub struct Word {
-    /// The instruction. `Fetch` if the word can't be fetched, and `Illegal` if it is none.
-    pub found: Result<Instr, TrapCause>,
+    raw: u32,
+    /// Its instruction, if it is one.
+    pub instr: Option<Instr>,
     /// The ticks that it takes.
     pub ticks: u16,
 }
 
-/// A word that was decoded.
-#[derive(Clone, Copy)]
-struct Entry {
-    raw: u32,
-    word: Word,
-}
-
 /// Words of code in a row, decoded ahead. They are compared with what is fetched, so what stands
-/// in it shows only in how long a fetch takes.
+/// in it shows only in how long a step takes.
 #[derive(Drop)]
 pub struct Code {
     start: Address,
-    entries: Vec<Entry>,
+    words: Vec<Word>,
 }
 
 impl Model for Code {
     ghost use Rattle.std.specs.Prelude.{ℕ, All};
-    ghost use Rattle.hart_steps.specs.declared.code.Entry.{Entry};
-    ghost use Rattle.hart_steps.specs.Words.{IsEntry};
+    ghost use Rattle.hart_steps.specs.declared.code.Word.{Word};
+    ghost use Rattle.hart_steps.specs.Words.{IsWord};
 
     ghost Value = { ℕ };
 
     ghost view = { λ _. 0 };
 
-    ghost invariant = { λ c. All IsEntry c.entries.items };
+    ghost invariant = { λ c. All IsWord c.words.items };
 }
 
-/// What stands in a word that was fetched.
-fn word_of(raw: u32) -> Word
-    ensures { IsWordOf (Some raw) result }
+fn decoded(raw: u32) -> Word
+    ensures { IsWord result }
 {
     let instr = decode(raw);
-    let ticks = (100 * cycles(instr)) as u16;
-    match instr {
-        Some(instr) => Word {
-            found: Ok(instr),
-            ticks,
-        },
-        None => Word {
-            found: Err(TrapCause::Illegal),
-            ticks,
-        },
+    Word {
+        raw,
+        instr,
+        ticks: (100 * cycles(instr)) as u16,
     }
 }
 
@@ -79,7 +65,7 @@ impl Code {
         }
         Ok(Code {
             start: 0,
-            entries: Vec::new(alloc),
+            words: Vec::new(alloc),
         })
     }
 
@@ -90,44 +76,32 @@ impl Code {
         let first = area.offset.saturating_add(before) as usize;
         let end = area.offset.saturating_add(area.filled) as usize;
         let bytes = file.get(first..end).unwrap_or(&[]);
-        let mut entries = Vec::new(alloc);
+        let mut words = Vec::new(alloc);
         for k in 0..(bytes.len() / 4).min(MAX_WORDS) {
-            let raw = LittleEndian::read_u32(&bytes[4 * k..]);
-            let word = word_of(raw);
-            entries.push(Entry { raw, word })?;
+            words.push(decoded(LittleEndian::read_u32(&bytes[4 * k..])))?;
         }
         Ok(Code {
             start: area.vaddr.wrapping_add(before),
-            entries,
+            words,
         })
     }
 
-    /// The word at an address of a memory.
+    /// The word at an address of a memory. None if it was not decoded ahead, has changed since, or
+    /// can't be fetched.
     #[inline(always)]
-    pub fn fetch(&self, memory: &Memory, address: Address) -> Word
-        ensures { IsWordOf (fetch memory.now address) result }
+    pub fn at(&self, memory: &Memory, address: Address) -> Option<&Word>
+        ensures { IfSome result (λ word. IsWordAt memory.now address word.now) }
     {
-        match memory.fetch(address) {
-            Err(_) => Word {
-                found: Err(TrapCause::Fetch),
-                ticks: 100,
-            },
-            Ok(raw) => self.decoded(raw, address),
-        }
-    }
-
-    /// What stands in a word that was fetched from an address.
-    #[inline(always)]
-    fn decoded(&self, raw: u32, address: Address) -> Word
-        ensures { IsWordOf (Some raw) result }
-    {
+        let Ok(raw) = memory.fetch(address) else {
+            return None;
+        };
         let place = (address.wrapping_sub(self.start) / 4) as usize;
-        if place < self.entries.len() {
-            let entry = self.entries[place];
-            if entry.raw == raw {
-                return entry.word;
+        if place < self.words.len() {
+            let word = &self.words[place];
+            if word.raw == raw {
+                return Some(word);
             }
         }
-        word_of(raw)
+        None
     }
 }

@@ -1,15 +1,15 @@
 //! Steps of one hart after another.
 ghost use Rattle.std.specs.Prelude.{◌≡◌, ◌≤◌, ◌<◌, ◌^◌, ℕ};
 ghost use Rattle.coz_types.specs.declared.TheConstants.{HARTS};
-ghost use Rattle.guest_memory.specs.Memory.{fetch};
 ghost use Rattle.rv_execute.specs.Execution.{setting, execution};
-ghost use Rattle.hart_steps.specs.Words.{IsWordOf};
+ghost use Rattle.hart_steps.specs.Words.{IsWordAt};
 ghost use Rattle.hart_steps.specs.Steps.{step, after, moment, IsQuiet};
 
 use crate::code::{Code, Word};
 use code_words::Marks;
-use coz_types::{HartId, Tick};
+use coz_types::{HartId, Tick, TrapCause};
 use guest_memory::Memory;
+use rv_decode::decode;
 use rv_execute::{HartState, Reservations, Step, execute};
 
 /// Steps of a hart, one after another.
@@ -23,23 +23,44 @@ pub struct Advance {
     pub step: Step,
 }
 
-/// Executes the word at a hart's pc.
+/// Executes a word that stands at a hart's pc.
 #[inline(always)]
 fn execute_word(
     state: &mut HartState,
     number: HartId,
     memory: &mut Memory,
     reservations: &mut Reservations,
-    word: Word,
+    word: &Word,
 ) -> Step
     requires number { number.0 < HARTS }
-    requires word { IsWordOf (fetch memory.old state.old.pc) word }
+    requires word { IsWordAt memory.old state.old.pc word.now }
     ensures { execution state.new memory.new reservations.new result
         ≡ step number.0 (setting state.old memory.old reservations.old) }
 {
-    match word.found {
-        Ok(instr) => execute(state, number, memory, reservations, instr),
-        Err(cause) => Step::Fault(cause),
+    match word.instr {
+        Some(instr) => execute(state, number, memory, reservations, instr),
+        None => Step::Fault(TrapCause::Illegal),
+    }
+}
+
+/// Fetches, decodes and executes the instruction at a hart's pc.
+#[inline(never)]
+fn step_once(
+    state: &mut HartState,
+    number: HartId,
+    memory: &mut Memory,
+    reservations: &mut Reservations,
+) -> Step
+    requires number { number.0 < HARTS }
+    ensures { execution state.new memory.new reservations.new result
+        ≡ step number.0 (setting state.old memory.old reservations.old) }
+{
+    let Ok(raw) = memory.fetch(state.pc) else {
+        return Step::Fault(TrapCause::Fetch);
+    };
+    match decode(raw) {
+        Some(instr) => execute(state, number, memory, reservations, instr),
+        None => Step::Fault(TrapCause::Illegal),
     }
 }
 
@@ -73,7 +94,10 @@ pub fn step_on(
 {
     let mut quiet = 0;
     let mut due = net;
-    let mut word = code.fetch(memory, state.pc);
+    let Some(mut word) = code.at(memory, state.pc) else {
+        let step = step_once(state, number, memory, reservations);
+        return Advance { quiet, net, step };
+    };
     loop {
         let step = execute_word(state, number, memory, reservations, word);
         if !matches!(step, Step::Next) || quiet + 1 >= most || !marks.is_quiet_at(state.pc) {
@@ -83,8 +107,14 @@ pub fn step_on(
                 step,
             };
         }
-        word = code.fetch(memory, state.pc);
-        let later = due + u64::from(word.ticks);
+        let Some(next) = code.at(memory, state.pc) else {
+            return Advance {
+                quiet,
+                net: due,
+                step,
+            };
+        };
+        let later = due + u64::from(next.ticks);
         if later >= limit {
             return Advance {
                 quiet,
@@ -92,6 +122,7 @@ pub fn step_on(
                 step,
             };
         }
+        word = next;
         due = later;
         quiet += 1;
     }
