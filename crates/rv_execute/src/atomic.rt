@@ -165,6 +165,7 @@ fn exchange(
 }
 
 /// An operation on memory in one step.
+#[inline(never)]
 pub fn atomic(
     hart: &mut HartState,
     number: HartId,

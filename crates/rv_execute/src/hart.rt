@@ -25,7 +25,7 @@ pub enum Step {
 }
 
 /// The address that lies so far from another.
-#[inline]
+#[inline(always)]
 pub fn address_at(base: Address, offset: i32) -> Address
     ensures { result ≡ address_at base offset }
 {
@@ -34,7 +34,7 @@ pub fn address_at(base: Address, offset: i32) -> Address
 
 impl HartState {
     /// The value of a register; 0 of x0.
-    #[inline]
+    #[inline(always)]
     pub(crate) fn value(&self, r: u8) -> u64
         requires { r < 32 }
         ensures { result ≡ register self.now r }
@@ -47,7 +47,7 @@ impl HartState {
     }
 
     /// Writes a register, if it isn't register 0.
-    #[inline]
+    #[inline(always)]
     fn set(&mut self, rd: u8, value: u64)
         requires { rd < 32 }
         ensures { self.new ≡ with_register rd value self.old }
@@ -58,7 +58,7 @@ impl HartState {
     }
 
     /// Moves the pc on.
-    #[inline]
+    #[inline(always)]
     pub(crate) fn proceed(&mut self) -> Step
         ensures { ChangesHart self.old self.new result next }
     {
@@ -67,7 +67,7 @@ impl HartState {
     }
 
     /// Puts a value into a register and moves the pc on.
-    #[inline]
+    #[inline(always)]
     pub(crate) fn put(&mut self, rd: u8, value: u64) -> Step
         requires { rd < 32 }
         ensures { ChangesHart self.old self.new result (with_rd rd value) }
@@ -77,7 +77,7 @@ impl HartState {
     }
 
     /// Puts the next instruction's address into a register and moves the pc to the target.
-    #[inline]
+    #[inline(always)]
     pub(crate) fn jump(&mut self, rd: u8, target: Address) -> Step
         requires { rd < 32 }
         ensures { ChangesHart self.old self.new result (jump rd target) }

@@ -9,7 +9,7 @@ use coz_types::Address;
 use rv_decode::{BranchOp, ImmOp, RegOp, ShiftOp, UpperOp};
 
 /// The result of `lui` and `auipc`.
-#[inline]
+#[inline(always)]
 fn upper_result(op: UpperOp, value: u32, pc: Address) -> u64
     requires { value < 2 ^ 20 }
     ensures { result ≡ upper_result op value pc }
@@ -22,7 +22,7 @@ fn upper_result(op: UpperOp, value: u32, pc: Address) -> u64
 }
 
 /// lui and auipc.
-#[inline]
+#[inline(always)]
 pub fn upper(hart: &mut HartState, op: UpperOp, rd: u8, value: u32) -> Step
     requires rd { rd < 32 }
     requires field { value < 2 ^ 20 }
@@ -34,7 +34,7 @@ pub fn upper(hart: &mut HartState, op: UpperOp, rd: u8, value: u32) -> Step
 }
 
 /// `jal`: jumps, and keeps the address of the next instruction in rd.
-#[inline]
+#[inline(always)]
 pub fn jal(hart: &mut HartState, rd: u8, offset: i32) -> Step
     requires { rd < 32 }
     ensures { ChangesHart hart.old hart.new result (jump rd (address_at hart.old.pc offset)) }
@@ -44,7 +44,7 @@ pub fn jal(hart: &mut HartState, rd: u8, offset: i32) -> Step
 }
 
 /// `jalr`: jumps to a register plus an offset, and keeps the address of the next instruction in rd.
-#[inline]
+#[inline(always)]
 pub fn jalr(hart: &mut HartState, rd: u8, rs1: u8, offset: i32) -> Step
     requires rd { rd < 32 }
     requires rs1 { rs1 < 32 }
@@ -56,7 +56,7 @@ pub fn jalr(hart: &mut HartState, rd: u8, rs1: u8, offset: i32) -> Step
 }
 
 /// A jump, if the test of two registers holds.
-#[inline]
+#[inline(always)]
 pub fn branch(hart: &mut HartState, op: BranchOp, rs1: u8, rs2: u8, offset: i32) -> Step
     requires rs1 { rs1 < 32 }
     requires rs2 { rs2 < 32 }
@@ -72,7 +72,7 @@ pub fn branch(hart: &mut HartState, op: BranchOp, rs1: u8, rs2: u8, offset: i32)
 }
 
 /// An operation on a register and an immediate.
-#[inline]
+#[inline(always)]
 pub fn immediate(hart: &mut HartState, op: ImmOp, rd: u8, rs1: u8, field: i32) -> Step
     requires rd { rd < 32 }
     requires rs1 { rs1 < 32 }
@@ -84,7 +84,7 @@ pub fn immediate(hart: &mut HartState, op: ImmOp, rd: u8, rs1: u8, field: i32) -
 }
 
 /// A shift by an immediate.
-#[inline]
+#[inline(always)]
 pub fn shift(hart: &mut HartState, op: ShiftOp, rd: u8, rs1: u8, amount: u8) -> Step
     requires rd { rd < 32 }
     requires rs1 { rs1 < 32 }
@@ -97,7 +97,7 @@ pub fn shift(hart: &mut HartState, op: ShiftOp, rd: u8, rs1: u8, amount: u8) -> 
 }
 
 /// An operation on two registers.
-#[inline]
+#[inline(always)]
 pub fn register(hart: &mut HartState, op: RegOp, rd: u8, rs1: u8, rs2: u8) -> Step
     requires rd { rd < 32 }
     requires rs1 { rs1 < 32 }

@@ -31,6 +31,7 @@ use rv_decode::Instr;
 /// moves the pc on. With a `Fault` nothing has changed, except that an `sc` has ended its own
 /// reservation. `Misaligned` is judged before `Access`. Register 0 reads as 0, and is never
 /// written.
+#[inline(always)]
 pub fn execute(
     hart: &mut HartState,
     number: HartId,
@@ -54,7 +55,7 @@ pub fn execute(
     effect(hart, number, memory, reservations, instr)
 }
 
-#[inline]
+#[inline(always)]
 #[tactic(auto, unfolding(crate::specs::Execution::execute))]
 fn effect(
     hart: &mut HartState,

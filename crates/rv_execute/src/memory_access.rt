@@ -10,7 +10,7 @@ use coz_types::{Address, TrapCause};
 use guest_memory::{Access, Memory};
 use rv_decode::{LoadOp, StoreOp};
 
-#[inline]
+#[inline(always)]
 fn load_size(op: LoadOp) -> u8
     ensures size { result ≡ load_size op }
     ensures is_size { IsSize result }
@@ -23,7 +23,7 @@ fn load_size(op: LoadOp) -> u8
     }
 }
 
-#[inline]
+#[inline(always)]
 fn store_size(op: StoreOp) -> u8
     ensures size { result ≡ store_size op }
     ensures is_size { IsSize result }
@@ -37,7 +37,7 @@ fn store_size(op: StoreOp) -> u8
 }
 
 /// The register that holds the signed number which the lowest 32 bits write.
-#[inline]
+#[inline(always)]
 pub fn low_word_extended(number: u64) -> u64
     ensures { result ≡ load_value (LoadOp.Lw) number }
 {
@@ -45,7 +45,7 @@ pub fn low_word_extended(number: u64) -> u64
 }
 
 /// The value that a register gets of a loaded number.
-#[inline]
+#[inline(always)]
 fn load_value(op: LoadOp, number: u64) -> u64
     ensures { result ≡ load_value op number }
 {
@@ -58,7 +58,7 @@ fn load_value(op: LoadOp, number: u64) -> u64
 }
 
 /// A load.
-#[inline]
+#[inline(always)]
 pub fn load(hart: &mut HartState, memory: &Memory, op: LoadOp, rd: u8, rs1: u8, offset: i32) -> Step
     requires rd { rd < 32 }
     requires rs1 { rs1 < 32 }
@@ -74,7 +74,7 @@ pub fn load(hart: &mut HartState, memory: &Memory, op: LoadOp, rd: u8, rs1: u8, 
 }
 
 /// Stores a number of `size` bytes and moves the pc on.
-#[inline]
+#[inline(always)]
 fn store_at(
     hart: &mut HartState,
     memory: &mut Memory,
@@ -97,7 +97,7 @@ fn store_at(
 }
 
 /// A store.
-#[inline]
+#[inline(always)]
 pub fn store(
     hart: &mut HartState,
     memory: &mut Memory,
