@@ -1,0 +1,2 @@
+mod ByStatus
+pub mod Served

@@ -1,0 +1,4 @@
+pub mod Faults
+pub mod FileFaults
+pub mod Serves
+pub mod Written
