@@ -105,7 +105,7 @@ module _ (events : List Event) (linked : Linked events) where
       ap (λ (from : Option ℕ). chain_to events from i) is
       ∙ same_chain i (suc p) p lower (omega arith) (omega arith)
 
-last_at : (k : ℕ) (xs : List ℕ) → slice_get (k ∷ xs) (length xs) ≡ Some (end_of k xs)
+pub last_at : (k : ℕ) (xs : List ℕ) → slice_get (k ∷ xs) (length xs) ≡ Some (end_of k xs)
 last_at k [] = refl
 last_at k (x ∷ xs) = last_at x xs
 

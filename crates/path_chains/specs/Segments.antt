@@ -1,5 +1,5 @@
--- The segments of a path: its maximal runs on one hart.
-use Rattle.std.specs.Prelude.{ℕ, ◌==◌, List, [], ◌∷◌, is_none, if◌then◌else◌}
+-- The segments of a path: its maximal runs on one hart. They tile the time of the path.
+use Rattle.std.specs.Prelude.{◌≡◌, ℕ, ◌≤◌, ◌==◌, List, [], ◌∷◌, is_none, if◌then◌else◌}
 use Rattle.path_chains.specs.declared.event.Event.{Event}
 use Rattle.path_chains.specs.declared.segment.Segment.{Segment}
 use Rattle.path_chains.specs.declared.segment.Handover.{Handover}
@@ -30,3 +30,9 @@ segments_of (e ∷ es) = segments_from (first_segment e) es
 -- the segment that an event is in, if the one ahead of it is in this one
 abbrev pub after : Segment → Event → Segment
 after s e = if e.hart.0 == s.hart.0 then record s { end = e.due } else next_segment s e
+
+-- the segments lead from one moment to another: each begins where the one ahead of it ends, and
+-- ends no sooner than it begins
+abbrev pub Tile : ℕ → ℕ → List Segment → Type 0
+Tile from to [] = from ≡ to
+Tile from to (s ∷ ss) = (s.start ≡ from) × ((s.start ≤ s.end) × Tile s.end to ss)
