@@ -3,6 +3,9 @@
 //! that run is heavier.
 #![tactic(auto)]
 
+ghost use Rattle.std.specs.Prelude.{◌≡◌};
+ghost use Rattle.path_chains.specs.declared.TheConstants.{MAX_EVENTS};
+
 mod chain;
 mod checked;
 mod event;
@@ -17,3 +20,8 @@ pub use share::{Share, by_falling_ticks};
 
 /// The most events of a run whose critical path is asked for.
 pub const MAX_EVENTS: u64 = 4_000_000;
+
+/// The sizes of this crate, as numbers.
+pub fn sizes()
+    ensures events { MAX_EVENTS ≡ 4000000 }
+{}
