@@ -6,3 +6,4 @@ pub mod Turned
 mod Rows
 pub mod Begun
 pub mod Walking
+pub mod Froms

@@ -38,11 +38,12 @@ use Rattle.path_chains.specs.declared.event.Event.{Event}
 use Rattle.path_chains.specs.declared.event.Trace.{Trace}
 use Rattle.path_chains.specs.Path.{event_at, last_of, Linked}
 use Rattle.path_causes.specs.Causes.{no_cause, cause_at, woken_with, turned, at_rest, after_own}
-use Rattle.critical_path.specs.Events.{Traced, AreBefores, work, untraced, traced}
+use Rattle.critical_path.specs.Events.{Traced, AreBefores, AreFroms, retirements_of, work, untraced, traced}
 use Rattle.critical_path.specs.Events.{events_of as whole_events}
 use Rattle.critical_path.specs.Walk.{plain_choice, plain, IsMadeOf, IsTraceOf}
 use Rattle.critical_path.specs.Recording.{IsBegun, ticks_from, CanRecord, IsRecorded}
 use Rattle.critical_path.proofs.Begun.{same_turned_by}
+use Rattle.critical_path.proofs.Froms.{froms_are}
 use Rattle.critical_path.proofs.Recorded.{stands_at, many_events, befores_are, last_due, linked}
 use Rattle.critical_path.proofs.Turned.{IsRetiring, IsWaking, retiring, waking, all_events, first_traced, first_due}
 
@@ -274,6 +275,7 @@ module _ (image : ImageParts) (input : List ℕ) (setting : Setting) (engine : E
         many = ap length are ∙ many_events run IsOrderly lawful pc_of ∙ sym parts.0;
         whole = ap (λ (es : List Event). (event_at es (last_of es)).due) are ∙ last_due run IsOrderly lawful pc_of walked.valid.some_budget ∙ sym parts.1;
         befores = subst AreBefores (sym are) (befores_are run IsOrderly lawful pc_of);
+        froms = subst (AreFroms (retirements_of run)) (sym are) (froms_are run pc_of);
       }
 
 -- with no line selected and no points the lines don't matter

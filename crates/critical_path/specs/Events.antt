@@ -1,8 +1,9 @@
 -- The events of a run of the shortened machine, over any guest and any function that gives the
 -- address of a hart's next instruction.
-use Rattle.std.specs.Prelude.{◌≡◌, ℕ, zero, suc, ◌-◌, List, [], ◌∷◌, ◌++◌, length, Option, Some, None, if◌then◌else◌, ◌==◌, EachIndex}
+use Rattle.std.specs.Prelude.{◌≡◌, ℕ, zero, suc, ◌-◌, Bool, false, ◌&&◌, ◌||◌, slice_index_or, List, [], ◌∷◌, ◌++◌, length, Option, Some, None, if◌then◌else◌, ◌==◌, EachIndex}
 use Rattle.coz_types.specs.declared.ending.Ending.{Ending}
-use Rattle.machines.specs.Guest.{Experiment, Retirement, cost, cut, started_harts, enough}
+use Rattle.machines.specs.Places.{is_among}
+use Rattle.machines.specs.Guest.{Experiment, Retirement, cost, cut, started_harts, is_sleeper, enough}
 use Rattle.machines.specs.Shortened.{Shortened, Turn, next_turn, shortened}
 use Rattle.path_chains.specs.declared.event.Event.{Event}
 use Rattle.path_causes.specs.declared.cause.Cause.{Cause}
@@ -24,6 +25,63 @@ abbrev pub AreBefores : List Event → Type 0
 AreBefores events =
     EachIndex events
     (λ i. (event_at events i).before ≡ latest events (event_at events i).hart.0 i)
+
+-- ---- what each event waited for
+
+-- a retirement, by the hart that retired, the harts that it started, and whether the hart sleeps
+-- from then on
+pub record Retiring : Type 0 where
+  pub hart : ℕ
+  pub started : List ℕ
+  pub sleeps : Bool
+
+abbrev pub no_retiring : Retiring
+no_retiring = record { hart = 0; started = []; sleeps = false }
+
+-- it started a hart, or began its sleep
+abbrev pub begins : Retiring → ℕ → Bool
+begins r h = is_among h r.started || ((h == r.hart) && r.sleeps)
+
+-- the latest of the retirements below a number that started a hart or began its sleep
+abbrev pub latest_start : List Retiring → ℕ → ℕ → Option ℕ
+latest_start rs h zero = None
+latest_start rs h (suc i) =
+    if begins (slice_index_or rs i no_retiring) h then Some i else latest_start rs h i
+
+-- each event's `from` is the latest earlier retirement that started its hart or began its sleep
+abbrev pub AreFroms : List Retiring → List Event → Type 0
+AreFroms rs events =
+    EachIndex events
+    (λ i. (event_at events i).from ≡ latest_start rs (event_at events i).hart.0 i)
+
+module _ {G : Type 0} (x : Experiment G) where
+  abbrev pub retiring : Turn → Retirement G → Retiring
+  retiring t r = record {
+    hart = t.hart;
+    started = started_harts t.hart r;
+    sleeps = is_sleeper r.fate;
+  }
+
+  -- with that of a move of the machine, unless a hart woke
+  abbrev pub with_retiring : Option Ending → Option Turn → G → List Retiring → List Retiring
+  with_retiring (Some e) turn g rs = rs
+  with_retiring None (Some t) g rs =
+      if x.guest.is_sleeping g t.hart then rs
+      else rs ++ retiring t (x.guest.retire g t.hart t.due) ∷ []
+  with_retiring None None g rs = rs
+
+  -- the retirements in the first n moves of the shortened machine, in order
+  unfoldable pub retirements : ℕ → List Retiring
+  retirements zero = []
+  retirements (suc n) =
+      with_retiring (shortened x n).ending (next_turn (shortened x n).dues) (shortened x n).guest
+      (retirements n)
+
+  -- those of a run
+  unfoldable pub retirements_of : List Retiring
+  retirements_of = retirements (enough x)
+
+-- ---- the events
 
 module _ {G : Type 0} (x : Experiment G) (place : G → ℕ → ℕ) where
   -- the ticks that a hart is begun with

@@ -15,7 +15,7 @@ use Rattle.run_engine.specs.Run.{experiment}
 use Rattle.path_chains.specs.declared.event.Event.{Event}
 use Rattle.path_chains.specs.declared.event.Trace.{Trace}
 use Rattle.path_chains.specs.Path.{event_at, last_of, Linked}
-use Rattle.critical_path.specs.Events.{events_of, AreBefores}
+use Rattle.critical_path.specs.Events.{events_of, retirements_of, AreBefores, AreFroms}
 
 -- no line is selected; the limit of visits is that of the commands
 abbrev pub plain_choice : ℕ → ℕ → Layout → Choice
@@ -48,6 +48,7 @@ pub record IsTraceOf (x : Experiment Guest) (trace : Trace) : Type 0 where
   pub many : length trace.events ≡ (shortened_record x).retired
   pub whole : (event_at trace.events (last_of trace.events)).due ≡ (shortened_record x).time
   pub befores : AreBefores trace.events
+  pub froms : AreFroms (retirements_of x) trace.events
 
 -- the engine begins the run of some image on some input
 pub record IsFirstOfSome (setting : Setting) (engine : Engine) : Type 0 where

@@ -10,7 +10,7 @@ ghost use Rattle.run_engine.specs.Run.{IsChoice, experiment_in};
 ghost use Rattle.path_chains.specs.declared.TheConstants.{MAX_EVENTS};
 ghost use Rattle.path_chains.specs.Path.{event_at, last_of, Linked};
 ghost use Rattle.path_causes.specs.Causes.{no_cause, cause_at};
-ghost use Rattle.critical_path.specs.Events.{events_of, AreBefores};
+ghost use Rattle.critical_path.specs.Events.{events_of, retirements_of, AreBefores, AreFroms};
 ghost use Rattle.critical_path.specs.Recording.{ticks_from};
 ghost use Rattle.critical_path.specs.Walk.{plain_choice, plain, IsMadeOf, IsTraceOf, IsFirstOfSome};
 
@@ -151,6 +151,8 @@ pub fn walk<'a>(
     ensures whole { IfOk result (λ trace. (event_at trace.events (last_of trace.events)).due
         ≡ (shortened_record (plain image.now input.now budget output_limit layout)).time) }
     ensures befores { IfOk result (λ trace. AreBefores trace.events) }
+    ensures froms { IfOk result (λ trace. AreFroms
+        (retirements_of (plain image.now input.now budget output_limit layout)) trace.events) }
 {
     let index = no_lines(alloc, image)?;
     let points = no_points(alloc, &index)?;

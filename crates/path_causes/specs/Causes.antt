@@ -1,5 +1,7 @@
 -- What is known of a hart that is to retire: the event that started it or began its sleep, its
--- own event before, the ticks that it was begun with, and those that it slept.
+-- own event before, the ticks that it was begun with, and those that it slept. That `from` is the
+-- latest earlier retirement which started the hart or began its sleep, and `before` its latest event,
+-- are clauses of `walk` of critical_path: `froms` and `befores`.
 use Rattle.std.specs.Prelude.{ℕ, ◌+◌, ◌-◌, List, Some, None, if◌then◌else◌, ◌==◌, slice_index_or}
 use Rattle.machines.specs.declared.Fate.{Fate}
 use Rattle.machines.specs.declared.Fate.TheVariants.{Goes, Waits, Leaves, Sleeps, Ends}

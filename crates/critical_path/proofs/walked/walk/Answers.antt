@@ -4,7 +4,7 @@ use Rattle.line_index.specs.Index.{position_at}
 use Rattle.progress_points.specs.Points.{point_of}
 use Rattle.guest_calls.specs.Guest.{pc_of}
 use Rattle.path_chains.specs.Path.{event_at, last_of, Linked}
-use Rattle.critical_path.specs.Events.{events_of, AreBefores}
+use Rattle.critical_path.specs.Events.{events_of, retirements_of, AreBefores, AreFroms}
 use Rattle.critical_path.proofs.Walking.{plain_traced}
 use Rattle.critical_path.proofs.walked.walk.Goals as goal
 
@@ -42,3 +42,8 @@ pub returns-clause-befores : goal.returns-clause-befores
 returns-clause-befores c =
     plain_traced c.args.image.now (position_at c.in_ok-index.index) (point_of c.in_ok-points.points) c.args.input.now c.args.budget c.args.output_limit c.args.layout c.in_ok-points.ensures
     (λ run t. AreBefores t.events) (λ run t is. is.befores) c.trace_run.result c.trace_run.ensures
+
+pub returns-clause-froms : goal.returns-clause-froms
+returns-clause-froms c =
+    plain_traced c.args.image.now (position_at c.in_ok-index.index) (point_of c.in_ok-points.points) c.args.input.now c.args.budget c.args.output_limit c.args.layout c.in_ok-points.ensures
+    (λ run t. AreFroms (retirements_of run) t.events) (λ run t is. is.froms) c.trace_run.result c.trace_run.ensures
