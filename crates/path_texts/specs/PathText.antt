@@ -1,6 +1,6 @@
 -- What `path` prints: the segments of a critical path, how much of it each line has, and how long
 -- it slept.
-use Rattle.std.specs.Prelude.{ℕ, Bool, false, ◌==◌, nat_lt, List, [], ◌∷◌, ◌++◌, length, map, flat_map, sum_by, Option, Some, None, is_none, if◌then◌else◌, codes}
+use Rattle.std.specs.Prelude.{ℕ, ◌+◌, Bool, false, ◌==◌, nat_lt, List, [], ◌∷◌, ◌++◌, length, map, flat_map, sum_by, Option, Some, None, is_none, if◌then◌else◌, codes}
 use Rattle.std.specs.List.{filter, range_with_len}
 use Rattle.coz_types.specs.Labels.{Text}
 use Rattle.coz_types.specs.declared.ending.Ending.{Ending}
@@ -47,6 +47,13 @@ has_some s = nat_lt 0 s.ticks
 abbrev pub shares_of : (ℕ → Option ℕ) → ℕ → List Event → List Share
 shares_of line_of lines path =
     sorted_by has_more (filter has_some (map (share_of line_of path) (range_with_len 0 lines)))
+
+-- the ticks of all shares: of the lines, of code without a line, and of sleep
+abbrev pub all_shares : (ℕ → Option ℕ) → ℕ → List Event → ℕ
+all_shares line_of lines path =
+    sum_by (λ s. s.ticks) (shares_of line_of lines path)
+    + work_elsewhere line_of path
+    + slept_on path
 
 -- ---- the text
 
