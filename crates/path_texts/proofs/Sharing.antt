@@ -1,5 +1,5 @@
 -- The shares of a path are all of its ticks.
-use Rattle.std.proofs.Common.{◌≡◌, ℕ, zero, suc, ◌+◌, ◌<◌, ◌≤◌, ◌==◌, nat_lt, if◌then◌else◌, Bool, true, false, not, List, [], ◌∷◌, length, map, Option, Some, None, is_none, ◌⊎◌, inl, inr, refl, sym, ap, ◌∙◌, arith, sum_by, eq-eqb, ne_eqb}
+use Rattle.std.proofs.Common.{◌≡◌, ℕ, zero, suc, ◌+◌, ◌<◌, ◌≤◌, ◌==◌, nat_lt, if◌then◌else◌, Bool, true, false, List, [], ◌∷◌, length, map, Option, Some, None, is_none, ◌⊎◌, inl, inr, refl, arith, sum_by, eq-eqb, ne_eqb}
 use Rattle.std.specs.Prelude.{option_and_then, position}
 use Rattle.std.specs.List.{filter, range_with_len}
 use Rattle.std.proofs.lemmas.Bool.{cases_eq, ltb-false}
@@ -14,7 +14,7 @@ use Rattle.path_chains.specs.declared.event.Event.{Event}
 use Rattle.path_chains.specs.declared.share.Share.{Share}
 use Rattle.path_chains.specs.Path.{ticks}
 use Rattle.path_chains.specs.Shares.{has_more}
-use Rattle.path_texts.specs.PathText.{is_on, work_on, work_elsewhere, slept_on, share_of, has_some, shares_of, all_shares}
+use Rattle.path_texts.specs.PathText.{is_on, work_on, work_elsewhere, slept_on, share_of, has_some, all_shares}
 
 abbrev ticks_of : Share → ℕ
 ticks_of s = s.ticks

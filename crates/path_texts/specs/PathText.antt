@@ -1,6 +1,6 @@
 -- What `path` prints: the segments of a critical path, how much of it each line has, and how long
 -- it slept.
-use Rattle.std.specs.Prelude.{ℕ, ◌+◌, Bool, false, ◌==◌, nat_lt, List, [], ◌∷◌, ◌++◌, length, map, flat_map, sum_by, Option, Some, None, is_none, if◌then◌else◌, codes}
+use Rattle.std.specs.Prelude.{ℕ, ◌+◌, Bool, false, ◌==◌, nat_lt, List, [], ◌++◌, length, map, flat_map, sum_by, Option, Some, None, is_none, if◌then◌else◌, codes}
 use Rattle.std.specs.List.{filter, range_with_len}
 use Rattle.coz_types.specs.Labels.{Text}
 use Rattle.coz_types.specs.declared.ending.Ending.{Ending}
