@@ -38,7 +38,7 @@ loop-step-preserved c =
     }
 
 pub overflow_add-later : goal.overflow_add-later
-overflow_add-later c = omega (arith, c.from.ensures, c.in-Some-at.ensures.is.few, c.loop-step.invariant.low)
+overflow_add-later c = omega (arith, c.from.ensures, c.in-Some-at.ensures.is.few, c.loop-step.invariant.word.is.few, c.loop-step.invariant.low)
 
 pub returns-then-not-matches-clause-effect : goal.returns-then-not-matches-clause-effect
 returns-then-not-matches-clause-effect c = c.execute_word-step.ensures ∙ ap (step c.args.number.0) c.loop-step.invariant.gone.reached
