@@ -1,6 +1,6 @@
 //! Tests of `guest_memory`.
 ghost use Rattle.std.specs.Prelude.{◌≡◌, ◌+◌, ◌≤◌, ◌<◌, false, IfOk};
-ghost use Rattle.guest_memory.specs.Regions.{usual};
+ghost use Rattle.guest_memory.specs.Regions.{usual, IsKnown};
 
 use crate::checks::check_equal;
 use coz_types::{Address, Area, Image, Rights};
@@ -192,7 +192,9 @@ const NO_RIGHTS: Rights = Rights {
 };
 
 /// A page of code and a page of data.
-fn two_areas(alloc: Global) -> Result<Image<'static>, AllocError> {
+fn two_areas(alloc: Global) -> Result<Image<'static>, AllocError>
+    ensures { IfOk result (λ image. IsKnown image.areas usual 16) }
+{
     let code = Rights {
         read: true,
         write: false,
@@ -328,6 +330,41 @@ fn a_copy_is_equal_and_apart(rt: HostRuntime) -> Result<(), Fail> {
     // By calls, since a drop in place is proved part by part.
     drop(right);
     drop(left);
+    drop(first);
+    Ok(())
+}
+
+/// The pages of code that are as at first: their first address, and their bytes.
+fn first_code(memory: &Memory) -> Option<(Address, u64)> {
+    let pages = memory.first_code()?;
+    Some((pages.start, pages.size))
+}
+
+/// Checks what is known of the code of a new memory while it changes, and in a copy of another.
+fn check_first_code<'a>(rt: &impl Abort, first: &Memory<'a>, memory: &mut Memory<'a>)
+    requires layout { (memory.old.layout ≡ usual) × (first.now.layout ≡ usual) }
+    requires image { memory.old.image ≡ first.now.image }
+    requires known { IsKnown memory.old.image.areas usual 16 }
+{
+    let new = first_code(memory);
+    change(memory);
+    let elsewhere = first_code(memory);
+    memory.give(0x10000, 1, NO_RIGHTS, false);
+    let taken = first_code(memory);
+    memory.copy_from(first);
+    let found = (new, elsewhere, taken, first_code(memory));
+    let code = Some((0x10000, 4096));
+    check_equal(rt, found, (code, code, None, code));
+}
+
+#[test]
+fn code_is_as_at_first_until_its_rights_change(rt: HostRuntime) -> Result<(), Fail> {
+    let image = two_areas(rt.alloc())?;
+    let first = made(rt.alloc(), &image)?;
+    let mut memory = made(rt.alloc(), &image)?;
+    check_first_code(&rt, &first, &mut memory);
+    // By calls, since a drop in place is proved part by part.
+    drop(memory);
     drop(first);
     Ok(())
 }
