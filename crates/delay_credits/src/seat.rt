@@ -73,7 +73,7 @@ pub(crate) fn is_unpaused(seat: Seat, raises: Raises, now: Tick) -> bool
     }
 }
 
-/// The account at a moment of a hart that has this pause before it then.
+/// The account of a hart at a moment.
 pub(crate) fn account_of(seat: Seat, raised: Tick, raises: Raises, now: Tick) -> Account
     requires past { raises.at ≤ now }
     requires few { raised ≤ 10 ^ 17 }
