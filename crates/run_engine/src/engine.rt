@@ -64,6 +64,9 @@ pub struct Engine<'a> {
     pub ending: Option<Ending>,
 }
 
+/// The least ticks of an instruction that the speedup does not shorten: those of one cycle.
+const MIN_TICKS: Tick = 100;
+
 /// A hart that has retired an instruction, and its fate.
 #[derive(Clone, Copy)]
 pub struct Retired {
@@ -305,6 +308,9 @@ impl<'a> Engine<'a> {
         if self.guest.is_sleeping(turn.hart) {
             self.wake(marked.setting(), turn);
             Event::Woke(turn)
+        } else if limit_of(&self.schedule, turn.hart) <= turn.due + MIN_TICKS {
+            // Another hart has its turn before the next instruction of this one could be due.
+            Event::Retired(self.retire(marked.setting(), turn, delay))
         } else {
             Event::Retired(self.retire_far(marked, turn, delay))
         }
