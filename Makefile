@@ -60,6 +60,9 @@ install: build
 	tools/install-guests "$(DESTDIR)" "$(PREFIX)"
 	install -D -m 755 tools/to-coz $(DESTDIR)$(PREFIX)/bin/to-coz
 	install -D -m 755 cluster/coz-shard $(DESTDIR)$(PREFIX)/bin/coz-shard
+	install -d $(DESTDIR)$(PREFIX)/lib/coz/cluster
+	install -m 755 cluster/array.sh $(DESTDIR)$(PREFIX)/lib/coz/cluster
+	install -m 644 cluster/*.mk $(DESTDIR)$(PREFIX)/lib/coz/cluster
 	for name in $(PAGES); do install -D -m 644 docs/$$name $(DESTDIR)$(PREFIX)/share/doc/coz/$$name || exit 1; done
 	for name in $(SHELLS); do mkdir -p "$(DESTDIR)$(PREFIX)/share/$${name%/*}" && tools/coz-study completions $${name%%[-/]*} > "$(DESTDIR)$(PREFIX)/share/$$name" || exit 1; done
 	install -D -m 644 docs/coz.1 $(DESTDIR)$(PREFIX)/share/man/man1/coz.1

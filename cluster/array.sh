@@ -4,7 +4,8 @@
 # sbatch array.sh LINES DIR PROG WORD..
 # Each task of a Slurm array runs its part of the commands of the file RUNS, as `coz-study plan` prints them; or
 # makes one shard of a profile of the file LINES, with as many workers as it has processors. A task has one
-# processor, or as many as --cpus-per-task says. Submit it in the folder that has cluster/.
+# processor, or as many as --cpus-per-task says. coz-shard is that of cluster/ in the folder in which you submit, or
+# else the installed one.
 set -eu
 task=$SLURM_ARRAY_TASK_ID tasks=$SLURM_ARRAY_TASK_COUNT
 if [ $# = 1 ]; then
@@ -16,4 +17,6 @@ if [ $# = 1 ]; then
     exit
 fi
 lines=$1 dir=$2 prog=$3; shift 3
-exec cluster/coz-shard "$task" "$tasks" "$lines" "$dir" "$prog" --workers "${SLURM_CPUS_ON_NODE:-1}" "$@"
+shard=cluster/coz-shard
+[ -x "$shard" ] || shard=coz-shard
+exec "$shard" "$task" "$tasks" "$lines" "$dir" "$prog" --workers "${SLURM_CPUS_ON_NODE:-1}" "$@"
