@@ -35,10 +35,10 @@ use guest_futex::{HartList, Queue};
 use guest_memory::{Access, Layout, Memory};
 use guest_pipes::Pipes;
 pub use hart::HartStatus;
-use hart_steps::{Advance, Code, step_on};
+use hart_steps::{Advance, Code, step_at, step_on};
 pub use machines::Fate;
 use rv_decode::{Instr, decode};
-use rv_execute::{Reservations, Step, execute};
+use rv_execute::{Reservations, Step};
 use std::alloc::{AllocError, Global};
 use std::marker::Model;
 
@@ -209,7 +209,7 @@ impl<'a> Guest<'a> {
         requires some { 1 ≤ most }
         requires net { net ≤ 2 ^ 62 }
         requires limit { limit ≤ 2 ^ 62 }
-        ensures no_error_line { (i : ℕ) → i < result.quiet →
+        ensures quiet { (i : ℕ) → i < result.quiet →
             IsQuietStep marks.now limit (after_steps i self.old hart.0) hart.0
             (moment_after i self.old hart.0 net) }
         ensures few { result.quiet < most }
@@ -279,14 +279,14 @@ impl<'a> Guest<'a> {
         requires { IsMade self.old hart.0 }
         ensures { step_result self.new result ≡ step self.old hart.0 }
     {
-        let Ok(word) = self.word(hart) else {
-            return Step::Fault(TrapCause::Fetch);
-        };
-        let Some(instr) = decode(word) else {
-            return Step::Fault(TrapCause::Illegal);
-        };
         let state = &mut self.harts[hart.0 as usize].state;
-        execute(state, hart, &mut self.memory, &mut self.reservations, instr)
+        step_at(
+            state,
+            hart,
+            &mut self.memory,
+            &mut self.reservations,
+            &self.code,
+        )
     }
 
     /// Executes a hart's next instructions, the first of them at a net time, and at least one. It
@@ -297,7 +297,7 @@ impl<'a> Guest<'a> {
         requires some { 1 ≤ most }
         requires net { net ≤ 2 ^ 62 }
         requires limit { limit ≤ 2 ^ 62 }
-        ensures no_error_line { (i : ℕ) → i < result.quiet →
+        ensures quiet { (i : ℕ) → i < result.quiet →
             IsQuietStep marks.now limit (after_steps i self.old hart.0) hart.0
             (moment_after i self.old hart.0 net) }
         ensures few { result.quiet < most }

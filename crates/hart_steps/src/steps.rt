@@ -64,6 +64,25 @@ fn step_once(
     }
 }
 
+/// Executes the instruction at a hart's pc.
+#[inline(always)]
+pub fn step_at(
+    state: &mut HartState,
+    number: HartId,
+    memory: &mut Memory,
+    reservations: &mut Reservations,
+    code: &Code,
+) -> Step
+    requires number { number.0 < HARTS }
+    ensures { execution state.new memory.new reservations.new result
+        ≡ step number.0 (setting state.old memory.old reservations.old) }
+{
+    match code.at(memory, state.pc) {
+        Some(word) => execute_word(state, number, memory, reservations, word),
+        None => step_once(state, number, memory, reservations),
+    }
+}
+
 /// Executes instructions of a hart, the first of them at a net time, and at least one. It goes on
 /// only to an instruction that has no mark and is due before `limit`, and only while it executed
 /// fewer than `most`.
@@ -82,7 +101,7 @@ pub fn step_on(
     requires some { 1 ≤ most }
     requires net { net ≤ 2 ^ 62 }
     requires limit { limit ≤ 2 ^ 62 }
-    ensures no_error_line { (i : ℕ) → i < result.quiet → IsQuiet marks.now limit number.0
+    ensures quiet { (i : ℕ) → i < result.quiet → IsQuiet marks.now limit number.0
         (after i number.0 (setting state.old memory.old reservations.old))
         (moment i number.0 (setting state.old memory.old reservations.old) net) }
     ensures few { result.quiet < most }

@@ -22,7 +22,7 @@ returns c =
     let made = running-made g h c.requires.running in
     let effect = c.follow-fate.ensures ∙ retire-after before c.step_on-done.new.self h done.net done.step c.step_on-done.ensures.effect in
     record {
-      quiet = c.step_on-done.ensures.no_error_line;
+      quiet = c.step_on-done.ensures.quiet;
       few = c.step_on-done.ensures.few;
       net = c.step_on-done.ensures.net;
       effect = effect;

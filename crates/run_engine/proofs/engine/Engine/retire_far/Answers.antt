@@ -44,7 +44,7 @@ complete-requires c =
       soon = c.limit_of-limit.ensures.soon;
       allows = λ more. subst (λ (a : ℕ). AllowsQuiet c.args.marked.now c.args.self.now a c.most_from-most.result) c.pc-address.ensures (c.most_from-most.ensures.allows more);
       few = c.retire_far-stretch.ensures.few;
-      steps = c.retire_far-stretch.ensures.no_error_line;
+      steps = c.retire_far-stretch.ensures.quiet;
     } in
     let keeps : kept ≡ record s.visits { kept = s.visits.kept ++ visits_of (point_of setting.points.now (pc_of s.guest h)) h (due + delay) delay } =
     c.keep_visit.ensures ∙ ap₂ (λ (o : Setting) (a : ℕ). record s.visits { kept = s.visits.kept ++ visits_of (point_of o.points.now a) h (due + delay) delay }) c.setting-setting.ensures c.pc-address.ensures in
@@ -93,7 +93,7 @@ returns-clause-retired c =
       soon = c.limit_of-limit.ensures.soon;
       allows = λ more. subst (λ (a : ℕ). AllowsQuiet c.args.marked.now c.args.self.now a c.most_from-most.result) c.pc-address.ensures (c.most_from-most.ensures.allows more);
       few = c.retire_far-stretch.ensures.few;
-      steps = c.retire_far-stretch.ensures.no_error_line;
+      steps = c.retire_far-stretch.ensures.quiet;
     } in
     let keeps : kept ≡ record s.visits { kept = s.visits.kept ++ visits_of (point_of setting.points.now (pc_of s.guest h)) h (due + delay) delay } =
     c.keep_visit.ensures ∙ ap₂ (λ (o : Setting) (a : ℕ). record s.visits { kept = s.visits.kept ++ visits_of (point_of o.points.now a) h (due + delay) delay }) c.setting-setting.ensures c.pc-address.ensures in
