@@ -40,14 +40,14 @@ is_read (Profile fault) five = absurd (omega (arith, five))
 not_memory : (fault : Fault) → fault_status fault ≡ 5 → IsMemoryFault fault → ⊥
 not_memory fault five memory = let ten = memory_status fault memory in omega (arith, five, ten)
 
-module _ (name : List ℕ) (IsNamed : List ℕ → Type 0) (verdict : Held → Verdict) (told : Option Held) (before now : ℕ) where
+module _ (name : List ℕ) (IsNamed : List ℕ → Type 0) (verdict_in : Held → Verdict) (told : Option Held) (before now : ℕ) where
   -- a fault has this verdict, or it is a read that failed with a counted fault
   abbrev pub IsSettledBy : Fault → Verdict → Type 0
   IsSettledBy fault v = (fault_verdict fault ≡ v) ⊎ (IsReadFault fault × Rose before now)
 
   -- a fault is settled by the verdict, unless it is out of memory
   abbrev pub IsSettledIn : Option Held → Fault → Type 0
-  IsSettledIn o fault = IfSome o (λ held. (IsMemoryFault fault → ⊥) → IsSettledBy fault (verdict held))
+  IsSettledIn o fault = IfSome o (λ held. (IsMemoryFault fault → ⊥) → IsSettledBy fault (verdict_in held))
 
   -- what is known of a fault that is reported
   pub record IsKnown (fault : Fault) (status : ℕ) : Type 0 where
@@ -58,10 +58,10 @@ module _ (name : List ℕ) (IsNamed : List ℕ → Type 0) (verdict : Held → V
     pub read_fault_has_cause : IsReadFault fault → IfNone told (Rose before now)
 
   abbrev IsLine : ℕ → List ℕ → Type 0
-  IsLine status line = IsFaultLine name IsNamed verdict status told before now line
+  IsLine status line = IsFaultLine name IsNamed verdict_in status told before now line
 
   -- a fault that is neither of a read nor out of memory is the verdict's
-  of_verdict : (fault : Fault) (o : Option Held) → (IsReadFault fault → ⊥) → (IsMemoryFault fault → ⊥) → IsSettledIn o fault → IfSome o (λ held. name ++ fault_line fault ≡ name ++ (verdict held).line)
+  of_verdict : (fault : Fault) (o : Option Held) → (IsReadFault fault → ⊥) → (IsMemoryFault fault → ⊥) → IsSettledIn o fault → IfSome o (λ held. name ++ fault_line fault ≡ name ++ (verdict_in held).line)
   of_verdict fault None no_read no_memory settled = tt
   of_verdict fault (Some held) no_read no_memory settled =
       elim (settled no_memory) [ inl is ↦ ap (λ (v : Verdict). name ++ v.line) is | inr failed ↦ absurd (no_read failed.0) ]
@@ -85,7 +85,7 @@ module _ (name : List ℕ) (IsNamed : List ℕ → Type 0) (verdict : Held → V
 
     -- a read that failed with a counted fault, or the path that has no file
     absent_by : (path : _) (o : Option Held) → IfNone o (Rose before now) → IsSettledIn o (File (Read path))
-        → Rose before now ⊎ IsSomeAnd o (λ held. name ++ fault_line (File (Read path)) ≡ name ++ (verdict held).line)
+        → Rose before now ⊎ IsSomeAnd o (λ held. name ++ fault_line (File (Read path)) ≡ name ++ (verdict_in held).line)
     absent_by path None untold settled = inl untold
     absent_by path (Some held) untold settled =
         elim (settled (λ no. no)) [ inl is ↦ inr (ap (λ (v : Verdict). name ++ v.line) is) | inr failed ↦ inl failed.1 ]
@@ -125,12 +125,12 @@ module _ (name : List ℕ) (IsNamed : List ℕ → Type 0) (verdict : Held → V
     told_line (Source fault) k = plain (Source fault) k refl refl refl refl (λ no. no) (λ no. no)
     told_line (Profile fault) k = plain (Profile fault) k refl refl refl refl (λ no. no) (λ no. no)
 
-  refused_settled : (o : Option Held) → IfSome o (λ held. verdict held ≡ refusal 2 (codes "usage")) → IsSettledIn o (File Usage)
+  refused_settled : (o : Option Held) → IfSome o (λ held. verdict_in held ≡ refusal 2 (codes "usage")) → IsSettledIn o (File Usage)
   refused_settled None refused = tt
   refused_settled (Some held) refused = λ no_memory. inl (sym refused)
 
   -- the line of words that make no request
-  pub usage_line : IfSome told (λ held. verdict held ≡ refusal 2 (codes "usage")) → IsLine 2 (name ++ codes "usage")
+  pub usage_line : IfSome told (λ held. verdict_in held ≡ refusal 2 (codes "usage")) → IsLine 2 (name ++ codes "usage")
   usage_line refused =
       told_line 2 (File Usage)
       (record {
@@ -164,7 +164,7 @@ module _ (name : List ℕ) (IsNamed : List ℕ → Type 0) (verdict : Held → V
 
   -- a failed read has a cause outside, or it is the verdict's
   pub read_cause : (o : Option Held) (fault : Fault) → IsSettledIn o fault → (IsReadFault fault → IfNone o (Rose before now)) → fault_status fault ≡ 5
-      → Rose before now ⊎ IsSomeAnd o (λ held. (verdict held).status ≡ 5)
+      → Rose before now ⊎ IsSomeAnd o (λ held. (verdict_in held).status ≡ 5)
   read_cause None fault settled untold five = inl (untold (is_read fault five))
   read_cause (Some held) fault settled untold five =
       elim (settled (not_memory fault five)) [
