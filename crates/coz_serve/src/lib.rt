@@ -1,9 +1,9 @@
-//! The frame of the programs: the words of a program and the files that they name come to a text,
-//! or to a fault. The text is written with its status, or the line of the fault is.
+//! What all programs do in the same way: a program computes a text, or a fault, from its arguments
+//! and files. It prints the text and returns a status, or it prints the line of the fault.
 //!
-//! A program says what it prints (`Printed`), which faults it has (`Fault`) and what its words come
-//! to (`Program` in `specs/Serves.antt`). What `serve_with` leaves is then the same for each
-//! program: `Serves`.
+//! Each program defines what it prints (`Printed`), its faults (`Fault`), and its verdict
+//! (`Program` in `specs/Serves.antt`). `serve_with` then keeps one contract for all of them:
+//! `Serves`.
 #![tactic(auto)]
 
 mod fault;
