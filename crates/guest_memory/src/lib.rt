@@ -331,6 +331,7 @@ impl<'a> Memory<'a> {
 
     /// The pages that the entry is among, if they are as they were at first: none since one of
     /// them was written or given rights.
+    #[inline(always)]
     pub fn first_code(&self) -> Option<CodePages>
         ensures { IfSome result (λ code. IsFirstFrom code.start code.size self.now) }
     {
@@ -355,6 +356,7 @@ impl<'a> Memory<'a> {
 
     /// The number that stands at an address, for a size of 1, 2, 4 or 8 bytes.
     /// Err if some byte may not be read.
+    #[inline(always)]
     pub fn load(&self, address: Address, size: u8) -> Result<u64, Access>
         requires { IsSize size }
         ensures { result_ok result ≡ load self.now address size }

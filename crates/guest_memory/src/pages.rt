@@ -61,7 +61,7 @@ impl Pages {
     }
 
     /// Whether these pages are of the code, and none of it was touched.
-    #[inline]
+    #[inline(always)]
     pub fn is_clean(&self, first: u64, count: u64) -> bool
         requires { first + count ≤ length self.now.each.items }
         ensures { IsTrue result → AreClean first (first + count) true self.now.each.items }
