@@ -23,19 +23,6 @@ fn load_size(op: LoadOp) -> u8
     }
 }
 
-#[inline(always)]
-fn store_size(op: StoreOp) -> u8
-    ensures size { result ≡ store_size op }
-    ensures is_size { IsSize result }
-{
-    match op {
-        StoreOp::Sb => 1,
-        StoreOp::Sh => 2,
-        StoreOp::Sw => 4,
-        StoreOp::Sd => 8,
-    }
-}
-
 /// The register that holds the signed number which the lowest 32 bits write.
 #[inline(always)]
 pub fn low_word_extended(number: u64) -> u64
@@ -57,7 +44,20 @@ fn load_value(op: LoadOp, number: u64) -> u64
     }
 }
 
-/// A load.
+/// A load from an address.
+#[inline(always)]
+fn load_from(hart: &mut HartState, memory: &Memory, op: LoadOp, rd: u8, address: Address) -> Step
+    requires { rd < 32 }
+    ensures { (r : Reserved) → execution hart.new memory.now r result
+        ≡ load_to op rd address (setting hart.old memory.now r) }
+{
+    match memory.load(address, load_size(op)) {
+        Err(Access) => Step::Fault(TrapCause::Access),
+        Ok(number) => hart.put(rd, load_value(op, number)),
+    }
+}
+
+/// A load. Each operation has a call of its own, so its size is a constant there.
 #[inline(always)]
 pub fn load(hart: &mut HartState, memory: &Memory, op: LoadOp, rd: u8, rs1: u8, offset: i32) -> Step
     requires rd { rd < 32 }
@@ -67,9 +67,14 @@ pub fn load(hart: &mut HartState, memory: &Memory, op: LoadOp, rd: u8, rs1: u8, 
         (setting hart.old memory.now r) }
 {
     let address = address_at(hart.value(rs1), offset);
-    match memory.load(address, load_size(op)) {
-        Err(Access) => Step::Fault(TrapCause::Access),
-        Ok(number) => hart.put(rd, load_value(op, number)),
+    match op {
+        LoadOp::Lb => load_from(hart, memory, LoadOp::Lb, rd, address),
+        LoadOp::Lh => load_from(hart, memory, LoadOp::Lh, rd, address),
+        LoadOp::Lw => load_from(hart, memory, LoadOp::Lw, rd, address),
+        LoadOp::Ld => load_from(hart, memory, LoadOp::Ld, rd, address),
+        LoadOp::Lbu => load_from(hart, memory, LoadOp::Lbu, rd, address),
+        LoadOp::Lhu => load_from(hart, memory, LoadOp::Lhu, rd, address),
+        LoadOp::Lwu => load_from(hart, memory, LoadOp::Lwu, rd, address),
     }
 }
 
@@ -96,7 +101,7 @@ fn store_at(
     }
 }
 
-/// A store.
+/// A store. Each operation has a call of its own, so its size is a constant there.
 #[inline(always)]
 pub fn store(
     hart: &mut HartState,
@@ -116,5 +121,10 @@ pub fn store(
 {
     let address = address_at(hart.value(rs1), offset);
     let value = hart.value(rs2);
-    store_at(hart, memory, reservations, address, store_size(op), value)
+    match op {
+        StoreOp::Sb => store_at(hart, memory, reservations, address, 1, value),
+        StoreOp::Sh => store_at(hart, memory, reservations, address, 2, value),
+        StoreOp::Sw => store_at(hart, memory, reservations, address, 4, value),
+        StoreOp::Sd => store_at(hart, memory, reservations, address, 8, value),
+    }
 }
