@@ -107,3 +107,11 @@ first_space-shares image layout =
     let bytes = same_regions-with_bytes (first_memory image layout) (stack_top - 32) name in
     let base = same_regions-first image layout in
     record { areas = sym (ap (λ (i : ImageParts). i.areas) (numbers.0 ∙ bytes.0 ∙ base.0)); layout = sym (numbers.1 ∙ bytes.1 ∙ base.1) }
+
+pub first_space-made : (image : ImageParts) (layout : Layout) → ((first_space image layout).memory.image ≡ image) × ((first_space image layout).memory.layout ≡ layout)
+unfolding with_entry
+first_space-made image layout =
+    let numbers = same_regions-with_numbers (with_bytes (stack_top - 32) name (first_memory image layout)) stack_pointer (entry_numbers image) in
+    let bytes = same_regions-with_bytes (first_memory image layout) (stack_top - 32) name in
+    let base = same_regions-first image layout in
+    (numbers.0 ∙ bytes.0 ∙ base.0, numbers.1 ∙ bytes.1 ∙ base.1)

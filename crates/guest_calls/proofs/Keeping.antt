@@ -3,7 +3,6 @@ use Rattle.std.proofs.Common.{ℕ, zero, suc, ◌≡◌, ◌≢◌, ◌<◌, ◌
 use Rattle.std.proofs.lemmas.List.{length-set}
 use Rattle.std.specs.Prelude.{All}
 use Rattle.guest_memory.specs.Memory.{MemoryMap}
-use Rattle.guest_areas.specs.Space.{RegionMap, SharesRegions}
 use Rattle.guest_futex.specs.Waiters.{Waiter, with_waiter, woken_harts, waiters_left}
 use Rattle.guest_pipes.specs.declared.waiters.PipeWaiter.{PipeWaiter}
 use Rattle.machines.specs.Places.{is_among}
@@ -11,7 +10,7 @@ use Rattle.guest_calls.specs.declared.hart.Hart.{Hart}
 use Rattle.guest_calls.specs.declared.hart.HartStatus.{HartStatus}
 use Rattle.guest_calls.specs.declared.hart.HartStatus.TheVariants.{Running, Waiting, Sleeping, Gone}
 use Rattle.guest_calls.specs.Guest.{Guest, no_hart, is_running_status, is_sleeping_status, with_running_each}
-use Rattle.guest_calls.specs.Kept.{IsKept}
+use Rattle.guest_calls.specs.Kept.{Parts, AreShared, IsKept}
 use Rattle.guest_calls.specs.Orderly.{IsOrderly, waiting_harts}
 use Rattle.guest_calls.proofs.Waiting.{waiting-set, waiting-elsewhere, waiting-append, waiting-added, others-moving, others-running, address_woken, address_added}
 use Rattle.guest_calls.proofs.RunningHarts.{length_each, waiting_left, woken_made, few_woken}
@@ -41,11 +40,11 @@ abbrev runs_at : List Hart → ℕ → Bool
 runs_at hs h = is_running_status (get_or hs h no_hart).status
 
 -- a guest whose fields keep their rules is orderly
-pub orderly : (inside g : Guest) (cap : ℕ) (r : RegionMap) (m : MemoryMap) → inside ≡ g → IsKept inside.harts cap inside.waiters inside.pipes.waiters r m → IsOrderly g
+pub orderly : (inside g : Guest) (cap : ℕ) (r : Parts) (m : MemoryMap) → inside ≡ g → IsKept inside.harts cap inside.waiters inside.pipes.waiters r m → IsOrderly g
 orderly inside g cap r m view kept =
     subst (λ (x : Guest). IsOrderly x) view (record { few = kept.few; waiting = kept.waiting; apart = kept.apart })
 
-module _ (hs : List Hart) (cap : ℕ) (ws : List Waiter) (ps : List PipeWaiter) (r : RegionMap) (m : MemoryMap) where
+module _ (hs : List Hart) (cap : ℕ) (ws : List Waiter) (ps : List PipeWaiter) (r : Parts) (m : MemoryMap) where
   -- a hart of the same status in its place
   pub kept-set : (h : ℕ) (hart : Hart) → IsKept hs cap ws ps r m → hart.status ≡ (get_or hs h no_hart).status → IsKept (set hs h hart) cap ws ps r m
   kept-set h hart kept same = record {
@@ -96,7 +95,7 @@ module _ (hs : List Hart) (cap : ℕ) (ws : List Waiter) (ps : List PipeWaiter) 
   kept-with_waiter h a hart kept runs waits = kept-added h hart (with_waiter a h ws) ps kept runs waits (address_added ws ps a h kept.apart (others-kept h kept runs))
 
   -- those that are woken run, whatever they waited for
-  pub kept-roused : (woken : List ℕ) (left : List Waiter) (pleft : List PipeWaiter) (after : MemoryMap) → IsKept hs cap ws ps r m → IsWoken (waiting_harts ws ps) woken (waiting_harts left pleft) → SharesRegions r after → IsKept (with_running_each woken hs) cap left pleft r after
+  pub kept-roused : (woken : List ℕ) (left : List Waiter) (pleft : List PipeWaiter) (after : MemoryMap) → IsKept hs cap ws ps r m → IsWoken (waiting_harts ws ps) woken (waiting_harts left pleft) → AreShared r after → IsKept (with_running_each woken hs) cap left pleft r after
   kept-roused woken left pleft after kept w shared = record {
     few = let same = length_each woken hs in let few : length hs ≤ 256 = kept.few in omega (arith, same);
     room = kept.room;

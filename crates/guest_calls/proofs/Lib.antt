@@ -1,4 +1,4 @@
-pub mod Steady
+pub mod Shared
 pub mod Steps
 pub mod Strides
 pub mod Rows

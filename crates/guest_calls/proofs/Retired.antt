@@ -18,7 +18,7 @@ use Rattle.guest_calls.specs.Calls
 use Rattle.guest_calls.specs.Calls.{of_space, unsupported, a0, a1, a2, a3, with_filled, with_read, filled_parts, total, is_each_writable, is_each_readable, bytes_of, pieces_at, are_few, is_named, read_length, is_file, is_end, is_input, is_output, is_reading_end, is_writing_end, is_mapping, at_any_time, calls, call_of}
 use Rattle.guest_calls.specs.Retire.{step_result, step, retirement_after, retire}
 use Rattle.guest_calls.specs.Orderly.{IsOrderly}
-use Rattle.guest_calls.proofs.Steady.{regions-kept}
+use Rattle.hart_steps.proofs.Steady.{regions-kept}
 use Rattle.guest_calls.proofs.Steps.{step-call, step-guest}
 use Rattle.guest_calls.proofs.ByNumber.{IsRow, AreRows, call_has}
 use Rattle.guest_calls.proofs.Started.{IsStarted, IsStartedAt, at_any_net, IsAsBefore, either, memory_made, stored_made, space_made, same_harts, later, hart_kept, unchanged, none_beside, goes_started, ends_started, kept_started, answer_started, checked, of_space_started, unsupported_started}

@@ -12,7 +12,7 @@ use Rattle.machines.specs.Guest.{Retirement}
 use Rattle.guest_memory.specs.declared.Layout.{Layout}
 use Rattle.guest_memory.specs.Memory.{MemoryMap, with_bytes, is_readable, byte_at, bytes_at, first_memory}
 use Rattle.guest_memory.proofs.Runs.{allowed_from, allowed_each, length-bytes_at, same_regions-with_bytes, same_regions-first}
-use Rattle.guest_areas.specs.Space.{RegionMap, Space, SharesRegions, space}
+use Rattle.guest_areas.specs.Space.{RegionMap, Space, space}
 use Rattle.guest_areas.specs.Entry.{stack_pointer, first_space}
 use Rattle.guest_futex.specs.Waiters.{Waiter}
 use Rattle.guest_pipes.specs.Pipes.{PipeMap, no_pipes}
@@ -20,20 +20,18 @@ use Rattle.rv_execute.specs.Reservations.{Reservations}
 use Rattle.guest_calls.specs.declared.hart.Hart.{Hart}
 use Rattle.guest_calls.specs.Output.{Written, with_bytes_written}
 use Rattle.guest_calls.specs.Guest.{Guest, IsMade, no_hart, is_running, is_running_status, hart_from, first_hart, first_guest}
-use Rattle.guest_calls.specs.Kept.{guest_of}
+use Rattle.guest_calls.specs.Kept.{guest_of, Parts, AreShared}
+use Rattle.guest_calls.proofs.Shared.{still_shared}
 use Rattle.guest_calls.specs.Calls.{retirement, number, with_reply, with_answer, leave, exit, is_cleared, woken_at_exit, cleared, unsupported, calls, call_of}
 
 -- an answer that fits stands as it is
 pub answered_count : (n h : ℕ) (g : Guest) → n < 2 ^ 64 → with_reply n h g ≡ with_answer (pos n) h g
 answered_count n h g fits = ap (λ (x : ℕ). with_reply x h g) (sym (mod-eq_of_lt fits))
 
-pub shares-stored : (r : RegionMap) (m after : MemoryMap) (a : ℕ) (bs : List ℕ) → SharesRegions r m → after ≡ with_bytes a bs m → SharesRegions r after
+pub shares-stored : (r : Parts) (m after : MemoryMap) (a : ℕ) (bs : List ℕ) → AreShared r m → after ≡ with_bytes a bs m → AreShared r after
 shares-stored r m after a bs shared e =
     let kept = same_regions-with_bytes m a bs in
-    record {
-      areas = shared.areas ∙ sym (ap (λ (x : MemoryMap). x.image.areas) e ∙ ap (λ (i : ImageParts). i.areas) kept.0);
-      layout = shared.layout ∙ sym (ap (λ (x : MemoryMap). x.layout) e ∙ kept.1);
-    }
+    still_shared r m after (ap (λ (x : MemoryMap). x.image) e ∙ kept.0) (ap (λ (x : MemoryMap). x.layout) e ∙ kept.1) shared
 
 pub readable-part : (m : MemoryMap) (a n k : ℕ) → is_readable m a n ≡ true → k ≤ n → is_readable m a k ≡ true
 readable-part m a n k may fits =

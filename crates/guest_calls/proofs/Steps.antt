@@ -20,7 +20,7 @@ use Rattle.guest_calls.specs.Guest.{Guest, no_hart, setting_of, with_setting}
 use Rattle.guest_calls.specs.Output.{Written}
 use Rattle.guest_calls.specs.Kept.{guest_of}
 use Rattle.guest_calls.specs.Retire.{word_at, next_of, Stepped, step_result, stepped_by, step, retirement_after, retire}
-use Rattle.guest_calls.proofs.Steady.{only_ecall, ecall-unchanged, regions-kept}
+use Rattle.hart_steps.proofs.Steady.{only_ecall, ecall-unchanged, regions-kept}
 
 -- the next instruction, and its absence
 pub next-fetched : (g : Guest) (h w : ℕ) → Some w ≡ word_at g h → instruction_of w ≡ next_of g h
@@ -116,16 +116,6 @@ call-same g after h s e is =
     let p : (step g h).step ≡ Call = ap (λ (x : Stepped). x.step) (sym e) ∙ is in
     let there = step-call g h p in
     record { same = ap (λ (x : Stepped). x.guest) e ∙ there.same; ecall = there.ecall }
-
-pub shares-executed : (r : RegionMap) (h : ℕ) (i : Instr) (s : Setting) (hart : HartState) (m : MemoryMap) (rs : Reservations) (result : Step) → execution hart m rs result ≡ execute h i s
-    → SharesRegions r s.memory → SharesRegions r m
-shares-executed r h i s hart m rs result e shared =
-    let kept = regions-kept h i s in
-    let same : m ≡ (execute h i s).setting.memory = ap (λ (x : Executed). x.setting.memory) e in
-    record {
-      areas = shared.areas ∙ sym (ap (λ (x : MemoryMap). x.image.areas) same ∙ ap (λ (i : ImageParts). i.areas) kept.0);
-      layout = shared.layout ∙ sym (ap (λ (x : MemoryMap). x.layout) same ∙ kept.1);
-    }
 
 -- what is executed on the hart's own registers, in its place
 pub step-in_place : (items : List Hart) (regions : RegionMap) (m after_m : MemoryMap) (r after_r : Reservations) (waiters : List Waiter) (pipes : PipeMap) (input whole : List ℕ) (output : Written) (g : Guest) (h w : ℕ) (i : Instr) (hart : Hart) (s : HartState) (result : Step)

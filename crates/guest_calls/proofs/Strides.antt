@@ -1,5 +1,6 @@
 -- The steps of a guest's hart are those of its registers, the memory and the reservations.
 use Rattle.std.proofs.Common.{ℕ, zero, suc, ◌≡◌, ◌+◌, ◌<◌, true, List, length, get_or, set, Option, Some, None, Result, Ok, Err, refl, sym, ap, subst, ◌∙◌}
+use Rattle.std.specs.Prelude.{IfSome}
 use Rattle.std.proofs.lemmas.List.{set-set, length-set, get_or-set_same}
 use Rattle.coz_types.specs.declared.ending.TrapCause.{TrapCause}
 use Rattle.coz_types.specs.declared.ending.TrapCause.TheVariants.{Fetch, Illegal}
@@ -9,7 +10,7 @@ use Rattle.rv_decode.specs.declared.Instr.{Instr}
 use Rattle.rv_decode.specs.Instructions.{instruction_of}
 use Rattle.guest_memory.specs.declared.Layout.{Layout}
 use Rattle.guest_memory.specs.Memory.{MemoryMap, fetch}
-use Rattle.guest_areas.specs.Space.{RegionMap, SharesRegions}
+use Rattle.guest_areas.specs.Space.{RegionMap}
 use Rattle.guest_futex.specs.Waiters.{Waiter}
 use Rattle.guest_pipes.specs.Pipes.{PipeMap}
 use Rattle.rv_execute.specs.declared.hart.HartState.{HartState}
@@ -21,12 +22,13 @@ use Rattle.hart_steps.specs.Words as words
 use Rattle.hart_steps.specs.Steps as steps
 use Rattle.guest_calls.specs.declared.hart.Hart.{Hart}
 use Rattle.guest_calls.specs.Guest.{Guest, making, no_hart, hart_at, is_running, is_running_status, IsMade, pc_of, setting_of, with_setting, with_memory}
-use Rattle.guest_calls.specs.Kept.{guest_of}
+use Rattle.guest_calls.specs.Kept.{guest_of, Parts, AreShared}
 use Rattle.guest_calls.specs.Orderly.{IsOrderly, waiting_harts}
 use Rattle.guest_calls.specs.Output.{Written}
 use Rattle.guest_calls.specs.Retire.{word_at, next_of, Stepped, step_result, stepped_by, step}
-use Rattle.guest_calls.specs.Quiet.{after_steps, ticks_of, moment_after, IsQuietStep}
-use Rattle.guest_calls.proofs.Steady.{regions-kept}
+use Rattle.guest_calls.specs.Quiet.{after_steps, ticks_of, moment_after, IsQuietStep, GoesOnAt}
+use Rattle.hart_steps.proofs.Unstored.{step-regions}
+use Rattle.guest_calls.proofs.Shared.{still_shared}
 use Rattle.guest_calls.proofs.Steps.{decoded, fetched, step-is, same_setting}
 use Rattle.guest_calls.proofs.Waiting.{waiting-set}
 use Rattle.guest_calls.proofs.Rows.{running-made}
@@ -102,6 +104,25 @@ quiet-setting marks limit n g h net made quiet =
           (subst (λ (t : ℕ). steps.moment n h (setting_of g h) net + t < limit) (sym ticks) quiet.due);
     }
 
+pub goes_on-setting : (marks : MarkMap) (n : ℕ) (g : Guest) (h net next : ℕ) → IsMade g h → steps.GoesOn marks h (steps.after n h (setting_of g h)) net next → GoesOnAt marks (after_steps n g h) h net next
+goes_on-setting marks n g h net next made on =
+    let e = steps.step h (steps.after n h (setting_of g h)) in
+    let is = step-after n g h made in
+    let back = setting-back g h e.setting made in
+    let ticks : ticks_of (step (after_steps n g h) h).guest h ≡ steps.ticks_of e.setting =
+    ap (λ (x : Stepped). ticks_of x.guest h) is ∙ ticks-setting (with_setting h e.setting g) h ∙ ap steps.ticks_of back in
+    record {
+      goes = ap (λ (x : Stepped). x.step) is ∙ on.goes;
+      unmarked = ap (λ (x : Stepped). is_quiet_at marks (pc_of x.guest h)) is ∙ ap (λ (x : Setting). is_quiet_at marks x.hart.pc) back ∙ on.unmarked;
+      next = on.next ∙ ap (λ (t : ℕ). net + t) (sym ticks);
+    }
+
+pub goes_on-each : (marks : MarkMap) (most n : ℕ) (g : Guest) (h net : ℕ) (start : Setting) (o : Option ℕ) → IsMade g h → start ≡ setting_of g h
+    → IfSome o (λ next. (n + 1 < most) × steps.GoesOn marks h (steps.after n h start) net next) → IfSome o (λ next. (n + 1 < most) × GoesOnAt marks (after_steps n g h) h net next)
+goes_on-each marks most n g h net start None made is on = on
+goes_on-each marks most n g h net start (Some next) made is on =
+    (on.0, goes_on-setting marks n g h net next made (subst (λ (x : Setting). steps.GoesOn marks h (steps.after n h x) net next) is on.1))
+
 -- what is executed on the hart's own registers, in its place
 pub steps-in_place : (items : List Hart) (regions : RegionMap) (m after_m : MemoryMap) (r after_r : Reservations) (waiters : List Waiter) (pipes : PipeMap) (input whole : List ℕ) (output : Written) (g : Guest) (h n : ℕ) (hart : Hart) (s : HartState) (result : Step)
     → guest_of items regions m r waiters pipes input whole output ≡ g → hart ≡ get_or items h no_hart → h < length items
@@ -120,13 +141,6 @@ pub setting-in_place : (items : List Hart) (regions : RegionMap) (m : MemoryMap)
 setting-in_place items regions m r waiters pipes input whole output g h hart view at = ap (λ (y : Hart). setting y.state m r) at ∙ ap (λ (y : Guest). setting_of y h) view
 
 -- the image and the layout stay
-stepped-regions : (h : ℕ) (s : Setting) (o : Result Instr TrapCause) → ((steps.stepped h s o).setting.memory.image ≡ s.memory.image) × ((steps.stepped h s o).setting.memory.layout ≡ s.memory.layout)
-stepped-regions h s (Ok i) = regions-kept h i s
-stepped-regions h s (Err cause) = (refl, refl)
-
-step-regions : (h : ℕ) (s : Setting) → ((steps.step h s).setting.memory.image ≡ s.memory.image) × ((steps.step h s).setting.memory.layout ≡ s.memory.layout)
-step-regions h s = stepped-regions h s (words.found (fetch s.memory s.hart.pc))
-
 after-regions : (n h : ℕ) (s : Setting) → ((steps.after n h s).memory.image ≡ s.memory.image) × ((steps.after n h s).memory.layout ≡ s.memory.layout)
 after-regions zero h s = (refl, refl)
 after-regions (suc n) h s =
@@ -134,16 +148,13 @@ after-regions (suc n) h s =
     let before = after-regions n h s in
     (last.0 ∙ before.0, last.1 ∙ before.1)
 
-pub shares-steps : (r : RegionMap) (h n : ℕ) (s : Setting) (hart : HartState) (m : MemoryMap) (rs : Reservations) (result : Step) → execution hart m rs result ≡ steps.step h (steps.after n h s)
-    → SharesRegions r s.memory → SharesRegions r m
+pub shares-steps : (r : Parts) (h n : ℕ) (s : Setting) (hart : HartState) (m : MemoryMap) (rs : Reservations) (result : Step) → execution hart m rs result ≡ steps.step h (steps.after n h s)
+    → AreShared r s.memory → AreShared r m
 shares-steps r h n s hart m rs result e shared =
     let last = step-regions h (steps.after n h s) in
     let before = after-regions n h s in
     let same : m ≡ (steps.step h (steps.after n h s)).setting.memory = ap (λ (x : Executed). x.setting.memory) e in
-    record {
-      areas = shared.areas ∙ sym (ap (λ (x : MemoryMap). x.image.areas) same ∙ ap (λ (i : ImageParts). i.areas) (last.0 ∙ before.0));
-      layout = shared.layout ∙ sym (ap (λ (x : MemoryMap). x.layout) same ∙ last.1 ∙ before.1);
-    }
+    still_shared r s.memory m (ap (λ (x : MemoryMap). x.image) same ∙ last.0 ∙ before.0) (ap (λ (x : MemoryMap). x.layout) same ∙ last.1 ∙ before.1) shared
 
 -- what stays of a guest after steps of a running hart
 pub running-after : (n : ℕ) (g : Guest) (h : ℕ) → is_running g h ≡ true → is_running (after_steps n g h) h ≡ true

@@ -4,6 +4,7 @@ use Rattle.coz_types.specs.declared.TheConstants.{HARTS}
 use Rattle.machines.specs.Places.{AllApart}
 use Rattle.guest_memory.specs.Memory.{MemoryMap}
 use Rattle.guest_areas.specs.Space.{RegionMap, space, SharesRegions}
+use Rattle.hart_steps.specs.Code.{CodeMap, IsCodeOf}
 use Rattle.guest_futex.specs.Waiters.{Waiter}
 use Rattle.guest_pipes.specs.Pipes.{PipeMap}
 use Rattle.guest_pipes.specs.declared.waiters.PipeWaiter.{PipeWaiter}
@@ -27,12 +28,21 @@ guest_of harts regions memory reservations waiters pipes input whole_input writt
   output_limit = written.limit;
 }
 
+-- what was made of the image and the layout of the memory
+pub record Parts : Type 0 where
+  pub regions : RegionMap
+  pub code : CodeMap
+
+pub record AreShared (parts : Parts) (memory : MemoryMap) : Type 0 where
+  pub regions : SharesRegions parts.regions memory
+  pub code : IsCodeOf parts.code memory
+
 pub record IsKept (harts : List Hart) (capacity : ℕ) (waiters : List Waiter)
-    (pipe_waiters : List PipeWaiter) (regions : RegionMap) (memory : MemoryMap) : Type 0 where
+    (pipe_waiters : List PipeWaiter) (parts : Parts) (memory : MemoryMap) : Type 0 where
   pub few : length harts ≤ HARTS
   -- no call takes memory
   pub room : HARTS ≤ capacity
   pub waiting : AreWaiting harts (waiting_harts waiters pipe_waiters)
   -- no hart waits twice
   pub apart : AllApart (waiting_harts waiters pipe_waiters)
-  pub shared : SharesRegions regions memory
+  pub shared : AreShared parts memory

@@ -26,3 +26,10 @@ pub record IsQuietStep (marks : MarkMap) (limit : ℕ) (g : Guest) (h net : ℕ)
   pub goes : (step g h).step ≡ Next
   pub unmarked : is_quiet_at marks (pc_of (step g h).guest h) ≡ true
   pub due : net + ticks_of (step g h).guest h < limit
+
+-- a step of a hart at a net moment, after which it goes on to an instruction that has no mark and
+-- is due at the later moment
+pub record GoesOnAt (marks : MarkMap) (g : Guest) (h net later : ℕ) : Type 0 where
+  pub goes : (step g h).step ≡ Next
+  pub unmarked : is_quiet_at marks (pc_of (step g h).guest h) ≡ true
+  pub next : later ≡ net + ticks_of (step g h).guest h

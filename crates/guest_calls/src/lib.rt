@@ -11,7 +11,7 @@ mod threads;
 mod times;
 mod transfer_buffer;
 
-ghost use Rattle.std.specs.Prelude.{◌≡◌, ◌≤◌, ◌<◌, ◌^◌, ℕ, [], Some, length, IfOk, IsTrue};
+ghost use Rattle.std.specs.Prelude.{◌≡◌, ◌+◌, ◌≤◌, ◌<◌, ◌^◌, ℕ, [], Some, length, IfOk, IfSome, IsTrue};
 ghost use Rattle.std.specs.Result.{result_ok};
 ghost use Rattle.coz_types.specs.declared.TheConstants.{MAX_OUTPUT};
 ghost use Rattle.cost_table.specs.declared.TheConstants.{MAX_CYCLES};
@@ -21,7 +21,7 @@ ghost use Rattle.rv_decode.specs.declared.Instr.TheVariants.{Ecall};
 ghost use Rattle.rv_execute.specs.declared.hart.Step.TheVariants.{Call};
 ghost use Rattle.guest_calls.specs.Guest.{IsMade, is_running, is_sleeping, with_wake, making, pc_of, hart_at, first_guest};
 ghost use Rattle.guest_calls.specs.Calls.{retirement};
-ghost use Rattle.guest_calls.specs.Quiet.{after_steps, moment_after, IsQuietStep};
+ghost use Rattle.guest_calls.specs.Quiet.{after_steps, moment_after, IsQuietStep, GoesOnAt};
 ghost use Rattle.guest_calls.specs.Retire.{word_at, next_of, step_result, step, trap_of, retirement_after, retire};
 
 use crate::hart::Hart;
@@ -51,6 +51,9 @@ pub struct Stretch {
     pub net: Tick,
     /// What followed the last one.
     pub fate: Fate,
+    /// When the hart's next instruction is due, if it went on to it but for the limit: it has no
+    /// mark, and may be retired too.
+    pub next: Option<Tick>,
 }
 
 /// A guest. All its room is taken when it is made.
@@ -60,7 +63,7 @@ pub struct Guest<'a> {
     memory: Memory<'a>,
     areas: Areas,
     reservations: Reservations,
-    code: Code,
+    code: Code<'a>,
     queue: Queue,
     pipes: Pipes,
     transfer_buffer: TransferBuffer,
@@ -82,7 +85,7 @@ impl<'a> Model for Guest<'a> {
         g.input.now g.whole_input.now g.output };
 
     ghost invariant = { λ g. IsKept g.harts.items (vec_capacity g.harts) g.queue
-        g.pipes.waiters g.areas g.memory };
+        g.pipes.waiters (record { regions = g.areas; code = g.code }) g.memory };
 }
 
 impl<'a> Guest<'a> {
@@ -106,9 +109,10 @@ impl<'a> Guest<'a> {
         let transfer_buffer = TransferBuffer::new(alloc)?;
         let mut harts = Vec::with_capacity(alloc, HARTS)?;
         let output = Output::new(alloc, output_limit as usize)?;
-        let code = Code::of_image(alloc, image)?;
+        let mut code = Code::new(alloc, image, layout)?;
         // The memory has many parts: little that may fail comes after it.
         let mut memory = Memory::new(alloc, image, layout)?;
+        code.decode(&memory);
         let areas = Areas::new(alloc, &mut memory, image)?;
         let Ok(()) = harts.push(Hart::first(areas.stack_pointer(), image.entry())) else {
             unreachable!()
@@ -195,6 +199,7 @@ impl<'a> Guest<'a> {
     /// Retires instructions of a running hart, the first of them at a net time, and at least one.
     /// It goes on only to an instruction that has no mark and is due before `limit`, and only
     /// while it retired fewer than `most`. What the last one did is what `retire` says of it.
+    #[inline(always)]
     pub fn retire_far(
         &mut self,
         hart: HartId,
@@ -214,6 +219,9 @@ impl<'a> Guest<'a> {
             (moment_after i self.old hart.0 net) }
         ensures few { result.quiet < most }
         ensures net { result.net ≡ moment_after result.quiet self.old hart.0 net }
+        ensures next { IfSome result.next (λ next. (result.quiet + 1 < most)
+            × GoesOnAt marks.now (after_steps result.quiet self.old hart.0) hart.0
+            result.net next) }
         ensures effect { retirement self.new result.fate started.new
             ≡ retire (after_steps result.quiet self.old hart.0) hart.0 result.net }
         ensures made { making self.new ≡ making self.old }
@@ -226,6 +234,7 @@ impl<'a> Guest<'a> {
             quiet: done.quiet,
             net: done.net,
             fate,
+            next: done.next,
         }
     }
 
@@ -291,7 +300,7 @@ impl<'a> Guest<'a> {
 
     /// Executes a hart's next instructions, the first of them at a net time, and at least one. It
     /// goes on as `retire_far` says.
-    #[inline(never)]
+    #[inline(always)]
     fn step_on(&mut self, hart: HartId, net: Tick, limit: Tick, most: u64, marks: &Marks) -> Advance
         requires made { IsMade self.old hart.0 }
         requires some { 1 ≤ most }
@@ -302,6 +311,9 @@ impl<'a> Guest<'a> {
             (moment_after i self.old hart.0 net) }
         ensures few { result.quiet < most }
         ensures net { result.net ≡ moment_after result.quiet self.old hart.0 net }
+        ensures next { IfSome result.next (λ next. (result.quiet + 1 < most)
+            × GoesOnAt marks.now (after_steps result.quiet self.old hart.0) hart.0
+            result.net next) }
         ensures effect { step_result self.new result.step
             ≡ step (after_steps result.quiet self.old hart.0) hart.0 }
     {

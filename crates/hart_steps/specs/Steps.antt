@@ -39,3 +39,10 @@ pub record IsQuiet (marks : MarkMap) (limit h : ℕ) (s : Setting) (net : ℕ) :
   pub goes : (step h s).step ≡ Next
   pub unmarked : is_quiet_at marks (step h s).setting.hart.pc ≡ true
   pub due : net + ticks_of (step h s).setting < limit
+
+-- a step at a net moment, after which the hart goes on to an instruction that has no mark and is
+-- due at the later moment
+pub record GoesOn (marks : MarkMap) (h : ℕ) (s : Setting) (net later : ℕ) : Type 0 where
+  pub goes : (step h s).step ≡ Next
+  pub unmarked : is_quiet_at marks (step h s).setting.hart.pc ≡ true
+  pub next : later ≡ net + ticks_of (step h s).setting

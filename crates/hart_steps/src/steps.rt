@@ -1,9 +1,10 @@
 //! Steps of one hart after another.
-ghost use Rattle.std.specs.Prelude.{◌≡◌, ◌≤◌, ◌<◌, ◌^◌, ℕ};
+ghost use Rattle.std.specs.Prelude.{◌≡◌, ◌+◌, ◌≤◌, ◌<◌, ◌^◌, ℕ, IfSome};
 ghost use Rattle.coz_types.specs.declared.TheConstants.{HARTS};
 ghost use Rattle.rv_execute.specs.Execution.{setting, execution};
 ghost use Rattle.hart_steps.specs.Words.{IsWordAt};
-ghost use Rattle.hart_steps.specs.Steps.{step, after, moment, IsQuiet};
+ghost use Rattle.hart_steps.specs.Code.{IsCodeOf};
+ghost use Rattle.hart_steps.specs.Steps.{step, after, moment, IsQuiet, GoesOn};
 
 use crate::code::{Code, Word};
 use code_words::Marks;
@@ -21,6 +22,9 @@ pub struct Advance {
     pub net: Tick,
     /// What follows the last one.
     pub step: Step,
+    /// When the next instruction is due, if the hart went on to it but for the limit: it has no
+    /// mark, and may be executed too.
+    pub next: Option<Tick>,
 }
 
 /// Executes a word that stands at a hart's pc.
@@ -74,18 +78,22 @@ pub fn step_at(
     code: &Code,
 ) -> Step
     requires number { number.0 < HARTS }
+    requires code { IsCodeOf code.now memory.old }
     ensures { execution state.new memory.new reservations.new result
         ≡ step number.0 (setting state.old memory.old reservations.old) }
 {
-    match code.at(memory, state.pc) {
-        Some(word) => execute_word(state, number, memory, reservations, word),
-        None => step_once(state, number, memory, reservations),
+    if code.is_intact(memory) {
+        if let Some(word) = code.word(memory, state.pc) {
+            return execute_word(state, number, memory, reservations, word);
+        }
     }
+    step_once(state, number, memory, reservations)
 }
 
 /// Executes instructions of a hart, the first of them at a net time, and at least one. It goes on
 /// only to an instruction that has no mark and is due before `limit`, and only while it executed
 /// fewer than `most`.
+#[inline(never)]
 pub fn step_on(
     state: &mut HartState,
     number: HartId,
@@ -98,6 +106,7 @@ pub fn step_on(
     most: u64,
 ) -> Advance
     requires number { number.0 < HARTS }
+    requires code { IsCodeOf code.now memory.old }
     requires some { 1 ≤ most }
     requires net { net ≤ 2 ^ 62 }
     requires limit { limit ≤ 2 ^ 62 }
@@ -107,16 +116,35 @@ pub fn step_on(
     ensures few { result.quiet < most }
     ensures net { result.net
         ≡ moment result.quiet number.0 (setting state.old memory.old reservations.old) net }
+    ensures next { IfSome result.next (λ next. (result.quiet + 1 < most)
+        × GoesOn marks.now number.0
+        (after result.quiet number.0 (setting state.old memory.old reservations.old))
+        result.net next) }
     ensures effect { execution state.new memory.new reservations.new result.step
         ≡ step number.0
         (after result.quiet number.0 (setting state.old memory.old reservations.old)) }
 {
+    if !code.is_intact(memory) {
+        let step = step_once(state, number, memory, reservations);
+        return Advance {
+            quiet: 0,
+            net,
+            step,
+            next: None,
+        };
+    }
+    let Some(first) = code.word(memory, state.pc) else {
+        let step = step_once(state, number, memory, reservations);
+        return Advance {
+            quiet: 0,
+            net,
+            step,
+            next: None,
+        };
+    };
     let mut quiet = 0;
     let mut due = net;
-    let Some(mut word) = code.at(memory, state.pc) else {
-        let step = step_once(state, number, memory, reservations);
-        return Advance { quiet, net, step };
-    };
+    let mut word = first;
     loop {
         let step = execute_word(state, number, memory, reservations, word);
         if !matches!(step, Step::Next) || quiet + 1 >= most || !marks.is_quiet_at(state.pc) {
@@ -124,13 +152,23 @@ pub fn step_on(
                 quiet,
                 net: due,
                 step,
+                next: None,
             };
         }
-        let Some(next) = code.at(memory, state.pc) else {
+        if !code.is_intact_after(word, memory) {
             return Advance {
                 quiet,
                 net: due,
                 step,
+                next: None,
+            };
+        }
+        let Some(next) = code.word(memory, state.pc) else {
+            return Advance {
+                quiet,
+                net: due,
+                step,
+                next: None,
             };
         };
         let later = due + u64::from(next.ticks);
@@ -139,6 +177,7 @@ pub fn step_on(
                 quiet,
                 net: due,
                 step,
+                next: Some(later),
             };
         }
         word = next;

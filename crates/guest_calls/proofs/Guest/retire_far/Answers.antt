@@ -25,6 +25,7 @@ returns c =
       quiet = c.step_on-done.ensures.quiet;
       few = c.step_on-done.ensures.few;
       net = c.step_on-done.ensures.net;
+      next = c.step_on-done.ensures.next;
       effect = effect;
       made = ap (λ (r : Retirement Guest). making r.guest) effect
           ∙ retire-made before h done.net (orderly-after done.quiet g h made (orderly _ _ _ _ _ c.self.view_is c.self.invariant)) (running-after done.quiet g h c.requires.running)

@@ -30,6 +30,6 @@ invariant_of-self c =
       waiting = kept.waiting;
       apart = kept.apart;
       shared =
-          shares-steps c.self.inside.areas c.args.hart.0 0 (setting c.index_mut.result.now.state c.self.inside.memory c.self.inside.reservations) c.step_at.new.state c.step_at.new.memory c.step_at.new.reservations c.step_at.result
+          shares-steps (record { regions = c.self.inside.areas; code = c.self.inside.code }) c.args.hart.0 0 (setting c.index_mut.result.now.state c.self.inside.memory c.self.inside.reservations) c.step_at.new.state c.step_at.new.memory c.step_at.new.reservations c.step_at.result
           c.step_at.ensures c.self.invariant.shared;
     }

@@ -5,7 +5,7 @@ use Rattle.hart_steps.specs.Steps as steps
 use Rattle.guest_calls.specs.declared.hart.Hart.{Hart}
 use Rattle.guest_calls.specs.Guest.{Guest, no_hart, setting_of}
 use Rattle.guest_calls.proofs.Keeping.{kept-set}
-use Rattle.guest_calls.proofs.Strides.{moment-setting, quiet-setting, steps-in_place, setting-in_place, shares-steps}
+use Rattle.guest_calls.proofs.Strides.{moment-setting, quiet-setting, goes_on-each, steps-in_place, setting-in_place, shares-steps}
 use Rattle.guest_calls.proofs.Guest.step_on.Goals as goal
 
 pub returns : goal.returns
@@ -24,6 +24,7 @@ returns c =
           (subst (λ (x : Setting). steps.IsQuiet c.args.marks.now c.args.limit h (steps.after i h x) (steps.moment i h x c.args.net)) start (done.quiet i within));
       few = done.few;
       net = done.net ∙ ap (λ (x : Setting). steps.moment c.step_on.result.quiet h x c.args.net) start ∙ sym (moment-setting c.step_on.result.quiet g h c.args.net made);
+      next = goes_on-each c.args.marks.now c.args.most c.step_on.result.quiet g h c.step_on.result.net (setting c.index_mut.result.now.state s.memory s.reservations) c.step_on.result.next made start done.next;
       effect = steps-in_place s.harts.items s.areas s.memory c.step_on.new.memory s.reservations c.step_on.new.reservations s.queue s.pipes s.input.now s.whole_input.now s.output g
           h c.step_on.result.quiet c.index_mut.result.now c.step_on.new.state c.step_on.result.step c.self.view_is at below done.effect;
     }
@@ -40,6 +41,6 @@ invariant_of-self c =
       waiting = kept.waiting;
       apart = kept.apart;
       shared =
-          shares-steps c.self.inside.areas c.args.hart.0 c.step_on.result.quiet (setting c.index_mut.result.now.state c.self.inside.memory c.self.inside.reservations) c.step_on.new.state c.step_on.new.memory c.step_on.new.reservations c.step_on.result.step
+          shares-steps (record { regions = c.self.inside.areas; code = c.self.inside.code }) c.args.hart.0 c.step_on.result.quiet (setting c.index_mut.result.now.state c.self.inside.memory c.self.inside.reservations) c.step_on.new.state c.step_on.new.memory c.step_on.new.reservations c.step_on.result.step
           c.step_on.ensures.effect c.self.invariant.shared;
     }
