@@ -16,7 +16,7 @@ use Rattle.join_cli.specs.Shards.{AreIndexed}
 use Rattle.join_cli.proofs.Tables.{AreBytes, IsPlain, dropped, taken, table_plain}
 use Rattle.join_cli.proofs.Righted.{lines_rise, lines_right}
 
-by_place : (bytes : List ℕ) → AreBytes bytes → IsBytes bytes
+pub by_place : (bytes : List ℕ) → AreBytes bytes → IsBytes bytes
 by_place [] all i = omega arith
 by_place (b ∷ bytes) all zero = all.0
 by_place (b ∷ bytes) all (suc i) = by_place bytes all.1 i
@@ -29,7 +29,8 @@ named_bytes : (file name : List ℕ) → AreBytes file → AreBytes (bytes_in fi
 unfolding section
 named_bytes file name all = section_bytes file (find (λ s. has_bytes s && is_named file name s) (sections file)) all
 
-read_plain : (file : List ℕ) (table : Table) → AreBytes file → table_in file ≡ Ok table → IsPlain table
+-- a line table that was read from bytes
+pub read_plain : (file : List ℕ) (table : Table) → AreBytes file → table_in file ≡ Ok table → IsPlain table
 unfolding table_in
 read_plain file table all read =
     let section = named_bytes file (codes ".debug_line") all in

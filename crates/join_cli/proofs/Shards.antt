@@ -9,13 +9,13 @@ use Rattle.coz_types.specs.declared.record.Summary.{Summary}
 use Rattle.coz_files.specs.Held.{Held, file_at}
 use Rattle.coz_files.specs.Puts.{AppendsPrefix}
 use Rattle.coz_files.specs.Verdict.{Verdict, IsOfVerdict}
-use Rattle.line_index.specs.Index.{Index}
-use Rattle.progress_points.specs.Points.{Points}
+use Rattle.line_index.specs.Index.{Index, position_at}
+use Rattle.progress_points.specs.Points.{Points, point_of}
 use Rattle.experiment_plan.specs.Selected.{rising_numbers}
 use Rattle.profile_book.specs.Profile.{IsProfile, profile_text}
 use Rattle.profile_book.specs.declared.profile.Profile.{Profile}
 use Rattle.profile_shards.specs.Shards.{AreLines, AreTogether, AreDisjoint, IsTwice, profile_at}
-use Rattle.profile_pool.specs.Profiles.{profile_of_lines}
+use Rattle.profile_pool.specs.Profiles.{profile_of_lines, record_in}
 use Rattle.join_parts.specs.Verdict.{IsVerdict, has_exited, profile_status}
 use Rattle.join_parts.specs.Serve.{IsLine, VerdictHas}
 use Rattle.join_parts.specs.Shards.{HoldProfiles, IsShardsVerdict, twice_line}
@@ -23,7 +23,8 @@ use Rattle.join_parts.proofs.Sharded.{shards_verdict}
 use Rattle.join_cli.specs.Shards.{AreIndexed, IsAsked, HoldTexts, JoinsShards, JoinsAllShards}
 use Rattle.join_cli.specs.Ranges.{ProfilesAreRight}
 use Rattle.join_cli.proofs.Blocks.{are_blocks, block_at, profile_is, some_speedups, speedups_rise}
-use Rattle.join_cli.proofs.Profiles.{profile_right, profiles_right}
+use Rattle.join_cli.proofs.Indexed.{rise, right}
+use Rattle.join_cli.proofs.Profiles.{IsSound, profile_right, profiles_right}
 use Rattle.line_index.specs.Lines.{label_at}
 
 -- ---- the verdict
@@ -32,15 +33,33 @@ module _ (image : ImageParts) (index : Index) (points : Points) (input : List �
   abbrev made_of : List ℕ → Profile
   made_of lines = profile_of_lines image index points input budget speedups lines
 
-  abbrev blocks_of : List ℕ → Profile
-  blocks_of lines = profile_at budget (map (label_at index.lines) points.lines) (block_at image index points input budget) (rising_numbers (0 ∷ speedups)) lines
+  abbrev block : ℕ → ℕ → Summary
+  block line speedup = block_at image index.lines (position_at index) (point_of points) points.lines input budget line speedup
 
-  same_profiles : made_of ≡ blocks_of
-  same_profiles = fun_ext (λ (lines : List ℕ). profile_is image index points input budget speedups lines)
+  abbrev blocks_of : List ℕ → Profile
+  blocks_of lines = profile_at budget (map (label_at index.lines) points.lines) block (rising_numbers (0 ∷ speedups)) lines
+
+  made_is : (lines : List ℕ) → made_of lines ≡ blocks_of lines
+  unfolding record_in
+  made_is lines = profile_is image index.lines (position_at index) (point_of points) points.lines input budget speedups lines
+
+  sound : AreIndexed image index → IsAsked index points input budget speedups → IsSound image index.lines points.lines input budget speedups
+  sound are asked = record {
+    entry = are.entry;
+    file = are.bytes;
+    rise = rise image index are;
+    right = right image index are;
+    some_budget = asked.some_budget;
+    small_budget = asked.small_budget;
+    points_are = asked.lines;
+    few = asked.few;
+    slow = asked.slow;
+    bytes = asked.bytes;
+  }
 
   holds_blocks : (words : List Text) (held : Held) (lists : List (List ℕ)) → All IsProfile (map blocks_of lists) → HoldTexts words held (map made_of lists) → HoldProfiles words held (map blocks_of lists)
   holds_blocks words held lists right hold =
-      let same : map made_of lists ≡ map blocks_of lists = ap (λ (f : List ℕ → Profile). map f lists) same_profiles in
+      let same : map made_of lists ≡ map blocks_of lists = ap (λ (f : List ℕ → Profile). map f lists) (fun_ext made_is) in
       record {
         paths = hold.paths;
         named = hold.named;
@@ -53,16 +72,18 @@ module _ (image : ImageParts) (index : Index) (points : Points) (input : List �
       → (hold : HoldTexts words held (map made_of lists)) → (v : Verdict) → IsVerdict words held v → IsShardsVerdict lists (made_of whole) (label_at index.lines) hold.paths v
   unfolding holds_blocks
   verdict_is words held lists whole are asked lines together hold v is =
-      let right : All IsProfile (map blocks_of lists) = profiles_right image index points input budget speedups are asked lists lines in
-      let law = shards_verdict (length index.lines) (label_at index.lines) (block_at image index points input budget) (are_blocks image index points input budget are) budget (map (label_at index.lines) points.lines)
-      (rising_numbers (0 ∷ speedups)) lists whole (some_speedups speedups) (speedups_rise speedups) lines together words held (holds_blocks words held lists right hold) v is in
-      subst (λ (p : Profile). IsShardsVerdict lists p (label_at index.lines) hold.paths v) (sym (profile_is image index points input budget speedups whole)) law
+      let right_all : All IsProfile (map blocks_of lists) = profiles_right image index.lines (position_at index) (point_of points) points.lines input budget speedups (sound are asked) lists lines in
+      let blocks = are_blocks image index.lines (position_at index) (point_of points) points.lines input budget (rise image index are) (right image index are) in
+      let law = shards_verdict (length index.lines) (label_at index.lines) block blocks budget (map (label_at index.lines) points.lines)
+      (rising_numbers (0 ∷ speedups)) lists whole (some_speedups speedups) (speedups_rise speedups) lines together words held (holds_blocks words held lists right_all hold) v is in
+      subst (λ (p : Profile). IsShardsVerdict lists p (label_at index.lines) hold.paths v) (sym (made_is whole)) law
 
 -- ---- the ranges
 
 pub profiles_are_right : ProfilesAreRight
 profiles_are_right image index points input budget speedups lines are asked rise =
-    subst IsProfile (sym (profile_is image index points input budget speedups lines)) (profile_right image index points input budget speedups are asked lines rise)
+    subst IsProfile (sym (made_is image index points input budget speedups lines))
+    (profile_right image index.lines (position_at index) (point_of points) points.lines input budget speedups (sound image index points input budget speedups are asked) lines rise)
 
 -- ---- what is left
 
