@@ -1,7 +1,8 @@
 -- A verdict of 0 or 1 prints the critical path of the shortened run.
-use Rattle.std.proofs.Common.{◌≡◌, ℕ, ◌≤◌, List, [], Option, None, refl, sym, ap, subst, ◌∙◌, arith}
+use Rattle.std.proofs.Common.{◌≡◌, ℕ, ◌≤◌, List, [], length, Option, None, refl, sym, ap, subst, ◌∙◌, arith}
 use Rattle.std.specs.Io.KnownBytes.{Appends}
 use Rattle.coz_types.specs.Image.{ImageParts}
+use Rattle.coz_types.specs.declared.image.Area.{Area}
 use Rattle.coz_files.specs.Held.{Held}
 use Rattle.dwarf_lines.specs.Registers.{Table}
 use Rattle.line_index.specs.Lines.{Line}
@@ -16,6 +17,11 @@ use Rattle.path_chains.specs.declared.event.Event.{Event}
 use Rattle.path_chains.specs.Path.{chain_of, weight, Sound}
 use Rattle.path_chains.proofs.Chains.{sound_of}
 use Rattle.path_chains.proofs.Heaviest.{none_heavier}
+use Rattle.path_chains.specs.Segments.{segments_of, Tile}
+use Rattle.path_chains.proofs.Tiling.{tiles}
+use Rattle.path_texts.specs.PathText.{all_shares, events_on}
+use Rattle.path_texts.proofs.PathShares.{weight_is}
+use Rattle.path_texts.proofs.Sharing.{position_below, shares_are_all}
 use Rattle.critical_path.specs.Events.{events_of}
 use Rattle.critical_path.proofs.Recorded.{last_due, linked}
 use Rattle.coz_words.specs.declared.request.Request.{Request}
@@ -63,6 +69,17 @@ printed_is : (x : Experiment Guest) (line_of : ℕ → Option ℕ) (lines : List
 unfolding path_printed
 printed_is x line_of lines = refl
 
+-- the segments and the shares of a path are those of its whole time
+tiled_to : (events : List Event) (chain : List ℕ) (time : ℕ) → Sound events chain → weight events chain ≡ time → Tile 0 time (segments_of (events_on events chain))
+tiled_to events chain time sound whole =
+    subst (λ (to : ℕ). Tile 0 to (segments_of (events_on events chain))) (sym sound.whole ∙ whole) (tiles events chain sound)
+
+shared_to : (table : Table) (areas : List Area) (events : List Event) (chain : List ℕ) (time : ℕ) → weight events chain ≡ time
+    → all_shares (position_in table areas) (length (lines_in table areas)) (events_on events chain) ≡ time
+shared_to table areas events chain time whole =
+    shares_are_all (position_in table areas) (length (lines_in table areas)) (position_below table areas) (events_on events chain)
+    ∙ sym (weight_is events chain) ∙ whole
+
 pub path_prints : (held : Held) (asked : Request) (before now : Option (List ℕ)) → 1 ≤ asked.budget → asked.budget ≤ 4000000
     → (path_verdict asked held).status ≤ 1 → Appends before now (path_verdict asked held).text → PrintsPath held asked before now
 path_prints held asked before now some few low gained =
@@ -95,5 +112,7 @@ path_prints held asked before now some few low gained =
       sound = is.sound;
       whole = is.whole;
       heaviest = none_heavier events (chain_of events) is.sound;
+      tiled = tiled_to events (chain_of events) (shortened_record x).time is.sound is.whole;
+      shared = shared_to on.table on.image.areas events (chain_of events) (shortened_record x).time is.whole;
       printed = subst (λ (text : List ℕ). Appends before now text) printed gained;
     }

@@ -7,7 +7,7 @@ use Rattle.line_index.specs.Lines.{Line}
 use Rattle.line_index.specs.Listed.{lines_in}
 use Rattle.experiment_plan.specs.declared.experiment.Experiment.{Experiment as Pair}
 use Rattle.machines.specs.Guest.{Experiment}
-use Rattle.machines.specs.Records.{net, IsShortened, shortened_record}
+use Rattle.machines.specs.Records.{net, IsDelayed, IsShortened, shortened_record}
 use Rattle.machines.specs.Standing.{delayed_record}
 use Rattle.guest_calls.specs.Guest.{Guest}
 use Rattle.coz_words.specs.Request.{IsFit, greatest_budget, is_runner}
@@ -23,8 +23,8 @@ use Rattle.coz_commands.specs.Profiled.{all_lines, experiment_of_pair, pairs_of,
 use Rattle.coz_commands.proofs.Profiling.{speedups_small}
 use Rattle.coz_commands.specs.Verdict.{Verdict, command_verdict, files_verdict, asked_verdict, named_verdict, points_verdict, plan_verdict, profile_verdict, profiled_verdict, run_verdict, really_verdict}
 use Rattle.coz_cli.specs.Verdict.{verdict, request_verdict}
-use Rattle.coz_cli.specs.Headline.{IsAsked, PrintsRun, PrintsProfile, PrintsReally, PrintsLatency, PrintsPath, PrintsShortened}
-use Rattle.coz_cli.proofs.Comes.{IsLike, Found, files_come, few_pairs, few_points, like, like_asked, low_of, named_is}
+use Rattle.coz_cli.specs.Headline.{IsAsked, IsPlanned, PrintsRun, PrintsProfile, PrintsReally, PrintsLatency, PrintsPath, PrintsShortened}
+use Rattle.coz_cli.proofs.Comes.{IsLike, files_come, few_pairs, few_points, like, like_asked, low_of, named_is}
 use Rattle.coz_cli.proofs.Latencies.{latency_printed}
 use Rattle.coz_cli.proofs.PathPrinted.{path_prints}
 
@@ -70,22 +70,18 @@ experiment_comes held asked print low =
 
 -- ---- the profile that a request asks for
 
-module _ (held : Held) (asked : Request) (fit : IsFit asked) (some : 1 ≤ asked.budget) (on : Found held asked) (points : List ℕ) where
-  abbrev runs_on : Runs
-  runs_on = experiment_by_table on.image on.table on.input
+-- a verdict is that of the profile of the plan that is asked for
+pub record IsProfiled (held : Held) (asked : Request) (v : Verdict) : Type 0 where
+  pub runs : Runs
+  pub lines : List Line
+  pub points : List ℕ
+  pub pairs : List Pair
+  pub is_planned : IsPlanned held asked runs lines points pairs
+  pub is : v ≡ profile_verdict (profile_of runs lines asked.budget points pairs)
 
-  pair_like : (pair : Pair) → pair.speedup ≤ 95 → IsLike (experiment_of_pair runs_on asked.budget points pair)
-  pair_like pair small = like on.image on.table on.input (Some pair.line.0) pair.speedup asked.budget points small some
-
-  net_shortened : (pair : Pair) → pair.speedup ≤ 95 → IsShortened (experiment_of_pair runs_on asked.budget points pair) (net (delayed_record (experiment_of_pair runs_on asked.budget points pair)))
-  net_shortened pair small =
-      let like = pair_like pair small in
-      subst (IsShortened (experiment_of_pair runs_on asked.budget points pair)) (sym like.same) like.shortened
-
-profile_printed : (held : Held) (asked : Request) (before now : Option (List ℕ)) → IsFit asked → 1 ≤ asked.budget
-    → (files_verdict asked held (profiled_verdict asked)).status ≤ 1 → Appends before now (files_verdict asked held (profiled_verdict asked)).text → PrintsProfile held asked before now
+pub profile_comes : (held : Held) (asked : Request) → (files_verdict asked held (profiled_verdict asked)).status ≤ 1 → IsProfiled held asked (files_verdict asked held (profiled_verdict asked))
 unfolding profiled_verdict
-profile_printed held asked before now fit some low gained =
+profile_comes held asked low =
     let v : Verdict = files_verdict asked held (profiled_verdict asked) in
     let comes = files_come held asked (profiled_verdict asked) low in
     let on = comes.on in
@@ -99,7 +95,6 @@ profile_printed held asked before now fit some low gained =
     let points : List ℕ = named.value in
     let few = few_points points (λ points. plan_verdict pairs (print points)) v low named.same in
     let planned = few_pairs pairs (print points) v low few.1 in
-    let small : All (λ (pair : Pair). pair.speedup ≤ 95) pairs = speedups_small selected.value asked.speedups fit.speedups in
     record {
       runs = runs;
       lines = lines;
@@ -123,10 +118,45 @@ profile_printed held asked before now fit some low gained =
         planned = refl;
         few_pairs = planned.0;
       };
-      run = λ pair. delayed_record (experiment_of_pair runs asked.budget points pair);
-      delayed = λ k d below. (pair_like held asked fit some on points (slice_index_or pairs k d) (small k d below)).delayed;
-      shortened = λ k d below. net_shortened held asked fit some on points (slice_index_or pairs k d) (small k d below);
-      printed = subst (λ (w : Verdict). Appends before now w.text) planned.1 gained;
+      is = planned.1;
+    }
+
+module _ (held : Held) (asked : Request) (fit : IsFit asked) (some : 1 ≤ asked.budget) (runs : Runs) (lines : List Line) (points : List ℕ) (pairs : List Pair) (plan : IsPlanned held asked runs lines points pairs) where
+  abbrev run_of : Pair → Experiment Guest
+  run_of pair = experiment_of_pair runs asked.budget points pair
+
+  pair_like : (pair : Pair) → pair.speedup ≤ 95 → IsLike (run_of pair)
+  pair_like pair small =
+      subst (λ (rs : Runs). IsLike (experiment_of_pair rs asked.budget points pair)) (sym plan.runs_are)
+      (like plan.image plan.table plan.input (Some pair.line.0) pair.speedup asked.budget points small some)
+
+  all_small : All (λ (pair : Pair). pair.speedup ≤ 95) pairs
+  all_small = subst (All (λ (pair : Pair). pair.speedup ≤ 95)) (sym plan.planned) (speedups_small plan.selected asked.speedups fit.speedups)
+
+  pub pairs_delayed : All (λ pair. IsDelayed (run_of pair) (delayed_record (run_of pair))) pairs
+  pairs_delayed = λ k d below. (pair_like (slice_index_or pairs k d) (all_small k d below)).delayed
+
+  -- the net part of what each run leaves is what the shortened run leaves
+  pub pairs_shortened : All (λ pair. IsShortened (run_of pair) (net (delayed_record (run_of pair)))) pairs
+  pairs_shortened = λ k d below.
+      let pair : Pair = slice_index_or pairs k d in
+      let like = pair_like pair (all_small k d below) in
+      subst (IsShortened (run_of pair)) (sym like.same) like.shortened
+
+profile_printed : (held : Held) (asked : Request) (before now : Option (List ℕ)) → IsFit asked → 1 ≤ asked.budget
+    → (files_verdict asked held (profiled_verdict asked)).status ≤ 1 → Appends before now (files_verdict asked held (profiled_verdict asked)).text → PrintsProfile held asked before now
+profile_printed held asked before now fit some low gained =
+    let made = profile_comes held asked low in
+    record {
+      runs = made.runs;
+      lines = made.lines;
+      points = made.points;
+      pairs = made.pairs;
+      is_planned = made.is_planned;
+      run = λ pair. delayed_record (experiment_of_pair made.runs asked.budget made.points pair);
+      delayed = pairs_delayed held asked fit some made.runs made.lines made.points made.pairs made.is_planned;
+      shortened = pairs_shortened held asked fit some made.runs made.lines made.points made.pairs made.is_planned;
+      printed = subst (λ (w : Verdict). Appends before now w.text) made.is gained;
     }
 
 -- ---- the headline

@@ -5,7 +5,8 @@
 -- are those of one worker.
 -- Read machines/specs first: Delayed.antt and Shortened.antt (the two machines), then Records.antt
 -- (`net`, `IsDelayed`, `IsShortened`), then the records below, each of which is one command.
--- `serve` of this crate has them as its clauses `headline` and `workers`.
+-- `serve` of this crate has them as its clauses `headline` and `workers`. What `coz plot` prints of
+-- a profile is stated in profile_laws/specs/Headline.antt, by these.
 -- Nothing is claimed of real hardware: costs, schedule and a hart for each thread are definitions.
 use Rattle.std.specs.Prelude.{◌≡◌, List, ℕ, [], Option, None, Some, Ok, All, ◌≤◌, length}
 use Rattle.std.specs.Io.KnownBytes.{Appends}
@@ -25,6 +26,8 @@ use Rattle.machines.specs.Records.{Record, NetRecord, net, IsDelayed, IsShortene
 use Rattle.guest_calls.specs.Guest.{Guest, pc_of}
 use Rattle.path_chains.specs.declared.event.Event.{Event}
 use Rattle.path_chains.specs.Path.{IsChain, Sound, weight}
+use Rattle.path_chains.specs.Segments.{segments_of, Tile}
+use Rattle.path_texts.specs.PathText.{all_shares, events_on}
 use Rattle.critical_path.specs.Events.{events_of}
 use Rattle.coz_words.specs.declared.request.Request.{Request}
 use Rattle.coz_words.specs.declared.command.Command.TheVariants.{Run, Really, Profile, Latency, Path}
@@ -141,7 +144,8 @@ pub record IsPlain (held : Held) (asked : Request) (image : ImageParts) (table :
 -- After what was held before there is now the text of a critical path: of the record that
 -- the shortened machine ends with, and of a chain of the instructions that it retired. The chain
 -- is sound, so that it ends with the last of them; its weight is the run's net time; and no chain
--- of these instructions is heavier.
+-- of these instructions is heavier. The segments that are printed lead from 0 to the net time
+-- without gaps, and the shares, of lines, of code without a line and of sleep, add up to it.
 pub record PrintsPath (held : Held) (asked : Request) (before now : Option (List ℕ)) : Type 0 where
   pub image : ImageParts
   pub table : Table
@@ -156,6 +160,9 @@ pub record PrintsPath (held : Held) (asked : Request) (before now : Option (List
   pub whole : weight events chain ≡ run.time
   pub heaviest : (other : List ℕ) → IsChain events other
       → weight events other ≤ weight events chain
+  pub tiled : Tile 0 run.time (segments_of (events_on events chain))
+  pub shared : all_shares (position_in table image.areas) (length (lines_in table image.areas))
+      (events_on events chain) ≡ run.time
   pub printed : Appends before now
       (path_of_run run events chain (position_in table image.areas) (lines_in table image.areas))
 
