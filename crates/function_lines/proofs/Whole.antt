@@ -1,6 +1,7 @@
 -- The file with a unit in which each function is one line.
-use Rattle.std.proofs.Common.{◌≡◌, ℕ, ◌+◌, ◌<◌, ◌≤◌, true, List, [], ◌++◌, length, take, drop, Option, Some, None, option_map, Result, Ok, refl, sym, ap, ◌∙◌, arith, if◌then◌else◌, length-append, length-drop}
-use Rattle.std.specs.Prelude.{All, IfSome, codes, is_some, unwrap_or}
+use Rattle.std.proofs.Common.{◌≡◌, ℕ, ◌+◌, ◌<◌, ◌≤◌, true, List, [], ◌++◌, length, take, drop, Option, Some, None, option_map, Result, Ok, Err, Bool, false, ◌==◌, refl, sym, ap, subst, ◌∙◌, arith, if◌then◌else◌, length-append, length-drop}
+use Rattle.std.specs.Global.{Vec}
+use Rattle.std.specs.Prelude.{All, IfErr, IfSome, codes, is_some, unwrap_or}
 use Rattle.std.specs.List.{AllByRecursion}
 use Rattle.std.proofs.lemmas.List.{length-take-le}
 use Rattle.std.proofs.lemmas.List.Elements.{All-map, All-weaker, recursion_from_All}
@@ -14,10 +15,13 @@ use Rattle.line_index.specs.Index.{Index}
 use Rattle.line_index.specs.Lines.{is_executable, line_of}
 use Rattle.line_write.specs.Lines.{GivesLines, table}
 use Rattle.line_write.specs.Unit.{Sequence, unit}
-use Rattle.function_lines.specs.ByFunction.{IsByFunction, IsLongWith, ReadsWithoutFault, IsUnit, ReadsAs}
+use Rattle.function_lines.specs.ByFunction.{HasFunctions, IsByFunction, IsCauseOf, IsFileCause, IsLineless, IsLongWith, IsOtherWith, IsUnit, IsWithFunctions, ReadsAs, ReadsWithoutFault}
+use Rattle.function_lines.specs.declared.file.FunctionsError.{FunctionsError}
+use Rattle.function_lines.specs.declared.file.FunctionsError.TheVariants.{NoFunctions, NoLines, Much, Overlap, Memory}
 use Rattle.line_remap.specs.declared.marks.Mark.{Mark as coded_mark}
 use Rattle.line_remap.specs.Marks.{IsMark, Mark, mark_of, marks_of}
-use Rattle.function_sequences.specs.Sequences.{bytes_in}
+use Rattle.elf_symbols.specs.declared.symbols.Symbol.{Symbol}
+use Rattle.function_sequences.specs.Sequences.{bytes_in, falling, functions_in}
 use Rattle.line_remap.specs.Sound.{IsIndexOf}
 use Rattle.function_lines.specs.WithLines.{with_lines}
 use Rattle.byte_write.specs.Numbers.{double}
@@ -82,6 +86,61 @@ short_with file unit written (Some offset) is some within made short =
 
 pub long_unit : (file unit : List ℕ) (found : Option ℕ) → found ≡ section_place file (codes ".debug_line") → is_some found ≡ true → IfSome found (λ offset. offset + 64 ≤ length file) → MAX_PROGRAM < length unit → IsLongWith file unit
 long_unit file unit found is some within long = long_with file unit found is some within (omega (arith, long))
+
+-- a file that is short enough is not too long
+pub not_long : (file unit : List ℕ) (found : Option ℕ) → found ≡ section_place file (codes ".debug_line") → is_some found ≡ true → IfSome found (λ offset. offset + 64 ≤ length file) → length file + length unit ≤ MAX_PROGRAM → IsLongWith file unit → ⊥
+not_long file unit found is some within short long =
+    let fits : length long.0 ≤ MAX_PROGRAM = short_with file unit long.0 found is some within long.1 short in
+    omega (arith, fits, long.2)
+
+-- ---- functions
+
+-- those that were found are some if they are some as their addresses fall
+pub some_found : (image : ImageParts) (symbols : List Symbol) (empty : Bool) (n : ℕ) → symbols ≡ falling (functions_in image) → empty ≡ (n == 0) → n ≡ length symbols → empty ≡ false → HasFunctions image
+some_found image symbols empty n is tested size some none =
+    let no : symbols ≡ [] = is ∙ ap falling none in
+    let zero : n ≡ 0 = size ∙ ap (λ (ss : List Symbol). length ss) no in
+    let wrong : false ≡ true = sym some ∙ tested ∙ ap (λ (k : ℕ). k == 0) zero in
+    absurd (let never : ⊥ = cc in never)
+
+-- ---- causes
+
+pub lineless : (image : ImageParts) (found : Option ℕ) → HasFunctions image → found ≡ section_place image.file (codes ".debug_line") → is_some found ≡ false → IsLineless image
+lineless image None some is none = record { some = some; none = sym is }
+lineless image (Some offset) some is none = absurd (let never : ⊥ = cc in never)
+
+module _ (image : ImageParts) (index : Index) (marks : List Mark) (bytes : List ℕ) (some : HasFunctions image) (has : IsUnit image index marks bytes) where
+  file_cause : (error : FunctionsError) → IsFileCause image bytes error → IsCauseOf image index marks error
+  file_cause NoFunctions is = absurd is
+  file_cause NoLines is = record { some = some; none = is }
+  file_cause Much is = record {
+    some = some;
+    sequences = has.sequences;
+    are = has.are;
+    long = subst (λ (u : List ℕ). IsLongWith image.file u) has.unit is;
+  }
+  file_cause Overlap is = record {
+    some = some;
+    sequences = has.sequences;
+    are = has.are;
+    short = subst (λ (u : List ℕ). IsLongWith image.file u → ⊥) has.unit is.0;
+    other = subst (λ (u : List ℕ). IsOtherWith image u) has.unit is.1;
+  }
+  file_cause Memory is = tt
+
+  -- why there is no file with a unit is why there is none
+  pub cause_of : (r : Result (Vec ℕ) FunctionsError) → IfErr r (IsFileCause image bytes) → IfErr r (IsCauseOf image index marks)
+  cause_of (Ok v) is = tt
+  cause_of (Err error) is = file_cause error is
+
+  -- a file with the unit is one with such functions
+  pub with_functions : (written : List ℕ) → with_lines image.file bytes ≡ Some written → IsWithFunctions image index marks written
+  with_functions written is = record {
+    some = some;
+    sequences = has.sequences;
+    are = has.are;
+    file = subst (λ (u : List ℕ). with_lines image.file u ≡ Some written) has.unit is;
+  }
 
 -- ---- marks
 

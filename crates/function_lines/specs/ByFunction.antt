@@ -59,9 +59,15 @@ IsUnitCause image index marks units.Memory = Unit {0}
 
 -- ---- the file
 
--- the file with the unit of such sequences as its line table: all its other bytes are as they were
+-- the program has a function
+abbrev pub HasFunctions : ImageParts → Type 0
+HasFunctions image = functions_in image ≡ [] → ⊥
+
+-- The program has a function, and the file has the unit of such sequences as its line table: all
+-- its other bytes are as they were.
 pub record IsWithFunctions (image : ImageParts) (index : Index) (marks : List Mark)
     (written : List ℕ) : Type 0 where
+  pub some : HasFunctions image
   pub sequences : List Sequence
   pub are : AreSequences image index marks sequences
   pub file : with_lines image.file (unit sequences) ≡ Some written
@@ -100,23 +106,33 @@ abbrev pub IsFileCause : ImageParts → List ℕ → FunctionsError → Type 0
 IsFileCause image unit NoFunctions = ⊥
 IsFileCause image unit NoLines = section_place image.file (codes ".debug_line") ≡ None
 IsFileCause image unit Much = IsLongWith image.file unit
-IsFileCause image unit Overlap = IsOtherWith image unit
+IsFileCause image unit Overlap = (IsLongWith image.file unit → ⊥) × IsOtherWith image unit
 IsFileCause image unit Memory = Unit {0}
 
+-- it has a function, and no section of lines
+pub record IsLineless (image : ImageParts) : Type 0 where
+  pub some : HasFunctions image
+  pub none : section_place image.file (codes ".debug_line") ≡ None
+
+-- it has a function, and the file would be too long
 pub record IsMuch (image : ImageParts) (index : Index) (marks : List Mark) : Type 0 where
+  pub some : HasFunctions image
   pub sequences : List Sequence
   pub are : AreSequences image index marks sequences
   pub long : IsLongWith image.file (unit sequences)
 
+-- it has a function, the file would not be too long, and it is not the program with the unit
 pub record IsOverlap (image : ImageParts) (index : Index) (marks : List Mark) : Type 0 where
+  pub some : HasFunctions image
   pub sequences : List Sequence
   pub are : AreSequences image index marks sequences
+  pub short : IsLongWith image.file (unit sequences) → ⊥
   pub other : IsOtherWith image (unit sequences)
 
--- why there is no file in which each function is one line
+-- why there is no file in which each function is one line: the first of these causes that holds
 abbrev pub IsCauseOf : ImageParts → Index → List Mark → FunctionsError → Type 0
 IsCauseOf image index marks NoFunctions = functions_in image ≡ []
-IsCauseOf image index marks NoLines = section_place image.file (codes ".debug_line") ≡ None
+IsCauseOf image index marks NoLines = IsLineless image
 IsCauseOf image index marks Much = IsMuch image index marks
 IsCauseOf image index marks Overlap = IsOverlap image index marks
 IsCauseOf image index marks Memory = Unit {0}
