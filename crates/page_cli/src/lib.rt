@@ -2,6 +2,9 @@
 //! that needs nothing else. The text of the lines is read from source files, if they are there.
 #![tactic(auto)]
 
+ghost use Rattle.std.specs.Prelude.{◌≡◌};
+ghost use Rattle.page_cli.specs.declared.source_lines.TheConstants.{MAX_SHOWN_LINE};
+
 mod fault;
 mod fault_line;
 mod frame;
@@ -20,3 +23,8 @@ mod top;
 mod view;
 
 pub use top::serve;
+
+/// The sizes of this crate, as numbers: the most bytes of a line's text that a page shows.
+pub fn sizes()
+    ensures shown_line { MAX_SHOWN_LINE ≡ 120 }
+{}
