@@ -14,6 +14,7 @@ use std::thread::Threads;
 
 /// A program of eight instructions from 0x10078 on: the function `main` of four, which has the
 /// lines 1 to 4 of `a/m.c`, and the function `work` of four, which has the lines 3 to 6 of `b/m.c`.
+/// readelf and llvm-dwarfdump print these functions and lines.
 static SMALL: &[u8] =
     b"\x7FELF\x02\x01\x01\0\0\0\0\0\0\0\0\0\x02\0\xF3\0\x01\0\0\0x\0\x01\0\0\0\0\0@\0\0\0\0\0\0\0\
 \x90\x01\0\0\0\0\0\0\0\0\0\0@\08\0\x01\0@\0\x05\0\x04\0\x01\0\0\0\x05\0\0\0\0\0\0\0\0\0\0\0\
@@ -101,6 +102,7 @@ fn check_lines<R: Threads + Sync + AllocGlobal + Abort>(
 }
 
 /// Words that ask for nothing.
+/// By hand, as all tables of this module: docs/FORMATS.md, Programs by function.
 static WRONG: [Row; 19] = [
     (&[], 2, b"", USAGE),
     (&[""], 2, b"", USAGE),

@@ -1,4 +1,5 @@
-//! The files that the tests of lines by cost read.
+//! The files that the tests of lines by cost read. The system calls of the sources are 63 read, 93
+//! exit and 220 clone, whose flags 0x10F00 are those that every thread has.
 use crate::calls::{ONE_SOURCE, assembled};
 use crate::files::{Change, add, add_all_changed};
 use coz_files::HeldFile;
@@ -11,12 +12,14 @@ static SOURCES: [(&str, &[u8]); 4] = [
     ("one.s", ONE_SOURCE),
     (
         "two.s",
-        b"li a0, 69376\nli a1, 0\nli a7, 220\necall\naddi t0, t0, 1\nli a0, 0\nli a7, 93\necall\n",
+        b"li a0, 0x10F00\nli a1, 0\nli a7, 220\necall\n\
+        addi t0, t0, 1\nli a0, 0\nli a7, 93\necall\n",
     ),
     ("spin.s", b"again: j again\n"),
     (
         "reads.s",
-        b"li a0, 0\naddi a1, sp, -16\nli a2, 16\nli a7, 63\necall\nagain: addi a0, a0, -1\nbne a0, x0, again\nli a7, 93\necall\n",
+        b"li a0, 0\naddi a1, sp, -16\nli a2, 16\nli a7, 63\necall\n\
+        again: addi a0, a0, -1\nbne a0, x0, again\nli a7, 93\necall\n",
     ),
 ];
 

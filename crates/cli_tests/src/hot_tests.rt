@@ -14,6 +14,7 @@ line one.s:1 starts 1 cost 100 share 238\n\
 line one.s:2 starts 1 cost 100 share 238\n";
 
 /// Words that ask for nothing.
+/// By hand, from docs/FORMATS.md, Lines by cost.
 static WRONG: [Row; 17] = [
     (&[], 2, b"", USAGE),
     (&[""], 2, b"", USAGE),
@@ -41,6 +42,7 @@ fn invalid_arguments_are_rejected(rt: HostRuntime) -> Result<(), Fail> {
 
 /// An instruction takes 100 ticks, a jump 200, and a call 4000. In `two` lines 5 to 8 are executed
 /// by two threads, and line 1 is two instructions.
+/// `tools/check-tables` computes the same from the sources, by docs/FORMATS.md alone.
 static PRINTED: [Row; 16] = [
     (&["one"], 0, ONE, b""),
     (&["--", "one"], 0, ONE, b""),
@@ -132,6 +134,7 @@ fn lines_are_sorted_by_falling_cost(rt: HostRuntime) -> Result<(), Fail> {
 }
 
 /// If a row has two faults, the first is reported.
+/// By hand, as the other tables below: docs/FORMATS.md, Lines by cost and Exit statuses.
 static FAULTY: [Row; 8] = [
     (
         &["absent", "--input", "gone"],

@@ -11,6 +11,7 @@ use std::test::Fail;
 /// The words, the status, the profile that is printed, and the line on the error stream.
 type Row = (&'static [&'static str], u8, &'static str, &'static [u8]);
 
+/// By hand, as all tables of this module: docs/FORMATS.md, Join.
 static ROWS: [Row; 32] = [
     (&["a", "b"], 0, "all", b""),
     (&["b", "a"], 0, "all", b""),

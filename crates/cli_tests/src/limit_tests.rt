@@ -11,6 +11,7 @@ const ONE: &[u8] =
 const LONG: &[u8] = b"coz: long: big\n";
 
 /// Zeros are no program, no source and no profile.
+/// By hand, from docs/FORMATS.md, Commands and Exit statuses.
 static LIMITS: [Limit; 8] = [
     (&["run", "one", "--input=big"], 16_777_216, 0, ONE, b""),
     (&["run", "one", "--input=big"], 16_777_217, 8, b"", LONG),

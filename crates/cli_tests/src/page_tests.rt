@@ -14,6 +14,7 @@ const PAGE: Room = Room {
     fails: &[],
 };
 
+/// By hand, as all tables of this module: docs/FORMATS.md, Page.
 static LIMITS: [Limit; 2] = [
     (
         &["big"],

@@ -10,6 +10,7 @@ use std::test::Fail;
 use std::thread::Threads;
 
 /// The fixed parts of the two headers of a program of three words.
+/// By the System V gABI, chapters 4 and 5.
 const HEADERS: [u8; 120] = [
     // e_ident.
     0x7F, 0x45, 0x4C, 0x46, 2, 1, 1, 0, 0, 0, 0, 0, 0, 0, 0, 0,
@@ -134,6 +135,7 @@ const TRIAL: &[u8] =
 lines 42\nexperiments 36\n\
 profile 10734 45bdcaaa1f891c7be6e1c624763224c0d42de9442655e5a0f528f8f9f05dd3de\nbest trial.s:26 900\n";
 
+/// An independent implementation prints the same texts.
 static RUNS: [Row; 12] = [
     (&["run", "one"], 0, ONE_RUN, b""),
     (&["run", "other"], 1, OTHER, b""),
@@ -166,6 +168,7 @@ fn runs_profiles_and_trials_are_printed(rt: HostRuntime) -> Result<(), Fail> {
 
 const USAGE: &[u8] = b"coz: usage\n";
 
+/// By hand, from docs/FORMATS.md, Commands and Values.
 static INVALID: [Row; 14] = [
     (&[], 2, b"", USAGE),
     (&["run"], 2, b"", USAGE),
@@ -193,6 +196,7 @@ fn invalid_arguments_are_rejected(rt: HostRuntime) -> Result<(), Fail> {
     check_rows(&rt, &files(rt.alloc())?, &INVALID)
 }
 
+/// By hand, as the next table, from docs/FORMATS.md, Exit statuses.
 static ABSENT: [Row; 4] = [
     (
         &["run", "one", "--input", "absent"],
@@ -293,6 +297,7 @@ fn check_faults<R: Threads + Sync + AllocGlobal + Abort>(
 
 const TWO_READS: [&str; 6] = ["profile", "one", "--input", "data", "--lines", "one.s:1"];
 
+/// By hand, as the next two tables, from docs/FORMATS.md, Exit statuses.
 static READS: [Fault; 7] = [
     (
         &["run", "one"],

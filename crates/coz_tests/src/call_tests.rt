@@ -383,6 +383,7 @@ const HALVES: &str = "
 ";
 
 /// Rows for the driver, whose calls return what they say, and the output with its length.
+/// By hand, from docs/FORMATS.md, System calls.
 static ANSWERS: [(&str, &str); 7] = [
     (STREAMS, "14\nllollolsfirst \n"),
     (OWN, "0\n\n"),
@@ -467,6 +468,7 @@ fn copies_of_a_guest_return_the_same_values(rt: HostRuntime) -> Result<(), Fail>
 }
 
 /// Rows whose calls end the run: what is not supported, and exits.
+/// By hand, from docs/FORMATS.md, System calls.
 static ENDS: [(&str, &str); 22] = [
     // futex: another operation, and a wait with a timeout
     (".dword 0, call, 98, text, 2", "end unsupported:98"),
@@ -608,6 +610,7 @@ const CALL_BY_93: [&str; 4] = ["run", "guest", "--line=guest.s:3", "--speedup=93
 const CALL_BY_95: [&str; 4] = ["run", "guest", "--line=guest.s:3", "--speedup=95"];
 
 /// A program, the text after it, the arguments, and how the run ends.
+/// By hand, from docs/FORMATS.md, Virtual time and Time.
 static CLOCKS: [(&str, &str, &[&str], &str); 13] = [
     // seconds and nanoseconds are rounded down
     (NAP, "0, 0, 0, 89", &PLAIN, "end exited:0"),

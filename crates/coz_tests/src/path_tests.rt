@@ -17,10 +17,13 @@ static SOURCES: [Source; 10] = [
     ("jz.s", b"    jalr x0, 0(x0)\n"),
     (
         "fill.s",
-        b"again: li a0, 1\nla a1, text\nli a2, 1024\nli a7, 64\necall\nj again\n.data\ntext: .zero 1024\n",
+        b"again: li a0, 1\nla a1, text\nli a2, 1024\nli a7, 64\necall\n\
+        j again\n\
+        .data\ntext: .zero 1024\n",
     ),
 ];
 
+/// `tools/check-tables` computes the same from the sources, by docs/FORMATS.md alone.
 static PATHS: [Row; 10] = [
     (
         &["path", "wait"],
@@ -85,6 +88,7 @@ static PATHS: [Row; 10] = [
 ];
 
 /// Arguments for which there is no path.
+/// By hand, from docs/FORMATS.md, Commands and Exit statuses.
 static REJECTED: [Row; 9] = [
     (&["path", "one", "--budget", "0"], 2, b"", b"coz: usage\n"),
     (

@@ -1,4 +1,5 @@
 //! Programs whose harts use pipes: what `run` and `really` print of them.
+//! `sources.rt` says which system calls their numbers are.
 use crate::calls::{Pair, check_pairs, programs_of};
 use crate::sources::Source;
 use std::test::Fail;
@@ -9,34 +10,79 @@ use std::test::Fail;
 static PIPED: [Source; 7] = [
     (
         "eof.s",
-        b"la s0, ends\nmv a0, s0\nli a1, 0\nli a7, 59\necall\nli a0, 4\nla a1, text\nli a2, 3\nli a7, 64\necall\nmv s1, a0\nli a0, 4\nli a7, 57\necall\nli a0, 3\nla a1, into\nli a2, 8\nli a7, 63\necall\nadd s1, s1, a0\nli a0, 3\nli a7, 63\necall\nadd s1, s1, a0\nli a0, 1\nla a1, into\nli a2, 8\nli a7, 64\necall\nmv a0, s1\nli a7, 94\necall\n.data\nends: .dword 0\ntext: .ascii \"abc\"\ninto: .zero 8\n",
+        b"la s0, ends\nmv a0, s0\nli a1, 0\nli a7, 59\necall\n\
+        li a0, 4\nla a1, text\nli a2, 3\nli a7, 64\necall\n\
+        mv s1, a0\nli a0, 4\nli a7, 57\necall\n\
+        li a0, 3\nla a1, into\nli a2, 8\nli a7, 63\necall\n\
+        add s1, s1, a0\nli a0, 3\nli a7, 63\necall\n\
+        add s1, s1, a0\nli a0, 1\nla a1, into\nli a2, 8\nli a7, 64\necall\n\
+        mv a0, s1\nli a7, 94\necall\n\
+        .data\nends: .dword 0\ntext: .ascii \"abc\"\ninto: .zero 8\n",
     ),
     (
         "broken.s",
-        b"la a0, ends\nli a1, 0\nli a7, 59\necall\nli a0, 3\nli a7, 57\necall\nli a0, 4\nla a1, ends\nli a2, 1\nli a7, 64\necall\nsub a0, x0, a0\nli a7, 94\necall\n.data\nends: .dword 0\n",
+        b"la a0, ends\nli a1, 0\nli a7, 59\necall\n\
+        li a0, 3\nli a7, 57\necall\n\
+        li a0, 4\nla a1, ends\nli a2, 1\nli a7, 64\necall\n\
+        sub a0, x0, a0\nli a7, 94\necall\n\
+        .data\nends: .dword 0\n",
     ),
     (
         "mute.s",
-        b"la a0, ends\nli a1, 0\nli a7, 59\necall\nli a0, 3\nla a1, ends\nli a2, 1\nli a7, 63\necall\n.data\nends: .dword 0\n",
+        b"la a0, ends\nli a1, 0\nli a7, 59\necall\n\
+        li a0, 3\nla a1, ends\nli a2, 1\nli a7, 63\necall\n\
+        .data\nends: .dword 0\n",
     ),
     (
         "pipe.s",
-        b"la a0, ends\nli a1, 0\nli a7, 59\necall\nli a0, 69376\nli a1, 0\nli a7, 220\necall\nbeq a0, x0, child\nli a0, 3\nla a1, byte\nli a2, 1\nli a7, 63\necall\nli a7, 94\necall\nchild: li a7, 124\necall\necall\ndiv t0, t0, t0\nli a0, 4\nla a1, byte\nli a2, 1\nli a7, 64\necall\nli a7, 93\necall\n.data\nends: .dword 0\nbyte: .byte 7\n",
+        b"la a0, ends\nli a1, 0\nli a7, 59\necall\n\
+        li a0, 0x10F00\nli a1, 0\nli a7, 220\necall\n\
+        beq a0, x0, child\nli a0, 3\nla a1, byte\nli a2, 1\nli a7, 63\necall\n\
+        li a7, 94\necall\n\
+        child: li a7, 124\necall\necall\n\
+        div t0, t0, t0\nli a0, 4\nla a1, byte\nli a2, 1\nli a7, 64\necall\n\
+        li a7, 93\necall\n\
+        .data\nends: .dword 0\nbyte: .byte 7\n",
     ),
     (
         "gone.s",
-        b"la a0, ends\nli a1, 0\nli a7, 59\necall\nli a0, 69376\nli a7, 220\necall\nbeq a0, x0, child\nli a7, 124\necall\necall\nli a0, 3\nli a7, 57\necall\nli a0, 0\nli a7, 93\necall\nchild: li a0, 3\nla a1, ends\nli a2, 1\nli a7, 63\necall\nsub a0, x0, a0\nli a7, 94\necall\n.data\nends: .dword 0\n",
+        b"la a0, ends\nli a1, 0\nli a7, 59\necall\n\
+        li a0, 0x10F00\nli a7, 220\necall\n\
+        beq a0, x0, child\nli a7, 124\necall\necall\n\
+        li a0, 3\nli a7, 57\necall\n\
+        li a0, 0\nli a7, 93\necall\n\
+        child: li a0, 3\nla a1, ends\nli a2, 1\nli a7, 63\necall\n\
+        sub a0, x0, a0\nli a7, 94\necall\n\
+        .data\nends: .dword 0\n",
     ),
     (
         "readers.s",
-        b"la a0, ends\nli a1, 0\nli a7, 59\necall\nli a0, 69376\nli a7, 220\necall\nbeq a0, x0, child\nli a0, 69376\necall\nbeq a0, x0, child\nli a7, 124\necall\necall\nli a0, 4\nla a1, ends\nli a2, 1\nli a7, 64\necall\nli a0, 4\nli a7, 57\necall\nli a7, 93\necall\nchild: li a0, 3\nla a1, into\nli a2, 1\nli a7, 63\necall\nli a7, 93\necall\n.data\nends: .dword 0\ninto: .dword 0\n",
+        b"la a0, ends\nli a1, 0\nli a7, 59\necall\n\
+        li a0, 0x10F00\nli a7, 220\necall\n\
+        beq a0, x0, child\nli a0, 0x10F00\necall\n\
+        beq a0, x0, child\nli a7, 124\necall\necall\n\
+        li a0, 4\nla a1, ends\nli a2, 1\nli a7, 64\necall\n\
+        li a0, 4\nli a7, 57\necall\n\
+        li a7, 93\necall\n\
+        child: li a0, 3\nla a1, into\nli a2, 1\nli a7, 63\necall\n\
+        li a7, 93\necall\n\
+        .data\nends: .dword 0\ninto: .dword 0\n",
     ),
     (
         "full.s",
-        b"la a0, ends\nli a1, 0\nli a7, 59\necall\nli a0, 69376\nli a7, 220\necall\nbeq a0, x0, child\nli a0, 4\nla a1, bytes\nli a2, 70000\nli a7, 64\necall\nmv s0, a0\nli a0, 4\nli a2, 4096\necall\nadd a0, a0, s0\nsrli a0, a0, 9\nli a7, 94\necall\nchild: li a7, 124\necall\necall\nagain: li a0, 3\nla a1, into\nli a2, 1500\nli a7, 63\necall\nj again\n.data\nends: .dword 0\ninto: .zero 1500\nbytes: .zero 70000\n",
+        b"la a0, ends\nli a1, 0\nli a7, 59\necall\n\
+        li a0, 0x10F00\nli a7, 220\necall\n\
+        beq a0, x0, child\nli a0, 4\nla a1, bytes\nli a2, 70000\nli a7, 64\necall\n\
+        mv s0, a0\nli a0, 4\nli a2, 4096\necall\n\
+        add a0, a0, s0\nsrli a0, a0, 9\nli a7, 94\necall\n\
+        child: li a7, 124\necall\necall\n\
+        again: li a0, 3\nla a1, into\nli a2, 1500\nli a7, 63\necall\n\
+        j again\n\
+        .data\nends: .dword 0\ninto: .zero 1500\nbytes: .zero 70000\n",
     ),
 ];
 
+/// `tools/check-tables` computes the same from the sources, by docs/FORMATS.md alone.
 static PIPES: [Pair; 9] = [
     (
         &["eof"],

@@ -10,6 +10,7 @@ use std::thread::Threads;
 static SOURCES: [Source; 1] = [("one.s", ONE)];
 
 /// The profile of the first line with two speedups.
+/// An independent implementation prints it.
 const PROFILE: &[u8] =
     b"coz-ticks\tversion=1\tbudget=100000000\tpoints=0\nexperiment\tselected=one.s:1\tspeedup=0\tend=exited:0\ttime=4200\tdelay=0\tretired=3\tstarts=1\noutput\tlength=0\tsha256=e3b0c44298fc1c149afbf4c8996fb92427ae41e4649b934ca495991b7852b855\nvisits\tsha256=e3b0c44298fc1c149afbf4c8996fb92427ae41e4649b934ca495991b7852b855\nexperiment\tselected=one.s:1\tspeedup=50\tend=exited:0\ttime=4200\tdelay=50\tretired=3\tstarts=1\noutput\tlength=0\tsha256=e3b0c44298fc1c149afbf4c8996fb92427ae41e4649b934ca495991b7852b855\nvisits\tsha256=e3b0c44298fc1c149afbf4c8996fb92427ae41e4649b934ca495991b7852b855\n";
 
@@ -62,6 +63,7 @@ fn a_full_output_holds_the_first_bytes_of_the_profile(rt: HostRuntime) -> Result
 /// status and the error line of `plot` then.
 type Damage = (usize, usize, &'static [u8], u8, &'static [u8]);
 
+/// By hand, from docs/FORMATS.md, Profile text.
 static DAMAGES: [Damage; 20] = [
     (0, 558, b"", 12, b"coz: profile: Head at 0\n"),
     (9, 549, b"", 12, b"coz: profile: Version at 9\n"),
@@ -113,6 +115,7 @@ fn damaged_profiles_are_rejected(rt: HostRuntime) -> Result<(), Fail> {
     Ok(())
 }
 
+/// An independent implementation prints it.
 const CURVES: &[u8] =
     b"curve\tpoint=0\tselected=one.s:3\tgain=9047\nstep\tspeedup=0\tvalue=0\tbar=\nstep\tspeedup=95\tvalue=9047\tbar=####################################\ncurve\tpoint=0\tselected=one.s:1\tgain=226\nstep\tspeedup=0\tvalue=0\tbar=\nstep\tspeedup=95\tvalue=226\tbar=\n";
 

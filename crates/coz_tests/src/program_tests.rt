@@ -25,6 +25,7 @@ fn an_assembled_program_runs(rt: HostRuntime) -> Result<(), Fail> {
 
 /// Line tables of 13 bytes, and the lines of their faults: the beginning of a unit whose header
 /// says that it is longer, and one of the form of 64 bits.
+/// By hand, from docs/FORMATS.md, Line table.
 static TABLES: [([u8; 13], &[u8]); 2] = [
     (
         [9, 0, 0, 0, 4, 0, 0x1B, 0, 0, 0, 4, 1, 1],
@@ -75,15 +76,20 @@ fn faults_of_line_tables_are_reported(rt: HostRuntime) -> Result<(), Fail> {
 static WRITERS: [Source; 2] = [
     (
         "whole.s",
-        b"again: li a0, 1\nla a1, text\nli a2, 1024\nli a7, 64\necall\nj again\n.data\ntext: .zero 1024\n",
+        b"again: li a0, 1\nla a1, text\nli a2, 1024\nli a7, 64\necall\n\
+        j again\n\
+        .data\ntext: .zero 1024\n",
     ),
     (
         "cut.s",
-        b"again: li a0, 1\nla a1, text\nli a2, 1000\nli a7, 64\necall\nj again\n.data\ntext: .zero 1000\n",
+        b"again: li a0, 1\nla a1, text\nli a2, 1000\nli a7, 64\necall\n\
+        j again\n\
+        .data\ntext: .zero 1000\n",
     ),
 ];
 
 /// The arguments, and how the record of the run begins.
+/// `tools/check-tables` computes the same from the sources, by docs/FORMATS.md alone.
 static FULL: [(&[&str], &[u8]); 2] = [
     (
         &["run", "whole"],
@@ -157,6 +163,8 @@ const PLANNED: &[u8] =
 const SPENT_RUNS: &[u8] =
     b"coz-ticks\tversion=1\tbudget=2\tpoints=0\nexperiment\tselected=d/one.s:1\tspeedup=0\tend=spent\ttime=200\tdelay=0\tretired=2\tstarts=1\noutput\tlength=0\tsha256=e3b0c44298fc1c149afbf4c8996fb92427ae41e4649b934ca495991b7852b855\nvisits\tsha256=e3b0c44298fc1c149afbf4c8996fb92427ae41e4649b934ca495991b7852b855\nexperiment\tselected=d/one.s:1\tspeedup=50\tend=spent\ttime=200\tdelay=50\tretired=2\tstarts=1\noutput\tlength=0\tsha256=e3b0c44298fc1c149afbf4c8996fb92427ae41e4649b934ca495991b7852b855\nvisits\tsha256=e3b0c44298fc1c149afbf4c8996fb92427ae41e4649b934ca495991b7852b855\n";
 
+/// `tools/check-tables` computes the records from the sources, by docs/FORMATS.md alone. The
+/// other texts are by hand, from the same page.
 static NAMED: [Row; 24] = [
     (&["lines", "d/one"], 0, ONE_LINES, b""),
     (&["lines", "five"], 0, ONE_LINES, b""),

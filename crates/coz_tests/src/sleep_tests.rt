@@ -1,4 +1,5 @@
 //! Programs whose harts sleep and read the clock: the net times of `run` are the times of `really`.
+//! `sources.rt` says which system calls their numbers are.
 use crate::calls::{Pair, Row, check_pairs, check_rows, programs_of};
 use crate::sources::{CLOCK, DOZE, NAP, Source};
 use std::test::Fail;
@@ -11,31 +12,55 @@ static SLEEPERS: [Source; 9] = [
     ("clock.s", CLOCK),
     (
         "read.s",
-        b"div t0, t0, t0\nla a1, room\nli a0, 1\nli a7, 113\necall\nld a0, 8(a1)\nli a7, 94\necall\n.data\nroom: .dword 0, 0\n",
+        b"div t0, t0, t0\nla a1, room\nli a0, 1\nli a7, 113\necall\n\
+        ld a0, 8(a1)\nli a7, 94\necall\n\
+        .data\nroom: .dword 0, 0\n",
     ),
     ("doze.s", DOZE),
     (
         "first.s",
-        b"li a0, 69376\nli a7, 220\necall\nbeq a0, x0, other\nla a0, span\nli a7, 101\necall\nli a7, 94\necall\nother: la a0, span\nli a7, 124\necall\nagain: j again\n.data\nspan: .dword 0, 0\n",
+        b"li a0, 0x10F00\nli a7, 220\necall\n\
+        beq a0, x0, other\nla a0, span\nli a7, 101\necall\n\
+        li a7, 94\necall\n\
+        other: la a0, span\nli a7, 124\necall\n\
+        again: j again\n\
+        .data\nspan: .dword 0, 0\n",
     ),
     (
         "second.s",
-        b"li a0, 69376\nli a7, 220\necall\nbne a0, x0, other\nla a0, span\nli a7, 101\necall\nli a7, 94\necall\nother: la a0, span\nli a7, 124\necall\nagain: j again\n.data\nspan: .dword 0, 0\n",
+        b"li a0, 0x10F00\nli a7, 220\necall\n\
+        bne a0, x0, other\nla a0, span\nli a7, 101\necall\n\
+        li a7, 94\necall\n\
+        other: la a0, span\nli a7, 124\necall\n\
+        again: j again\n\
+        .data\nspan: .dword 0, 0\n",
     ),
     (
         "leave.s",
-        b"li a0, 69376\nli a7, 220\necall\nbeq a0, x0, child\nla a0, span\nli a7, 101\necall\nli a7, 94\necall\nchild: div t0, t0, t0\nli a7, 93\necall\n.data\nspan: .dword 0, 50\n",
+        b"li a0, 0x10F00\nli a7, 220\necall\n\
+        beq a0, x0, child\nla a0, span\nli a7, 101\necall\n\
+        li a7, 94\necall\n\
+        child: div t0, t0, t0\nli a7, 93\necall\n\
+        .data\nspan: .dword 0, 50\n",
     ),
     (
         "both.s",
-        b"li a0, 69376\nli a7, 220\necall\nla a0, span\nli a7, 101\necall\nli a7, 93\necall\n.data\nspan: .dword 0, 50\n",
+        b"li a0, 0x10F00\nli a7, 220\necall\n\
+        la a0, span\nli a7, 101\necall\n\
+        li a7, 93\necall\n\
+        .data\nspan: .dword 0, 50\n",
     ),
     (
         "group.s",
-        b"li a0, 69376\nli a7, 220\necall\nbeq a0, x0, child\nla a0, span\nli a7, 101\necall\nchild: la a0, span\nli a1, 1\nli a2, 9\nli a7, 98\necall\nli a7, 94\necall\n.data\nspan: .dword 9, 0\n",
+        b"li a0, 0x10F00\nli a7, 220\necall\n\
+        beq a0, x0, child\nla a0, span\nli a7, 101\necall\n\
+        child: la a0, span\nli a1, 1\nli a2, 9\nli a7, 98\necall\n\
+        li a7, 94\necall\n\
+        .data\nspan: .dword 9, 0\n",
     ),
 ];
 
+/// `tools/check-tables` computes the same from the sources, by docs/FORMATS.md alone.
 static SLEEPS: [Pair; 11] = [
     // Its wake starts a selected instruction, which visits as it retires.
     (

@@ -39,6 +39,7 @@ type Profile = (
     &'static [u8],
 );
 
+/// The digests are `sha256sum` of what an independent implementation prints.
 static PC_PROFILES: [Profile; 5] = [
     (
         &[

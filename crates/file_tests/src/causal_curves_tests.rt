@@ -67,6 +67,8 @@ throughput-point\tindex=0\tdelta=1\n\
 throughput-point\tindex=1\tdelta=1\n\
 visits\tsha256=e3b0c44298fc1c149afbf4c8996fb92427ae41e4649b934ca495991b7852b855\n";
 
+/// The text of docs/FORMATS.md, Text of plot, by hand from the times, delays and counts of
+/// `PROFILE`.
 const CURVES: &[u8] = b"curve\tpoint=0\tselected=b.s:1\tgain=4000\n\
 step\tspeedup=0\tvalue=0\tbar=\n\
 step\tspeedup=25\tvalue=-4\tbar=\n\

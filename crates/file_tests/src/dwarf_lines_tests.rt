@@ -88,6 +88,7 @@ const NEXT: Row = Row {
 };
 
 /// The rows of `FOUR_ROWS`.
+/// llvm-dwarfdump prints the same rows.
 static ROWS_OF_FOUR: [Row; 4] = [
     Row {
         address: 0x10000,
@@ -112,6 +113,7 @@ static ROWS_OF_FOUR: [Row; 4] = [
 ];
 
 /// The rows of `EACH_OPCODE`.
+/// llvm-dwarfdump prints the same rows, with files that count from 1.
 static ROWS_OF_EACH: [Row; 8] = [
     FIRST,
     Row {
@@ -192,6 +194,7 @@ fn fault_of(alloc: Global, section: &[u8]) -> Option<LineError>
 
 /// The first and the last length, and the offset of what is short, if the unit of four rows is cut
 /// to such a length.
+/// By hand, from where the fields of the unit begin (DWARF 4, 6.2.4 and 6.2.5).
 static CUTS: [(usize, usize, u64); 13] = [
     (4, 5, 4),
     (6, 36, 6),
@@ -259,6 +262,7 @@ const END_SEQUENCE: usize = 70;
 
 /// The offset of a byte of the unit of four rows, what it is set to, and the fault with its offset.
 /// The first two bytes are of unit_length.
+/// By hand, from docs/FORMATS.md, Line table.
 static SET_BYTES: [(usize, u8, LineKind, u64); 9] = [
     (0, 0x44, LineKind::Short, 0),
     (3, 0xFF, LineKind::Short, 0),
@@ -273,6 +277,7 @@ static SET_BYTES: [(usize, u8, LineKind, u64); 9] = [
 
 /// Programs after the header of the unit of four rows, and their faults with their offsets: an
 /// operand of more than 64 bits, a line below zero, and no end of the sequence.
+/// By hand, from the same page and DWARF 4, 6.2.5.
 static PROGRAMS: [(&[u8], LineKind, u64); 3] = [
     // DW_LNS_advance_pc with an operand of 70 bits.
     (

@@ -53,6 +53,7 @@ const NAMES_HEADER: usize = 4472;
 
 /// The good file: what is not zero in 4,536 bytes, which are three instructions at 0x10000 and four
 /// sections. The lowest byte of a number is first.
+/// By the System V gABI, chapters 4 and 5.
 static GOOD: [Change; 44] = [
     (0, b"\x7FELF"),
     (EI_CLASS, &[ELFCLASS64]),
@@ -151,6 +152,7 @@ fn fault(kind: ElfKind, place: usize) -> Option<LoadError> {
 type Fault = (&'static [Change], ElfKind, usize);
 
 /// Faults of the header and of the sections.
+/// These, and those of the next two tables, are by hand, from docs/FORMATS.md, Program file.
 static HEADERS: [Fault; 22] = [
     (&[(1, &[0])], NotElf, 0),
     (&[(EI_CLASS, &[1])], NotClass64, EI_CLASS),
@@ -465,6 +467,7 @@ const LARGE: Area = Area {
 /// bytes of lines it has.
 type Loaded = (&'static [Change], &'static [Area], u64, usize);
 
+/// By hand, from the changed fields.
 static LOADED: [Loaded; 8] = [
     (&[], &[FIRST], 0, 66),
     (&SECOND, &[FIRST, WRITABLE], 0, 66),
@@ -539,6 +542,7 @@ fn files_without_a_fault_are_loaded(rt: HostRuntime) -> Result<(), Fail> {
 
 /// A name, and the offsets of the first byte and after the last byte of the section of that name
 /// in the good file.
+/// By hand, from the section headers of the good file.
 static SECTIONS: [(&str, Option<(usize, usize)>); 7] = [
     (".text", Some((4096, 4108))),
     (".data", Some((4108, 4108))),

@@ -36,6 +36,8 @@ static UNSIGNED: [(&[u8], Result<u64, LebFault>, u64); 13] = [
     (b"", Err(SHORT), 0),
 ];
 
+/// Signed numbers: the examples of the DWARF standard, padded ones, and the edges of 64 bits,
+/// as above.
 static SIGNED: [(&[u8], Result<i64, LebFault>, u64); 18] = [
     (b"\x02", Ok(2), 1),
     (b"\x7E", Ok(-2), 1),

@@ -102,6 +102,7 @@ const B_S: FileName<'static> = FileName {
     ..A_S
 };
 
+/// By hand, from docs/FORMATS.md: Values, Lines and progress points, and Labels.
 static CASES: [Case; 5] = [
     // An address has the line of the first row in the order of the file.
     Case {

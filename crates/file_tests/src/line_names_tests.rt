@@ -129,6 +129,7 @@ enum Expected {
     Table(&'static [(&'static [u8], &'static [u8])], &'static [(Option<u32>, u32)], u32),
 }
 
+/// By hand, from DWARF 5, 6.2.4 and 7.5.6, and, for the faults, docs/FORMATS.md, Line table.
 static CASES: [(Section, Expected); 88] = [
     (Section::Cut(4, 5), Expected::Fault(LineKind::Short, 4)),
     (Section::Cut(6, 6), Expected::Fault(LineKind::Short, 6)),

@@ -10,6 +10,7 @@ use std::alloc::Global;
 type Change = (usize, usize, &'static [u8]);
 
 /// Two experiments and no point, in 558 bytes.
+/// An independent implementation prints it.
 const GOOD: &[u8] = b"coz-ticks\tversion=1\tbudget=100000000\tpoints=0\n\
 experiment\tselected=one.s:1\tspeedup=0\tend=exited:0\ttime=4200\tdelay=0\tretired=3\tstarts=1\n\
 output\tlength=0\tsha256=e3b0c44298fc1c149afbf4c8996fb92427ae41e4649b934ca495991b7852b855\n\
@@ -21,6 +22,7 @@ visits\tsha256=e3b0c44298fc1c149afbf4c8996fb92427ae41e4649b934ca495991b7852b855\
 const COUNT: &[u8] = b"throughput-point\tindex=0\tdelta=7\n";
 
 /// Changes, and the field and offset of the first fault.
+/// By hand, from docs/FORMATS.md, Profile text.
 static ROWS: [(&[Change], Option<(BookField, u64)>); 25] = [
     (&[], None),
     (
@@ -110,6 +112,7 @@ fn the_first_fault_of_a_changed_profile_is_found(rt: HostRuntime) {
 }
 
 /// The kinds of items, by their names.
+/// By hand, from docs/FORMATS.md, Profile text.
 static NAMES: [(BookField, &[u8]); 22] = [
     (Head, b"Head"),
     (Version, b"Version"),

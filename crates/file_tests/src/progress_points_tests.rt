@@ -23,6 +23,7 @@ static STATEMENTS: [Statement; 5] = [
 type Place = (Address, Option<PointId>);
 
 /// The points of both lines.
+/// By hand, as the next two tables: docs/FORMATS.md, Lines and progress points.
 static BOTH: [Place; 7] = [
     (0xFFFF, None),
     (0x10000, Some(PointId(0))),

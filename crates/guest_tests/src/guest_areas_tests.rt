@@ -69,6 +69,7 @@ fn answer(areas: &mut Areas, memory: &mut Memory, call: Call) -> i64
 }
 
 /// An address that the break is moved to, and where the break is then.
+/// By hand, from docs/FORMATS.md, Memory calls.
 static BREAKS: [(Address, Address); 6] = [
     (0, BRK_BASE),
     (BRK_BASE + 5000, BRK_BASE + 5000),
@@ -90,6 +91,7 @@ fn check_breaks(rt: &impl Abort, areas: &mut Areas, memory: &mut Memory)
 }
 
 /// Addresses of the entry stack, and the number in 8 bytes there.
+/// By hand, from the psABI of RISC-V and the numbers of the auxiliary vector (getauxval(3)).
 static ENTRY: [(Address, u64); 22] = [
     (0x3F_FFFF_FF50, 1),
     (0x3F_FFFF_FF58, 0x3F_FFFF_FFE0),
@@ -141,6 +143,7 @@ fn the_break_moves_within_its_region_and_the_entry_stack_is_written(
 }
 
 /// Calls, one after the other, and what they answer.
+/// By hand, as the rights after them: docs/FORMATS.md, Memory calls.
 static CALLS: [(Call, i64); 22] = [
     (Call::Map(0, 3), -22),
     (Call::Map(1, 4), -13),

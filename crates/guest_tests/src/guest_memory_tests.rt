@@ -50,6 +50,7 @@ fn made<'a>(alloc: Global, image: &'a Image<'a>) -> Result<Memory<'a>, AllocErro
 }
 
 /// An address, and the number in 4 bytes there, as data.
+/// By hand, as all tables of this module: docs/FORMATS.md, Memory.
 static LOADS: [(Address, Result<u64, Access>); 10] = [
     (BORDER, Ok(0x0050_0113)),
     (0x11FFC, Ok(0)),

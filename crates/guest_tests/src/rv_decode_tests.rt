@@ -1,5 +1,5 @@
-//! Tests of `rv_decode`: words that GNU as writes for riscv64, and words that no instruction of
-//! RV64IMA has.
+//! Tests of `rv_decode`: words that GNU as writes for riscv64, with the operands that it was given,
+//! and words that no instruction of RV64IMA has, by the opcode maps of the RISC-V manual.
 
 use crate::checks::check_equal;
 use rv_decode::AtomicOp::*;

@@ -33,7 +33,7 @@ const ACCESS: Step = Step::Fault(TrapCause::Access);
 
 const BREAK: Step = Step::Fault(TrapCause::Break);
 
-// The words of instructions.
+// The words of instructions, as LLVM disassembles them.
 
 /// lr.d.rl x7, (x5)
 const LR_D: u32 = 0x1202_B3AF;

@@ -1,4 +1,8 @@
 //! The programs that the tests run, from their sources to their images, lines and points.
+//!
+//! The number in a7 is that of a system call of docs/FORMATS.md: 64 write, 93 exit, 94 exit_group, 98
+//! futex (a1 is 0 to wait and 1 to wake), 101 nanosleep, 124 sched_yield, 220 clone. The flags
+//! 0x10F00 are those that every thread has, and 0x200000 asks for a word that its exit clears.
 ghost use Rattle.std.specs.Prelude.{◌≡◌, None};
 ghost use Rattle.elf_load.specs.Faults.{fault};
 
@@ -17,11 +21,11 @@ use std::process::Abort;
 pub(crate) const EXIT: &[u8] = b"addi a0, x0, 0\naddi a7, x0, 93\necall\n";
 
 /// Two harts count and exit.
-pub(crate) const TWO_HARTS: &[u8] = b"li a0, 69376\nli a1, 0\nli a7, 220\necall\n\
+pub(crate) const TWO_HARTS: &[u8] = b"li a0, 0x10F00\nli a1, 0\nli a7, 220\necall\n\
     addi t0, t0, 1\nli a0, 0\nli a7, 93\necall\n";
 
 /// Hart 0 waits at a word until hart 1 has divided ten times and wakes it.
-pub(crate) const WAIT: &[u8] = b"li a0, 69376\nli a7, 220\necall\nbeq a0, x0, child\n\
+pub(crate) const WAIT: &[u8] = b"li a0, 0x10F00\nli a7, 220\necall\nbeq a0, x0, child\n\
     la a0, word\nli a1, 0\nli a2, 0\nli a7, 98\necall\n\
     li a0, 0\nli a7, 94\necall\n\
     child: li a7, 124\necall\necall\nli t0, 10\n\
@@ -30,7 +34,7 @@ pub(crate) const WAIT: &[u8] = b"li a0, 69376\nli a7, 220\necall\nbeq a0, x0, ch
     .data\nword: .word 0\n";
 
 /// Hart 0 waits at a word that the exit of hart 1 clears.
-pub(crate) const JOIN: &[u8] = b"la a4, word\nli a0, 2166528\nli a7, 220\necall\n\
+pub(crate) const JOIN: &[u8] = b"la a4, word\nli a0, 0x210F00\nli a7, 220\necall\n\
     beq a0, x0, child\n\
     mv a0, a4\nli a1, 0\nli a2, 1\nli a7, 98\necall\n\
     li a0, 0\nli a7, 94\necall\n\
@@ -43,7 +47,7 @@ pub(crate) const WRITE: &[u8] = b"la a1, text\nli a0, 1\nli a2, 3\nli a7, 64\nec
     .data\ntext: .byte 97\n.byte 98\n.byte 99\n";
 
 /// Hart 0 sleeps for 50 nanoseconds, while hart 1 divides three times and exits.
-pub(crate) const SLEEP: &[u8] = b"li a0, 69376\nli a7, 220\necall\nbeq a0, x0, child\n\
+pub(crate) const SLEEP: &[u8] = b"li a0, 0x10F00\nli a7, 220\necall\nbeq a0, x0, child\n\
     la a0, span\nli a7, 101\necall\nli a7, 94\necall\n\
     child: div t0, t0, t0\ndiv t0, t0, t0\ndiv t0, t0, t0\nli a7, 93\necall\n\
     .data\nspan: .dword 0, 50\n";

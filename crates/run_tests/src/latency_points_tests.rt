@@ -13,6 +13,7 @@ const LATEST: Tick = 100_000_000_000_000_000;
 const MAX_CALLS: u64 = 8;
 
 /// Moments, at each of which a request arrives, or else one departs; the end, and the latency.
+/// By hand, from docs/FORMATS.md, Text of latency.
 static CALLS: [(&[(bool, Tick)], Tick, Latency); 3] = [
     (
         &[(false, 5), (true, 10), (true, 20), (false, 50)],

@@ -55,6 +55,8 @@ struct Row {
     output: usize,
 }
 
+/// By hand: a round of `WRITES` is eight instructions, and the bits of `REGIONS` are those
+/// above.
 static ROWS: [Row; 5] = [
     // the greatest budget, and one byte more than the commands let be written
     Row {

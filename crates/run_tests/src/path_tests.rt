@@ -18,6 +18,7 @@ type Fields = (u64, u64, Option<u32>, Option<u32>, u64);
 const MOST: u64 = 0xFFFF_FFFF_FFFF_FFFF;
 
 /// Events, a chain of them, and whether the chain is sound.
+/// By hand, from docs/FORMATS.md, Critical path.
 static CHAINS: [(&[Fields], &[u32], bool); 9] = [
     (&[], &[], false),
     (&[(MOST, 0, None, None, MOST)], &[0], true),

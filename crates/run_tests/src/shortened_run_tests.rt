@@ -150,6 +150,7 @@ const VISIT: Visit = Visit {
     delay: 0,
 };
 
+/// By hand: the three instructions take 100, 100 and 4,000 ticks, less the speedup if selected.
 static SHORTENED: [Shortened; 5] = [
     Shortened {
         selected: None,
@@ -255,6 +256,7 @@ struct Delayed {
     first: Visit,
 }
 
+/// By hand: `EXIT` as above, and each jump takes 200 ticks.
 static DELAYED: [Delayed; 3] = [
     Delayed {
         file: &EXIT,

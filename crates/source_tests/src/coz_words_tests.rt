@@ -84,6 +84,7 @@ const LATENCY: Wanted = Wanted {
     ..PROFILE
 };
 
+/// By hand, from docs/FORMATS.md: Commands, Syntax of arguments, and Values.
 static TAKEN: [(&[&str], Wanted); 32] = [
     (&["run", "one"], RUN),
     (&["run", "--", "one"], RUN),
@@ -337,6 +338,7 @@ fn valid_arguments_are_parsed(rt: HostRuntime) -> Result<(), Fail> {
     Ok(())
 }
 
+/// By hand, from the same sections.
 static REFUSED: [&[&str]; 81] = [
     &[],
     &[""],
