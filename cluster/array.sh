@@ -7,6 +7,7 @@
 # processor, or as many as --cpus-per-task says. coz-shard is that of cluster/ in the folder in which you submit, or
 # else the installed one.
 set -eu
+case ${1:-} in -h | --help) sed -n '2,/^[^#]/{/^#SBATCH/d;s/^# \{0,1\}//p}' "$0"; exit 0 ;; esac
 task=$SLURM_ARRAY_TASK_ID tasks=$SLURM_ARRAY_TASK_COUNT
 if [ $# = 1 ]; then
     # When this shell ends, Slurm kills what is left of the task. So if the task is cancelled, both shells wait for

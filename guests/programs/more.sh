@@ -1,4 +1,4 @@
-# shellcheck shell=sh disable=SC2016,SC2034,SC2046,SC2086,SC2154
+# shellcheck shell=sh disable=SC2010,SC2016,SC2034,SC2046,SC2086,SC2154
 # More programs of Debian's sources for guests/try-programs, which reads this file: `guests/try-programs more` runs them.
 # They are built by make, configure and cmake, and five of them have threads.
 packages_of_more="libde265-examples x265 squashfs-tools yajl-tools wavpack tarlz libjpeg-turbo-progs zpaq picosat
