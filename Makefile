@@ -1,7 +1,7 @@
-# make         proves and builds the programs, as many crates at a time as there are processors, and leaves them as
-#              build/coz, build/coz-page, build/coz-join, build/coz-hot and build/coz-functions
-# make test    runs the merge gate, and then checks the man pages, that what the documents name exists, that machines
-#              take no memory and, if the programs are built, the outputs that README and TUTORIAL show and an example's profile
+# make         proves and builds the programs, as many crates at a time as there are processors, and leaves them in build, as
+#              build/coz, build/coz-page and so on: tools/repository.py lists them
+# make test    runs the merge gate, builds the programs that are missing or older than their sources, and then checks the
+#              documents, the scripts and the examples (tools/check), and ends with a count of what passed, failed or was skipped
 # make try ARGS="run examples/one"    runs the program with no proof, in some minutes
 # make quick   builds the same programs without proving them, in two or three minutes; CHECKS=1 leaves their run-time
 #              checks in, which a changed tree needs
@@ -9,8 +9,7 @@
 # make guests-cxx  builds what guests/coz-c++ and -fopenmp link programs with: GCC's library of C++, its unwinder and OpenMP, in
 #              at most 10 minutes on four processors
 # make examples    builds the examples in C as they stand, with a C library of their own
-# make page    the same of build/coz-page alone; make join of build/coz-join, make hot of build/coz-hot,
-#              make functions of build/coz-functions
+# make page    proves and builds build/coz-page alone; so do make join, make hot and make functions with theirs
 # make install PREFIX=DIR    puts the programs, the scripts, and their man pages below DIR; make uninstall takes them away
 
 ARGS ?= run examples/one
@@ -18,18 +17,21 @@ PREFIX ?= /usr/local
 
 EXAMPLES = longer ledger
 PAGES = TUTORIAL.md GUESTS.md FORMATS.md GLOSSARY.md CLUSTER.md
+PROGRAMS := $(shell python3 -B tools/repository.py)
+NAMES = $(patsubst coz-%,%,$(filter coz-%,$(PROGRAMS)))
 SHELLS = bash-completion/completions/coz-study zsh/site-functions/_coz-study
 
-.PHONY: build page join hot functions test try quick guests guests-cxx examples install uninstall clean
+.PHONY: build $(NAMES) test try quick guests guests-cxx examples install uninstall clean
 
 build:
 	tools/prove
 
-page join hot functions:
+$(NAMES):
 	tools/prove coz-$@
 
 test:
 	bash .ci/run
+	tools/quick-build --stale
 	tools/check
 
 try:
@@ -49,11 +51,7 @@ examples:
 	for name in $(EXAMPLES); do COZ_LIBRARY=plain guests/coz-cc -O1 -o examples/$$name examples/$$name.c || exit 1; done
 
 install: build
-	install -D -m 755 build/coz $(DESTDIR)$(PREFIX)/bin/coz
-	install -D -m 755 build/coz-page $(DESTDIR)$(PREFIX)/bin/coz-page
-	install -D -m 755 build/coz-join $(DESTDIR)$(PREFIX)/bin/coz-join
-	install -D -m 755 build/coz-hot $(DESTDIR)$(PREFIX)/bin/coz-hot
-	install -D -m 755 build/coz-functions $(DESTDIR)$(PREFIX)/bin/coz-functions
+	for name in $(PROGRAMS); do install -D -m 755 build/$$name $(DESTDIR)$(PREFIX)/bin/$$name || exit 1; done
 	install -D -m 755 tools/coz-study $(DESTDIR)$(PREFIX)/bin/coz-study
 	install -d $(DESTDIR)$(PREFIX)/lib/coz/study
 	install -m 644 tools/study/*.py $(DESTDIR)$(PREFIX)/lib/coz/study
@@ -65,20 +63,10 @@ install: build
 	install -m 644 cluster/*.mk $(DESTDIR)$(PREFIX)/lib/coz/cluster
 	for name in $(PAGES); do install -D -m 644 docs/$$name $(DESTDIR)$(PREFIX)/share/doc/coz/$$name || exit 1; done
 	for name in $(SHELLS); do mkdir -p "$(DESTDIR)$(PREFIX)/share/$${name%/*}" && tools/coz-study completions $${name%%[-/]*} > "$(DESTDIR)$(PREFIX)/share/$$name" || exit 1; done
-	install -D -m 644 docs/coz.1 $(DESTDIR)$(PREFIX)/share/man/man1/coz.1
-	install -D -m 644 docs/coz-page.1 $(DESTDIR)$(PREFIX)/share/man/man1/coz-page.1
-	install -D -m 644 docs/coz-join.1 $(DESTDIR)$(PREFIX)/share/man/man1/coz-join.1
-	install -D -m 644 docs/coz-hot.1 $(DESTDIR)$(PREFIX)/share/man/man1/coz-hot.1
-	install -D -m 644 docs/coz-functions.1 $(DESTDIR)$(PREFIX)/share/man/man1/coz-functions.1
-	install -D -m 644 docs/coz-study.1 $(DESTDIR)$(PREFIX)/share/man/man1/coz-study.1
+	for name in $(PROGRAMS) coz-study; do install -D -m 644 docs/$$name.1 $(DESTDIR)$(PREFIX)/share/man/man1/$$name.1 || exit 1; done
 
 uninstall:
-	rm -f $(DESTDIR)$(PREFIX)/bin/coz $(DESTDIR)$(PREFIX)/share/man/man1/coz.1
-	rm -f $(DESTDIR)$(PREFIX)/bin/coz-page $(DESTDIR)$(PREFIX)/share/man/man1/coz-page.1
-	rm -f $(DESTDIR)$(PREFIX)/bin/coz-join $(DESTDIR)$(PREFIX)/share/man/man1/coz-join.1
-	rm -f $(DESTDIR)$(PREFIX)/bin/coz-hot $(DESTDIR)$(PREFIX)/share/man/man1/coz-hot.1
-	rm -f $(DESTDIR)$(PREFIX)/bin/coz-functions $(DESTDIR)$(PREFIX)/share/man/man1/coz-functions.1
-	rm -f $(DESTDIR)$(PREFIX)/bin/coz-study $(DESTDIR)$(PREFIX)/share/man/man1/coz-study.1
+	for name in $(PROGRAMS) coz-study; do rm -f $(DESTDIR)$(PREFIX)/bin/$$name $(DESTDIR)$(PREFIX)/share/man/man1/$$name.1; done
 	rm -f $(patsubst guests/%,$(DESTDIR)$(PREFIX)/bin/%,$(wildcard guests/coz-*))
 	rm -f $(DESTDIR)$(PREFIX)/bin/to-coz $(DESTDIR)$(PREFIX)/bin/coz-shard
 	rm -f $(addprefix $(DESTDIR)$(PREFIX)/share/,$(SHELLS))

@@ -1,4 +1,7 @@
-"""What the scripts beside this file share: the programs, crates.txt, and the toolchain's folder."""
+"""What the scripts beside this file share: the programs, crates.txt, and the toolchain's folder.
+
+Run by itself it prints the names of the programs, which is where the Makefile has them from.
+"""
 import os
 import subprocess
 
@@ -11,6 +14,27 @@ PROGRAMS = {
     "coz-hot": "coz_hot",
     "coz-functions": "coz_functions",
 }
+
+
+PARTS = ("src", "specs", "proofs")
+
+
+def stored_words(program):
+    """Returns the arguments of the stored run of a program, with its files as they are called from its crate's folder."""
+    with open(f"{TOP}/crates/{PROGRAMS[program]}/args", encoding="utf-8") as lines:
+        words = lines.read().split("\n")[:-1]
+    return [f"data/{it}" if os.path.isfile(f"{TOP}/crates/{PROGRAMS[program]}/data/{it}") else it for it in words]
+
+
+def is_newer(file, crates, folder):
+    """Whether a file is newer than each source of the crates, each folder of sources, and the toolchain."""
+    try:
+        made = os.stat(file).st_mtime
+    except OSError:
+        return False
+    parts = [f"{TOP}/crates/{crate}/{part}" for crate in crates for part in PARTS]
+    found = [f"{at}/{name}" for part in parts for at, _, names in os.walk(part) for name in [".", *names]]
+    return all(os.stat(it).st_mtime < made for it in [*found, f"{TOP}/crates.txt", f"{folder}/KIT-ID"])
 
 
 def kit():
@@ -45,3 +69,7 @@ def programs_of(reader, words):
         if name not in PROGRAMS:
             reader.error(f"{name} is no program: the programs are {', '.join(PROGRAMS)}")
     return [it for it in PROGRAMS if it in words.programs or not words.programs]
+
+
+if __name__ == "__main__":
+    print(*PROGRAMS)
