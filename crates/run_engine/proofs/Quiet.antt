@@ -19,7 +19,7 @@ use Rattle.guest_calls.specs.Calls.{retirement}
 use Rattle.guest_calls.specs.Guest.{Guest, no_hart, hart_at, pc_of, is_running, is_timed, is_running_status}
 use Rattle.guest_calls.specs.Retire.{next_of, step_result, step, retirement_after, retire}
 use Rattle.guest_calls.specs.Orderly.{IsOrderly}
-use Rattle.guest_calls.specs.Quiet.{after_steps, moment_after, IsQuietStep}
+use Rattle.guest_calls.specs.Quiet.{after_steps, moment_after, IsQuietStep, GoesOnAt}
 use Rattle.guest_calls.specs.Quiet as quiet
 use Rattle.guest_calls.proofs.Steps.{step-guest, retire-after}
 use Rattle.guest_calls.proofs.Started.{running_low}
@@ -33,7 +33,7 @@ use Rattle.run_engine.specs.Engine.{AreWithin, IsSteady}
 use Rattle.run_engine.specs.Ending.{ending_of, runs_after}
 use Rattle.run_engine.specs.Advance.{told_in, IsRetired, IsCompleted}
 use Rattle.run_engine.specs.Marked.{AreMarks}
-use Rattle.run_engine.specs.Far.{IsQuiet, AreQuiet, IsFarRetired, IsLimit, AllowsQuiet}
+use Rattle.run_engine.specs.Far.{IsQuiet, AreQuiet, IsFarRetired, HasPassed, IsLimit, AllowsQuiet}
 use Rattle.run_engine.proofs.Keys.{has_place, over_key_at, without_key_at}
 use Rattle.run_engine.proofs.Many.{many_with}
 use Rattle.run_engine.proofs.Begin.{woken_begun}
@@ -63,14 +63,20 @@ pub record CanGoOn (setting : Setting) (engine : Engine) (h due : ℕ) : Type 0 
   pub visits : nat_le setting.choice.visit_limit (length engine.visits.kept) ≡ false
   pub budget : engine.retired + 1 < setting.choice.budget
   pub goes : (step engine.guest h).step ≡ Next
-  -- its next instruction has not the selected line, and no other hart comes before it
+  -- its next instruction has not the selected line
   pub plain : is_selecting setting (pc_of (step engine.guest h).guest h) ≡ false
-  pub before : (other key : ℕ) → key_of (without_key h engine.schedule) other ≡ Some key
-      → let next : ℕ = due + 100 * cycles_of (next_of (step engine.guest h).guest h) in (next < key) ⊎ ((next ≡ key) × (h ≤ other))
   pub soon : due + 100 * cycles_of (next_of (step engine.guest h).guest h) ≤ last_moment
 
 still_below : (budget n : ℕ) → n < budget → nat_le budget n ≡ false
 still_below budget n below = grind (arith, nat_tests)
+
+-- a step after which the hart goes on is a retirement that does nothing else
+pub goes_retires : (g : Guest) (h v : ℕ) → (step g h).step ≡ Next → retirement (step g h).guest Goes [] ≡ retire g h v
+goes_retires g h v goes = ap (λ (next : Step). retirement_after h v (step_result (step g h).guest next)) (sym goes) ∙ retire-after g (step g h).guest h v (step g h).step refl
+
+-- no point is there to be visited
+pub none_visited : (kept : Visits) (o : Option ℕ) (h time delay : ℕ) → o ≡ None → kept ≡ record kept { kept = kept.kept ++ visits_of o h time delay }
+none_visited kept o h time delay none = rw none (ap (λ visits. record kept { kept = visits }) (sym (append-nil kept.kept)))
 
 module _ (setting : Setting) (engine : Engine) (h due : ℕ) (can : CanGoOn setting engine h due) where
   abbrev pub after : Guest
@@ -89,7 +95,7 @@ module _ (setting : Setting) (engine : Engine) (h due : ℕ) (can : CanGoOn sett
   gone_on = engine_of due after keys [] [] engine.visits (engine.retired + 1) engine.wakes engine.starts None
 
   retires : retirement after Goes [] ≡ retire engine.guest h due
-  retires = ap (λ (next : Step). retirement_after h due (step_result after next)) (sym can.goes) ∙ retire-after engine.guest after h due (step engine.guest h).step refl
+  retires = goes_retires engine.guest h due can.goes
 
   below : h < length engine.schedule
   below = has_place engine.schedule h due can.turn
@@ -101,7 +107,7 @@ module _ (setting : Setting) (engine : Engine) (h due : ℕ) (can : CanGoOn sett
   none_here = without_key_at engine.schedule h h ∙ rw (eq-eqb h h refl) refl
 
   none_kept : (delay : ℕ) → engine.visits ≡ record engine.visits { kept = engine.visits.kept ++ visits_of (point_of setting.points.now (pc_of engine.guest h)) h (due + delay) delay }
-  none_kept delay = rw can.point (ap (λ kept. record engine.visits { kept = kept }) (sym (append-nil engine.visits.kept)))
+  none_kept delay = none_visited engine.visits (point_of setting.points.now (pc_of engine.guest h)) h (due + delay) delay can.point
 
   no_ending : None ≡ ending_of Goes (nat_le setting.choice.output_limit (length after.output)) (nat_le setting.choice.visit_limit (length engine.visits.kept)) true (engine.retired + 1) setting.choice.budget
   no_ending = rw (step_output engine.guest h, can.output, can.visits, still_below setting.choice.budget (engine.retired + 1) can.budget) refl
@@ -150,15 +156,17 @@ module _ (setting : Setting) (engine : Engine) (h due : ℕ) (can : CanGoOn sett
   other_key : (k key : ℕ) → (k ≡ h → ⊥) → key_of keys k ≡ Some key → key_of rest k ≡ Some key
   other_key k key n has = without_key_at engine.schedule h k ∙ rw (ne_eqb k h n) (sym (rw (ne_eqb k h n) at (key_at k)) ∙ has)
 
-  least_by : (k key : ℕ) → key_of keys k ≡ Some key → (k ≡ h) ⊎ (k ≡ h → ⊥) → (next < key) ⊎ ((next ≡ key) × (h ≤ k))
-  least_by k key has (inl same) =
-      let is : Some next ≡ Some key = sym next_turn ∙ ap (key_of keys) (sym same) ∙ has in
-      let eq : next ≡ key = cc in
-      inr (eq, omega (arith, same))
-  least_by k key has (inr n) = can.before k key (other_key k key n has)
+  -- where no other hart comes before its next instruction
+  module _ (before : (other key : ℕ) → key_of rest other ≡ Some key → (next < key) ⊎ ((next ≡ key) × (h ≤ other))) where
+    least_by : (k key : ℕ) → key_of keys k ≡ Some key → (k ≡ h) ⊎ (k ≡ h → ⊥) → (next < key) ⊎ ((next ≡ key) × (h ≤ k))
+    least_by k key has (inl same) =
+        let is : Some next ≡ Some key = sym next_turn ∙ ap (key_of keys) (sym same) ∙ has in
+        let eq : next ≡ key = cc in
+        inr (eq, omega (arith, same))
+    least_by k key has (inr n) = before k key (other_key k key n has)
 
-  pub next_first : IsLeast keys h
-  next_first = record { key = next; has = next_turn; least = λ k key has. least_by k key has (cases_eq k h) }
+    pub next_first : IsLeast keys h
+    next_first = record { key = next; has = next_turn; least = λ k key has. least_by k key has (cases_eq k h) }
 
   timed_by : (k : ℕ) → (k ≡ h) ⊎ (k ≡ h → ⊥) → is_timed after k ≡ is_some (key_of keys k)
   timed_by k (inl same) = rw (key_at k, eq-eqb k h same) (subst (λ (r : Retirement Guest). is_timed r.guest k ≡ true) (sym retires) (subst (λ (r : Retirement Guest). is_timed (retire engine.guest h due).guest k ≡ true) retires (law.running engine.guest h due can.steady.orderly can.running (ap (λ (r : Retirement Guest). is_some (own_ending r.fate)) (sym retires)) k ∙ (rw (← retires, eq-eqb k h same) refl))))
@@ -217,6 +225,11 @@ completed_alike setting time g keys keys' others chosen kept retired wakes start
       };
 }
 
+alike : {time time' : ℕ} {g g' : Guest} {keys keys' : Keys} {others others' chosen chosen' : List ℕ} {kept kept' : Visits} {retired retired' wakes wakes' starts starts' : ℕ} {e e' : Option Ending}
+    → time ≡ time' → g ≡ g' → keys ≡ keys' → others ≡ others' → chosen ≡ chosen' → kept ≡ kept' → retired ≡ retired' → wakes ≡ wakes' → starts ≡ starts' → e ≡ e'
+    → engine_of time g keys others chosen kept retired wakes starts e ≡ engine_of time' g' keys' others' chosen' kept' retired' wakes' starts' e'
+alike a b c d f k l m n o = cc
+
 -- the engine after some quiet retirements of a hart, the first of which was due at a net moment
 pub record IsFurther (setting : Setting) (engine : Engine) (h net i : ℕ) : Type 0 where
   pub now : Engine
@@ -252,44 +265,56 @@ module _ (setting : Setting) (engine : Engine) (marks : MarkMap) (h net limit mo
   moment i = moment_after i engine.guest h net
 
   -- no point is where a quiet retirement is
-  point_at : (i : ℕ) → i < n → point_of setting.points.now (pc_of (after_steps i engine.guest h) h) ≡ None
-  point_at zero below = (s.allows (omega (arith, below, s.few))).point
-  point_at (suc i) below = (plain_where setting marks (pc_of (after_steps (suc i) engine.guest h) h) s.right (s.steps i (omega (arith, below))).unmarked).point
+  point_at : (i : ℕ) → i ≤ n → 1 < most → point_of setting.points.now (pc_of (after_steps i engine.guest h) h) ≡ None
+  point_at zero below some = (s.allows some).point
+  point_at (suc i) below some = (plain_where setting marks (pc_of (after_steps (suc i) engine.guest h) h) s.right (s.steps i (omega (arith, below))).unmarked).point
 
-  can_go_on : (i : ℕ) → i < n → (b : IsFurther setting engine h net i) → CanGoOn setting b.now h (moment i)
-  can_go_on i below b =
-      let allows : AllowsQuiet setting engine (pc_of engine.guest h) most = s.allows (omega (arith, below, s.few)) in
-      let q : IsQuietStep marks limit (after_steps i engine.guest h) h (moment i) = s.steps i below in
+  -- a hart that has gone on so far goes on from there
+  can_go_on : (i : ℕ) → i ≤ n → i + 1 < most → (b : IsFurther setting engine h net i) → (step (after_steps i engine.guest h) h).step ≡ Next
+      → is_quiet_at marks (pc_of (step (after_steps i engine.guest h) h).guest h) ≡ true → moment i + quiet.ticks_of (step (after_steps i engine.guest h) h).guest h ≤ last_moment → CanGoOn setting b.now h (moment i)
+  can_go_on i below more b goes unmarked soon =
+      let some : 1 < most = omega (arith, more) in
+      let allows : AllowsQuiet setting engine (pc_of engine.guest h) most = s.allows some in
       record {
         choice = s.choice;
         steady = b.steady;
         turn = b.turn;
         first = b.first;
         running = b.running;
-        point = ap (λ (g : Guest). point_of setting.points.now (pc_of g h)) b.guest ∙ point_at i below;
+        point = ap (λ (g : Guest). point_of setting.points.now (pc_of g h)) b.guest ∙ point_at i below some;
         output = ap (λ bytes. nat_le setting.choice.output_limit (length bytes)) b.output ∙ allows.output;
         visits = ap (λ (v : Visits). nat_le setting.choice.visit_limit (length v.kept)) b.visits ∙ allows.visits;
-        budget = omega (arith, b.retired, below, s.few, allows.budget);
-        goes = ap (λ (g : Guest). (step g h).step) b.guest ∙ q.goes;
-        plain = ap (λ (g : Guest). is_selecting setting (pc_of (step g h).guest h)) b.guest ∙ (plain_where setting marks (pc_of (step (after_steps i engine.guest h) h).guest h) s.right q.unmarked).line;
-        before = λ other key has.
-            subst (λ (g : Guest). let next : ℕ = moment i + 100 * cycles_of (next_of (step g h).guest h) in (next < key) ⊎ ((next ≡ key) × (h ≤ other))) (sym b.guest)
-            (s.limited other key (moment i + quiet.ticks_of (step (after_steps i engine.guest h) h).guest h) (ap (λ (keys : Keys). key_of keys other) (sym b.rest) ∙ has) q.due);
-        soon =
-            subst (λ (g : Guest). moment i + 100 * cycles_of (next_of (step g h).guest h) ≤ last_moment) (sym b.guest)
-            (let due : moment i + quiet.ticks_of (step (after_steps i engine.guest h) h).guest h < limit = q.due in omega (arith, due, s.soon));
+        budget = omega (arith, b.retired, more, allows.budget);
+        goes = ap (λ (g : Guest). (step g h).step) b.guest ∙ goes;
+        plain = ap (λ (g : Guest). is_selecting setting (pc_of (step g h).guest h)) b.guest ∙ (plain_where setting marks (pc_of (step (after_steps i engine.guest h) h).guest h) s.right unmarked).line;
+        soon = subst (λ (g : Guest). moment i + 100 * cycles_of (next_of (step g h).guest h) ≤ last_moment) (sym b.guest) soon;
       }
+
+  soon_at : (i : ℕ) → i < n → moment i + quiet.ticks_of (step (after_steps i engine.guest h) h).guest h ≤ last_moment
+  soon_at i below = let due : moment i + quiet.ticks_of (step (after_steps i engine.guest h) h).guest h < limit = (s.steps i below).due in omega (arith, due, s.soon)
+
+  can_at : (i : ℕ) → i < n → (b : IsFurther setting engine h net i) → CanGoOn setting b.now h (moment i)
+  can_at i below b =
+      let q : IsQuietStep marks limit (after_steps i engine.guest h) h (moment i) = s.steps i below in
+      can_go_on i (omega (arith, below)) (omega (arith, below, s.few)) b q.goes q.unmarked (soon_at i below)
+
+  before_at : (i : ℕ) → i < n → (b : IsFurther setting engine h net i) → (other key : ℕ) → key_of (without_key h b.now.schedule) other ≡ Some key
+      → let next : ℕ = moment i + 100 * cycles_of (next_of (step b.now.guest h).guest h) in (next < key) ⊎ ((next ≡ key) × (h ≤ other))
+  before_at i below b other key has =
+      let q : IsQuietStep marks limit (after_steps i engine.guest h) h (moment i) = s.steps i below in
+      subst (λ (g : Guest). let next : ℕ = moment i + 100 * cycles_of (next_of (step g h).guest h) in (next < key) ⊎ ((next ≡ key) × (h ≤ other))) (sym b.guest)
+      (s.limited other key (moment i + quiet.ticks_of (step (after_steps i engine.guest h) h).guest h) (ap (λ (keys : Keys). key_of keys other) (sym b.rest) ∙ has) q.due)
 
   one_further : (i : ℕ) → i < n → IsFurther setting engine h net i → IsFurther setting engine h net (suc i)
   one_further i below b =
-      let can : CanGoOn setting b.now h (moment i) = can_go_on i below b in
+      let can : CanGoOn setting b.now h (moment i) = can_at i below b in
       record {
         now = gone_on setting b.now h (moment i) can;
         quiet = (b.now, b.quiet, quiet_one setting b.now h (moment i) can);
         steady = still_steady setting b.now h (moment i) can;
         guest = ap (λ (g : Guest). (step g h).guest) b.guest;
         turn = next_turn setting b.now h (moment i) can ∙ ap (λ (g : Guest). Some (moment i + 100 * cycles_of (next_of (step g h).guest h))) b.guest;
-        first = next_first setting b.now h (moment i) can;
+        first = next_first setting b.now h (moment i) can (before_at i below b);
         running = still_running setting b.now h (moment i) can;
         rest = set-set (without_key h b.now.schedule) h _ None ∙ set-set b.now.schedule h None None ∙ b.rest;
         visits = b.visits;
@@ -322,6 +347,39 @@ module _ (setting : Setting) (engine : Engine) (marks : MarkMap) (h net limit mo
 
   pub last_few : moment n ≤ last_moment
   last_few = last.steady.within h (moment n) last.turn
+
+  -- the last retirement is quiet too, but another hart may be due before the next
+  module _ (later : ℕ) (more : n + 1 < most) (q : GoesOnAt marks (after_steps n engine.guest h) h (moment n) later) (soon : later ≤ last_moment) where
+    can_last : CanGoOn setting last.now h (moment n)
+    can_last = can_go_on n (omega arith) more last q.goes q.unmarked (omega (arith, q.next, soon))
+
+    pub passed : (after : Guest) (others chosen : List ℕ) (time count : ℕ) → after ≡ (step (after_steps n engine.guest h) h).guest → others ≡ [] → chosen ≡ [] → time ≡ moment n → count ≡ engine.retired + (n + 1)
+        → HasPassed setting engine (engine_of time after (with_key h later (without_key h engine.schedule)) others chosen engine.visits count engine.wakes engine.starts engine.ending)
+    passed after others chosen time count guest none empty at counted =
+        let allows : AllowsQuiet setting engine (pc_of engine.guest h) most = s.allows (omega (arith, more)) in
+        let here : after ≡ (step last.now.guest h).guest = guest ∙ ap (λ (g : Guest). (step g h).guest) (sym last.guest) in
+        let next : later ≡ moment n + 100 * cycles_of (next_of (step last.now.guest h).guest h) =
+        q.next ∙ ap (λ (g : Guest). moment n + 100 * cycles_of (next_of (step g h).guest h)) (sym last.guest) in
+        let keys : with_key h later (without_key h engine.schedule) ≡ with_key h (moment n + 100 * cycles_of (next_of (step last.now.guest h).guest h)) (without_key h last.now.schedule) =
+        ap₂ (λ (k : ℕ) (rest : Keys). with_key h k rest) next (sym last.rest) in
+        let retired : count ≡ last.now.retired + 1 = omega (arith, counted, last.retired) in
+        let is : gone_on setting last.now h (moment n) can_last ≡ engine_of time after (with_key h later (without_key h engine.schedule)) others chosen engine.visits count engine.wakes engine.starts engine.ending =
+        alike (sym at) (sym here) (sym keys) (sym none) (sym empty) last.visits (sym retired) last.wakes last.starts (sym s.steady.goes) in
+        subst (λ (new : Engine). HasPassed setting engine new) is (record {
+          count = suc n;
+          quiet = (last.now, last.quiet, quiet_one setting last.now h (moment n) can_last);
+          steady = still_steady setting last.now h (moment n) can_last;
+          more = omega (arith, last.retired);
+          few = omega (arith, last.retired, more, allows.budget);
+        })
+
+  pub stretch_passed : (later : ℕ) (after : Guest) (fate : Fate) (others chosen : List ℕ) (time count : ℕ) → time ≡ moment n → count ≡ engine.retired + (n + 1) → chosen ≡ [] → retirement after fate others ≡ retire (after_steps n engine.guest h) h (moment n)
+      → (n + 1 < most) × GoesOnAt marks (after_steps n engine.guest h) h time later → later ≤ last_moment
+      → HasPassed setting engine (engine_of time after (with_key h later (without_key h engine.schedule)) others chosen engine.visits count engine.wakes engine.starts engine.ending)
+  stretch_passed later after fate others chosen time count at counted empty retires on soon =
+      let q : GoesOnAt marks (after_steps n engine.guest h) h (moment n) later = subst (λ (t : ℕ). GoesOnAt marks (after_steps n engine.guest h) h t later) at on.1 in
+      let is : retirement after fate others ≡ retirement (step (after_steps n engine.guest h) h).guest Goes [] = retires ∙ sym (goes_retires (after_steps n engine.guest h) h (moment n) q.goes) in
+      passed later on.0 q soon after others chosen time count (ap (λ (r : Retirement Guest). r.guest) is) (ap (λ (r : Retirement Guest). r.others) is) empty at counted
 
   -- the visit of the first instruction, if there is one, is that of the last
   module _ (delay : ℕ) (kept : Visits) (keeps : kept ≡ record engine.visits { kept = engine.visits.kept ++ visits_of (point_of setting.points.now (pc_of engine.guest h)) h (net + delay) delay }) where

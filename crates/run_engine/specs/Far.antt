@@ -7,6 +7,7 @@ use Rattle.progress_points.specs.Points.{point_of}
 use Rattle.run_engine.specs.declared.choice.Setting.{Setting}
 use Rattle.run_engine.specs.declared.engine.Event.{Event}
 use Rattle.run_engine.specs.declared.engine.Engine.{Engine}
+use Rattle.run_engine.specs.Engine.{IsSteady}
 use Rattle.run_engine.specs.Advance.{IsRetired, IsAdvance}
 
 -- in a setting this engine becomes that one as a hart retires quietly: it goes on, it alone
@@ -52,3 +53,11 @@ pub record AllowsQuiet (setting : Setting) (engine : Engine) (address most : ℕ
   pub output : nat_le setting.choice.output_limit (length engine.guest.output) ≡ false
   pub visits : nat_le setting.choice.visit_limit (length engine.visits.kept) ≡ false
   pub budget : engine.retired + most ≤ setting.choice.budget
+
+-- one quiet retirement or more, and the run goes on
+pub record HasPassed (setting : Setting) (engine new : Engine) : Type 0 where
+  pub count : ℕ
+  pub quiet : AreQuiet setting count engine new
+  pub steady : IsSteady new
+  pub more : engine.retired < new.retired
+  pub few : new.retired ≤ setting.choice.budget

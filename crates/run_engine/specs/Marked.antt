@@ -5,7 +5,7 @@ use Rattle.code_words.specs.declared.marks.Mark.{Mark}
 use Rattle.code_words.specs.Marks.{MarkMap, mark_at, is_selected_line}
 use Rattle.progress_points.specs.Points.{point_of}
 use Rattle.run_engine.specs.declared.choice.Setting.{Setting}
-use Rattle.run_engine.specs.declared.marked.TheConstants.{MAX_WORDS}
+use Rattle.code_words.specs.declared.span.TheConstants.{MAX_WORDS}
 use Rattle.run_engine.specs.Run.{is_selecting}
 
 -- an address of this mark has a point only if the mark says so, and the selected line likewise

@@ -1,5 +1,5 @@
 //! The engine that both machines use, and its events.
-ghost use Rattle.std.specs.Prelude.{◌≡◌, ℕ, map, true, ◌+◌, ◌^◌, ◌≤◌, ◌<◌, ◌++◌, [], ◌∷◌, Some, length, nat_le, is_some, IfOk, All, if◌then◌else◌, IsTrue};
+ghost use Rattle.std.specs.Prelude.{◌≡◌, ℕ, map, true, ◌+◌, ◌^◌, ◌≤◌, ◌<◌, ◌++◌, [], ◌∷◌, Some, length, nat_le, is_some, IfOk, All, if◌then◌else◌, IsTrue, MatchOption};
 ghost use Rattle.coz_types.specs.declared.TheConstants.{MAX_BUDGET, MAX_SPEEDUP, MAX_OUTPUT, MAX_VISITS};
 ghost use Rattle.hart_schedule.specs.Keys.{key_of, without_key, IsEmpty, IsLeast};
 ghost use Rattle.machines.specs.Delayed.{is_any};
@@ -63,9 +63,6 @@ pub struct Engine<'a> {
     /// The ending of the run; None while it goes on.
     pub ending: Option<Ending>,
 }
-
-/// The least ticks of an instruction that the speedup does not shorten: those of one cycle.
-const MIN_TICKS: Tick = 100;
 
 /// A hart that has retired an instruction, and its fate.
 #[derive(Clone, Copy)]
@@ -242,7 +239,7 @@ impl<'a> Engine<'a> {
     ghost use Rattle.run_engine.specs.Run.{selected_of, ticks_in, IsChoice};
     ghost use Rattle.run_engine.specs.Engine.{IsSteady, IsFirst};
     ghost use Rattle.run_engine.specs.Advance.{CanComplete, IsAdvance, IsRetired, IsCompleted, IsWoken};
-    ghost use Rattle.run_engine.specs.Far.{IsFarAdvance, IsFarRetired, AllowsQuiet};
+    ghost use Rattle.run_engine.specs.Far.{IsFarAdvance, IsFarRetired, HasPassed, AllowsQuiet};
 
     /// A run that is about to begin.
     pub fn new(
@@ -304,43 +301,48 @@ impl<'a> Engine<'a> {
         requires delay { delay ≤ 10 ^ 17 }
         ensures { IsFarAdvance marked.now self.old result delay self.new }
     {
-        let turn = first_turn(&self.schedule);
-        if self.guest.is_sleeping(turn.hart) {
-            self.wake(marked.setting(), turn);
-            Event::Woke(turn)
-        } else if limit_of(&self.schedule, turn.hart) <= turn.due + MIN_TICKS {
-            // Another hart has its turn before the next instruction of this one could be due.
-            Event::Retired(self.retire(marked.setting(), turn, delay))
-        } else {
-            Event::Retired(self.retire_far(marked, turn, delay))
+        loop {
+            let turn = first_turn(&self.schedule);
+            if self.guest.is_sleeping(turn.hart) {
+                self.wake(marked.setting(), turn);
+                return Event::Woke(turn);
+            }
+            let most = self.most_from(marked, self.guest.pc(turn.hart));
+            if most < 2 {
+                return Event::Retired(self.retire(marked.setting(), turn, delay));
+            }
+            if let Some(retired) = self.pass(marked, turn, most, delay) {
+                return Event::Retired(retired);
+            }
         }
     }
 
-    /// Retires instructions of a running hart whose turn it is, up to the first that isn't quiet
-    /// or after which another hart has its turn, and completes that one as `retire` does.
+    /// Retires instructions of a running hart whose turn it is, fewer than `most` of them quietly.
+    /// None if each was quiet: then another hart has its turn, or this one again. Otherwise the
+    /// last of them is completed as `retire` does.
     #[inline(always)]
-    fn retire_far(&mut self, marked: &MarkedSetting, turn: Turn, delay: Tick) -> Retired
+    fn pass(
+        &mut self,
+        marked: &MarkedSetting,
+        turn: Turn,
+        most: u64,
+        delay: Tick,
+    ) -> Option<Retired>
         requires steady { IsSteady self.old }
         requires choice { IsChoice marked.now.choice }
         requires delay { delay ≤ 10 ^ 17 }
         requires turn { key_of self.old.schedule turn.hart.0 ≡ Some turn.due }
         requires first { IsLeast self.old.schedule turn.hart.0 }
         requires running { is_running self.old.guest turn.hart.0 ≡ true }
-        ensures retired { IsFarRetired marked.now self.old turn.hart.0 result.fate delay self.new }
-        ensures hart { result.hart.0 ≡ turn.hart.0 }
+        requires some { 1 < most }
+        requires few { most ≤ MAX_BUDGET }
+        requires allows { AllowsQuiet marked.now self.old
+            (pc_of self.old.guest turn.hart.0) most }
+        ensures { MatchOption result (HasPassed marked.now self.old self.new)
+            (λ retired. (retired.hart.0 ≡ turn.hart.0)
+            × IsFarRetired marked.now self.old turn.hart.0 retired.fate delay self.new) }
     {
-        let setting = marked.setting();
-        let address = self.guest.pc(turn.hart);
-        let most = self.most_from(marked, address);
         let limit = limit_of(&self.schedule, turn.hart);
-        keep_visit(
-            setting,
-            &mut self.visits,
-            address,
-            turn.hart,
-            turn.due + delay,
-            delay,
-        );
         self.started.clear();
         self.selected.clear();
         let stretch = self.guest.retire_far(
@@ -353,11 +355,17 @@ impl<'a> Engine<'a> {
         );
         self.time = stretch.net;
         self.retired += stretch.quiet + 1;
-        self.complete(setting, turn.hart, stretch.fate);
-        Retired {
+        if let Some(next) = stretch.next {
+            if next < LATEST {
+                self.schedule.rekey_first(turn.hart, next);
+                return None;
+            }
+        }
+        self.complete(marked.setting(), turn.hart, stretch.fate);
+        Some(Retired {
             hart: turn.hart,
             fate: stretch.fate,
-        }
+        })
     }
 
     /// The most instructions to retire in a row from this address on: one if it may have a point

@@ -12,5 +12,5 @@ mod visits;
 
 pub use choice::{Choice, MAX_RUN_OUTPUT, Setting};
 pub use engine::{Engine, Event, FIRST, Retired, Turn, has_any, is_wake};
-pub use marked::{MAX_WORDS, MarkedSetting};
+pub use marked::MarkedSetting;
 pub use visits::Visits;

@@ -3,43 +3,13 @@ ghost use Rattle.std.specs.Prelude.{◌≡◌, ◌≤◌, ◌+◌, false, length
 ghost use Rattle.coz_types.specs.declared.TheConstants.{LOAD_END};
 ghost use Rattle.progress_points.specs.Points.{point_of};
 ghost use Rattle.run_engine.specs.Marked.{IsMarked, AreMarks};
-ghost use Rattle.run_engine.specs.declared.marked.TheConstants.{MAX_WORDS};
+ghost use Rattle.code_words.specs.declared.span.TheConstants.{MAX_WORDS};
 
 use crate::{Choice, Setting};
-use code_words::{Mark, MarkedLine, Marks};
-use coz_types::{Address, Area, Image, LOAD_END, LineId};
+use code_words::{Mark, MarkedLine, Marks, code_span};
+use coz_types::{Address, Image, LineId};
 use std::alloc::{AllocError, Global};
 use std::marker::Model;
-
-/// The most words of code that are marked.
-pub const MAX_WORDS: usize = 0x10_0000;
-
-/// Where the first word of code is, and how many there are.
-#[derive(Clone, Copy)]
-struct Span {
-    start: Address,
-    count: usize,
-}
-
-/// Whether an area holds the code that a program begins with.
-fn is_entered(area: &Area, entry: Address) -> bool {
-    area.rights.execute && area.start <= entry && entry - area.start < area.size
-}
-
-/// The words of the area that a program begins in.
-fn code_span(image: &Image) -> Span
-    ensures low { result.start ≤ LOAD_END }
-    ensures few { result.count ≤ MAX_WORDS }
-{
-    let entry = image.entry();
-    match image.areas().iter().find(|area| is_entered(area, entry)) {
-        Some(area) if area.start <= LOAD_END => Span {
-            start: area.start,
-            count: (area.size / 4).min(MAX_WORDS as u64) as usize,
-        },
-        _ => Span { start: 0, count: 0 },
-    }
-}
 
 /// The mark of an address: whether it has the selected line and whether it has a point. Of other
 /// words it isn't asked which line they have.
