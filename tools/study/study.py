@@ -79,6 +79,8 @@ def first_run(study):
         say(f"  point {label}{f' ({names[0]})' if names else ''}: {several(run.visits[number], 'visit')}")
         if not run.visits[number]:
             problems.append(f"the point {label} is never visited, so no line can gain anything at it: choose another line")
+        if run.visits[number] == 1:
+            say("    One visit: its values are what the whole run gains. A line that is visited once for each unit of work says more.")
     judge(study, problems)
     return seconds
 
