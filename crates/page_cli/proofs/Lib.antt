@@ -3,6 +3,7 @@ mod Choices
 mod Harms
 pub mod Judged
 mod Newlines
+mod OneLine
 pub mod Pages
 pub mod Ranking
 pub mod Reading

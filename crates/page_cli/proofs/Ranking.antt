@@ -1,5 +1,5 @@
 -- The verdict of a profile's text, by what reading it gave.
-use Rattle.std.proofs.Common.{◌≡◌, ℕ, List, length, Option, None, sym, ap, ap₂, ◌∙◌}
+use Rattle.std.proofs.Common.{◌≡◌, ℕ, List, length, Option, None, sym, ap, ◌∙◌}
 use Rattle.profile_reader.specs.Grammar.{book_fault}
 use Rattle.profile_book.specs.Profile.{IsTextOf}
 use Rattle.profile_reader.specs.Parsed.{parsed_profile}
@@ -19,13 +19,14 @@ module _ (asked : Request) (bytes : List ℕ) (p : Profile) (is : IsTextOf p byt
   curves_told ranked curves ranks chosen =
       chosen ∙ ap (chosen_curves asked.file) ranks ∙ ap (page_curves asked.file) (sym (told_is bytes p is))
 
-  pub ranked_page : (answers : Answers) (all : ℕ) (ranked again curves harmful : List Curve) → all ≡ length ranked → book_fault bytes ≡ None → ranked ≡ ranked_curves (curves_of p) → again ≡ ranked_curves (curves_of p)
-      → curves ≡ chosen_curves asked.file ranked → harmful ≡ harmful_curves (chosen_curves asked.file again)
+  pub ranked_page : (answers : Answers) (all : ℕ) (ranked curves harmful : List Curve) → all ≡ length ranked → book_fault bytes ≡ None → ranked ≡ ranked_curves (curves_of p)
+      → curves ≡ chosen_curves asked.file ranked → harmful ≡ harmful_curves curves
       → text_verdict (curves_page (view_for asked answers) asked.file all p curves harmful) ≡ profile_verdict asked answers bytes
   unfolding page_text
-  ranked_page answers all ranked again curves harmful as_many none ranks same chosen harms =
+  ranked_page answers all ranked curves harmful as_many none ranks chosen harms =
       ap (λ (n : ℕ). text_verdict (curves_page (view_for asked answers) asked.file n p curves harmful)) as_many
-      ∙ ap₂ (λ (cs hs : List Curve). text_verdict (curves_page (view_for asked answers) asked.file (length ranked) p cs hs)) (chosen ∙ ap (chosen_curves asked.file) ranks) (harms ∙ ap (λ (cs : List Curve). harmful_curves (chosen_curves asked.file cs)) same)
+      ∙ ap (λ (hs : List Curve). text_verdict (curves_page (view_for asked answers) asked.file (length ranked) p curves hs)) harms
+      ∙ ap (λ (cs : List Curve). text_verdict (curves_page (view_for asked answers) asked.file (length ranked) p cs (harmful_curves cs))) (chosen ∙ ap (chosen_curves asked.file) ranks)
       ∙ ap (λ (cs : List Curve). text_verdict (curves_page (view_for asked answers) asked.file (length cs) p (page_curves asked.file p) (harmful_curves (page_curves asked.file p)))) ranks
       ∙ ap (λ (q : Profile). text_verdict (page_text asked answers q)) (sym (told_is bytes p is))
       ∙ ap (λ (o : Option BookFault). book_verdict asked answers o (parsed_profile bytes)) (sym none)

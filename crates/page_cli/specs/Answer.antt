@@ -44,6 +44,12 @@ verdict_after step next = step_verdict fault_verdict step next
 abbrev pub Answer : Type 0
 Answer = Result Ranked Fault
 
+-- the page with these source files
+abbrev pub page_with : Answers → Ranked → Text
+page_with answers r =
+    curves_page (record { most = (asked_of r.asked).top; answers = answers })
+    (asked_of r.asked).file r.all r.profile r.curves r.harmful
+
 -- the page, if this is what the source files are
 abbrev pub ranked_page : Answers → Ranked → Text
 ranked_page answers r =

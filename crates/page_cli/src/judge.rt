@@ -59,10 +59,10 @@ fn rank<'w>(alloc: Global, asked: Asked<'w>, bytes: &[u8]) -> Answer<'w>
         ranked.curves ≡ page_curves (asked_of asked.entry).file (parsed_profile bytes.now)) }
 {
     let profile = read_profile(alloc, bytes)?;
-    let harmful = harmful(chosen(asked.file, curves(alloc, &profile)?))?;
     let ranked = curves(alloc, &profile)?;
     let all = ranked.len() as u64;
     let curves = chosen(asked.file, ranked);
+    let harmful = harmful(alloc, curves.as_slice())?;
     Ok(Ranked {
         asked,
         profile,

@@ -5,6 +5,8 @@ ghost use Rattle.coz_files.specs.Gathered.{Gathers};
 ghost use Rattle.coz_files.specs.Puts.{Puts};
 ghost use Rattle.std.specs.Option.{option_copied};
 ghost use Rattle.page_words.specs.Words.{asked_of};
+ghost use Rattle.page_values.specs.Lines.{ArePlaces, curve_labels};
+ghost use Rattle.page_cli.specs.Placed.{HasBlocks};
 ghost use Rattle.page_cli.specs.Page.{by_point, view_of, link_text, name_text, choice_text, has_tables, pattern_text, chosen_text, nothing_text, point_text, harm_text, curves_page};
 
 use crate::frame::{FOOT, HEAD, NOTHING};
@@ -14,10 +16,11 @@ use crate::label::put_label;
 use crate::runs::put_runs;
 use crate::sides::put_all_points;
 use crate::tables::{put_harm, put_point};
-use crate::view::View;
+use crate::view::{AllCurves, View};
 use causal_curves::Curve;
 use coz_files::{PutAnswer, PutBuffer, Sink};
 use coz_types::Label;
+use page_values::LinePlaces;
 use profile_book::{Profile, put_named};
 
 fn put_link<O: Sink>(to: &mut PutBuffer, out: &mut O, index: usize, label: &Label)
@@ -99,6 +102,7 @@ fn put_points<O: Sink>(
     profile: &Profile,
     curves: &[Curve],
 )
+    requires { HasBlocks view.now profile.now.summaries }
     ensures { Gathers O.holds O.faults out.old out.new to.old to.new
         (flat_map (point_text (view_of view.now) profile.now) (by_point curves.now)) }
 {
@@ -117,6 +121,7 @@ fn put_harms<O: Sink>(
     profile: &Profile,
     curves: &[Curve],
 )
+    requires { HasBlocks view.now profile.now.summaries }
     ensures { Gathers O.holds O.faults out.old out.new to.old to.new
         (flat_map (harm_text (view_of view.now) profile.now) (by_point curves.now)) }
 {
@@ -129,8 +134,15 @@ fn put_harms<O: Sink>(
 }
 
 /// Puts the page of a profile: its chosen curves, by point and rank, and those of the lines that
-/// hurt, by point and harm. It takes no memory.
-pub fn write_page<O: Sink>(view: &View, ranked: &Ranked, out: &mut O) -> PutAnswer
+/// hurt, by point and harm. The places are those of the chosen curves. It takes no memory.
+pub fn write_page<O: Sink>(
+    view: &View,
+    places: &LinePlaces,
+    ranked: &Ranked,
+    out: &mut O,
+) -> PutAnswer
+    requires blocks { HasBlocks view.now ranked.now.profile.summaries }
+    requires curves { ArePlaces (curve_labels ranked.now.curves) places.now }
     ensures { Puts O.holds O.faults out.old out.new result
         (curves_page (view_of view.now) (asked_of ranked.now.asked).file ranked.now.all
         ranked.now.profile ranked.now.curves ranked.now.harmful) }
@@ -152,7 +164,12 @@ pub fn write_page<O: Sink>(view: &View, ranked: &Ranked, out: &mut O) -> PutAnsw
     buffer.push(out, b"</ul>\n");
     put_nothing(&mut buffer, out, ranked.all);
     put_points(&mut buffer, out, view, &ranked.profile, curves);
-    put_all_points(&mut buffer, out, view.most, points, curves);
+    let all = AllCurves {
+        points,
+        curves,
+        places,
+    };
+    put_all_points(&mut buffer, out, view.most, &all);
     put_harms(
         &mut buffer,
         out,

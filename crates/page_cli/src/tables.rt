@@ -2,9 +2,8 @@
 ghost use Rattle.std.specs.Prelude.{◌≡◌, take, length, flat_map};
 ghost use Rattle.coz_types.specs.Labels.{Text};
 ghost use Rattle.coz_files.specs.Gathered.{Gathers};
-ghost use Rattle.page_values.specs.Sources.{look_up};
-ghost use Rattle.coz_files.specs.InMemory.{entries};
 ghost use Rattle.page_values.specs.Places.{IsTop};
+ghost use Rattle.page_cli.specs.Placed.{HasBlocks};
 ghost use Rattle.page_cli.specs.Page.{count_text};
 ghost use Rattle.page_cli.specs.Page.{view_of, source_text, row_text, rows_text, figure_text, figure_at, step_text, steps_text, values_text, pictures_text, point_name, point_number, top_of, harm_top, point_text, harm_text};
 
@@ -13,7 +12,7 @@ use crate::runs::put_visits;
 use crate::source_lines::line_of;
 use crate::view::View;
 use causal_curves::{Curve, CurveStep};
-use coz_files::{HeldFile, PutBuffer, Sink};
+use coz_files::{PutBuffer, Sink};
 use coz_types::{Label, Summary};
 use page_charts::{harm_top_for, is_notable, put_chart, put_cost, put_small, put_value, top_for};
 use page_values::{cost_of, shown, worst_of};
@@ -33,18 +32,24 @@ fn put_row<O: Sink>(
     to: &mut PutBuffer,
     out: &mut O,
     top: u64,
-    sources: &[HeldFile],
+    view: &View,
     summaries: &[Summary],
     curve: &Curve,
 )
-    requires { IsTop top }
+    requires top { IsTop top }
+    requires places { HasBlocks view.now summaries.now }
     ensures { Gathers O.holds O.faults out.old out.new to.old to.new
-        (row_text top (look_up (entries sources.now)) summaries.now curve.now) }
+        (row_text top (view_of view.now).answers summaries.now curve.now) }
 {
     let label = curve.selected.bytes();
     put_label(to, out, b"<tr><td>", label);
-    put_source(to, out, line_of(sources, label));
-    put_cost(to, out, b"</td><td>", cost_of(summaries, label));
+    put_source(to, out, line_of(view.sources, label));
+    put_cost(
+        to,
+        out,
+        b"</td><td>",
+        cost_of(summaries, view.blocks, label),
+    );
     put_value(to, out, b"</td><td>", curve.gain);
     let worst = worst_of(curve.steps.as_slice());
     put_value(to, out, b"</td><td>", worst);
@@ -57,16 +62,17 @@ fn put_rows<O: Sink>(
     to: &mut PutBuffer,
     out: &mut O,
     top: u64,
-    sources: &[HeldFile],
+    view: &View,
     summaries: &[Summary],
     curves: &[Curve],
 )
-    requires { IsTop top }
+    requires top { IsTop top }
+    requires places { HasBlocks view.now summaries.now }
     ensures { Gathers O.holds O.faults out.old out.new to.old to.new
-        (flat_map (row_text top (look_up (entries sources.now)) summaries.now) curves.now) }
+        (flat_map (row_text top (view_of view.now).answers summaries.now) curves.now) }
 {
     for curve in curves {
-        put_row(to, out, top, sources, summaries, curve);
+        put_row(to, out, top, view, summaries, curve);
     }
 }
 
@@ -120,7 +126,8 @@ fn put_table<O: Sink>(
     summaries: &[Summary],
     curves: &[Curve],
 )
-    requires { IsTop top }
+    requires top { IsTop top }
+    requires places { HasBlocks view.now summaries.now }
     ensures { Gathers O.holds O.faults out.old out.new to.old to.new
         (rows_text top (view_of view.now) summaries.now curves.now) }
 {
@@ -129,7 +136,7 @@ fn put_table<O: Sink>(
         b"\">\n<tr><th>Line</th><th>Cost</th><th>Gain</th><th>Worst</th><th>Curve</th></tr>\n",
     );
     let first = shown(curves, view.most);
-    put_rows(to, out, top, view.sources, summaries, first);
+    put_rows(to, out, top, view, summaries, first);
     put_count(to, out, view.most, curves.len() as u64);
 }
 
@@ -246,6 +253,7 @@ pub fn put_point<O: Sink>(
     profile: &Profile,
     curves: &[Curve],
 )
+    requires { HasBlocks view.now profile.now.summaries }
     ensures { Gathers O.holds O.faults out.old out.new to.old to.new
         (point_text (view_of view.now) profile.now curves.now) }
 {
@@ -274,6 +282,7 @@ pub fn put_harm<O: Sink>(
     profile: &Profile,
     curves: &[Curve],
 )
+    requires { HasBlocks view.now profile.now.summaries }
     ensures { Gathers O.holds O.faults out.old out.new to.old to.new
         (harm_text (view_of view.now) profile.now curves.now) }
 {

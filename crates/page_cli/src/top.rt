@@ -3,8 +3,10 @@ ghost use Rattle.std.specs.Prelude.{◌≡◌, ◌≢◌, ◌↔◌, ◌⊎◌, 
 ghost use Rattle.coz_files.specs.Faults.{Rose};
 ghost use Rattle.coz_files.specs.Puts.{Puts};
 ghost use Rattle.page_words.specs.Words.{asked_of, request_in};
-ghost use Rattle.page_values.specs.Sources.{Answers};
-ghost use Rattle.page_cli.specs.Answer.{IsShown};
+ghost use Rattle.coz_files.specs.InMemory.{entries};
+ghost use Rattle.page_values.specs.Lines.{ArePlaces, block_labels};
+ghost use Rattle.page_values.specs.Sources.{Answers, look_up};
+ghost use Rattle.page_cli.specs.Answer.{IsShown, page_with};
 ghost use Rattle.page_cli.specs.Verdict.{bytes_of, folder_of, verdict};
 ghost use Rattle.page_cli.specs.Serve.{IsOfVerdict, IsPut, IsLine, Prints, PrintsPrefix};
 
@@ -14,9 +16,48 @@ use crate::judge::{Ranked, judge};
 use crate::page::write_page;
 use crate::sources::read_sources;
 use crate::view::View;
-use coz_files::{Files, PutAnswer, Sink};
+use coz_files::{Files, HeldFile, PutAnswer, Sink};
 use file_read::FileFault;
+use page_values::{LinePlaces, places_of_blocks, places_of_curves};
 use std::alloc::{AllocError, Global};
+
+/// Puts a page with these source files, once it is known where the blocks of each line stand.
+/// Fails only if out of memory, and then puts nothing.
+fn put_with_blocks<O: Sink>(
+    alloc: Global,
+    ranked: &Ranked,
+    sources: &[HeldFile],
+    blocks: &LinePlaces,
+    out: &mut O,
+) -> Result<PutAnswer, AllocError>
+    requires { ArePlaces (block_labels ranked.now.profile.summaries) blocks.now }
+    ensures puts { IfOk result (λ answer. Puts O.holds O.faults out.old out.new answer
+        (page_with (look_up (entries sources.now)) ranked.now)) }
+    ensures nothing { OnErr result (out.new ≡ out.old) }
+{
+    let places = places_of_curves(alloc, ranked.curves.as_slice())?;
+    let view = View {
+        most: ranked.asked.top,
+        sources,
+        blocks,
+    };
+    Ok(write_page(&view, &places, ranked, out))
+}
+
+/// Puts a page with these source files. Fails only if out of memory, and then puts nothing.
+fn put_with_sources<O: Sink>(
+    alloc: Global,
+    ranked: &Ranked,
+    sources: &[HeldFile],
+    out: &mut O,
+) -> Result<PutAnswer, AllocError>
+    ensures puts { IfOk result (λ answer. Puts O.holds O.faults out.old out.new answer
+        (page_with (look_up (entries sources.now)) ranked.now)) }
+    ensures nothing { OnErr result (out.new ≡ out.old) }
+{
+    let blocks = places_of_blocks(alloc, ranked.profile.summaries.as_slice())?;
+    put_with_blocks(alloc, ranked, sources, &blocks, out)
+}
 
 /// Reads the source files of a page and puts the page. Fails only if out of memory.
 fn show<F: Files, O: Sink>(
@@ -34,11 +75,7 @@ fn show<F: Files, O: Sink>(
 {
     let curves = ranked.curves.as_slice();
     let sources = read_sources(alloc, files, ranked.asked.source, curves)?;
-    let view = View {
-        most: ranked.asked.top,
-        sources: sources.as_slice(),
-    };
-    Ok(write_page(&view, ranked, out))
+    put_with_sources(alloc, ranked, sources.as_slice(), out)
 }
 
 /// All that the program does.

@@ -1,8 +1,11 @@
+pub mod Along
+mod Blocks
 pub mod Counts
 pub mod Escapes
 pub mod Finds
 pub mod Least
 mod Looked
+mod Placed
 mod Rights
 mod ShortFiles
 mod Utf8

@@ -4,3 +4,4 @@ pub mod Cost
 pub mod Endings
 pub mod Places
 pub mod Sources
+pub mod Lines

@@ -7,12 +7,11 @@ use Rattle.page_cli.proofs.judge.rank.Goals as goal
 pub returns-clause-verdict : goal.returns-clause-verdict
 returns-clause-verdict c = λ none answers.
     let read = c.in_ok-profile.ensures in
-    ranked_page (asked_of c.args.asked) c.args.bytes.now c.in_ok-profile.profile read.found answers c.len-all.result c.in_ok-ranked.ranked c.in_ok-curves.field-0 c.chosen-curves.result c.in_ok-harmful.harmful c.len-all.ensures
+    ranked_page (asked_of c.args.asked) c.args.bytes.now c.in_ok-profile.profile read.found answers c.len-all.result c.in_ok-ranked.ranked c.chosen-curves.result c.in_ok-harmful.harmful c.len-all.ensures
     read.exact
     c.in_ok-ranked.ensures.ranked
-    c.in_ok-curves.ensures.ranked
     c.chosen-curves.ensures
-    (c.in_ok-harmful.ensures ∙ ap harmful_curves c.chosen.ensures)
+    (c.in_ok-harmful.ensures ∙ ap harmful_curves c.as_slice.ensures)
 
 pub returns-clause-ranked : goal.returns-clause-ranked
 returns-clause-ranked c =

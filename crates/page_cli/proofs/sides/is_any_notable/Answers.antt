@@ -1,18 +1,48 @@
-use Rattle.std.proofs.Common.{refl, sym, ◌∙◌}
+use Rattle.std.proofs.Common.{◌≡◌, ◌+◌, Some, None, drop, sym, ap, ◌∙◌, arith}
+use Rattle.std.specs.List.{list_any}
+use Rattle.causal_curves.specs.declared.curve.Curve.{Curve}
+use Rattle.page_values.proofs.Along.{begun, found, found_none, inside, moved, shorter}
 use Rattle.page_cli.specs.Page.{is_notable_of}
-use Rattle.page_cli.proofs.Anywhere.{none_passes, none_still, one_passes}
+use Rattle.page_cli.proofs.OneLine.{curve_label, ends, passes, skips_notable}
 use Rattle.page_cli.proofs.sides.is_any_notable.Goals as goal
 
-pub loop-curve-init : goal.loop-curve-init
-loop-curve-init c = refl
+pub loop-at-init : goal.loop-at-init
+loop-at-init c =
+    begun curve_label c.args.label.now (list_any (is_notable_of c.args.top c.args.label.now)) c.args.all.now.curves.now c.args.all.now.places.now c.requires c.first-at.result (c.first-at.ensures)
 
-pub loop-curve-preserved : goal.loop-curve-preserved
-loop-curve-preserved c =
-    none_still (is_notable_of c.args.top c.args.label.now) c.args.curves.now c.loop-curve.curve-index c.curve-item.result c.loop-curve-test.true c.curve-item.is (sym c.is_notable_of.ensures ∙ c.if-is_notable_of.false) c.loop-curve.invariant
+pub bounds-all-place : goal.bounds-all-place
+bounds-all-place c =
+    let at : c.loop-at.at ≡ Some c.in-Some.place = cc in
+    inside curve_label c.args.label.now (list_any (is_notable_of c.args.top c.args.label.now)) c.args.all.now.curves.now (skips_notable c.args.top c.args.label.now) c.in-Some.place c.loop-at.at at c.loop-at.invariant
+
+pub offset_bounds-all-place : goal.offset_bounds-all-place
+offset_bounds-all-place c =
+    let at : c.loop-at.at ≡ Some c.in-Some.place = cc in
+    let within = inside curve_label c.args.label.now (list_any (is_notable_of c.args.top c.args.label.now)) c.args.all.now.curves.now (skips_notable c.args.top c.args.label.now) c.in-Some.place c.loop-at.at at c.loop-at.invariant in
+    omega (arith, within)
 
 pub returns-then-is_notable_of : goal.returns-then-is_notable_of
 returns-then-is_notable_of c =
-    sym (one_passes (is_notable_of c.args.top c.args.label.now) c.args.curves.now c.loop-curve.curve-index c.curve-item.result c.loop-curve-test.true c.curve-item.is (sym c.is_notable_of.ensures ∙ c.if-is_notable_of.true))
+    let x : Curve = c.index-all-place.result in
+    let rest = drop (c.in-Some.place + 1) c.args.all.now.curves.now in
+    let at : c.loop-at.at ≡ Some c.in-Some.place = cc in
+    let there = found curve_label c.args.label.now (list_any (is_notable_of c.args.top c.args.label.now)) c.args.all.now.curves.now (skips_notable c.args.top c.args.label.now) c.in-Some.place c.loop-at.at x at c.index-all-place.is c.loop-at.invariant in
+    sym ((there ∙ ends (is_notable_of c.args.top c.args.label.now) x rest (ap (is_notable_of c.args.top c.args.label.now) c.index-all-place.is ∙ sym c.is_notable_of.ensures ∙ c.if-is_notable_of.true)))
+
+pub loop-at-smaller : goal.loop-at-smaller
+loop-at-smaller c =
+    let at : c.loop-at.at ≡ Some c.in-Some.place = cc in
+    shorter curve_label c.args.label.now (list_any (is_notable_of c.args.top c.args.label.now)) c.args.all.now.curves.now c.args.all.now.places.now c.requires (skips_notable c.args.top c.args.label.now) c.in-Some.place c.loop-at.at c.after-at.result c.index-all-place.result at c.after-at.ensures c.loop-at.invariant
+
+pub loop-at-preserved : goal.loop-at-preserved
+loop-at-preserved c =
+    let x : Curve = c.index-all-place.result in
+    let rest = drop (c.in-Some.place + 1) c.args.all.now.curves.now in
+    let at : c.loop-at.at ≡ Some c.in-Some.place = cc in
+    moved curve_label c.args.label.now (list_any (is_notable_of c.args.top c.args.label.now)) c.args.all.now.curves.now c.args.all.now.places.now c.requires (skips_notable c.args.top c.args.label.now) c.in-Some.place c.loop-at.at x c.after-at.result at c.index-all-place.is
+    (passes (is_notable_of c.args.top c.args.label.now) x rest (ap (is_notable_of c.args.top c.args.label.now) c.index-all-place.is ∙ sym c.is_notable_of.ensures ∙ c.if-is_notable_of.false)) c.after-at.ensures c.loop-at.invariant
 
 pub returns : goal.returns
-returns c = sym (none_passes (is_notable_of c.args.top c.args.label.now) c.args.curves.now c.loop-curve.curve-index c.loop-curve-test.false c.loop-curve.invariant)
+returns c =
+    let at : c.loop-at.at ≡ None = cc in
+    sym ((found_none curve_label c.args.label.now (list_any (is_notable_of c.args.top c.args.label.now)) c.args.all.now.curves.now (skips_notable c.args.top c.args.label.now) c.loop-at.at at c.loop-at.invariant))

@@ -1,6 +1,13 @@
+use Rattle.std.proofs.Common.{length}
+use Rattle.std.specs.List.{list_any}
 use Rattle.page_cli.specs.Page.{is_notable_of}
-use Rattle.page_cli.proofs.Anywhere.{NoneYet}
+use Rattle.page_values.proofs.Along.{IsAlong, places_left}
+use Rattle.page_cli.proofs.OneLine.{curve_label}
 use Rattle.page_cli.proofs.sides.is_any_notable.Given as goal
 
-abbrev pub invariant-loop-curve : goal.invariant-loop-curve
-invariant-loop-curve l = NoneYet (is_notable_of l.top l.label) l.curves l.curve-index
+-- a curve that is not flat is at this place of the line or after it
+abbrev pub invariant-loop-at : goal.invariant-loop-at
+invariant-loop-at l = IsAlong curve_label l.label (list_any (is_notable_of l.top l.label)) l.all.curves.now l.at
+
+abbrev pub decreases-loop-at : goal.decreases-loop-at
+decreases-loop-at l = places_left (length l.all.curves.now) l.at

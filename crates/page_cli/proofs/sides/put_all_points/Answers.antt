@@ -7,4 +7,4 @@ pub returns-then-not-is_empty : goal.returns-then-not-is_empty
 returns-then-not-is_empty g c = put_if (search rules) c.put_all_lines.ensures
 
 pub returns-else-points-gt1 : goal.returns-else-points-gt1
-returns-else-points-gt1 g c = put_else c.args.out.now c.args.to.now (all_lines_text c.args.most c.args.points.now c.args.curves.now) (search rules)
+returns-else-points-gt1 g c = put_else c.args.out.now c.args.to.now (all_lines_text c.args.most c.args.all.now.points.now c.args.all.now.curves.now) (search rules)

@@ -1,15 +1,37 @@
-use Rattle.std.proofs.Common.{sym}
-use Rattle.coz_files.proofs.GatheredLemmas.{gathers_nothing}
-use Rattle.profile_book.proofs.Gathering.{line_more, lines_whole}
+use Rattle.std.proofs.Common.{◌≡◌, ◌<◌, length, Option, ℕ, Some, None, sym, ap, arith}
+use Rattle.causal_curves.specs.declared.curve.Curve.{Curve}
+use Rattle.page_values.proofs.Along.{places_left}
+use Rattle.profile_book.proofs.Gathering.{gathers_as}
 use Rattle.page_cli.specs.Page.{side_at}
+use Rattle.page_cli.proofs.OneLine.{ArePut, all_put, fewer_left, is_within, none_put, one_put, skips_sides}
 use Rattle.page_cli.proofs.sides.put_sides.Goals as goal
 
-pub loop-curve-init : goal.loop-curve-init
-loop-curve-init g c = gathers_nothing c.args.out.now c.args.to.now
+pub loop-at-init : goal.loop-at-init
+loop-at-init g c =
+    none_put (side_at c.args.top c.args.all.now.points.now c.args.label.now) c.args.label.now c.args.all.now.curves.now (skips_sides c.args.top c.args.all.now.points.now c.args.label.now) c.args.all.now.places.now c.requires.places c.args.out.now c.args.to.now c.first-at.result c.first-at.ensures
 
-pub loop-curve-preserved : goal.loop-curve-preserved
-loop-curve-preserved g c =
-    line_more (side_at c.args.top c.args.points.now c.args.label.now) c.args.curves.now c.loop-curve.curve-index c.curve-item.result c.loop-curve-test.true (sym c.curve-item.is) c.loop-curve.invariant c.put_side.ensures
+pub bounds-all-place : goal.bounds-all-place
+bounds-all-place g c =
+    let at : c.loop-at.at ≡ Some c.in-Some.place = cc in
+    is_within (side_at c.args.top c.args.all.now.points.now c.args.label.now) c.args.label.now c.args.all.now.curves.now (skips_sides c.args.top c.args.all.now.points.now c.args.label.now) c.in-Some.place c.loop-at.at at c.loop-at.invariant
+
+pub offset_bounds-all-place : goal.offset_bounds-all-place
+offset_bounds-all-place g c =
+    let at : c.loop-at.at ≡ Some c.in-Some.place = cc in
+    let within = is_within (side_at c.args.top c.args.all.now.points.now c.args.label.now) c.args.label.now c.args.all.now.curves.now (skips_sides c.args.top c.args.all.now.points.now c.args.label.now) c.in-Some.place c.loop-at.at at c.loop-at.invariant in
+    omega (arith, within)
+
+pub loop-at-smaller : goal.loop-at-smaller
+loop-at-smaller g c =
+    let at : c.loop-at.at ≡ Some c.in-Some.place = cc in
+    fewer_left (side_at c.args.top c.args.all.now.points.now c.args.label.now) c.args.label.now c.args.all.now.curves.now (skips_sides c.args.top c.args.all.now.points.now c.args.label.now) c.args.all.now.places.now c.requires.places c.in-Some.place c.loop-at.at c.after-at.result c.index-all-place.result at c.after-at.ensures c.loop-at.invariant
+
+pub loop-at-preserved : goal.loop-at-preserved
+loop-at-preserved g c =
+    let at : c.loop-at.at ≡ Some c.in-Some.place = cc in
+    one_put (side_at c.args.top c.args.all.now.points.now c.args.label.now) c.args.label.now c.args.all.now.curves.now (skips_sides c.args.top c.args.all.now.points.now c.args.label.now) c.args.all.now.places.now c.requires.places c.in-Some.place c.loop-at.at c.index-all-place.result c.after-at.result at c.index-all-place.is c.after-at.ensures c.loop-at.invariant (gathers_as (sym (ap (side_at c.args.top c.args.all.now.points.now c.args.label.now) c.index-all-place.is)) c.put_side.ensures)
 
 pub returns : goal.returns
-returns g c = lines_whole (side_at c.args.top c.args.points.now c.args.label.now) c.args.curves.now c.loop-curve.curve-index c.loop-curve-test.false c.loop-curve.invariant
+returns g c =
+    let at : c.loop-at.at ≡ None = cc in
+    all_put (side_at c.args.top c.args.all.now.points.now c.args.label.now) c.args.label.now c.args.all.now.curves.now (skips_sides c.args.top c.args.all.now.points.now c.args.label.now) c.loop-at.at at c.loop-at.invariant

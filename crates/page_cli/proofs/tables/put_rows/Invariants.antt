@@ -7,4 +7,4 @@ use Rattle.page_cli.specs.Page.{row_text}
 use Rattle.page_cli.proofs.tables.put_rows.Given as goal
 
 abbrev pub invariant-loop-curve : goal.invariant-loop-curve
-invariant-loop-curve g l = Gathers g.O.Sink.holds g.O.Sink.faults l.fn.out l.out l.fn.to l.to (flat_map (row_text l.top (look_up (entries l.sources)) l.summaries) (take l.curve-index l.curves))
+invariant-loop-curve g l = Gathers g.O.Sink.holds g.O.Sink.faults l.fn.out l.out l.fn.to l.to (flat_map (row_text l.top (look_up (entries l.view.sources.now)) l.summaries) (take l.curve-index l.curves))
