@@ -1,2 +1,4 @@
 mod ByStatus
+pub mod Informed
+pub mod Refused
 pub mod Served

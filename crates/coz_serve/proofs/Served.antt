@@ -163,34 +163,3 @@ module _ {A L O E : Type 0} (p : Program) (status_of : A → ℕ) (text_of : A �
       → IsWritten p.name holds faults old new err_holds err_faults err_old err_new status (shown_by status_of text_of) (refused_by fault_status fault_line) answer → status ≡ 2
   refused_usage law (Ok printed) usage written = absurd usage
   refused_usage law (Err fault) usage written = written.same_status ∙ usage_status (fault_status fault) (fault_line fault) (shared fault) (law fault).1 usage
-
-  -- words that make no request
-  pub none_judged : (fault : L) → p.HasNone → shared fault ≡ Some Usage → IfSome told (λ held. p.IsVerdict held (refused_by fault_status fault_line fault)) → now ≡ before
-      → IsJudged (Err fault)
-  none_judged fault none is verdict steady = record {
-    usage = λ _. none;
-    no_request = λ _. inl is;
-    named = λ path other. let no : ⊥ = cc in absurd no;
-    no_write = λ other. let no : ⊥ = cc in no;
-    low = tt;
-    verdict = by_held told _ _ (λ held of _. inl of) verdict;
-    read_fault_has_cause = λ read. absurd (subst (λ (o : Option FileFault). IsSomeAnd o IsReadFault) is read);
-    no_fault = λ _. steady;
-  }
-
-  -- words for which there was no memory
-  pub memory_judged : (fault : L) → shared fault ≡ Some Memory → now ≡ before → IsJudged (Err fault)
-  memory_judged fault is steady = record {
-    usage = λ other. let no : ⊥ = cc in absurd no;
-    no_request = λ _. inr is;
-    named = λ path other. let no : ⊥ = cc in absurd no;
-    no_write = λ other. let no : ⊥ = cc in no;
-    low = tt;
-    verdict = unknown told;
-    read_fault_has_cause = λ read. absurd (subst (λ (o : Option FileFault). IsSomeAnd o IsReadFault) is read);
-    no_fault = λ _. steady;
-  }
-    where
-      unknown : (o : Option Held) → IfSome o (λ held. (IsSomeAnd (shared fault) IsMemoryFault → ⊥) → p.IsVerdict held (refused_by fault_status fault_line fault) ⊎ (IsSomeAnd (shared fault) IsReadFault × Rose before now))
-      unknown None = tt
-      unknown (Some held) = λ other. absurd (other (memory_is (shared fault) is))

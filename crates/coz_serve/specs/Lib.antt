@@ -1,4 +1,5 @@
 pub mod Faults
 pub mod FileFaults
+pub mod Info
 pub mod Serves
 pub mod Written

@@ -3,13 +3,15 @@
 //!
 //! Each program defines what it prints (`Printed`), its faults (`Fault`), and its verdict
 //! (`Program` in `specs/Serves.antt`). `serve_with` then keeps one contract for all of them:
-//! `Serves`.
+//! `Serves`. `inform` prints a program's help and its version.
 #![tactic(auto)]
 
 mod fault;
+mod info;
 mod printed;
 mod serve;
 
 pub use fault::{Fault, tell};
+pub use info::{Info, info_in, inform};
 pub use printed::Printed;
 pub use serve::serve_with;
