@@ -10,3 +10,4 @@ pub mod Guests
 pub mod Runs
 pub mod Profiles
 pub mod Shards
+pub mod Informed

@@ -9,6 +9,7 @@ use Rattle.coz_types.specs.declared.record.Summary.{Summary}
 use Rattle.coz_files.specs.Held.{Held, file_at}
 use Rattle.coz_files.specs.Puts.{AppendsPrefix}
 use Rattle.coz_files.specs.Verdict.{Verdict, IsOfVerdict}
+use Rattle.coz_serve.specs.Serves.{HasVerdict}
 use Rattle.line_index.specs.Index.{Index, position_at}
 use Rattle.progress_points.specs.Points.{Points, point_of}
 use Rattle.experiment_plan.specs.Selected.{rising_numbers}
@@ -16,8 +17,9 @@ use Rattle.profile_book.specs.Profile.{IsProfile, profile_text}
 use Rattle.profile_book.specs.declared.profile.Profile.{Profile}
 use Rattle.profile_shards.specs.Shards.{AreLines, AreTogether, AreDisjoint, IsTwice, profile_at}
 use Rattle.profile_pool.specs.Profiles.{profile_of_lines, record_in}
+use Rattle.join_parts.specs.Words.{paths_in}
 use Rattle.join_parts.specs.Verdict.{IsVerdict, has_exited, profile_status}
-use Rattle.join_parts.specs.Serve.{IsLine, VerdictHas}
+use Rattle.join_parts.specs.Program.{join_program}
 use Rattle.join_parts.specs.Shards.{HoldProfiles, IsShardsVerdict, twice_line}
 use Rattle.join_parts.proofs.Sharded.{shards_verdict}
 use Rattle.join_cli.specs.Shards.{AreIndexed, IsAsked, HoldTexts, JoinsShards, JoinsAllShards}
@@ -94,18 +96,21 @@ low_by false = omega arith
 low : (p : Profile) → profile_status p ≤ 1
 low p = low_by (list_all (λ (s : Summary). has_exited s.outcome.ending) p.summaries)
 
-module _ (words : List Text) (Tells : Text → Type 0) (before now : Option Text) (status : ℕ) where
+module _ (words : List Text) (told : Option Held) (Tells : Text → Type 0) (before now : Option Text) (status : ℕ) where
+  abbrev Has : Held → (Verdict → Type 0) → Type 0
+  Has held P = HasVerdict (join_program words told) held P
+
   abbrev IfVerdict : Option Held → Type 0
-  IfVerdict told = IfSome told (λ held. IsOfVerdict status → VerdictHas words held (λ v. status ≡ v.status))
+  IfVerdict o = IfSome o (λ held. IsOfVerdict status → Has held (λ v. status ≡ v.status))
 
   abbrev IfText : Option Held → Type 0
-  IfText told = IfSome told (λ held. status ≤ 1 → VerdictHas words held (λ v. (status ≡ v.status) × Appends before now v.text))
+  IfText o = IfSome o (λ held. status ≤ 1 → Has held (λ v. (status ≡ v.status) × Appends before now v.text))
 
   abbrev IfTorn : Option Held → Type 0
-  IfTorn told = IfSome told (λ held. status ≡ 6 → VerdictHas words held (λ v. AppendsPrefix before now v.text))
+  IfTorn o = IfSome o (λ held. status ≡ 6 → Has held (λ v. AppendsPrefix before now v.text))
 
   abbrev IfLine : Option Held → Type 0
-  IfLine told = 2 ≤ status → (line : Text) × IsLine status words told line × Tells line
+  IfLine o = 2 ≤ status → (line : Text) × (IsOfVerdict status → IfSome o (λ held. Has held (λ v. (status ≡ v.status) × (line ≡ codes "coz-join: " ++ v.line)))) × Tells line
 
   module _ (held : Held) (of_verdict : IfVerdict (Some held)) (text : IfText (Some held)) (torn : IfTorn (Some held)) (line : IfLine (Some held)) (lists : List (List ℕ)) (whole : Profile) (label : ℕ → Text) (paths : List Text)
       (law : (v : Verdict) → IsVerdict words held v → IsShardsVerdict lists whole label paths v) where
@@ -122,7 +127,7 @@ module _ (words : List Text) (Tells : Text → Type 0) (before now : Option Text
     told_of : (place part : ℕ) → IsTwice lists place part → IsOfVerdict status → status ≡ 14 → Tells (codes "coz-join: " ++ twice_line (label place) paths part)
     told_of place part two of high =
         let told = line (omega (arith, high)) in
-        let v = told.1.verdict of in
+        let v = told.1 of in
         subst Tells (v.2.1 ∙ ap (λ (w : Verdict). codes "coz-join: " ++ w.line) ((law v.0 v.1).twice place part two)) told.2
 
     joins : JoinsShards lists whole label paths Tells before now status
@@ -139,10 +144,18 @@ module _ (words : List Text) (Tells : Text → Type 0) (before now : Option Text
           (high, told_of place part two of high);
     }
 
-  pub joins_shards : (told : Option Held) → IfVerdict told → IfText told → IfTorn told → IfLine told
-      → IfSome told (λ held. JoinsAllShards words held Tells before now status)
+  pub joins_shards : (o : Option Held) → IfVerdict o → IfText o → IfTorn o → IfLine o
+      → IfSome o (λ held. JoinsAllShards words held Tells before now status)
   joins_shards None of_verdict text torn line = tt
   joins_shards (Some held) of_verdict text torn line =
       λ image index points input budget speedups lists whole are asked lines together hold.
       joins held of_verdict text torn line lists (profile_of_lines image index points input budget speedups whole) (label_at index.lines) hold.paths
       (verdict_is image index points input budget speedups words held lists whole are asked lines together hold)
+
+-- words that ask for the program's help or its version name no files of profiles
+pub no_shards : (words : List Text) (told : Option Held) (Tells : Text → Type 0) (before now : Option Text) (status : ℕ) → paths_in words ≡ None → IfSome told (λ held. JoinsAllShards words held Tells before now status)
+no_shards words None Tells before now status none = tt
+no_shards words (Some held) Tells before now status none = λ image index points input budget speedups lists whole are asked lines together hold. absurd (no_paths hold.paths (sym none ∙ hold.named))
+  where
+    no_paths : (paths : List Text) → ◌≡◌ {A = Option (List Text)} None (Some paths) → ⊥
+    no_paths paths is = cc

@@ -1,19 +1,21 @@
 //! The top call.
-ghost use Rattle.std.specs.Prelude.{◌≡◌, ◌≢◌, ◌↔◌, ◌⊎◌, ◌++◌, ◌≤◌, None, codes, IfSome, IsSomeAnd};
-ghost use Rattle.std.specs.Io.KnownBytes.{Appends};
-ghost use Rattle.coz_files.specs.Faults.{Rose};
-ghost use Rattle.coz_files.specs.Puts.{AppendsPrefix};
+ghost use Rattle.std.specs.Prelude.{◌≡◌, ◌↔◌, ◌++◌, None, codes, IfSome};
+ghost use Rattle.coz_files.specs.Puts.{IsPut};
+ghost use Rattle.coz_files.specs.Verdict.{bytes_of};
+ghost use Rattle.coz_serve.specs.Info.{Informs, info_in, info_text};
+ghost use Rattle.coz_serve.specs.Serves.{Serves};
 ghost use Rattle.join_parts.specs.Words.{paths_in};
-ghost use Rattle.join_parts.specs.Verdict.{bytes_of};
-ghost use Rattle.join_parts.specs.Serve.{IsLine, IsOfVerdict, IsPut, VerdictHas};
+ghost use Rattle.join_parts.specs.Program.{help_text, join_program};
 ghost use Rattle.join_cli.specs.Shards.{JoinsAllShards};
 
 use coz_files::{Files, Sink};
-use join_parts::serve_parts;
+use coz_serve::{info_in, inform, serve_with};
+use join_parts::{answer_of, help_text};
 use std::alloc::Global;
 
 /// All that the program does: reads the files of the paths that the words name, joins the
-/// profiles that they hold, and prints the joined profile.
+/// profiles that they hold, and prints the joined profile. It prints its help or its version if
+/// the first word asks for that.
 pub fn serve_join<F: Files, O: Sink, E: Sink>(
     alloc: Global,
     words: &[String],
@@ -21,56 +23,36 @@ pub fn serve_join<F: Files, O: Sink, E: Sink>(
     out: &mut O,
     err: &mut E,
 ) -> u8
+    // The first word asks for the program's help, or its version.
+    ensures info { IfSome (info_in (bytes_of words.now)) (λ info.
+        Informs (codes "coz-join") O.holds O.faults out.old out.new
+        E.holds E.faults err.old err.new result (info_text (codes "coz-join") help_text info)) }
+
+    // Else it keeps what each program promises of its words.
+    ensures serves { info_in (bytes_of words.now) ≡ None →
+        Serves (join_program (bytes_of words.now) (F.held files.old))
+        (F.held files.old) (F.faults files.old) (F.faults files.new)
+        O.holds O.faults out.old out.new E.holds E.faults err.old err.new result }
+
     // The words alone decide on usage.
-    ensures usage { (result ≡ 2) ↔ (paths_in (bytes_of words.now) ≡ None) }
-
-    // No other status is answered.
-    ensures known { result ≤ 14 }
-
-    // If the files are known, the status is the verdict's, unless a fault is counted
-    // or it is out of memory.
-    ensures verdict { IfSome (F.held files.old) (λ held. IsOfVerdict result →
-        VerdictHas (bytes_of words.now) held (λ v. result ≡ v.status)) }
-
-    // A failed read and a failed write have a cause outside.
-    ensures read { result ≡ 5 → Rose (F.faults files.old) (F.faults files.new)
-        ⊎ IsSomeAnd (F.held files.old) (λ held.
-        VerdictHas (bytes_of words.now) held (λ v. v.status ≡ 5)) }
-    ensures write { result ≡ 6 → Rose (O.faults out.old) (O.faults out.new) }
-    ensures write_last { IfSome (F.held files.old) (λ held. result ≡ 6 →
-        VerdictHas (bytes_of words.now) held (λ v. v.status ≤ 1)) }
-
-    // If no fault was counted and memory sufficed, the status is the verdict's.
-    ensures complete { IfSome (F.held files.old) (λ held.
-        (Rose (F.faults files.old) (F.faults files.new) → ⊥) →
-        (Rose (O.faults out.old) (O.faults out.new) → ⊥) →
-        result ≢ 10 → VerdictHas (bytes_of words.now) held (λ v. result ≡ v.status)) }
-
-    // What is printed: the text of the profile that the files hold parts of.
-    ensures text { IfSome (F.held files.old) (λ held. result ≤ 1 →
-        VerdictHas (bytes_of words.now) held (λ v.
-        (result ≡ v.status) × Appends (O.holds out.old) (O.holds out.new) v.text)) }
-    ensures prefix { IfSome (F.held files.old) (λ held. result ≡ 6 →
-        VerdictHas (bytes_of words.now) held (λ v.
-        AppendsPrefix (O.holds out.old) (O.holds out.new) v.text)) }
-    ensures nothing { 2 ≤ result → result ≢ 6 → O.holds out.new ≡ O.holds out.old }
+    ensures usage { (result ≡ 2)
+        ↔ ((info_in (bytes_of words.now) ≡ None) × (paths_in (bytes_of words.now) ≡ None)) }
 
     // The law of shards: profiles of disjoint lists of a program's lines are joined into the
     // profile of all their lines.
     ensures shards { IfSome (F.held files.old) (λ held. JoinsAllShards (bytes_of words.now) held
         (λ line. IsPut E.holds E.faults err.old err.new (line ++ codes "\n"))
         (O.holds out.old) (O.holds out.new) result) }
-
-    // The line on the error sink.
-    ensures no_error_line { result ≤ 1 → err.new ≡ err.old }
-    ensures line { 2 ≤ result → (line : _)
-        × IsLine result (bytes_of words.now) (F.held files.old) line
-        × IsPut E.holds E.faults err.old err.new (line ++ codes "\n") }
-
-    // The first fault ends the call.
-    ensures read_count { result ≢ 5 → F.faults files.new ≡ F.faults files.old }
-    ensures write_count { result ≢ 6 → O.faults out.new ≡ O.faults out.old }
     ensures files { F.held files.new ≡ F.held files.old }
 {
-    serve_parts(alloc, words, files, out, err)
+    match info_in(words) {
+        Some(info) => inform(b"coz-join", help_text(), info, out, err),
+        None => {
+            let answer = answer_of(alloc, words, files);
+            let status = serve_with(b"coz-join", &answer, out, err);
+            // By one call, since a drop in place is proved part by part.
+            drop(answer);
+            status
+        }
+    }
 }

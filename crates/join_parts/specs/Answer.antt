@@ -1,8 +1,9 @@
 -- What is known of an answer before it is written.
-use Rattle.std.specs.Prelude.{◌≡◌, ℕ, ◌⊎◌, List, take, slice_get, Option, Some, None, IfSome, Result, Ok, Err, IfErr, IsErrAnd}
+use Rattle.std.specs.Prelude.{◌≡◌, ℕ, ◌⊎◌, List, take, slice_get, Option, Some, None, IfSome, Result, Ok, Err, IfErr, IsErrAnd, IsSomeAnd}
 use Rattle.coz_types.specs.Labels.{Text}
 use Rattle.coz_files.specs.Faults.{Rose}
 use Rattle.coz_files.specs.Held.{Held}
+use Rattle.file_read.specs.declared.fault.FileFault.{FileFault}
 use Rattle.file_read.specs.declared.fault.FileFault.TheVariants.{Usage, Read, Write}
 use Rattle.file_read.specs.Faults.{file_status, file_line}
 use Rattle.file_read.specs.Reading as reading
@@ -22,6 +23,11 @@ fault_line (File fault) = file_line fault
 fault_line (Profile fault path) = profile_line path.now fault
 fault_line (Parts kind path) = parts_line kind path.now
 
+-- the fault, if it is one that each program may have
+abbrev pub shared_fault : Fault → Option FileFault
+shared_fault (File fault) = Some fault
+shared_fault _ = None
+
 abbrev pub fault_verdict : Fault → Verdict
 fault_verdict fault = refusal (fault_status fault) (fault_line fault)
 
@@ -36,15 +42,13 @@ verdict_of (Ok joined) = profile_verdict joined
 verdict_of (Err fault) = fault_verdict fault
 
 abbrev pub IsReadFault : Fault → Type 0
-IsReadFault (File fault) = reading.IsReadFault fault
-IsReadFault _ = ⊥
+IsReadFault fault = IsSomeAnd (shared_fault fault) reading.IsReadFault
 
 abbrev pub FailedToRead : {A : Type 0} → Result A Fault → Type 0
 FailedToRead step = IsErrAnd step IsReadFault
 
 abbrev pub IsMemoryFault : Fault → Type 0
-IsMemoryFault (File fault) = reading.IsMemoryFault fault
-IsMemoryFault _ = ⊥
+IsMemoryFault fault = IsSomeAnd (shared_fault fault) reading.IsMemoryFault
 
 abbrev pub IsMemory : {A : Type 0} → Result A Fault → Type 0
 IsMemory step = IsErrAnd step IsMemoryFault

@@ -1,5 +1,6 @@
 pub mod Words
 pub mod Verdict
 pub mod Answer
-pub mod Serve
+pub mod Faults
+pub mod Program
 pub mod Shards

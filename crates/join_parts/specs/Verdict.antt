@@ -9,7 +9,7 @@ use Rattle.coz_types.specs.declared.record.Summary.{Summary}
 use Rattle.coz_files.specs.Held.{Held, file_at}
 pub use Rattle.coz_files.specs.Verdict.{Verdict, bytes_of, refusal}
 use Rattle.file_read.specs.Reading.{file_in}
-use Rattle.profile_book.specs.Profile.{profile_text}
+pub use Rattle.profile_book.specs.Profile.{profile_text}
 use Rattle.profile_book.specs.declared.profile.Profile.{Profile as Book}
 use Rattle.profile_reader.specs.declared.TheConstants.{MAX_PROFILE}
 use Rattle.profile_reader.specs.Grammar.{book_fault}

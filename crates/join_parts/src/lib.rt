@@ -2,13 +2,18 @@
 //! is printed.
 #![tactic(auto)]
 
+mod answer;
 mod fault;
 mod fault_line;
+mod help;
+mod joined;
 mod judge;
 mod parts;
 mod shards;
-mod top;
 mod words;
 
+pub use answer::answer_of;
+pub use fault::Fault;
+pub use help::help_text;
+pub use joined::Joined;
 pub use shards::shards_verdict;
-pub use top::serve_parts;
