@@ -12,5 +12,5 @@ pub fn tell<E: Sink>(err: &mut E, fault: Fault) -> u8
     ensures line { IsPut E.holds E.faults err.old err.new
         (codes "coz: " ++ fault_line fault.entry ++ codes "\n") }
 {
-    program_load::tell(err, b"coz", fault)
+    coz_serve::tell(err, b"coz", &fault)
 }

@@ -1,4 +1,6 @@
 mod Parsing
+mod Informed
 mod Judging
+mod Judged
 mod Naming
 mod Served

@@ -4,6 +4,7 @@ use Rattle.std.specs.Global.{Vec}
 use Rattle.coz_types.specs.Labels.{Text}
 use Rattle.coz_files.specs.Faults.{Rose}
 use Rattle.coz_files.specs.Held.{Held}
+use Rattle.file_read.specs.declared.fault.FileFault.{FileFault}
 use Rattle.file_read.specs.declared.fault.FileFault.TheVariants.{Usage, Read, Write, Long, Memory}
 use Rattle.program_load.specs.Answer as steps
 use Rattle.program_load.specs.declared.fault.Fault.{Fault as StepFault}
@@ -23,6 +24,11 @@ fault_status (Functions refusal) = 14
 abbrev pub fault_line : Fault → Text
 fault_line (Step fault) = steps.fault_line fault
 fault_line (Functions refusal) = refusal_text refusal
+
+-- the fault, if it is one that each program may have
+abbrev pub shared_fault : Fault → Option FileFault
+shared_fault (Step fault) = steps.shared_fault fault
+shared_fault (Functions refusal) = None
 
 abbrev pub fault_verdict : Fault → Verdict
 fault_verdict fault = refusal (fault_status fault) (fault_line fault)

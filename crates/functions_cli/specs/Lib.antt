@@ -3,4 +3,6 @@ pub mod Words
 pub mod Parse
 pub mod Verdict
 pub mod Answer
+pub mod Faults
+pub mod Program
 pub mod Serve

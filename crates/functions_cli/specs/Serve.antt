@@ -1,10 +1,8 @@
--- What the top call leaves.
-use Rattle.std.specs.Prelude.{◌≡◌, ℕ, List, [], ◌++◌, codes, Option, Some, Ok, IfSome}
+-- The program that is written, of which the words name the file.
+use Rattle.std.specs.Prelude.{◌≡◌, ℕ, List, [], Some, Ok}
 use Rattle.coz_types.specs.Image.{ImageParts}
 use Rattle.coz_types.specs.Labels.{Text}
 use Rattle.coz_files.specs.Held.{Held, file_at}
-pub use Rattle.coz_files.specs.Puts.{IsPut}
-pub use Rattle.coz_files.specs.Verdict.{IsOfVerdict}
 use Rattle.dwarf_lines.specs.Registers.{Table}
 use Rattle.elf_load.specs.Loaded.{load_answer}
 use Rattle.line_index.specs.Index.{Index, IsIndex}
@@ -14,11 +12,6 @@ use Rattle.program_load.specs.LineTable.{table_in}
 use Rattle.program_load.specs.Selection.{lines_named}
 use Rattle.functions_cli.specs.Regions.{regions_named}
 use Rattle.functions_cli.specs.Words.{Request, request_in}
-use Rattle.functions_cli.specs.Verdict.{Verdict, IsVerdict}
-
--- the words have a verdict of which this holds
-abbrev pub VerdictHas : List Text → Held → (Verdict → Type 0) → Type 0
-VerdictHas words held P = (v : Verdict) × IsVerdict words held v × P v
 
 -- the program that the words name, an index of its lines, and the marks of the kept ones and of
 -- those of the regions
@@ -43,16 +36,3 @@ abbrev pub ProgramHas : List Text → Held → (ImageParts → Index → List Ma
 ProgramHas words held P =
     (image : ImageParts) × (index : Index) × (marks : List Mark)
     × IsNamed words held image index marks × P image index marks
-
--- what is known of the line of a status
-pub record IsLine (status : ℕ) (words : List Text) (told : Option Held) (line : Text) : Type 0 where
-  pub usage : status ≡ 2 → line ≡ codes "coz-functions: usage"
-  pub write : status ≡ 6 → line ≡ codes "coz-functions: write"
-  pub memory : status ≡ 10 → line ≡ codes "coz-functions: memory"
-  -- the path that the words name
-  pub read : status ≡ 5
-      → (request : Request) × (request_in words ≡ Some request)
-      × (line ≡ codes "coz-functions: read: " ++ request.target)
-  pub verdict : IsOfVerdict status → IfSome told (λ held.
-      VerdictHas words held (λ v.
-      (status ≡ v.status) × (line ≡ codes "coz-functions: " ++ v.line)))

@@ -1,4 +1,4 @@
 mod Budgets
 mod Judged
 mod Printing
-mod Served
+mod Judging

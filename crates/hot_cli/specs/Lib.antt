@@ -1,4 +1,4 @@
 pub mod Words
 pub mod Verdict
 pub mod Answer
-pub mod Serve
+pub mod Program

@@ -4,10 +4,10 @@
 #![tactic(auto)]
 
 mod asked;
+mod help;
 mod hot;
 mod judge;
 mod scan;
-mod told;
 mod top;
 
 pub use top::serve_hot;

@@ -1,3 +1,4 @@
+pub mod Shared
 pub mod Naming
 pub mod Sections
 pub mod Tables

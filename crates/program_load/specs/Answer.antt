@@ -1,6 +1,7 @@
 -- What is known of the answer of a step.
-use Rattle.std.specs.Prelude.{ℕ, List, Result, IsErrAnd}
+use Rattle.std.specs.Prelude.{ℕ, List, Option, None, Some, Result, IsErrAnd}
 use Rattle.coz_files.specs.Verdict.{StepSettles, step_verdict}
+use Rattle.file_read.specs.declared.fault.FileFault.{FileFault}
 use Rattle.file_read.specs.Faults.{file_status, file_line}
 use Rattle.file_read.specs.Reading as reading
 use Rattle.program_load.specs.declared.fault.Fault.{Fault}
@@ -28,6 +29,11 @@ fault_line (ManyPoints count) = points_line count
 fault_line (ManyExperiments count) = plan_line count
 fault_line (Source fault) = source_line fault
 fault_line (Profile fault) = book_line fault
+
+-- the fault, if it is one that each program may have
+abbrev pub shared_fault : Fault → Option FileFault
+shared_fault (File fault) = Some fault
+shared_fault _ = None
 
 abbrev pub fault_verdict : Fault → Verdict
 fault_verdict fault = refusal (fault_status fault) (fault_line fault)

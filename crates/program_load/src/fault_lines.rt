@@ -1,6 +1,6 @@
 //! The lines of faults, and their statuses.
-ghost use Rattle.std.specs.Prelude.{◌≡◌, ◌++◌, codes, decimal};
-ghost use Rattle.coz_files.specs.Puts.{Puts, Continues, IsPut};
+ghost use Rattle.std.specs.Prelude.{◌≡◌, ◌++◌, decimal};
+ghost use Rattle.coz_files.specs.Puts.{Continues};
 ghost use Rattle.program_load.specs.FaultLines.{source_line};
 ghost use Rattle.program_load.specs.Answer.{fault_status, fault_line};
 
@@ -89,24 +89,28 @@ fn put_line<S: Sink>(sink: &mut S, so_far: PutAnswer, fault: Fault) -> PutAnswer
     }
 }
 
-/// Puts a line: the program's name, and the text of a fault.
-fn put_whole<S: Sink>(sink: &mut S, program: &[u8], fault: Fault) -> PutAnswer
-    ensures { Puts S.holds S.faults sink.old sink.new result
-        (program.now ++ codes ": " ++ fault_line fault.entry ++ codes "\n") }
-{
-    let answer = put_next(sink, PutAnswer::Done, program);
-    let answer = put_next(sink, answer, b": ");
-    let answer = put_line(sink, answer, fault);
-    put_next(sink, answer, b"\n")
-}
+impl<'a> coz_serve::Fault for Fault<'a> {
+    ghost use Rattle.std.proofs.Common.{rules};
+    ghost use Rattle.program_load.specs.Answer.{fault_line, fault_status, shared_fault};
+    ghost use Rattle.program_load.specs.Faults.{step_is_fault};
 
-/// Puts the line of a fault after the program's name, and returns the fault's status.
-/// A put that fails changes nothing else.
-pub fn tell<E: Sink>(err: &mut E, program: &[u8], fault: Fault) -> u8
-    ensures status { result ≡ fault_status fault.entry }
-    ensures line { IsPut E.holds E.faults err.old err.new
-        (program.now ++ codes ": " ++ fault_line fault.entry ++ codes "\n") }
-{
-    let _ = put_whole(err, program, fault);
-    status_of(fault)
+    ghost shared = { shared_fault };
+
+    ghost status_of = { fault_status };
+
+    ghost line_of = { fault_line };
+
+    ghost greatest = { 12 };
+
+    ghost is_fault = { step_is_fault };
+
+    ghost is_great = { Prim.search rules };
+
+    fn status(&self) -> u8 {
+        status_of(*self)
+    }
+
+    fn put_line<S: Sink>(&self, sink: &mut S, so_far: PutAnswer) -> PutAnswer {
+        put_line(sink, so_far, *self)
+    }
 }

@@ -10,7 +10,6 @@ mod program;
 mod selection;
 
 pub use fault::Fault;
-pub use fault_lines::tell;
 pub use program::{Program, read_program};
 pub use selection::{
     bytes_of, line_named, listed_lines, points_of, progress_points, selected_lines,

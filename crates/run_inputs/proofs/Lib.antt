@@ -2,6 +2,7 @@ pub mod Faults
 pub mod Indexed
 pub mod Judged
 pub mod Telling
+pub mod Serving
 mod Reading
 mod Numbers
 mod Examples
