@@ -113,7 +113,7 @@ fn remuw(left: u32, word: u32) -> u32
 }
 
 /// The result of an operation on two registers.
-#[inline]
+#[inline(always)]
 pub fn register(op: RegOp, left: u64, right: u64) -> u64
     ensures { result ≡ register_result op left right }
 {
@@ -155,7 +155,7 @@ pub fn register(op: RegOp, left: u64, right: u64) -> u64
 }
 
 /// The result of an operation on a register and an immediate, whose sign is extended.
-#[inline]
+#[inline(always)]
 pub fn immediate(op: ImmOp, left: u64, value: i32) -> u64
     ensures { result ≡ immediate_result op left value }
 {
@@ -173,7 +173,7 @@ pub fn immediate(op: ImmOp, left: u64, value: i32) -> u64
 
 /// The result of a shift by an immediate amount. The amount is below 64,
 /// and below 32 for a shift of words.
-#[inline]
+#[inline(always)]
 pub fn shift(op: ShiftOp, left: u64, amount: u8) -> u64
     requires { amount < 2 ^ amount_bits op }
     ensures { result ≡ shift_result op left amount }
@@ -189,7 +189,7 @@ pub fn shift(op: ShiftOp, left: u64, amount: u8) -> u64
 }
 
 /// Whether a branch on two registers is taken.
-#[inline]
+#[inline(always)]
 pub fn taken(op: BranchOp, left: u64, right: u64) -> bool
     ensures { result ≡ is_taken op left right }
 {
