@@ -1,5 +1,5 @@
 -- Quiet retirements of one hart in a row, by the steps of its guest.
-use Rattle.std.proofs.Common.{◌≡◌, ℕ, zero, suc, ◌+◌, ◌*◌, ◌^◌, ◌≤◌, ◌<◌, Bool, true, false, if◌then◌else◌, ◌==◌, nat_le, List, [], ◌∷◌, ◌++◌, length, get_or, set, Option, Some, None, is_some, refl, sym, ap, ap₂, subst, ◌∙◌, arith, eq-eqb, ne_eqb, ◌⊎◌, inl, inr}
+use Rattle.std.proofs.Common.{◌≡◌, ℕ, zero, suc, ◌+◌, ◌*◌, ◌^◌, ◌≤◌, ◌<◌, Bool, true, false, if◌then◌else◌, ◌==◌, nat_le, List, [], ◌∷◌, ◌++◌, length, Option, Some, None, is_some, refl, sym, ap, ap₂, subst, ◌∙◌, arith, eq-eqb, ne_eqb, ◌⊎◌, inl, inr}
 use Rattle.std.proofs.lemmas.Bool.{cases_eq}
 use Rattle.std.proofs.lemmas.Bool.Decides.{nat_tests}
 use Rattle.std.proofs.lemmas.List.{length-set, append-nil, set-set, get_or-set_same}
@@ -11,12 +11,11 @@ use Rattle.hart_schedule.specs.Keys.{Keys, key_of, with_key, without_key, IsEmpt
 use Rattle.machines.specs.declared.Fate.{Fate}
 use Rattle.machines.specs.declared.Fate.TheVariants.{Goes, Waits, Leaves, Sleeps, Ends}
 use Rattle.machines.specs.Guest.{Retirement, own_ending, ending_if, first_ending}
-use Rattle.machines.specs.Places.{is_among}
 use Rattle.progress_points.specs.Points.{point_of}
 use Rattle.rv_execute.specs.declared.hart.Step.{Step}
 use Rattle.rv_execute.specs.declared.hart.Step.TheVariants.{Next}
 use Rattle.guest_calls.specs.Calls.{retirement}
-use Rattle.guest_calls.specs.Guest.{Guest, no_hart, hart_at, pc_of, is_running, is_timed, is_running_status}
+use Rattle.guest_calls.specs.Guest.{Guest, no_hart, pc_of, is_running, is_timed, is_running_status}
 use Rattle.guest_calls.specs.Retire.{next_of, step_result, step, retirement_after, retire}
 use Rattle.guest_calls.specs.Orderly.{IsOrderly}
 use Rattle.guest_calls.specs.Quiet.{after_steps, moment_after, IsQuietStep, GoesOnAt}
@@ -29,7 +28,7 @@ use Rattle.run_engine.specs.declared.engine.Engine.{Engine}
 use Rattle.run_engine.specs.Visits.{Visits, visits_of}
 use Rattle.run_engine.specs.Begin.{last_moment, many, started_by, keys_at_rest, AreIdle, AreBegun}
 use Rattle.run_engine.specs.Run.{IsChoice, is_selecting, ticks_in}
-use Rattle.run_engine.specs.Engine.{AreWithin, IsSteady}
+use Rattle.run_engine.specs.Engine.{IsSteady}
 use Rattle.run_engine.specs.Ending.{ending_of, runs_after}
 use Rattle.run_engine.specs.Advance.{told_in, IsRetired, IsCompleted}
 use Rattle.run_engine.specs.Marked.{AreMarks}

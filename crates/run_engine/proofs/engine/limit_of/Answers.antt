@@ -1,4 +1,4 @@
-use Rattle.std.proofs.Common.{ℕ, ◌+◌, ◌*◌, ◌^◌, ◌≤◌, Fits, w64, arith}
+use Rattle.std.proofs.Common.{◌≤◌, arith}
 use Rattle.run_engine.specs.Begin.{last_moment}
 use Rattle.run_engine.proofs.Quiet.{key_in}
 use Rattle.run_engine.proofs.engine.limit_of.Goals as goal

@@ -1,4 +1,4 @@
-use Rattle.std.proofs.Common.{◌≡◌, ℕ, ◌+◌, ◌^◌, ◌≤◌, ◌<◌, List, ◌++◌, length, Option, refl, arith, subst, sym, ap, ap₂, ◌∙◌}
+use Rattle.std.proofs.Common.{◌≡◌, ℕ, ◌+◌, ◌≤◌, ◌<◌, List, ◌++◌, length, Option, refl, arith, subst, sym, ap, ◌∙◌}
 use Rattle.std.specs.Prelude.{IfSome}
 use Rattle.hart_schedule.specs.Keys.{Keys}
 use Rattle.guest_calls.specs.Calls.{retirement}
@@ -12,7 +12,7 @@ use Rattle.run_engine.specs.declared.engine.Engine.{Engine}
 use Rattle.run_engine.specs.Begin.{last_moment, many}
 use Rattle.run_engine.specs.Advance.{CanComplete, IsCompleted}
 use Rattle.run_engine.specs.Far.{HasPassed}
-use Rattle.run_engine.specs.Visits.{Visits, visits_of}
+use Rattle.run_engine.specs.Visits.{visits_of}
 use Rattle.run_engine.proofs.Keys.{has_place}
 use Rattle.run_engine.proofs.Many.{many_few}
 use Rattle.run_engine.proofs.Moves.{engine_of}
