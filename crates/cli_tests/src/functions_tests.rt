@@ -325,7 +325,7 @@ fn the_printed_file_ends_with_its_line_unit(rt: HostRuntime) -> Result<(), Fail>
 }
 
 /// The line of `bare`, by the texts that are put one after another.
-static BARE: [&[u8]; 3] = [b"coz-functions: ", b"no functions", b"\n"];
+static BARE: [&[u8]; 4] = [b"coz-functions", b": ", b"no functions", b"\n"];
 
 #[test]
 fn the_status_is_kept_if_a_write_of_the_error_line_fails(rt: HostRuntime) -> Result<(), Fail> {

@@ -147,8 +147,9 @@ static FAULTS: [Fault; 12] = [
 ];
 
 /// The line of `a a`, by the texts that are put one after another.
-static TWICE: [&[u8]; 7] = [
-    b"coz-join: ",
+static TWICE: [&[u8]; 8] = [
+    b"coz-join",
+    b": ",
     b"parts: ",
     b"Twice ",
     b"one.s:1",

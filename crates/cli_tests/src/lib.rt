@@ -13,6 +13,8 @@ mod hot_files;
 #[cfg(test)]
 mod hot_tests;
 #[cfg(test)]
+mod info_tests;
+#[cfg(test)]
 mod join_files;
 #[cfg(test)]
 mod join_tests;
