@@ -1,4 +1,3 @@
-mod Anywhere
 mod Choices
 mod Harms
 pub mod Judged
