@@ -1,4 +1,4 @@
-"""A model of coz's guest and of its two machines, written from docs/FORMATS.md alone: it shares nothing with the crates.
+"""A model of coz's guest and of its two machines, written from docs/FORMATS.md, without the code: it shares nothing with the crates.
 
 It interprets a source in assembly line by line, as far as the tests need it: the instructions and calls that their programs use,
 without rights of pages. `Run` is one run. tools/check-tables compares it with the tables of the tests.

@@ -42,7 +42,7 @@ fn invalid_arguments_are_rejected(rt: HostRuntime) -> Result<(), Fail> {
 
 /// An instruction takes 100 ticks, a jump 200, and a call 4000. In `two` lines 5 to 8 are executed
 /// by two threads, and line 1 is two instructions.
-/// `tools/check-tables` computes the same from the sources, by docs/FORMATS.md alone.
+/// `tools/check-tables` computes the same from the sources, by docs/FORMATS.md, without the code.
 static PRINTED: [Row; 16] = [
     (&["one"], 0, ONE, b""),
     (&["--", "one"], 0, ONE, b""),

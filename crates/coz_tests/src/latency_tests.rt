@@ -45,7 +45,7 @@ const STALLS: &[u8] =
 const FULL: &[u8] =
     b"latency speedup 0 end visits-full net 209715200 arrivals 1048576 departures 1048576 stray 0 open 0 area 0 mean 0\n";
 
-/// `tools/check-tables` computes the same from the sources, by docs/FORMATS.md alone.
+/// `tools/check-tables` computes the same from the sources, by docs/FORMATS.md, without the code.
 static LATENCIES: [Row; 16] = [
     (
         &[

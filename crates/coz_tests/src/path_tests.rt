@@ -23,7 +23,7 @@ static SOURCES: [Source; 10] = [
     ),
 ];
 
-/// `tools/check-tables` computes the same from the sources, by docs/FORMATS.md alone.
+/// `tools/check-tables` computes the same from the sources, by docs/FORMATS.md, without the code.
 static PATHS: [Row; 10] = [
     (
         &["path", "wait"],

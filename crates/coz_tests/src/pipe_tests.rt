@@ -82,7 +82,7 @@ static PIPED: [Source; 7] = [
     ),
 ];
 
-/// `tools/check-tables` computes the same from the sources, by docs/FORMATS.md alone.
+/// `tools/check-tables` computes the same from the sources, by docs/FORMATS.md, without the code.
 static PIPES: [Pair; 9] = [
     (
         &["eof"],

@@ -89,7 +89,7 @@ static WRITERS: [Source; 2] = [
 ];
 
 /// The arguments, and how the record of the run begins.
-/// `tools/check-tables` computes the same from the sources, by docs/FORMATS.md alone.
+/// `tools/check-tables` computes the same from the sources, by docs/FORMATS.md, without the code.
 static FULL: [(&[&str], &[u8]); 2] = [
     (
         &["run", "whole"],
@@ -163,8 +163,8 @@ const PLANNED: &[u8] =
 const SPENT_RUNS: &[u8] =
     b"coz-ticks\tversion=1\tbudget=2\tpoints=0\nexperiment\tselected=d/one.s:1\tspeedup=0\tend=spent\ttime=200\tdelay=0\tretired=2\tstarts=1\noutput\tlength=0\tsha256=e3b0c44298fc1c149afbf4c8996fb92427ae41e4649b934ca495991b7852b855\nvisits\tsha256=e3b0c44298fc1c149afbf4c8996fb92427ae41e4649b934ca495991b7852b855\nexperiment\tselected=d/one.s:1\tspeedup=50\tend=spent\ttime=200\tdelay=50\tretired=2\tstarts=1\noutput\tlength=0\tsha256=e3b0c44298fc1c149afbf4c8996fb92427ae41e4649b934ca495991b7852b855\nvisits\tsha256=e3b0c44298fc1c149afbf4c8996fb92427ae41e4649b934ca495991b7852b855\n";
 
-/// `tools/check-tables` computes the records from the sources, by docs/FORMATS.md alone. The
-/// other texts are by hand, from the same page.
+/// `tools/check-tables` computes the records from the sources, by docs/FORMATS.md, without the
+/// code. The other texts are by hand, from the same page.
 static NAMED: [Row; 24] = [
     (&["lines", "d/one"], 0, ONE_LINES, b""),
     (&["lines", "five"], 0, ONE_LINES, b""),

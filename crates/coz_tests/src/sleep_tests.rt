@@ -60,7 +60,7 @@ static SLEEPERS: [Source; 9] = [
     ),
 ];
 
-/// `tools/check-tables` computes the same from the sources, by docs/FORMATS.md alone.
+/// `tools/check-tables` computes the same from the sources, by docs/FORMATS.md, without the code.
 static SLEEPS: [Pair; 11] = [
     // Its wake starts a selected instruction, which visits as it retires.
     (

@@ -23,7 +23,7 @@ struct Row {
 }
 
 /// A division takes 2,000 ticks, a system call 4,000 and each other instruction 100.
-/// `tools/check-tables` computes the same from the sources, by docs/FORMATS.md alone.
+/// `tools/check-tables` computes the same from the sources, by docs/FORMATS.md, without the code.
 static ROWS: [Row; 4] = [
     Row {
         source: EXIT,

@@ -30,7 +30,7 @@ struct Fork {
     stepped: Standing,
 }
 
-/// `tools/check-tables` computes the same from the sources, by docs/FORMATS.md alone.
+/// `tools/check-tables` computes the same from the sources, by docs/FORMATS.md, without the code.
 static FORKS: [Fork; 4] = [
     // Hart 0 wakes from its sleep and begins the line. Hart 1 pauses for it.
     Fork {

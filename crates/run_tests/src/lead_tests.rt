@@ -20,7 +20,7 @@ use virtual_run::{Choice, Lead, Machine};
 /// gives, if it gives one, and how many starts a run counts.
 struct Row(&'static [u8], u32, u64, Option<Ending>, u64);
 
-/// `tools/check-tables` computes the same from the sources, by docs/FORMATS.md alone.
+/// `tools/check-tables` computes the same from the sources, by docs/FORMATS.md, without the code.
 static ROWS: [Row; 16] = [
     // Hart 0 begins with the line.
     Row(EXIT, 1, 100, None, 1),
