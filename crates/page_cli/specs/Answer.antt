@@ -5,6 +5,7 @@ use Rattle.coz_files.specs.Held.{Held}
 use Rattle.coz_files.specs.Puts.{Puts}
 use Rattle.coz_files.specs.declared.outside.PutAnswer.{PutAnswer}
 use Rattle.coz_files.specs.Verdict.{StepSettles, step_verdict}
+use Rattle.file_read.specs.declared.fault.FileFault.{FileFault}
 use Rattle.file_read.specs.declared.fault.FileFault.TheVariants.{Usage, Read, Write, Long, Memory}
 use Rattle.file_read.specs.Faults.{file_status, file_line}
 use Rattle.file_read.specs.Reading as reading
@@ -32,6 +33,11 @@ fault_status (Profile fault) = 12
 abbrev pub fault_line : Fault → Text
 fault_line (File fault) = file_line fault
 fault_line (Profile fault) = book_line fault
+
+-- the fault, if it is one that each program may have
+abbrev pub shared_fault : Fault → Option FileFault
+shared_fault (File fault) = Some fault
+shared_fault (Profile fault) = None
 
 abbrev pub fault_verdict : Fault → Verdict
 fault_verdict fault = refusal (fault_status fault) (fault_line fault)

@@ -5,4 +5,5 @@ pub mod Page
 pub mod Placed
 pub mod Verdict
 pub mod Answer
+pub mod Faults
 pub mod Serve

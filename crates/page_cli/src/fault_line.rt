@@ -1,8 +1,7 @@
 //! The lines of faults, and their statuses.
-ghost use Rattle.std.specs.Prelude.{◌≡◌, ◌++◌, codes};
-ghost use Rattle.coz_files.specs.Puts.{Puts, Continues};
+ghost use Rattle.std.specs.Prelude.{◌≡◌};
+ghost use Rattle.coz_files.specs.Puts.{Continues};
 ghost use Rattle.page_cli.specs.Answer.{fault_status, fault_line};
-ghost use Rattle.page_cli.specs.Serve.{IsPut};
 
 use crate::fault::Fault;
 use coz_files::{PutAnswer, Sink, put_next};
@@ -29,22 +28,28 @@ fn put_line<S: Sink>(sink: &mut S, so_far: PutAnswer, fault: Fault) -> PutAnswer
     }
 }
 
-/// Puts a line: the program's name, and the text of a fault.
-fn put_whole<S: Sink>(sink: &mut S, fault: Fault) -> PutAnswer
-    ensures { Puts S.holds S.faults sink.old sink.new result
-        (codes "coz-page: " ++ fault_line fault.entry ++ codes "\n") }
-{
-    let answer = put_next(sink, PutAnswer::Done, b"coz-page: ");
-    let answer = put_line(sink, answer, fault);
-    put_next(sink, answer, b"\n")
-}
+impl<'a> coz_serve::Fault for Fault<'a> {
+    ghost use Rattle.std.proofs.Common.{rules};
+    ghost use Rattle.page_cli.specs.Answer.{fault_line, fault_status, shared_fault};
+    ghost use Rattle.page_cli.specs.Faults.{page_is_fault};
 
-/// Puts the line of a fault, and returns its status. A put that fails changes nothing else.
-pub fn tell<E: Sink>(err: &mut E, fault: Fault) -> u8
-    ensures status { result ≡ fault_status fault.entry }
-    ensures line { IsPut E.holds E.faults err.old err.new
-        (codes "coz-page: " ++ fault_line fault.entry ++ codes "\n") }
-{
-    let _ = put_whole(err, fault);
-    status_of(fault)
+    ghost shared = { shared_fault };
+
+    ghost status_of = { fault_status };
+
+    ghost line_of = { fault_line };
+
+    ghost greatest = { 12 };
+
+    ghost is_fault = { page_is_fault };
+
+    ghost is_great = { Prim.search rules };
+
+    fn status(&self) -> u8 {
+        status_of(*self)
+    }
+
+    fn put_line<S: Sink>(&self, sink: &mut S, so_far: PutAnswer) -> PutAnswer {
+        put_line(sink, so_far, *self)
+    }
 }

@@ -10,6 +10,7 @@ mod fault_line;
 mod frame;
 mod groups;
 mod harm;
+mod help;
 mod judge;
 mod label;
 mod label_parts;

@@ -8,15 +8,17 @@ ghost use Rattle.page_values.specs.Lines.{ArePlaces, block_labels};
 ghost use Rattle.page_values.specs.Sources.{Answers, look_up};
 ghost use Rattle.page_cli.specs.Answer.{IsShown, page_with};
 ghost use Rattle.page_cli.specs.Verdict.{bytes_of, folder_of, verdict};
-ghost use Rattle.page_cli.specs.Serve.{IsOfVerdict, IsPut, IsLine, Prints, PrintsPrefix};
+ghost use Rattle.coz_serve.specs.Info.{Informs, info_in, info_text};
+ghost use Rattle.page_cli.specs.Serve.{IsOfVerdict, IsPut, IsLine, Prints, PrintsPrefix, ServesPage, help_text};
 
 use crate::fault::Fault;
-use crate::fault_line::tell;
+use crate::help::help_text;
 use crate::judge::{Ranked, judge};
 use crate::page::write_page;
 use crate::sources::read_sources;
 use crate::view::View;
 use coz_files::{Files, HeldFile, PutAnswer, Sink};
+use coz_serve::{info_in, inform, tell};
 use file_read::FileFault;
 use page_values::{LinePlaces, places_of_blocks, places_of_curves};
 use std::alloc::{AllocError, Global};
@@ -78,8 +80,8 @@ fn show<F: Files, O: Sink>(
     put_with_sources(alloc, ranked, sources.as_slice(), out)
 }
 
-/// All that the program does.
-pub fn serve<F: Files, O: Sink, E: Sink>(
+/// Serves words that ask for no text of the program itself.
+fn serve_words<F: Files, O: Sink, E: Sink>(
     alloc: Global,
     words: &[String],
     files: &mut F,
@@ -135,10 +137,37 @@ pub fn serve<F: Files, O: Sink, E: Sink>(
             drop(ranked);
             match shown {
                 Ok(PutAnswer::Done) => 0,
-                Ok(PutAnswer::Failed) => tell(err, Fault::File(FileFault::Write)),
-                Err(_) => tell(err, Fault::File(FileFault::Memory)),
+                Ok(PutAnswer::Failed) => tell(err, b"coz-page", &Fault::File(FileFault::Write)),
+                Err(_) => tell(err, b"coz-page", &Fault::File(FileFault::Memory)),
             }
         }
-        Err(fault) => tell(err, fault),
+        Err(fault) => tell(err, b"coz-page", &fault),
+    }
+}
+
+/// All that the program does: reads the profile that the words name and the source files of its
+/// lines, and prints the page. It prints its help or its version if the first word asks for that.
+pub fn serve<F: Files, O: Sink, E: Sink>(
+    alloc: Global,
+    words: &[String],
+    files: &mut F,
+    out: &mut O,
+    err: &mut E,
+) -> u8
+    // The first word asks for the program's help, or its version.
+    ensures info { IfSome (info_in (bytes_of words.now)) (λ info.
+        Informs (codes "coz-page") O.holds O.faults out.old out.new
+        E.holds E.faults err.old err.new result (info_text (codes "coz-page") help_text info)) }
+
+    // Else it keeps what the program promises of its words.
+    ensures serves { info_in (bytes_of words.now) ≡ None →
+        ServesPage (bytes_of words.now)
+        (F.held files.old) (F.faults files.old) (F.faults files.new)
+        O.holds O.faults out.old out.new E.holds E.faults err.old err.new result }
+    ensures files { F.held files.new ≡ F.held files.old }
+{
+    match info_in(words) {
+        Some(info) => inform(b"coz-page", help_text(), info, out, err),
+        None => serve_words(alloc, words, files, out, err),
     }
 }

@@ -1,9 +1,7 @@
-use Rattle.std.proofs.Common.{◌≡◌, ◌<◌, length, Option, ℕ, Some, None, sym, ap, arith}
-use Rattle.causal_curves.specs.declared.curve.Curve.{Curve}
-use Rattle.page_values.proofs.Along.{places_left}
+use Rattle.std.proofs.Common.{◌≡◌, Some, None, sym, ap, arith}
 use Rattle.profile_book.proofs.Gathering.{gathers_as}
 use Rattle.page_cli.specs.Page.{side_at}
-use Rattle.page_cli.proofs.OneLine.{ArePut, all_put, fewer_left, is_within, none_put, one_put, skips_sides}
+use Rattle.page_cli.proofs.OneLine.{all_put, fewer_left, is_within, none_put, one_put, skips_sides}
 use Rattle.page_cli.proofs.sides.put_sides.Goals as goal
 
 pub loop-at-init : goal.loop-at-init

@@ -1,5 +1,0 @@
-use Rattle.coz_files.proofs.PutsLemmas.{continues_then, continues_whole}
-use Rattle.page_cli.proofs.fault_line.put_whole.Goals as goal
-
-pub returns : goal.returns
-returns g c = continues_whole (continues_then (continues_then c.put_next-answer.ensures c.put_line-answer.ensures) c.put_next.ensures)
