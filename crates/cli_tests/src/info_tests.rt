@@ -38,6 +38,18 @@ Joins profiles of disjoint parts of a program's lines, and prints the profile of
   -V, --version    print the version
 ";
 
+const PAGE: &[u8] = b"usage: coz-page PROFILE [OPTION]...
+
+Writes an HTML page with the curves of a profile.
+
+  PROFILE           a profile that coz prints
+  --top N           the greatest number of lines in each table, 1 to 1000
+  --file PATTERN    the lines whose path begins or ends with PATTERN
+  --source DIR      show the text of the lines from the files below DIR
+  -h, --help        print this help
+  -V, --version     print the version
+";
+
 /// The words of `coz-functions`.
 static FUNCTIONS_ROWS: [Row; 9] = [
     (&["--help"], 0, FUNCTIONS, b""),
@@ -77,11 +89,25 @@ static JOIN_ROWS: [Row; 9] = [
     (&["--help="], 2, b"", b"coz-join: usage\n"),
 ];
 
+/// The words of `coz-page`.
+static PAGE_ROWS: [Row; 9] = [
+    (&["--help"], 0, PAGE, b""),
+    (&["-h"], 0, PAGE, b""),
+    (&["--help", "--version", "--"], 0, PAGE, b""),
+    (&["--version"], 0, b"coz-page 0.4.0\n", b""),
+    (&["-V"], 0, b"coz-page 0.4.0\n", b""),
+    (&["-V", "absent"], 0, b"coz-page 0.4.0\n", b""),
+    (&["-v"], 2, b"", b"coz-page: usage\n"),
+    (&["--hel"], 2, b"", b"coz-page: usage\n"),
+    (&["--help="], 2, b"", b"coz-page: usage\n"),
+];
+
 #[test]
 fn the_first_argument_asks_for_help_or_version(rt: HostRuntime) -> Result<(), Fail> {
     check_rows(&rt, Program::Functions, &[], &FUNCTIONS_ROWS)?;
     check_rows(&rt, Program::Hot, &[], &HOT_ROWS)?;
-    check_rows(&rt, Program::Join, &[], &JOIN_ROWS)
+    check_rows(&rt, Program::Join, &[], &JOIN_ROWS)?;
+    check_rows(&rt, Program::Page, &[], &PAGE_ROWS)
 }
 
 /// An output that fails.
