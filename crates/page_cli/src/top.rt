@@ -159,6 +159,9 @@ pub fn serve<F: Files, O: Sink, E: Sink>(
         Informs (codes "coz-page") O.holds O.faults out.old out.new
         E.holds E.faults err.old err.new result (info_text (codes "coz-page") help_text info)) }
 
+    // Then it reads no file.
+    ensures unread { IfSome (info_in (bytes_of words.now)) (λ info. files.new ≡ files.old) }
+
     // Else it keeps what the program promises of its words.
     ensures serves { info_in (bytes_of words.now) ≡ None →
         ServesPage (bytes_of words.now)
