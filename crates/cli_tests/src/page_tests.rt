@@ -5,6 +5,7 @@ use crate::large::Large;
 use crate::programs::{Limit, Program, Row, check_limits, check_rows, status_of};
 use crate::sinks::{Room, Sinks, WIDE, two_sinks};
 use coz_files::Files;
+use std::alloc::{AllocError, Global};
 use std::process::Abort;
 use std::test::Fail;
 
@@ -110,13 +111,18 @@ output\tlength=0\tsha256=e3b0c44298fc1c149afbf4c8996fb92427ae41e4649b934ca495991
 throughput-point\tindex=0\tdelta=2\n\
 visits\tsha256=e3b0c44298fc1c149afbf4c8996fb92427ae41e4649b934ca495991b7852b855\n";
 
-static FILES: [(&str, &[u8]); 6] = [
+static FILES: [(&str, &[u8]); 7] = [
     ("p", PROFILE),
     ("costs", COSTS),
     ("none", NONE),
     ("points", TWO_POINTS),
     ("d/src/a.s", b"one\ntwo\n  three < 3\nfour\nfive\n"),
     ("d/src/big", b"big\n"),
+    // The third line has 121 bytes.
+    (
+        "long/src/a.s",
+        b"one\ntwo\nxxxxxxxxxxxxxxxxxxxxxxxxxxxxxxxxxxxxxxxxxxxxxxxxxxxxxxxxxxxxxxxxxxxxxxxxxxxxxxxxxxxxxxxxxxxxxxxxxxxxxxxxxxxxxxxxxxxxxxxxx\n",
+    ),
 ];
 
 const USAGE: &[u8] = b"coz-page: usage\n";
@@ -125,7 +131,7 @@ static WRONG: [Row; 16] = [
     (&[], 2, b"", USAGE),
     (&[""], 2, b"", USAGE),
     (&["p", "p"], 2, b"", USAGE),
-    (&["--help"], 2, b"", USAGE),
+    (&["p", "--help"], 2, b"", USAGE),
     (&["-"], 2, b"", USAGE),
     (&["other"], 5, b"", b"coz-page: read: other\n"),
     (&["p", "--top", "0"], 2, b"", USAGE),
@@ -183,7 +189,7 @@ fn the_profile_is_read_once(rt: HostRuntime) -> Result<(), Fail> {
     check_pieces(&rt, &RIGHT)
 }
 
-static PIECES: [Piece; 23] = [
+static PIECES: [Piece; 24] = [
     (&["p"], &[], b"<td>lib/b.s:2</td>", true),
     (&["p"], &[], b"<td>src/a.s:3</td>", true),
     (&["p"], &[], b"Only lines of files", false),
@@ -234,6 +240,13 @@ static PIECES: [Piece; 23] = [
     (&["p", "--source=d"], &[], b"<td>lib/b.s:2</td>", true),
     (&["p", "--source=d"], &[1, 2], b"<td>src/a.s:3</td>", true),
     (&["p", "--source=d/src"], &[], b"<code>", false),
+    // At most 120 bytes of a line are shown.
+    (
+        &["p", "--source=long"],
+        &[],
+        b"<code>xxxxxxxxxxxxxxxxxxxxxxxxxxxxxxxxxxxxxxxxxxxxxxxxxxxxxxxxxxxxxxxxxxxxxxxxxxxxxxxxxxxxxxxxxxxxxxxxxxxxxxxxxxxxxxxxxxxxxxxx</code>",
+        true,
+    ),
     // 50 of 95 steps of 11.4 each, from 200 on
     (&["p"], &[], b" cx=\"770\"", true),
     (&["costs"], &[], b"</td><td>20.00%", true),
@@ -310,6 +323,45 @@ static SIDES: [Piece; 4] = [
 #[test]
 fn the_points_of_a_line_are_side_by_side(rt: HostRuntime) -> Result<(), Fail> {
     check_pieces(&rt, &SIDES)
+}
+
+/// What follows the label in the blocks of a line at speedups 0 and 50.
+static BLOCKS: [&[u8]; 2] = [
+    b"\tspeedup=0\tend=exited:0\ttime=8000\tdelay=0\tretired=13\tstarts=2\n\
+output\tlength=0\tsha256=e3b0c44298fc1c149afbf4c8996fb92427ae41e4649b934ca495991b7852b855\n\
+throughput-point\tindex=0\tdelta=2\n\
+visits\tsha256=e3b0c44298fc1c149afbf4c8996fb92427ae41e4649b934ca495991b7852b855\n",
+    b"\tspeedup=50\tend=exited:0\ttime=7200\tdelay=0\tretired=13\tstarts=2\n\
+output\tlength=0\tsha256=e3b0c44298fc1c149afbf4c8996fb92427ae41e4649b934ca495991b7852b855\n\
+throughput-point\tindex=0\tdelta=2\n\
+visits\tsha256=e3b0c44298fc1c149afbf4c8996fb92427ae41e4649b934ca495991b7852b855\n",
+];
+
+/// A profile of the lines 10 to 30 of a file.
+fn many_lines(alloc: Global) -> Result<Vec<u8>, AllocError> {
+    let head = b"coz-ticks\tversion=1\tbudget=1000\tpoints=1\npoint\tindex=0\tname=src/a.s:8\n";
+    let mut text = head.as_slice().to_vec(alloc)?;
+    for number in 10..31u8 {
+        for block in &BLOCKS {
+            text.extend_from_slice(b"experiment\tselected=src/a.s:")?;
+            text.push(b'0' + number / 10)?;
+            text.push(b'0' + number % 10)?;
+            text.extend_from_slice(*block)?;
+        }
+    }
+    Ok(text)
+}
+
+#[test]
+fn twenty_lines_are_shown(rt: HostRuntime) -> Result<(), Fail> {
+    let text = many_lines(rt.alloc())?;
+    let files = files_of(rt.alloc(), &[("many", &text)])?;
+    check_piece(
+        &rt,
+        &["many"],
+        &mut Listed::new(&files, &[]),
+        (b"Lines: 21. Shown: 20. Not shown: 1.", true),
+    )
 }
 
 /// The reads are those of the profile, of `d/src/a.s` and of `d/src/big`.
