@@ -1,0 +1,5 @@
+pub mod Maps
+pub mod Line
+pub mod Turns
+pub mod Noting
+pub mod Kept
