@@ -1,9 +1,10 @@
-// An allocator with an arena for each thread, which takes the place of musl's, whose one lock serves
-// all threads. A block has a word before it that names its span: some pages of one arena that are cut
-// into blocks of one size. A thread takes from the spans of its own arena and gives back to them
-// without a lock. A block of another arena goes to a list of that arena, which its thread looks
-// through when it needs blocks. A thread that ends leaves its arena to a later one. Spans come from
-// the heap below the break, and then, as all large blocks do at once, from mappings.
+// An allocator with an arena for each thread, which coz-cc links in place of jemalloc if it is
+// asked to: it is smaller, and its threads start sooner. A block has a word before it that names
+// its span: some pages of one arena that are cut into blocks of one size. A thread takes from the
+// spans of its own arena and gives back to them without a lock. A block of another arena goes to a
+// list of that arena, which its thread looks through when it needs blocks. A thread that ends
+// leaves its arena to a later one. Spans come from the heap below the break, and then, as all large
+// blocks do at once, from mappings.
 #define _GNU_SOURCE
 #include <errno.h>
 #include <limits.h>

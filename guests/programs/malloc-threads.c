@@ -56,7 +56,7 @@ static struct block *take(uint32_t *state, uint32_t number) {
         puts("no memory");
         exit(1);
     }
-    if ((uintptr_t)block % (how == 0 ? align : 16)) atomic_fetch_add(&wrong, 1);
+    if ((uintptr_t)block % (how == 0 ? align : bytes < 16 ? 8 : 16)) atomic_fetch_add(&wrong, 1);
     if (how == 1)
         for (size_t i = 0; i < bytes; i++)
             if (((char *)block)[i]) atomic_fetch_add(&wrong, 1);
