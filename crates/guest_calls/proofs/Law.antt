@@ -1,5 +1,5 @@
 -- The guest keeps the rules of a guest of the machines.
-use Rattle.std.proofs.Common.{◌≡◌, ℕ, zero, suc, ◌≤◌, ◌^◌, ◌==◌, Bool, true, false, ◌||◌, if◌then◌else◌, List, Option, refl, sym, ap, ◌∙◌, arith}
+use Rattle.std.proofs.Common.{◌≡◌, ℕ, zero, suc, ◌<◌, ◌≤◌, ◌^◌, ◌==◌, Bool, true, false, ◌||◌, if◌then◌else◌, List, Option, refl, sym, ap, ◌∙◌, arith}
 use Rattle.std.proofs.lemmas.List.{length-set}
 use Rattle.std.proofs.lemmas.Bool.{eqb-true}
 use Rattle.std.proofs.Math.Dec.{eqb-suc-zero}
@@ -27,6 +27,10 @@ use Rattle.guest_calls.proofs.Retired.{call_started, retire_started}
 pub others_idle : (g : Guest) (h v : ℕ) → IsOrderly g → is_running g h ≡ true → (k : ℕ) → is_among k (retire g h v).others ≡ true → is_timed g k ≡ false
 others_idle g h v good runs = (retire_started g h v good runs).idle
 
+-- and have low numbers, even if the run ends
+pub others_low : (g : Guest) (h v : ℕ) → IsOrderly g → is_running g h ≡ true → (k : ℕ) → is_among k (retire g h v).others ≡ true → k < 256
+others_low g h v good runs = (retire_started g h v good runs).low
+
 -- the moment of a wake is small
 pub sleeps_few : (g : Guest) (h v : ℕ) → IsOrderly g → is_running g h ≡ true → (moment : ℕ) → (retire g h v).fate ≡ Sleeps moment → moment ≤ 10 ^ 16
 sleeps_few g h v good runs moment is = (retire_started g h v good runs).fate.1 moment is
@@ -46,7 +50,7 @@ retire-made g h v good runs = (retire_started g h v good runs).made
 pub call_of-made : (g : Guest) (h v : ℕ) → IsOrderly g → is_running g h ≡ true → making (call_of g h v).guest ≡ making g
 call_of-made g h v good runs = (call_started g h v good runs).made
 
-first_orderly : (image : ImageParts) (input : List ℕ) (output_limit : ℕ) (layout : Layout) → IsOrderly (first_guest image input output_limit layout)
+pub first_orderly : (image : ImageParts) (input : List ℕ) (output_limit : ℕ) (layout : Layout) → IsOrderly (first_guest image input output_limit layout)
 unfolding first_guest no_pipes
 first_orderly image input output_limit layout = record { few = omega arith; waiting = λ h among. absurd (let no : false ≡ true = among in cc); apart = tt }
 
@@ -61,7 +65,7 @@ unfolding first_guest
 first_asleep image input output_limit layout = refl
 
 -- a hart that is woken is no waiter
-wake_orderly : (g : Guest) (h : ℕ) → IsOrderly g → is_sleeping g h ≡ true → IsOrderly (with_wake h g)
+pub wake_orderly : (g : Guest) (h : ℕ) → IsOrderly g → is_sleeping g h ≡ true → IsOrderly (with_wake h g)
 wake_orderly g h good asleep = record {
   few = rw (length-set g.harts h (record (hart_at g h) { status = Running })) good.few;
   waiting =

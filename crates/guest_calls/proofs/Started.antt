@@ -17,7 +17,7 @@ use Rattle.guest_areas.specs.Space.{Space, Answered}
 use Rattle.guest_areas.proofs.Shares.{IsSteady}
 use Rattle.guest_calls.specs.declared.hart.Hart.{Hart}
 use Rattle.guest_calls.specs.Answering.{with_result}
-use Rattle.guest_calls.specs.Guest.{Guest, Making, making, memory_of, hart_at, state_of, with_hart, with_state, with_memory, with_stored, with_running_each, is_running, is_timed, sleepers, sleepers_of}
+use Rattle.guest_calls.specs.Guest.{Guest, Making, making, memory_of, hart_at, state_of, with_hart, with_state, with_memory, with_stored, with_running_each, is_running, is_running_status, is_timed, sleepers, sleepers_of}
 use Rattle.guest_calls.specs.Calls.{retirement, with_answer, of_space, unsupported}
 use Rattle.guest_calls.specs.Orderly.{IsOrderly, waiting_harts, AreWaiting}
 use Rattle.guest_calls.proofs.Waiting.{status-set, others-running}
@@ -37,6 +37,8 @@ pub record IsStartedWith (Fits : Fate → Type 0) (g : Guest) (h : ℕ) (r : Ret
   pub trap : (t : Trap) → r.fate ≡ Ends (Trapped t) → t.hart.0 ≡ h
   -- those that it makes or wakes neither ran nor slept before
   pub idle : (k : ℕ) → is_among k r.others ≡ true → is_timed g k ≡ false
+  -- and have low numbers, even if the run ends
+  pub low : (k : ℕ) → is_among k r.others ≡ true → k < 256
   pub made : making r.guest ≡ making g
 
 -- the hart is not put to sleep
@@ -70,6 +72,7 @@ at_any_net g h v r s = record {
   fate = (later_awake r.fate v s.fate, λ moment is. absurd (let never : true ≡ false = ap is_sleeper (sym is) ∙ s.fate in cc));
   trap = s.trap;
   idle = s.idle;
+  low = s.low;
   made = s.made;
 }
 
@@ -102,6 +105,12 @@ timed_low g h good timed =
 
 pub running_low : (g : Guest) (h : ℕ) → IsOrderly g → is_running g h ≡ true → (h < length g.harts) × (h < 256)
 running_low g h good runs = timed_low g h good (runs_timed (status_at g.harts h) runs)
+
+-- those that run beside a hart have low numbers
+beside_low : (g : Guest) (h : ℕ) (others : List ℕ) (after : Guest) → RunsBeside g h others after → (k : ℕ) → is_among k others ≡ true → k < 256
+beside_low g h others after beside k among =
+    let runs : status_at after.harts k ≡ Running = beside.status k ∙ (rw among refl) in
+    (running_low after k beside.orderly (ap is_running_status runs)).1
 
 pub either : {X : Type 0} (P : X → Type 0) (b : Bool) (x y : X) → P x → P y → P (cond b x y)
 either P true x y p q = p
@@ -196,6 +205,7 @@ goes_started g h others after beside runs = record {
   fate = refl;
   trap = λ t is. absurd (let no : ◌≡◌ {A = Fate} Goes (Ends (Trapped t)) = is in cc);
   idle = beside.idle;
+  low = beside_low g h others after beside;
   made = beside.made;
 }
 
@@ -212,6 +222,7 @@ ends_started g h after e own kept good = record {
   fate = refl;
   trap = λ t is. own t (same_ending e (Trapped t) is);
   idle = λ k among. absurd (let never : false ≡ true = among in cc);
+  low = λ k among. absurd (let never : false ≡ true = among in cc);
   made = kept.made;
 }
 
@@ -234,6 +245,7 @@ stops_started g h others after last fate stays awake own beside orderly made sto
   fate = awake;
   trap = own;
   idle = beside.idle;
+  low = beside_low g h others after beside;
   made = made ∙ beside.made;
 }
 

@@ -31,6 +31,7 @@ sleeps_started g h v moment later soon good runs = record {
   fate = (later, λ n is. let same : moment ≡ n = same_moment moment n is in omega arith);
   trap = λ t is. absurd (let no : ◌≡◌ {A = Fate} (Sleeps moment) (Ends (Trapped t)) = is in cc);
   idle = λ k among. absurd (let never : false ≡ true = among in cc);
+  low = λ k among. absurd (let never : false ≡ true = among in cc);
   made = refl;
 }
 
