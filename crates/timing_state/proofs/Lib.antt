@@ -3,3 +3,4 @@ pub mod Line
 pub mod Turns
 pub mod Noting
 pub mod Kept
+mod InLine

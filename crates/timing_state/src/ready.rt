@@ -1,6 +1,7 @@
 //! The harts that stand in line for a core.
 ghost use Rattle.std.specs.Prelude.{◌≡◌, ◌<◌, [], ◌∷◌, ◌++◌, length, drop, IfOk, MatchOption, IsTrue, ◌↔◌};
 ghost use Rattle.coz_types.specs.declared.TheConstants.{HARTS};
+ghost use Rattle.machines.specs.Places.{is_among};
 
 use circular_buffer::HeapCircularBuffer;
 use coz_types::{HARTS, HartId};
@@ -27,7 +28,7 @@ impl Model for Ready {
 }
 
 impl Ready {
-    /// Nobody in line. Err: out of memory.
+    /// Nobody in line.
     pub fn new(alloc: Global) -> Result<Ready, AllocError>
         ensures { IfOk result (λ ready. ready ≡ []) }
     {
@@ -42,6 +43,14 @@ impl Ready {
         ensures { IsTrue result ↔ (self.now ≡ []) }
     {
         self.ring.is_empty()
+    }
+
+    /// Whether a hart stands in line.
+    pub fn contains(&self, hart: HartId) -> bool
+        ensures { result ≡ is_among hart.0 self.now }
+    {
+        let (front, back) = self.ring.as_slices();
+        front.contains(&hart.0) || back.contains(&hart.0)
     }
 
     /// Puts a hart at the end of the line.

@@ -19,7 +19,7 @@ pub struct Seats {
     pub(crate) slice_ends: Places<Tick>,
 }
 
-/// A slice of so many ticks for hart 0, which has a core. Err: out of memory.
+/// A slice of so many ticks for hart 0, which has a core.
 pub(crate) fn first_seats(alloc: Global, slice: Tick) -> Result<Seats, AllocError>
     ensures { IfOk result (λ seats. seats_of seats ≡ first_seats slice) }
 {

@@ -1,6 +1,7 @@
 //! The state of a machine of the timing model, beside its guest.
 ghost use Rattle.std.specs.Prelude.{◌≡◌, ◌+◌, ◌*◌, ◌<◌, ◌≤◌, ◌^◌, ◌&&◌, length, All, IfOk, IsTrue};
 ghost use Rattle.coz_types.specs.declared.TheConstants.{HARTS};
+ghost use Rattle.machines.specs.Places.{is_among};
 ghost use Rattle.timing_laws.specs.Cores.{Turned};
 ghost use Rattle.timing_laws.specs.Noted.{is_charged, note_of, notes_after};
 ghost use Rattle.timing_model.specs.Timing.{IsTiming, charges};
@@ -21,7 +22,7 @@ use rv_decode::Instr;
 use std::alloc::{AllocError, Global};
 use std::marker::Model;
 use timing_model::{Charge, MAX_CORES, Timing};
-use timing_steps::{Instruction, Retirement, raise_of, ticks_of};
+use timing_steps::{Instruction, Retirement, cycles_of, raise_of, ticks_of};
 
 /// What a machine of the timing model keeps beside its guest.
 ///
@@ -101,7 +102,7 @@ fn retire_in(
 }
 
 impl TimingState {
-    /// The state of a machine at first. Err: out of memory.
+    /// The state of a machine at first.
     pub fn new(alloc: Global, timing: Timing) -> Result<TimingState, AllocError>
         requires { IsTiming timing }
         ensures { IfOk result (λ state. state ≡ first_state timing) }
@@ -148,12 +149,19 @@ impl TimingState {
 
     /// A sleeping hart is woken: it has a core at once.
     pub fn wake(&mut self)
-        requires { self.old.seats.on < HARTS }
+        requires { self.old.seats.on < 2 ^ 63 }
         ensures { self.new ≡ after_wake self.old }
     {
         if self.is_kept {
             self.seats.on += 1;
         }
+    }
+
+    /// Whether a hart stands in line for a core.
+    pub fn is_in_line(&self, hart: HartId) -> bool
+        ensures { result ≡ is_among hart.0 self.now.seats.ready }
+    {
+        self.seats.ready.contains(hart)
     }
 
     /// How many instructions a hart has retired.
@@ -194,6 +202,17 @@ impl TimingState {
             count: self.count(hart),
             instr,
         }
+    }
+
+    /// The cycles of a hart's next instruction.
+    #[inline]
+    pub fn cycles(&self, hart: HartId, instr: Option<Instr>) -> u64
+        ensures cycles { result ≡ timed_cycles self.now.timing.costs self.now.timing.seed hart.0
+            (note_of self.now.notes hart.0).count instr }
+        ensures few { result ≤ 20000 }
+    {
+        let next = self.next(hart, instr);
+        cycles_of(self.timing.costs, self.timing.seed, &next)
     }
 
     /// The ticks of a hart's next instruction, which is selected or not; the speedup is in per
