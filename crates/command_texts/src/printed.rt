@@ -32,6 +32,22 @@ pub struct Printed {
     pub text: Text,
 }
 
+impl coz_serve::Printed for Printed {
+    ghost use Rattle.command_texts.specs.Printed.{text_bytes};
+
+    ghost status_of = { λ printed. printed.status };
+
+    ghost text_of = { λ printed. text_bytes printed.text };
+
+    fn status(&self) -> u8 {
+        self.status
+    }
+
+    fn put<O: Sink>(&self, out: &mut O) -> PutAnswer {
+        put_text(out, &self.text)
+    }
+}
+
 /// Puts a text.
 pub fn put_text<O: Sink>(out: &mut O, text: &Text) -> PutAnswer
     ensures { Puts O.holds O.faults out.old out.new result (text_bytes text.now) }

@@ -10,7 +10,7 @@ use Rattle.coz_words.specs.Slow.{request_of}
 use Rattle.coz_commands.specs.Answer.{Answer, IsMemory, IsOfTrial, FailedToRead, IsReadFault, Settles, Suits}
 use Rattle.coz_commands.specs.Verdict.{Verdict, command_verdict, trial_verdict}
 use Rattle.run_inputs.proofs.Faults.{memory_is}
-use Rattle.coz_cli.specs.Serve.{AskTrial}
+use Rattle.coz_cli.specs.Program.{AskTrial}
 
 pub trial_suits : (asked : Request) (v : Verdict) (answer : Answer) → IsOfTrial v answer → Suits asked answer
 trial_suits asked v (Ok p) is = is.low

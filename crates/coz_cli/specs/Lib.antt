@@ -1,3 +1,3 @@
 pub mod Verdict
-pub mod Serve
+pub mod Program
 pub mod Headline

@@ -2,7 +2,6 @@
 #![tactic(auto)]
 
 mod answer;
-mod fault_line;
 mod top;
 
 pub use top::serve;

@@ -5,4 +5,3 @@ pub mod Telling
 pub mod Serving
 mod Reading
 mod Numbers
-mod Examples

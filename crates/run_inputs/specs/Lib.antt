@@ -1,4 +1,3 @@
 pub mod Experiment
 pub mod Verdict
 pub mod Answer
-pub mod FaultLine
