@@ -1,7 +1,7 @@
 """A model of coz's guest and of its two machines, written from docs/FORMATS.md, without the code: it shares nothing with the crates.
 
 It interprets a source in assembly line by line, as far as the tests need it: the instructions and calls that their programs use,
-without rights of pages. `Run` is one run. tools/check-tables compares it with the tables of the tests.
+with no rights of pages but that of execution. `Run` is one run. tools/check-tables compares it with the tables of the tests.
 """
 import hashlib
 import re
@@ -12,7 +12,8 @@ WORD = (1 << 64) - 1
 TEXT, STACK, STACK_TOP = 0x10000, 0x3FFFF00000, 0x4000000000
 OUTPUT_LIMIT, VISIT_LIMIT, LATEST = 4194304, 1048576, 10**16
 PIPE_ROOM, PIPE_PIECE, MOST_PIPES, MOST_HARTS = 65536, 4096, 64, 256
-EBADF, EAGAIN, EFAULT, EINVAL, EMFILE, EPIPE = -9, -11, -14, -22, -24, -32
+EBADF, EAGAIN, EACCES, EFAULT, EINVAL, EMFILE, EPIPE = -9, -11, -13, -14, -22, -24, -32
+PAGE = 4096
 THREAD_FLAGS, SETTLS, PARENT_SETTID, CHILD_CLEARTID, CHILD_SETTID = 0x10F00, 0x80000, 0x100000, 0x200000, 0x1000000
 KNOWN_FLAGS = THREAD_FLAGS | 0xFF | 0x440000 | SETTLS | PARENT_SETTID | CHILD_CLEARTID | CHILD_SETTID
 # Cycles of the instructions that take other than one.
@@ -40,7 +41,7 @@ def quotient(a, b):
 
 def pages(count):
     """The bytes of the pages that hold this many."""
-    return -(-count // 4096) * 4096
+    return -(-count // PAGE) * PAGE
 
 
 class Program:
@@ -120,6 +121,8 @@ class Guest:
         self.data, self.stack = bytearray(program.data), {}
         self.harts, self.waiting = [Hart(program.entry, [0] * 32)], []
         self.harts[0].x[2] = STACK_TOP - 0xB0
+        # The pages of the text that were given other rights, so that nothing in them is executed.
+        self.lost = set()
         # Each open end: its pipe and its kind. The pipes are kept, since one is known by its id.
         self.ends, self.pipes, self.woken = {}, [], []
 
@@ -127,7 +130,8 @@ class Guest:
         """The line, the name and the operands of a hart's next instruction; None if there is none."""
         pc = self.harts[hart].pc
         place = (pc - TEXT) // 4
-        return self.program.text[place] if pc % 4 == 0 and 0 <= place < len(self.program.text) else None
+        is_there = pc % 4 == 0 and 0 <= place < len(self.program.text) and pc // PAGE not in self.lost
+        return self.program.text[place] if is_there else None
 
     def line(self, hart):
         found = self.instruction(hart)
@@ -170,7 +174,8 @@ class Guest:
         hart, self.woken = self.harts[number], []
         found = self.instruction(number)
         if not found:
-            is_there = hart.pc % 4 == 0 and TEXT <= hart.pc < TEXT + pages(4 * len(self.program.text))
+            is_text = TEXT <= hart.pc < TEXT + pages(4 * len(self.program.text)) and hart.pc // PAGE not in self.lost
+            is_there = hart.pc % 4 == 0 and is_text
             self.trap("illegal" if is_there else "fetch", number)
         _, name, words = found
         if name == "ecall":
@@ -226,7 +231,7 @@ class Guest:
         hart = self.harts[number]
         calls = {
             57: self.close, 59: self.pipe2, 63: self.read_call, 64: self.write_call, 93: self.exit, 98: self.futex, 101: self.nanosleep,
-            113: self.clock, 124: lambda *_: 0, 178: lambda number, *_: number + 1, 220: self.clone,
+            113: self.clock, 124: lambda *_: 0, 178: lambda number, *_: number + 1, 220: self.clone, 226: self.mprotect,
         }
         if hart.x[17] == 94:
             raise Ended(f"exited:{hart.x[10] & 255}")
@@ -285,6 +290,18 @@ class Guest:
             return EAGAIN
         self.harts[number].state = "waits"
         self.waiting.append((address, number))
+        return 0
+
+    def mprotect(self, _number, _net, address, length, protection, *_):
+        if address % PAGE:
+            return EINVAL
+        if length == 0:
+            return 0
+        if protection & 4:
+            return EACCES
+        if not TEXT <= address < address + length <= TEXT + pages(4 * len(self.program.text)):
+            raise ValueError("the model has no rights of pages that are not of the text")
+        self.lost |= set(range(address // PAGE, -(-(address + length) // PAGE)))
         return 0
 
     def nanosleep(self, number, net, address, *_):

@@ -154,6 +154,12 @@ const WAITS: &[u8] =
 const DONE: &[u8] =
     b"end exited:0\ntime 488700\ndelay 0\nnet 488700\nretired 1568\nstarts 0\nhart 0 own 0 paused 0 credited 0\nhart 1 own 0 paused 0 credited 0\noutput 5\ndone\n\n";
 
+const LOSES_CODE: &[u8] =
+    b"end trapped:fetch:0:0x10020\ntime 14600\ndelay 2500\nnet 12100\nretired 107\nstarts 50\nhart 0 own 2500 paused 0 credited 0\noutput 0\n\n";
+
+const SHORT_LOSES_CODE: &[u8] =
+    b"end trapped:fetch:0:0x10020\nnet 12100\nretired 107\nstarts 50\noutput 0\n\n";
+
 const PROFILED: &[u8] =
     b"coz-ticks\tversion=1\tbudget=100000000\tpoints=0\nexperiment\tselected=d/one.s:1\tspeedup=0\tend=exited:0\ttime=4200\tdelay=0\tretired=3\tstarts=1\noutput\tlength=0\tsha256=e3b0c44298fc1c149afbf4c8996fb92427ae41e4649b934ca495991b7852b855\nvisits\tsha256=e3b0c44298fc1c149afbf4c8996fb92427ae41e4649b934ca495991b7852b855\nexperiment\tselected=d/one.s:1\tspeedup=50\tend=exited:0\ttime=4200\tdelay=50\tretired=3\tstarts=1\noutput\tlength=0\tsha256=e3b0c44298fc1c149afbf4c8996fb92427ae41e4649b934ca495991b7852b855\nvisits\tsha256=e3b0c44298fc1c149afbf4c8996fb92427ae41e4649b934ca495991b7852b855\n";
 
@@ -165,7 +171,7 @@ const SPENT_RUNS: &[u8] =
 
 /// `tools/check-tables` computes the records from the sources, by docs/FORMATS.md, without the
 /// code. The other texts are by hand, from the same page.
-static NAMED: [Row; 24] = [
+static NAMED: [Row; 26] = [
     (&["lines", "d/one"], 0, ONE_LINES, b""),
     (&["lines", "five"], 0, ONE_LINES, b""),
     (
@@ -275,6 +281,18 @@ static NAMED: [Row; 24] = [
     ),
     (&["run", "wait", "--line", "wait.s:17"], 0, WAITS, b""),
     (&["run", "pc"], 0, DONE, b""),
+    (
+        &["run", "lose", "--line=lose.s:2", "--speedup=50"],
+        1,
+        LOSES_CODE,
+        b"",
+    ),
+    (
+        &["really", "lose", "--line=lose.s:2", "--speedup=50"],
+        1,
+        SHORT_LOSES_CODE,
+        b"",
+    ),
     (
         &["profile", "d/one", "--lines", "one.s:1", "--speedups", "50"],
         0,

@@ -65,6 +65,12 @@ pub(crate) const PC: &[u8] = b"# pc.s\n.text\n\
     li a0, 0\nli a7, 93\necall\n\
     .data\nslot: .word 0\nleft: .word 1\ntext: .ascii \"done\\n\"\n";
 
+/// A hart runs through a loop, and then takes its code's right of execution away.
+pub(crate) const LOSE: &[u8] = b"li s0, 50\n\
+    loop: addi s0, s0, -1\nbne s0, x0, loop\n\
+    lui a0, 0x10\nlui a1, 1\nli a2, 1\nli a7, 226\necall\n\
+    addi s0, s0, 1\n";
+
 /// A hart sleeps.
 pub(crate) const NAP: &[u8] = b"la a0, span\nli a1, 0\nli a7, 101\necall\n\
     li a0, 0\nli a7, 94\necall\n\
@@ -83,7 +89,7 @@ pub(crate) const DOZE: &[u8] = b"li a0, 0x10F00\nli a7, 220\necall\n\
     .data\nspan: .dword 0, 50\n";
 
 /// Programs of one hart and of two, which exit, trap or wait.
-pub(crate) static LINED: [Source; 7] = [
+pub(crate) static LINED: [Source; 8] = [
     ("d/one.s", ONE),
     ("two.s", TWO),
     ("trap.s", TRAP),
@@ -91,4 +97,5 @@ pub(crate) static LINED: [Source; 7] = [
     ("join.s", JOIN),
     ("wait.s", WAIT),
     ("pc.s", PC),
+    ("lose.s", LOSE),
 ];
