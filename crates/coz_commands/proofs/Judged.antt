@@ -18,7 +18,10 @@ use Rattle.coz_commands.specs.Latencies.{latency_printed, latency_verdict, lines
 use Rattle.coz_commands.specs.Profiled.{all_lines, pairs_of, profile_of}
 use Rattle.program_load.specs.Selection.{line_named, lines_named}
 use Rattle.coz_commands.specs.Answer.{Answer, IsMemory, FailedToRead, Suits, verdict_of}
-use Rattle.coz_commands.specs.Verdict.{Verdict, Judging, really_printed, run_printed, asked_verdict, profiled_verdict, file_verdict, has_exited, plan_verdict, profile_verdict}
+use Rattle.coz_commands.specs.Kinds.{printed_of}
+use Rattle.coz_commands.specs.declared.runs.Kind.{Kind}
+use Rattle.coz_commands.specs.declared.runs.Kind.TheVariants.{Delayed, Shortened}
+use Rattle.coz_commands.specs.Verdict.{Verdict, Judging, asked_verdict, profiled_verdict, file_verdict, has_exited, plan_verdict, profile_verdict}
 
 judged_plan : (pairs : List Pair) (next : List Pair → Verdict) → ((ps : List Pair) → Judged (next ps)) → Judged (plan_verdict pairs next)
 judged_plan pairs next each =
@@ -52,11 +55,14 @@ judged_latency asked lines runs =
     (λ points. latency_printed (places_among points arrive) (places_among points depart) (net_at_each runs selected asked.budget points) (speedups_of asked))
     (λ points. inl (low (list_all (λ speedup. has_exited (net_at_each runs selected asked.budget points speedup).ending) (speedups_of asked)))))))
 
-pub judged_run : (asked : Request) (lines : List Line) (runs : Runs) → Judged (asked_verdict asked run_printed lines runs)
-judged_run asked = judged_asked asked run_printed (λ x. inl (low (has_exited (delayed_record x).ending)))
+-- of a run, whichever machine makes it
+printed_low : (kind : Kind) (x : Experiment Guest) → Judged (printed_of kind x)
+unfolding printed_of
+printed_low Delayed x = inl (low (has_exited (delayed_record x).ending))
+printed_low Shortened x = inl (low (has_exited (shortened_record x).ending))
 
-pub judged_really : (asked : Request) (lines : List Line) (runs : Runs) → Judged (asked_verdict asked really_printed lines runs)
-judged_really asked = judged_asked asked really_printed (λ x. inl (low (has_exited (shortened_record x).ending)))
+pub judged_kind : (asked : Request) (kind : Kind) (lines : List Line) (runs : Runs) → Judged (asked_verdict asked (printed_of kind) lines runs)
+judged_kind asked kind = judged_asked asked (printed_of kind) (printed_low kind)
 
 judged_file : (next : Judging) (file input : List ℕ) → ((lines : List Line) (runs : Runs) → Judged (next lines runs)) → Judged (file_verdict next file input)
 judged_file next file input judged = judged_program file _ (λ image table. judged _ _)

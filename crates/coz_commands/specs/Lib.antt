@@ -5,3 +5,4 @@ pub mod Latencies
 pub mod Measured
 pub mod Verdict
 pub mod Answer
+pub mod Kinds

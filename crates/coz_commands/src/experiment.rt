@@ -11,16 +11,18 @@ ghost use Rattle.run_engine.specs.Run.{IsChoice, experiment};
 ghost use Rattle.coz_words.specs.Request.{IsFit};
 ghost use Rattle.run_inputs.specs.Experiment.{runs_in, runs_on};
 ghost use Rattle.coz_commands.specs.Verdict.{Verdict, asked_verdict, file_verdict, files_verdict, really_printed, run_printed};
+ghost use Rattle.coz_commands.specs.Kinds.{printed_of};
 ghost use Rattle.coz_commands.specs.Answer.{verdict_of, verdict_after, IsMemory, FailedToRead, Suits, Settles};
 
 use crate::answer::Answer;
-use crate::runs::{really_answer, run_answer};
+use crate::runs::{Kind, run_answer};
 use coz_files::Files;
 use coz_words::Request;
 use line_index::LineIndex;
 use program_load::{Fault, Program, bytes_of, line_named, progress_points, read_program};
 use progress_points::Points;
 use run_inputs::read_inputs;
+use run_subject::Subject;
 use std::alloc::Global;
 use virtual_run::Choice;
 
@@ -38,21 +40,7 @@ pub fn judge_run<'r, F: Files>(alloc: Global, request: &'r Request, files: &mut 
         → IfNone (F.held files.old) (Rose (F.faults files.old) (F.faults files.new)) }
     ensures no_fault { (FailedToRead result → ⊥) → F.faults files.new ≡ F.faults files.old }
 {
-    let inputs = read_inputs(alloc, request, files)?;
-    run_of_file(alloc, &inputs.program, &inputs.input, request)
-}
-
-/// The text of the delayed run of the program in a file, or its first fault.
-fn run_of_file<'r>(alloc: Global, file: &[u8], input: &[u8], request: &'r Request) -> Answer<'r>
-    requires short { length file.now ≤ MAX_PROGRAM }
-    requires fit { IsFit request.now }
-    requires some_budget { 1 ≤ request.now.budget }
-    ensures no_read { FailedToRead result → ⊥ }
-    ensures verdict { (IsMemory result → ⊥) → verdict_of result
-        ≡ file_verdict (asked_verdict request.now run_printed) file.now input.now }
-{
-    let program = read_program(alloc, file)?;
-    delayed_answer(alloc, &program, input, request)
+    judge_kind(alloc, Kind::Delayed, request, files)
 }
 
 /// The text of the shortened run of the program that a request names.
@@ -69,13 +57,36 @@ pub fn judge_really<'r, F: Files>(alloc: Global, request: &'r Request, files: &m
         → IfNone (F.held files.old) (Rose (F.faults files.old) (F.faults files.new)) }
     ensures no_fault { (FailedToRead result → ⊥) → F.faults files.new ≡ F.faults files.old }
 {
-    let inputs = read_inputs(alloc, request, files)?;
-    shortened_run_of_file(alloc, &inputs.program, &inputs.input, request)
+    judge_kind(alloc, Kind::Shortened, request, files)
 }
 
-/// The text of the shortened run of the program in a file, or its first fault.
-fn shortened_run_of_file<'r>(
+/// The text of a machine's run of the program that a request names.
+/// Err is the first fault of the files, the program and its lines, or out of memory.
+fn judge_kind<'r, F: Files>(
     alloc: Global,
+    kind: Kind,
+    request: &'r Request,
+    files: &mut F,
+) -> Answer<'r>
+    requires fit { IsFit request.now }
+    requires some_budget { 1 ≤ request.now.budget }
+    ensures same { F.held files.new ≡ F.held files.old }
+    ensures fault_of_request { Suits request.now result }
+    ensures verdict { IfSome (F.held files.old) (λ held. (IsMemory result → ⊥) →
+        Settles (files_verdict request.now held (asked_verdict request.now (printed_of kind)))
+        (F.faults files.old) (F.faults files.new) result) }
+    ensures read_fault_has_cause { FailedToRead result
+        → IfNone (F.held files.old) (Rose (F.faults files.old) (F.faults files.new)) }
+    ensures no_fault { (FailedToRead result → ⊥) → F.faults files.new ≡ F.faults files.old }
+{
+    let inputs = read_inputs(alloc, request, files)?;
+    run_of_file(alloc, kind, &inputs.program, &inputs.input, request)
+}
+
+/// The text of a machine's run of the program in a file, or its first fault.
+fn run_of_file<'r>(
+    alloc: Global,
+    kind: Kind,
     file: &[u8],
     input: &[u8],
     request: &'r Request,
@@ -85,10 +96,10 @@ fn shortened_run_of_file<'r>(
     requires some_budget { 1 ≤ request.now.budget }
     ensures no_read { FailedToRead result → ⊥ }
     ensures verdict { (IsMemory result → ⊥) → verdict_of result
-        ≡ file_verdict (asked_verdict request.now really_printed) file.now input.now }
+        ≡ file_verdict (asked_verdict request.now (printed_of kind)) file.now input.now }
 {
     let program = read_program(alloc, file)?;
-    shortened_answer(alloc, &program, input, request)
+    run_of_program(alloc, kind, &program, input, request)
 }
 
 /// The points and the choice of a run.
@@ -116,10 +127,10 @@ fn asked_of<'r>(alloc: Global, index: &LineIndex, request: &'r Request) -> Resul
     Ok(Asked { points, choice })
 }
 
-/// The text of the delayed run of a program with these lines,
-/// if it has those that are named.
-fn delayed_answer<'r>(
+/// The text of a machine's run of a program with these lines, if it has those that are named.
+fn run_of_program<'r>(
     alloc: Global,
+    kind: Kind,
     program: &Program,
     input: &[u8],
     request: &'r Request,
@@ -128,27 +139,15 @@ fn delayed_answer<'r>(
     requires some_budget { 1 ≤ request.now.budget }
     ensures no_read { FailedToRead result → ⊥ }
     ensures verdict { (IsMemory result → ⊥) → verdict_of result ≡
-        asked_verdict request.now run_printed program.now.index.lines
+        asked_verdict request.now (printed_of kind) program.now.index.lines
         (runs_on program.now input.now) }
 {
     let asked = asked_of(alloc, &program.index, request)?;
-    run_answer(alloc, program, &asked.points, input, asked.choice)
-}
-
-/// The text of the program's shortened run.
-fn shortened_answer<'r>(
-    alloc: Global,
-    program: &Program,
-    input: &[u8],
-    request: &'r Request,
-) -> Answer<'r>
-    requires fit { IsFit request.now }
-    requires some_budget { 1 ≤ request.now.budget }
-    ensures no_read { FailedToRead result → ⊥ }
-    ensures verdict { (IsMemory result → ⊥) → verdict_of result ≡
-        asked_verdict request.now really_printed program.now.index.lines
-        (runs_on program.now input.now) }
-{
-    let asked = asked_of(alloc, &program.index, request)?;
-    really_answer(alloc, program, &asked.points, input, asked.choice)
+    let subject = Subject {
+        image: &program.image,
+        index: &program.index,
+        points: &asked.points,
+        input,
+    };
+    run_answer(alloc, kind, &subject, asked.choice)
 }

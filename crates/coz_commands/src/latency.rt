@@ -35,6 +35,7 @@ use profile_book::TextWriter;
 use program_load::{Fault, Program, bytes_of, line_named, listed_lines, points_of, read_program};
 use progress_points::Points;
 use run_inputs::read_inputs;
+use run_subject::Subject;
 use std::alloc::Global;
 use virtual_run::{Choice, Lead, Machine};
 
@@ -200,23 +201,29 @@ fn leads_answer<'r, 'a>(
 /// The text of the runs of a lead's line, on a machine that is made for them.
 fn machine_answer<'r, 'a>(
     alloc: Global,
-    program: &'a Program<'a>,
-    points: &'a Points,
-    input: &'a [u8],
+    subject: &Subject<'a>,
     choice: Choice,
     lead: &mut Lead<'a>,
     asked: &AskedLatency,
 ) -> Answer<'r>
     requires choice { IsChoice choice }
     requires lead { arguments lead.old
-        ≡ arguments_of program.now.image program.now.index points.now input.now choice }
+        ≡ arguments_of subject.now.image.now subject.now.index.now subject.now.points.now
+        subject.now.input.now choice }
     requires small { All (λ speedup. speedup ≤ MAX_SPEEDUP) asked.now.speedups.items }
     ensures no_read { FailedToRead result → ⊥ }
     ensures verdict { (IsMemory result → ⊥) → verdict_of result ≡ latency_printed
         (numbers_of asked.now.marked.arrive.items) (numbers_of asked.now.marked.depart.items)
         (run_at lead.old) asked.now.speedups.items }
 {
-    let mut machine = Machine::new(alloc, &program.image, &program.index, points, input, choice)?;
+    let mut machine = Machine::new(
+        alloc,
+        subject.image,
+        subject.index,
+        subject.points,
+        subject.input,
+        choice,
+    )?;
     let answer = leads_answer(alloc, lead, &mut machine, asked);
     // By one call, since a drop in place is proved part by part.
     drop(machine);
@@ -243,9 +250,21 @@ fn runs_answer<'r>(
         asked.now.speedups.items }
 {
     let choice = Choice::usual(Some(asked.selected), 0, budget);
-    let points = &asked.marked.points;
-    let mut lead = Lead::new(alloc, &program.image, &program.index, points, input, choice)?;
-    let answer = machine_answer(alloc, program, points, input, choice, &mut lead, asked);
+    let subject = Subject {
+        image: &program.image,
+        index: &program.index,
+        points: &asked.marked.points,
+        input,
+    };
+    let mut lead = Lead::new(
+        alloc,
+        subject.image,
+        subject.index,
+        subject.points,
+        subject.input,
+        choice,
+    )?;
+    let answer = machine_answer(alloc, &subject, choice, &mut lead, asked);
     // By one call, since a drop in place is proved part by part.
     drop(lead);
     answer

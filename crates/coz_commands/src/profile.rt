@@ -29,6 +29,7 @@ use profile_pool::run_plan;
 use program_load::{Fault, Program, bytes_of, progress_points, read_program, selected_lines};
 use progress_points::Points;
 use run_inputs::read_inputs;
+use run_subject::Subject;
 use std::alloc::{AllocError, Global};
 use std::thread::Threads;
 
@@ -153,13 +154,16 @@ fn plan_answer<'r, R: Threads + Sync, G: Gate>(
         program.now.index.lines request.now.budget points.now.lines plan.now) }
 {
     let labels = point_labels(alloc, &program.index, points)?;
+    let subject = Subject {
+        image: &program.image,
+        index: &program.index,
+        points,
+        input,
+    };
     let summaries = run_plan(
         rt,
         alloc,
-        &program.image,
-        &program.index,
-        points,
-        input,
+        &subject,
         plan,
         request.budget,
         request.workers,

@@ -2,26 +2,34 @@
 ghost use Rattle.std.specs.Prelude.{◌≡◌, IfOk, IsSome, map, Some};
 ghost use Rattle.coz_types.specs.declared.ending.Ending.{Ending};
 ghost use Rattle.delay_credits.specs.Delays.{account_as};
-ghost use Rattle.line_index.specs.Index.{position_at};
-ghost use Rattle.progress_points.specs.Points.{point_of};
-ghost use Rattle.run_engine.specs.Run.{IsChoice, experiment};
+ghost use Rattle.run_engine.specs.Run.{IsChoice};
 ghost use Rattle.run_engine.specs.Seen.{experiment_of};
+ghost use Rattle.run_subject.specs.Subjects.{experiment_on};
 ghost use Rattle.guest_calls.specs.Guest.{Guest};
 ghost use Rattle.machines.specs.Delayed.{Hart};
 ghost use Rattle.machines.specs.Records.{net_record_of, record_of, shortened_record};
 ghost use Rattle.machines.specs.Standing.{delayed_record};
 ghost use Rattle.command_texts.specs.Text.{really_text, run_text};
 ghost use Rattle.coz_commands.specs.Verdict.{ended_verdict, ending_status, really_verdict, run_verdict};
+ghost use Rattle.coz_commands.specs.Kinds.{printed_of};
 ghost use Rattle.coz_commands.specs.Answer.{verdict_of, printed_verdict, IsMemory, FailedToRead};
 
 use crate::answer::Answer;
 use command_texts::{Printed, RunRecord, ShortRecord, Text, ending_status, really_text, run_text};
 use coz_types::{Account, Ending, HartId};
-use program_load::Program;
-use progress_points::Points;
+use run_subject::Subject;
 use shortened_run::Short;
 use std::alloc::{AllocError, Global};
 use virtual_run::{Choice, Machine};
+
+/// Which machine makes a run.
+#[derive(Clone, Copy)]
+pub enum Kind {
+    /// The delayed machine: all other harts pause while the selected line runs.
+    Delayed,
+    /// The shortened machine: the selected line costs less, and nothing pauses.
+    Shortened,
+}
 
 /// The account of each hart that was made.
 fn accounts(alloc: Global, machine: &Machine) -> Result<Vec<Account>, AllocError>
@@ -79,21 +87,21 @@ fn machine_answer<'r>(alloc: Global, machine: &mut Machine) -> Answer<'r>
     Ok(printed_run(ending, text))
 }
 
-/// The text of a program's delayed run. Fails only if it is out of memory.
-pub fn run_answer<'r>(
-    alloc: Global,
-    program: &Program,
-    points: &Points,
-    input: &[u8],
-    choice: Choice,
-) -> Answer<'r>
+/// The text of a delayed run. Fails only if it is out of memory.
+fn delayed_answer<'r>(alloc: Global, subject: &Subject, choice: Choice) -> Answer<'r>
     requires { IsChoice choice }
     ensures no_read { FailedToRead result → ⊥ }
     ensures verdict { (IsMemory result → ⊥) → verdict_of result ≡
-        run_verdict (delayed_record
-        (experiment program.now.image (position_at program.now.index) (point_of points.now) input.now choice)) }
+        run_verdict (delayed_record (experiment_on subject.now choice)) }
 {
-    let mut machine = Machine::new(alloc, &program.image, &program.index, points, input, choice)?;
+    let mut machine = Machine::new(
+        alloc,
+        subject.image,
+        subject.index,
+        subject.points,
+        subject.input,
+        choice,
+    )?;
     let answer = machine_answer(alloc, &mut machine);
     // By one call, since a drop in place is proved part by part.
     drop(machine);
@@ -127,23 +135,37 @@ fn short_answer<'r>(alloc: Global, short: &mut Short) -> Answer<'r>
     Ok(printed_run(ending, text))
 }
 
-/// The text of a program's shortened run. Fails only if it is out of memory.
-pub fn really_answer<'r>(
-    alloc: Global,
-    program: &Program,
-    points: &Points,
-    input: &[u8],
-    choice: Choice,
-) -> Answer<'r>
+/// The text of a shortened run. Fails only if it is out of memory.
+fn shortened_answer<'r>(alloc: Global, subject: &Subject, choice: Choice) -> Answer<'r>
     requires { IsChoice choice }
     ensures no_read { FailedToRead result → ⊥ }
     ensures verdict { (IsMemory result → ⊥) → verdict_of result ≡
-        really_verdict (shortened_record
-        (experiment program.now.image (position_at program.now.index) (point_of points.now) input.now choice)) }
+        really_verdict (shortened_record (experiment_on subject.now choice)) }
 {
-    let mut short = Short::new(alloc, &program.image, &program.index, points, input, choice)?;
+    let mut short = Short::new(
+        alloc,
+        subject.image,
+        subject.index,
+        subject.points,
+        subject.input,
+        choice,
+    )?;
     let answer = short_answer(alloc, &mut short);
     // By one call, since a drop in place is proved part by part.
     drop(short);
     answer
+}
+
+/// The text of a run on a machine. Fails only if it is out of memory.
+#[tactic(auto, unfolding(crate::specs::Kinds::printed_of))]
+pub fn run_answer<'r>(alloc: Global, kind: Kind, subject: &Subject, choice: Choice) -> Answer<'r>
+    requires { IsChoice choice }
+    ensures no_read { FailedToRead result → ⊥ }
+    ensures verdict { (IsMemory result → ⊥) → verdict_of result ≡
+        printed_of kind (experiment_on subject.now choice) }
+{
+    match kind {
+        Kind::Delayed => delayed_answer(alloc, subject, choice),
+        Kind::Shortened => shortened_answer(alloc, subject, choice),
+    }
 }

@@ -34,6 +34,7 @@ use line_index::LineIndex;
 use profile_book::Profile;
 use profile_pool::run_plan;
 use program_load::{Fault, Program, points_of, read_program};
+use run_subject::Subject;
 use rv_asm::assemble;
 use std::alloc::{AllocError, Global};
 use std::thread::Threads;
@@ -135,18 +136,13 @@ fn trial_summaries<'r, R: Threads + Sync, G: Gate>(
 {
     let plan = trial_plan(alloc, &program.index)?;
     let points = points_of(alloc, &program.index, &[point])?;
-    let summaries = run_plan(
-        rt,
-        alloc,
-        &program.image,
-        &program.index,
-        &points,
-        &[],
-        &plan,
-        BUDGET,
-        workers,
-        gate,
-    )?;
+    let subject = Subject {
+        image: &program.image,
+        index: &program.index,
+        points: &points,
+        input: &[],
+    };
+    let summaries = run_plan(rt, alloc, &subject, &plan, BUDGET, workers, gate)?;
     Ok(Items::new(summaries))
 }
 

@@ -1,5 +1,5 @@
 -- An answer of a request is what its words come to.
-use Rattle.std.proofs.Common.{◌≡◌, ◌⊎◌, ℕ, List, Option, Some, None, IfSome, Result, Ok, Err, refl, sym, subst}
+use Rattle.std.proofs.Common.{◌≡◌, ℕ, List, Option, Some, None, IfSome, Ok, Err, refl, sym, subst}
 use Rattle.std.specs.Prelude.{IfNone}
 use Rattle.coz_files.specs.Faults.{Rose}
 use Rattle.coz_files.specs.Held.{Held}
@@ -8,13 +8,11 @@ use Rattle.coz_serve.specs.Written.{refused_by, shown_by}
 use Rattle.coz_serve.proofs.Refused.{memory_judged, none_judged}
 use Rattle.command_texts.specs.Printed.{has_exited}
 use Rattle.file_read.specs.declared.fault.FileFault.TheVariants.{Usage, Memory}
-use Rattle.program_load.specs.declared.fault.Fault.{Fault}
 use Rattle.program_load.specs.declared.fault.Fault.TheVariants.{File}
 use Rattle.program_load.specs.Answer.{fault_line, fault_status, shared_fault, FailedToRead, IsMemory}
 use Rattle.run_inputs.proofs.Judged.{low}
 use Rattle.run_inputs.proofs.Serving.{fault_judged, ok_judged}
 use Rattle.hot_cli.specs.declared.asked.HotRequest.{HotRequest}
-use Rattle.hot_cli.specs.declared.hot.Hot.{Hot}
 use Rattle.hot_cli.specs.Answer.{Answer, Settles, Suits, text_in}
 use Rattle.hot_cli.specs.Verdict.{hot_verdict}
 use Rattle.hot_cli.specs.Program.{hot_program, hot_status}

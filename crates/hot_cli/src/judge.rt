@@ -15,6 +15,7 @@ use coz_files::Files;
 use hot_lines::{HotRun, hot_run};
 use program_load::{Fault, Program, bytes_of, progress_points, read_program};
 use run_inputs::read_inputs;
+use run_subject::Subject;
 use std::alloc::Global;
 
 /// The run of a program that a request asks for, if the program has the lines that are named.
@@ -34,15 +35,13 @@ fn found_run<'r>(
         (runs_on program.now input.now) }
 {
     let points = progress_points(alloc, &program.index, bytes_of(&asked.run.progress))?;
-    let found = hot_run(
-        alloc,
-        &program.image,
-        &program.index,
-        &points,
+    let subject = Subject {
+        image: &program.image,
+        index: &program.index,
+        points: &points,
         input,
-        asked.run.budget,
-        asked.top,
-    )?;
+    };
+    let found = hot_run(alloc, &subject, asked.run.budget, asked.top)?;
     Ok(found)
 }
 

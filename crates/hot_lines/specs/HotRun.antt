@@ -17,6 +17,7 @@ use Rattle.run_engine.specs.declared.choice.Choice.{Choice}
 use Rattle.run_engine.specs.Choices.{choice_of}
 use Rattle.run_engine.specs.Run.{experiment}
 use Rattle.run_engine.specs.Seen.{Seen, experiment_of}
+use Rattle.run_subject.specs.declared.Subject.{Subject}
 use Rattle.run_counts.specs.Beginnings.{Beginning, begun, cost_among}
 use Rattle.run_counts.specs.Counts.{is_on, place_in}
 use Rattle.counted_run.specs.CountedRun.{selecting_line, on_line, on_none}
@@ -34,6 +35,9 @@ Runs = Choice → Experiment Guest
 abbrev pub runs_of : ImageParts → Index → Points → List ℕ → Runs
 runs_of image index points input choice =
     experiment image (position_at index) (point_of points) input choice
+
+abbrev pub runs_on : Subject → Runs
+runs_on s = runs_of s.image.now s.index.now s.points.now s.input.now
 
 -- with no line selected
 abbrev pub plain_run : Runs → ℕ → Experiment Guest

@@ -8,15 +8,15 @@ ghost use Rattle.machines.specs.Records.{net_visit};
 ghost use Rattle.machines.specs.Standing.{delayed_record};
 ghost use Rattle.hot_lines.specs.declared.lines.HotLine.{HotLine};
 ghost use Rattle.hot_lines.specs.Lines.{has_started, rank};
-ghost use Rattle.hot_lines.specs.HotRun.{IsLeftBy, all_seen, cost_on, hot_text, hot_written, line_seen, none_seen, plain_run, runs_of, all_of, none_of};
+ghost use Rattle.hot_lines.specs.HotRun.{IsLeftBy, all_seen, cost_on, hot_text, hot_written, line_seen, none_seen, plain_run, runs_on, all_of, none_of};
 
 use crate::left::HotRun;
 use crate::lines::{HotLine, push_started, ranked};
 use counted_run::Counted;
-use coz_types::{Ending, Image, Items, LineId};
+use coz_types::{Ending, Items, LineId};
 use line_index::LineIndex;
-use progress_points::Points;
 use run_engine::Choice;
+use run_subject::Subject;
 use std::alloc::{AllocError, Global};
 
 /// The lines that start in a run that has ended, in their order, of this many lines.
@@ -102,32 +102,38 @@ fn hot_of(
 /// most, at most `top`. Fails only if out of memory.
 pub fn hot_run(
     alloc: Global,
-    image: &Image,
-    index: &LineIndex,
-    points: &Points,
-    input: &[u8],
+    subject: &Subject,
     budget: u64,
     top: u64,
 ) -> Result<HotRun, AllocError>
     requires some_budget { 1 ≤ budget }
     requires few { budget ≤ MAX_BUDGET }
     ensures ending { IfOk result (λ run. run.ending
-        ≡ (delayed_record (plain_run (runs_of image.now index.now points.now input.now) budget)).ending) }
-    ensures text { IfOk result (λ run. (names : Bool) → hot_written names index.now.lines run
-        ≡ hot_text names top budget (runs_of image.now index.now points.now input.now)
-        (position_at index.now) index.now.lines) }
-    ensures whole { let runs = runs_of image.now index.now points.now input.now in
-        let count = length index.now.lines in
+        ≡ (delayed_record (plain_run (runs_on subject.now) budget)).ending) }
+    ensures text { IfOk result (λ run. (names : Bool)
+        → hot_written names subject.now.index.now.lines run
+        ≡ hot_text names top budget (runs_on subject.now)
+        (position_at subject.now.index.now) subject.now.index.now.lines) }
+    ensures whole { let runs = runs_on subject.now in
+        let position = position_at subject.now.index.now in
+        let count = length subject.now.index.now.lines in
         IfOk result (λ run.
-        (run.none ≡ none_of runs (position_at index.now) budget count)
+        (run.none ≡ none_of runs position budget count)
         × (run.all ≡ all_of runs budget)
-        × (sum (map (cost_on runs (position_at index.now) budget) (range_with_len 0 count))
+        × (sum (map (cost_on runs position budget) (range_with_len 0 count))
         + run.none ≡ run.all)) }
 {
     let choice = Choice::usual(None, 0, budget);
-    let mut counted = Counted::new(alloc, image, index, points, input, choice)?;
+    let mut counted = Counted::new(
+        alloc,
+        subject.image,
+        subject.index,
+        subject.points,
+        subject.input,
+        choice,
+    )?;
     let ending = counted.run();
-    let run = hot_of(alloc, &counted, ending, index.count(), top);
+    let run = hot_of(alloc, &counted, ending, subject.index.count(), top);
     // By one call, since a drop in place is proved part by part.
     drop(counted);
     run

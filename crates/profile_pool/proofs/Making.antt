@@ -44,20 +44,20 @@ forked work line speedup lead machine new state are led is =
 -- a lead that stands where it was made
 abbrev pub made_lead : Work → Choice → Seen (Before Guest)
 made_lead work choice = record {
-  image = work.image.now;
-  index = work.index.now;
-  points = work.points.now;
-  input = work.input.now;
+  image = work.subject.image.now;
+  index = work.subject.index.now;
+  points = work.subject.points.now;
+  input = work.subject.input.now;
   choice = choice;
   state = record {
-    state = unbegun (experiment work.image.now (position_at work.index.now) (point_of work.points.now) work.input.now choice);
+    state = unbegun (experiment work.subject.image.now (position_at work.subject.index.now) (point_of work.subject.points.now) work.subject.input.now choice);
     harts = 0 ∷ [];
   };
 }
 
-pub work_of : (work : Work) (choice : Choice) → All (λ (pair : Experiment). pair.line.0 < length work.index.now.lines) work.plan.now
+pub work_of : (work : Work) (choice : Choice) → All (λ (pair : Experiment). pair.line.0 < length work.subject.index.now.lines) work.plan.now
     → 1 ≤ work.budget → work.budget ≤ 10 ^ 12 → work.first.now ≡ made_lead work choice → choice ≡ choice_of (Some 0) 0 work.budget
-    → IfSome work.plain.now (IsPlain work.image.now work.index.now work.points.now work.input.now work.budget) → IsWork work
+    → IfSome work.plain.now (IsPlain work.subject.image.now work.subject.index.now work.subject.points.now work.subject.input.now work.budget) → IsWork work
 work_of work choice lines some few led chosen plain =
     let P : Seen (Before Guest) → Type 0 = λ lead. lead.state ≡ record { state = unbegun (experiment_of lead); harts = 0 ∷ [] } in
     record {

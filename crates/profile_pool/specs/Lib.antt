@@ -4,3 +4,4 @@ pub mod Work
 pub mod Profiles
 pub mod Plain
 pub mod Worth
+pub mod Subjects

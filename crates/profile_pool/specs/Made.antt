@@ -20,10 +20,10 @@ parts_made seen = record {
 -- for a run of a plan, with the line at this position selected, if one is, at this speedup
 abbrev pub made_for : Work → Option ℕ → ℕ → Seen (Unit {0})
 made_for work line speedup = record {
-  image = work.image.now;
-  index = work.index.now;
-  points = work.points.now;
-  input = work.input.now;
+  image = work.subject.image.now;
+  index = work.subject.index.now;
+  points = work.subject.points.now;
+  input = work.subject.input.now;
   choice = choice_of line speedup work.budget;
   state = tt;
 }

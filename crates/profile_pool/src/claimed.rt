@@ -32,7 +32,7 @@ fn lead_up<'a>(work: &Work<'a>, lead: &mut Lead<'a>, line: LineId)
 /// Brings a lead up to the first start of a line, unless it is known that the line never starts.
 fn take_up<'a>(work: &Work<'a>, lead: &mut Lead<'a>, line: LineId)
     requires work { IsWork work.now }
-    requires line { line.0 < length work.now.index.now.lines }
+    requires line { line.0 < length work.now.subject.index.now.lines }
     requires lead { IsFor work.now lead.old }
     ensures lead { IsFor work.now lead.new }
     ensures led { IsLed work.now lead.new line.0 }
@@ -46,7 +46,7 @@ fn take_up<'a>(work: &Work<'a>, lead: &mut Lead<'a>, line: LineId)
 /// The number of starts of a line at speedup 0, if it is known.
 fn starts_of(work: &Work, line: LineId) -> Option<u64>
     requires work { IsWork work.now }
-    requires line { line.0 < length work.now.index.now.lines }
+    requires line { line.0 < length work.now.subject.index.now.lines }
     ensures { result ≡ starts_in work.now.plain.now line.0 }
 {
     match work.plain {
@@ -59,7 +59,7 @@ fn starts_of(work: &Work, line: LineId) -> Option<u64>
 /// its speedup and its starts: at speedup 0, and if the line never starts.
 fn plain_of<'a>(work: &Work<'a>, pair: Experiment) -> Option<&'a Plain>
     requires work { IsWork work.now }
-    requires line { pair.line.0 < length work.now.index.now.lines }
+    requires line { pair.line.0 < length work.now.subject.index.now.lines }
     ensures { MatchOption result (¬ (starts_in work.now.plain.now pair.line.0 ≡ Some 0))
         (λ plain. IsTakenFrom work.now plain.now pair) }
 {
@@ -84,14 +84,14 @@ fn plain_pair(
     plain: &Plain,
     pair: Experiment,
 ) -> Result<Summary, AllocError>
-    requires line { pair.line.0 < length work.now.index.now.lines }
+    requires line { pair.line.0 < length work.now.subject.index.now.lines }
     requires speedup { pair.speedup ≤ MAX_SPEEDUP }
     requires plain { IsTakenFrom work.now plain.now pair }
     ensures summary { IfOk result (λ summary. summary ≡ summary_of_pair work.now pair) }
-    ensures ranges { IfOk result (IsSummary (length work.now.points.now.lines)) }
+    ensures ranges { IfOk result (IsSummary (length work.now.subject.points.now.lines)) }
 {
     let starts = plain.starts[pair.line.0 as usize];
-    let label = work.index.label(pair.line);
+    let label = work.subject.index.label(pair.line);
     relabelled(alloc, &plain.summary, label.bytes(), pair.speedup, starts)
 }
 
@@ -104,22 +104,22 @@ fn run_pair<'a>(
     known: &mut KnownOutput,
     pair: Experiment,
 ) -> Result<Summary, AllocError>
-    requires line { pair.line.0 < length work.now.index.now.lines }
+    requires line { pair.line.0 < length work.now.subject.index.now.lines }
     requires speedup { pair.speedup ≤ MAX_SPEEDUP }
     requires lead { parts_made lead.now ≡ made_for work.now (Some pair.line.0) 0 }
     requires machine { IsFor work.now machine.old }
     ensures machine { IsFor work.now machine.new }
     ensures summary { IfOk result (λ summary. summary ≡ summary_of_pair work.now pair) }
-    ensures ranges { IfOk result (IsSummary (length work.now.points.now.lines)) }
+    ensures ranges { IfOk result (IsSummary (length work.now.subject.points.now.lines)) }
 {
     lead.fork(machine, pair.speedup);
     machine.run();
     summarise(
         alloc,
         machine,
-        work.index.label(pair.line),
+        work.subject.index.label(pair.line),
         pair.speedup,
-        work.points,
+        work.subject.points,
         known,
     )
 }
@@ -134,13 +134,13 @@ fn make_pair<'a>(
     pair: Experiment,
 ) -> Result<Summary, AllocError>
     requires work { IsWork work.now }
-    requires line { pair.line.0 < length work.now.index.now.lines }
+    requires line { pair.line.0 < length work.now.subject.index.now.lines }
     requires speedup { pair.speedup ≤ MAX_SPEEDUP }
     requires lead { IsLed work.now lead.now pair.line.0 }
     requires machine { IsFor work.now machine.old }
     ensures machine { IsFor work.now machine.new }
     ensures summary { IfOk result (λ summary. summary ≡ summary_of_pair work.now pair) }
-    ensures ranges { IfOk result (IsSummary (length work.now.points.now.lines)) }
+    ensures ranges { IfOk result (IsSummary (length work.now.subject.points.now.lines)) }
 {
     match plain_of(work, pair) {
         Some(plain) => plain_pair(alloc, work, plain, pair),
@@ -160,7 +160,7 @@ fn run_pairs<'a>(
 ) -> Result<(), AllocError>
     requires work { IsWork work.now }
     requires lines { All (λ (pair : Experiment).
-        pair.line.0 < length work.now.index.now.lines) pairs.now }
+        pair.line.0 < length work.now.subject.index.now.lines) pairs.now }
     requires speedups { All (λ (pair : Experiment). pair.speedup ≤ MAX_SPEEDUP) pairs.now }
     requires lead { All (λ (pair : Experiment).
         IsLed work.now lead.now pair.line.0) pairs.now }
@@ -170,7 +170,7 @@ fn run_pairs<'a>(
     ensures summaries { IfOk result (λ _.
         summaries.new.items ≡ map (summary_of_pair work.now) pairs.now) }
     ensures ranges { IfOk result (λ _.
-        All (IsSummary (length work.now.points.now.lines)) summaries.new.items) }
+        All (IsSummary (length work.now.subject.points.now.lines)) summaries.new.items) }
 {
     for pair in pairs {
         let summary = make_pair(alloc, work, lead, machine, known, *pair)?;
@@ -188,7 +188,7 @@ impl<'a> ClaimWork for Work<'a> {
 
     ghost summaries_of_claim = { work_at };
 
-    ghost points = { λ work. length work.points.now.lines };
+    ghost points = { λ work. length work.subject.points.now.lines };
 
     ghost is_for = { AreFor };
 
@@ -202,18 +202,18 @@ impl<'a> ClaimWork for Work<'a> {
         let choice = Choice::usual(Some(LineId(0)), 0, self.budget);
         let lead = Lead::new(
             alloc,
-            self.image,
-            self.index,
-            self.points,
-            self.input,
+            self.subject.image,
+            self.subject.index,
+            self.subject.points,
+            self.subject.input,
             choice,
         )?;
         match Machine::new(
             alloc,
-            self.image,
-            self.index,
-            self.points,
-            self.input,
+            self.subject.image,
+            self.subject.index,
+            self.subject.points,
+            self.subject.input,
             choice,
         ) {
             Ok(machine) => Ok(Runner {

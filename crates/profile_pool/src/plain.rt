@@ -8,15 +8,16 @@ ghost use Rattle.machines.specs.Records.{record_of};
 ghost use Rattle.run_engine.specs.Seen.{experiment_of};
 ghost use Rattle.profile_pool.specs.Summaries.{summary_of};
 ghost use Rattle.run_summary.specs.Summaries.{relabelled};
-ghost use Rattle.profile_pool.specs.Plain.{starts_at, SaysOf, IsPlain};
-ghost use Rattle.profile_pool.specs.Worth.{is_worth};
+ghost use Rattle.profile_pool.specs.Plain.{starts_at, SaysOf};
+ghost use Rattle.profile_pool.specs.Subjects.{IsPlainOn, is_worth_on};
 
 use crate::outcomes::ended;
 use crate::worth::is_worth;
 use counted_run::Counted;
-use coz_types::{Image, LineId, Summary};
+use coz_types::{LineId, Summary};
 use line_index::LineIndex;
 use progress_points::Points;
+use run_subject::Subject;
 use run_summary::{digest_of_bytes, summary_of_run};
 use std::alloc::{AllocError, Global};
 use virtual_run::Choice;
@@ -100,22 +101,22 @@ fn plain_in(
 }
 
 /// The record of the run of a program with no line selected.
-fn plain_run(
-    alloc: Global,
-    image: &Image,
-    index: &LineIndex,
-    points: &Points,
-    input: &[u8],
-    budget: u64,
-) -> Result<Plain, AllocError>
+fn plain_run(alloc: Global, subject: &Subject, budget: u64) -> Result<Plain, AllocError>
     requires some_budget { 1 ≤ budget }
     requires few { budget ≤ MAX_BUDGET }
-    ensures { IfOk result (IsPlain image.now index.now points.now input.now budget) }
+    ensures { IfOk result (IsPlainOn subject.now budget) }
 {
     let choice = Choice::usual(None, 0, budget);
-    let mut counted = Counted::new(alloc, image, index, points, input, choice)?;
+    let mut counted = Counted::new(
+        alloc,
+        subject.image,
+        subject.index,
+        subject.points,
+        subject.input,
+        choice,
+    )?;
     counted.run();
-    let plain = plain_in(alloc, &counted, index, points);
+    let plain = plain_in(alloc, &counted, subject.index, subject.points);
     // By one call, since a drop in place is proved part by part.
     drop(counted);
     plain
@@ -125,24 +126,21 @@ fn plain_run(
 /// many lines. Fails only if out of memory.
 pub fn plain_if_worth(
     alloc: Global,
-    image: &Image,
-    index: &LineIndex,
-    points: &Points,
-    input: &[u8],
+    subject: &Subject,
     lines: u32,
     budget: u64,
 ) -> Result<Option<Plain>, AllocError>
     requires some_budget { 1 ≤ budget }
     requires few { budget ≤ MAX_BUDGET }
     ensures made { IfOk result (λ plain. is_some plain
-        ≡ is_worth image.now index.now points.now input.now lines budget) }
+        ≡ is_worth_on subject.now lines budget) }
     ensures plain { IfOk result (λ plain.
-        IfSome plain (IsPlain image.now index.now points.now input.now budget)) }
+        IfSome plain (IsPlainOn subject.now budget)) }
 {
-    if !is_worth(alloc, image, index, points, input, lines, budget)? {
+    if !is_worth(alloc, subject, lines, budget)? {
         return Ok(None);
     }
-    match plain_run(alloc, image, index, points, input, budget) {
+    match plain_run(alloc, subject, budget) {
         Ok(plain) => Ok(Some(plain)),
         Err(error) => Err(error),
     }

@@ -3,17 +3,15 @@ ghost use Rattle.std.specs.Prelude.{◌≡◌, ◌<◌, ◌≤◌, IfOk, IfSome,
 ghost use Rattle.coz_types.specs.declared.TheConstants.{MAX_BUDGET, MAX_WORKERS};
 ghost use Rattle.coz_types.specs.Ranges.{IsSummary};
 ghost use Rattle.experiment_plan.specs.declared.experiment.Experiment.{Experiment};
-ghost use Rattle.profile_pool.specs.Plain.{IsPlain};
-ghost use Rattle.profile_pool.specs.Summaries.{summaries_of};
+ghost use Rattle.profile_pool.specs.Subjects.{IsPlainOn, summaries_on};
 
 use crate::plain::{Plain, plain_if_worth};
 use crate::work::Work;
 use claim_workers::run_claims;
 use coz_files::Gate;
-use coz_types::{Image, LineId, Summary};
+use coz_types::{LineId, Summary};
 use experiment_plan::Plan;
-use line_index::LineIndex;
-use progress_points::Points;
+use run_subject::Subject;
 use std::alloc::{AllocError, Global};
 use std::thread::Threads;
 use virtual_run::{Choice, Lead};
@@ -23,35 +21,37 @@ use virtual_run::{Choice, Lead};
 fn run_from<R: Threads + Sync, G: Gate>(
     rt: &R,
     alloc: Global,
-    image: &Image,
-    index: &LineIndex,
-    points: &Points,
-    input: &[u8],
+    subject: &Subject,
     plan: &Plan,
     budget: u64,
     workers: u32,
     gate: &G,
     plain: &Option<Plain>,
 ) -> Result<Vec<Summary>, AllocError>
-    requires lines { All (λ (pair : Experiment). pair.line.0 < length index.now.lines) plan.now }
+    requires lines { All (λ (pair : Experiment).
+        pair.line.0 < length subject.now.index.now.lines) plan.now }
     requires some_budget { 1 ≤ budget }
     requires few { budget ≤ MAX_BUDGET }
     requires some_workers { 1 ≤ workers }
     requires few_workers { workers ≤ MAX_WORKERS }
     requires plain { IfSome plain.now
-        (IsPlain image.now index.now points.now input.now budget) }
+        (IsPlainOn subject.now budget) }
     ensures summaries { IfOk result (λ summaries.
-        summaries.items ≡ summaries_of image.now index.now points.now input.now budget plan.now) }
+        summaries.items ≡ summaries_on subject.now budget plan.now) }
     ensures ranges { IfOk result (λ summaries.
-        All (IsSummary (length points.now.lines)) summaries.items) }
+        All (IsSummary (length subject.now.points.now.lines)) summaries.items) }
 {
     let choice = Choice::usual(Some(LineId(0)), 0, budget);
-    let lead = Lead::new(alloc, image, index, points, input, choice)?;
+    let lead = Lead::new(
+        alloc,
+        subject.image,
+        subject.index,
+        subject.points,
+        subject.input,
+        choice,
+    )?;
     let work = Work {
-        image,
-        index,
-        points,
-        input,
+        subject: *subject,
         plan,
         first: &lead,
         plain,
@@ -69,35 +69,31 @@ fn run_from<R: Threads + Sync, G: Gate>(
 pub fn run_plan<R: Threads + Sync, G: Gate>(
     rt: &R,
     alloc: Global,
-    image: &Image,
-    index: &LineIndex,
-    points: &Points,
-    input: &[u8],
+    subject: &Subject,
     plan: &Plan,
     budget: u64,
     workers: u32,
     gate: &G,
 ) -> Result<Vec<Summary>, AllocError>
-    requires lines { All (λ (pair : Experiment). pair.line.0 < length index.now.lines) plan.now }
+    requires lines { All (λ (pair : Experiment).
+        pair.line.0 < length subject.now.index.now.lines) plan.now }
     requires some_budget { 1 ≤ budget }
     requires few { budget ≤ MAX_BUDGET }
     requires some_workers { 1 ≤ workers }
     requires few_workers { workers ≤ MAX_WORKERS }
     ensures summaries { IfOk result (λ summaries.
-        summaries.items ≡ summaries_of image.now index.now points.now input.now budget plan.now) }
+        summaries.items ≡ summaries_on subject.now budget plan.now) }
     ensures ranges { IfOk result (λ summaries.
-        All (IsSummary (length points.now.lines)) summaries.items) }
+        All (IsSummary (length subject.now.points.now.lines)) summaries.items) }
 {
     let lines = plan.line_count();
     if lines == 0 {
         return Ok(Vec::new(alloc));
     }
-    let plain = plain_if_worth(alloc, image, index, points, input, lines, budget)?;
+    let plain = plain_if_worth(alloc, subject, lines, budget)?;
     // A worker with no line would make its machines for nothing.
     let workers = workers.min(lines);
-    let summaries = run_from(
-        rt, alloc, image, index, points, input, plan, budget, workers, gate, &plain,
-    );
+    let summaries = run_from(rt, alloc, subject, plan, budget, workers, gate, &plain);
     // By one call, since a drop in place is proved part by part.
     drop(plain);
     summaries

@@ -1,23 +1,15 @@
 //! What workers share for the runs of a plan, and the state of a worker.
 use crate::known::KnownOutput;
 use crate::plain::Plain;
-use coz_types::Image;
 use experiment_plan::Plan;
-use line_index::LineIndex;
-use progress_points::Points;
+use run_subject::Subject;
 use virtual_run::{Lead, Machine};
 
 /// The runs that are to be made of a program: what workers share, and none writes.
 #[derive(Clone, Copy)]
 pub struct Work<'a> {
-    /// The program.
-    pub image: &'a Image<'a>,
-    /// The lines of the program.
-    pub index: &'a LineIndex,
-    /// The progress points.
-    pub points: &'a Points,
-    /// The input of the program.
-    pub input: &'a [u8],
+    /// The program, its lines, the progress points and the input.
+    pub subject: Subject<'a>,
     /// Which lines are selected, and at which speedups.
     pub plan: &'a Plan,
     /// A lead that has not run. The lead of each line begins as a copy of it.

@@ -3,12 +3,12 @@ ghost use Rattle.std.specs.Prelude.{◌≡◌, ◌≤◌, IfOk};
 ghost use Rattle.coz_types.specs.declared.TheConstants.{MAX_BUDGET};
 ghost use Rattle.guest_memory.specs.Regions.{IsLayout};
 ghost use Rattle.run_engine.specs.Run.{IsChoice};
-ghost use Rattle.profile_pool.specs.Worth.{is_success, small, small_choice, is_long, is_worth};
+ghost use Rattle.profile_pool.specs.Subjects.{is_long_on, is_worth_on};
+ghost use Rattle.profile_pool.specs.Worth.{is_success, small, small_choice};
 
-use coz_types::{Ending, Image};
+use coz_types::Ending;
 use guest_memory::Layout;
-use line_index::LineIndex;
-use progress_points::Points;
+use run_subject::Subject;
 use std::alloc::{AllocError, Global};
 use virtual_run::{Choice, Machine};
 
@@ -66,21 +66,21 @@ fn is_success(ending: Ending) -> bool
 
 /// Whether a run of a program in small regions does not exit with the code 0 within this many
 /// instructions. So a run that needs larger regions counts as long.
-fn is_long(
-    alloc: Global,
-    image: &Image,
-    index: &LineIndex,
-    points: &Points,
-    input: &[u8],
-    instructions: u64,
-) -> Result<bool, AllocError>
+fn is_long(alloc: Global, subject: &Subject, instructions: u64) -> Result<bool, AllocError>
     requires some { 1 ≤ instructions }
     requires few { instructions ≤ MAX_BUDGET }
     ensures { IfOk result (λ long. long
-        ≡ is_long image.now index.now points.now input.now instructions) }
+        ≡ is_long_on subject.now instructions) }
 {
     let choice = small_choice(instructions);
-    let mut machine = Machine::new(alloc, image, index, points, input, choice)?;
+    let mut machine = Machine::new(
+        alloc,
+        subject.image,
+        subject.index,
+        subject.points,
+        subject.input,
+        choice,
+    )?;
     let ending = machine.run();
     // By one call, since a drop in place is proved part by part.
     drop(machine);
@@ -92,15 +92,12 @@ fn is_long(
 /// budget is small. Fails only if out of memory.
 pub fn is_worth(
     alloc: Global,
-    image: &Image,
-    index: &LineIndex,
-    points: &Points,
-    input: &[u8],
+    subject: &Subject,
     lines: u32,
     budget: u64,
 ) -> Result<bool, AllocError>
     ensures { IfOk result (λ worth. worth
-        ≡ is_worth image.now index.now points.now input.now lines budget) }
+        ≡ is_worth_on subject.now lines budget) }
 {
     if lines < 2 {
         return Ok(false);
@@ -109,5 +106,5 @@ pub fn is_worth(
     if budget < least {
         return Ok(false);
     }
-    is_long(alloc, image, index, points, input, least)
+    is_long(alloc, subject, least)
 }

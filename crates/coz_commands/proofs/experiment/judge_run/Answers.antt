@@ -1,8 +1,6 @@
-use Rattle.coz_commands.specs.Verdict.{asked_verdict, run_printed}
-use Rattle.coz_commands.proofs.Judged.{judged_run, suits_file}
+use Rattle.coz_commands.specs.Kinds.{printed_of}
 use Rattle.coz_commands.proofs.experiment.judge_run.Goals as goal
 
-pub returns-clause-fault_of_request : goal.returns-clause-fault_of_request
-returns-clause-fault_of_request g c =
-    let asked = c.args.request.now in
-    suits_file (asked_verdict asked run_printed) asked _ _ c.run_of_file.result (judged_run asked) c.run_of_file.ensures.no_read c.run_of_file.ensures.verdict
+pub returns-clause-verdict : goal.returns-clause-verdict
+unfolding printed_of
+returns-clause-verdict g c = c.judge_kind.ensures.verdict

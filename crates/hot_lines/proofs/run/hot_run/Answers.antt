@@ -12,10 +12,10 @@ use Rattle.hot_lines.proofs.run.hot_run.Goals as goal
 
 pub returns-clause-ending : goal.returns-clause-ending
 returns-clause-ending c =
-    let image = c.args.image.now in
-    let index = c.args.index.now in
-    let points = c.args.points.now in
-    let input = c.args.input.now in
+    let image = c.args.subject.now.image.now in
+    let index = c.args.subject.now.index.now in
+    let points = c.args.subject.now.points.now in
+    let input = c.args.subject.now.input.now in
     let budget = c.args.budget in
     let old : Seen (Delayed Guest) = c.in_ok-counted.counted in
     let seen : Seen (Delayed Guest) = c.run-ending.new.self in
@@ -31,10 +31,10 @@ returns-clause-ending c =
 
 pub returns-clause-text : goal.returns-clause-text
 returns-clause-text c =
-    let image = c.args.image.now in
-    let index = c.args.index.now in
-    let points = c.args.points.now in
-    let input = c.args.input.now in
+    let image = c.args.subject.now.image.now in
+    let index = c.args.subject.now.index.now in
+    let points = c.args.subject.now.points.now in
+    let input = c.args.subject.now.input.now in
     let budget = c.args.budget in
     let old : Seen (Delayed Guest) = c.in_ok-counted.counted in
     let seen : Seen (Delayed Guest) = c.run-ending.new.self in
@@ -50,10 +50,10 @@ returns-clause-text c =
 
 pub returns-clause-whole : goal.returns-clause-whole
 returns-clause-whole c =
-    let image = c.args.image.now in
-    let index = c.args.index.now in
-    let points = c.args.points.now in
-    let input = c.args.input.now in
+    let image = c.args.subject.now.image.now in
+    let index = c.args.subject.now.index.now in
+    let points = c.args.subject.now.points.now in
+    let input = c.args.subject.now.input.now in
     let budget = c.args.budget in
     let old : Seen (Delayed Guest) = c.in_ok-counted.counted in
     let seen : Seen (Delayed Guest) = c.run-ending.new.self in

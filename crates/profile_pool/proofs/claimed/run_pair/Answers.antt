@@ -32,13 +32,13 @@ returns-clause-summary c =
     let work = c.args.work.now in
     let pair = c.args.pair in
     let run = c.run in
-    let points = work.points.now in
+    let points = work.subject.points.now in
     let is = forked work pair.line.0 _ c.args.lead.now c.args.machine.now c.fork.new.machine _ c.requires.machine c.requires.lead c.fork.ensures.forked in
     let recorded =
     ap (λ (seen : Seen (Unit {0})). record_of (experiment_of seen) run.new.self.state run.result) (ap parts_made run.ensures.rest)
     ∙ run.ensures.record
     ∙ ap (λ (seen : Seen (Unit {0})). delayed_record (experiment_of seen)) is in
     summary_at _ c.label.result.now pair.speedup (length points.lines) _ _ c.summarise.result
-    (sym (get_or_from_slice_get (map label work.index.now.lines) pair.line.0 c.label.result.now [] c.label.ensures.label))
+    (sym (get_or_from_slice_get (map label work.subject.index.now.lines) pair.line.0 c.label.result.now [] c.label.ensures.label))
     recorded
     (c.summarise.ensures.summary run.result run.ensures.ended)

@@ -9,7 +9,7 @@ use Rattle.profile_pool.proofs.claimed.run_pairs.Goals as goal
 pub loop-pair-preserved : goal.loop-pair-preserved
 loop-pair-preserved c =
     let before = c.loop-pair.invariant in
-    let R : Summary → Type 0 = IsSummary (length c.args.work.now.points.now.lines) in (
+    let R : Summary → Type 0 = IsSummary (length c.args.work.now.subject.points.now.lines) in (
       pair_next (summary_of_pair c.args.work.now) c.args.pairs.now c.loop-pair.pair-index _ _ _ _ c.loop-pair-test.true before.0 c.in_ok-push.ensures.items c.in_ok-summary.ensures.summary,
       All-same R _ _ c.in_ok-push.ensures.items (All-push R _ _ before.1 c.in_ok-summary.ensures.ranges),
       c.make_pair.ensures.machine,

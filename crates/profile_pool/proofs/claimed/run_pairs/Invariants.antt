@@ -9,5 +9,5 @@ use Rattle.profile_pool.proofs.claimed.run_pairs.Given as goal
 abbrev pub invariant-loop-pair : goal.invariant-loop-pair
 invariant-loop-pair l =
     (l.summaries.items ≡ map (summary_of_pair l.work) (take l.pair-index l.pairs))
-    × All (IsSummary (length l.work.points.now.lines)) l.summaries.items
+    × All (IsSummary (length l.work.subject.points.now.lines)) l.summaries.items
     × IsFor l.work l.machine

@@ -18,10 +18,10 @@ use Rattle.profile_pool.proofs.plain.plain_run.Goals as goal
 
 pub returns : goal.returns
 returns c =
-    let image = c.args.image.now in
-    let index = c.args.index.now in
-    let points = c.args.points.now in
-    let input = c.args.input.now in
+    let image = c.args.subject.now.image.now in
+    let index = c.args.subject.now.index.now in
+    let points = c.args.subject.now.points.now in
+    let input = c.args.subject.now.input.now in
     let seen = c.run.new.self in
     let with_choice : Choice → Seen (Unit {0}) = λ choice. record { image = image; index = index; points = points; input = input; choice = plain_choice choice; state = tt } in
     let made : parts_made seen ≡ plain_parts image index points input c.args.budget =

@@ -14,6 +14,6 @@ run_claims-summaries-requires-clause-work g c κs = λ _.
 pub returns-clause-summaries : goal.returns-clause-summaries
 returns-clause-summaries g c =
     let s : Experiment → Summary =
-    λ pair. summary_in c.args.image.now c.args.index.now c.args.points.now c.args.input.now c.args.budget pair.line.0 pair.speedup in
+    λ pair. summary_in c.args.subject.now.image.now c.args.subject.now.index.now c.args.subject.now.points.now c.args.subject.now.input.now c.args.budget pair.line.0 pair.speedup in
     let P : List Summary → Type 0 = λ summaries. IfOk c.run_claims-summaries.result (λ v. v.items ≡ summaries) in
     subst P (plan_by_line s c.args.plan.now) c.run_claims-summaries.ensures.summaries

@@ -9,5 +9,5 @@ use Rattle.profile_pool.proofs.pool.run_plan.Goals as goal
 pub returns-then-lines-eq0-clause-summaries : goal.returns-then-lines-eq0-clause-summaries
 returns-then-lines-eq0-clause-summaries g c =
     let s : Experiment → Summary =
-    λ pair. summary_in c.args.image.now c.args.index.now c.args.points.now c.args.input.now c.args.budget pair.line.0 pair.speedup in
+    λ pair. summary_in c.args.subject.now.image.now c.args.subject.now.index.now c.args.subject.now.points.now c.args.subject.now.input.now c.args.budget pair.line.0 pair.speedup in
     c.new.ensures.items ∙ no_lines s c.args.plan.now (sym c.line_count-lines.ensures.count ∙ c.if-lines-eq0.true)

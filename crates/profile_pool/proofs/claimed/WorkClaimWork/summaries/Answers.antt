@@ -12,7 +12,7 @@ use Rattle.profile_pool.proofs.claimed.WorkClaimWork.summaries.Goals as goal
 pub run_pairs-requires-clause-lines : goal.run_pairs-requires-clause-lines
 run_pairs-requires-clause-lines c =
     let plan = c.args.self.now.plan.now in
-    let P : Experiment → Type 0 = λ pair. pair.line.0 < length c.args.self.now.index.now.lines in
+    let P : Experiment → Type 0 = λ pair. pair.line.0 < length c.args.self.now.subject.index.now.lines in
     of_all P (by_line plan) _ c.of_line-pairs.result.now (All-same P (all_pairs (by_line plan)) plan (joined_again plan) c.requires.work.lines) c.of_line-pairs.ensures.pairs
 
 -- what is so of a line is so of each of its pairs
@@ -38,7 +38,7 @@ returns-in-Err-clause-runner c = (c.take_up.ensures.lead, c.run_pairs.ensures.ma
 pub take_up-requires-clause-line : goal.take_up-requires-clause-line
 take_up-requires-clause-line c =
     let plan = c.args.self.now.plan.now in
-    let P : Experiment → Type 0 = λ pair. pair.line.0 < length c.args.self.now.index.now.lines in
+    let P : Experiment → Type 0 = λ pair. pair.line.0 < length c.args.self.now.subject.index.now.lines in
     let each : All P c.of_line-pairs.result.now =
     of_all P (by_line plan) _ c.of_line-pairs.result.now (All-same P (all_pairs (by_line plan)) plan (joined_again plan) c.requires.work.lines) c.of_line-pairs.ensures.pairs in
     let some = c.of_line-pairs.ensures.one_line.some in

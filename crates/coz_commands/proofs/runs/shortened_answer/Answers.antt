@@ -2,7 +2,7 @@ use Rattle.std.proofs.Common.{◌∙◌, ap}
 use Rattle.machines.specs.Records.{shortened_record}
 use Rattle.run_engine.specs.Seen.{experiment_of}
 use Rattle.coz_commands.specs.Verdict.{really_verdict}
-use Rattle.coz_commands.proofs.runs.really_answer.Goals as goal
+use Rattle.coz_commands.proofs.runs.shortened_answer.Goals as goal
 
 pub returns-clause-verdict : goal.returns-clause-verdict
 returns-clause-verdict c = λ other.
