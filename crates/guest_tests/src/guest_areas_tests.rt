@@ -68,14 +68,17 @@ fn answer(areas: &mut Areas, memory: &mut Memory, call: Call) -> i64
     }
 }
 
-/// An address that the break is moved to, and where the break is then.
+/// An address that the break is moved to, and where the break is then. Before each move a number is
+/// stored at the base, if the program has this page: it is not there once the page is given anew.
 /// By hand, from docs/FORMATS.md, Memory calls.
-static BREAKS: [(Address, Address); 6] = [
+static BREAKS: [(Address, Address); 8] = [
     (0, BRK_BASE),
     (BRK_BASE + 5000, BRK_BASE + 5000),
     (BRK_BASE - 1, BRK_BASE + 5000),
     (BRK_BASE + 16 * MIB + 1, BRK_BASE + 5000),
     (BRK_BASE + 16 * MIB, BRK_BASE + 16 * MIB),
+    (BRK_BASE + 1, BRK_BASE + 1),
+    (BRK_BASE, BRK_BASE),
     (BRK_BASE + 1, BRK_BASE + 1),
 ];
 
@@ -83,6 +86,7 @@ fn check_breaks(rt: &impl Abort, areas: &mut Areas, memory: &mut Memory)
     requires { SharesRegions areas.old memory.old }
 {
     for &(to, end) in &BREAKS {
+        let _stored = memory.store(BRK_BASE, 8, 7);
         check_equal(rt, (to, areas.brk(memory, to)), (to, end));
     }
     let page = (memory.writable(BRK_BASE, 4096), memory.load(BRK_BASE, 8));

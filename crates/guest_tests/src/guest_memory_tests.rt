@@ -115,17 +115,23 @@ fn a_new_memory_consists_of_the_file_and_a_stack(rt: HostRuntime) -> Result<(), 
 }
 
 /// Addresses, and the numbers in 4 bytes there once 8 bytes are stored over the border of two
-/// pages.
-static STORED: [(Address, u64); 3] = [
+/// pages, and not in a page that may only be read.
+static STORED: [(Address, u64); 4] = [
     (BRK_BASE + 0xFFC, 0x5566_7788),
     (BRK_BASE + 0x1000, 0x1122_3344),
     (BRK_BASE + 0x1FFC, 0),
+    (BRK_BASE + 0x3000, 0),
 ];
 
 fn check_stores(rt: &impl Abort, memory: &mut Memory) {
     let within = memory.store(BRK_BASE + 0xFFC, 8, 0x1122_3344_5566_7788);
     let past = memory.store(BRK_BASE + 0x1FFC, 8, 7);
-    check_equal(rt, (within, past), (Ok(()), Err(Access)));
+    let read_only = memory.store(BRK_BASE + 0x3000, 8, 7);
+    check_equal(
+        rt,
+        (within, past, read_only),
+        (Ok(()), Err(Access), Err(Access)),
+    );
     for &(address, number) in &STORED {
         check_equal(
             rt,
@@ -153,6 +159,7 @@ fn writes_reach_each_page_of_a_range_or_nothing(rt: HostRuntime) -> Result<(), F
     let image = program(rt.alloc())?;
     let mut memory = made(rt.alloc(), &image)?;
     memory.give(BRK_BASE, 2, READ_AND_WRITE, true);
+    memory.give(BRK_BASE + 0x3000, 1, READ, true);
     check_stores(&rt, &mut memory);
     check_copies_in(&rt, &mut memory);
     // By a call, since a drop in place is proved part by part.
@@ -186,22 +193,32 @@ const READ_AND_WRITE: Rights = Rights {
     execute: false,
 };
 
+const READ: Rights = Rights {
+    read: true,
+    write: false,
+    execute: false,
+};
+
 const NO_RIGHTS: Rights = Rights {
     read: false,
     write: false,
     execute: false,
 };
 
-/// A page of code and a page of data.
+/// Two pages of code and a page of data.
 fn two_areas(alloc: Global) -> Result<Image<'static>, AllocError>
-    ensures { IfOk result (λ image. IsKnown image.areas usual 16) }
+    ensures { IfOk result (λ image. IsKnown image.areas usual 17) }
 {
     let code = Rights {
         read: true,
         write: false,
         execute: true,
     };
-    let areas = vec![in alloc; area(0x10000, code), area(DATA, READ_AND_WRITE)]?;
+    let code = Area {
+        size: 8192,
+        ..area(0x10000, code)
+    };
+    let areas = vec![in alloc; code, area(DATA, READ_AND_WRITE)]?;
     Ok(Image::new(&[], areas, 0x10000, 0, 0))
 }
 
@@ -345,16 +362,16 @@ fn first_code(memory: &Memory) -> Option<(Address, u64)> {
 fn check_first_code<'a>(rt: &impl Abort, first: &Memory<'a>, memory: &mut Memory<'a>)
     requires layout { (memory.old.layout ≡ usual) × (first.now.layout ≡ usual) }
     requires image { memory.old.image ≡ first.now.image }
-    requires known { IsKnown memory.old.image.areas usual 16 }
+    requires known { IsKnown memory.old.image.areas usual 17 }
 {
     let new = first_code(memory);
     change(memory);
     let elsewhere = first_code(memory);
-    memory.give(0x10000, 1, NO_RIGHTS, false);
+    memory.give(0x11000, 1, NO_RIGHTS, false);
     let taken = first_code(memory);
     memory.copy_from(first);
     let found = (new, elsewhere, taken, first_code(memory));
-    let code = Some((0x10000, 4096));
+    let code = Some((0x10000, 8192));
     check_equal(rt, found, (code, code, None, code));
 }
 
