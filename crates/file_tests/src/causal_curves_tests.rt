@@ -7,7 +7,8 @@ use std::alloc::{AllocError, Global};
 use std::test::Fail;
 
 /// Two points and five lines: no visits of the second point at a speedup, a time that changes by
-/// less than a ten thousandth, no run at speedup 0, no net time there, and a line that costs time.
+/// less than a ten thousandth, no run at speedup 0, no net time there, and a line that costs time and
+/// has twice the visits of the second point.
 const PROFILE: &[u8] = b"coz-ticks\tversion=1\tbudget=1000\tpoints=2\n\
 point\tindex=0\tname=p.s:1\n\
 point\tindex=1\tname=p.s:2\n\
@@ -64,7 +65,7 @@ visits\tsha256=e3b0c44298fc1c149afbf4c8996fb92427ae41e4649b934ca495991b7852b855\
 experiment\tselected=e.s:1\tspeedup=50\tend=exited:0\ttime=1100\tdelay=0\tretired=3\tstarts=1\n\
 output\tlength=0\tsha256=e3b0c44298fc1c149afbf4c8996fb92427ae41e4649b934ca495991b7852b855\n\
 throughput-point\tindex=0\tdelta=1\n\
-throughput-point\tindex=1\tdelta=1\n\
+throughput-point\tindex=1\tdelta=2\n\
 visits\tsha256=e3b0c44298fc1c149afbf4c8996fb92427ae41e4649b934ca495991b7852b855\n";
 
 /// The text of docs/FORMATS.md, Text of plot, by hand from the times, delays and counts of
@@ -85,13 +86,13 @@ step\tspeedup=50\tvalue=absent\tbar=\n\
 curve\tpoint=0\tselected=d.s:1\tgain=absent\n\
 step\tspeedup=0\tvalue=absent\tbar=\n\
 step\tspeedup=50\tvalue=absent\tbar=\n\
+curve\tpoint=1\tselected=e.s:1\tgain=4500\n\
+step\tspeedup=0\tvalue=0\tbar=\n\
+step\tspeedup=50\tvalue=4500\tbar=##################\n\
 curve\tpoint=1\tselected=b.s:1\tgain=4000\n\
 step\tspeedup=0\tvalue=0\tbar=\n\
 step\tspeedup=25\tvalue=-4\tbar=\n\
 step\tspeedup=50\tvalue=4000\tbar=################\n\
-curve\tpoint=1\tselected=e.s:1\tgain=-1000\n\
-step\tspeedup=0\tvalue=0\tbar=\n\
-step\tspeedup=50\tvalue=-1000\tbar=----\n\
 curve\tpoint=1\tselected=a.s:1\tgain=absent\n\
 step\tspeedup=0\tvalue=absent\tbar=\n\
 step\tspeedup=25\tvalue=absent\tbar=\n\

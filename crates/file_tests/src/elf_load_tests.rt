@@ -468,7 +468,7 @@ const LARGE: Area = Area {
 type Loaded = (&'static [Change], &'static [Area], u64, usize);
 
 /// By hand, from the changed fields.
-static LOADED: [Loaded; 8] = [
+static LOADED: [Loaded; 9] = [
     (&[], &[FIRST], 0, 66),
     (&SECOND, &[FIRST, WRITABLE], 0, 66),
     // The areas have 64 MiB together.
@@ -513,6 +513,8 @@ static LOADED: [Loaded; 8] = [
     (&[(DATA_HEADER + SH_OFFSET, &ONES)], &[FIRST], 0, 66),
     // A name that has no end is none.
     (&[(LINES_HEADER + SH_NAME, &[34])], &[FIRST], 0, 0),
+    // The names end with the name of the lines, without its zero byte.
+    (&[(NAMES_HEADER + SH_SIZE, &[24])], &[FIRST], 0, 0),
 ];
 
 fn check_image(rt: &impl Abort, alloc: Global, row: &Loaded) -> Result<(), LoadError> {

@@ -6,8 +6,8 @@ const SHORT: LebFault = LebFault::Short(Short { place: 0 });
 
 const WIDE: LebFault = LebFault::Wide { place: 0 };
 
-/// Bytes, the number that they begin with, and the place of the cursor after it: the examples of the
-/// DWARF standard, padded ones, and the edges of 64 bits.
+/// Bytes, the number that they begin with, and the place of the cursor after it, which is 0 after a
+/// fault: the examples of the DWARF standard, padded ones, and the edges of 64 bits.
 static UNSIGNED: [(&[u8], Result<u64, LebFault>, u64); 13] = [
     (b"\x02", Ok(2), 1),
     (b"\x7F", Ok(127), 1),
@@ -71,8 +71,9 @@ static SIGNED: [(&[u8], Result<i64, LebFault>, u64); 18] = [
 fn unsigned_and_signed_numbers_are_read(rt: HostRuntime) {
     for &(bytes, number, place) in &UNSIGNED {
         let mut cursor = Cursor::new(bytes);
-        let found = (bytes, cursor.uleb(), cursor.place());
-        check_equal(&rt, found, (bytes, number, place));
+        let found = (bytes, cursor.uleb(), cursor.place(), cursor.left());
+        let left = (bytes.len() as u64).saturating_sub(place);
+        check_equal(&rt, found, (bytes, number, place, left));
     }
     for &(bytes, number, place) in &SIGNED {
         let mut cursor = Cursor::new(bytes);

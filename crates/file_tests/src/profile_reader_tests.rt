@@ -23,7 +23,7 @@ const COUNT: &[u8] = b"throughput-point\tindex=0\tdelta=7\n";
 
 /// Changes, and the field and offset of the first fault.
 /// By hand, from docs/FORMATS.md, Profile text.
-static ROWS: [(&[Change], Option<(BookField, u64)>); 25] = [
+static ROWS: [(&[Change], Option<(BookField, u64)>); 27] = [
     (&[], None),
     (
         &[
@@ -50,6 +50,10 @@ static ROWS: [(&[Change], Option<(BookField, u64)>); 25] = [
     (&[(106, 8, b"\tdelay=4201")], Some((Delay, 106))),
     (&[(157, 1, b"E")], Some((Digest, 149))),
     (&[(222, 6, b"visits ")], Some((Visits, 222))),
+    // The text ends after the output of the first experiment.
+    (&[(222, 336, b"")], Some((Visits, 222))),
+    // The second experiment has the speedup of the first.
+    (&[(337, 2, b"0")], Some((Speedup, 328))),
     // The two experiments in the other order.
     (
         &[
