@@ -24,7 +24,7 @@ struct Row {
 
 /// A division takes 2,000 ticks, a system call 4,000 and each other instruction 100.
 /// `tools/check-tables` computes the same from the sources, by docs/FORMATS.md, without the code.
-static ROWS: [Row; 4] = [
+static ROWS: [Row; 5] = [
     Row {
         source: EXIT,
         budget: 100,
@@ -53,6 +53,22 @@ static ROWS: [Row; 4] = [
             (2, 8000),
         ],
         all: 13000,
+    },
+    // The run ends while hart 0 has begun line 6.
+    Row {
+        source: TWO_HARTS,
+        budget: 7,
+        lines: &[
+            (2, 200),
+            (1, 100),
+            (1, 100),
+            (1, 4000),
+            (2, 200),
+            (1, 100),
+            (0, 0),
+            (0, 0),
+        ],
+        all: 4700,
     },
     // The last line never starts.
     Row {
