@@ -46,6 +46,8 @@ Writes an HTML page with the curves of a profile.
   --top N           the greatest number of lines in each table, 1 to 1000
   --file PATTERN    the lines whose path begins or ends with PATTERN
   --source DIR      show the text of the lines from the files below DIR
+  --title TEXT      the title of the page, such as the program and its input
+  --link PATH       a link to another page of the same program
   -h, --help        print this help
   -V, --version     print the version
 ";

@@ -127,7 +127,7 @@ static FILES: [(&str, &[u8]); 7] = [
 
 const USAGE: &[u8] = b"coz-page: usage\n";
 
-static WRONG: [Row; 16] = [
+static WRONG: [Row; 20] = [
     (&[], 2, b"", USAGE),
     (&[""], 2, b"", USAGE),
     (&["p", "p"], 2, b"", USAGE),
@@ -144,6 +144,10 @@ static WRONG: [Row; 16] = [
     (&["p", "--source="], 2, b"", USAGE),
     (&["--source", "p"], 2, b"", USAGE),
     (&["--source=d", "--source=d", "p"], 2, b"", USAGE),
+    (&["p", "--title="], 2, b"", USAGE),
+    (&["p", "--title", "a", "--title=a"], 2, b"", USAGE),
+    (&["p", "--link"], 2, b"", USAGE),
+    (&["--link=a", "p", "--link", "a"], 2, b"", USAGE),
 ];
 
 #[test]
@@ -189,29 +193,29 @@ fn the_profile_is_read_once(rt: HostRuntime) -> Result<(), Fail> {
     check_pieces(&rt, &RIGHT)
 }
 
-static PIECES: [Piece; 24] = [
-    (&["p"], &[], b"<td>lib/b.s:2</td>", true),
-    (&["p"], &[], b"<td>src/a.s:3</td>", true),
+static PIECES: [Piece; 37] = [
+    (&["p"], &[], b"<td>lib/b.s<span>:2</span></td>", true),
+    (&["p"], &[], b"<td>src/a.s<span>:3</span></td>", true),
     (&["p"], &[], b"Only lines of files", false),
     (&["p"], &[], b"Lines at all progress points", false),
-    (&["p"], &[], b"Lines: 2. Shown: 2. Not shown: 0.", true),
+    (&["p"], &[], b"Lines: 2. Shown: 2. Folded: 0. Not shown: 0.", true),
     (
         &["p", "--top=1"],
         &[],
-        b"Lines: 2. Shown: 1. Not shown: 1.",
+        b"Lines: 2. Shown: 1. Folded: 0. Not shown: 1.",
         true,
     ),
-    (&["p", "--top=1"], &[], b"<td>src/a.s:3</td>", false),
+    (&["p", "--top=1"], &[], b"<td>src/a.s<span>:3</span></td>", false),
     (
         &["p", "--file=src/"],
         &[],
         b"ends with src/: 1 of 2 curves",
         true,
     ),
-    (&["p", "--file=src/"], &[], b"<td>src/a.s:3</td>", true),
-    (&["p", "--file=src/"], &[], b"<td>lib/b.s:2</td>", false),
-    (&["p", "--file=b.s"], &[], b"<td>lib/b.s:2</td>", true),
-    (&["p", "--file=b.s"], &[], b"<td>src/a.s:3</td>", false),
+    (&["p", "--file=src/"], &[], b"<td>src/a.s<span>:3</span></td>", true),
+    (&["p", "--file=src/"], &[], b"<td>lib/b.s<span>:2</span></td>", false),
+    (&["p", "--file=b.s"], &[], b"<td>lib/b.s<span>:2</span></td>", true),
+    (&["p", "--file=b.s"], &[], b"<td>src/a.s<span>:3</span></td>", false),
     (
         &["p", "--file=.s:3"],
         &[],
@@ -222,23 +226,23 @@ static PIECES: [Piece; 24] = [
     (
         &["p", "--file=.s:3"],
         &[],
-        b"<ul>\n<li>src/a.s:8</li>\n</ul>",
+        b"<ul>\n<li>src/a.s<span>:8</span></li>\n</ul>",
         true,
     ),
     (
         &["p"],
         &[],
-        b"<ul>\n<li><a href=\"#p0\">src/a.s:8</a></li>\n</ul>",
+        b"<ul>\n<li><a href=\"#p0\">src/a.s<span>:8</span></a></li>\n</ul>",
         true,
     ),
     (
         &["p", "--source=d"],
         &[],
-        b"<td>src/a.s:3<br><code>  three &lt; 3</code></td>",
+        b"<td>src/a.s<span>:3</span><br><code>  three &lt; 3</code></td>",
         true,
     ),
-    (&["p", "--source=d"], &[], b"<td>lib/b.s:2</td>", true),
-    (&["p", "--source=d"], &[1, 2], b"<td>src/a.s:3</td>", true),
+    (&["p", "--source=d"], &[], b"<td>lib/b.s<span>:2</span></td>", true),
+    (&["p", "--source=d"], &[1, 2], b"<td>src/a.s<span>:3</span></td>", true),
     (&["p", "--source=d/src"], &[], b"<code>", false),
     // At most 120 bytes of a line are shown.
     (
@@ -250,6 +254,50 @@ static PIECES: [Piece; 24] = [
     // 50 of 95 steps of 11.4 each, from 200 on
     (&["p"], &[], b" cx=\"770\"", true),
     (&["costs"], &[], b"</td><td>20.00%", true),
+    (&["p"], &[], b"<title>coz: which lines", true),
+    (&["p"], &[], b"<h1>Which lines are worth making faster</h1>", true),
+    (
+        &["p", "--title", "a <b>"],
+        &[],
+        b"<title>a &lt;b&gt;: which lines",
+        true,
+    ),
+    (
+        &["--title=a & b", "p"],
+        &[],
+        b"<h1>Which lines are worth making faster: a &amp; b</h1>",
+        true,
+    ),
+    (&["p"], &[], b"Another page", false),
+    (
+        &["p", "--link", "x\".html"],
+        &[],
+        b"<a href=\"x&quot;.html\">x&quot;.html</a>",
+        true,
+    ),
+    (&["--link=y", "p"], &[], b"<a href=\"y\">y</a>", true),
+    (
+        &["p"],
+        &[],
+        b"Runs: 4. Speedups of the first line: 0% 50%. A gain is of one schedule",
+        true,
+    ),
+    (&["none"], &[], b"Runs: 0. A gain is of one schedule", true),
+    // (8700 - 8650) / 8700 is 0.57 per cent.
+    (&["p"], &[], b" aria-label=\"src/a.s:3: 0.57%\">", true),
+    (
+        &["p"],
+        &[],
+        b"<ul><li>0% faster: 0.00%</li><li>50% faster: 0.57%</li></ul>",
+        true,
+    ),
+    (
+        &["p"],
+        &[],
+        b"</td><td>2.29%</td><td>0.57%</td><td>0.57%</td><td>none</td>",
+        true,
+    ),
+    (&["p"], &[], b"class=\"folded\"", false),
     (&["costs"], &[], b"Warning: runs that did not exit: 1", true),
 ];
 
@@ -297,7 +345,7 @@ visits\tsha256=e3b0c44298fc1c149afbf4c8996fb92427ae41e4649b934ca495991b7852b855\
 // A constant is copied into each function that names it.
 static POINTS: &[u8] = TWO_POINTS;
 
-static SIDES: [Piece; 4] = [
+static SIDES: [Piece; 6] = [
     (
         &["points"],
         &[],
@@ -307,17 +355,29 @@ static SIDES: [Piece; 4] = [
     (
         &["points"],
         &[],
-        b"<details open><summary>src/a.s:3</summary>\n<div class=\"charts\">\n\
-<figure><figcaption>src/a.s:8: 10.00%</figcaption><svg",
+        b"<details open><summary>src/a.s<span>:3</span></summary>\n<div class=\"charts\">\n\
+<figure><figcaption>src/a.s<span>:8</span>: 10.00%</figcaption><svg",
         true,
     ),
     (
         &["points"],
         &[],
-        b"</svg></figure>\n<figure><figcaption>src/b.s:9: 40.00%</figcaption><svg",
+        b"</details></figure>\n<figure><figcaption>src/b.s<span>:9</span>: 40.00%</figcaption><svg",
         true,
     ),
-    (&["points"], &[], b"<summary>src/a.s:5</summary>", false),
+    (&["points"], &[], b"<summary>src/a.s<span>:5</span></summary>", false),
+    (
+        &["points"],
+        &[],
+        b"Lines: 3. Shown: 1. Folded: 2. Not shown: 0.",
+        true,
+    ),
+    (
+        &["points"],
+        &[],
+        b"<summary>Lines under 0.2% at each speedup: 2</summary>",
+        true,
+    ),
 ];
 
 #[test]
@@ -360,8 +420,121 @@ fn twenty_lines_are_shown(rt: HostRuntime) -> Result<(), Fail> {
         &rt,
         &["many"],
         &mut Listed::new(&files, &[]),
-        (b"Lines: 21. Shown: 20. Not shown: 1.", true),
+        (b"Lines: 21. Shown: 20. Folded: 0. Not shown: 1.", true),
     )
+}
+
+/// The runs of four lines: the number of a line with the speedup, and the time with the delay. A visit
+/// takes 5,000 ticks without a speedup.
+static RUNS: [(&[u8], &[u8]); 18] = [
+    // 10 and 0 per cent
+    (b"1\tspeedup=0", b"10000\tdelay=0"),
+    (b"1\tspeedup=50", b"9000\tdelay=0"),
+    (b"1\tspeedup=90", b"10000\tdelay=0"),
+    // 7 and 7 per cent
+    (b"2\tspeedup=0", b"10000\tdelay=0"),
+    (b"2\tspeedup=50", b"9300\tdelay=0"),
+    (b"2\tspeedup=90", b"9300\tdelay=0"),
+    // up to 2 per cent and down to 0, nine times in all
+    (b"3\tspeedup=0", b"10000\tdelay=0"),
+    (b"3\tspeedup=10", b"9800\tdelay=0"),
+    (b"3\tspeedup=20", b"10000\tdelay=0"),
+    (b"3\tspeedup=30", b"9800\tdelay=0"),
+    (b"3\tspeedup=40", b"10000\tdelay=0"),
+    (b"3\tspeedup=50", b"9800\tdelay=0"),
+    (b"3\tspeedup=60", b"10000\tdelay=0"),
+    (b"3\tspeedup=70", b"9800\tdelay=0"),
+    (b"3\tspeedup=80", b"10000\tdelay=0"),
+    (b"3\tspeedup=90", b"9800\tdelay=0"),
+    // Its starts cost 6,000 * 100 / 50 ticks, and the run takes 10,000.
+    (b"4\tspeedup=0", b"10000\tdelay=0"),
+    (b"4\tspeedup=50", b"16500\tdelay=6000"),
+];
+
+/// What follows the times of a run with two visits.
+static VISITED: &[u8] = b"\tretired=13\tstarts=2\n\
+output\tlength=0\tsha256=e3b0c44298fc1c149afbf4c8996fb92427ae41e4649b934ca495991b7852b855\n\
+throughput-point\tindex=0\tdelta=2\n\
+visits\tsha256=e3b0c44298fc1c149afbf4c8996fb92427ae41e4649b934ca495991b7852b855\n";
+
+/// A profile of these runs.
+fn shapes(alloc: Global) -> Result<Vec<u8>, AllocError> {
+    let head = b"coz-ticks\tversion=1\tbudget=1000\tpoints=1\npoint\tindex=0\tname=src/a.s:8\n";
+    let mut text = head.as_slice().to_vec(alloc)?;
+    for (line, times) in &RUNS {
+        text.extend_from_slice(b"experiment\tselected=src/a.s:")?;
+        text.extend_from_slice(*line)?;
+        text.extend_from_slice(b"\tend=exited:0\ttime=")?;
+        text.extend_from_slice(*times)?;
+        text.extend_from_slice(VISITED)?;
+    }
+    Ok(text)
+}
+
+/// By hand: the second line has the greatest mean, and the first one the greatest gain.
+static SHAPES: [Piece; 9] = [
+    (
+        &["shapes"],
+        &[],
+        b"</td><td>5.00%</td><td>10.00%</td><td>none</td>",
+        true,
+    ),
+    (
+        &["shapes", "--top=1"],
+        &[],
+        b"<td>src/a.s<span>:2</span></td>",
+        true,
+    ),
+    (
+        &["shapes", "--top=1"],
+        &[],
+        b"<td>src/a.s<span>:1</span></td>",
+        false,
+    ),
+    // The axis is for the greatest gain.
+    (&["shapes", "--top=1"], &[], b">10.00%</text>", true),
+    (
+        &["shapes"],
+        &[],
+        b"<span>:2</span>: 7.00%, all of it by 50%</figcaption>",
+        true,
+    ),
+    (
+        &["shapes"],
+        &[],
+        b"<td>src/a.s<span>:3</span><br><small>goes up and down</small></td>",
+        true,
+    ),
+    // 10 per cent in all, over nine speedups
+    (
+        &["shapes"],
+        &[],
+        b"</td><td>1.11%</td><td>2.00%</td><td>none</td>",
+        true,
+    ),
+    (
+        &["shapes"],
+        &[],
+        b"aria-label=\"src/a.s:3: 2.00%, goes up and down\">",
+        true,
+    ),
+    (
+        &["shapes"],
+        &[],
+        b"</td><td>120.00%<br><small>several threads at once</small></td><td>-5.00%</td>",
+        true,
+    ),
+];
+
+#[test]
+fn lines_are_ranked_by_their_means(rt: HostRuntime) -> Result<(), Fail> {
+    let text = shapes(rt.alloc())?;
+    let files = files_of(rt.alloc(), &[("shapes", &text)])?;
+    for (words, fails, piece, is_there) in &SHAPES {
+        let mut listed = Listed::new(&files, *fails);
+        check_piece(&rt, *words, &mut listed, (*piece, *is_there))?;
+    }
+    Ok(())
 }
 
 /// The reads are those of the profile, of `d/src/a.s` and of `d/src/big`.
@@ -392,7 +565,7 @@ fn a_longer_source_is_not_shown(rt: HostRuntime) -> Result<(), Fail> {
             size: *size,
             bytes: POINTS,
         };
-        let piece = (b"<td>src/big:1<br><code>".as_slice(), *is_there);
+        let piece = (b"<td>src/big<span>:1</span><br><code>".as_slice(), *is_there);
         check_piece(&rt, &["points", "--source=d"], &mut files, piece)?;
     }
     Ok(())

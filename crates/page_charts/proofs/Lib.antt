@@ -1,2 +1,3 @@
 pub mod Pieces
+pub mod Choices
 mod Numbers

@@ -27,8 +27,7 @@ lower : List ℕ
 lower = decimal (height 10000 (negsuc 9999))
 
 axes : AXES.now ≡
-    codes "<svg viewBox=\"0 0 1400 640\" role=\"img\">"
-    ++ codes "<path d=\"M" ++ left ++ codes " " ++ upper ++ codes "V" ++ lower
+    codes "<path d=\"M" ++ left ++ codes " " ++ upper ++ codes "V" ++ lower
     ++ codes "M" ++ left ++ codes " " ++ upper ++ codes "H" ++ right
     ++ codes "M" ++ left ++ codes " " ++ middle ++ codes "H" ++ right ++ codes "\"/>"
     ++ codes "<path d=\"M" ++ left ++ codes " " ++ zero_line ++ codes "H" ++ right ++ codes "\" style=\"stroke:var(--ink)\"/>"
@@ -41,7 +40,7 @@ unfolding left right upper middle zero_line lower digits
 axes = refl
 
 small_axes : SMALL_AXES.now ≡
-    codes "<svg class=\"small\" viewBox=\"180 20 1180 540\">"
+    codes "<svg class=\"small\" aria-hidden=\"true\" viewBox=\"180 20 1180 540\">"
     ++ codes "<path d=\"M" ++ left ++ codes " " ++ zero_line ++ codes "H" ++ right
     ++ codes "\"/><polyline points=\""
 unfolding left right zero_line digits

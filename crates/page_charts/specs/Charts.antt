@@ -1,12 +1,13 @@
 -- The picture of a curve.
-use Rattle.std.specs.Prelude.{ℕ, Bool, ◌||◌, [], ◌++◌, flat_map, codes, decimal, Option, Some, None, ℤ, if◌then◌else◌}
+use Rattle.std.specs.Prelude.{ℕ, Bool, ◌||◌, List, [], ◌++◌, flat_map, codes, decimal, Option, Some, None, ℤ, if◌then◌else◌}
 use Rattle.coz_types.specs.Labels.{Text}
 use Rattle.causal_curves.specs.declared.curve.Curve.{Curve}
 use Rattle.causal_curves.specs.declared.curve.CurveStep.{CurveStep}
 use Rattle.page_charts.specs.declared.axes.TheConstants.{AXES, SMALL_AXES}
-use Rattle.page_charts.specs.Values.{size_text, percent}
+use Rattle.page_charts.specs.Values.{size_text, percent, value_text}
 use Rattle.page_values.specs.Places.{height, is_cut, place_across, reaches}
 use Rattle.page_values.specs.Harm.{worst_of}
+use Rattle.page_values.specs.Shapes.{flat_from, is_rough}
 
 abbrev pub place_text : ℕ → ℕ → ℤ → Text
 place_text top speedup v =
@@ -49,3 +50,28 @@ is_notable top c = reaches top c.gain || reaches top (worst_of c.steps)
 -- the picture in a row of a table
 abbrev pub small_text : ℕ → Curve → Text
 small_text top c = SMALL_AXES.now ++ flat_map (place_at top) c.steps ++ codes "\"/></svg>"
+
+-- ---- in words
+
+-- from which speedup on the curve stays at its gain, if from one before the greatest
+abbrev pub flat_text : Option ℕ → Text
+flat_text None = []
+flat_text (Some speedup) = codes ", all of it by " ++ decimal speedup ++ codes "%"
+
+abbrev pub rough_text : Bool → Text
+rough_text rough = if rough then codes ", goes up and down" else []
+
+-- the gain of a curve, and its shape
+abbrev pub gain_text : Curve → Text
+gain_text c =
+    codes ": " ++ value_text c.gain ++ flat_text (flat_from c) ++ rough_text (is_rough c)
+
+abbrev pub item_text : CurveStep → Text
+item_text s =
+    codes "<li>" ++ decimal s.speedup ++ codes "% faster: " ++ value_text s.value ++ codes "</li>"
+
+-- the values of a curve, in a list that is closed at first
+abbrev pub items_text : List CurveStep → Text
+items_text steps =
+    codes "<details><summary>Values</summary><ul>" ++ flat_map item_text steps
+    ++ codes "</ul></details>"

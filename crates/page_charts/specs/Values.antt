@@ -1,5 +1,5 @@
 -- Values in a page, and the axes over which they are drawn.
-use Rattle.std.specs.Prelude.{ℕ, ◌*◌, ◌/◌, ◌%◌, nat_le, min, List, [], ◌∷◌, ◌++◌, codes, decimal, Option, Some, None, ℤ, pos, negsuc, nat_abs, if◌then◌else◌}
+use Rattle.std.specs.Prelude.{ℕ, ◌*◌, ◌/◌, ◌%◌, nat_le, nat_lt, min, Bool, true, false, List, [], ◌∷◌, ◌++◌, codes, decimal, Option, Some, None, ℤ, pos, negsuc, nat_abs, if◌then◌else◌}
 use Rattle.coz_types.specs.Labels.{Text}
 
 -- ---- in per cent
@@ -20,9 +20,22 @@ abbrev pub value_text : Option ℤ → Text
 value_text None = codes "absent"
 value_text (Some v) = percent v
 
+-- the value is 0 or more
+abbrev pub is_gain : Option ℤ → Bool
+is_gain (Some (pos n)) = true
+is_gain _ = false
+
+-- a worst value is told only below 0
+abbrev pub worst_text : Option ℤ → Text
+worst_text v = if is_gain v then codes "none" else value_text v
+
+-- over 100 per cent the starts ran on several threads at once
+abbrev pub threads_text : ℕ → Text
+threads_text n = if nat_lt 10000 n then codes "<br><small>several threads at once</small>" else []
+
 abbrev pub cost_text : Option ℕ → Text
 cost_text None = codes "absent"
-cost_text (Some n) = size_text n
+cost_text (Some n) = size_text n ++ threads_text n
 
 -- ---- the axes
 

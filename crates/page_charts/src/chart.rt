@@ -161,7 +161,8 @@ pub fn put_small<O: Sink>(to: &mut PutBuffer, out: &mut O, top: u64, curve: &Cur
     to.push(out, b"\"/></svg>");
 }
 
-/// The picture of a curve, over an axis of values with this upper end.
+/// The picture of a curve, over an axis of values with this upper end, from behind the beginning of
+/// its element.
 pub fn put_chart<O: Sink>(to: &mut PutBuffer, out: &mut O, top: u64, curve: &Curve)
     requires { IsTop top }
     ensures { Gathers O.holds O.faults out.old out.new to.old to.new (chart_text top curve.now) }

@@ -1,9 +1,10 @@
 //! Values in per cent.
 ghost use Rattle.std.specs.Prelude.{◌≡◌, ◌++◌, decimal};
 ghost use Rattle.coz_files.specs.Gathered.{Gathers};
-ghost use Rattle.page_charts.specs.Values.{sign, size_text, percent, value_text, cost_text};
+ghost use Rattle.page_charts.specs.Values.{sign, size_text, percent, value_text, is_gain, worst_text, threads_text, cost_text};
 
 use coz_files::{PutBuffer, Sink};
+use page_values::MAX_SIZE;
 use profile_book::put_named;
 
 fn put_big<O: Sink>(to: &mut PutBuffer, out: &mut O, n: u128)
@@ -49,14 +50,48 @@ pub fn put_value<O: Sink>(to: &mut PutBuffer, out: &mut O, before: &[u8], value:
     }
 }
 
-/// A piece of text, and after it a cost in per cent, or that it is absent.
+fn is_gain(value: Option<i128>) -> bool
+    ensures { result ≡ is_gain value }
+{
+    match value {
+        Some(value) => value >= 0,
+        None => false,
+    }
+}
+
+/// A piece of text, and after it a worst value in per cent if it is below 0, or that there is none.
+pub fn put_worst<O: Sink>(to: &mut PutBuffer, out: &mut O, before: &[u8], worst: Option<i128>)
+    ensures { Gathers O.holds O.faults out.old out.new to.old to.new
+        (before.now ++ worst_text worst) }
+{
+    if is_gain(worst) {
+        to.push(out, before);
+        to.push(out, b"none");
+    } else {
+        put_value(to, out, before, worst);
+    }
+}
+
+fn put_threads<O: Sink>(to: &mut PutBuffer, out: &mut O, cost: u128)
+    ensures { Gathers O.holds O.faults out.old out.new to.old to.new (threads_text cost) }
+{
+    if cost > MAX_SIZE {
+        to.push(out, b"<br><small>several threads at once</small>");
+    }
+}
+
+/// A piece of text, and after it a cost in per cent, or that it is absent. A cost over
+/// 100 per cent has a word for it.
 pub fn put_cost<O: Sink>(to: &mut PutBuffer, out: &mut O, before: &[u8], cost: Option<u128>)
     ensures { Gathers O.holds O.faults out.old out.new to.old to.new
         (before.now ++ cost_text cost) }
 {
     to.push(out, before);
     match cost {
-        Some(cost) => put_size(to, out, cost),
+        Some(cost) => {
+            put_size(to, out, cost);
+            put_threads(to, out, cost);
+        }
         None => to.push(out, b"absent"),
     }
 }

@@ -1,4 +1,3 @@
-mod Choices
 mod Harms
 pub mod Judged
 mod Newlines

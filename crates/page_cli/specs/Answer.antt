@@ -54,12 +54,12 @@ Answer = Result Ranked Fault
 abbrev pub page_with : Answers → Ranked → Text
 page_with answers r =
     curves_page (record { most = (asked_of r.asked).top; answers = answers })
-    (asked_of r.asked).file r.all r.profile r.curves r.harmful
+    (asked_of r.asked) r.all r.profile r.curves r.harmful
 
 -- the page, if this is what the source files are
 abbrev pub ranked_page : Answers → Ranked → Text
 ranked_page answers r =
-    curves_page (view_for (asked_of r.asked) answers) (asked_of r.asked).file r.all r.profile
+    curves_page (view_for (asked_of r.asked) answers) (asked_of r.asked) r.all r.profile
     r.curves r.harmful
 
 abbrev pub ranked_verdict : Answers → Ranked → Verdict

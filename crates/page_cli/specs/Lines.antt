@@ -1,7 +1,8 @@
--- The lines of a page: those of some files, and their texts.
-use Rattle.std.specs.Prelude.{ℕ, ◌-◌, Bool, true, ◌||◌, ◌==◌, nat_eq, List, [], take, get_or, Option, Some, None, if◌then◌else◌}
+-- The lines of a page: those of some files, their labels and their texts.
+use Rattle.std.specs.Prelude.{ℕ, ◌-◌, Bool, true, ◌||◌, ◌==◌, nat_eq, List, [], ◌++◌, codes, decimal, take, get_or, Option, Some, None, if◌then◌else◌}
 use Rattle.std.specs.List.{slice_split, starts_with, ends_with}
 use Rattle.coz_types.specs.Labels.{Text, path_of, number_of}
+use Rattle.page_values.specs.Labels.{html}
 use Rattle.page_values.specs.Sources.{Answers}
 use Rattle.page_cli.specs.declared.source_lines.TheConstants.{MAX_SHOWN_LINE}
 
@@ -10,6 +11,17 @@ abbrev pub is_of_file : Option Text → Text → Bool
 is_of_file None label = true
 is_of_file (Some pattern) label =
     starts_with nat_eq (path_of label) pattern || ends_with nat_eq (path_of label) pattern
+
+-- ---- labels
+
+-- the number is not broken over two lines
+abbrev pub numbered_text : Text → ℕ → Text
+numbered_text path number = html path ++ codes "<span>:" ++ decimal number ++ codes "</span>"
+
+-- a label that is read
+abbrev pub label_text : Text → Text
+label_text label =
+    if number_of label == 0 then html label else numbered_text (path_of label) (number_of label)
 
 -- ---- a line of a text
 

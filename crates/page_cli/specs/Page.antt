@@ -1,5 +1,5 @@
 -- The page of a profile.
-use Rattle.std.specs.Prelude.{ℕ, ◌-◌, Bool, ◌==◌, List, [], ◌∷◌, ◌++◌, length, take, get_or, min, flat_map, codes, decimal, not, nat_lt, ◌&&◌, Option, Some, None, if◌then◌else◌}
+use Rattle.std.specs.Prelude.{ℕ, ◌-◌, Bool, ◌==◌, List, [], ◌∷◌, ◌++◌, length, get_or, min, flat_map, codes, decimal, not, nat_lt, ◌&&◌, Option, Some, None, if◌then◌else◌}
 use Rattle.std.specs.List.{enumerate_from, filter, list_any}
 use Rattle.std.specs.Option.{option_cmp}
 use Rattle.std.specs.Ordering.{is_lt, nat_cmp, int_cmp, ordering_then}
@@ -14,13 +14,15 @@ use Rattle.causal_curves.specs.declared.curve.CurveStep.{CurveStep}
 use Rattle.coz_files.specs.InMemory.{entries}
 use Rattle.page_words.specs.Words.{Request}
 use Rattle.page_values.specs.Sources.{Answers, look_up}
-use Rattle.page_cli.specs.Lines.{is_of_file, line_beside}
+use Rattle.page_cli.specs.Lines.{is_of_file, label_text, line_beside}
 use Rattle.page_cli.specs.declared.view.View.{View as Seen}
-use Rattle.page_cli.specs.declared.frame.TheConstants.{HEAD, NOTHING, LINES, FOOT}
+use Rattle.page_cli.specs.declared.frame.TheConstants.{HEAD, STYLE, LEAD, COLUMNS, PICTURE, NOTHING, LINES, FOOT}
 use Rattle.page_values.specs.Labels.{html}
-use Rattle.page_charts.specs.Values.{value_text, cost_text, top_for, harm_top_for}
-use Rattle.page_charts.specs.Charts.{chart_text, is_notable, small_text}
+use Rattle.page_charts.specs.Values.{value_text, worst_text, cost_text, top_for, harm_top_for}
+use Rattle.page_charts.specs.Charts.{chart_text, gain_text, items_text, is_notable, small_text}
 use Rattle.page_values.specs.Harm.{worst_of}
+use Rattle.page_values.specs.Ranks.{by_mean, folded, greatest_gain, listed, standing}
+use Rattle.page_values.specs.Shapes.{is_rough, mean_of}
 use Rattle.page_cli.specs.Harm.{harmful_curves}
 use Rattle.page_values.specs.Cost.{cost_of}
 use Rattle.page_cli.specs.Runs.{runs_text, visits_text}
@@ -40,21 +42,36 @@ abbrev pub source_text : Text → Text
 source_text line =
     if is_empty line then [] else codes "<br><code>" ++ html line ++ codes "</code>"
 
+-- a mark on a line whose curve goes up and down
+abbrev pub mark_text : Bool → Text
+mark_text rough = if rough then codes "<br><small>goes up and down</small>" else []
+
+-- the first cell of a line: its label, the mark, and its text
+abbrev pub name_cell : Answers → Curve → Text
+name_cell answers c =
+    codes "<tr><td>" ++ label_text c.selected ++ mark_text (is_rough c)
+    ++ source_text (line_beside answers c.selected)
+
 -- a line of the table
 abbrev pub row_text : ℕ → Answers → List Summary → Curve → Text
 row_text top answers summaries c =
-    codes "<tr><td>" ++ html c.selected ++ source_text (line_beside answers c.selected)
+    name_cell answers c
     ++ codes "</td><td>" ++ cost_text (cost_of summaries c.selected)
+    ++ codes "</td><td>" ++ value_text (mean_of c.steps)
     ++ codes "</td><td>" ++ value_text c.gain
-    ++ codes "</td><td>" ++ value_text (worst_of c.steps)
+    ++ codes "</td><td>" ++ worst_text (worst_of c.steps)
     ++ codes "</td><td>" ++ small_text top c ++ codes "</td></tr>\n"
 
--- a large picture, with a name
+-- a name, the gain and the shape of a curve: above its picture, and for readers of screens
+abbrev pub caption_text : Text → Curve → Text
+caption_text name c =
+    codes "<figure><figcaption>" ++ label_text name ++ gain_text c
+    ++ PICTURE.now ++ html name ++ gain_text c ++ codes "\">"
+
+-- a large picture, with a name, and the values below it
 abbrev pub figure_text : ℕ → Text → Curve → Text
 figure_text top name c =
-    codes "<figure><figcaption>" ++ html name ++ codes ": " ++ value_text c.gain
-    ++ codes "</figcaption>"
-    ++ chart_text top c ++ codes "</figure>\n"
+    caption_text name c ++ chart_text top c ++ items_text c.steps ++ codes "</figure>\n"
 
 -- no large picture of a curve that is flat over this axis
 abbrev pub figure_at : ℕ → Curve → Text
@@ -63,7 +80,7 @@ figure_at top c = if is_notable top c then figure_text top c.selected c else []
 -- a line of the table of values
 abbrev pub step_text : Text → CurveStep → Text
 step_text label s =
-    codes "<tr><td>" ++ html label ++ codes "</td><td>" ++ decimal s.speedup
+    codes "<tr><td>" ++ label_text label ++ codes "</td><td>" ++ decimal s.speedup
     ++ codes "%</td><td>" ++ value_text s.value ++ codes "</td></tr>\n"
 
 abbrev pub steps_text : Curve → Text
@@ -76,35 +93,49 @@ values_text curves =
     ++ codes "<table>\n<tr><th>Line</th><th>Faster by</th><th>Value</th></tr>\n"
     ++ flat_map steps_text curves ++ codes "</table>\n</details>\n"
 
--- how many lines there are, and how many of them are not shown
-abbrev pub count_text : ℕ → ℕ → Text
-count_text most n =
+-- how many lines there are, how many of them are shown, how many are folded, and how many of the
+-- others are not shown
+abbrev pub count_text : ℕ → ℕ → ℕ → Text
+count_text most stands n =
     codes "</table>\n<p>Lines: " ++ decimal n
-    ++ codes ". Shown: " ++ decimal (min n most)
-    ++ codes ". Not shown: " ++ decimal (n - min n most) ++ codes ".</p>\n"
+    ++ codes ". Shown: " ++ decimal (min most stands)
+    ++ codes ". Folded: " ++ decimal (n - stands)
+    ++ codes ". Not shown: " ++ decimal (stands - min most stands) ++ codes ".</p>\n"
 
--- the lines of a table, its end and their number
+-- the folded lines: their number, and a table of some that is closed at first
+abbrev pub fold_text : ℕ → View → List Summary → ℕ → List Curve → Text
+fold_text top view summaries n curves =
+    codes "<details class=\"folded\"><summary>Lines under 0.2% at each speedup: " ++ decimal n
+    ++ codes "</summary>\n<table class=\"folded\">\n" ++ COLUMNS.now
+    ++ flat_map (row_text top view.answers summaries) curves ++ codes "</table>\n</details>\n"
+
+-- nothing if no line is folded
+abbrev pub folded_text : ℕ → View → List Summary → ℕ → List Curve → Text
+folded_text top view summaries n curves =
+    if n == 0 then [] else fold_text top view summaries n curves
+
+-- the lines of a table, its end, their number, and those that are folded
 abbrev pub rows_text : ℕ → View → List Summary → List Curve → Text
 rows_text top view summaries curves =
-    codes "\">\n<tr><th>Line</th><th>Cost</th><th>Gain</th><th>Worst</th><th>Curve</th></tr>\n"
-    ++ flat_map (row_text top view.answers summaries) (take view.most curves)
-    ++ count_text view.most (length curves)
+    codes "\">\n" ++ COLUMNS.now
+    ++ flat_map (row_text top view.answers summaries) (listed view.most curves)
+    ++ count_text view.most (standing curves) (length curves)
+    ++ folded_text top view summaries (length curves - standing curves) (folded view.most curves)
 
 -- the large pictures of a table's lines, and their values
 abbrev pub pictures_text : ℕ → ℕ → List Curve → Text
 pictures_text top most curves =
     codes "<div class=\"charts\">\n"
-    ++ flat_map (figure_at top) (take most curves)
-    ++ codes "</div>\n" ++ values_text (take most curves) ++ codes "</details>\n"
+    ++ flat_map (figure_at top) (listed most curves)
+    ++ codes "</div>\n" ++ values_text (listed most curves) ++ codes "</details>\n"
 
 abbrev pub point_name : List Text → List Curve → Text
 point_name points [] = []
 point_name points (c ∷ curves) = get_or points c.point []
 
--- where the first of these gains most
+-- above the greatest gain of these
 abbrev pub top_of : List Curve → ℕ
-top_of [] = 100
-top_of (c ∷ curves) = top_for c.gain
+top_of curves = top_for (greatest_gain curves)
 
 -- over this axis the worst value of the first of these is not below the lower end,
 -- unless it is below -25 per cent
@@ -120,7 +151,7 @@ point_number (c ∷ curves) = c.point
 abbrev pub point_text : View → Profile → List Curve → Text
 point_text view p curves =
     codes "<details name=\"point\" open><summary>Progress point "
-    ++ html (point_name p.points curves) ++ codes "</summary>\n"
+    ++ label_text (point_name p.points curves) ++ codes "</summary>\n"
     ++ visits_text p.summaries (point_number curves)
     ++ codes "<table id=\"p" ++ decimal (point_number curves)
     ++ rows_text (top_of curves) view p.summaries curves
@@ -130,7 +161,7 @@ point_text view p curves =
 abbrev pub harm_text : View → Profile → List Curve → Text
 harm_text view p curves =
     codes "<details open><summary>Lines that hurt, by their worst value: "
-    ++ html (point_name p.points curves)
+    ++ label_text (point_name p.points curves)
     ++ codes "</summary>\n<table id=\"h" ++ decimal (point_number curves)
     ++ rows_text (harm_top curves) view p.summaries curves
     ++ pictures_text (harm_top curves) view.most curves
@@ -166,7 +197,7 @@ side_at top points label c =
 -- the pictures of a line at all points, side by side
 abbrev pub line_text : ℕ → List Text → List Curve → Text → Text
 line_text top points curves label =
-    codes "<details open><summary>" ++ html label
+    codes "<details open><summary>" ++ label_text label
     ++ codes "</summary>\n<div class=\"charts\">\n"
     ++ flat_map (side_at top points label) curves ++ codes "</div>\n</details>\n"
 
@@ -181,7 +212,7 @@ line_at top points curves c =
 -- of the lines that a point's table has, those that gain most at this point
 abbrev pub lines_text : ℕ → List Text → List Curve → List Curve → Text
 lines_text most points curves group =
-    flat_map (line_at (top_of group) points curves) (take most group)
+    flat_map (line_at (top_of group) points curves) (listed most group)
 
 abbrev pub all_lines_text : ℕ → List Text → List Curve → Text
 all_lines_text most points curves =
@@ -194,16 +225,45 @@ sides_text most points curves =
     if nat_lt 1 (length points) && nat_lt 0 (length curves)
     then all_lines_text most points curves else []
 
+-- ---- the head
+
+-- the title of the page, or the name of the program without one
+abbrev pub title_text : Option Text → Text
+title_text None = codes "coz"
+title_text (Some title) = html title
+
+-- the title behind the heading
+abbrev pub heading_text : Option Text → Text
+heading_text None = []
+heading_text (Some title) = codes ": " ++ html title
+
+-- a link to another page
+abbrev pub other_text : Text → Text
+other_text path =
+    codes "<p>Another page of this program: <a href=\"" ++ html path ++ codes "\">" ++ html path
+    ++ codes "</a></p>\n"
+
+-- nothing if no other page is named
+abbrev pub beside_text : Option Text → Text
+beside_text None = []
+beside_text (Some path) = other_text path
+
+-- the head of the page, up to what is said of the runs
+abbrev pub head_text : Request → Text
+head_text asked =
+    HEAD.now ++ title_text asked.title ++ STYLE.now ++ heading_text asked.title ++ LEAD.now
+    ++ beside_text asked.link
+
 -- ---- the whole
 
 -- a link to the table of a progress point
 abbrev pub link_text : ℕ × Text → Text
 link_text point =
-    codes "<li><a href=\"#p" ++ decimal point.0 ++ codes "\">" ++ html point.1
+    codes "<li><a href=\"#p" ++ decimal point.0 ++ codes "\">" ++ label_text point.1
     ++ codes "</a></li>\n"
 
 abbrev pub name_text : Text → Text
-name_text name = codes "<li>" ++ html name ++ codes "</li>\n"
+name_text name = codes "<li>" ++ label_text name ++ codes "</li>\n"
 
 -- a progress point to choose, or only its name if the page has no tables
 abbrev pub choice_text : Bool → ℕ × Text → Text
@@ -234,9 +294,9 @@ chosen_text None count all = []
 chosen_text (Some pattern) count all = pattern_text pattern count all
 
 -- the page of a profile with these of all its curves, of which these hurt
-abbrev pub curves_page : View → Option Text → ℕ → Profile → List Curve → List Curve → Text
-curves_page view file all p curves harmful =
-    HEAD.now ++ runs_text p ++ chosen_text file (length curves) all
+abbrev pub curves_page : View → Request → ℕ → Profile → List Curve → List Curve → Text
+curves_page view asked all p curves harmful =
+    head_text asked ++ runs_text p ++ chosen_text asked.file (length curves) all
     ++ choices_text (has_tables curves) p.points
     ++ nothing_text all ++ flat_map (point_text view p) (by_point curves)
     ++ sides_text view.most p.points curves
@@ -246,9 +306,9 @@ curves_page view file all p curves harmful =
 abbrev pub chosen_curves : Option Text → List Curve → List Curve
 chosen_curves file curves = filter (λ (c : Curve). is_of_file file c.selected) curves
 
--- the curves of a profile that the page has, by rank
+-- the curves of a profile that the page has, by their means; those that tie are by their gains
 abbrev pub page_curves : Option Text → Profile → List Curve
-page_curves file p = chosen_curves file (ranked_curves (curves_of p))
+page_curves file p = by_mean (chosen_curves file (ranked_curves (curves_of p)))
 
 -- no source file is used unless a folder is named
 abbrev pub used : Option Text → Answers → Answers
@@ -258,9 +318,9 @@ used (Some folder) answers = answers
 abbrev pub view_for : Request → Answers → View
 view_for asked answers = record { most = asked.top; answers = used asked.source answers }
 
--- the page of a profile with these source files: the curves of the chosen lines by rank, and
+-- the page of a profile with these source files: the curves of the chosen lines by mean, and
 -- those that hurt by their harm
 unfoldable pub page_text : Request → Answers → Profile → Text
 page_text asked answers p =
-    curves_page (view_for asked answers) asked.file (length (ranked_curves (curves_of p))) p
+    curves_page (view_for asked answers) asked (length (ranked_curves (curves_of p))) p
     (page_curves asked.file p) (harmful_curves (page_curves asked.file p))

@@ -1,9 +1,11 @@
 -- What a page says of the runs.
-use Rattle.std.specs.Prelude.{ℕ, ◌==◌, List, [], ◌++◌, length, find, codes, decimal, Option, Some, None, if◌then◌else◌}
+use Rattle.std.specs.Prelude.{ℕ, ◌==◌, List, [], ◌++◌, length, find, flat_map, codes, decimal, Option, Some, None, if◌then◌else◌}
+use Rattle.std.specs.Str.{bytes_eq}
 use Rattle.coz_types.specs.Labels.{Text}
 use Rattle.coz_types.specs.declared.record.Summary.{Summary}
 use Rattle.profile_book.specs.declared.profile.Profile.{Profile}
-use Rattle.causal_curves.specs.Curves.{visits}
+use Rattle.causal_curves.specs.Curves.{label_in, visits}
+use Rattle.page_cli.specs.declared.frame.TheConstants.{SCHEDULE}
 use Rattle.page_values.specs.Endings.{count_of, others_of}
 
 -- nothing if no run ended so
@@ -30,11 +32,27 @@ abbrev pub warning_text : List Summary → Text
 warning_text summaries =
     if others_of summaries == 0 then [] else warned (others_of summaries) summaries
 
--- what was run, and how the runs ended
+-- the speedup of a run of this line
+abbrev pub speedup_at : Text → Summary → Text
+speedup_at label s =
+    if bytes_eq s.selected label then codes " " ++ decimal s.speedup ++ codes "%" else []
+
+-- the speedups of this line
+abbrev pub speedups_of : Text → List Summary → Text
+speedups_of label summaries =
+    codes " Speedups of the first line:" ++ flat_map (speedup_at label) summaries ++ codes "."
+
+-- the speedups of the first line, if there is one
+abbrev pub speedups_text : List Summary → Text
+speedups_text summaries =
+    if length summaries == 0 then [] else speedups_of (label_in summaries) summaries
+
+-- what was run, of how many schedules, and how the runs ended
 abbrev pub runs_text : Profile → Text
 runs_text p =
     codes "<p>Budget of each run: " ++ decimal p.budget ++ codes " instructions. Runs: "
-    ++ decimal (length p.summaries) ++ codes ".</p>\n" ++ warning_text p.summaries
+    ++ decimal (length p.summaries) ++ codes "." ++ speedups_text p.summaries
+    ++ SCHEDULE.now ++ warning_text p.summaries
 
 -- the first run at speedup 0
 abbrev pub plain_run : List Summary → Option Summary

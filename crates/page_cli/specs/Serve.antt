@@ -85,5 +85,7 @@ help_text =
     ++ codes "  --top N           the greatest number of lines in each table, 1 to 1000\n"
     ++ codes "  --file PATTERN    the lines whose path begins or ends with PATTERN\n"
     ++ codes "  --source DIR      show the text of the lines from the files below DIR\n"
+    ++ codes "  --title TEXT      the title of the page, such as the program and its input\n"
+    ++ codes "  --link PATH       a link to another page of the same program\n"
     ++ codes "  -h, --help        print this help\n"
     ++ codes "  -V, --version     print the version\n"

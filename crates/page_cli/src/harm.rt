@@ -5,7 +5,7 @@ ghost use Rattle.page_cli.specs.Harm.{hurts, harmful_curves};
 
 use causal_curves::Curve;
 use coz_types::{Items, Label};
-use page_values::worst_of;
+use page_values::{is_folded, worst_of};
 use std::alloc::{AllocError, Global};
 
 fn hurts(curve: &Curve) -> bool
@@ -43,12 +43,15 @@ fn copies(alloc: Global, curves: &[Curve]) -> Result<Vec<Curve>, AllocError>
     Ok(copies)
 }
 
-/// Copies of the curves whose least value is below 0, by point, the least value first.
-/// Err if it is out of memory.
+/// Copies of the curves whose least value is below 0, by point, the folded ones last, and the least
+/// value first. Err if it is out of memory.
 pub fn harmful(alloc: Global, curves: &[Curve]) -> Result<Items<Curve>, AllocError>
     ensures { IfOk result (λ harmful. harmful ≡ harmful_curves curves.now) }
 {
     let mut copies = copies(alloc, curves)?;
-    copies.sort_by_key(|curve| (curve.point, worst_of(curve.steps.as_slice())))?;
+    copies.sort_by_cached_key(|curve| {
+        let worst = worst_of(curve.steps.as_slice());
+        (curve.point, is_folded(curve), worst)
+    })?;
     Ok(Items::new(copies))
 }

@@ -16,19 +16,20 @@ use causal_curves::{Curve, curves};
 use coz_files::Files;
 use coz_types::Items;
 use file_read::{FileFault, read_file};
+use page_values::by_mean;
 use page_words::{Asked, read_page};
 use profile_book::Profile;
 use profile_reader::{MAX_PROFILE, read_profile};
 use std::alloc::Global;
 
-/// A request, with the profile that it names and the curves of the chosen lines by rank.
+/// A request, with the profile that it names and the curves of the chosen lines by their means.
 #[derive(Drop)]
 pub struct Ranked<'w> {
     /// The request that the arguments make.
     pub asked: Asked<'w>,
     /// The profile that was read.
     pub profile: Profile,
-    /// The curves of the chosen lines, the one that gains most first.
+    /// The curves of the chosen lines by point, the one with the greatest mean first.
     pub curves: Items<Curve>,
     /// The curves of the lines that hurt, the one that hurts most first.
     pub harmful: Items<Curve>,
@@ -61,7 +62,8 @@ fn rank<'w>(alloc: Global, asked: Asked<'w>, bytes: &[u8]) -> Answer<'w>
     let profile = read_profile(alloc, bytes)?;
     let ranked = curves(alloc, &profile)?;
     let all = ranked.len() as u64;
-    let curves = chosen(asked.file, ranked);
+    let of_files = chosen(asked.file, ranked);
+    let curves = by_mean(of_files)?;
     let harmful = harmful(alloc, curves.as_slice())?;
     Ok(Ranked {
         asked,

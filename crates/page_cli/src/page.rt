@@ -7,12 +7,12 @@ ghost use Rattle.std.specs.Option.{option_copied};
 ghost use Rattle.page_words.specs.Words.{asked_of};
 ghost use Rattle.page_values.specs.Lines.{ArePlaces, curve_labels};
 ghost use Rattle.page_cli.specs.Placed.{HasBlocks};
-ghost use Rattle.page_cli.specs.Page.{by_point, view_of, link_text, name_text, choice_text, has_tables, pattern_text, chosen_text, nothing_text, point_text, harm_text, curves_page};
+ghost use Rattle.page_cli.specs.Page.{by_point, view_of, link_text, name_text, choice_text, has_tables, title_text, heading_text, other_text, beside_text, head_text, pattern_text, chosen_text, nothing_text, point_text, harm_text, curves_page};
 
-use crate::frame::{FOOT, HEAD, NOTHING};
+use crate::frame::{FOOT, HEAD, LEAD, NOTHING, STYLE};
 use crate::groups::group_length;
 use crate::judge::Ranked;
-use crate::label::put_label;
+use crate::label::{put_html, put_label};
 use crate::runs::put_runs;
 use crate::sides::put_all_points;
 use crate::tables::{put_harm, put_point};
@@ -21,7 +21,59 @@ use causal_curves::Curve;
 use coz_files::{PutAnswer, PutBuffer, Sink};
 use coz_types::Label;
 use page_values::LinePlaces;
+use page_words::Asked;
 use profile_book::{Profile, put_named};
+
+fn put_title<O: Sink>(to: &mut PutBuffer, out: &mut O, title: Option<&[u8]>)
+    ensures { Gathers O.holds O.faults out.old out.new to.old to.new
+        (title_text (option_copied title.entry)) }
+{
+    match title {
+        Some(title) => put_html(to, out, b"", title),
+        None => to.push(out, b"coz"),
+    }
+}
+
+fn put_heading<O: Sink>(to: &mut PutBuffer, out: &mut O, title: Option<&[u8]>)
+    ensures { Gathers O.holds O.faults out.old out.new to.old to.new
+        (heading_text (option_copied title.entry)) }
+{
+    if let Some(title) = title {
+        put_html(to, out, b": ", title);
+    }
+}
+
+fn put_other<O: Sink>(to: &mut PutBuffer, out: &mut O, path: &[u8])
+    ensures { Gathers O.holds O.faults out.old out.new to.old to.new (other_text path.now) }
+{
+    let before = b"<p>Another page of this program: <a href=\"";
+    put_html(to, out, before, path);
+    put_html(to, out, b"\">", path);
+    to.push(out, b"</a></p>\n");
+}
+
+/// A link to another page, if one is named.
+fn put_beside<O: Sink>(to: &mut PutBuffer, out: &mut O, link: Option<&[u8]>)
+    ensures { Gathers O.holds O.faults out.old out.new to.old to.new
+        (beside_text (option_copied link.entry)) }
+{
+    if let Some(path) = link {
+        put_other(to, out, path);
+    }
+}
+
+/// The head of the page, up to what is said of the runs.
+fn put_head<O: Sink>(to: &mut PutBuffer, out: &mut O, asked: &Asked)
+    ensures { Gathers O.holds O.faults out.old out.new to.old to.new
+        (head_text (asked_of asked.now)) }
+{
+    to.push(out, HEAD);
+    put_title(to, out, asked.title);
+    to.push(out, STYLE);
+    put_heading(to, out, asked.title);
+    to.push(out, LEAD);
+    put_beside(to, out, asked.link);
+}
 
 fn put_link<O: Sink>(to: &mut PutBuffer, out: &mut O, index: usize, label: &Label)
     ensures { Gathers O.holds O.faults out.old out.new to.old to.new
@@ -79,7 +131,7 @@ fn put_pattern<O: Sink>(to: &mut PutBuffer, out: &mut O, pattern: &[u8], count: 
         (pattern_text pattern.now count all) }
 {
     let before = b"<p>Only lines of files whose path begins or ends with ";
-    put_label(to, out, before, pattern);
+    put_html(to, out, before, pattern);
     put_named(to, out, b": ", count);
     put_named(to, out, b" of ", all);
     let after = b" curves. Tables and axes are of these lines alone.</p>\n";
@@ -133,7 +185,7 @@ fn put_harms<O: Sink>(
     }
 }
 
-/// Puts the page of a profile: its chosen curves, by point and rank, and those of the lines that
+/// Puts the page of a profile: its chosen curves, by point and mean, and those of the lines that
 /// hurt, by point and harm. The places are those of the chosen curves. It takes no memory.
 pub fn write_page<O: Sink>(
     view: &View,
@@ -144,12 +196,12 @@ pub fn write_page<O: Sink>(
     requires blocks { HasBlocks view.now ranked.now.profile.summaries }
     requires curves { ArePlaces (curve_labels ranked.now.curves) places.now }
     ensures { Puts O.holds O.faults out.old out.new result
-        (curves_page (view_of view.now) (asked_of ranked.now.asked).file ranked.now.all
+        (curves_page (view_of view.now) (asked_of ranked.now.asked) ranked.now.all
         ranked.now.profile ranked.now.curves ranked.now.harmful) }
 {
     let mut buffer = PutBuffer::new();
     let curves = ranked.curves.as_slice();
-    buffer.push(out, HEAD);
+    put_head(&mut buffer, out, &ranked.asked);
     put_runs(&mut buffer, out, &ranked.profile);
     put_chosen(
         &mut buffer,

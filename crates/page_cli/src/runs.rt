@@ -1,9 +1,10 @@
 //! What the page says of the runs.
-ghost use Rattle.std.specs.Prelude.{◌≡◌, option_copied};
+ghost use Rattle.std.specs.Prelude.{◌≡◌, option_copied, flat_map};
 ghost use Rattle.coz_files.specs.Gathered.{Gathers};
-ghost use Rattle.causal_curves.specs.Curves.{visits};
-ghost use Rattle.page_cli.specs.Runs.{kind_text, kinds_text, warning_text, runs_text, plain_run, visits_of, visits_in, visits_text, warned};
+ghost use Rattle.causal_curves.specs.Curves.{label_in, visits};
+ghost use Rattle.page_cli.specs.Runs.{speedup_at, speedups_of, speedups_text, kind_text, kinds_text, warning_text, runs_text, plain_run, visits_of, visits_in, visits_text, warned};
 
+use crate::frame::SCHEDULE;
 use coz_files::{PutBuffer, Sink};
 use coz_types::Summary;
 use page_values::{count_of, others_of};
@@ -55,14 +56,63 @@ fn put_warning<O: Sink>(to: &mut PutBuffer, out: &mut O, summaries: &[Summary])
     }
 }
 
-/// Puts what was run, with a warning if a run did not exit.
+fn put_speedup<O: Sink>(to: &mut PutBuffer, out: &mut O, label: &[u8], summary: &Summary)
+    ensures { Gathers O.holds O.faults out.old out.new to.old to.new
+        (speedup_at label.now summary.now) }
+{
+    if summary.selected.bytes() == label {
+        put_named(to, out, b" ", summary.speedup as u64);
+        to.push(out, b"%");
+    }
+}
+
+fn put_each_speedup<O: Sink>(to: &mut PutBuffer, out: &mut O, label: &[u8], summaries: &[Summary])
+    ensures { Gathers O.holds O.faults out.old out.new to.old to.new
+        (flat_map (speedup_at label.now) summaries.now) }
+{
+    for summary in summaries {
+        put_speedup(to, out, label, summary);
+    }
+}
+
+fn put_speedups_of<O: Sink>(to: &mut PutBuffer, out: &mut O, label: &[u8], summaries: &[Summary])
+    ensures { Gathers O.holds O.faults out.old out.new to.old to.new
+        (speedups_of label.now summaries.now) }
+{
+    to.push(out, b" Speedups of the first line:");
+    put_each_speedup(to, out, label, summaries);
+    to.push(out, b".");
+}
+
+fn label_in(summaries: &[Summary]) -> &[u8]
+    ensures { result.now ≡ label_in summaries.now }
+{
+    match summaries.first() {
+        Some(first) => first.selected.bytes(),
+        None => b"",
+    }
+}
+
+/// The speedups of the first line, if there is one.
+fn put_speedups<O: Sink>(to: &mut PutBuffer, out: &mut O, summaries: &[Summary])
+    ensures { Gathers O.holds O.faults out.old out.new to.old to.new
+        (speedups_text summaries.now) }
+{
+    if !summaries.is_empty() {
+        put_speedups_of(to, out, label_in(summaries), summaries);
+    }
+}
+
+/// Puts what was run, of how many schedules, and a warning if a run did not exit.
 pub fn put_runs<O: Sink>(to: &mut PutBuffer, out: &mut O, profile: &Profile)
     ensures { Gathers O.holds O.faults out.old out.new to.old to.new (runs_text profile.now) }
 {
     let summaries = profile.summaries.as_slice();
     put_named(to, out, b"<p>Budget of each run: ", profile.budget);
     put_named(to, out, b" instructions. Runs: ", summaries.len() as u64);
-    to.push(out, b".</p>\n");
+    to.push(out, b".");
+    put_speedups(to, out, summaries);
+    to.push(out, SCHEDULE);
     put_warning(to, out, summaries);
 }
 

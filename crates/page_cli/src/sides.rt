@@ -15,7 +15,7 @@ use causal_curves::Curve;
 use coz_files::{PutBuffer, Sink};
 use coz_types::Label;
 use page_charts::is_notable;
-use page_values::shown;
+use page_values::listed;
 
 /// Whether the other curve is of the same line, and gains more, or as much at an earlier point.
 fn is_behind(curve: &Curve, other: &Curve) -> bool
@@ -160,7 +160,7 @@ fn put_lines<O: Sink>(to: &mut PutBuffer, out: &mut O, most: u64, all: &AllCurve
     ensures { Gathers O.holds O.faults out.old out.new to.old to.new
         (lines_text most all.now.points.now all.now.curves.now group.now) }
 {
-    put_lines_of(to, out, top_of(group), all, shown(group, most));
+    put_lines_of(to, out, top_of(group), all, listed(group, most));
 }
 
 fn put_groups<O: Sink>(to: &mut PutBuffer, out: &mut O, most: u64, all: &AllCurves)

@@ -1,21 +1,25 @@
 //! What the page has of one progress point.
-ghost use Rattle.std.specs.Prelude.{◌≡◌, take, length, flat_map};
+ghost use Rattle.std.specs.Prelude.{◌≡◌, ◌≤◌, length, flat_map};
 ghost use Rattle.coz_types.specs.Labels.{Text};
 ghost use Rattle.coz_files.specs.Gathered.{Gathers};
 ghost use Rattle.page_values.specs.Places.{IsTop};
 ghost use Rattle.page_cli.specs.Placed.{HasBlocks};
-ghost use Rattle.page_cli.specs.Page.{count_text};
+ghost use Rattle.page_cli.specs.Page.{count_text, fold_text, folded_text, mark_text, name_cell, caption_text};
 ghost use Rattle.page_cli.specs.Page.{view_of, source_text, row_text, rows_text, figure_text, figure_at, step_text, steps_text, values_text, pictures_text, point_name, point_number, top_of, harm_top, point_text, harm_text};
 
-use crate::label::put_label;
+use crate::frame::{COLUMNS, PICTURE};
+use crate::label::{put_html, put_label};
 use crate::runs::put_visits;
 use crate::source_lines::line_of;
 use crate::view::View;
 use causal_curves::{Curve, CurveStep};
 use coz_files::{PutBuffer, Sink};
 use coz_types::{Label, Summary};
-use page_charts::{harm_top_for, is_notable, put_chart, put_cost, put_small, put_value, top_for};
-use page_values::{cost_of, shown, worst_of};
+use page_charts::{
+    harm_top_for, is_notable, put_chart, put_cost, put_gain, put_items, put_small, put_value,
+    put_worst, top_for,
+};
+use page_values::{cost_of, folded, greatest_gain, is_rough, listed, mean_of, standing, worst_of};
 use profile_book::{Profile, put_named};
 
 /// The text of a line, if it has one.
@@ -23,9 +27,29 @@ fn put_source<O: Sink>(to: &mut PutBuffer, out: &mut O, line: &[u8])
     ensures { Gathers O.holds O.faults out.old out.new to.old to.new (source_text line.now) }
 {
     if !line.is_empty() {
-        put_label(to, out, b"<br><code>", line);
+        put_html(to, out, b"<br><code>", line);
         to.push(out, b"</code>");
     }
+}
+
+/// The mark on a line whose curve goes up and down.
+fn put_mark<O: Sink>(to: &mut PutBuffer, out: &mut O, rough: bool)
+    ensures { Gathers O.holds O.faults out.old out.new to.old to.new (mark_text rough) }
+{
+    if rough {
+        to.push(out, b"<br><small>goes up and down</small>");
+    }
+}
+
+/// The first cell of a line: its label, the mark, and its text.
+fn put_name_cell<O: Sink>(to: &mut PutBuffer, out: &mut O, view: &View, curve: &Curve)
+    ensures { Gathers O.holds O.faults out.old out.new to.old to.new
+        (name_cell (view_of view.now).answers curve.now) }
+{
+    let label = curve.selected.bytes();
+    put_label(to, out, b"<tr><td>", label);
+    put_mark(to, out, is_rough(curve));
+    put_source(to, out, line_of(view.sources, label));
 }
 
 fn put_row<O: Sink>(
@@ -41,18 +65,13 @@ fn put_row<O: Sink>(
     ensures { Gathers O.holds O.faults out.old out.new to.old to.new
         (row_text top (view_of view.now).answers summaries.now curve.now) }
 {
-    let label = curve.selected.bytes();
-    put_label(to, out, b"<tr><td>", label);
-    put_source(to, out, line_of(view.sources, label));
-    put_cost(
-        to,
-        out,
-        b"</td><td>",
-        cost_of(summaries, view.blocks, label),
-    );
+    put_name_cell(to, out, view, curve);
+    let cost = cost_of(summaries, view.blocks, curve.selected.bytes());
+    put_cost(to, out, b"</td><td>", cost);
+    let steps = curve.steps.as_slice();
+    put_value(to, out, b"</td><td>", mean_of(steps));
     put_value(to, out, b"</td><td>", curve.gain);
-    let worst = worst_of(curve.steps.as_slice());
-    put_value(to, out, b"</td><td>", worst);
+    put_worst(to, out, b"</td><td>", worst_of(steps));
     to.push(out, b"</td><td>");
     put_small(to, out, top, curve);
     to.push(out, b"</td></tr>\n");
@@ -76,16 +95,27 @@ fn put_rows<O: Sink>(
     }
 }
 
-/// A large picture of a curve, with a name.
+/// The name, the gain and the shape of a curve: above its picture, and for readers of screens.
+fn put_caption<O: Sink>(to: &mut PutBuffer, out: &mut O, name: &[u8], curve: &Curve)
+    ensures { Gathers O.holds O.faults out.old out.new to.old to.new
+        (caption_text name.now curve.now) }
+{
+    put_label(to, out, b"<figure><figcaption>", name);
+    put_gain(to, out, curve);
+    put_html(to, out, PICTURE, name);
+    put_gain(to, out, curve);
+    to.push(out, b"\">");
+}
+
+/// A large picture of a curve, with a name, and its values below it.
 pub fn put_figure<O: Sink>(to: &mut PutBuffer, out: &mut O, top: u64, name: &[u8], curve: &Curve)
     requires { IsTop top }
     ensures { Gathers O.holds O.faults out.old out.new to.old to.new
         (figure_text top name.now curve.now) }
 {
-    put_label(to, out, b"<figure><figcaption>", name);
-    put_value(to, out, b": ", curve.gain);
-    to.push(out, b"</figcaption>");
+    put_caption(to, out, name, curve);
     put_chart(to, out, top, curve);
+    put_items(to, out, curve.steps.as_slice());
     to.push(out, b"</figure>\n");
 }
 
@@ -108,14 +138,60 @@ fn put_figures<O: Sink>(to: &mut PutBuffer, out: &mut O, top: u64, curves: &[Cur
     }
 }
 
-fn put_count<O: Sink>(to: &mut PutBuffer, out: &mut O, most: u64, lines: u64)
-    ensures { Gathers O.holds O.faults out.old out.new to.old to.new (count_text most lines) }
+fn put_count<O: Sink>(to: &mut PutBuffer, out: &mut O, most: u64, stands: u64, lines: u64)
+    requires { stands ≤ lines }
+    ensures { Gathers O.holds O.faults out.old out.new to.old to.new
+        (count_text most stands lines) }
 {
-    let shown = lines.min(most);
+    let shown = most.min(stands);
     put_named(to, out, b"</table>\n<p>Lines: ", lines);
     put_named(to, out, b". Shown: ", shown);
-    put_named(to, out, b". Not shown: ", lines - shown);
+    put_named(to, out, b". Folded: ", lines - stands);
+    put_named(to, out, b". Not shown: ", stands - shown);
     to.push(out, b".</p>\n");
+}
+
+/// The folded lines: their number, and a table of some that is closed at first.
+fn put_fold<O: Sink>(
+    to: &mut PutBuffer,
+    out: &mut O,
+    top: u64,
+    view: &View,
+    summaries: &[Summary],
+    number: u64,
+    curves: &[Curve],
+)
+    requires top { IsTop top }
+    requires places { HasBlocks view.now summaries.now }
+    ensures { Gathers O.holds O.faults out.old out.new to.old to.new
+        (fold_text top (view_of view.now) summaries.now number curves.now) }
+{
+    let before = b"<details class=\"folded\"><summary>Lines under 0.2% at each speedup: ";
+    put_named(to, out, before, number);
+    to.push(out, b"</summary>\n<table class=\"folded\">\n");
+    to.push(out, COLUMNS);
+    put_rows(to, out, top, view, summaries, curves);
+    to.push(out, b"</table>\n</details>\n");
+}
+
+/// The folded lines, if there are any.
+fn put_folded<O: Sink>(
+    to: &mut PutBuffer,
+    out: &mut O,
+    top: u64,
+    view: &View,
+    summaries: &[Summary],
+    number: u64,
+    curves: &[Curve],
+)
+    requires top { IsTop top }
+    requires places { HasBlocks view.now summaries.now }
+    ensures { Gathers O.holds O.faults out.old out.new to.old to.new
+        (folded_text top (view_of view.now) summaries.now number curves.now) }
+{
+    if number > 0 {
+        put_fold(to, out, top, view, summaries, number, curves);
+    }
 }
 
 fn put_table<O: Sink>(
@@ -131,13 +207,15 @@ fn put_table<O: Sink>(
     ensures { Gathers O.holds O.faults out.old out.new to.old to.new
         (rows_text top (view_of view.now) summaries.now curves.now) }
 {
-    to.push(
-        out,
-        b"\">\n<tr><th>Line</th><th>Cost</th><th>Gain</th><th>Worst</th><th>Curve</th></tr>\n",
-    );
-    let first = shown(curves, view.most);
+    to.push(out, b"\">\n");
+    to.push(out, COLUMNS);
+    let first = listed(curves, view.most);
     put_rows(to, out, top, view, summaries, first);
-    put_count(to, out, view.most, curves.len() as u64);
+    let stands = standing(curves);
+    let lines = curves.len() as u64;
+    put_count(to, out, view.most, stands, lines);
+    let behind = folded(curves, view.most);
+    put_folded(to, out, top, view, summaries, lines - stands, behind);
 }
 
 fn put_step<O: Sink>(to: &mut PutBuffer, out: &mut O, label: &[u8], step: &CurveStep)
@@ -197,9 +275,9 @@ fn put_pictures<O: Sink>(to: &mut PutBuffer, out: &mut O, top: u64, most: u64, c
         (pictures_text top most curves.now) }
 {
     to.push(out, b"<div class=\"charts\">\n");
-    put_figures(to, out, top, shown(curves, most));
+    put_figures(to, out, top, listed(curves, most));
     to.push(out, b"</div>\n");
-    put_values(to, out, shown(curves, most));
+    put_values(to, out, listed(curves, most));
     to.push(out, b"</details>\n");
 }
 
@@ -229,10 +307,7 @@ pub fn top_of(curves: &[Curve]) -> u64
     ensures top { result ≡ top_of curves.now }
     ensures range { IsTop result }
 {
-    match curves.first() {
-        Some(curve) => top_for(curve.gain),
-        None => 100,
-    }
+    top_for(greatest_gain(curves))
 }
 
 fn harm_top(curves: &[Curve]) -> u64

@@ -21,7 +21,7 @@ pub struct View<'a> {
 pub struct AllCurves<'a> {
     /// The labels of the progress points.
     pub points: &'a [Label],
-    /// The curves, by point and rank.
+    /// The curves, by point and mean.
     pub curves: &'a [Curve],
     /// The places of each line's curves.
     pub places: &'a LinePlaces<'a>,

@@ -1,5 +1,5 @@
 -- The blocks of other lines are no runs of this line.
-use Rattle.std.proofs.Common.{Bool, ◌&&◌, ◌==◌, nat_lt, cond, List, find, Some, ap}
+use Rattle.std.proofs.Common.{Bool, ◌&&◌, ◌==◌, nat_lt, cond, find, Some, ap}
 use Rattle.coz_types.specs.Labels.{Text}
 use Rattle.coz_types.specs.declared.record.Summary.{Summary}
 use Rattle.page_values.specs.Cost.{is_base, is_sped}

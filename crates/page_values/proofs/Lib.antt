@@ -9,3 +9,6 @@ mod Placed
 mod Rights
 mod ShortFiles
 mod Utf8
+pub mod Turns
+mod MeanOrder
+mod Worked

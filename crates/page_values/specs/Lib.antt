@@ -5,3 +5,5 @@ pub mod Endings
 pub mod Places
 pub mod Sources
 pub mod Lines
+pub mod Shapes
+pub mod Ranks

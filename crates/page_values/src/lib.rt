@@ -1,5 +1,6 @@
-//! What a page says of lines and runs: costs, least values, how runs ended, the bytes of labels,
-//! source files, where the blocks and curves of a line stand, and where values stand in a picture.
+//! What a page says of lines and runs: costs, least values, the shapes of curves and their order,
+//! how runs ended, the bytes of labels, source files, where the blocks and curves of a line stand,
+//! and where values stand in a picture.
 #![tactic(auto)]
 
 mod cost;
@@ -8,6 +9,8 @@ mod harm;
 mod label;
 mod lines;
 mod places;
+mod ranks;
+mod shapes;
 mod sources;
 mod table_lines;
 
@@ -17,5 +20,6 @@ pub use harm::worst_of;
 pub use label::{no_markup, reference_of};
 pub use lines::{LinePlaces, places_of_blocks, places_of_curves};
 pub use places::{MAX_SIZE, across, height, is_cut, reaches};
+pub use ranks::{by_mean, folded, greatest_gain, is_folded, listed, standing};
+pub use shapes::{flat_from, is_rough, mean_of};
 pub use sources::{MAX_SOURCE, look_up, read_source};
-pub use table_lines::shown;

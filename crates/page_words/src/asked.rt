@@ -2,7 +2,7 @@
 ghost use Rattle.std.specs.Prelude.{◌≡◌, option_map};
 ghost use Rattle.std.specs.Option.{option_copied};
 ghost use Rattle.coz_files.specs.Verdict.{bytes_of};
-ghost use Rattle.page_words.specs.Words.{asked_of, request_in, request_of, request_by, scanned, has_hyphen, is_path, is_free, is_right, none_or_some, number_in, top_in};
+ghost use Rattle.page_words.specs.Words.{asked_of, request_in, request_of, request_by, scanned, has_hyphen, is_path, is_free, is_right, have_bytes, none_or_some, number_in, top_in};
 
 use crate::scan::{Next, Scan, scan_of};
 use profile_labels::decimal;
@@ -24,6 +24,10 @@ pub struct Asked<'w> {
     pub file: Option<&'w [u8]>,
     /// The folder of the source files, if the text of the lines is to be shown.
     pub source: Option<&'w [u8]>,
+    /// The title of the page, such as the program and its input.
+    pub title: Option<&'w [u8]>,
+    /// The path of another page of the same program, to which this page has a link.
+    pub link: Option<&'w [u8]>,
 }
 
 fn has_hyphen(word: &[u8]) -> bool
@@ -78,11 +82,21 @@ fn top_in(value: Option<&[u8]>) -> Option<u64>
     }
 }
 
+/// Whether no value is empty.
+fn have_bytes(scan: &Scan) -> bool
+    ensures { result ≡ have_bytes (scanned scan.now) }
+{
+    none_or_some(scan.file)
+        && none_or_some(scan.source)
+        && none_or_some(scan.title)
+        && none_or_some(scan.link)
+}
+
 /// Whether each option came once, with a value that is not empty.
 fn is_right(scan: &Scan) -> bool
     ensures { result ≡ is_right (scanned scan.now) }
 {
-    !scan.twice && is_free(scan.next) && none_or_some(scan.file) && none_or_some(scan.source)
+    !scan.twice && is_free(scan.next) && have_bytes(scan)
 }
 
 /// The request of what the words give, with this path and this number of lines.
@@ -97,6 +111,8 @@ fn request<'w>(scan: &Scan<'w>, profile: &'w str, top: u64) -> Option<Asked<'w>>
         top,
         file: scan.file,
         source: scan.source,
+        title: scan.title,
+        link: scan.link,
     })
 }
 
@@ -113,9 +129,10 @@ fn request_of<'w>(scan: &Scan<'w>) -> Option<Asked<'w>>
 }
 
 /// Returns the request of the words after the program's name: the path of a profile, and in any
-/// order around it `--top N`, `--file PATTERN` and `--source FOLDER`, each at most once, also as
-/// `--top=N` and so on. N is 1 to 1,000; without `--top` it is 20. A path begins with no hyphen,
-/// and no value is empty. Returns None if the words are others.
+/// order around it `--top N`, `--file PATTERN`, `--source FOLDER`, `--title TEXT` and
+/// `--link PATH`, each at most once, also as `--top=N` and so on. N is 1 to 1,000; without `--top`
+/// it is 20. The path of the profile begins with no hyphen, and no value is empty. Returns None if
+/// the words are others.
 pub fn read_page<'w>(words: &'w [String]) -> Option<Asked<'w>>
     ensures { option_map asked_of result ≡ request_in (bytes_of words.now) }
 {

@@ -1,7 +1,7 @@
 //! The options of the program among its words.
 ghost use Rattle.std.specs.Prelude.{◌≡◌, fold, string_bytes};
 ghost use Rattle.coz_files.specs.Verdict.{bytes_of};
-ghost use Rattle.page_words.specs.Words.{scanned, take_word, free_word, word_with_value, no_words, with_profile, with_top, with_file, with_source, with_next};
+ghost use Rattle.page_words.specs.Words.{scanned, take_word, free_word, word_with_value, no_words, with_profile, with_top, with_file, with_source, with_title, with_link, with_next};
 
 /// What the next word is.
 #[derive(Clone, Copy)]
@@ -14,6 +14,10 @@ pub enum Next {
     File,
     /// The value of `--source`.
     Source,
+    /// The value of `--title`.
+    Title,
+    /// The value of `--link`.
+    Link,
 }
 
 /// The result of scanning some arguments.
@@ -27,6 +31,10 @@ pub struct Scan<'w> {
     pub file: Option<&'w [u8]>,
     /// The value of `--source`.
     pub source: Option<&'w [u8]>,
+    /// The value of `--title`.
+    pub title: Option<&'w [u8]>,
+    /// The value of `--link`.
+    pub link: Option<&'w [u8]>,
     /// What the next word is.
     pub next: Next,
     /// Whether the path or an option came twice.
@@ -82,6 +90,28 @@ fn with_source<'w>(scan: Scan<'w>, value: &'w [u8]) -> Scan<'w>
     }
 }
 
+fn with_title<'w>(scan: Scan<'w>, value: &'w [u8]) -> Scan<'w>
+    ensures { scanned result ≡ with_title value.now (scanned scan.entry) }
+{
+    Scan {
+        title: Some(value),
+        next: Next::Free,
+        twice: scan.twice || scan.title.is_some(),
+        ..scan
+    }
+}
+
+fn with_link<'w>(scan: Scan<'w>, value: &'w [u8]) -> Scan<'w>
+    ensures { scanned result ≡ with_link value.now (scanned scan.entry) }
+{
+    Scan {
+        link: Some(value),
+        next: Next::Free,
+        twice: scan.twice || scan.link.is_some(),
+        ..scan
+    }
+}
+
 /// The words before, and an option with its value in one word, or the path of the profile.
 fn word_with_value<'w>(scan: Scan<'w>, word: &'w String) -> Scan<'w>
     ensures { scanned result ≡ word_with_value (scanned scan.entry) (string_bytes word.now) }
@@ -92,8 +122,14 @@ fn word_with_value<'w>(scan: Scan<'w>, word: &'w String) -> Scan<'w>
     if let Some(value) = word.as_bytes().strip_prefix(b"--file=") {
         return with_file(scan, value);
     }
-    match word.as_bytes().strip_prefix(b"--source=") {
-        Some(value) => with_source(scan, value),
+    if let Some(value) = word.as_bytes().strip_prefix(b"--source=") {
+        return with_source(scan, value);
+    }
+    if let Some(value) = word.as_bytes().strip_prefix(b"--title=") {
+        return with_title(scan, value);
+    }
+    match word.as_bytes().strip_prefix(b"--link=") {
+        Some(value) => with_link(scan, value),
         None => with_profile(scan, word.as_str()),
     }
 }
@@ -112,6 +148,12 @@ fn free_word<'w>(scan: Scan<'w>, word: &'w String) -> Scan<'w>
     if bytes == b"--source".as_slice() {
         return with_next(scan, Next::Source);
     }
+    if bytes == b"--title".as_slice() {
+        return with_next(scan, Next::Title);
+    }
+    if bytes == b"--link".as_slice() {
+        return with_next(scan, Next::Link);
+    }
     word_with_value(scan, word)
 }
 
@@ -124,6 +166,8 @@ fn take_word<'w>(scan: Scan<'w>, word: &'w String) -> Scan<'w>
         Next::Top => with_top(scan, word.as_bytes()),
         Next::File => with_file(scan, word.as_bytes()),
         Next::Source => with_source(scan, word.as_bytes()),
+        Next::Title => with_title(scan, word.as_bytes()),
+        Next::Link => with_link(scan, word.as_bytes()),
     }
 }
 
@@ -136,6 +180,8 @@ pub fn scan_of<'w>(words: &'w [String]) -> Scan<'w>
         top: None,
         file: None,
         source: None,
+        title: None,
+        link: None,
         next: Next::Free,
         twice: false,
     };

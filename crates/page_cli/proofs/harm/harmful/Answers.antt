@@ -6,7 +6,7 @@ use Rattle.page_cli.proofs.harm.harmful.Goals as goal
 
 pub returns : goal.returns
 returns c =
-    let sort = c.in_ok-sort_by_key.ensures in
+    let sort = c.in_ok-sort_by_cached_key.ensures in
     c.new.ensures
-    ∙ harms_sorted c.in_ok-copies.copies.items c.sort_by_key.new.self.items sort.sorted sort.stable (λ b r f k. search rules)
+    ∙ harms_sorted c.in_ok-copies.copies.items c.sort_by_cached_key.new.self.items sort.sorted sort.stable (λ b r f k. search rules)
     ∙ ap (sorted_by harms_before) c.in_ok-copies.ensures

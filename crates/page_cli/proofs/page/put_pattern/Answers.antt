@@ -5,5 +5,5 @@ use Rattle.page_cli.proofs.page.put_pattern.Goals as goal
 
 pub returns : goal.returns
 returns g c =
-    let count = two_then (codes ": ") (decimal c.args.count) c.put_label.ensures c.put_named.ensures in
+    let count = two_then (codes ": ") (decimal c.args.count) c.put_html.ensures c.put_named.ensures in
     gathers_then (two_then (codes " of ") (decimal c.args.all) count c.put_named-2.ensures) c.push.ensures.gathers

@@ -2,7 +2,7 @@ use Rattle.std.proofs.Common.{rules, ◌==◌, ◌++◌, codes, decimal}
 use Rattle.coz_files.proofs.GatheredLemmas.{gathers_then}
 use Rattle.page_values.specs.Endings.{count_of}
 use Rattle.page_charts.proofs.Pieces.{two_then}
-use Rattle.page_cli.proofs.Choices.{put_unless, put_nothing}
+use Rattle.page_charts.proofs.Choices.{put_unless, put_nothing}
 use Rattle.page_cli.proofs.runs.put_kind.Goals as goal
 
 pub returns-then-count-gt0 : goal.returns-then-count-gt0

@@ -3,7 +3,7 @@ use Rattle.profile_book.proofs.Gathering.{gathers_as}
 use Rattle.page_cli.specs.Runs.{warned}
 use Rattle.page_values.specs.Endings.{others_of}
 use Rattle.std.specs.Prelude.{ℕ}
-use Rattle.page_cli.proofs.Choices.{put_unless, put_nothing}
+use Rattle.page_charts.proofs.Choices.{put_unless, put_nothing}
 use Rattle.page_cli.proofs.runs.put_warning.Goals as goal
 
 pub returns-then-others-ne0 : goal.returns-then-others-ne0

@@ -1,5 +1,5 @@
 use Rattle.std.proofs.Common.{rules}
-use Rattle.page_cli.proofs.Choices.{put_if, put_else}
+use Rattle.page_charts.proofs.Choices.{put_if, put_else}
 use Rattle.page_cli.specs.Page.{all_lines_text}
 use Rattle.page_cli.proofs.sides.put_all_points.Goals as goal
 

@@ -1,6 +1,6 @@
 use Rattle.std.proofs.Common.{sym, ap, ◌∙◌}
 use Rattle.profile_book.proofs.Gathering.{gathers_as}
-use Rattle.page_cli.proofs.Choices.{put_if, put_else}
+use Rattle.page_charts.proofs.Choices.{put_if, put_else}
 use Rattle.page_cli.specs.Page.{line_text}
 use Rattle.page_cli.proofs.sides.put_line_at.Goals as goal
 

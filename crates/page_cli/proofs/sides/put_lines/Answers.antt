@@ -7,4 +7,4 @@ use Rattle.page_cli.proofs.sides.put_lines.Goals as goal
 
 pub returns : goal.returns
 returns g c =
-    gathers_as (ap₂ (λ (top : ℕ) (group : List Curve). flat_map (line_at top c.args.all.now.points.now c.args.all.now.curves.now) group) c.top_of.ensures.top c.shown.ensures) c.put_lines_of.ensures
+    gathers_as (ap₂ (λ (top : ℕ) (group : List Curve). flat_map (line_at top c.args.all.now.points.now c.args.all.now.curves.now) group) c.top_of.ensures.top c.listed.ensures) c.put_lines_of.ensures

@@ -7,8 +7,10 @@ use Rattle.page_cli.proofs.tables.put_count.Goals as goal
 pub returns : goal.returns
 returns g c =
     let lines = c.args.lines in
-    let most = c.args.most in
+    let stands = c.args.stands in
+    let least = min c.args.most stands in
     let shown = gathers_as (ap (λ (n : ℕ). codes ". Shown: " ++ decimal n) c.min-shown.ensures) c.put_named-2.ensures in
-    let others = gathers_as (ap (λ (n : ℕ). codes ". Not shown: " ++ decimal (lines - n)) c.min-shown.ensures) c.put_named-3.ensures in
-    let two = two_then (codes ". Shown: ") (decimal (min lines most)) c.put_named.ensures shown in
-    gathers_then (two_then (codes ". Not shown: ") (decimal (lines - min lines most)) two others) c.push.ensures.gathers
+    let others = gathers_as (ap (λ (n : ℕ). codes ". Not shown: " ++ decimal (stands - n)) c.min-shown.ensures) c.put_named-4.ensures in
+    let two = two_then (codes ". Shown: ") (decimal least) c.put_named.ensures shown in
+    let three = two_then (codes ". Folded: ") (decimal (lines - stands)) two c.put_named-3.ensures in
+    gathers_then (two_then (codes ". Not shown: ") (decimal (stands - least)) three others) c.push.ensures.gathers

@@ -1,6 +1,6 @@
 use Rattle.std.proofs.Common.{List, ℕ, sym, ap, ◌∙◌}
 use Rattle.profile_book.proofs.Gathering.{gathers_as}
-use Rattle.page_cli.proofs.Choices.{put_if, put_else}
+use Rattle.page_charts.proofs.Choices.{put_if, put_else}
 use Rattle.page_cli.specs.Page.{figure_text}
 use Rattle.page_cli.proofs.tables.put_figure_at.Goals as goal
 

@@ -3,7 +3,7 @@ use Rattle.coz_types.specs.Labels.{Text}
 use Rattle.coz_types.specs.declared.record.Summary.{Summary}
 use Rattle.coz_files.proofs.GatheredLemmas.{gathers_then}
 use Rattle.profile_book.proofs.Gathering.{gathers_as}
-use Rattle.page_values.specs.Labels.{html}
+use Rattle.page_cli.specs.Lines.{label_text}
 use Rattle.page_cli.specs.Page.{point_name, point_number, rows_text, pictures_text, view_of}
 use Rattle.page_charts.proofs.Pieces.{two_then}
 use Rattle.page_cli.proofs.tables.put_harm.Goals as goal
@@ -12,7 +12,7 @@ pub returns : goal.returns
 returns g c =
     let curves = c.args.curves.now in
     let named = c.point_name-name.ensures ∙ ap (λ (ps : List Text). point_name ps curves) c.as_slice.ensures in
-    let name = gathers_as (ap (λ (t : Text). codes "<details open><summary>Lines that hurt, by their worst value: " ++ html t) named) c.put_label.ensures in
+    let name = gathers_as (ap (λ (t : Text). codes "<details open><summary>Lines that hurt, by their worst value: " ++ label_text t) named) c.put_label.ensures in
     let number = gathers_as (ap (λ (n : ℕ). codes "</summary>\n<table id=\"h" ++ decimal n) c.point_number.ensures) c.put_named.ensures in
     let head = two_then (codes "</summary>\n<table id=\"h") (decimal (point_number curves)) name number in
     let rows = gathers_as (ap₂ (λ (top : ℕ) (ss : List Summary). rows_text top (view_of c.args.view.now) ss curves) c.harm_top-top.ensures.top c.as_slice-2.ensures) c.put_table.ensures in

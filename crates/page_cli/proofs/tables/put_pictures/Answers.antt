@@ -6,6 +6,6 @@ use Rattle.page_cli.proofs.tables.put_pictures.Goals as goal
 
 pub returns : goal.returns
 returns g c =
-    let figures = gathers_as (ap (flat_map (figure_at c.args.top)) c.shown.ensures) c.put_figures.ensures in
-    let values = gathers_as (ap values_text c.shown-2.ensures) c.put_values.ensures in
+    let figures = gathers_as (ap (flat_map (figure_at c.args.top)) c.listed.ensures) c.put_figures.ensures in
+    let values = gathers_as (ap values_text c.listed-2.ensures) c.put_values.ensures in
     gathers_then (gathers_then (gathers_then (gathers_then c.push.ensures.gathers figures) c.push-2.ensures.gathers) values) c.push-3.ensures.gathers

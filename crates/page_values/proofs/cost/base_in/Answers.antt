@@ -1,4 +1,4 @@
-use Rattle.std.proofs.Common.{◌≡◌, ◌+◌, ◌<◌, cond, drop, find, length, Bool, Option, ℕ, Some, None, sym, ap, ◌∙◌, arith}
+use Rattle.std.proofs.Common.{◌≡◌, ◌+◌, cond, drop, find, Bool, Some, None, sym, ap, ◌∙◌, arith}
 use Rattle.coz_types.specs.declared.record.Summary.{Summary}
 use Rattle.page_values.specs.Cost.{is_base}
 use Rattle.page_values.proofs.Along.{begun, found, found_none, inside, moved, shorter}

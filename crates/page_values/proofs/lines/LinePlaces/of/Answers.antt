@@ -1,4 +1,4 @@
-use Rattle.std.proofs.Common.{◌≡◌, ℕ, suc, ◌-◌, ◌<◌, [], length, get_or, sym, ◌∙◌, arith, rules}
+use Rattle.std.proofs.Common.{◌-◌, ◌<◌, [], length, sym, arith, rules}
 use Rattle.std.proofs.lemmas.List.{get_or-map, length-map}
 use denote.Ref.{Bor}
 use Rattle.coz_types.specs.Labels.{Text}
