@@ -32,13 +32,13 @@ class Lines:
             return [exact]
         return [it for it in self.entries if it.endswith("/" + exact)]
 
-    def resolve(self, piece):
-        """The label that a piece of a list names."""
+    def resolve(self, piece, functions=()):
+        """The label that a piece of a list names. The functions are those of the program, with their addresses."""
         if piece != piece.strip() or not piece:
             raise Stop(f"--progress: write the list without blanks: '{piece}'")
         match = re.fullmatch(r"(.+):(\d+)", piece)
         if not match:
-            raise Stop(f"--progress: a piece is PATH:NUMBER, one line of a file, and '{piece}' is not{self.hint(piece)}")
+            raise Stop(f"--progress: a piece is PATH:NUMBER, one line of a file, and '{piece}' is not{self.hint(piece, functions)}")
         path, number = match.group(1), int(match.group(2))
         tried = [path, os.path.normpath(path)]
         if path.startswith(("/", "./", "../")):
@@ -51,18 +51,28 @@ class Lines:
                 return found[0]
         raise Stop(f"--progress: {self.missing(os.path.basename(path), number, piece)}")
 
-    def hint(self, piece):
+    def hint(self, piece, functions):
+        """The lines that may be meant: the first one of a function, those of a number, or some of a file."""
+        begins = self.of_address(functions[piece]) if piece in functions else None
+        if begins and functions[piece] in self.entries[begins]:
+            return f"; the function {piece} begins in the line {begins}"
+        same = [it for it in self.entries if it.endswith(f":{piece}")][:3]
+        if same:
+            return f"; do you mean {' or '.join(same)}?"
         name = os.path.basename(re.split(r":", piece)[0])
         near = [it for it in self.entries if os.path.basename(it.rpartition(":")[0]) == name][:3]
-        return f"; lines of it are {', '.join(near)}" if near else ""
+        return f"; lines of it are {', '.join(near)}" if near else f"; the program has lines of {self.some_files()}"
+
+    def some_files(self):
+        files = {it.rpartition(":")[0] for it in self.entries}
+        return ", ".join(sorted(files, key=lambda it: (it.count("/"), it))[:6])
 
     def missing(self, name, number, piece):
         """Why a piece names no line."""
         files = {it.rpartition(":")[0] for it in self.entries}
         same = [it for it in files if os.path.basename(it).lower() == name.lower()]
         if not same:
-            some = ", ".join(sorted(files, key=lambda it: (it.count("/"), it))[:6])
-            return f"the program has no lines of a file {name}; it has lines of {some}"
+            return f"the program has no lines of a file {name}; it has lines of {self.some_files()}"
         numbers = sorted(int(it.rpartition(":")[2]) for it in self.entries if it.rpartition(":")[0] in same)
         below = [it for it in numbers if it < number][-1:]
         above = [it for it in numbers if it > number][:1]

@@ -109,6 +109,11 @@ def functions_of(data):
     return sizes
 
 
+def names_of_functions(data):
+    """The address of each function of the symbol table, by its name."""
+    return {name: address for name, kind, address, _ in symbols_of(data) if kind == FUNCTION}
+
+
 def end_of_program(data):
     """Where the program's own code ends and the C library begins, if coz-cc marked it."""
     return next((address for name, _, address, _ in symbols_of(data) if name == "__coz_program_end"), None)

@@ -61,7 +61,7 @@ class Target:
         named = set()
         for piece in [text] if any(it.name == text for it in self.marks) else text.split(","):
             marked = {self.line_of(it) for it in self.marks if it.name == piece}
-            named |= marked or {self.lines.resolve(piece)}
+            named |= marked or {self.lines.resolve(piece, program.names_of_functions(self.data))}
         return self.in_order(named)
 
     def in_order(self, labels):
