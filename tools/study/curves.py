@@ -55,22 +55,22 @@ def value_of(base, block, point):
 class Row:
     """What a profile says of a line, in per cent: the mean of its values above speedup 0, its best, its worst, its cost.
 
-    With several points it is said of the one at which the line gains most; the worst is that of all.
+    With several points it is said of the one at which the line gains most, `point`, with the steps of its curve; the worst is
+    that of all.
     """
 
     def __init__(self, profile, label):
-        curves = [[it for it in profile.curve(label, point) if it.speedup and it.value is not None]
-                  for point in range(len(profile.points))]
-        curves = [it for it in curves if it]
-        self.label, self.cost, self.known = label, profile.cost(label), bool(curves)
-        if curves:
-            means = [sum(it.value for it in curve) / len(curve) / 100 for curve in curves]
-            self.mean = max(means)
-            steps = curves[means.index(self.mean)]
-            self.best = max(it.value for it in steps) / 100
-            self.worst = min(it.value for curve in curves for it in curve) / 100
+        curves = {point: [it for it in profile.curve(label, point) if it.speedup and it.value is not None]
+                  for point in range(len(profile.points))}
+        means = {point: sum(it.value for it in curve) / len(curve) / 100 for point, curve in curves.items() if curve}
+        self.label, self.cost, self.known = label, profile.cost(label), bool(means)
+        if means:
+            self.point = max(means, key=means.get)
+            self.mean, self.steps = means[self.point], curves[self.point]
+            self.best = max(it.value for it in self.steps) / 100
+            self.worst = min(it.value for curve in curves.values() for it in curve) / 100
             self.above = self.cost is not None and any(
-                it.value / 100 > ABOVE * self.cost * it.speedup / 100 + SLACK for it in steps)
+                it.value / 100 > ABOVE * self.cost * it.speedup / 100 + SLACK for it in self.steps)
 
 
 def rows_of(profile):

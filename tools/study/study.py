@@ -4,11 +4,12 @@ import html
 import json
 import os
 
-from study import points
+from study import page, points, story
 from study.curves import Profile, rows_of, show
-from study.latencies import latencies
+from study.latencies import latencies_of, tell_latency
 from study.names import readable
 from study.places import call, tool, write_whole
+from study.program import functions_of
 from study.selection import Selection, rest_of
 from study.shards import Progress, Stage, remove
 from study.target import Target, tell_marks
@@ -25,6 +26,7 @@ class Study(Target):
         self.speedups, self.functions, self.top, self.least = asked.speedups, asked.functions, asked.top, asked.least
         self.dir, self.source = asked.dir or asked.program + ".study", asked.source
         self.hot, self.join, self.page = None, None, None
+        self.first, self.visits, self.selection = None, [], None
         if self.source is not None and not os.path.isdir(self.source):
             raise Stop(f"{self.source} is no folder: --source names the one in which the paths of the lines begin")
         self.kept = self.read_kept()
@@ -71,6 +73,7 @@ def digest(data):
 def first_run(study):
     """Runs the program once, and judges whether a study of it says anything."""
     run, seconds = study.run(study.points)
+    study.first, study.visits = run, [run.visits[k] for k in range(len(study.points))]
     say(f"{study.program}: {run.retired:,} instructions, {several(run.harts, 'thread')}, net time {run.net:,}, end {run.end}, "
         f"{seconds:.1f} s")
     problems = [it for it in [study.why_not_exited(run)] if it]
@@ -119,20 +122,22 @@ def make(stage):
         stage.make(progress)
 
 
-def write_page(study, name, page, options=()):
+def write_page(study, name, options=()):
+    """Leaves the page of a profile's curves."""
     text = call([study.page, study.path(f"{name}.profile"), *options], 0).decode(errors="surrogateescape")
-    write_whole(study.path(page), readable(text, html.escape).encode(errors="surrogateescape"))
+    write_whole(study.path(f"{name}.html"), readable(page.linked(text), html.escape).encode(errors="surrogateescape"))
 
 
 def tell_functions(study, selection, stage):
     """Says which functions gain most, and gives their labels."""
     rows = selection.functions.best(rows_of(Profile(stage.whole)))
-    write_page(study, "functions", "functions.html")
+    write_page(study, "functions")
     show(rows, "functions by what they gain in the mean of the speedups:")
     return [it.label for it in rows]
 
 
-def report(study, rows):
+def report(study, rows, latencies):
+    """Prints the lines that gain most and those that hurt, and how long requests take."""
     gained = [it for it in rows if it.best > 0][:BEST]
     if gained:
         show(gained, "lines by what they gain in the mean of the speedups:")
@@ -141,8 +146,23 @@ def report(study, rows):
     hurt = sorted((it for it in rows if it.worst < 0), key=lambda it: it.worst)[:WORST]
     if hurt:
         show(hurt, "lines that make the program slower where they are faster:")
-    latencies(study, rows)
+    for it in latencies:
+        tell_latency(it)
+
+
+def tell_story(study, rows, latencies):
+    """Prints the story, and leaves it in index.html with tables of the lines and functions."""
+    whole = study.path("functions.profile")
+    functions = rows_of(Profile(whole)) if os.path.exists(whole) else []
+    told = story.Story(study, rows, functions, latencies).paragraphs()
+    selection = study.selection
+    tables = [page.Table("Line", rows, selection.weights.path, "lines.html", page.Texts(study.source or "."))]
+    if functions:
+        tables.append(page.Table("Function", functions, selection.functions.weights.path, "functions.html"))
+    text = page.page_of(study.program, told, tables)
+    write_whole(study.path("index.html"), text.encode(errors="surrogateescape"))
     say(f"page: {study.path('index.html')}")
+    story.tell(told)
 
 
 def stages(study):
@@ -151,8 +171,10 @@ def stages(study):
     choose_points(study)
     seconds = first_run(study)
     study.hot, study.join, study.page = tool("coz-hot"), tool("coz-join"), tool("coz-page")
+    if study.functions and not functions_of(study.data):
+        raise Stop(f"{study.program} has no functions in its symbol table: do not strip it, or profile lines alone, with --functions 0")
     study.open()
-    selection = Selection(study)
+    study.selection = selection = Selection(study)
     stage, best = selection.function_stage(), []
     if stage:
         tell_runs(study, stage, seconds, rest=rest_of(selection))
@@ -170,5 +192,8 @@ def carry_out(asked):
     study = Study(asked)
     for stage in stages(study):
         make(stage)
-    write_page(study, "lines", "index.html", [f"--source={study.source}"] if study.source else [])
-    report(study, rows_of(Profile(stage.whole)))
+    write_page(study, "lines", [f"--source={study.source or '.'}"])
+    rows = rows_of(Profile(stage.whole))
+    latencies = latencies_of(study, rows)
+    report(study, rows, latencies)
+    tell_story(study, rows, latencies)

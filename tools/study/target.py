@@ -30,9 +30,9 @@ class Target:
         self.marks = program.marks_of(self.data)
         self.library = program.end_of_program(self.data)
 
-    def is_own(self, label):
-        """Whether a line is one of the user's own files, and not of the C library's."""
-        if self.library is not None and all(it >= self.library for it in self.lines.entries[label]):
+    def is_own(self, label, entries=None):
+        """Whether a line is one of the user's own files, and not of the C library's. The entries of a function are its own."""
+        if self.library is not None and all(it >= self.library for it in entries or self.lines.entries[label]):
             return False
         return not LIBRARY.match(label)
 

@@ -2,10 +2,10 @@
 import re
 
 from study.names import readable
+from study.paths import path_of
 from study.places import call
 from study.told import listed, say
 
-MOST_EVENTS = 4_000_000
 NAMED, WORTH_NAMING = 5, 1.0
 FLOATS_WARNED = 2.0
 
@@ -21,17 +21,19 @@ COMPILER = re.compile(r"__((u?(div|mod|divmod)|mul|ash[lr]|lshr|c[lt]z|popcount|
 
 
 class Costs:
-    """What `coz-hot` prints: starts and cost of each line that starts, and the cost of all instructions."""
+    """What `coz-hot` prints: starts and cost of each line that starts, of code without a line, and of all instructions."""
 
     def __init__(self, text):
-        self.starts, self.cost, self.total = {}, {}, 0
+        self.starts, self.cost, self.bare, self.total = {}, {}, 0, 0
         for row in text.splitlines():
-            words = row.split()
-            if words[0] == "line":
-                self.starts[words[1]], self.cost[words[1]] = int(words[3]), int(words[5])
-                self.total += int(words[5])
-            elif words[0] == "none":
-                self.total += int(words[2])
+            word, _, rest = row.partition(" ")
+            if word == "line":
+                label, _, starts, _, cost, _, _ = rest.rsplit(" ", 6)
+                self.starts[label], self.cost[label] = int(starts), int(cost)
+                self.total += int(cost)
+            elif word == "none":
+                self.bare = int(rest.split()[1])
+                self.total += self.bare
 
 
 def costs_of(hot, program, options):
@@ -45,15 +47,9 @@ class Weights:
         costs = costs_of(hot, program, options)
         self.started = set(costs.starts)
         self.cost = {it: 100 * cost / max(costs.total, 1) for it, cost in costs.cost.items()}
-        capped = options[:]
-        capped[capped.index("--budget") + 1] = str(min(budget, MOST_EVENTS))
-        self.path, net = {}, 1
-        for row in call([coz, "path", program, *capped]).decode().splitlines():
-            words = row.split()
-            if words[0] == "net":
-                net = max(int(words[1]), 1)
-            elif words[0] == "share" and words[1] != "none":
-                self.path[words[1]] = 100 * int(words[2]) / net
+        self.critical = path_of(coz, program, options, budget)
+        self.ticks, net = costs.cost, max(self.critical.net, 1)
+        self.path = {it: 100 * ticks / net for it, ticks in self.critical.shares.items()}
 
     def of(self, label):
         """The greater of the two."""

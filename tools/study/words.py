@@ -80,7 +80,7 @@ STUDIED = [
     Option("top", "N", count, 60, "the lines of the critical path that are profiled, by their share (60)"),
     Option("least", "PERCENT", per_cent, 0.1, "leaves out what has less of the cost and of the critical path (0.1)"),
     Option("source", "SRC", text, None,
-           "the folder in which the paths of the lines begin: the page shows the text of each line", "folder"),
+           "the folder in which the paths of the lines begin: the pages show their texts (the folder in which you are)", "folder"),
     Option("dir", "DIR", text, None, "where the study is kept (PROG.study)", "folder"), JOBS, ANYWAY]
 
 COMMANDS = {it.name: it for it in (
@@ -90,7 +90,9 @@ PROG is a program that coz runs. The study
 2. finds by a counting run which functions and lines can matter, and leaves out the others;
 3. profiles each of the functions as if it were one line, and finds those that gain most;
 4. profiles the lines of these functions, and the lines with the greatest shares of the critical path;
-5. leaves the pages of their curves in DIR/functions.html and DIR/index.html, and prints the best and the worst lines.
+5. leaves the pages of their curves in DIR/functions.html and DIR/lines.html, and prints the best and the worst lines;
+6. ends with a story in sentences: what to make faster and what not, what hurts, and who has the critical path. The page
+   DIR/index.html has the story, the best lines with their texts, and links to the pages of curves.
 
 Without --progress, the points are those of coz.h's macros in the program. Without these, it is the line of the program's own
 files whose visits fill the run most evenly; `coz-study points PROG` lists the others.

@@ -1,0 +1,95 @@
+"""The first page of a study, index.html: its story, the best lines with their texts, the best functions, and links to curves."""
+import html
+import os
+import urllib.parse
+
+from study.names import readable
+
+SHOWN = 20
+LONGEST = 120
+STYLE = """
+:root { color-scheme: light dark; --ink: #1d2125; --paper: #fff; --faint: #c8ced6; --link: #0a5fbf; }
+@media (prefers-color-scheme: dark) { :root { --ink: #e4e7ea; --paper: #17191c; --faint: #454c55; --link: #74b7ff; } }
+body { margin: 1rem auto; max-width: 64rem; padding: 0 .75rem; background: var(--paper); color: var(--ink); font: 1rem/1.45 system-ui, sans-serif; }
+h1 { font-size: 1.35rem; }
+h2 { font-size: 1.1rem; }
+p, td { overflow-wrap: anywhere; }
+table { border-collapse: collapse; width: 100%; }
+th, td { border-bottom: 1px solid var(--faint); padding: .2rem 0; text-align: left; }
+th + th, td + td { padding-left: 1rem; text-align: right; white-space: nowrap; font-variant-numeric: tabular-nums; }
+a { color: var(--link); }
+"""
+
+
+class Texts:
+    """The texts of lines, from the files below a folder. A line without a file has none."""
+
+    def __init__(self, folder):
+        self.folder, self.files = folder, {}
+
+    def of(self, label):
+        file, _, number = label.rpartition(":")
+        if file not in self.files:
+            try:
+                with open(os.path.join(self.folder, urllib.parse.unquote(file)), encoding="utf-8", errors="replace") as text:
+                    self.files[file] = text.read().splitlines()
+            except OSError:
+                self.files[file] = []
+        lines = self.files[file]
+        return lines[int(number) - 1].strip()[:LONGEST] if int(number) <= len(lines) else ""
+
+
+def cell(text):
+    return f"<td>{text}</td>"
+
+
+def row_of(row, texts, path):
+    text = texts.of(row.label) if texts else ""
+    name = html.escape(row.label) + (f"<br><code>{html.escape(text)}</code>" if text else "")
+    numbers = row.mean, row.best, row.worst, row.cost, path.get(row.label, 0)
+    numbers = [f"{it:.2f}%" if it is not None else "absent" for it in numbers]
+    return "<tr>" + "".join(map(cell, [name, *numbers])) + "</tr>"
+
+
+class Table:
+    """Rows of lines or functions with their shares of the critical path, and the page of their curves."""
+
+    def __init__(self, noun, rows, path, file, texts=None):
+        self.noun, self.rows, self.path, self.file, self.texts = noun, rows, path, file, texts
+
+    def html(self):
+        heads = "".join(f"<th>{it}</th>" for it in (self.noun, "Mean gain", "Best", "Worst", "Cost", "Critical path"))
+        rows = "\n".join(row_of(it, self.texts, self.path) for it in self.rows[:SHOWN])
+        return (f"<h2>{self.noun}s by what they gain</h2>\n"
+                f'<p><a href="{self.file}">The curves of the {self.noun.lower()}s</a></p>\n'
+                f"<table>\n<tr>{heads}</tr>\n{rows}\n</table>")
+
+
+def page_of(program, paragraphs, tables):
+    """The page, whose names of C++ are as their sources write them."""
+    name = html.escape(os.path.basename(program))
+    told = "\n".join(f"<p>{html.escape(it)}</p>" for it in paragraphs)
+    shown = "\n".join(it.html() for it in tables if it.rows)
+    text = f"""<!DOCTYPE html>
+<html lang="en">
+<head>
+<meta charset="utf-8">
+<meta name="viewport" content="width=device-width, initial-scale=1">
+<title>coz: what to make faster in {name}</title>
+<style>{STYLE}</style>
+</head>
+<body>
+<h1>What to make faster in {name}</h1>
+{told}
+{shown}
+<p>The mean gain is that of all speedups. Gains, costs and shares are in per cent of the net time; the cost is that of all threads
+together.</p>
+</body>
+</html>
+"""
+    return readable(text, html.escape)
+
+
+def linked(text):
+    """A page of curves with a link to the first page."""
+    return text.replace("<body>\n", '<body>\n<p><a href="index.html">The story</a></p>\n', 1)
