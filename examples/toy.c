@@ -1,12 +1,14 @@
-// Coz's first example: two threads, of which one has a little more to do, and a progress point.
+// Coz's first example: two threads, of which one has more to do, and a progress point.
 //
-// A usual profiler says that a and b take 51 and 49 per cent of the time. But making b faster gains
-// nothing, and making a faster gains 5 per cent at most: then b is the one that is waited for.
+// A usual profiler says that a and b take 57 and 43 per cent of the time. But making b faster gains
+// nothing, and making a faster gains until it takes as long as b: then b is the one that is waited
+// for. The difference is greater than in Coz's example: b begins later than a, by the time that the
+// main thread takes to make it.
 #include <coz.h>
 #include <pthread.h>
 #include <stdio.h>
 
-enum { ROUNDS = 20, LONGER = 2000, SHORTER = 1900 };
+enum { ROUNDS = 20, LONGER = 2000, SHORTER = 1500 };
 
 static void *a(void *unused) {
     for (volatile int x = 0; x < LONGER; x++) {
