@@ -16,7 +16,7 @@ ARGS ?= run examples/one
 PREFIX ?= /usr/local
 
 EXAMPLES = longer ledger
-PAGES = TUTORIAL.md GUESTS.md FORMATS.md GLOSSARY.md CLUSTER.md
+PAGES = TUTORIAL.md GUESTS.md FORMATS.md GLOSSARY.md CLUSTER.md CI.md
 PROGRAMS := $(shell python3 -B tools/repository.py)
 NAMES = $(patsubst coz-%,%,$(filter coz-%,$(PROGRAMS)))
 SHELLS = bash-completion/completions/coz-study zsh/site-functions/_coz-study

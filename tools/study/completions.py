@@ -59,9 +59,13 @@ def quoted(value):
     return value.replace("\\", "\\\\").replace("[", "\\[").replace("]", "\\]").replace(":", "\\:").replace("'", "'\\''")
 
 
+def zsh_option(option):
+    values = "".join(f":{it}:{zsh_value(option)}" for it in (option.value or "").split())
+    return f"'--{option.name}{'=' if option.values == 1 else ''}[{quoted(option.help)}]{values}'"
+
+
 def zsh_words(command):
-    words = [f"'--{it.name}{'=' if it.value else ''}[{quoted(it.help)}]{f':{it.value}:{zsh_value(it)}' if it.value else ''}'"
-             for it in command.options.values()]
+    words = [zsh_option(it) for it in command.options.values()]
     words.append("'(- *)--help[print the page of the command]'")
     if isinstance(command.completes, tuple):
         other = f"({' '.join(command.completes)})"
@@ -69,7 +73,7 @@ def zsh_words(command):
         other = f"({' '.join(COMMANDS)})"
     else:
         other = "_files -/" if command.completes == "folder" else "_files"
-    return " ".join([*words, f"'1:{command.wants}:{other}'"])
+    return " ".join([*words, *(f"'{k}:{it}:{other}'" for k, it in enumerate(command.wants.split(), 1))])
 
 
 def zsh():

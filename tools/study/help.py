@@ -28,7 +28,8 @@ def page_of(command):
     text += f"{options_of(command)}\n\n"
     if command.name in ("study", "help"):
         text += f"commands:\n{commands()}\n\n"
-    return text + ("The exit status is 0 if all is done, 1 if something stands in the way, 2 if the words are wrong, "
+    fails = " or the gate fails" if command.name == "gate" else ""
+    return text + (f"The exit status is 0 if all is done, 1 if something stands in the way{fails}, 2 if the words are wrong, "
                    "130 if interrupted.")
 
 

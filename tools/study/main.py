@@ -37,6 +37,7 @@ def main(arguments):
     except OSError as error:
         print(f"coz-study: {error.filename or ''}: {error.strerror}", file=sys.stderr)
     except KeyboardInterrupt:
-        print("\ncoz-study: interrupted; the same words go on from here", file=sys.stderr)
+        on = "; the same words go on from here" if command.name == "study" else ""
+        print(f"\ncoz-study: interrupted{on}", file=sys.stderr)
         return 130
     return 1

@@ -56,10 +56,14 @@ class Target:
         names = begun & ended
         return [Pair(it, self.labels_of(program.BEGIN, it), self.labels_of(program.END, it)) for it in sorted(names)]
 
+    def pieces(self, text):
+        """The lines and names of a list; a name of coz.h may have commas."""
+        return [text] if any(it.name == text for it in self.marks) else text.split(",")
+
     def resolve(self, text):
         """The labels of a list of lines, or of names of coz.h's points, in the order of the lines."""
         named = set()
-        for piece in [text] if any(it.name == text for it in self.marks) else text.split(","):
+        for piece in self.pieces(text):
             marked = {self.line_of(it) for it in self.marks if it.name == piece}
             named |= marked or {self.lines.resolve(piece, program.names_of_functions(self.data))}
         return self.in_order(named)

@@ -30,3 +30,13 @@ def listed(items, most):
     items = list(items)
     more = f" and {len(items) - most:,} more" if len(items) > most else ""
     return ", ".join(items[:most]) + more
+
+
+def change(old, new, more, less, per_cent=None):
+    """Two numbers, and how much more or less the second one is."""
+    by = per_cent if per_cent is not None else 100 * (new / old - 1) if old else 0.0
+    if abs(by) >= 0.005:
+        word = f"{abs(by):.2f} per cent {more if by > 0 else less}"
+    else:
+        word = "the same" if old == new else "nearly the same"
+    return f"{old:,} -> {new:,}, {word}"

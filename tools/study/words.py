@@ -3,9 +3,10 @@ import difflib
 import os
 import types
 
+from study.places import PAGES
 from study.told import Wrong
 
-VERSION = "coz-study 3"
+VERSION = "coz-study 4"
 
 
 # ---- what a value may be
@@ -51,15 +52,16 @@ def one_of(*choices):
 # ---- the table
 
 class Option:
-    """An option: its name, what its value is called (None if it has none), how it is read, what it is without one, its help."""
+    """An option: its name, what its values are called (None if it has none), how each is read, what it is without one, its help."""
 
     def __init__(self, name, value, read, default, help_text, completes=None):
         self.name, self.value, self.read, self.default, self.help = name, value, read, default, help_text
         self.completes = completes or ("choices" if hasattr(read, "choices") else None)
+        self.values = len(value.split()) if value else 0
 
 
 class Command:
-    """A command: its word, what its other word is called and names, a line about it, its page, and its options."""
+    """A command: its word, what its other words are called and name, a line about it, its page, and its options."""
 
     def __init__(self, name, wants, completes, about, page, options):
         self.name, self.wants, self.completes, self.about, self.page = name, wants, completes, about, page
@@ -82,6 +84,11 @@ STUDIED = [
     Option("source", "SRC", text, None,
            "the folder in which the paths of the lines begin: the pages show their texts (the folder in which you are)", "folder"),
     Option("dir", "DIR", text, None, "where the study is kept (PROG.study)", "folder"), JOBS, ANYWAY]
+
+COMPARED = [
+    PROGRESS, INPUT, BUDGET,
+    Option("source", "OLD NEW", text, None, "the sources of both builds, as two folders or two files, by which lines are matched",
+           "file"), ANYWAY]
 
 COMMANDS = {it.name: it for it in (
     Command("study", "PROG", "file", "tells which lines of a program are worth making faster", """
@@ -127,6 +134,28 @@ A progress point is a line that is passed once for each unit of work. The lines 
 evenly their visits fill the run, one for each group of lines that are visited equally often. The points of coz.h's macros are
 listed first. `coz-study PROG` takes the macros, or without them the first line.
 """, [INPUT, BUDGET, JOBS]),
+    Command("diff", "OLD NEW", "file", "says what changed from one build of a program to another, and in which lines", """
+OLD and NEW are two builds of a program. Both are run with the same input, and the change is exact: another day or another
+machine gives the same numbers. It prints how much more or less time and how many more or fewer instructions NEW takes, and
+divides the change among the lines by their shares of the critical path. These add up to the net time, and so do their changes.
+Of a run of more than 4,000,000 instructions no whole critical path is known: its change is divided by what each line costs in
+all threads together, which adds up to the cost and not to the net time.
+
+With --source, lines are matched by a diff of the sources, so that a comment that is added moves nothing. OLD and NEW are then
+two folders in which the paths of the lines begin, as `coz lines` prints them, or the two files that the builds are made of.
+Without it the change is divided among functions, by their names.
+
+The points are those of --progress in OLD, or those of PROFILE, or those of coz.h's macros. With a point, it says how much more
+or less a visit takes. With --expect, a profile of OLD says beforehand what a line gains if it costs less: this is put beside
+what was gained really.
+""", [*COMPARED, Option("expect", "PROFILE", text, None,
+                        "a profile of OLD, or the folder of a study of it: what it predicted of the lines that changed", "file")]),
+    Command("gate", "OLD NEW", "file", "fails if a build of a program is slower than another by more than a limit", """
+OLD and NEW are two builds of a program, compared as `coz-study diff` compares them. If a visit of a progress point, or without
+points the run, takes more than --limit per cent more time in NEW, it names the lines that take more and ends with status 1.
+With several points each of them counts. The numbers are exact, so nothing is run twice, and nothing fails by chance.
+""" + f"{PAGES}/CI.md has recipes for make and for a runner.",
+            [*COMPARED, Option("limit", "PERCENT", per_cent, 1.0, "how much slower NEW may be (1)")]),
     Command("export", "DIR", "folder", "prints all curves of a study as CSV or JSON", """
 DIR is where `coz-study PROG` keeps its study. Values and costs are in per cent, net times in ticks. A value says how much less
 net time a visit of the point takes; it is empty, or null, if nothing can be said.
@@ -161,24 +190,28 @@ def command_of(arguments):
 
 
 def read_option(command, word, value, rest):
-    """The option that a word names, and its value, which may be the next word."""
+    """The option that a word names, and its value, or the list of its values. They are the next words, or one is given."""
     option = command.options.get(word)
     if option is None:
         near = nearest(word, [*command.options, "help", "version"])
         known = f"; do you mean --{near}?" if near else f"; {called(command)} --help lists them"
         raise Wrong(f"--{word} is no option of {called(command)}{known}")
-    if option.value is None:
-        if value is not None:
-            raise Wrong(f"--{word} has no value")
-        return option, True
-    if value is None:
+    given = [] if value is None else [value]
+    if given and not option.values:
+        raise Wrong(f"--{word} has no value")
+    while len(given) < option.values:
         if not rest or rest[0].startswith("--"):
             raise Wrong(f"--{word} wants its {option.value}: {option.help}")
-        value = rest.pop(0)
+        given.append(rest.pop(0))
+    values = [read_value(option, it) for it in given]
+    return option, values if option.values > 1 else values[0] if values else True
+
+
+def read_value(option, value):
     try:
-        return option, option.read(value)
+        return option.read(value)
     except ValueError as error:
-        raise Wrong(f"--{word} wants {error}, and '{value}' is not")
+        raise Wrong(f"--{option.name} wants {error}, and '{value}' is not")
 
 
 def read(command, arguments):
@@ -201,17 +234,26 @@ def read(command, arguments):
             raise Wrong(f"{name} is given twice")
         given.add(option.name)
         asked[option.name] = asked_value
-    return with_other(command, others, asked)
+    return with_others(command, others, asked)
 
 
-def with_other(command, others, asked):
-    wants = command.wants
-    if len(others) > 1:
-        near = nearest(others[0], COMMANDS) if command.name == "study" else None
-        means = f"; do you mean the command {near}?" if near else ""
-        words = "; a program gets its words by coz-args" if wants == "PROG" and not means else ""
-        raise Wrong(f"one {wants} is wanted, and '{others[1]}' is too much{means}{words}")
-    if not others and command.name != "help":
-        raise Wrong(f"{wants} is required; {called(command)} --help says more")
-    asked[{"PROG": "program", "DIR": "dir"}.get(wants, wants.lower())] = others[0] if others else None
+def too_much(command, others):
+    """What is said if there are more other words than a command takes."""
+    wants = command.wants.split()
+    near = nearest(others[0], COMMANDS) if command.name == "study" else None
+    means = f"; do you mean the command {near}?" if near else ""
+    words = "; a program gets its words by coz-args" if "PROG" in wants and not means else ""
+    wanted = f"one {wants[0]} is" if len(wants) == 1 else f"{' and '.join(wants)} are"
+    return f"{wanted} wanted, and '{others[len(wants)]}' is too much{means}{words}"
+
+
+def with_others(command, others, asked):
+    """All that is asked for: the options, and the other words by their names."""
+    wants = command.wants.split()
+    if len(others) > len(wants):
+        raise Wrong(too_much(command, others))
+    if len(others) < len(wants) and command.name != "help":
+        raise Wrong(f"{wants[len(others)]} is required; {called(command)} --help says more")
+    for k, it in enumerate(wants):
+        asked[{"PROG": "program"}.get(it, it.lower())] = others[k] if k < len(others) else None
     return types.SimpleNamespace(**asked)
