@@ -24,6 +24,7 @@ class Study(Target):
         super().__init__(asked)
         self.anyway = asked.anyway
         self.speedups, self.functions, self.top, self.least = asked.speedups, asked.functions, asked.top, asked.least
+        self.fed = asked.input
         self.dir, self.source = asked.dir or asked.program + ".study", asked.source
         self.hot, self.join, self.page = None, None, None
         self.first, self.visits, self.selection = None, [], None
@@ -123,7 +124,9 @@ def make(stage):
 
 
 def write_page(study, name, options=()):
-    """Leaves the page of a profile's curves."""
+    """Leaves the page of a profile's curves, which names the program and its input."""
+    title = f"{name} of {os.path.basename(study.program)}" + (f" with {os.path.basename(study.fed)}" if study.fed else "")
+    options = [f"--title={title}", *options]
     text = call([study.page, study.path(f"{name}.profile"), *options], 0).decode(errors="surrogateescape")
     write_whole(study.path(f"{name}.html"), readable(page.linked(text), html.escape).encode(errors="surrogateescape"))
 
