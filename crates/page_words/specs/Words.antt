@@ -1,4 +1,4 @@
--- The words of the program: the path of a profile, and five options.
+-- The request of the words, computed word by word. `Grammar.antt` says what the words are.
 use Rattle.std.specs.Prelude.{ℕ, Bool, true, false, not, ◌&&◌, ◌||◌, ◌==◌, nat_lt, List, [], ◌∷◌, take, drop, fold, codes, Option, Some, None, is_some, if◌then◌else◌}
 use Rattle.std.specs.Option.{option_copied}
 use Rattle.std.specs.Str.{bytes_eq}

@@ -1,0 +1,4 @@
+pub mod Slots
+pub mod Said
+pub mod Law
+pub mod Examples
