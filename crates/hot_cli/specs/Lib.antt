@@ -1,4 +1,5 @@
 pub mod Words
+pub mod Grammar
 pub mod Verdict
 pub mod Answer
 pub mod Program

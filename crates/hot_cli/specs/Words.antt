@@ -1,4 +1,4 @@
--- The words of the program: its two options, and among them the words of the command `run`.
+-- The request of the words, computed word by word. `Grammar.antt` says what the words are.
 use Rattle.std.specs.Prelude.{ℕ, Bool, true, false, not, ◌&&◌, ◌||◌, List, [], ◌∷◌, ◌++◌, take, drop, fold, codes, Option, Some, None, is_some, unwrap_or, if◌then◌else◌, option_and_then}
 use Rattle.std.specs.Str.{bytes_eq}
 use Rattle.coz_types.specs.Ranges.{last_word}
