@@ -1,4 +1,5 @@
 mod Joined
 mod NameTexts
+pub mod One
 mod SymbolLists
 mod Worked

@@ -60,3 +60,10 @@ abbrev pub AreSequences : ImageParts → Index → List Mark → List Sequence �
 AreSequences image index marks all =
     (kept own : List Sequence) × (all ≡ kept ++ own) × AreKept index marks kept
     × AreFunctions index (names_in image.file) (falling (functions_in image)) own
+
+-- a program, an index and marks have one such list at most
+abbrev pub SequencesAreOne : Type 0
+SequencesAreOne =
+    (image : ImageParts) (index : Index) (marks : List Mark) (all others : List Sequence)
+    → AreSequences image index marks all → AreSequences image index marks others
+    → all ≡ others

@@ -6,5 +6,5 @@ mod program;
 mod symbols;
 
 pub use labels::function_sequence;
-pub use program::{bytes_in, sequences};
+pub use program::{bytes_in, sequences, sequences_are_one};
 pub use symbols::{Functions, functions};

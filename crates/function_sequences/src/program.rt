@@ -6,7 +6,7 @@ ghost use Rattle.line_write.specs.Unit.{IsWritable, view, views};
 ghost use Rattle.line_remap.specs.Marks.{IsMark, marks_of};
 ghost use Rattle.line_remap.specs.Runs.{Adds};
 ghost use Rattle.line_remap.specs.Sound.{IsSound};
-ghost use Rattle.function_sequences.specs.Sequences.{AreFunctions, AreSequences, IsNamed, IsOfFunction, bytes_in, falling, functions_in, names_in};
+ghost use Rattle.function_sequences.specs.Sequences.{AreFunctions, AreSequences, IsNamed, IsOfFunction, SequencesAreOne, bytes_in, falling, functions_in, names_in};
 
 use crate::labels::function_sequence;
 use coz_types::Image;
@@ -87,3 +87,9 @@ pub fn sequences(
     push_functions(alloc, &mut out, index, names, symbols)?;
     Ok(out.list)
 }
+
+/// A program, an index of its lines and marks of them have one list of sequences at most: each path,
+/// number, address and size is determined, and so is their order.
+pub fn sequences_are_one()
+    ensures { SequencesAreOne }
+{}
