@@ -1,6 +1,7 @@
 mod FirstLines
 mod Loaded
 mod Named
+mod One
 mod SameAreas
 mod Soundness
 mod Whole

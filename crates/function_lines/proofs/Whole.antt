@@ -1,16 +1,18 @@
 -- The file with a unit in which each function is one line.
 use Rattle.std.proofs.Common.{◌≡◌, ℕ, ◌+◌, ◌<◌, ◌≤◌, true, List, [], ◌++◌, length, take, drop, Option, Some, None, option_map, Result, Ok, Err, Bool, false, ◌==◌, refl, sym, ap, subst, ◌∙◌, arith, if◌then◌else◌, length-append, length-drop}
 use Rattle.std.specs.Global.{Vec}
-use Rattle.std.specs.Prelude.{All, IfErr, IfSome, codes, is_some, unwrap_or}
+use Rattle.std.specs.Prelude.{All, IfErr, IfOk, IfSome, bytes_eq, codes, is_some, unwrap_or}
 use Rattle.std.specs.List.{AllByRecursion}
+use Rattle.std.proofs.lemmas.Bool.{and_from}
 use Rattle.std.proofs.lemmas.List.{length-take-le}
+use Rattle.std.proofs.lemmas.Slice.Eq.{bytes_eq-Decides}
 use Rattle.std.proofs.lemmas.List.Elements.{All-map, All-weaker, recursion_from_All}
 use Rattle.coz_types.specs.declared.TheConstants.{MAX_PROGRAM}
 use Rattle.coz_types.specs.Image.{ImageParts, IsImage}
 use Rattle.dwarf_lines.specs.Names.{Strings, strings}
 use Rattle.dwarf_lines.specs.Reading.{reading}
 use Rattle.dwarf_lines.specs.Registers.{Table}
-use Rattle.elf_load.specs.Loaded.{section, section_place}
+use Rattle.elf_load.specs.Loaded.{load_answer, section, section_place}
 use Rattle.line_index.specs.Index.{Index}
 use Rattle.line_index.specs.Lines.{is_executable, line_of}
 use Rattle.line_write.specs.Lines.{GivesLines, table}
@@ -23,7 +25,8 @@ use Rattle.line_remap.specs.Marks.{IsMark, Mark, mark_of, marks_of}
 use Rattle.elf_symbols.specs.declared.symbols.Symbol.{Symbol}
 use Rattle.function_sequences.specs.Sequences.{bytes_in, falling, functions_in}
 use Rattle.line_remap.specs.Sound.{IsIndexOf}
-use Rattle.function_lines.specs.WithLines.{with_lines}
+use Rattle.function_lines.specs.SameProgram.{is_same_program}
+use Rattle.function_lines.specs.WithLines.{has_lines, is_section, with_lines}
 use Rattle.byte_write.specs.Numbers.{double}
 use Rattle.byte_write.specs.Files.{with_section}
 use Rattle.function_lines.proofs.FirstLines.{sequences_line}
@@ -134,13 +137,25 @@ module _ (image : ImageParts) (index : Index) (marks : List Mark) (bytes : List 
   cause_of (Err error) is = file_cause error is
 
   -- a file with the unit is one with such functions
-  pub with_functions : (written : List ℕ) → with_lines image.file bytes ≡ Some written → IsWithFunctions image index marks written
-  with_functions written is = record {
+  with_functions : (written : List ℕ) → with_lines image.file bytes ≡ Some written → has_lines image bytes written ≡ true → length written ≤ MAX_PROGRAM → IsWithFunctions image index marks written
+  with_functions written is right short = record {
     some = some;
     sequences = has.sequences;
     are = has.are;
     file = subst (λ (u : List ℕ). with_lines image.file u ≡ Some written) has.unit is;
+    right = subst (λ (u : List ℕ). has_lines image u written ≡ true) has.unit right;
+    short = short;
   }
+
+  pub are_with_functions : (r : Result (Vec ℕ) FunctionsError)
+      → IfOk r (λ (v : Vec ℕ). with_lines image.file bytes ≡ Some v.items)
+      → IfOk r (λ (v : Vec ℕ). is_same_program image (load_answer v.items) ≡ true)
+      → IfOk r (λ (v : Vec ℕ). section v.items (codes ".debug_line") ≡ Some bytes)
+      → IfOk r (λ (v : Vec ℕ). length v.items ≤ MAX_PROGRAM)
+      → IfOk r (λ (v : Vec ℕ). IsWithFunctions image index marks v.items)
+  are_with_functions (Ok v) file same lines short =
+      with_functions v.items file (and_from (is_same_program image (load_answer v.items)) (is_section (section v.items (codes ".debug_line")) bytes) same (ap (λ o. is_section o bytes) lines ∙ (bytes_eq-Decides bytes bytes).1 refl)) short
+  are_with_functions (Err error) file same lines short = tt
 
 -- ---- marks
 

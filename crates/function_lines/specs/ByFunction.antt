@@ -1,5 +1,5 @@
 -- A program in which each function is one line.
-use Rattle.std.specs.Prelude.{◌≡◌, ℕ, ◌+◌, ◌<◌, ◌&&◌, Bool, false, List, [], length, find, nat_le, nat_lt, codes, Option, Some, None, option_map, option_and_then, Ok, if◌then◌else◌}
+use Rattle.std.specs.Prelude.{◌≡◌, ℕ, ◌+◌, ◌<◌, ◌≤◌, ◌&&◌, Bool, true, false, List, [], length, find, nat_le, nat_lt, codes, Option, Some, None, option_map, option_and_then, Result, Ok, Err, if◌then◌else◌}
 use Rattle.coz_types.specs.declared.TheConstants.{MAX_PROGRAM}
 use Rattle.coz_types.specs.Image.{ImageParts}
 use Rattle.dwarf_lines.specs.Names.{Strings}
@@ -64,13 +64,15 @@ abbrev pub HasFunctions : ImageParts → Type 0
 HasFunctions image = functions_in image ≡ [] → ⊥
 
 -- The program has a function, and the file has the unit of such sequences as its line table: all
--- its other bytes are as they were.
+-- its other bytes are as they were. It is the program with this line table, and not too long.
 pub record IsWithFunctions (image : ImageParts) (index : Index) (marks : List Mark)
     (written : List ℕ) : Type 0 where
   pub some : HasFunctions image
   pub sequences : List Sequence
   pub are : AreSequences image index marks sequences
   pub file : with_lines image.file (unit sequences) ≡ Some written
+  pub right : has_lines image (unit sequences) written ≡ true
+  pub short : length written ≤ MAX_PROGRAM
 
 -- the file's line table is read as this table, whatever stands in the sections of its texts
 abbrev pub ReadsAs : List ℕ → Table → Type 0
@@ -136,3 +138,21 @@ IsCauseOf image index marks NoLines = IsLineless image
 IsCauseOf image index marks Much = IsMuch image index marks
 IsCauseOf image index marks Overlap = IsOverlap image index marks
 IsCauseOf image index marks Memory = Unit {0}
+
+-- ---- answers
+
+-- what comes of a program, an index and marks: the file, or the cause that there is none
+abbrev pub IsAnswer : ImageParts → Index → List Mark → Result (List ℕ) FunctionsError → Type 0
+IsAnswer image index marks (Ok written) = IsWithFunctions image index marks written
+IsAnswer image index marks (Err error) = IsCauseOf image index marks error
+
+abbrev pub IsMemory : Result (List ℕ) FunctionsError → Type 0
+IsMemory answer = answer ≡ Err Memory
+
+-- but out of memory, one answer at most comes of them
+abbrev pub AnswersAreOne : Type 0
+AnswersAreOne =
+    (image : ImageParts) (index : Index) (marks : List Mark)
+    (one other : Result (List ℕ) FunctionsError)
+    → IsAnswer image index marks one → IsAnswer image index marks other
+    → (IsMemory one → ⊥) → (IsMemory other → ⊥) → one ≡ other

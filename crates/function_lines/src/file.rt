@@ -6,7 +6,7 @@ ghost use Rattle.coz_types.specs.declared.TheConstants.{MAX_PROGRAM};
 ghost use Rattle.coz_types.specs.Image.{IsImage};
 ghost use Rattle.elf_load.specs.Faults.{fault};
 ghost use Rattle.elf_load.specs.Loaded.{load_answer, section};
-ghost use Rattle.function_lines.specs.ByFunction.{IsByFunction, IsCauseOf, IsFileCause, ReadsWithoutFault, IsUnit, IsUnitCause, IsWithFunctions};
+ghost use Rattle.function_lines.specs.ByFunction.{AnswersAreOne, IsByFunction, IsCauseOf, IsFileCause, ReadsWithoutFault, IsUnit, IsUnitCause, IsWithFunctions};
 ghost use Rattle.line_remap.specs.Marks.{IsMark, marks_of, positions_of, spelled_lines};
 ghost use Rattle.line_regions.specs.Regions.{chosen_marks, regions_of};
 ghost use Rattle.line_regions.specs.declared.lines.Region.{Region};
@@ -215,3 +215,9 @@ pub fn by_function<'a>(
     let marks = chosen_marks(alloc, index, kept, lines, regions)?;
     by_marks(alloc, image, index, &marks)
 }
+
+/// A program, an index of its lines and marks of them determine what `by_marks` returns, unless it
+/// is out of memory: the bytes of the file, or the one error.
+pub fn answers_are_one()
+    ensures { AnswersAreOne }
+{}

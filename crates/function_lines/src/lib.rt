@@ -5,5 +5,5 @@ mod file;
 mod relined;
 mod same_program;
 
-pub use file::{FunctionsError, by_function, by_marks};
+pub use file::{FunctionsError, answers_are_one, by_function, by_marks};
 pub use relined::{LinesError, with_lines};

@@ -9,7 +9,7 @@ use Rattle.function_lines.specs.ByFunction.{IsByFunction, IsLongUnit, IsUnit, Is
 use Rattle.function_lines.specs.WithLines.{with_lines}
 use Rattle.line_remap.specs.Marks.{marks_of}
 use Rattle.function_lines.proofs.Soundness.{sound}
-use Rattle.function_lines.proofs.Whole.{cause_of, lineless, long_unit, marks_within, some_found, unit_lines, unit_read, with_functions}
+use Rattle.function_lines.proofs.Whole.{are_with_functions, cause_of, lineless, long_unit, marks_within, some_found, unit_lines, unit_read}
 use Rattle.function_lines.proofs.file.by_marks.Goals as goal
 
 pub unit_of-requires-clause-sound : goal.unit_of-requires-clause-sound
@@ -63,8 +63,7 @@ returns-in-Ok-clause-file c =
     let bytes = c.deref-in-Ok.result.now in
     let is_unit : IsUnit image index marks bytes = subst (λ (bs : List ℕ). IsUnit image index marks bs) (sym c.deref-in-Ok.ensures.value) c.in-Ok.ensures.unit in
     let some = some_found c.args.image.now c.in_ok-symbols.symbols.items c.is_empty.result c.in_ok-symbols.symbols.len c.in_ok-symbols.ensures.found c.is_empty.ensures c.in_ok-symbols.symbols.ok.0 c.if-is_empty.false in
-    IfOk-weaker c.file_of.result (λ (v : Vec ℕ). with_lines image.file bytes ≡ Some v.items) (λ (v : Vec ℕ). IsWithFunctions image index marks v.items)
-    (λ v is. with_functions image index marks bytes some is_unit v.items is) c.file_of.ensures.file
+    are_with_functions image index marks bytes some is_unit c.file_of.result c.file_of.ensures.file c.file_of.ensures.same_program c.file_of.ensures.lines c.file_of.ensures.short
 
 pub returns-in-Ok-clause-cause : goal.returns-in-Ok-clause-cause
 returns-in-Ok-clause-cause c =
