@@ -1,7 +1,8 @@
+pub mod Alike
 mod FirstLines
 mod Loaded
 mod Named
-mod One
+pub mod One
 mod SameAreas
 mod Soundness
 mod Whole

@@ -3,4 +3,5 @@ mod Informed
 mod Judging
 mod Judged
 mod Naming
+mod One
 mod Served

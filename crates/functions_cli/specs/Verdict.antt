@@ -103,3 +103,9 @@ IsRequestVerdict (Some request) held v =
 -- the verdict of these words, over files with these contents
 abbrev pub IsVerdict : List Text → Held → Verdict → Type 0
 IsVerdict words held v = IsRequestVerdict (request_in words) held v
+
+-- the words and the files have one verdict at most
+abbrev pub VerdictsAreOne : Type 0
+VerdictsAreOne =
+    (words : List Text) (held : Held) (v other : Verdict)
+    → IsVerdict words held v → IsVerdict words held other → v ≡ other

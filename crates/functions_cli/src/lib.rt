@@ -12,4 +12,4 @@ mod top;
 mod words;
 mod written;
 
-pub use top::serve_functions;
+pub use top::{serve_functions, verdicts_are_one};

@@ -9,6 +9,7 @@ ghost use Rattle.function_lines.specs.ByFunction.{IsByFunction, ReadsWithoutFaul
 ghost use Rattle.function_lines.specs.SameProgram.{is_same_program};
 ghost use Rattle.functions_cli.specs.Program.{functions_program, help_text};
 ghost use Rattle.functions_cli.specs.Serve.{ProgramHas};
+ghost use Rattle.functions_cli.specs.Verdict.{VerdictsAreOne};
 
 use crate::answer::answer_of;
 use crate::help::help_text;
@@ -66,3 +67,9 @@ pub fn serve_functions<F: Files, O: Sink, E: Sink>(
         }
     }
 }
+
+/// Words and the contents of the files have one verdict at most: the status, the bytes that are
+/// written and the line on the error stream are determined.
+pub fn verdicts_are_one()
+    ensures { VerdictsAreOne }
+{}
