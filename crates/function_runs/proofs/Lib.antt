@@ -1,0 +1,7 @@
+mod Memory
+mod Executed
+mod Spaces
+mod Calls
+-- mod First
+-- mod Selected
+-- mod Alike
