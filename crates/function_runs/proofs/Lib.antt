@@ -2,6 +2,6 @@ mod Memory
 mod Executed
 mod Spaces
 mod Calls
--- mod First
--- mod Selected
--- mod Alike
+mod First
+mod Selected
+mod Alike

@@ -4,4 +4,4 @@ mod Judging
 mod Judged
 mod Naming
 mod One
-mod Served
+pub mod Served
