@@ -89,7 +89,7 @@ fn check_lines_in<R: Threads + Sync + AllocGlobal + Abort>(
 }
 
 /// Calls the program with the arguments of a row, and compares the lines of the file that it prints.
-fn check_lines<R: Threads + Sync + AllocGlobal + Abort>(
+pub(crate) fn check_lines<R: Threads + Sync + AllocGlobal + Abort>(
     rt: &R,
     files: &[HeldFile],
     row: &Row,

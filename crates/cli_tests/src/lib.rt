@@ -25,6 +25,8 @@ mod limit_tests;
 #[cfg(test)]
 mod page_tests;
 #[cfg(test)]
+mod path_tests;
+#[cfg(test)]
 mod programs;
 #[cfg(test)]
 mod sinks;

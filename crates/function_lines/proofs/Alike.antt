@@ -1,5 +1,5 @@
 -- What comes of two indexes with the same lines, entries and positions is the same.
-use Rattle.std.proofs.Common.{◌≡◌, ℕ, ◌+◌, ◌≤◌, ◌<◌, List, [], ◌∷◌, Option, Result, Ok, Err, sym, ap, ap₂, subst, ◌∙◌, get_or}
+use Rattle.std.proofs.Common.{◌≡◌, ℕ, ◌+◌, List, [], ◌∷◌, Option, Result, Ok, Err, sym, ap, ap₂, subst, ◌∙◌, get_or}
 use Rattle.std.specs.Prelude.{map, slice_get, option_and_then}
 use Rattle.std.specs.List.{AllZip}
 use Rattle.coz_types.specs.Image.{ImageParts}
@@ -53,11 +53,14 @@ module _ (image : ImageParts) (index other : Index) (same : AreSame index other)
 
   kept_along : (marks : List Mark) (all : List Sequence) → AreKept index marks all → AreKept other marks all
   kept_along [] all none = none
-  kept_along (m ∷ more) all (front, back, whole, runs, rest) =
-      (front, back, whole,
-      subst (λ (es : List (List ℕ)). AllZip (IsRun other m) (get_or es m.position []) front) same.entries
-      (zip_weaker (IsRun index m) (IsRun other m) (run_along m) (get_or index.entries m.position []) front runs),
-      kept_along more back rest)
+  kept_along (m ∷ more) all (front, back, whole, runs, rest) = (
+    front,
+    back,
+    whole,
+    subst (λ (es : List (List ℕ)). AllZip (IsRun other m) (get_or es m.position []) front) same.entries
+        (zip_weaker (IsRun index m) (IsRun other m) (run_along m) (get_or index.entries m.position []) front runs),
+    kept_along more back rest,
+  )
 
   same_line : (names : List ℕ) (symbol : Symbol) → function_line index names symbol ≡ function_line other names symbol
   same_line names symbol =
@@ -69,9 +72,13 @@ module _ (image : ImageParts) (index other : Index) (same : AreSame index other)
 
   sequences_along : (marks : List Mark) (all : List Sequence) → AreSequences image index marks all → AreSequences image other marks all
   sequences_along marks all (kept, own, whole, are, rest) =
-      let names = names_in image.file in
-      (kept, own, whole, kept_along marks kept are,
-      zip_weaker (IsOfFunction index names) (IsOfFunction other names) (function_along names) (falling (functions_in image)) own rest)
+      let names = names_in image.file in (
+        kept,
+        own,
+        whole,
+        kept_along marks kept are,
+        zip_weaker (IsOfFunction index names) (IsOfFunction other names) (function_along names) (falling (functions_in image)) own rest,
+      )
 
   cause_along : (marks : List Mark) (error : FunctionsError) → IsCauseOf image index marks error → IsCauseOf image other marks error
   cause_along marks NoFunctions is = is

@@ -1,7 +1,7 @@
 -- The file with a unit in which each function is one line.
 use Rattle.std.proofs.Common.{◌≡◌, ℕ, ◌+◌, ◌<◌, ◌≤◌, true, List, [], ◌++◌, length, take, drop, Option, Some, None, option_map, Result, Ok, Err, Bool, false, ◌==◌, refl, sym, ap, subst, ◌∙◌, arith, if◌then◌else◌, length-append, length-drop}
 use Rattle.std.specs.Global.{Vec}
-use Rattle.std.specs.Prelude.{All, IfErr, IfOk, IfSome, bytes_eq, codes, is_some, unwrap_or}
+use Rattle.std.specs.Prelude.{All, IfErr, IfOk, IfSome, codes, is_some, unwrap_or}
 use Rattle.std.specs.List.{AllByRecursion}
 use Rattle.std.proofs.lemmas.Bool.{and_from}
 use Rattle.std.proofs.lemmas.List.{length-take-le}

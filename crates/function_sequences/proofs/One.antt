@@ -1,17 +1,16 @@
 -- A program, an index and marks have one list of sequences at most.
-use Rattle.std.proofs.Common.{◌≡◌, ℕ, ◌+◌, ◌/◌, ◌%◌, ◌<◌, ◌≤◌, Bool, true, false, List, [], ◌∷◌, ◌++◌, get_or, refl, sym, ap, ap₂, subst, ◌∙◌, ⊎_elim, arith, nat_lt, lt-ltb, le-ltb, if◌then◌else◌}
+use Rattle.std.proofs.Common.{◌≡◌, ℕ, ◌+◌, ◌/◌, ◌%◌, ◌<◌, ◌≤◌, Bool, true, false, List, [], ◌∷◌, ◌++◌, get_or, refl, sym, ap, ap₂, ◌∙◌, ⊎_elim, arith, lt-ltb, le-ltb, if◌then◌else◌}
 use Rattle.std.specs.List.{AllZip}
 use Rattle.std.proofs.lemmas.Bool.{cases_lt}
-use Rattle.coz_types.specs.Labels.{escape_of, hex_digit, is_escaped, written}
-use Rattle.coz_types.specs.Image.{ImageParts}
-use Rattle.line_index.specs.Index.{Index, has_line}
+use Rattle.coz_types.specs.Labels.{hex_digit, is_escaped, written}
+use Rattle.line_index.specs.Index.{Index}
 use Rattle.line_index.specs.Lines.{Line}
 use Rattle.line_write.specs.Unit.{Sequence}
 use Rattle.line_write.specs.Lines.{line_of_sequence}
 use Rattle.line_remap.specs.Marks.{Mark}
-use Rattle.line_remap.specs.Runs.{AreKept, AreRuns, IsRun}
+use Rattle.line_remap.specs.Runs.{AreKept, IsRun}
 use Rattle.elf_symbols.specs.declared.symbols.Symbol.{Symbol}
-use Rattle.function_sequences.specs.Sequences.{AreFunctions, AreSequences, IsOfFunction, SequencesAreOne, falling, functions_in, names_in}
+use Rattle.function_sequences.specs.Sequences.{IsOfFunction, SequencesAreOne, falling, functions_in, names_in}
 
 -- ---- written paths
 

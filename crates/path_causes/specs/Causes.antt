@@ -1,12 +1,66 @@
--- What is known of a hart that is to retire: the event that started it or began its sleep, its
--- own event before, the ticks that it was begun with, and those that it slept. That `from` is the
--- latest earlier retirement which started the hart or began its sleep, and `before` its latest event,
--- are clauses of `walk` of critical_path: `froms` and `befores`.
-use Rattle.std.specs.Prelude.{ℕ, ◌+◌, ◌-◌, List, Some, None, if◌then◌else◌, ◌==◌, slice_index_or}
+-- What is known of a hart that is to retire, by what has happened to it: the event that started it
+-- or began its sleep, its own event before, the ticks that it was begun with, and those that it
+-- slept. The steps below bring this up to what happens next; that they do is the law `histories`.
+-- Of a whole run it is said by clauses of `walk` of critical_path: `froms` and `befores`.
+use Rattle.std.specs.Prelude.{◌≡◌, ℕ, ◌+◌, ◌-◌, List, [], ◌∷◌, Option, Some, None, if◌then◌else◌, ◌==◌, slice_index_or}
 use Rattle.machines.specs.declared.Fate.{Fate}
 use Rattle.machines.specs.declared.Fate.TheVariants.{Goes, Waits, Leaves, Sleeps, Ends}
 use Rattle.machines.specs.Places.{is_among}
 use Rattle.path_causes.specs.declared.cause.Cause.{Cause}
+
+-- ---- what has happened to a hart, the latest first
+
+pub data Happening : Type 0 where
+  -- an event started it, and its next instruction takes so many ticks
+  started : ℕ → ℕ → Happening
+  -- it retired with an event
+  retired : ℕ → Happening
+  -- it retired with an event, and sleeps for so many ticks
+  slept : ℕ → ℕ → Happening
+  -- it woke, and its next instruction takes so many ticks
+  woke : ℕ → Happening
+
+-- the latest event that started the hart, or the one of its own after which it slept
+abbrev pub from_after : List Happening → Option ℕ
+from_after [] = None
+from_after (started e ticks ∷ past) = Some e
+from_after (retired e ∷ past) = from_after past
+from_after (slept e ticks ∷ past) = Some e
+from_after (woke ticks ∷ past) = from_after past
+
+-- its own latest event
+abbrev pub before_after : List Happening → Option ℕ
+before_after [] = None
+before_after (started e ticks ∷ past) = before_after past
+before_after (retired e ∷ past) = Some e
+before_after (slept e ticks ∷ past) = Some e
+before_after (woke ticks ∷ past) = before_after past
+
+-- the ticks that it was begun with, and none while it sleeps
+abbrev pub cost_after : List Happening → ℕ
+cost_after [] = 0
+cost_after (started e ticks ∷ past) = ticks
+cost_after (retired e ∷ past) = cost_after past
+cost_after (slept e ticks ∷ past) = 0
+cost_after (woke ticks ∷ past) = ticks
+
+-- the ticks before its wake
+abbrev pub slept_after : List Happening → ℕ
+slept_after [] = 0
+slept_after (started e ticks ∷ past) = 0
+slept_after (retired e ∷ past) = slept_after past
+slept_after (slept e ticks ∷ past) = ticks
+slept_after (woke ticks ∷ past) = slept_after past + cost_after past
+
+abbrev pub cause_after : List Happening → Cause
+cause_after past = record {
+  from = from_after past;
+  before = before_after past;
+  cost = cost_after past;
+  slept = slept_after past;
+}
+
+-- ---- the cause of a hart's next event, step by step
 
 abbrev pub no_cause : Cause
 no_cause = record { from = None; before = None; cost = 0; slept = 0 }
@@ -40,3 +94,16 @@ abbrev pub turned : ℕ → Fate → ℕ → ℕ → List ℕ → (ℕ → ℕ) 
 turned h fate due e started ticks k c =
     let own = if k == h then at_rest fate due e (after_own e c) else c in
     if is_among k started then started_with (ticks k) e own else own
+
+-- ---- each step is what its happening does
+
+pub record TellHistories : Type 0 where
+  pub starts : (past : List Happening) (e ticks : ℕ)
+      → started_with ticks e (cause_after past) ≡ cause_after (started e ticks ∷ past)
+  pub retires : (past : List Happening) (e : ℕ)
+      → after_own e (cause_after past) ≡ cause_after (retired e ∷ past)
+  pub sleeps : (past : List Happening) (e due moment : ℕ)
+      → at_rest (Sleeps moment) due e (after_own e (cause_after past))
+      ≡ cause_after (slept e (moment - due) ∷ past)
+  pub wakes : (past : List Happening) (ticks : ℕ)
+      → woken_with ticks (cause_after past) ≡ cause_after (woke ticks ∷ past)

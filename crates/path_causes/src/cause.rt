@@ -1,7 +1,7 @@
 //! The causes of the harts' next events.
 ghost use Rattle.std.specs.Prelude.{◌≡◌, ◌+◌, ◌-◌, ◌^◌, ◌<◌, ◌≤◌, Some, length, slice_set};
 ghost use Rattle.machines.specs.Guest.{IsLater};
-ghost use Rattle.path_causes.specs.Causes.{cause_at, after_own, at_rest, started_with, woken_with};
+ghost use Rattle.path_causes.specs.Causes.{TellHistories, cause_at, after_own, at_rest, started_with, woken_with};
 
 use coz_types::{HartId, Tick};
 use machines::Fate;
@@ -117,3 +117,10 @@ pub fn start(causes: &mut [Cause], hart: HartId, ticks: Tick, event: u32)
         slept: 0,
     };
 }
+
+/// What the calls of this crate keep of a hart is what its history tells: `from` is the latest event
+/// that started the hart, or its own event after which it slept; `before` is its own latest event;
+/// `cost` is what it was begun with, and `slept` what went before its wake.
+pub fn histories()
+    ensures { TellHistories }
+{}

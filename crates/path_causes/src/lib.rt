@@ -4,4 +4,4 @@
 
 mod cause;
 
-pub use cause::{Cause, go_on, leave, start, wake_up};
+pub use cause::{Cause, go_on, histories, leave, start, wake_up};

@@ -5,8 +5,7 @@ use Rattle.std.proofs.lemmas.Result.{IfOk-weaker}
 use Rattle.elf_load.specs.Loaded.{section}
 use Rattle.line_write.specs.Unit.{unit}
 use Rattle.line_write.specs.declared.UnitError.{UnitError}
-use Rattle.function_lines.specs.ByFunction.{IsByFunction, IsLongUnit, IsUnit, IsUnitCause, IsWithFunctions, ReadsWithoutFault}
-use Rattle.function_lines.specs.WithLines.{with_lines}
+use Rattle.function_lines.specs.ByFunction.{IsByFunction, IsLongUnit, IsUnit, IsUnitCause, ReadsWithoutFault}
 use Rattle.line_remap.specs.Marks.{marks_of}
 use Rattle.function_lines.proofs.Soundness.{sound}
 use Rattle.function_lines.proofs.Whole.{are_with_functions, cause_of, lineless, long_unit, marks_within, some_found, unit_lines, unit_read}
