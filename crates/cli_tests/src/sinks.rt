@@ -11,7 +11,7 @@ pub(crate) struct Room {
 
 /// A sink that takes what is put.
 pub(crate) const WIDE: Room = Room {
-    bytes: 10000,
+    bytes: 100000,
     fails: &[],
 };
 

@@ -1,17 +1,12 @@
 -- The run of a file by function follows that of the program.
-use Rattle.std.proofs.Common.{◌≡◌, ℕ, ◌≤◌, Bool, true, List, Option, Some, Result, Ok, Err, slice_get, refl, sym, ap, ◌∙◌, arith}
+use Rattle.std.proofs.Common.{◌≡◌, ℕ, Bool, true, List, Option, Result, Ok, Err, refl, sym, ap, ◌∙◌, arith}
 use Rattle.coz_types.specs.Image.{ImageParts}
-use Rattle.coz_types.specs.Labels.{Text}
-use Rattle.coz_files.specs.Held.{Held}
-use Rattle.coz_files.specs.Verdict.{Verdict}
 use Rattle.cost_table.specs.Costs.{cycles_of}
-use Rattle.dwarf_lines.specs.Registers.{Table}
 use Rattle.elf_load.specs.declared.ElfFault.{ElfFault}
 use Rattle.elf_load.specs.Loaded.{load_answer}
-use Rattle.line_index.specs.Index.{Index, IsIndex, position_at}
-use Rattle.line_index.specs.Lines.{Line}
+use Rattle.line_index.specs.Index.{Index, position_at}
 use Rattle.line_remap.specs.Marks.{Mark}
-use Rattle.function_lines.specs.ByFunction.{IsByFunction, ReadsAs}
+use Rattle.function_lines.specs.ByFunction.{IsByFunction}
 use Rattle.function_lines.specs.SameProgram.{is_same_program}
 use Rattle.functions_cli.proofs.Served.{writes_of}
 use Rattle.machines.specs.Guest.{Experiment, IsLawful}

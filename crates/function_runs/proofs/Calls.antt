@@ -1,5 +1,5 @@
 -- A hart retires in the same way if its guest has another image and other load areas of the same pages.
-use Rattle.std.proofs.Common.{◌≡◌, ℕ, zero, suc, ◌+◌, ◌-◌, ◌*◌, ◌%◌, ◌^◌, ◌==◌, Bool, true, false, not, ◌&&◌, ◌||◌, nat_le, nat_lt, min, List, [], ◌∷◌, ◌++◌, length, take, drop, replicate, Option, Some, None, if◌then◌else◌, refl, ap, ap₂, ◌∙◌}
+use Rattle.std.proofs.Common.{◌≡◌, ℕ, zero, suc, ◌+◌, ◌*◌, ◌%◌, ◌^◌, ◌==◌, Bool, true, false, not, ◌&&◌, List, [], ◌∷◌, ◌++◌, length, take, drop, replicate, Option, Some, None, if◌then◌else◌, refl, ap, ap₂, ◌∙◌}
 use Rattle.std.proofs.Math.Path.{fun_ext}
 use Rattle.std.specs.Prelude.{ℤ, pos, IfSome, option_and_then}
 use Rattle.std.specs.Int.{w32, to_le_bytes}
@@ -10,8 +10,7 @@ use Rattle.coz_types.specs.declared.image.Area.{Area}
 use Rattle.coz_types.specs.declared.image.Rights.{Rights}
 use Rattle.coz_types.specs.declared.ending.Ending.TheVariants.{Clock}
 use Rattle.coz_types.specs.declared.ending.TrapCause.TheVariants.{Fetch, Illegal}
-use Rattle.machines.specs.declared.Fate.{Fate}
-use Rattle.machines.specs.declared.Fate.TheVariants.{Ends, Goes, Waits, Sleeps}
+use Rattle.machines.specs.declared.Fate.TheVariants.{Ends, Waits, Sleeps}
 use Rattle.machines.specs.Guest.{Retirement}
 use Rattle.rv_decode.specs.declared.Instr.{Instr}
 use Rattle.rv_decode.specs.Fields.{signed_bits}
@@ -22,7 +21,7 @@ use Rattle.rv_execute.specs.Execution.{execute}
 use Rattle.rv_execute.specs.Reservations.{without_touched}
 use Rattle.guest_memory.specs.Memory.{MemoryMap, bytes_at, is_allowed, is_readable, is_writable}
 use Rattle.guest_areas.specs.Answers.{bad_file, try_again, no_memory, bad_address, invalid_argument, too_many_files, no_terminal, no_seek, broken_pipe}
-use Rattle.guest_areas.specs.Space.{Answered, Space, has_power, is_in_area, map, protect, unmap, with_break}
+use Rattle.guest_areas.specs.Space.{Answered, Space, has_power, is_in_area, map, protect, unmap}
 use Rattle.guest_pipes.specs.declared.Ready.{Ready}
 use Rattle.guest_pipes.specs.declared.Ready.TheVariants as ready
 use Rattle.guest_pipes.specs.Pipes.{held, made, made_numbers, readiness}
@@ -353,31 +352,81 @@ module _ (image : ImageParts) (others : List Area → List Area) (pages : (areas
 
   all_calls : AllByRecursion (λ (e : ℕ × Calling). Moves e.1) calls
   all_calls = (
-    record { moves = λ g h v. ioctls g h }, (
-    record { moves = λ g h v. closes g h }, (
-    record { moves = λ g h v. makes_pipe g h }, (
-    record { moves = λ g h v. lseeks g h }, (
-    record { moves = λ g h v. reads_file g h }, (
-    record { moves = λ g h v. writes_file g h }, (
-    record { moves = λ g h v. readvs g h }, (
-    record { moves = λ g h v. writevs g h }, (
-    record { moves = λ g h v. exits g h }, (
-    record { moves = λ g h v. exits_all g h }, (
-    record { moves = λ g h v. sets_address g h }, (
-    record { moves = λ g h v. futexes g h }, (
-    record { moves = λ g h v. sleeps_span g h v }, (
-    record { moves = λ g h v. shows_clock g h v }, (
-    record { moves = λ g h v. yields g h }, (
-    record { moves = λ g h v. masks g h }, (
-    record { moves = λ g h v. gets_process g h }, (
-    record { moves = λ g h v. gets_thread g h }, (
-    record { moves = λ g h v. moves_break g h }, (
-    record { moves = λ g h v. unmaps_pages g h }, (
-    record { moves = λ g h v. remaps g h }, (
-    record { moves = λ g h v. clones g h }, (
-    record { moves = λ g h v. maps_pages g h }, (
-    record { moves = λ g h v. protects_pages g h }, (
-    record { moves = λ g h v. advises g h }, tt)))))))))))))))))))))))))
+    record { moves = λ g h v. ioctls g h },
+    (
+      record { moves = λ g h v. closes g h },
+      (
+        record { moves = λ g h v. makes_pipe g h },
+        (
+          record { moves = λ g h v. lseeks g h },
+          (
+            record { moves = λ g h v. reads_file g h },
+            (
+              record { moves = λ g h v. writes_file g h },
+              (
+                record { moves = λ g h v. readvs g h },
+                (
+                  record { moves = λ g h v. writevs g h },
+                  (
+                    record { moves = λ g h v. exits g h },
+                    (
+                      record { moves = λ g h v. exits_all g h },
+                      (
+                        record { moves = λ g h v. sets_address g h },
+                        (
+                          record { moves = λ g h v. futexes g h },
+                          (
+                            record { moves = λ g h v. sleeps_span g h v },
+                            (
+                              record { moves = λ g h v. shows_clock g h v },
+                              (
+                                record { moves = λ g h v. yields g h },
+                                (
+                                  record { moves = λ g h v. masks g h },
+                                  (
+                                    record { moves = λ g h v. gets_process g h },
+                                    (
+                                      record { moves = λ g h v. gets_thread g h },
+                                      (
+                                        record { moves = λ g h v. moves_break g h },
+                                        (
+                                          record { moves = λ g h v. unmaps_pages g h },
+                                          (
+                                            record { moves = λ g h v. remaps g h },
+                                            (
+                                              record { moves = λ g h v. clones g h },
+                                              (
+                                                record { moves = λ g h v. maps_pages g h },
+                                                (
+                                                  record { moves = λ g h v. protects_pages g h },
+                                                  (
+                                                    record { moves = λ g h v. advises g h },
+                                                    tt,
+                                                  ),
+                                                ),
+                                              ),
+                                            ),
+                                          ),
+                                        ),
+                                      ),
+                                    ),
+                                  ),
+                                ),
+                              ),
+                            ),
+                          ),
+                        ),
+                      ),
+                    ),
+                  ),
+                ),
+              ),
+            ),
+          ),
+        ),
+      ),
+    ),
+  )
 
   calls_moved : (g : Guest) (h v : ℕ) → IsMoved (call_of (moved_guest g) h v) (call_of g h v)
   unfolding call_of

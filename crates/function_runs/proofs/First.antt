@@ -1,5 +1,5 @@
 -- Two images of the same program begin in the same state, but for the image and the load areas.
-use Rattle.std.proofs.Common.{◌≡◌, ℕ, ◌+◌, ◌-◌, ◌==◌, Bool, true, false, ◌&&◌, ◌||◌, List, [], ◌∷◌, take, drop, set, replicate, fold, refl, sym, ap, ap₂, ◌∙◌, if◌then◌else◌, eqb-true, eq-eqb}
+use Rattle.std.proofs.Common.{◌≡◌, ℕ, ◌+◌, ◌-◌, ◌==◌, Bool, true, false, ◌&&◌, ◌||◌, List, [], ◌∷◌, set, replicate, fold, refl, sym, ap, ap₂, ◌∙◌, if◌then◌else◌, eqb-true, eq-eqb}
 use Rattle.std.specs.Prelude.{bytes_eq}
 use Rattle.std.specs.Int.{bytes_low_first}
 use Rattle.std.specs.List.{list_any}
@@ -14,7 +14,7 @@ use Rattle.guest_memory.specs.Regions.{brk_base, page_of, stack_base, stack_top}
 use Rattle.guest_areas.specs.Entry.{entry_numbers, name, stack_pointer, with_entry, with_numbers}
 use Rattle.guest_areas.specs.Space.{is_in_area, is_in_run, space}
 use Rattle.guest_pipes.specs.Pipes.{no_pipes}
-use Rattle.guest_calls.specs.Guest.{Guest, first_guest, hart_from}
+use Rattle.guest_calls.specs.Guest.{first_guest, hart_from}
 use Rattle.function_lines.specs.SameProgram.{are_same_areas, are_same_rights, bytes_in, is_same, is_same_area, is_same_image}
 use Rattle.function_runs.proofs.Memory.{moved, moved_bytes, moved_rights}
 use Rattle.function_runs.proofs.Calls.{moved_guest}

@@ -1,5 +1,5 @@
 -- What a memory does, it does with another image too: no access reads the image.
-use Rattle.std.proofs.Common.{◌≡◌, ℕ, zero, suc, ◌+◌, ◌*◌, Bool, true, false, List, [], ◌∷◌, Option, Some, None, option_map, if◌then◌else◌, refl, ap, ap₂, ◌∙◌}
+use Rattle.std.proofs.Common.{◌≡◌, ℕ, zero, suc, ◌+◌, ◌*◌, Bool, true, false, List, [], ◌∷◌, Some, None, option_map, if◌then◌else◌, refl, ap, ap₂, ◌∙◌}
 use Rattle.std.specs.Int.{bytes_low_first}
 use Rattle.coz_types.specs.declared.image.Rights.{Rights}
 use Rattle.coz_types.specs.Image.{ImageParts}

@@ -1,12 +1,10 @@
 -- The addresses that the run of a file selects: those with the selected line by function.
 use Rattle.std.proofs.Common.{◌≡◌, ℕ, ◌+◌, ◌==◌, Bool, true, false, ◌&&◌, ◌||◌, List, [], ◌∷◌, slice_get, Option, Some, None, option_map, refl, sym, ap, ap₂, ◌∙◌, if◌then◌else◌, eqb-true, eq-eqb, nat_le, nat_lt}
 use Rattle.std.specs.Prelude.{bytes_eq, option_and_then}
-use Rattle.std.specs.List.{list_any}
 use Rattle.std.proofs.lemmas.Bool.{and_parts, and_from}
 use Rattle.std.proofs.lemmas.Slice.Eq.{bytes_eq-Decides}
 use Rattle.coz_types.specs.Image.{ImageParts}
 use Rattle.coz_types.specs.declared.image.Area.{Area}
-use Rattle.coz_types.specs.declared.image.Rights.{Rights}
 use Rattle.dwarf_lines.specs.Registers.{Table}
 use Rattle.line_index.specs.Index.{Index, IsIndex, has_line, position_at}
 use Rattle.line_index.specs.Keys.{is_at}

@@ -1,6 +1,6 @@
 -- What a call does to a space, it does with another image and other load areas of the same pages too.
-use Rattle.std.proofs.Common.{◌≡◌, ℕ, zero, suc, ◌+◌, ◌-◌, ◌*◌, ◌==◌, Bool, true, false, not, ◌&&◌, ◌||◌, nat_le, nat_lt, List, [], ◌∷◌, ◌++◌, Option, Some, None, if◌then◌else◌, refl, ap, ap₂, ◌∙◌}
-use Rattle.std.specs.Prelude.{filter, ℤ, pos}
+use Rattle.std.proofs.Common.{◌≡◌, ℕ, zero, suc, ◌+◌, ◌-◌, ◌*◌, ◌==◌, Bool, true, false, not, ◌&&◌, ◌||◌, nat_le, nat_lt, List, Option, Some, None, if◌then◌else◌, refl, ap, ap₂, ◌∙◌}
+use Rattle.std.specs.Prelude.{ℤ, pos}
 use Rattle.std.specs.List.{list_any}
 use Rattle.coz_types.specs.Image.{ImageParts}
 use Rattle.coz_types.specs.declared.image.Area.{Area}

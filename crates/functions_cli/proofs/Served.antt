@@ -4,7 +4,7 @@ use Rattle.std.specs.Global.{Vec}
 use Rattle.coz_types.specs.Image.{ImageParts}
 use Rattle.coz_types.specs.Labels.{Text}
 use Rattle.coz_files.specs.Held.{Held, file_at}
-use Rattle.coz_files.specs.Verdict.{Verdict, refusal, text_verdict}
+use Rattle.coz_files.specs.Verdict.{Verdict, refusal}
 use Rattle.coz_serve.specs.Serves.{HasVerdict}
 use Rattle.program_load.specs.declared.fault.Fault.TheVariants.{File}
 use Rattle.file_read.specs.Reading as reading

@@ -1,5 +1,5 @@
 -- The faults are faults as each program has them.
-use Rattle.std.proofs.Common.{refl, arith}
+use Rattle.std.proofs.Common.{arith}
 use Rattle.coz_serve.specs.Faults.{IsFault}
 use Rattle.program_load.specs.Faults.{step_is_fault}
 use Rattle.functions_cli.specs.declared.fault.Fault.{Fault}

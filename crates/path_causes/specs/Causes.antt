@@ -12,7 +12,7 @@ use Rattle.path_causes.specs.declared.cause.Cause.{Cause}
 
 pub data Happening : Type 0 where
   -- an event started it, and its next instruction takes so many ticks
-  started : ℕ → ℕ → Happening
+  begun : ℕ → ℕ → Happening
   -- it retired with an event
   retired : ℕ → Happening
   -- it retired with an event, and sleeps for so many ticks
@@ -23,7 +23,7 @@ pub data Happening : Type 0 where
 -- the latest event that started the hart, or the one of its own after which it slept
 abbrev pub from_after : List Happening → Option ℕ
 from_after [] = None
-from_after (started e ticks ∷ past) = Some e
+from_after (begun e ticks ∷ past) = Some e
 from_after (retired e ∷ past) = from_after past
 from_after (slept e ticks ∷ past) = Some e
 from_after (woke ticks ∷ past) = from_after past
@@ -31,7 +31,7 @@ from_after (woke ticks ∷ past) = from_after past
 -- its own latest event
 abbrev pub before_after : List Happening → Option ℕ
 before_after [] = None
-before_after (started e ticks ∷ past) = before_after past
+before_after (begun e ticks ∷ past) = before_after past
 before_after (retired e ∷ past) = Some e
 before_after (slept e ticks ∷ past) = Some e
 before_after (woke ticks ∷ past) = before_after past
@@ -39,7 +39,7 @@ before_after (woke ticks ∷ past) = before_after past
 -- the ticks that it was begun with, and none while it sleeps
 abbrev pub cost_after : List Happening → ℕ
 cost_after [] = 0
-cost_after (started e ticks ∷ past) = ticks
+cost_after (begun e ticks ∷ past) = ticks
 cost_after (retired e ∷ past) = cost_after past
 cost_after (slept e ticks ∷ past) = 0
 cost_after (woke ticks ∷ past) = ticks
@@ -47,7 +47,7 @@ cost_after (woke ticks ∷ past) = ticks
 -- the ticks before its wake
 abbrev pub slept_after : List Happening → ℕ
 slept_after [] = 0
-slept_after (started e ticks ∷ past) = 0
+slept_after (begun e ticks ∷ past) = 0
 slept_after (retired e ∷ past) = slept_after past
 slept_after (slept e ticks ∷ past) = ticks
 slept_after (woke ticks ∷ past) = slept_after past + cost_after past
@@ -99,7 +99,7 @@ turned h fate due e started ticks k c =
 
 pub record TellHistories : Type 0 where
   pub starts : (past : List Happening) (e ticks : ℕ)
-      → started_with ticks e (cause_after past) ≡ cause_after (started e ticks ∷ past)
+      → started_with ticks e (cause_after past) ≡ cause_after (begun e ticks ∷ past)
   pub retires : (past : List Happening) (e : ℕ)
       → after_own e (cause_after past) ≡ cause_after (retired e ∷ past)
   pub sleeps : (past : List Happening) (e due moment : ℕ)
