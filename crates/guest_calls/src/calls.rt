@@ -103,7 +103,9 @@ impl<'a> Guest<'a> {
         }
     }
 
-    pub(crate) fn number(&self, hart: HartId) -> u64
+    /// The number of the system call that a hart that was made names in a7 (Linux on riscv64),
+    /// whether its next instruction is a call or not.
+    pub fn number(&self, hart: HartId) -> u64
         requires { IsMade self.now hart.0 }
         ensures { result ≡ number self.now hart.0 }
     {

@@ -15,8 +15,9 @@ use Rattle.timing_laws.proofs.Counts.{runs_counted}
 use Rattle.timing_model.specs.declared.costs.Costs.{Costs}
 use Rattle.timing_model.specs.Timing.{cycles_in}
 use Rattle.cost_table.specs.Costs.{cycles_of}
-use Rattle.guest_timing.specs.Timed.{with_costs, running_harts}
-use Rattle.guest_timing.proofs.Sleepers.{sleepers_below}
+use Rattle.timed_guest.specs.Runs.{with_costs}
+use Rattle.guest_timing.specs.Timed.{running_harts}
+use Rattle.timed_guest.proofs.Sleepers.{sleepers_below}
 
 module _ (image : ImageParts) (position point : ℕ → Option ℕ) (input : List ℕ) (choice : Choice) (small : choice.speedup ≤ 95) where
   abbrev x : Experiment Guest

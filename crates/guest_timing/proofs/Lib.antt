@@ -1,2 +1,1 @@
-mod Sleepers
 mod Lawful

@@ -2,58 +2,20 @@
 -- wrappers: the costs of the machine, the notes of each hart (its last line and its count), and
 -- the cores. No machine is defined anew: these are the delayed and the shortened machine of
 -- `machines`, over another guest.
-use Rattle.std.specs.Prelude.{◌≡◌, ℕ, ◌≤◌, ◌==◌, ◌&&◌, Bool, true, false, List, Option, Some, None}
+use Rattle.std.specs.Prelude.{◌≡◌, ℕ, ◌≤◌, List, Option, None}
 use Rattle.coz_types.specs.Image.{ImageParts}
 use Rattle.machines.specs.Guest.{Experiment}
 use Rattle.machines.specs.Delayed.{delayed}
 use Rattle.machines.specs.Records.{IsDelayed, IsShortened, net, shortened_record}
 use Rattle.machines.specs.Standing.{delayed_record}
-use Rattle.rv_decode.specs.declared.Instr.{Instr}
-use Rattle.rv_decode.specs.declared.Instr.TheVariants.{Ecall}
-use Rattle.guest_calls.specs.Guest.{Guest, pc_of, is_running}
-use Rattle.guest_calls.specs.Calls.{number}
-use Rattle.guest_calls.specs.Retire.{next_of}
+use Rattle.guest_calls.specs.Guest.{Guest, is_running}
 use Rattle.run_engine.specs.declared.choice.Choice.{Choice}
 use Rattle.run_engine.specs.Run.{IsChoice, experiment, selected_line}
-use Rattle.timing_laws.specs.Noted.{Noted, Noting, noting}
-use Rattle.timing_laws.specs.Cores.{Cores, Slicing, on_cores, count_below, IsTallied}
-use Rattle.timing_model.specs.declared.costs.Costs.{Costs}
+use Rattle.timing_laws.specs.Noted.{Noted, noting}
+use Rattle.timing_laws.specs.Cores.{Cores, on_cores, count_below, IsTallied}
 use Rattle.timing_model.specs.declared.timing.Timing.{Timing}
-use Rattle.timing_model.specs.Timing.{cycles_in, charges, IsUsual}
-
--- the run with these costs
-abbrev pub with_costs : Costs → Experiment Guest → Experiment Guest
-with_costs costs x = record x {
-  guest = record (x.guest) { cycles = λ g h. cycles_in costs (next_of g h) };
-}
-
-abbrev pub is_ecall : Option Instr → Bool
-is_ecall (Some Ecall) = true
-is_ecall _ = false
-
--- the number of sched_yield, by which a hart gives its slice up (Linux man page sched_yield(2))
-abbrev pub YIELD : ℕ
-YIELD = 124
-
--- a hart's next instruction is that call
-abbrev pub gives_up : Guest → ℕ → Bool
-gives_up g h = is_ecall (next_of g h) && number g h == YIELD
-
--- what the notes are for, if this is the line of an address, and that one is selected
-abbrev pub noting_of : Timing → (ℕ → Option ℕ) → Option ℕ → Noting Guest
-noting_of t line selected = record {
-  line = λ g h. line (pc_of g h);
-  selected = selected;
-  charges = charges t.charge;
-  seed = t.seed;
-}
-
-abbrev pub slicing_of : Timing → Slicing (Noted Guest)
-slicing_of t = record {
-  cores = t.cores;
-  slice = t.slice;
-  gives_up = λ n h. gives_up n.guest h;
-}
+use Rattle.timing_model.specs.Timing.{IsUsual}
+use Rattle.timed_guest.specs.Runs.{with_costs, noting_of, slicing_of}
 
 -- The run of an image on an input on a machine of the timing model: `position` gives the line of
 -- an address, `point` its progress point.

@@ -1,4 +1,5 @@
-use Rattle.guest_timing.specs.Timed.{with_costs, noting_of, slicing_of, running_harts}
+use Rattle.timed_guest.specs.Runs.{with_costs, noting_of, slicing_of}
+use Rattle.guest_timing.specs.Timed.{running_harts}
 use Rattle.run_engine.specs.Run.{experiment, selected_line}
 use Rattle.guest_calls.specs.Orderly.{IsOrderly}
 use Rattle.timing_laws.proofs.Usual.{timed_tallied}

@@ -4,7 +4,8 @@ use Rattle.machines.specs.Records.{IsShortened}
 use Rattle.machines.specs.Standing.{delayed_record}
 use Rattle.machines.proofs.Standing.{delayed_is, net_is}
 use Rattle.machines.proofs.Headline.{headline}
-use Rattle.guest_timing.specs.Timed.{timed, with_costs, noting_of, slicing_of, KeepsTheLaw}
+use Rattle.timed_guest.specs.Runs.{with_costs, noting_of, slicing_of}
+use Rattle.guest_timing.specs.Timed.{timed, KeepsTheLaw}
 use Rattle.run_engine.specs.Run.{experiment, selected_line}
 use Rattle.guest_calls.specs.Orderly.{IsOrderly}
 use Rattle.timing_laws.specs.Noted.{noted_guest}

@@ -1,0 +1,7 @@
+pub mod Guest
+pub mod Retire
+pub mod Plug
+pub mod Orderly
+pub mod Counts
+pub mod Runs
+pub mod Laws

@@ -1,0 +1,332 @@
+//! The guest on a machine.
+ghost use Rattle.std.specs.Prelude.{◌≡◌, ◌+◌, ◌≤◌, ◌<◌, ◌^◌, ◌↔◌, ℕ, [], length, Option, IfOk, IfSome, IsTrue};
+ghost use Rattle.coz_types.specs.declared.TheConstants.{MAX_OUTPUT};
+ghost use Rattle.cost_table.specs.Costs.{cycles_of};
+ghost use Rattle.guest_calls.specs.Calls.{retirement as own_retirement};
+ghost use Rattle.guest_calls.specs.Quiet.{after_steps, moment_after, IsQuietStep, GoesOnAt};
+ghost use Rattle.guest_calls.specs.Retire.{retire as own_retire};
+ghost use Rattle.guest_memory.specs.Regions.{IsLayout};
+ghost use Rattle.rv_decode.specs.declared.Instr.{Instr};
+ghost use Rattle.timing_laws.specs.Noted.{note_of};
+ghost use Rattle.timing_model.specs.Timing.{IsTiming, IsUsual, cycles_in};
+ghost use Rattle.timing_steps.specs.State.{number_of};
+ghost use Rattle.timed_guest.specs.Guest.{IsMade, first_guest, is_running, is_sleeping, making, pc_of, with_wake};
+ghost use Rattle.timed_guest.specs.Retire.{cycles_of_next, gives_up, is_charged_to, is_selected_by, line_noted, next_of, retire, retirement};
+
+use code_words::Marks;
+use coz_types::{Address, HartId, Image, LineId, Tick};
+use guest_calls::{Fate, Guest, Stretch};
+use guest_futex::HartList;
+use guest_memory::Layout;
+use line_index::LineIndex;
+use rv_decode::Instr;
+use std::alloc::{AllocError, Global};
+use std::marker::Model;
+use timing_model::{Charge, Costs, MAX_CORES, Timing};
+use timing_state::TimingState;
+use timing_steps::Retirement;
+
+/// The number of the call sched_yield (Linux on riscv64), by which a hart gives its slice up.
+const SCHED_YIELD: u64 = 124;
+
+/// Whether these are the costs of `cost_table`, instruction by instruction.
+fn are_usual(costs: Costs) -> bool
+    ensures { IsTrue result ↔ ((i : Option Instr) → cycles_in costs i ≡ cycles_of i) }
+{
+    costs == Costs::usual()
+}
+
+/// Whether a machine is the usual one: it has a core for each hart, the costs of `cost_table`,
+/// no jitter and no charged lines.
+fn is_usual(timing: Timing) -> bool
+    ensures { IsTrue result ↔ IsUsual timing }
+{
+    MAX_CORES <= timing.cores
+        && matches!(timing.charge, Charge::Nobody)
+        && timing.seed == 0
+        && are_usual(timing.costs)
+}
+
+/// A guest on a machine of the timing model. All its room is taken when it is made.
+///
+/// Contracts see the guest, what the machine keeps beside it, and the lines of its addresses.
+#[derive(Drop)]
+pub struct TimedGuest<'a> {
+    guest: Guest<'a>,
+    state: TimingState,
+    index: &'a LineIndex,
+    is_usual: bool,
+}
+
+impl<'a> Model for TimedGuest<'a> {
+    ghost use Rattle.std.specs.Prelude.{◌↔◌, IsTrue};
+    ghost use Rattle.timing_model.specs.Timing.{IsUsual};
+    ghost use Rattle.timed_guest.specs.Guest.{Timed};
+    ghost use Rattle.timed_guest.specs.Orderly.{IsOrderly};
+
+    ghost Value = { Timed };
+
+    ghost view = { λ g. record {
+      guest = g.guest;
+      beside = g.state;
+      index = g.index.now;
+    } };
+
+    ghost invariant = { λ g. (IsTrue g.is_usual ↔ IsUsual g.state.timing)
+        × IsOrderly (record {
+          guest = g.guest;
+          beside = g.state;
+          index = g.index.now;
+        }) };
+}
+
+impl<'a> TimedGuest<'a> {
+    /// The guest that begins to run an image on a machine, with its first hart at the entry and
+    /// on a core. The output's limit is from 1 to 67,108,864 bytes; the index has the lines of
+    /// the image.
+    pub fn new(
+        alloc: Global,
+        image: &'a Image<'a>,
+        input: &'a [u8],
+        output_limit: u64,
+        layout: Layout,
+        index: &'a LineIndex,
+        timing: Timing,
+    ) -> Result<TimedGuest<'a>, AllocError>
+        requires some_output { 1 ≤ output_limit }
+        requires output { output_limit ≤ MAX_OUTPUT }
+        requires layout { IsLayout layout }
+        requires timing { IsTiming timing }
+        ensures { IfOk result (λ guest. guest ≡ first_guest image.now input.now output_limit
+            layout timing index.now) }
+    {
+        let state = TimingState::new(alloc, timing)?;
+        let guest = Guest::new(alloc, image, input, output_limit, layout)?;
+        Ok(TimedGuest {
+            guest,
+            state,
+            index,
+            is_usual: is_usual(timing),
+        })
+    }
+
+    /// The machine.
+    pub fn timing(&self) -> Timing
+        ensures { result ≡ self.now.beside.timing }
+    {
+        self.state.timing()
+    }
+
+    /// Whether the machine is the usual one, on which all is as it is for the guest alone.
+    #[inline(always)]
+    pub fn is_usual(&self) -> bool
+        ensures { IsTrue result ↔ IsUsual self.now.beside.timing }
+    {
+        self.is_usual
+    }
+
+    /// The next instruction of a hart that was made, or none if it can't be fetched
+    /// or is not supported.
+    pub fn next(&self, hart: HartId) -> Option<Instr>
+        requires { IsMade self.now hart.0 }
+        ensures { result ≡ next_of self.now hart.0 }
+    {
+        self.guest.next(hart)
+    }
+
+    /// The cycles of the next instruction of a hart that was made.
+    #[inline(always)]
+    pub fn next_cycles(&self, hart: HartId) -> u64
+        requires { IsMade self.now hart.0 }
+        ensures cycles { result ≡ cycles_of_next self.now hart.0 }
+        ensures few { result ≤ 20000 }
+    {
+        if self.is_usual {
+            self.guest.next_cycles(hart)
+        } else {
+            self.state.cycles(hart, self.guest.next(hart))
+        }
+    }
+
+    /// The address of the next instruction of a hart that was made.
+    #[inline]
+    pub fn pc(&self, hart: HartId) -> Address
+        requires { IsMade self.now hart.0 }
+        ensures { result ≡ pc_of self.now hart.0 }
+    {
+        self.guest.pc(hart)
+    }
+
+    /// Whether the next instruction of a hart that was made has the selected line, or is charged
+    /// to it.
+    #[inline(always)]
+    pub fn is_selected(&self, hart: HartId, selected: Option<LineId>) -> bool
+        requires { IsMade self.now hart.0 }
+        ensures { result ≡ is_selected_by (number_of selected) self.now hart.0 }
+    {
+        match selected {
+            Some(line) => {
+                self.index.has_line(line, self.pc(hart)) || self.is_charged(hart, selected)
+            }
+            None => false,
+        }
+    }
+
+    /// The number of harts that were made.
+    pub fn harts(&self) -> u32
+        ensures { result ≡ length self.now.guest.harts }
+    {
+        self.guest.harts()
+    }
+
+    /// The bytes that were written so far.
+    pub fn output(&self) -> &[u8]
+        ensures bytes { result.now ≡ self.now.guest.output }
+        ensures few { length result.now ≤ MAX_OUTPUT }
+    {
+        self.guest.output()
+    }
+
+    /// Retires the next instruction of a running hart, at a net time. `started` gets the harts
+    /// that start, in order: those that it makes or wakes, or on a machine with fewer cores the
+    /// first in line.
+    #[inline(always)]
+    pub fn retire(&mut self, hart: HartId, net: Tick, started: &mut HartList) -> Fate
+        requires running { IsTrue (is_running self.old hart.0) }
+        requires started { started.old ≡ [] }
+        requires net { net < 2 ^ 62 }
+        requires count { (note_of self.old.beside.notes hart.0).count < 2 ^ 62 }
+        ensures effect { retirement self.new result started.new ≡ retire self.old hart.0 net }
+        ensures made { making self.new ≡ making self.old }
+    {
+        if self.is_usual {
+            self.guest.retire(hart, net, started)
+        } else {
+            self.retire_timed(hart, net, started)
+        }
+    }
+
+    /// Retires instructions of a running hart on a usual machine, the first of them at a net
+    /// time, and at least one. It goes on only to an instruction that has no mark and is due
+    /// before `limit`, and only while it retired fewer than `most`. What the last one did is what
+    /// the guest alone says of it.
+    #[inline(always)]
+    pub fn retire_far(
+        &mut self,
+        hart: HartId,
+        net: Tick,
+        limit: Tick,
+        most: u64,
+        marks: &Marks,
+        started: &mut HartList,
+    ) -> Stretch
+        requires usual { IsUsual self.old.beside.timing }
+        requires running { IsTrue (is_running self.old hart.0) }
+        requires started { started.old ≡ [] }
+        requires some { 1 ≤ most }
+        requires net { net ≤ 2 ^ 62 }
+        requires limit { limit ≤ 2 ^ 62 }
+        ensures quiet { (i : ℕ) → i < result.quiet →
+            IsQuietStep marks.now limit (after_steps i self.old.guest hart.0) hart.0
+            (moment_after i self.old.guest hart.0 net) }
+        ensures few { result.quiet < most }
+        ensures net { result.net ≡ moment_after result.quiet self.old.guest hart.0 net }
+        ensures next { IfSome result.next (λ next. (result.quiet + 1 < most)
+            × GoesOnAt marks.now (after_steps result.quiet self.old.guest hart.0) hart.0
+            result.net next) }
+        ensures effect { own_retirement self.new.guest result.fate started.new
+            ≡ own_retire (after_steps result.quiet self.old.guest hart.0) hart.0 result.net }
+        ensures rest { self.new ≡ record self.old { guest = self.new.guest } }
+        ensures made { making self.new ≡ making self.old }
+    {
+        // The invariant of `self` is known to a proof once a field is used.
+        let _ = &self.is_usual;
+        self.guest
+            .retire_far(hart, net, limit, most, marks, started)
+    }
+
+    /// Makes a sleeping hart running. It has a core at once.
+    pub fn wake(&mut self, hart: HartId)
+        requires asleep { IsTrue (is_sleeping self.old hart.0) }
+        requires few { self.old.beside.seats.on < 2 ^ 62 }
+        ensures { self.new ≡ with_wake hart.0 self.old }
+    {
+        // The invariant of `self` is known to a proof once a field is used.
+        let _ = &self.is_usual;
+        self.guest.wake(hart);
+        self.state.wake();
+    }
+
+    /// Whether a hart that was made sleeps.
+    #[inline]
+    pub fn is_sleeping(&self, hart: HartId) -> bool
+        requires { IsMade self.now hart.0 }
+        ensures { result ≡ is_sleeping self.now hart.0 }
+    {
+        self.guest.is_sleeping(hart) && !self.state.is_in_line(hart)
+    }
+
+    /// Makes this guest equal to another one that was made with the same image, layout, input,
+    /// output limit, lines and machine.
+    pub fn copy_from(&mut self, other: &TimedGuest<'a>)
+        requires { making self.old ≡ making other.now }
+        ensures { self.new ≡ other.now }
+    {
+        self.guest.copy_from(&other.guest);
+        self.state.copy_from(&other.state);
+        self.index = other.index;
+        self.is_usual = other.is_usual;
+    }
+
+    /// The line of a hart's next instruction, as it is noted: none on a machine that charges none.
+    fn line_noted(&self, hart: HartId) -> Option<LineId>
+        requires { IsMade self.now hart.0 }
+        ensures { result ≡ line_noted self.now hart.0 }
+    {
+        match self.state.timing().charge {
+            Charge::Last => self.index.line_of(self.guest.pc(hart)),
+            Charge::Nobody => None,
+        }
+    }
+
+    /// Whether a hart's next instruction is charged to the selected line.
+    #[inline]
+    fn is_charged(&self, hart: HartId, selected: Option<LineId>) -> bool
+        requires { IsMade self.now hart.0 }
+        ensures { result ≡ is_charged_to (number_of selected) self.now hart.0 }
+    {
+        self.state.is_charged(hart, self.line_noted(hart), selected)
+    }
+
+    /// Whether a hart's next instruction gives its slice up.
+    fn gives_up(&self, hart: HartId) -> bool
+        requires { IsMade self.now hart.0 }
+        ensures { result ≡ gives_up self.now.guest hart.0 }
+    {
+        matches!(self.guest.next(hart), Some(Instr::Ecall))
+            && self.guest.number(hart) == SCHED_YIELD
+    }
+
+    /// Retires as `retire` does, on any machine.
+    #[inline(never)]
+    fn retire_timed(&mut self, hart: HartId, net: Tick, started: &mut HartList) -> Fate
+        requires running { IsTrue (is_running self.old hart.0) }
+        requires started { started.old ≡ [] }
+        requires net { net < 2 ^ 62 }
+        requires count { (note_of self.old.beside.notes hart.0).count < 2 ^ 62 }
+        ensures effect { retirement self.new result started.new ≡ retire self.old hart.0 net }
+        ensures made { making self.new ≡ making self.old }
+    {
+        let line = self.line_noted(hart);
+        let gives_up = self.gives_up(hart);
+        let fate = self.guest.retire(hart, net, started);
+        let retirement = Retirement {
+            hart,
+            moment: net,
+            line,
+            gives_up,
+            fate,
+        };
+        self.state.retire(&retirement, started)
+    }
+}
