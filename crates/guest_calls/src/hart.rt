@@ -2,7 +2,7 @@
 ghost use Rattle.std.specs.Prelude.{◌≡◌, set, replicate};
 ghost use Rattle.guest_calls.specs.declared.hart.HartStatus.TheVariants.{Waiting, Sleeping, Gone};
 ghost use Rattle.guest_calls.specs.Answering.{after_call, with_result};
-ghost use Rattle.guest_calls.specs.Guest.{hart_from, is_gone_status, is_sleeping_status};
+ghost use Rattle.guest_calls.specs.Guest.{hart_from, is_gone_status, is_running_status, is_sleeping_status};
 
 use crate::linux::{A0, SP};
 use coz_types::Address;
@@ -55,6 +55,14 @@ impl Hart {
         ensures { result ≡ is_gone_status self.now.status }
     {
         matches!(self.status, HartStatus::Gone)
+    }
+
+    /// Whether it runs.
+    #[inline]
+    pub fn is_running(&self) -> bool
+        ensures { result ≡ is_running_status self.now.status }
+    {
+        matches!(self.status, HartStatus::Running)
     }
 
     /// Whether it sleeps.

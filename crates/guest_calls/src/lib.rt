@@ -246,6 +246,15 @@ impl<'a> Guest<'a> {
         self.harts[hart.0 as usize].status = HartStatus::Running;
     }
 
+    /// Whether a hart that was made runs.
+    #[inline]
+    pub fn is_running(&self, hart: HartId) -> bool
+        requires { IsMade self.now hart.0 }
+        ensures { result ≡ is_running self.now hart.0 }
+    {
+        self.hart(hart).is_running()
+    }
+
     /// Whether a hart that was made sleeps.
     #[inline]
     pub fn is_sleeping(&self, hart: HartId) -> bool

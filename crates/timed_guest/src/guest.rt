@@ -257,6 +257,29 @@ impl<'a> TimedGuest<'a> {
         self.state.wake();
     }
 
+    /// How many instructions a hart has retired. A machine that keeps nothing does not count them.
+    pub fn count(&self, hart: HartId) -> u64
+        ensures { result ≡ (note_of self.now.beside.notes hart.0).count }
+    {
+        self.state.count(hart)
+    }
+
+    /// How many harts have a core. A machine that keeps nothing does not count them.
+    pub fn on_cores(&self) -> u64
+        ensures { result ≡ self.now.beside.seats.on }
+    {
+        self.state.on_cores()
+    }
+
+    /// Whether a hart that was made runs, and has a core.
+    #[inline]
+    pub fn is_running(&self, hart: HartId) -> bool
+        requires { IsMade self.now hart.0 }
+        ensures { result ≡ is_running self.now hart.0 }
+    {
+        self.guest.is_running(hart) && !self.state.is_in_line(hart)
+    }
+
     /// Whether a hart that was made sleeps.
     #[inline]
     pub fn is_sleeping(&self, hart: HartId) -> bool

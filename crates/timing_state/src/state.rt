@@ -157,6 +157,13 @@ impl TimingState {
         }
     }
 
+    /// How many harts have a core. A machine that needs no seats does not count them.
+    pub fn on_cores(&self) -> u64
+        ensures { result ≡ self.now.seats.on }
+    {
+        self.seats.on as u64
+    }
+
     /// Whether a hart stands in line for a core.
     pub fn is_in_line(&self, hart: HartId) -> bool
         ensures { result ≡ is_among hart.0 self.now.seats.ready }
