@@ -198,24 +198,54 @@ static PIECES: [Piece; 37] = [
     (&["p"], &[], b"<td>src/a.s<span>:3</span></td>", true),
     (&["p"], &[], b"Only lines of files", false),
     (&["p"], &[], b"Lines at all progress points", false),
-    (&["p"], &[], b"Lines: 2. Shown: 2. Folded: 0. Not shown: 0.", true),
+    (
+        &["p"],
+        &[],
+        b"Lines: 2. Shown: 2. Folded: 0. Not shown: 0.",
+        true,
+    ),
     (
         &["p", "--top=1"],
         &[],
         b"Lines: 2. Shown: 1. Folded: 0. Not shown: 1.",
         true,
     ),
-    (&["p", "--top=1"], &[], b"<td>src/a.s<span>:3</span></td>", false),
+    (
+        &["p", "--top=1"],
+        &[],
+        b"<td>src/a.s<span>:3</span></td>",
+        false,
+    ),
     (
         &["p", "--file=src/"],
         &[],
         b"ends with src/: 1 of 2 curves",
         true,
     ),
-    (&["p", "--file=src/"], &[], b"<td>src/a.s<span>:3</span></td>", true),
-    (&["p", "--file=src/"], &[], b"<td>lib/b.s<span>:2</span></td>", false),
-    (&["p", "--file=b.s"], &[], b"<td>lib/b.s<span>:2</span></td>", true),
-    (&["p", "--file=b.s"], &[], b"<td>src/a.s<span>:3</span></td>", false),
+    (
+        &["p", "--file=src/"],
+        &[],
+        b"<td>src/a.s<span>:3</span></td>",
+        true,
+    ),
+    (
+        &["p", "--file=src/"],
+        &[],
+        b"<td>lib/b.s<span>:2</span></td>",
+        false,
+    ),
+    (
+        &["p", "--file=b.s"],
+        &[],
+        b"<td>lib/b.s<span>:2</span></td>",
+        true,
+    ),
+    (
+        &["p", "--file=b.s"],
+        &[],
+        b"<td>src/a.s<span>:3</span></td>",
+        false,
+    ),
     (
         &["p", "--file=.s:3"],
         &[],
@@ -241,8 +271,18 @@ static PIECES: [Piece; 37] = [
         b"<td>src/a.s<span>:3</span><br><code>  three &lt; 3</code></td>",
         true,
     ),
-    (&["p", "--source=d"], &[], b"<td>lib/b.s<span>:2</span></td>", true),
-    (&["p", "--source=d"], &[1, 2], b"<td>src/a.s<span>:3</span></td>", true),
+    (
+        &["p", "--source=d"],
+        &[],
+        b"<td>lib/b.s<span>:2</span></td>",
+        true,
+    ),
+    (
+        &["p", "--source=d"],
+        &[1, 2],
+        b"<td>src/a.s<span>:3</span></td>",
+        true,
+    ),
     (&["p", "--source=d/src"], &[], b"<code>", false),
     // At most 120 bytes of a line are shown.
     (
@@ -255,7 +295,12 @@ static PIECES: [Piece; 37] = [
     (&["p"], &[], b" cx=\"770\"", true),
     (&["costs"], &[], b"</td><td>20.00%", true),
     (&["p"], &[], b"<title>coz: which lines", true),
-    (&["p"], &[], b"<h1>Which lines are worth making faster</h1>", true),
+    (
+        &["p"],
+        &[],
+        b"<h1>Which lines are worth making faster</h1>",
+        true,
+    ),
     (
         &["p", "--title", "a <b>"],
         &[],
@@ -365,7 +410,12 @@ static SIDES: [Piece; 6] = [
         b"</details></figure>\n<figure><figcaption>src/b.s<span>:9</span>: 40.00%</figcaption><svg",
         true,
     ),
-    (&["points"], &[], b"<summary>src/a.s<span>:5</span></summary>", false),
+    (
+        &["points"],
+        &[],
+        b"<summary>src/a.s<span>:5</span></summary>",
+        false,
+    ),
     (
         &["points"],
         &[],
@@ -565,7 +615,10 @@ fn a_longer_source_is_not_shown(rt: HostRuntime) -> Result<(), Fail> {
             size: *size,
             bytes: POINTS,
         };
-        let piece = (b"<td>src/big<span>:1</span><br><code>".as_slice(), *is_there);
+        let piece = (
+            b"<td>src/big<span>:1</span><br><code>".as_slice(),
+            *is_there,
+        );
         check_piece(&rt, &["points", "--source=d"], &mut files, piece)?;
     }
     Ok(())

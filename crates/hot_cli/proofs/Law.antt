@@ -1,11 +1,11 @@
 -- A request is computed of the words if and only if they ask for it.
 use Rattle.std.proofs.Common.{◌≡◌, ◌↔◌, ℕ, Bool, true, false, not, ◌&&◌, ◌||◌, List, [], ◌∷◌, fold, Option, Some, None, is_some, option_and_then, refl, sym, ap, ◌∙◌, subst, if◌then◌else◌}
+use Rattle.std.specs.List.{list_all}
 use Rattle.std.specs.Prelude.{unwrap_or}
 use Rattle.coz_types.specs.Ranges.{last_word}
 use Rattle.experiment_plan.specs.Lists.{number_in}
 use Rattle.coz_words.specs.Said.{Text}
 use Rattle.coz_words.specs.Said as said
-use Rattle.std.specs.List.{list_all}
 use Rattle.coz_words.specs.Slow.{items_in, request_of}
 use Rattle.coz_words.specs.Request.{Requests, command_name, option_names, is_word, request_of_items, request_with, request_from, are_items_of, are_right, target_of, value_of, speedup_in, speedups_in, counts_with, line_name, lines_name, progress_name, arrive_name, depart_name, speedup_name, speedups_name}
 use Rattle.coz_words.specs.declared.command.Command.{Command}

@@ -25,3 +25,5 @@ mod machine_tests;
 mod path_tests;
 #[cfg(test)]
 mod shortened_run_tests;
+#[cfg(test)]
+mod timed_guest_tests;

@@ -166,7 +166,8 @@ impl<'a> TimedGuest<'a> {
     {
         match selected {
             Some(line) => {
-                self.index.has_line(line, self.pc(hart)) || self.is_charged(hart, selected)
+                self.index.has_line(line, self.pc(hart))
+                    || (!self.is_usual && self.is_charged(hart, selected))
             }
             None => false,
         }

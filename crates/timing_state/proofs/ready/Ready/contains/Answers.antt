@@ -1,4 +1,4 @@
-use Rattle.std.proofs.Common.{◌≡◌, ◌||◌, Bool, nat_eq, sym, ap, ◌∙◌}
+use Rattle.std.proofs.Common.{◌||◌, Bool, nat_eq, sym, ap, ◌∙◌}
 use Rattle.std.specs.List.{list_any}
 use Rattle.timing_state.proofs.InLine.{in_parts}
 use Rattle.timing_state.proofs.ready.Ready.contains.Goals as goal
