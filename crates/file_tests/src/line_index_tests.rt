@@ -1,9 +1,9 @@
 //! Tests of `line_index`.
-ghost use Rattle.std.specs.Prelude.{◌≤◌, length, IfOk};
+ghost use Rattle.std.specs.Prelude.{◌≡◌, ◌≤◌, length, IfOk};
+ghost use Rattle.coz_types.specs.Image.{IsImage};
 
 use crate::checks::check_equal;
-use crate::coz_types_tests::image_of_one_area;
-use coz_types::{Address, Image, Items, LineId};
+use coz_types::{Address, Area, Image, Items, LineId, Rights};
 use dwarf_lines::{FileName, LineTable, Row};
 use line_index::{LineIndex, build};
 use std::alloc::{AllocError, Global};
@@ -71,7 +71,44 @@ fn index_in(
     index
 }
 
-/// The index of at most 16 statements over one page of text.
+/// A page of zeros.
+fn page(start: Address, rights: Rights) -> Area
+    ensures { result ≡ record {
+      start = start;
+      size = 4096;
+      rights = rights;
+      vaddr = start;
+      offset = 0;
+      filled = 0;
+    } }
+{
+    Area {
+        start,
+        size: 4096,
+        rights,
+        vaddr: start,
+        offset: 0,
+        filled: 0,
+    }
+}
+
+/// A page of text, and a page of data behind it.
+fn image_of_two_areas(alloc: Global) -> Result<Image<'static>, AllocError> {
+    let code = Rights {
+        read: true,
+        write: false,
+        execute: true,
+    };
+    let data = Rights {
+        read: true,
+        write: true,
+        execute: false,
+    };
+    let areas = vec![in alloc; page(0x10000, code), page(0x11000, data)]?;
+    Ok(Image::new(&[], areas, 0x10000, 0, 0))
+}
+
+/// The index of at most 16 statements over a page of text and a page of data behind it.
 pub(crate) fn index_of(
     alloc: Global,
     files: &[FileName],
@@ -79,7 +116,7 @@ pub(crate) fn index_of(
 ) -> Result<LineIndex, AllocError>
     requires { length files.now ≤ 100 }
 {
-    let image = image_of_one_area(alloc)?;
+    let image = image_of_two_areas(alloc)?;
     let index = index_in(alloc, &image, files, statements);
     drop(image);
     index
@@ -124,7 +161,7 @@ static CASES: [Case; 5] = [
         names: &[],
     },
     // Two entries with one path are one file. A row without a path, with a file that has no entry,
-    // or with the line 0 has no line, nor has an address after the page.
+    // or with the line 0 has no line, nor has an address after the page of text.
     Case {
         files: &[
             B_S,

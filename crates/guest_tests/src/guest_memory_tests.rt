@@ -167,10 +167,10 @@ fn writes_reach_each_page_of_a_range_or_nothing(rt: HostRuntime) -> Result<(), F
     Ok(())
 }
 
-fn area(start: Address, rights: Rights) -> Area
+fn area(start: Address, size: u64, rights: Rights) -> Area
     ensures { result ≡ record {
       start = start;
-      size = 4096;
+      size = size;
       rights = rights;
       vaddr = start;
       offset = 0;
@@ -179,7 +179,7 @@ fn area(start: Address, rights: Rights) -> Area
 {
     Area {
         start,
-        size: 4096,
+        size,
         rights,
         vaddr: start,
         offset: 0,
@@ -214,11 +214,7 @@ fn two_areas(alloc: Global) -> Result<Image<'static>, AllocError>
         write: false,
         execute: true,
     };
-    let code = Area {
-        size: 8192,
-        ..area(0x10000, code)
-    };
-    let areas = vec![in alloc; code, area(DATA, READ_AND_WRITE)]?;
+    let areas = vec![in alloc; area(0x10000, 8192, code), area(DATA, 4096, READ_AND_WRITE)]?;
     Ok(Image::new(&[], areas, 0x10000, 0, 0))
 }
 
