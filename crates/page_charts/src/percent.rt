@@ -59,7 +59,8 @@ fn is_gain(value: Option<i128>) -> bool
     }
 }
 
-/// A piece of text, and after it a worst value in per cent if it is below 0, or that there is none.
+/// Prints a piece of text, then the worst value in per cent: `none` if it is 0 or more, and `absent`
+/// if there is no value.
 pub fn put_worst<O: Sink>(to: &mut PutBuffer, out: &mut O, before: &[u8], worst: Option<i128>)
     ensures { Gathers O.holds O.faults out.old out.new to.old to.new
         (before.now ++ worst_text worst) }
@@ -80,8 +81,8 @@ fn put_threads<O: Sink>(to: &mut PutBuffer, out: &mut O, cost: u128)
     }
 }
 
-/// A piece of text, and after it a cost in per cent, or that it is absent. A cost over
-/// 100 per cent has a word for it.
+/// Prints a piece of text, then the cost in per cent, or `absent` if there is no cost. If the cost
+/// is over 100 per cent, prints that several threads run at once.
 pub fn put_cost<O: Sink>(to: &mut PutBuffer, out: &mut O, before: &[u8], cost: Option<u128>)
     ensures { Gathers O.holds O.faults out.old out.new to.old to.new
         (before.now ++ cost_text cost) }

@@ -44,7 +44,7 @@ fn copies(alloc: Global, curves: &[Curve]) -> Result<Vec<Curve>, AllocError>
 }
 
 /// Copies of the curves whose least value is below 0, by point, the folded ones last, and the least
-/// value first. Err if it is out of memory.
+/// value first. Fails only if out of memory.
 pub fn harmful(alloc: Global, curves: &[Curve]) -> Result<Items<Curve>, AllocError>
     ensures { IfOk result (λ harmful. harmful ≡ harmful_curves curves.now) }
 {

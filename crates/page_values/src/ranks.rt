@@ -68,7 +68,7 @@ pub fn folded(curves: &[Curve], most: u64) -> &[Curve]
 }
 
 /// The curves by point, the folded ones last, then by the mean of their values, the greatest first;
-/// those that tie stay as they stood. Err if it is out of memory.
+/// those that tie keep their order. Fails only if out of memory.
 pub fn by_mean(curves: Items<Curve>) -> Result<Items<Curve>, AllocError>
     ensures { IfOk result (λ ranked. ranked ≡ by_mean curves) }
 {

@@ -64,7 +64,7 @@ fn put_at<T: Copy>(items: &mut Vec<T>, index: usize, value: T, fresh: T)
 }
 
 impl<T: Copy> Places<T> {
-    /// A value for hart 0, with room for all harts.
+    /// Returns a map with the value of hart 0, and room for all harts. Fails only if out of memory.
     pub fn new(alloc: Global, first: T) -> Result<Places<T>, AllocError>
         ensures { IfOk result (λ places. places ≡ first ∷ []) }
     {

@@ -28,7 +28,7 @@ impl Model for Ready {
 }
 
 impl Ready {
-    /// Nobody in line.
+    /// Returns an empty line. Fails only if out of memory.
     pub fn new(alloc: Global) -> Result<Ready, AllocError>
         ensures { IfOk result (λ ready. ready ≡ []) }
     {

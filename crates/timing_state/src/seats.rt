@@ -19,7 +19,8 @@ pub struct Seats {
     pub(crate) slice_ends: Places<Tick>,
 }
 
-/// A slice of so many ticks for hart 0, which has a core.
+/// Returns the cores at the start of a run: hart 0 has a core, with a slice of `slice` ticks. Fails
+/// only if out of memory.
 pub(crate) fn first_seats(alloc: Global, slice: Tick) -> Result<Seats, AllocError>
     ensures { IfOk result (λ seats. seats_of seats ≡ first_seats slice) }
 {

@@ -102,7 +102,7 @@ fn retire_in(
 }
 
 impl TimingState {
-    /// The state of a machine at first.
+    /// Returns the state of a machine at the start of a run. Fails only if out of memory.
     pub fn new(alloc: Global, timing: Timing) -> Result<TimingState, AllocError>
         requires { IsTiming timing }
         ensures { IfOk result (λ state. state ≡ first_state timing) }
